@@ -39,38 +39,14 @@ use std::alloc::Global;
 const OUT_OF_MEMORY: ReachFault = ReachFault::Convert(ConvertFault::Memory);
 
 /// The plane of a pattern file so many generations on, at most 1152921504606846976, under the rule that its
-/// rule text names, in its own notation or among the tables. The observer sees how far the run is, and no line.
+/// rule text names, in its own notation or among the tables. The observer sees how far the run is, as that of a
+/// claim on line 1.
 ///
 /// # Errors
 ///
 /// The first fault of `ReachFault` that holds, but for too many cells and `Range`: a plane that is reached may
-/// have any number of cells, and may lie anywhere.
+/// have any number of cells, and may lie anywhere. It comes with what is known of it.
 pub fn run_on<'t, O: Observer>(
-    alloc: Global,
-    bytes: &[u8],
-    tables: &'t [Table],
-    generations: u64,
-    limits: Limits,
-    observer: &mut O,
-) -> Result<Reached<'t>, ReachFault>
-    requires limits { AreGoodLimits limits }
-    requires few { generations ≤ most_generations }
-    ensures reached { IfOk result (IsReached bytes.now tables.now generations) }
-    ensures fault { IfErr result (IsReachFault bytes.now tables.now generations limits.work) }
-{
-    match run_on_with_detail(alloc, bytes, tables, generations, limits, observer) {
-        Ok(reached) => Ok(reached),
-        Err(refused) => Err(refused.fault),
-    }
-}
-
-/// The plane of a pattern file so many generations on, as `run_on` gives it. A fault comes with what is known of
-/// it.
-///
-/// # Errors
-///
-/// As for `run_on`.
-pub fn run_on_with_detail<'t, O: Observer>(
     alloc: Global,
     bytes: &[u8],
     tables: &'t [Table],
@@ -140,32 +116,6 @@ pub fn summary_after<O: Observer>(
     generations: u64,
     limits: Limits,
     observer: &mut O,
-) -> Result<Summary, ReachFault>
-    requires limits { AreGoodLimits limits }
-    requires few { generations ≤ most_generations }
-    ensures summary { IfOk result (IsSummaryAfter bytes.now tables.now generations) }
-    ensures word { IfOk result (λ s. IsWord s.rule_text.items) }
-    ensures fault { IfErr result (IsReachFault bytes.now tables.now generations limits.work) }
-{
-    match summary_after_with_detail(alloc, bytes, tables, generations, limits, observer) {
-        Ok(summary) => Ok(summary),
-        Err(refused) => Err(refused.fault),
-    }
-}
-
-/// The summary of the plane of a pattern file so many generations on, as `summary_after` gives it. A fault comes
-/// with what is known of it.
-///
-/// # Errors
-///
-/// As for `run_on`.
-pub fn summary_after_with_detail<O: Observer>(
-    alloc: Global,
-    bytes: &[u8],
-    tables: &[Table],
-    generations: u64,
-    limits: Limits,
-    observer: &mut O,
 ) -> Result<Summary, Refused<ReachFault>>
     requires limits { AreGoodLimits limits }
     requires few { generations ≤ most_generations }
@@ -175,7 +125,7 @@ pub fn summary_after_with_detail<O: Observer>(
         (λ refused. IsReachFault bytes.now tables.now generations limits.work refused.fault) }
     ensures detail { IfErr result (HasReachDetail bytes.now) }
 {
-    let reached = run_on_with_detail(alloc, bytes, tables, generations, limits, observer)?;
+    let reached = run_on(alloc, bytes, tables, generations, limits, observer)?;
     match sum_up(
         alloc,
         &reached.store,
@@ -195,35 +145,8 @@ pub fn summary_after_with_detail<O: Observer>(
 ///
 /// # Errors
 ///
-/// The first fault of `ReachFault` that holds.
+/// The first fault of `ReachFault` that holds, with what is known of it.
 pub fn convert_after<O: Observer>(
-    alloc: Global,
-    bytes: &[u8],
-    target: Format,
-    tables: &[Table],
-    generations: u64,
-    limits: Limits,
-    observer: &mut O,
-) -> Result<Vec<u8>, ReachFault>
-    requires limits { AreGoodLimits limits }
-    requires few { generations ≤ most_generations }
-    ensures converted { IfOk result
-        (λ text. IsConvertedAfter bytes.now tables.now generations target text.items) }
-    ensures fault { IfErr result (IsConvertFaultAfter bytes.now tables.now generations limits.work target) }
-{
-    match convert_after_with_detail(alloc, bytes, target, tables, generations, limits, observer) {
-        Ok(text) => Ok(text),
-        Err(refused) => Err(refused.fault),
-    }
-}
-
-/// What the plane of a pattern file so many generations on is written as, as `convert_after` gives it. A fault
-/// comes with what is known of it.
-///
-/// # Errors
-///
-/// As for `convert_after`.
-pub fn convert_after_with_detail<O: Observer>(
     alloc: Global,
     bytes: &[u8],
     target: Format,
@@ -240,7 +163,7 @@ pub fn convert_after_with_detail<O: Observer>(
         (λ refused. IsConvertFaultAfter bytes.now tables.now generations limits.work target refused.fault) }
     ensures detail { IfErr result (HasReachDetail bytes.now) }
 {
-    let reached = run_on_with_detail(alloc, bytes, tables, generations, limits, observer)?;
+    let reached = run_on(alloc, bytes, tables, generations, limits, observer)?;
     match are_in_range(alloc, &reached.store, reached.tree) {
         Ok(true) => {}
         Ok(false) => return Err(Refused::of(ReachFault::Range)),
@@ -292,7 +215,10 @@ fn end_of<A: Automaton, O: Observer>(
 {
     // Says what holds of every leaper.
     let _ = leaper.store();
-    let end = tree_after(leaper, pattern, generations, observer)?;
+    observer.begins(1);
+    let run = tree_after(leaper, pattern, generations, observer);
+    observer.ends();
+    let end = run?;
     let mut store = Store::new(alloc);
     let copy = store.import(leaper.store(), end)?;
     let tree = store.trim(copy)?;

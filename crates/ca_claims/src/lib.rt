@@ -32,10 +32,7 @@ mod verdict;
 pub mod verdict_laws;
 mod verifier;
 
-pub use ahead::{
-    convert_after, convert_after_with_detail, run_on, run_on_with_detail, summary_after,
-    summary_after_with_detail,
-};
+pub use ahead::{convert_after, run_on, summary_after};
 pub use claims::{Claims, read_claims};
 pub use conversion::{ConvertFault, convert, convert_with_detail};
 pub use fault::ClaimFault;

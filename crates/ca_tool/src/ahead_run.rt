@@ -15,8 +15,8 @@ use crate::fault::ToolFault;
 use crate::pattern_run::{convert_refusal, known_table, tables_of, write};
 use crate::summary::summary_lines;
 use ca_claims::{
-    ConvertFault, Limits, Observer, ReachFault, Refused, Summary, Target,
-    convert_after_with_detail, summary_after_with_detail,
+    ConvertFault, Limits, Observer, ReachFault, Refused, Summary, Target, convert_after,
+    summary_after,
 };
 use ca_plane::Dev;
 use ca_rule::Table;
@@ -87,66 +87,11 @@ pub fn convert_bytes_after<W: Write, O: Observer>(
         Err(refused) => return Err(refused),
     };
     let tables = tables_of(&table);
-    let text = match seen_file(alloc, bytes, target, tables, generations, limits, observer) {
+    let text = match convert_after(alloc, bytes, target, tables, generations, limits, observer) {
         Ok(text) => text,
         Err(refused) => return Err(reach_refusal(refused)),
     };
     write(output, &text)
-}
-
-// The file of a plane some generations on. The one file that is read is the first that the observer sees.
-fn seen_file<O: Observer>(
-    alloc: Global,
-    bytes: &[u8],
-    target: Target,
-    tables: &[Table],
-    generations: u64,
-    limits: Limits,
-    observer: &mut O,
-) -> Result<Vec<u8>, Refused<ReachFault>>
-    requires limits { AreGoodLimits limits }
-    requires few { generations ≤ most_generations }
-    ensures converted { IfOk result
-        (λ text. IsConvertedAfter bytes.now tables.now generations target text.items) }
-    ensures fault { IfErr result
-        (λ refused. IsConvertFaultAfter bytes.now tables.now generations limits.work target refused.fault) }
-    ensures detail { IfErr result (HasReachDetail bytes.now) }
-{
-    observer.begins(1);
-    let run = convert_after_with_detail(
-        alloc,
-        bytes,
-        target,
-        tables,
-        generations,
-        limits,
-        observer,
-    );
-    observer.ends();
-    run
-}
-
-// The summary of a plane some generations on. The one file that is read is the first that the observer sees.
-fn seen_summary<O: Observer>(
-    alloc: Global,
-    bytes: &[u8],
-    tables: &[Table],
-    generations: u64,
-    limits: Limits,
-    observer: &mut O,
-) -> Result<Summary, Refused<ReachFault>>
-    requires limits { AreGoodLimits limits }
-    requires few { generations ≤ most_generations }
-    ensures summary { IfOk result (IsSummaryAfter bytes.now tables.now generations) }
-    ensures word { IfOk result (λ s. IsWord s.rule_text.items) }
-    ensures fault { IfErr result
-        (λ refused. IsReachFault bytes.now tables.now generations limits.work refused.fault) }
-    ensures detail { IfErr result (HasReachDetail bytes.now) }
-{
-    observer.begins(1);
-    let run = summary_after_with_detail(alloc, bytes, tables, generations, limits, observer);
-    observer.ends();
-    run
 }
 
 // The lines of the summary of a plane some generations on.
@@ -165,7 +110,7 @@ fn summary_text_after<O: Observer>(
         (λ refused. IsReachFault bytes.now tables.now generations limits.work refused.fault) }
     ensures detail { IfErr result (HasReachDetail bytes.now) }
 {
-    let summary = seen_summary(alloc, bytes, tables, generations, limits, observer)?;
+    let summary = summary_after(alloc, bytes, tables, generations, limits, observer)?;
     let Ok(text) = summary_lines(alloc, &summary) else {
         return Err(Refused::of(ReachFault::Convert(ConvertFault::Memory)));
     };

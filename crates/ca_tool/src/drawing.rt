@@ -15,7 +15,7 @@ use crate::ahead_run::reach_refusal;
 use crate::fault::ToolFault;
 use crate::pattern_run::{known_table, tables_of, write};
 use crate::view::View;
-use ca_claims::{Limits, Observer, Refused, run_on_with_detail};
+use ca_claims::{Limits, Observer, Refused, run_on};
 use ca_draw::laws::least_boxes;
 use ca_draw::{ImageFormat, Style, draw};
 use ca_plane::{Automaton, Dev, Memory};
@@ -74,7 +74,7 @@ pub fn draw_bytes<W: Write, O: Observer>(
     write(output, &text)
 }
 
-// The picture of a pattern file, which is the first that the observer sees.
+// The picture of a pattern file.
 fn picture<O: Observer>(
     alloc: Global,
     bytes: &[u8],
@@ -90,10 +90,7 @@ fn picture<O: Observer>(
 {
     let generations = request.generations;
     let limits = request.limits;
-    observer.begins(1);
-    let run = run_on_with_detail(alloc, bytes, tables, generations, limits, observer);
-    observer.ends();
-    let reached = match run {
+    let reached = match run_on(alloc, bytes, tables, generations, limits, observer) {
         Ok(reached) => reached,
         Err(refused) => return Err(reach_refusal(refused)),
     };

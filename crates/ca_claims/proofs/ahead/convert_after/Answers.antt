@@ -5,7 +5,7 @@ use Rattle.ca_claims.specs.Ahead.{IsConvertFaultAfter}
 use Rattle.ca_claims.specs.Refused.{HasReachDetail}
 use Rattle.ca_claims.proofs.ReachedFiles.{reached_unwritten}
 use Rattle.ca_claims.proofs.Told.{undetailed}
-use Rattle.ca_claims.proofs.ahead.convert_after_with_detail.Goals as goal
+use Rattle.ca_claims.proofs.ahead.convert_after.Goals as goal
 
 pub returns-in-Err-text_of-clause-fault : goal.returns-in-Err-text_of-clause-fault
 returns-in-Err-text_of-clause-fault g c =

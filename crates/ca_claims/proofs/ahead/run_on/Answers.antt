@@ -10,7 +10,7 @@ use Rattle.ca_claims.specs.inner.Stages.{IsLaterTree}
 use Rattle.ca_claims.specs.inner.Subjects.{IsPattern}
 use Rattle.ca_claims.proofs.ReachedFiles.{file_reaches, file_needs_run, file_wants_work, file_wants_memory}
 use Rattle.ca_claims.proofs.Told.{read_pattern}
-use Rattle.ca_claims.proofs.ahead.run_on_with_detail.Goals as goal
+use Rattle.ca_claims.proofs.ahead.run_on.Goals as goal
 
 pub end_of-requires-clause-pattern : goal.end_of-requires-clause-pattern
 end_of-requires-clause-pattern g c =
