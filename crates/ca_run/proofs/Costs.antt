@@ -1,9 +1,13 @@
 -- How the costs of calls add up.
-use Rattle.std.proofs.Common.{◌≡◌, ℕ, suc, ◌+◌, ◌-◌, ◌*◌, ◌/◌, ◌%◌, ◌^◌, ◌<◌, ◌≤◌, inl, inr, min, max, length, ap, subst, arith}
+use Rattle.std.proofs.Common.{◌≡◌, ℕ, suc, ◌+◌, ◌-◌, ◌*◌, ◌/◌, ◌%◌, ◌^◌, ◌<◌, ◌≤◌, inl, inr, min, max, length, sym, ap, subst, arith}
 use Rattle.std.proofs.Math.Nat.{pow-succ', one-le-pow, pow-le-pow_right, div-eq_of_lt, mod-le, mod-lt, mul-le-mul, mul-le-mul_right}
 use Rattle.std.proofs.Math.Pow.{pow_mono}
 use Rattle.ca_quad.proofs.Growth.{below_or_not}
+use Rattle.ca_quad.specs.Sound.{IsSoundStore}
 use Rattle.ca_run.specs.Leaping.{LeaperView, Costs}
+use Rattle.ca_run.specs.inner.AtCost.{GoesOnAtCost}
+use Rattle.ca_run.proofs.Leap.{goes_on_same}
+use Rattle.ca_run.proofs.Shown.{goes_on_again}
 
 module _ {Rule : Type 0} where
   -- one call after another
@@ -22,6 +26,25 @@ module _ {Rule : Type 0} where
       let length_is : length b.nodes ≡ length a.nodes = ap length same in
       record { most = omega (arith, h.most, n, e); made = omega (arith, h.made, e, m, length_is) }
 
+  -- a leaper that does nothing
+  pub at_cost_none : {w r : ℕ} (l : LeaperView Rule) → IsSoundStore l.nodes → GoesOnAtCost Rule l l w r
+  at_cost_none l sound = record { goes_on = goes_on_same Rule l sound; costs = costs_none }
+
+  pub at_cost_more : {a b : LeaperView Rule} {u s w r : ℕ} → GoesOnAtCost Rule a b u s → u ≤ w → s ≤ r → GoesOnAtCost Rule a b w r
+  at_cost_more h n m = record { goes_on = h.goes_on; costs = costs_more h.costs n m }
+
+  -- from the same leaper to the same one
+  pub at_cost_as : {old a b new : LeaperView Rule} {u s : ℕ} → a ≡ old → new ≡ b → GoesOnAtCost Rule a b u s → GoesOnAtCost Rule old new u s
+  at_cost_as {old} {a} {b} {new} {u} {s} begins ends h = subst (λ l. GoesOnAtCost Rule l new u s) begins (subst (λ l. GoesOnAtCost Rule a l u s) (sym ends) h)
+
+  -- two calls, one after the other
+  pub at_both_costs : {a b d : LeaperView Rule} {u v s t : ℕ} → GoesOnAtCost Rule a b u s → GoesOnAtCost Rule b d v t → GoesOnAtCost Rule a d (u + v) (s + t)
+  at_both_costs h g = record { goes_on = goes_on_again Rule _ _ _ h.goes_on g.goes_on; costs = costs_then h.costs g.costs (omega arith) (omega arith) }
+
+  -- units that are counted first pay for what is done then
+  pub at_paid_cost : {a b d : LeaperView Rule} {u w s : ℕ} (k : ℕ) → GoesOnAtCost Rule a b k 0 → b.spent.used ≡ a.spent.used + k → b.nodes ≡ a.nodes → GoesOnAtCost Rule b d u s → k + u ≤ w → s ≤ 4096 * k → GoesOnAtCost Rule a d w 0
+  at_paid_cost {a} {b} k paid e same h n m = record { goes_on = goes_on_again Rule _ _ _ paid.goes_on h.goes_on; costs = costs_paid {a = a} {b = b} k e same h.costs n m }
+
 pub power_suc : (g : ℕ) → 14 ^ suc g ≡ 14 * 14 ^ g
 power_suc g = pow-succ' 14 g
 
@@ -39,18 +62,23 @@ thirteen g =
     omega (arith, e, s)
 
 module _ {Rule : Type 0} where
+  -- the nine, two pairs of the four, and the square of these
+  pub at_cost_of_thirteen : {a b d e f : LeaperView Rule} (x : ℕ) → GoesOnAtCost Rule a b (9 * x) 9 → GoesOnAtCost Rule b d (2 * x) 2 → GoesOnAtCost Rule d e (2 * x) 2 → GoesOnAtCost Rule e f 0 1 → GoesOnAtCost Rule a f (13 * x) 19
+  at_cost_of_thirteen x nine north south joined = at_cost_more (at_both_costs (at_both_costs nine north) (at_both_costs south joined)) (omega arith) (omega arith)
+
   -- the centre of a square that has parts
-  pub nine_costs : {a b : LeaperView Rule} (grain : ℕ) → 1 ≤ grain → Costs Rule a b (13 * 14 ^ (grain - 1)) 19 → Costs Rule a b (14 ^ grain - 1) 19
-  nine_costs grain some h =
+  pub at_cost_of_nine : {a b : LeaperView Rule} (grain : ℕ) → 1 ≤ grain → GoesOnAtCost Rule a b (13 * 14 ^ (grain - 1)) 19 → GoesOnAtCost Rule a b (14 ^ grain - 1) 19
+  at_cost_of_nine grain some h =
       let up : suc (grain - 1) ≡ grain = omega arith in
       let few = subst (λ g. suc (13 * 14 ^ (grain - 1)) ≤ 14 ^ g) up (thirteen (grain - 1)) in
-      costs_more h (omega (arith, few)) (omega arith)
+      at_cost_more h (omega (arith, few)) (omega arith)
 
   -- the same, which is counted first
-  pub centre_costs : {a b d : LeaperView Rule} (grain : ℕ) → b.spent.used ≡ a.spent.used + 1 → b.nodes ≡ a.nodes → Costs Rule b d (14 ^ grain - 1) 19 → Costs Rule a d (14 ^ grain) 0
-  centre_costs {a} {b} grain e same h =
+  pub at_cost_of_centre : {old a b d new : LeaperView Rule} (grain : ℕ) → a ≡ old → new ≡ d → GoesOnAtCost Rule a b 1 0 → b.spent.used ≡ a.spent.used + 1 → b.nodes ≡ a.nodes → GoesOnAtCost Rule b d (14 ^ grain - 1) 19
+      → GoesOnAtCost Rule old new (14 ^ grain) 0
+  at_cost_of_centre {old} {a} {b} grain begins ends paid e same h =
       let some = power_some grain in
-      costs_paid {a = a} {b = b} 1 e same h (omega (arith, some)) (omega arith)
+      at_cost_as begins ends (at_paid_cost {a = a} {b = b} 1 paid e same h (omega (arith, some)) (omega arith))
 
 -- the four parts of a wall's square, and a unit for each
 pub four_and_four : (g : ℕ) → 4 + 4 * 14 ^ g ≤ 14 ^ suc g

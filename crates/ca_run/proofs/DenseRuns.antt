@@ -12,11 +12,12 @@ use Rattle.ca_quad.proofs.Growth.{grows_same}
 use Rattle.ca_run.specs.declared.leaper.dense.Reached.{Reached}
 use Rattle.ca_run.specs.declared.fault.LeapFault.{LeapFault}
 use Rattle.ca_run.specs.Advanced.{IsAdvanced}
-use Rattle.ca_run.specs.Leaping.{Costs, LeaperView, LeaperGrows, Spent, Spends}
+use Rattle.ca_run.specs.Leaping.{Costs, LeaperView, Spent, Spends}
 use Rattle.ca_run.specs.inner.Apart.{IsMoved}
+use Rattle.ca_run.specs.inner.AtCost.{GoesOnAtCost}
 use Rattle.ca_run.specs.inner.Dense.{HasReached, IsIdle, IsDense, HasLeapt, HasParted}
 use Rattle.ca_run.proofs.After.{after_same, after_again}
-use Rattle.ca_run.proofs.Costs.{costs_then, costs_more, power_more, one_more, six_digits, bricks_cost, walls_cost, dense_cost, countable_cost}
+use Rattle.ca_run.proofs.Costs.{costs_then, costs_more, at_cost_more, at_both_costs, power_more, one_more, six_digits, bricks_cost, walls_cost, dense_cost, countable_cost}
 use Rattle.ca_run.proofs.Levels.{low_stays, later_level, trimmed_low}
 use Rattle.ca_run.proofs.Trees.{tree_stays}
 
@@ -140,30 +141,22 @@ module _ {Rule : Type 0} {old mid : LeaperView Rule} (first : Tree) (n d : ℕ) 
 
 -- ---- what walls cost
 
-module _ {Rule : Type 0} {a b d : LeaperView Rule} (same : a ≡ b) where
-  -- what is said of a leaper is said of the same one
-  pub costs_of_same : {u s : ℕ} → Costs Rule a d u s → Costs Rule b d u s
-  costs_of_same {u} {s} h = subst (λ l. Costs Rule l d u s) same h
-
-  pub goes_on_of_same : LeaperGrows Rule a d → LeaperGrows Rule b d
-  goes_on_of_same h = subst (λ l. LeaperGrows Rule l d) same h
-
-module _ {Rule : Type 0} (l : LeaperView Rule) (spent : Spent) (spends : Spends l.spent spent) where
-  -- work is counted, and nothing else is done
-  pub spent_on : IsSoundStore l.nodes → LeaperGrows Rule l (record { rule = l.rule; nodes = l.nodes; memo = l.memo; spent = spent })
-  spent_on sound = record { rule = refl; grows = grows_same l.nodes sound; memo = refl; spends = spends }
-
-  -- bricks are stepped
-  pub stepping_cost : (n count k : ℕ) → n ≤ 1024 → count ≤ 2 ^ 18 → 7 ≤ k → spent.used ≤ l.spent.used + n * count → Costs Rule l (record { rule = l.rule; nodes = l.nodes; memo = l.memo; spent = spent }) (14 ^ (k + 4)) 0
-  stepping_cost n count k time few least most =
-      let cost = bricks_cost n count k time few least in
-      record { most = omega (arith, most, cost); made = omega (arith, spends.rises) }
+-- bricks are stepped: work is counted, and nothing else is done
+pub at_stepping_cost : {Rule : Type 0} (l : LeaperView Rule) (spent : Spent) → Spends l.spent spent → IsSoundStore l.nodes → (n count k : ℕ) → n ≤ 1024 → count ≤ 2 ^ 18 → 7 ≤ k → spent.used ≤ l.spent.used + n * count
+    → GoesOnAtCost Rule l (record { rule = l.rule; nodes = l.nodes; memo = l.memo; spent = spent }) (14 ^ (k + 4)) 0
+at_stepping_cost l spent spends sound n count k time few least most =
+    let cost = bricks_cost n count k time few least in
+    record {
+      goes_on = record { rule = refl; grows = grows_same l.nodes sound; memo = refl; spends = spends };
+      costs = record { most = omega (arith, most, cost); made = omega (arith, spends.rises) };
+    }
 
 -- and the wall becomes a tree
-pub wall_cost : {Rule : Type 0} {a b d : LeaperView Rule} (k reach : ℕ) → reach ≤ k + 6 → Costs Rule a b (14 ^ (k + 4)) 0 → Costs Rule b d (14 ^ (reach - 2)) 125 → Costs Rule a d (2 * 14 ^ (k + 4)) 125
-wall_cost k reach near h g =
+pub at_wall_cost : {Rule : Type 0} {a b d : LeaperView Rule} (k reach : ℕ) → reach ≤ k + 6 → GoesOnAtCost Rule a b (14 ^ (k + 4)) 0 → GoesOnAtCost Rule b d (14 ^ (reach - 2)) 125
+    → GoesOnAtCost Rule a d (2 * 14 ^ (k + 4)) 125
+at_wall_cost k reach near h g =
     let more = power_more (reach - 2) (k + 4) (omega (arith, near)) in
-    costs_then h g (omega (arith, more)) (omega arith)
+    at_cost_more (at_both_costs h g) (omega (arith, more)) (omega arith)
 
 module _ {Rule : Type 0} {old mid new : LeaperView Rule} (first : Tree) (i : ℕ) (before : Costs Rule old mid (i * (2 * 14 ^ (first.level + 4))) (255 * i)) (now : Costs Rule mid new (2 * 14 ^ (first.level + 4)) 255) where
   -- one wall after others

@@ -68,18 +68,20 @@ pub rule_on : {Rule : Type 0} {old new : LeaperView Rule} {next : List ℕ → �
 rule_on next_of e on = e ∙ sym (ap next_of on.rule)
 
 -- three squares that were made one after another are there
-pub trio_are : {s0 s1 s2 s3 : List Node} → Grows s0 s1 → Grows s1 s2 → Grows s2 s3 → (k : ℕ) (three : Trio) → IsOf s1 three.west k → IsOf s2 three.middle k → IsOf s3 three.east k → AreThree s3 k three
+pub trio_are : {Rule : Type 0} {l0 l1 l2 l3 : LeaperView Rule} → LeaperGrows Rule l0 l1 → LeaperGrows Rule l1 l2 → LeaperGrows Rule l2 l3 → (k : ℕ) (three : Trio)
+    → IsOf l1.nodes three.west k → IsOf l2.nodes three.middle k → IsOf l3.nodes three.east k → AreThree l3.nodes k three
 trio_are f g h k three west middle east = record {
-  west = of_stays _ _ f.sound (grows_on _ _ _ g h) three.west k west;
-  middle = of_stays _ _ g.sound h three.middle k middle;
+  west = of_stays _ _ f.grows.sound (grows_on _ _ _ g.grows h.grows) three.west k west;
+  middle = of_stays _ _ g.grows.sound h.grows three.middle k middle;
   east = east;
 }
 
 -- and nine, row by row
-pub nine_are : {s0 s1 s2 s3 : List Node} → Grows s0 s1 → Grows s1 s2 → Grows s2 s3 → (k : ℕ) (rows : Rows) → AreThree s1 k rows.north → AreThree s2 k rows.middle → AreThree s3 k rows.south → AreNine s3 k rows
+pub nine_are : {Rule : Type 0} {l0 l1 l2 l3 : LeaperView Rule} → LeaperGrows Rule l0 l1 → LeaperGrows Rule l1 l2 → LeaperGrows Rule l2 l3 → (k : ℕ) (rows : Rows)
+    → AreThree l1.nodes k rows.north → AreThree l2.nodes k rows.middle → AreThree l3.nodes k rows.south → AreNine l3.nodes k rows
 nine_are f g h k rows north middle south = record {
-  north = three_are _ _ f.sound (grows_on _ _ _ g h) k rows.north north;
-  middle = three_are _ _ g.sound h k rows.middle middle;
+  north = three_are _ _ f.grows.sound (grows_on _ _ _ g.grows h.grows) k rows.north north;
+  middle = three_are _ _ g.grows.sound h.grows k rows.middle middle;
   south = south;
 }
 
@@ -126,23 +128,31 @@ module _ (k : ℕ) where
     at_east = at_from _ east (suc k) p ((a +ℤ side (suc k)) +ℤ side k) c ((a +ℤ side k) +ℤ side (suc k)) c (side_turn a) refl e;
   }
 
-  -- and of three
-  pub trio_at : {s1 s2 s3 s4 : List Node} → Grows s1 s2 → Grows s2 s3 → Grows s3 s4 → (three : Trio) (p : ℤ → ℤ → ℕ) (a c : ℤ) → ShowsAt s2 three.west (suc k) p (a +ℤ side k) c
-      → ShowsAt s3 three.middle (suc k) p ((a +ℤ side (suc k)) +ℤ side k) c → ShowsAt s4 three.east (suc k) p ((a +ℤ side (suc (suc k))) +ℤ side k) c → ThreeShow s4 (suc k) three p (a +ℤ side k) c
-  trio_at f g h three p a c w m e = record {
-    at_west = at_stays _ _ f.sound (grows_on _ _ _ g h) three.west (suc k) p (a +ℤ side k) c w;
-    at_middle = at_from _ three.middle (suc k) p ((a +ℤ side (suc k)) +ℤ side k) c ((a +ℤ side k) +ℤ side (suc k)) c (side_turn a) refl (at_stays _ _ g.sound h three.middle (suc k) p ((a +ℤ side (suc k)) +ℤ side k) c m);
-    at_east = at_from _ three.east (suc k) p ((a +ℤ side (suc (suc k))) +ℤ side k) c ((a +ℤ side k) +ℤ side (suc k) +ℤ side (suc k)) c (side_far a) refl e;
-  }
+  -- and of three, by three calls, each of which goes by the rule that the first one went by
+  pub trio_at : {Rule : Type 0} {l0 l1 l2 l3 : LeaperView Rule} {next : List ℕ → ℕ} (next_of : Rule → List ℕ → ℕ) → next ≡ next_of l0.rule
+      → LeaperGrows Rule l0 l1 → LeaperGrows Rule l1 l2 → LeaperGrows Rule l2 l3 → (three : Trio) (p : ℤ → ℤ → ℕ) (a c : ℤ) → ShowsAt l1.nodes three.west (suc k) p (a +ℤ side k) c
+      → (next ≡ next_of l1.rule → ShowsAt l2.nodes three.middle (suc k) p ((a +ℤ side (suc k)) +ℤ side k) c)
+      → (next ≡ next_of l2.rule → Grows l0.nodes l2.nodes → ShowsAt l3.nodes three.east (suc k) p ((a +ℤ side (suc (suc k))) +ℤ side k) c) → ThreeShow l3.nodes (suc k) three p (a +ℤ side k) c
+  trio_at next_of e f g h three p a c west middle east =
+      let e1 = rule_on next_of e f in
+      record {
+        at_west = at_stays _ _ f.grows.sound (grows_on _ _ _ g.grows h.grows) three.west (suc k) p (a +ℤ side k) c west;
+        at_middle = at_from _ three.middle (suc k) p ((a +ℤ side (suc k)) +ℤ side k) c ((a +ℤ side k) +ℤ side (suc k)) c (side_turn a) refl (at_stays _ _ g.grows.sound h.grows three.middle (suc k) p ((a +ℤ side (suc k)) +ℤ side k) c (middle e1));
+        at_east = at_from _ three.east (suc k) p ((a +ℤ side (suc (suc k))) +ℤ side k) c ((a +ℤ side k) +ℤ side (suc k) +ℤ side (suc k)) c (side_far a) refl (east (rule_on next_of e1 g) (grows_on _ _ _ f.grows g.grows));
+      }
 
   -- and of nine
-  pub nine_at : {s0 s1 s4 s5 : List Node} → Grows s0 s1 → Grows s1 s4 → Grows s4 s5 → (rows : Rows) (p : ℤ → ℤ → ℕ) (c b : ℤ) → ThreeShow s1 (suc k) rows.north p c (b +ℤ side k)
-      → ThreeShow s4 (suc k) rows.middle p c ((b +ℤ side (suc k)) +ℤ side k) → ThreeShow s5 (suc k) rows.south p c ((b +ℤ side (suc (suc k))) +ℤ side k) → NineShow s5 (suc k) rows p c (b +ℤ side k)
-  nine_at f g h rows p c b n m s = record {
-    at_north = three_stay _ _ f.sound (grows_on _ _ _ g h) (suc k) rows.north p c (b +ℤ side k) n;
-    at_middle = three_from _ (suc k) rows.middle p c ((b +ℤ side (suc k)) +ℤ side k) c ((b +ℤ side k) +ℤ side (suc k)) refl (side_turn b) (three_stay _ _ g.sound h (suc k) rows.middle p c ((b +ℤ side (suc k)) +ℤ side k) m);
-    at_south = three_from _ (suc k) rows.south p c ((b +ℤ side (suc (suc k))) +ℤ side k) c ((b +ℤ side k) +ℤ side (suc k) +ℤ side (suc k)) refl (side_far b) s;
-  }
+  pub nine_at : {Rule : Type 0} {l0 l1 l2 l3 : LeaperView Rule} {next : List ℕ → ℕ} (next_of : Rule → List ℕ → ℕ) → next ≡ next_of l0.rule
+      → LeaperGrows Rule l0 l1 → LeaperGrows Rule l1 l2 → LeaperGrows Rule l2 l3 → (rows : Rows) (p : ℤ → ℤ → ℕ) (c b : ℤ) → ThreeShow l1.nodes (suc k) rows.north p c (b +ℤ side k)
+      → (next ≡ next_of l1.rule → ThreeShow l2.nodes (suc k) rows.middle p c ((b +ℤ side (suc k)) +ℤ side k))
+      → (next ≡ next_of l2.rule → Grows l0.nodes l2.nodes → ThreeShow l3.nodes (suc k) rows.south p c ((b +ℤ side (suc (suc k))) +ℤ side k)) → NineShow l3.nodes (suc k) rows p c (b +ℤ side k)
+  nine_at next_of e f g h rows p c b north middle south =
+      let e1 = rule_on next_of e f in
+      record {
+        at_north = three_stay _ _ f.grows.sound (grows_on _ _ _ g.grows h.grows) (suc k) rows.north p c (b +ℤ side k) north;
+        at_middle = three_from _ (suc k) rows.middle p c ((b +ℤ side (suc k)) +ℤ side k) c ((b +ℤ side k) +ℤ side (suc k)) refl (side_turn b) (three_stay _ _ g.grows.sound h.grows (suc k) rows.middle p c ((b +ℤ side (suc k)) +ℤ side k) (middle e1));
+        at_south = three_from _ (suc k) rows.south p c ((b +ℤ side (suc (suc k))) +ℤ side k) c ((b +ℤ side k) +ℤ side (suc k) +ℤ side (suc k)) refl (side_far b) (south (rule_on next_of e1 g) (grows_on _ _ _ f.grows g.grows));
+      }
 
   -- the four centres lie together
   pub four_at : {s1 s2 s3 : List Node} → Grows s1 s2 → Grows s2 s3 → (nw ne sw se : ℕ) (p : ℤ → ℤ → ℕ) (a b : ℤ) → TwoShow s2 (suc k) nw ne p ((a +ℤ side k) +ℤ side k) ((b +ℤ side k) +ℤ side k)

@@ -40,14 +40,6 @@ goes_on_again Rule old mid new g h = record {
   spends = spends_again g.spends h.spends;
 }
 
--- three calls, one after another
-pub three_go_on : {Rule : Type 0} {l0 l1 l2 l3 : LeaperView Rule} → LeaperGrows Rule l0 l1 → LeaperGrows Rule l1 l2 → LeaperGrows Rule l2 l3 → LeaperGrows Rule l0 l3
-three_go_on g1 g2 g3 = goes_on_again _ _ _ _ (goes_on_again _ _ _ _ g1 g2) g3
-
--- and four
-pub four_go_on : {Rule : Type 0} {l0 l1 l2 l3 l4 : LeaperView Rule} → LeaperGrows Rule l0 l1 → LeaperGrows Rule l1 l2 → LeaperGrows Rule l2 l3 → LeaperGrows Rule l3 l4 → LeaperGrows Rule l0 l4
-four_go_on g1 g2 g3 g4 = goes_on_again _ _ _ _ (goes_on_again _ _ _ _ g1 g2) (goes_on_again _ _ _ _ g3 g4)
-
 -- four squares of one level
 pub four_of : {nodes : List Node} {k nw ne sw se : ℕ} → k ≤ 124 → IsOf nodes nw k → IsOf nodes ne k → IsOf nodes sw k → IsOf nodes se k → AreFour nodes k nw ne sw se
 four_of low nw ne sw se = record { is_low = low; is_nw = nw; is_ne = ne; is_sw = sw; is_se = se }

@@ -14,3 +14,4 @@ pub mod Bricks
 pub mod Frames
 pub mod Dense
 pub mod Apart
+pub mod AtCost

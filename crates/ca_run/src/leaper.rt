@@ -5,7 +5,8 @@ ghost use Rattle.ca_quad.specs.Squares.{IsOf, dot, together};
 ghost use Rattle.ca_quad.specs.Sound.{IsSoundStore};
 ghost use Rattle.ca_quad.specs.Trees.{AreFour, ShowsSquare};
 ghost use Rattle.ca_run.specs.Centre.{IsCentre, IsLeap};
-ghost use Rattle.ca_run.specs.Leaping.{Costs, LeaperGrows, EndsAtLimit};
+ghost use Rattle.ca_run.specs.Leaping.{EndsAtLimit};
+ghost use Rattle.ca_run.specs.inner.AtCost.{GoesOnAtCost};
 ghost use Rattle.ca_run.specs.Masks.{GoesBy};
 ghost use Rattle.ca_run.specs.inner.Shown.{ShowsAt, FourShow};
 
@@ -131,10 +132,9 @@ impl<A: Automaton> Leaper<A> {
 
     // Counts a result before it is worked out.
     fn charge(&mut self, units: u64) -> Result<(), LeapFault>
-        ensures goes_on { LeaperGrows A self.old self.new }
+        ensures at_cost { GoesOnAtCost A self.old self.new units 0 }
         ensures same { self.new.nodes ≡ self.old.nodes }
         ensures counts { OnOk result (self.new.spent.used ≡ self.old.spent.used + units) }
-        ensures costs { Costs A self.old self.new units 0 }
         ensures work { EndsAtLimit self.new.spent result }
     {
         let _ = &self.store;
@@ -144,10 +144,9 @@ impl<A: Automaton> Leaper<A> {
     // The same for one result of a leap, which is given up where there are too many squares, while someone
     // watches, who hears of it now and then.
     fn charge_watched<W: Watch>(&mut self, watch: &mut W) -> Result<(), LeapFault>
-        ensures goes_on { LeaperGrows A self.old self.new }
+        ensures at_cost { GoesOnAtCost A self.old self.new 1 0 }
         ensures same { self.new.nodes ≡ self.old.nodes }
         ensures counts { OnOk result (self.new.spent.used ≡ self.old.spent.used + 1) }
-        ensures costs { Costs A self.old self.new 1 0 }
         ensures work { EndsAtLimit self.new.spent result }
     {
         if self.is_full() {
@@ -261,8 +260,7 @@ impl<A: Automaton> Leaper<A> {
     fn leaf(&mut self, nw: u8, ne: u8, sw: u8, se: u8) -> Result<Id, Memory>
         ensures shows { IfOk result (λ id. ShowsSquare self.new.nodes id 1
             (together 1 (dot nw) (dot ne) (dot sw) (dot se))) }
-        ensures goes_on { LeaperGrows A self.old self.new }
-        ensures costs { Costs A self.old self.new 0 1 }
+        ensures at_cost { GoesOnAtCost A self.old self.new 0 1 }
     {
         self.store.leaf(nw, ne, sw, se)
     }
@@ -273,8 +271,7 @@ impl<A: Automaton> Leaper<A> {
         ensures shows { (p : ℤ → ℤ → ℕ) (a b : ℤ) → FourShow self.old.nodes (suc grain) nw ne sw se p a b
             → IfOk result (λ id. ShowsAt self.new.nodes id (suc (suc grain)) p a b) }
         ensures square { IfOk result (λ id. IsOf self.new.nodes id (suc (suc grain))) }
-        ensures goes_on { LeaperGrows A self.old self.new }
-        ensures costs { Costs A self.old self.new 0 1 }
+        ensures at_cost { GoesOnAtCost A self.old self.new 0 1 }
     {
         let _ = grain;
         self.store.join(nw, ne, sw, se)

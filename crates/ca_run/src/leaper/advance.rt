@@ -5,7 +5,8 @@ ghost use Rattle.ca_quad.specs.Sound.{IsSoundStore};
 ghost use Rattle.ca_quad.specs.Trees.{IsTree, cell};
 ghost use Rattle.ca_quad.specs.Trimmed.{IsTrimmed};
 ghost use Rattle.ca_run.specs.Advanced.{CanAdvance, IsAdvanced, Advances};
-ghost use Rattle.ca_run.specs.Leaping.{Costs, LeaperGrows, EndsAtLimit};
+ghost use Rattle.ca_run.specs.Leaping.{LeaperGrows, EndsAtLimit};
+ghost use Rattle.ca_run.specs.inner.AtCost.{GoesOnAtCost};
 ghost use Rattle.ca_run.specs.inner.Dense.{HasReached, HasLeapt, HasParted};
 ghost use Rattle.ca_run.specs.inner.Padded.{IsPadded};
 
@@ -137,8 +138,7 @@ impl<A: Automaton> Leaper<A> {
         ensures advanced { IfOk result
             (IsAdvanced (A.next_of self.old.rule) self.old.nodes tree (2 ^ j) self.new.nodes) }
         ensures trimmed { IfOk result (IsTrimmed self.new.nodes) }
-        ensures goes_on { LeaperGrows A self.old self.new }
-        ensures costs { Costs A self.old self.new (14 ^ max tree.level (j + 1)) 16380 }
+        ensures at_cost { GoesOnAtCost A self.old self.new (14 ^ max tree.level (j + 1)) 16380 }
         ensures work { EndsAtLimit self.new.spent result }
     {
         // So all that is live 2^j generations on lies in the centre.
@@ -160,8 +160,7 @@ impl<A: Automaton> Leaper<A> {
         ensures cells { IfOk result (λ t. (x y : ℤ)
             → cell self.new.nodes t x y ≡ cell self.old.nodes tree x y) }
         ensures trimmed { IfOk result (IsTrimmed self.new.nodes) }
-        ensures goes_on { LeaperGrows A self.old self.new }
-        ensures costs { Costs A self.old self.new 0 130 }
+        ensures at_cost { GoesOnAtCost A self.old self.new 0 130 }
     {
         self.store.trim(tree)
     }
@@ -172,9 +171,8 @@ impl<A: Automaton> Leaper<A> {
         requires more { tree.level ≤ level }
         requires most { level ≤ 125 }
         ensures padded { IfOk result (IsPadded self.old.nodes tree level self.new.nodes) }
-        ensures goes_on { LeaperGrows A self.old self.new }
+        ensures at_cost { GoesOnAtCost A self.old self.new 0 (130 * (level - tree.level)) }
         ensures spent { self.new.spent ≡ self.old.spent }
-        ensures costs { Costs A self.old self.new 0 (130 * (level - tree.level)) }
         ensures sound { IsSoundStore self.old.nodes }
     {
         let _ = &self.store;
@@ -190,9 +188,8 @@ impl<A: Automaton> Leaper<A> {
         requires tree { IsTree self.old.nodes tree }
         requires low { tree.level ≤ 124 }
         ensures padded { IfOk result (IsPadded self.old.nodes tree (tree.level + 1) self.new.nodes) }
-        ensures goes_on { LeaperGrows A self.old self.new }
+        ensures at_cost { GoesOnAtCost A self.old self.new 0 130 }
         ensures spent { self.new.spent ≡ self.old.spent }
-        ensures costs { Costs A self.old self.new 0 130 }
     {
         self.store.pad(tree)
     }

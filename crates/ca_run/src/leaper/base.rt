@@ -4,7 +4,7 @@ ghost use Rattle.std.specs.Prelude.{◌≡◌, IfOk};
 ghost use Rattle.ca_quad.specs.Squares.{IsOf, cell_of, together};
 ghost use Rattle.ca_quad.specs.Trees.{AreFour};
 ghost use Rattle.ca_run.specs.Centre.{IsCentre, IsLeap};
-ghost use Rattle.ca_run.specs.Leaping.{Costs, LeaperGrows};
+ghost use Rattle.ca_run.specs.inner.AtCost.{GoesOnAtCost};
 ghost use Rattle.ca_run.specs.inner.Shown.{sixteen};
 
 use super::Leaper;
@@ -29,8 +29,7 @@ impl<A: Automaton> Leaper<A> {
     pub(super) fn next_inner(&mut self, nw: Id, ne: Id, sw: Id, se: Id) -> Result<Id, Memory>
         requires { AreFour self.old.nodes 1 nw ne sw se }
         ensures leap { IfOk result (IsLeap (A.next_of self.old.rule) self.new.nodes 0 nw ne sw se) }
-        ensures goes_on { LeaperGrows A self.old self.new }
-        ensures costs { Costs A self.old self.new 0 1 }
+        ensures at_cost { GoesOnAtCost A self.old self.new 0 1 }
     {
         let [a, b, c, d, e, f, g, h, i, j, k, l, m, n, o, p] = self.cells16(nw, ne, sw, se);
         let nw = self.rule.next(&[a, b, c, e, f, g, i, j, k]);
@@ -44,8 +43,7 @@ impl<A: Automaton> Leaper<A> {
     pub(super) fn next_four(&mut self, id: Id) -> Result<Id, Memory>
         requires { IsOf self.old.nodes id 2 }
         ensures centre { IfOk result (IsCentre (A.next_of self.old.rule) self.new.nodes id 0 0) }
-        ensures goes_on { LeaperGrows A self.old self.new }
-        ensures costs { Costs A self.old self.new 0 1 }
+        ensures at_cost { GoesOnAtCost A self.old self.new 0 1 }
     {
         let (nw, ne, sw, se) = self.quarters(id, 0);
         self.next_inner(nw, ne, sw, se)

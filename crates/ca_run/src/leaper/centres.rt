@@ -6,7 +6,8 @@ ghost use Rattle.ca_plane.specs.Generations.{cells_after};
 ghost use Rattle.ca_quad.specs.Squares.{IsOf};
 ghost use Rattle.ca_quad.specs.Trees.{AreFour};
 ghost use Rattle.ca_run.specs.Centre.{IsCentre, IsLeap};
-ghost use Rattle.ca_run.specs.Leaping.{Costs, LeaperGrows, EndsAtLimit};
+ghost use Rattle.ca_run.specs.Leaping.{EndsAtLimit};
+ghost use Rattle.ca_run.specs.inner.AtCost.{GoesOnAtCost};
 ghost use Rattle.ca_run.specs.inner.Centres.{HasCentre};
 ghost use Rattle.ca_run.specs.inner.Shown.{ShowsAt, FourShow, TwoShow, ThreeShow, NineShow, AreThree};
 ghost use Rattle.ca_run.specs.inner.Shown.{AreNine, side, generations, IsTimely};
@@ -32,8 +33,7 @@ impl<A: Automaton> Leaper<A> {
         requires centre { HasCentre self.old.nodes id grain j }
         requires low { grain ≤ 123 }
         ensures centre { IfOk result (IsCentre (A.next_of self.old.rule) self.new.nodes id grain j) }
-        ensures goes_on { LeaperGrows A self.old self.new }
-        ensures costs { Costs A self.old self.new (14 ^ grain) 0 }
+        ensures at_cost { GoesOnAtCost A self.old self.new (14 ^ grain) 0 }
         ensures work { EndsAtLimit self.new.spent result }
     {
         let _ = &self.store;
@@ -74,8 +74,7 @@ impl<A: Automaton> Leaper<A> {
         requires centre { HasCentre self.old.nodes id grain j }
         requires low { grain ≤ 123 }
         ensures centre { IfOk result (IsCentre (A.next_of self.old.rule) self.new.nodes id grain j) }
-        ensures goes_on { LeaperGrows A self.old self.new }
-        ensures costs { Costs A self.old self.new (14 ^ grain - 1) 19 }
+        ensures at_cost { GoesOnAtCost A self.old self.new (14 ^ grain - 1) 19 }
         ensures work { EndsAtLimit self.new.spent result }
     {
         let _ = &self.store;
@@ -111,8 +110,7 @@ impl<A: Automaton> Leaper<A> {
             → IfOk result (λ half. ShowsAt self.new.nodes half (suc (suc grain))
             (cells_after next (cells_after next p (generations first)) (2 ^ j))
             (a +ℤ side (suc grain)) (b +ℤ side (suc grain))) }
-        ensures goes_on { LeaperGrows A self.old self.new }
-        ensures costs { Costs A self.old self.new (13 * 14 ^ grain) 19 }
+        ensures at_cost { GoesOnAtCost A self.old self.new (13 * 14 ^ grain) 19 }
         ensures work { EndsAtLimit self.new.spent result }
     {
         let rows = self.nine(id, grain, first, watch)?;
@@ -138,8 +136,7 @@ impl<A: Automaton> Leaper<A> {
             → IfOk result (λ rows. NineShow self.new.nodes (suc grain) rows
             (cells_after next p (generations first)) (a +ℤ side grain) (b +ℤ side grain)) }
         ensures squares { IfOk result (AreNine self.new.nodes (suc grain)) }
-        ensures goes_on { LeaperGrows A self.old self.new }
-        ensures costs { Costs A self.old self.new (9 * 14 ^ grain) 9 }
+        ensures at_cost { GoesOnAtCost A self.old self.new (9 * 14 ^ grain) 9 }
         ensures work { EndsAtLimit self.new.spent result }
     {
         let (nw, ne, sw, se) = self.quarters(id, grain + 1);
@@ -172,8 +169,7 @@ impl<A: Automaton> Leaper<A> {
             → IfOk result (λ three. ThreeShow self.new.nodes (suc grain) three
             (cells_after next p (generations first)) (a +ℤ side grain) (b +ℤ side grain)) }
         ensures squares { IfOk result (AreThree self.new.nodes (suc grain)) }
-        ensures goes_on { LeaperGrows A self.old self.new }
-        ensures costs { Costs A self.old self.new (3 * 14 ^ grain) 3 }
+        ensures at_cost { GoesOnAtCost A self.old self.new (3 * 14 ^ grain) 3 }
         ensures work { EndsAtLimit self.new.spent result }
     {
         let _ = &self.store;
@@ -206,8 +202,7 @@ impl<A: Automaton> Leaper<A> {
             (cells_after next p (generations first)) (a +ℤ side grain)
             ((b +ℤ side (suc grain)) +ℤ side grain)) }
         ensures squares { IfOk result (AreThree self.new.nodes (suc grain)) }
-        ensures goes_on { LeaperGrows A self.old self.new }
-        ensures costs { Costs A self.old self.new (3 * 14 ^ grain) 3 }
+        ensures at_cost { GoesOnAtCost A self.old self.new (3 * 14 ^ grain) 3 }
         ensures work { EndsAtLimit self.new.spent result }
     {
         let _ = &self.store;
@@ -241,8 +236,7 @@ impl<A: Automaton> Leaper<A> {
             → IfOk result (λ half. ShowsAt self.new.nodes half (suc grain)
             (cells_after next p (generations first)) (a +ℤ side grain) (b +ℤ side grain)) }
         ensures square { IfOk result (λ half. IsOf self.new.nodes half (suc grain)) }
-        ensures goes_on { LeaperGrows A self.old self.new }
-        ensures costs { Costs A self.old self.new (14 ^ grain) 1 }
+        ensures at_cost { GoesOnAtCost A self.old self.new (14 ^ grain) 1 }
         ensures work { EndsAtLimit self.new.spent result }
     {
         let _ = &self.store;
@@ -275,8 +269,7 @@ impl<A: Automaton> Leaper<A> {
             → IfOk result (λ half. ShowsAt self.new.nodes half (suc grain)
             (cells_after next p (generations first)) (a +ℤ side grain) (b +ℤ side grain)) }
         ensures square { IfOk result (λ half. IsOf self.new.nodes half (suc grain)) }
-        ensures goes_on { LeaperGrows A self.old self.new }
-        ensures costs { Costs A self.old self.new (14 ^ grain) 1 }
+        ensures at_cost { GoesOnAtCost A self.old self.new (14 ^ grain) 1 }
         ensures work { EndsAtLimit self.new.spent result }
     {
         let _ = &self.store;
@@ -307,8 +300,7 @@ impl<A: Automaton> Leaper<A> {
             (a +ℤ side grain) (b +ℤ side grain)) }
         ensures west { IfOk result (λ two. IsOf self.new.nodes two.0 (suc grain)) }
         ensures east { IfOk result (λ two. IsOf self.new.nodes two.1 (suc grain)) }
-        ensures goes_on { LeaperGrows A self.old self.new }
-        ensures costs { Costs A self.old self.new (2 * 14 ^ grain) 2 }
+        ensures at_cost { GoesOnAtCost A self.old self.new (2 * 14 ^ grain) 2 }
         ensures work { EndsAtLimit self.new.spent result }
     {
         let _ = &self.store;
@@ -347,8 +339,7 @@ impl<A: Automaton> Leaper<A> {
         requires four { AreFour self.old.nodes (suc grain) nw ne sw se }
         requires low { grain ≤ 122 }
         ensures leap { IfOk result (IsLeap (A.next_of self.old.rule) self.new.nodes grain nw ne sw se) }
-        ensures goes_on { LeaperGrows A self.old self.new }
-        ensures costs { Costs A self.old self.new (14 ^ grain) 1 }
+        ensures at_cost { GoesOnAtCost A self.old self.new (14 ^ grain) 1 }
         ensures work { EndsAtLimit self.new.spent result }
     {
         let _ = &self.store;
@@ -376,8 +367,7 @@ impl<A: Automaton> Leaper<A> {
     ) -> Result<Id, LeapFault>
         requires { AreFour self.old.nodes 1 nw ne sw se }
         ensures leap { IfOk result (IsLeap (A.next_of self.old.rule) self.new.nodes 0 nw ne sw se) }
-        ensures goes_on { LeaperGrows A self.old self.new }
-        ensures costs { Costs A self.old self.new 1 1 }
+        ensures at_cost { GoesOnAtCost A self.old self.new 1 1 }
         ensures work { EndsAtLimit self.new.spent result }
     {
         if !self.are_empty(nw, ne, sw, se) {

@@ -4,7 +4,8 @@ ghost use Rattle.std.specs.Prelude.{◌≡◌, ℕ, ◌+◌, ◌*◌, ◌<◌, �
 ghost use Rattle.std.specs.Prelude.{length, Ok, None, IfOk, IsOk, IfSome};
 ghost use Rattle.ca_plane.specs.Generations.{cells_after};
 ghost use Rattle.ca_quad.specs.Trees.{IsTree, cell};
-ghost use Rattle.ca_run.specs.Leaping.{Costs, LeaperGrows, EndsAtLimit};
+ghost use Rattle.ca_run.specs.Leaping.{LeaperGrows, EndsAtLimit};
+ghost use Rattle.ca_run.specs.inner.AtCost.{GoesOnAtCost};
 ghost use Rattle.ca_run.specs.Masks.{GoesBy};
 ghost use Rattle.ca_run.specs.inner.Bricks.{WallShows, IsInPlace, LiesNear, IsAligned};
 ghost use Rattle.ca_run.specs.inner.Dense.{HasReached, IsIdle, IsDense};
@@ -170,8 +171,7 @@ impl<A: Automaton> Leaper<A> {
         ensures reached { IfOk result (λ found. IfSome found (λ stretch. HasReached (A.next_of self.old.rule)
             self.old.nodes first.now n self.new.nodes stretch.reached)) }
         ensures none { reached.now.generations ≡ n → IfOk result (λ found. found ≡ None) }
-        ensures goes_on { LeaperGrows A self.old self.new }
-        ensures costs { Costs A self.old self.new (2 * 14 ^ (first.now.level + 4)) 255 }
+        ensures at_cost { GoesOnAtCost A self.old self.new (2 * 14 ^ (first.now.level + 4)) 255 }
         ensures work { EndsAtLimit self.new.spent result }
     {
         let alloc = self.recent_centres.allocator();
@@ -219,8 +219,7 @@ impl<A: Automaton> Leaper<A> {
             (cell self.old.nodes first.now) (reached + generations))) }
         ensures place { IfOk result (IsInPlace wall) }
         ensures same { self.new.nodes ≡ self.old.nodes }
-        ensures goes_on { LeaperGrows A self.old self.new }
-        ensures costs { Costs A self.old self.new (14 ^ (first.now.level + 4)) 0 }
+        ensures at_cost { GoesOnAtCost A self.old self.new (14 ^ (first.now.level + 4)) 0 }
         ensures work { EndsAtLimit self.new.spent result }
     {
         let alloc = self.recent_centres.allocator();

@@ -4,9 +4,11 @@ ghost use Rattle.std.specs.Prelude.{◌≡◌, true, ℕ, suc, ◌+◌, ◌-◌,
 ghost use Rattle.std.specs.Prelude.{ℤ, pos, neg_ℤ, ◌+ℤ◌, ◌<ℤ◌, ◌≤ℤ◌, IfOk};
 ghost use Rattle.ca_quad.specs.Squares.{IsOf};
 ghost use Rattle.ca_quad.specs.Trees.{IsTree, cell};
-ghost use Rattle.ca_run.specs.Leaping.{Costs, LeaperGrows, EndsAtLimit};
+ghost use Rattle.ca_run.specs.Leaping.{EndsAtLimit};
+ghost use Rattle.ca_run.specs.inner.AtCost.{GoesOnAtCost};
 ghost use Rattle.ca_run.specs.inner.Shown.{ShowsAt};
-ghost use Rattle.ca_run.specs.inner.Bricks.{IsWall, WallShows, IsNearWall, LiesWithin, LiesNear, IsAligned};
+ghost use Rattle.ca_run.specs.inner.Bricks.{IsWall, WallShows, IsNearWall, LiesWithin};
+ghost use Rattle.ca_run.specs.inner.Bricks.{LiesNear, IsAligned};
 ghost use Rattle.ca_run.specs.inner.Words.{eight};
 
 use super::Leaper;
@@ -90,10 +92,9 @@ impl<A: Automaton> Leaper<A> {
         requires aligned { IsAligned wall.now }
         ensures tree { IfOk result (IsTree self.new.nodes) }
         ensures level { IfOk result (λ tree. tree.level ≤ 64) }
-        ensures costs { Costs A self.old self.new (14 ^ (reach - 2)) 125 }
         ensures cells { (m : ℕ) (p : ℤ → ℤ → ℕ) → WallShows wall.now m p
             → IfOk result (λ tree. (x y : ℤ) → cell self.new.nodes tree x y ≡ p x y) }
-        ensures goes_on { LeaperGrows A self.old self.new }
+        ensures at_cost { GoesOnAtCost A self.old self.new (14 ^ (reach - 2)) 125 }
         ensures work { EndsAtLimit self.new.spent result }
     {
         let root = self.from_wall(wall, reach - 2, wall.corner(reach))?;
@@ -119,8 +120,7 @@ impl<A: Automaton> Leaper<A> {
             → IfOk result (λ id. ShowsAt self.new.nodes id (suc (suc (suc grain))) p
             (wall.now.x +ℤ eight at.i) (wall.now.y +ℤ eight at.j)) }
         ensures square { IfOk result (λ id. IsOf self.new.nodes id (suc (suc (suc grain)))) }
-        ensures goes_on { LeaperGrows A self.old self.new }
-        ensures costs { Costs A self.old self.new (14 ^ grain) 125 }
+        ensures at_cost { GoesOnAtCost A self.old self.new (14 ^ grain) 125 }
         ensures work { EndsAtLimit self.new.spent result }
     {
         if grain == 0 {
@@ -144,8 +144,7 @@ impl<A: Automaton> Leaper<A> {
             → IfOk result (λ id. ShowsAt self.new.nodes id (suc (suc (suc (suc grain)))) p
             (wall.now.x +ℤ eight at.i) (wall.now.y +ℤ eight at.j)) }
         ensures square { IfOk result (λ id. IsOf self.new.nodes id (suc (suc (suc (suc grain))))) }
-        ensures goes_on { LeaperGrows A self.old self.new }
-        ensures costs { Costs A self.old self.new (4 + 4 * 14 ^ grain) 0 }
+        ensures at_cost { GoesOnAtCost A self.old self.new (4 + 4 * 14 ^ grain) 0 }
         ensures work { EndsAtLimit self.new.spent result }
     {
         let places = at.quarters(width(grain));
@@ -165,8 +164,7 @@ impl<A: Automaton> Leaper<A> {
             → ((x y : ℕ) → x < 2 ^ level → y < 2 ^ level → p (a +ℤ pos x) (b +ℤ pos y) ≡ 0)
             → IfOk result (λ id. ShowsAt self.new.nodes id level p a b) }
         ensures square { IfOk result (λ id. IsOf self.new.nodes id level) }
-        ensures goes_on { LeaperGrows A self.old self.new }
-        ensures costs { Costs A self.old self.new 0 125 }
+        ensures at_cost { GoesOnAtCost A self.old self.new 0 125 }
     {
         self.store.empty(level)
     }

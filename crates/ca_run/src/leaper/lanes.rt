@@ -2,7 +2,7 @@
 
 ghost use Rattle.std.specs.Prelude.{◌≡◌, ◌+◌, ◌≤◌, ◌^◌, IfOk, IfSome};
 ghost use Rattle.ca_run.specs.Centre.{IsCentre};
-ghost use Rattle.ca_run.specs.Leaping.{Costs, LeaperGrows};
+ghost use Rattle.ca_run.specs.inner.AtCost.{GoesOnAtCost};
 ghost use Rattle.ca_run.specs.inner.Centres.{HasCentre, ShowsCentre};
 
 use super::Leaper;
@@ -51,8 +51,7 @@ impl<A: Automaton> Leaper<A> {
         requires square { HasCentre self.old.nodes id grain j }
         requires words { ShowsCentre (A.next_of self.old.rule) self.old.nodes id grain j words }
         ensures centre { IfOk result (IsCentre (A.next_of self.old.rule) self.new.nodes id grain j) }
-        ensures goes_on { LeaperGrows A self.old self.new }
-        ensures costs { Costs A self.old self.new 0 5 }
+        ensures at_cost { GoesOnAtCost A self.old self.new 0 5 }
     {
         let _ = &self.store;
         let _ = (id, grain, j);

@@ -4,7 +4,7 @@ ghost use Rattle.std.specs.Prelude.{◌≡◌, ℕ, suc, ◌≤◌, ◌^◌, ℤ
 ghost use Rattle.ca_quad.specs.Squares.{IsOf};
 ghost use Rattle.ca_quad.specs.Sound.{IsSoundStore};
 ghost use Rattle.ca_quad.specs.Trees.{AreFour};
-ghost use Rattle.ca_run.specs.Leaping.{Costs, LeaperGrows};
+ghost use Rattle.ca_run.specs.inner.AtCost.{GoesOnAtCost};
 ghost use Rattle.ca_run.specs.inner.Shown.{ShowsAt, FourShow, TwoShow, side};
 
 use super::Leaper;
@@ -43,8 +43,7 @@ impl<A: Automaton> Leaper<A> {
             → IfOk result (λ half. ShowsAt self.new.nodes half (suc grain) p
             (a +ℤ side grain) (b +ℤ side grain)) }
         ensures square { IfOk result (λ half. IsOf self.new.nodes half (suc grain)) }
-        ensures goes_on { LeaperGrows A self.old self.new }
-        ensures costs { Costs A self.old self.new 0 1 }
+        ensures at_cost { GoesOnAtCost A self.old self.new 0 1 }
     {
         if grain == 0 {
             let [_, _, _, _, _, nw, ne, _, _, sw, se, _, _, _, _, _] = self.cells16(nw, ne, sw, se);
@@ -64,8 +63,7 @@ impl<A: Automaton> Leaper<A> {
             → IfOk result (λ half. ShowsAt self.new.nodes half (suc grain) p
             (a +ℤ side grain) (b +ℤ side grain)) }
         ensures square { IfOk result (λ half. IsOf self.new.nodes half (suc grain)) }
-        ensures goes_on { LeaperGrows A self.old self.new }
-        ensures costs { Costs A self.old self.new 0 1 }
+        ensures at_cost { GoesOnAtCost A self.old self.new 0 1 }
     {
         let (nw, ne, sw, se) = self.quarters(id, grain);
         self.inner_of_four(nw, ne, sw, se, grain)

@@ -2,7 +2,7 @@
 
 ghost use Rattle.std.specs.Prelude.{ℕ, ℤ, IfOk, IfSome};
 ghost use Rattle.ca_quad.specs.Squares.{IsOf};
-ghost use Rattle.ca_run.specs.Leaping.{Costs, LeaperGrows};
+ghost use Rattle.ca_run.specs.inner.AtCost.{GoesOnAtCost};
 ghost use Rattle.ca_run.specs.inner.Shown.{ShowsAt};
 ghost use Rattle.ca_run.specs.inner.Words.{WordShows, WordsShow, WideSquareShows};
 
@@ -57,8 +57,7 @@ impl<A: Automaton> Leaper<A> {
         ensures shows { (p : ℤ → ℤ → ℕ) (a b : ℤ) → WordShows word p a b
             → IfOk result (λ id. ShowsAt self.new.nodes id 3 p a b) }
         ensures square { IfOk result (λ id. IsOf self.new.nodes id 3) }
-        ensures goes_on { LeaperGrows A self.old self.new }
-        ensures costs { Costs A self.old self.new 0 1 }
+        ensures at_cost { GoesOnAtCost A self.old self.new 0 1 }
     {
         self.store.from_word(word)
     }
@@ -68,8 +67,7 @@ impl<A: Automaton> Leaper<A> {
         ensures shows { (p : ℤ → ℤ → ℕ) (a b : ℤ) → WordsShow words p a b
             → IfOk result (λ id. ShowsAt self.new.nodes id 4 p a b) }
         ensures square { IfOk result (λ id. IsOf self.new.nodes id 4) }
-        ensures goes_on { LeaperGrows A self.old self.new }
-        ensures costs { Costs A self.old self.new 0 5 }
+        ensures at_cost { GoesOnAtCost A self.old self.new 0 5 }
     {
         let nw = self.from_word(words.nw)?;
         let ne = self.from_word(words.ne)?;

@@ -5,10 +5,10 @@ use Rattle.std.proofs.Math.Nat.{two-pow-succ}
 use Rattle.ca_quad.specs.Trees.{AreFour}
 use Rattle.ca_run.specs.inner.Shown.{ShowsAt, FourShow, side}
 use Rattle.ca_run.specs.inner.Words.{eight}
-use Rattle.ca_run.proofs.Shown.{goes_on_again, four_go_on, four_made, four_are, at_from}
+use Rattle.ca_run.proofs.Shown.{four_made, four_are, at_from}
 use Rattle.ca_run.proofs.ReadWords.{side_words}
 use Rattle.ca_run.proofs.Walls.{near_wall_at, near_wall_as, blank_square}
-use Rattle.ca_run.proofs.Costs.{costs_more, four_and_four}
+use Rattle.ca_run.proofs.Costs.{at_cost_more, at_both_costs, at_paid_cost, four_and_four}
 use Rattle.ca_run.proofs.leaper.Leaper.+from_wall.Goals as goal
 
 up : (k : ℕ) → k + 3 ≡ suc (suc (suc k))
@@ -45,11 +45,11 @@ from_wall-returns-clause-shows g t c = λ m p shows.
     subst (λ k. IfOk c.from_wall_parts.result (λ id. ShowsAt c.from_wall_parts.new.self.nodes id (suc (suc (suc k))) p (c.args.wall.now.x +ℤ eight c.args.at.i) (c.args.wall.now.y +ℤ eight c.args.at.j))) next
     (c.from_wall_parts.ensures.shows m p shows)
 
-pub from_wall-returns-clause-costs : goal.from_wall-returns-clause-costs
-from_wall-returns-clause-costs g t c =
+pub from_wall-returns-clause-at_cost : goal.from_wall-returns-clause-at_cost
+from_wall-returns-clause-at_cost g t c =
     let next : suc (c.args.grain - 1) ≡ c.args.grain = omega (arith, c.if-grain-eq0.false) in
     let few : 4 + 4 * 14 ^ (c.args.grain - 1) ≤ 14 ^ c.args.grain = subst (λ k. 4 + 4 * 14 ^ (c.args.grain - 1) ≤ 14 ^ k) next (four_and_four (c.args.grain - 1)) in
-    costs_more c.from_wall_parts.ensures.costs few (omega arith)
+    at_cost_more c.from_wall_parts.ensures.at_cost few (omega arith)
 
 up2 : (k : ℕ) → suc (k + 2) ≡ suc (suc (suc k))
 up2 k = omega arith
@@ -78,7 +78,7 @@ from_wall_parts-from_wall-requires-4 g t c κs within =
 pub from_wall_parts-join-requires : goal.from_wall_parts-join-requires
 from_wall_parts-join-requires g t c =
     subst (λ k. AreFour c.from_wall-4.new.self.nodes k c.in_ok-nw.nw c.in_ok-ne.ne c.in_ok-sw.sw c.in_ok-se.se) (sym (up2 c.args.grain))
-    (four_are _ _ _ _ c.in_ok-nw.ensures.goes_on.grows.sound c.in_ok-ne.ensures.goes_on.grows c.in_ok-sw.ensures.goes_on.grows c.in_ok-se.ensures.goes_on.grows _ _ _ _ _ (omega (arith, c.requires.low))
+    (four_are _ _ _ _ c.in_ok-nw.ensures.at_cost.goes_on.grows.sound c.in_ok-ne.ensures.at_cost.goes_on.grows c.in_ok-sw.ensures.at_cost.goes_on.grows c.in_ok-se.ensures.at_cost.goes_on.grows _ _ _ _ _ (omega (arith, c.requires.low))
     c.in_ok-nw.ensures.square c.in_ok-ne.ensures.square c.in_ok-sw.ensures.square c.in_ok-se.ensures.square)
 
 pub from_wall_parts-returns-clause-shows : goal.from_wall_parts-returns-clause-shows
@@ -98,13 +98,15 @@ from_wall_parts-returns-clause-shows g t c = λ m p shows.
     let same_y : (v : ℤ) → v ≡ j → b +ℤ eight v ≡ y = λ v e. ap (λ v. b +ℤ eight v) e in
     subst (λ k. ShowsAt c.join.new.self.nodes c.in_ok-join.field-0 (suc k) p x y) (up2 c.args.grain)
     (c.in_ok-join.ensures.shows p x y (subst (λ k. FourShow c.from_wall-4.new.self.nodes k c.in_ok-nw.nw c.in_ok-ne.ne c.in_ok-sw.sw c.in_ok-se.se p x y) (sym (up2 c.args.grain))
-    (four_made _ _ _ _ c.in_ok-nw.ensures.goes_on.grows.sound c.in_ok-ne.ensures.goes_on.grows c.in_ok-sw.ensures.goes_on.grows c.in_ok-se.ensures.goes_on.grows k _ _ _ _ p x y
+    (four_made _ _ _ _ c.in_ok-nw.ensures.at_cost.goes_on.grows.sound c.in_ok-ne.ensures.at_cost.goes_on.grows c.in_ok-sw.ensures.at_cost.goes_on.grows c.in_ok-se.ensures.at_cost.goes_on.grows k _ _ _ _ p x y
     (c.in_ok-nw.ensures.shows m p shows)
     (at_from _ _ k p _ _ _ _ (east _ places.ne.0) (same_y _ places.ne.1) (c.in_ok-ne.ensures.shows m p shows))
     (at_from _ _ k p _ _ _ _ (same_x _ places.sw.0) (south _ places.sw.1) (c.in_ok-sw.ensures.shows m p shows))
     (at_from _ _ k p _ _ _ _ (east _ places.se.0) (south _ places.se.1) (c.in_ok-se.ensures.shows m p shows)))))
 
-pub from_wall_parts-returns-clause-goes_on : goal.from_wall_parts-returns-clause-goes_on
-from_wall_parts-returns-clause-goes_on g t c =
-    goes_on_again _ _ _ _ c.in_ok-charge.ensures.goes_on
-    (goes_on_again _ _ _ _ (four_go_on c.in_ok-nw.ensures.goes_on c.in_ok-ne.ensures.goes_on c.in_ok-sw.ensures.goes_on c.in_ok-se.ensures.goes_on) c.join.ensures.goes_on)
+pub from_wall_parts-returns-clause-at_cost : goal.from_wall_parts-returns-clause-at_cost
+from_wall_parts-returns-clause-at_cost g t c =
+    let charged = c.in_ok-charge.ensures in
+    let north = at_both_costs c.in_ok-nw.ensures.at_cost c.in_ok-ne.ensures.at_cost in
+    let south = at_both_costs c.in_ok-sw.ensures.at_cost c.in_ok-se.ensures.at_cost in
+    at_paid_cost 4 charged.at_cost charged.counts charged.same (at_both_costs (at_both_costs north south) c.join.ensures.at_cost) (omega arith) (omega arith)

@@ -9,22 +9,21 @@ use Rattle.ca_quad.specs.Trees.{AreFour}
 use Rattle.ca_quad.proofs.Growth.{grows_on}
 use Rattle.ca_quad.proofs.Cells.{of_stays}
 use Rattle.ca_run.specs.Centre.{IsCentre, IsLeap}
-use Rattle.ca_run.specs.Leaping.{Costs, LeaperGrows}
 use Rattle.ca_run.specs.inner.Shown.{ShowsAt, FourShow, side, generations}
-use Rattle.ca_run.proofs.Shown.{goes_on_again, three_go_on, four_go_on, at_stays, three_stay, three_are, four_of, four_go, four_stay, four_between, four_halfway, four_inner}
-use Rattle.ca_run.proofs.Leap.{goes_on_same, rule_on, leap_shows, leap_square, leap_of_join, centre_ok, nine_centre, trio_are, nine_are, west_four, east_four, pair_at, trio_at, nine_at, four_at}
-use Rattle.ca_run.proofs.Costs.{centre_costs, nine_costs, costs_more, power_some}
+use Rattle.ca_run.proofs.Shown.{at_stays, three_stay, three_are, four_of, four_go, four_stay, four_between, four_halfway, four_inner}
+use Rattle.ca_run.proofs.Leap.{rule_on, leap_shows, leap_square, leap_of_join, centre_ok, nine_centre, trio_are, nine_are, west_four, east_four, pair_at, trio_at, nine_at, four_at}
+use Rattle.ca_run.proofs.Costs.{at_cost_none, at_cost_more, at_cost_as, at_both_costs, at_cost_of_thirteen, at_cost_of_nine, at_cost_of_centre, power_some}
 use Rattle.ca_run.proofs.leaper.Leaper.+leap.Goals as goal
 
-pub centre-returns-in-Some-clause-goes_on : goal.centre-returns-in-Some-clause-goes_on
-centre-returns-in-Some-clause-goes_on g t c = goes_on_same _ c.args.self.now (subst (λ l. IsSoundStore l.nodes) c.self.view_is c.self.invariant.squares)
+pub centre-returns-in-Some-clause-at_cost : goal.centre-returns-in-Some-clause-at_cost
+centre-returns-in-Some-clause-at_cost g t c = at_cost_none c.args.self.now (subst (λ l. IsSoundStore l.nodes) c.self.view_is c.self.invariant.squares)
 
 pub first_centre-returns-in-Some-clause-shows : goal.first_centre-returns-in-Some-clause-shows
 first_centre-returns-in-Some-clause-shows g t c = λ next p a b e shows.
     let sound = subst (λ l. IsSoundStore l.nodes) c.self.view_is c.self.invariant.squares in
     let new = c.centre.new.self.nodes in
     rw c.in-Some.is
-    (centre_ok next c.args.self.now.nodes new sound c.centre.ensures.goes_on.grows c.centre.result c.args.id c.args.grain c.in-Some.j p a b shows
+    (centre_ok next c.args.self.now.nodes new sound c.centre.ensures.at_cost.goes_on.grows c.centre.result c.args.id c.args.grain c.in-Some.j p a b shows
     (subst (λ f. IfOk c.centre.result (IsCentre f new c.args.id c.args.grain c.in-Some.j)) (sym e) c.centre.ensures.centre))
 
 pub new_centre-returns-then-j-grain-clause-centre : goal.new_centre-returns-then-j-grain-clause-centre
@@ -36,7 +35,7 @@ new_centre-returns-then-j-grain-clause-centre g t c =
     let sum : 2 ^ (c.args.j - 1) + 2 ^ (c.args.j - 1) ≡ 2 ^ c.args.j = sym (two-pow-succ (c.args.j - 1)) ∙ ap (λ n. 2 ^ n) one in
     let sound = subst (λ l. IsSoundStore l.nodes) c.self.view_is c.self.invariant.squares in
     let next = g.A.Automaton.next_of c.args.self.now.rule in
-    nine_centre next c.args.self.now.nodes c.centre_of_nine.new.self.nodes sound c.centre_of_nine.ensures.goes_on.grows c.centre_of_nine.result c.args.id (c.args.grain - 1) c.args.grain (2 ^ (c.args.j - 1)) (2 ^ (c.args.j - 1)) c.args.j up
+    nine_centre next c.args.self.now.nodes c.centre_of_nine.new.self.nodes sound c.centre_of_nine.ensures.at_cost.goes_on.grows c.centre_of_nine.result c.args.id (c.args.grain - 1) c.args.grain (2 ^ (c.args.j - 1)) (2 ^ (c.args.j - 1)) c.args.j up
     c.requires.centre.is_square c.requires.centre.in_time sum (λ p a b shows. c.centre_of_nine.ensures.shows next p a b refl shows)
 
 pub new_centre-returns-clause-centre : goal.new_centre-returns-clause-centre
@@ -46,60 +45,58 @@ new_centre-returns-clause-centre g t c =
     let sum : 0 + 2 ^ c.args.j ≡ 2 ^ c.args.j = omega arith in
     let sound = subst (λ l. IsSoundStore l.nodes) c.self.view_is c.self.invariant.squares in
     let next = g.A.Automaton.next_of c.args.self.now.rule in
-    nine_centre next c.args.self.now.nodes c.centre_of_nine-2.new.self.nodes sound c.centre_of_nine-2.ensures.goes_on.grows c.centre_of_nine-2.result c.args.id (c.args.grain - 1) c.args.grain 0 (2 ^ c.args.j) c.args.j up
+    nine_centre next c.args.self.now.nodes c.centre_of_nine-2.new.self.nodes sound c.centre_of_nine-2.ensures.at_cost.goes_on.grows c.centre_of_nine-2.result c.args.id (c.args.grain - 1) c.args.grain 0 (2 ^ c.args.j) c.args.j up
     c.requires.centre.is_square c.requires.centre.in_time sum (λ p a b shows. c.centre_of_nine-2.ensures.shows next p a b refl shows)
 
 pub pair-returns-clause-shows : goal.pair-returns-clause-shows
 pair-returns-clause-shows g t c = λ next p a b e north south.
     let k = c.args.grain in
-    let g1 = c.in_ok-west.ensures.goes_on in
+    let g1 = c.in_ok-west.ensures.at_cost.goes_on in
     let sound = subst (λ l. IsSoundStore l.nodes) c.self.view_is c.self.invariant.squares in
     let n = c.args.north.now in
     let s = c.args.south.now in
     let west = c.in_ok-west.ensures.shows next p a b e (west_four c.args.self.now.nodes (suc k) n s p a b north south) in
     let east = c.in_ok-east.ensures.shows next p (a +ℤ side (suc k)) b (rule_on (g.A.Automaton.next_of) e g1)
     (east_four _ (suc k) n s p a b (three_stay _ _ sound g1.grows (suc k) n p a b north) (three_stay _ _ sound g1.grows (suc k) s p a (b +ℤ side (suc k)) south)) in
-    pair_at k g1.grows c.in_ok-east.ensures.goes_on.grows c.in_ok-west.west c.in_ok-east.east (cells_after next p (2 ^ c.args.j)) a b (b +ℤ side k) west east
+    pair_at k g1.grows c.in_ok-east.ensures.at_cost.goes_on.grows c.in_ok-west.west c.in_ok-east.east (cells_after next p (2 ^ c.args.j)) a b (b +ℤ side k) west east
 
-pub pair-returns-clause-goes_on : goal.pair-returns-clause-goes_on
-pair-returns-clause-goes_on g t c = goes_on_again _ c.args.self.now c.first_inner.new.self c.first_inner-2.new.self c.in_ok-west.ensures.goes_on c.in_ok-east.ensures.goes_on
+pub pair-returns-clause-at_cost : goal.pair-returns-clause-at_cost
+pair-returns-clause-at_cost g t c = at_cost_more (at_both_costs c.in_ok-west.ensures.at_cost c.in_ok-east.ensures.at_cost) (omega arith) (omega arith)
 
 pub trio-first_inner-requires : goal.trio-first_inner-requires
 trio-first_inner-requires g t c κs within =
     let sound = subst (λ l. IsSoundStore l.nodes) c.self.view_is c.self.invariant.squares in
-    let four = four_go _ _ sound c.in_ok-west.ensures.goes_on.grows (suc c.args.grain) _ _ _ _
+    let four = four_go _ _ sound c.in_ok-west.ensures.at_cost.goes_on.grows (suc c.args.grain) _ _ _ _
     (four_of (omega (arith, c.requires.low)) c.quarters-nw.ensures.ne c.quarters-ne.ensures.nw c.quarters-nw.ensures.se c.quarters-ne.ensures.sw) in
     search rules
 
 pub trio-returns-clause-shows : goal.trio-returns-clause-shows
 trio-returns-clause-shows g t c = λ next p a b e two.
     let k = c.args.grain in
-    let g1 = c.in_ok-west.ensures.goes_on in
-    let g2 = c.in_ok-middle.ensures.goes_on in
+    let on = c.in_ok-west.ensures.at_cost.goes_on in
     let sound = subst (λ l. IsSoundStore l.nodes) c.self.view_is c.self.invariant.squares in
-    let e1 = rule_on (g.A.Automaton.next_of) e g1 in
-    let between = four_between c.args.self.now.nodes (suc k) _ _ _ _ _ _ _ _ p a b (c.quarters-nw.ensures.shows p a b two.at_west) (c.quarters-ne.ensures.shows p (a +ℤ side (suc (suc k))) b two.at_east) in
-    let west = c.in_ok-west.ensures.shows next p a b e two.at_west in
-    let middle = c.in_ok-middle.ensures.shows next p (a +ℤ side (suc k)) b e1 (four_stay _ _ sound g1.grows (suc k) _ _ _ _ p (a +ℤ side (suc k)) b between) in
-    let east = c.in_ok-east.ensures.shows next p (a +ℤ side (suc (suc k))) b (rule_on (g.A.Automaton.next_of) e1 g2)
-    (at_stays _ _ sound (grows_on _ _ _ g1.grows g2.grows) c.args.east (suc (suc k)) p (a +ℤ side (suc (suc k))) b two.at_east) in
-    trio_at k g1.grows g2.grows c.in_ok-east.ensures.goes_on.grows (record { west = c.in_ok-west.west; middle = c.in_ok-middle.middle; east = c.in_ok-east.east })
-    (cells_after next p (generations c.args.first)) a (b +ℤ side k) west middle east
+    let x = a +ℤ side (suc (suc k)) in
+    let between = four_between c.args.self.now.nodes (suc k) _ _ _ _ _ _ _ _ p a b (c.quarters-nw.ensures.shows p a b two.at_west) (c.quarters-ne.ensures.shows p x b two.at_east) in
+    trio_at k (g.A.Automaton.next_of) e on c.in_ok-middle.ensures.at_cost.goes_on c.in_ok-east.ensures.at_cost.goes_on _ (cells_after next p (generations c.args.first)) a (b +ℤ side k)
+    (c.in_ok-west.ensures.shows next p a b e two.at_west)
+    (λ e1. c.in_ok-middle.ensures.shows next p (a +ℤ side (suc k)) b e1 (four_stay _ _ sound on.grows (suc k) _ _ _ _ p (a +ℤ side (suc k)) b between))
+    (λ e2 grows. c.in_ok-east.ensures.shows next p x b e2 (at_stays _ _ sound grows c.args.east (suc (suc k)) p x b two.at_east))
 
-pub trio-returns-clause-goes_on : goal.trio-returns-clause-goes_on
-trio-returns-clause-goes_on g t c = three_go_on c.in_ok-west.ensures.goes_on c.in_ok-middle.ensures.goes_on c.in_ok-east.ensures.goes_on
+pub trio-returns-clause-at_cost : goal.trio-returns-clause-at_cost
+trio-returns-clause-at_cost g t c =
+    at_cost_more (at_both_costs (at_both_costs c.in_ok-west.ensures.at_cost c.in_ok-middle.ensures.at_cost) c.in_ok-east.ensures.at_cost) (omega arith) (omega arith)
 
 pub middle_trio-first_inner-requires-2 : goal.middle_trio-first_inner-requires-2
 middle_trio-first_inner-requires-2 g t c κs within =
     let sound = subst (λ l. IsSoundStore l.nodes) c.self.view_is c.self.invariant.squares in
-    let four = four_go _ _ sound c.in_ok-west.ensures.goes_on.grows (suc c.args.grain) _ _ _ _
+    let four = four_go _ _ sound c.in_ok-west.ensures.at_cost.goes_on.grows (suc c.args.grain) _ _ _ _
     (four_of (omega (arith, c.requires.low)) c.quarters-a.ensures.se c.quarters-c.ensures.sw c.quarters-e.ensures.ne c.quarters-g.ensures.nw) in
     search rules
 
 pub middle_trio-first_inner-requires-3 : goal.middle_trio-first_inner-requires-3
 middle_trio-first_inner-requires-3 g t c κs within =
     let sound = subst (λ l. IsSoundStore l.nodes) c.self.view_is c.self.invariant.squares in
-    let grows = grows_on _ _ _ c.in_ok-west.ensures.goes_on.grows c.in_ok-middle.ensures.goes_on.grows in
+    let grows = grows_on _ _ _ c.in_ok-west.ensures.at_cost.goes_on.grows c.in_ok-middle.ensures.at_cost.goes_on.grows in
     let four = four_go _ _ sound grows (suc c.args.grain) _ _ _ _
     (four_of (omega (arith, c.requires.low)) c.quarters-c.ensures.sw c.quarters-c.ensures.se c.quarters-g.ensures.nw c.quarters-g.ensures.ne) in
     search rules
@@ -107,10 +104,8 @@ middle_trio-first_inner-requires-3 g t c κs within =
 pub middle_trio-returns-clause-shows : goal.middle_trio-returns-clause-shows
 middle_trio-returns-clause-shows g t c = λ next p a b e four.
     let k = c.args.grain in
-    let g1 = c.in_ok-west.ensures.goes_on in
-    let g2 = c.in_ok-middle.ensures.goes_on in
+    let on = c.in_ok-west.ensures.at_cost.goes_on in
     let sound = subst (λ l. IsSoundStore l.nodes) c.self.view_is c.self.invariant.squares in
-    let e1 = rule_on (g.A.Automaton.next_of) e g1 in
     let s0 = c.args.self.now.nodes in
     let x = a +ℤ side (suc (suc k)) in
     let y = b +ℤ side (suc (suc k)) in
@@ -118,16 +113,17 @@ middle_trio-returns-clause-shows g t c = λ next p a b e four.
     let ne = c.quarters-c.ensures.shows p x b four.at_ne in
     let sw = c.quarters-e.ensures.shows p a y four.at_sw in
     let se = c.quarters-g.ensures.shows p x y four.at_se in
-    let west = c.in_ok-west.ensures.shows next p a (b +ℤ side (suc k)) e (four_halfway s0 (suc k) _ _ _ _ _ _ _ _ p a b nw sw) in
+    let half = b +ℤ side (suc k) in
     let inner = four_inner s0 (suc k) _ _ _ _ _ _ _ _ _ _ _ _ _ _ _ _ p a b nw ne sw se in
-    let middle = c.in_ok-middle.ensures.shows next p (a +ℤ side (suc k)) (b +ℤ side (suc k)) e1 (four_stay _ _ sound g1.grows (suc k) _ _ _ _ p (a +ℤ side (suc k)) (b +ℤ side (suc k)) inner) in
     let last = four_halfway s0 (suc k) _ _ _ _ _ _ _ _ p x b ne se in
-    let east = c.in_ok-east.ensures.shows next p x (b +ℤ side (suc k)) (rule_on (g.A.Automaton.next_of) e1 g2) (four_stay _ _ sound (grows_on _ _ _ g1.grows g2.grows) (suc k) _ _ _ _ p x (b +ℤ side (suc k)) last) in
-    trio_at k g1.grows g2.grows c.in_ok-east.ensures.goes_on.grows (record { west = c.in_ok-west.west; middle = c.in_ok-middle.middle; east = c.in_ok-east.east })
-    (cells_after next p (generations c.args.first)) a ((b +ℤ side (suc k)) +ℤ side k) west middle east
+    trio_at k (g.A.Automaton.next_of) e on c.in_ok-middle.ensures.at_cost.goes_on c.in_ok-east.ensures.at_cost.goes_on _ (cells_after next p (generations c.args.first)) a (half +ℤ side k)
+    (c.in_ok-west.ensures.shows next p a half e (four_halfway s0 (suc k) _ _ _ _ _ _ _ _ p a b nw sw))
+    (λ e1. c.in_ok-middle.ensures.shows next p (a +ℤ side (suc k)) half e1 (four_stay _ _ sound on.grows (suc k) _ _ _ _ p (a +ℤ side (suc k)) half inner))
+    (λ e2 grows. c.in_ok-east.ensures.shows next p x half e2 (four_stay _ _ sound grows (suc k) _ _ _ _ p x half last))
 
-pub middle_trio-returns-clause-goes_on : goal.middle_trio-returns-clause-goes_on
-middle_trio-returns-clause-goes_on g t c = three_go_on c.in_ok-west.ensures.goes_on c.in_ok-middle.ensures.goes_on c.in_ok-east.ensures.goes_on
+pub middle_trio-returns-clause-at_cost : goal.middle_trio-returns-clause-at_cost
+middle_trio-returns-clause-at_cost g t c =
+    at_cost_more (at_both_costs (at_both_costs c.in_ok-west.ensures.at_cost c.in_ok-middle.ensures.at_cost) c.in_ok-east.ensures.at_cost) (omega arith) (omega arith)
 
 pub first_centre-returns-in_ok-inner_square-in-None-clause-shows : goal.first_centre-returns-in_ok-inner_square-in-None-clause-shows
 first_centre-returns-in_ok-inner_square-in-None-clause-shows g t c = λ next p a b e shows. rw c.in-None.is (c.in_ok-inner_square-in-None.ensures.shows p a b shows)
@@ -143,16 +139,14 @@ new_centre-returns-then-grain-eq0-clause-centre g t c =
 
 pub middle_trio-returns-clause-squares : goal.middle_trio-returns-clause-squares
 middle_trio-returns-clause-squares g t c =
-    trio_are c.in_ok-west.ensures.goes_on.grows c.in_ok-middle.ensures.goes_on.grows c.in_ok-east.ensures.goes_on.grows (suc c.args.grain)
-    (record { west = c.in_ok-west.west; middle = c.in_ok-middle.middle; east = c.in_ok-east.east }) c.in_ok-west.ensures.square c.in_ok-middle.ensures.square c.in_ok-east.ensures.square
+    trio_are c.in_ok-west.ensures.at_cost.goes_on c.in_ok-middle.ensures.at_cost.goes_on c.in_ok-east.ensures.at_cost.goes_on _ _ c.in_ok-west.ensures.square c.in_ok-middle.ensures.square c.in_ok-east.ensures.square
 
 pub trio-returns-clause-squares : goal.trio-returns-clause-squares
 trio-returns-clause-squares g t c =
-    trio_are c.in_ok-west.ensures.goes_on.grows c.in_ok-middle.ensures.goes_on.grows c.in_ok-east.ensures.goes_on.grows (suc c.args.grain)
-    (record { west = c.in_ok-west.west; middle = c.in_ok-middle.middle; east = c.in_ok-east.east }) c.in_ok-west.ensures.square c.in_ok-middle.ensures.square c.in_ok-east.ensures.square
+    trio_are c.in_ok-west.ensures.at_cost.goes_on c.in_ok-middle.ensures.at_cost.goes_on c.in_ok-east.ensures.at_cost.goes_on _ _ c.in_ok-west.ensures.square c.in_ok-middle.ensures.square c.in_ok-east.ensures.square
 
-pub leap_of_four-returns-in-Some-clause-goes_on : goal.leap_of_four-returns-in-Some-clause-goes_on
-leap_of_four-returns-in-Some-clause-goes_on g t c = goes_on_same _ c.args.self.now (subst (λ l. IsSoundStore l.nodes) c.self.view_is c.self.invariant.squares)
+pub leap_of_four-returns-in-Some-clause-at_cost : goal.leap_of_four-returns-in-Some-clause-at_cost
+leap_of_four-returns-in-Some-clause-at_cost g t c = at_cost_none c.args.self.now (subst (λ l. IsSoundStore l.nodes) c.self.view_is c.self.invariant.squares)
 
 pub nine-middle_trio-requires : goal.nine-middle_trio-requires
 nine-middle_trio-requires g t c κs within =
@@ -160,7 +154,7 @@ nine-middle_trio-requires g t c κs within =
     let q = c.quarters-nw.result in
     let is = c.quarters-nw.ensures in
     let four = subst (λ n. AreFour c.args.self.now.nodes (suc n) q.0 q.1 q.2 q.3) one (four_of (omega (arith, c.requires.low)) is.nw is.ne is.sw is.se) in
-    let there = four_go _ _ is.sound c.in_ok-north.ensures.goes_on.grows (suc (suc c.args.grain)) q.0 q.1 q.2 q.3 four in
+    let there = four_go _ _ is.sound c.in_ok-north.ensures.at_cost.goes_on.grows (suc (suc c.args.grain)) q.0 q.1 q.2 q.3 four in
     search rules
 
 pub nine-trio-requires-2 : goal.nine-trio-requires-2
@@ -169,7 +163,7 @@ nine-trio-requires-2 g t c κs within =
     let s1 = c.trio.new.self.nodes in
     let s2 = c.middle_trio.new.self.nodes in
     let one : c.args.grain + 1 ≡ suc c.args.grain = omega arith in
-    let grows = grows_on s0 s1 s2 c.in_ok-north.ensures.goes_on.grows c.in_ok-middle.ensures.goes_on.grows in
+    let grows = grows_on s0 s1 s2 c.in_ok-north.ensures.at_cost.goes_on.grows c.in_ok-middle.ensures.at_cost.goes_on.grows in
     let k = suc (suc c.args.grain) in
     let west : IsOf s2 c.quarters-nw.result.2 k = of_stays s0 s2 c.quarters-nw.ensures.sound grows c.quarters-nw.result.2 k (subst (λ n. IsOf s0 c.quarters-nw.result.2 (suc n)) one c.quarters-nw.ensures.sw) in
     let east : IsOf s2 c.quarters-nw.result.3 k = of_stays s0 s2 c.quarters-nw.ensures.sound grows c.quarters-nw.result.3 k (subst (λ n. IsOf s0 c.quarters-nw.result.3 (suc n)) one c.quarters-nw.ensures.se) in
@@ -178,42 +172,38 @@ nine-trio-requires-2 g t c κs within =
 pub nine-returns-clause-shows : goal.nine-returns-clause-shows
 nine-returns-clause-shows g t c = λ next p a b e shows.
     let k = c.args.grain in
-    let g1 = c.in_ok-north.ensures.goes_on in
-    let g2 = c.in_ok-middle.ensures.goes_on in
+    let on = c.in_ok-north.ensures.at_cost.goes_on in
     let sound = c.quarters-nw.ensures.sound in
-    let to2 = grows_on _ _ _ g1.grows g2.grows in
-    let e1 = rule_on (g.A.Automaton.next_of) e g1 in
     let one : k + 1 ≡ suc k = omega arith in
     let q = c.quarters-nw.result in
     let l = suc (suc k) in
     let s0 = c.args.self.now.nodes in
     let parts = subst (λ n. FourShow s0 (suc n) q.0 q.1 q.2 q.3 p a b) one (c.quarters-nw.ensures.shows p a b (subst (λ n. ShowsAt s0 c.args.id (suc (suc n)) p a b) (sym one) shows)) in
-    let north = c.in_ok-north.ensures.shows next p a b e (record { at_west = parts.at_nw; at_east = parts.at_ne }) in
-    let middle = c.in_ok-middle.ensures.shows next p a b e1 (four_stay _ _ sound g1.grows l q.0 q.1 q.2 q.3 p a b parts) in
-    let south = c.in_ok-south.ensures.shows next p a (b +ℤ side l) (rule_on (g.A.Automaton.next_of) e1 g2)
-    (record { at_west = at_stays _ _ sound to2 q.2 l p a (b +ℤ side l) parts.at_sw; at_east = at_stays _ _ sound to2 q.3 l p (a +ℤ side l) (b +ℤ side l) parts.at_se }) in
-    nine_at k g1.grows g2.grows c.in_ok-south.ensures.goes_on.grows (record { north = c.in_ok-north.north; middle = c.in_ok-middle.middle; south = c.in_ok-south.south })
-    (cells_after next p (generations c.args.first)) (a +ℤ side k) b north middle south
+    nine_at k (g.A.Automaton.next_of) e on c.in_ok-middle.ensures.at_cost.goes_on c.in_ok-south.ensures.at_cost.goes_on _ (cells_after next p (generations c.args.first)) (a +ℤ side k) b
+    (c.in_ok-north.ensures.shows next p a b e (record { at_west = parts.at_nw; at_east = parts.at_ne }))
+    (λ e1. c.in_ok-middle.ensures.shows next p a b e1 (four_stay _ _ sound on.grows l q.0 q.1 q.2 q.3 p a b parts))
+    (λ e2 grows. c.in_ok-south.ensures.shows next p a (b +ℤ side l) e2
+    (record { at_west = at_stays _ _ sound grows q.2 l p a (b +ℤ side l) parts.at_sw; at_east = at_stays _ _ sound grows q.3 l p (a +ℤ side l) (b +ℤ side l) parts.at_se }))
 
 pub nine-returns-clause-squares : goal.nine-returns-clause-squares
 nine-returns-clause-squares g t c =
-    nine_are c.in_ok-north.ensures.goes_on.grows c.in_ok-middle.ensures.goes_on.grows c.in_ok-south.ensures.goes_on.grows (suc c.args.grain)
-    (record { north = c.in_ok-north.north; middle = c.in_ok-middle.middle; south = c.in_ok-south.south }) c.in_ok-north.ensures.squares c.in_ok-middle.ensures.squares c.in_ok-south.ensures.squares
+    nine_are c.in_ok-north.ensures.at_cost.goes_on c.in_ok-middle.ensures.at_cost.goes_on c.in_ok-south.ensures.at_cost.goes_on _ _ c.in_ok-north.ensures.squares c.in_ok-middle.ensures.squares c.in_ok-south.ensures.squares
 
-pub nine-returns-clause-goes_on : goal.nine-returns-clause-goes_on
-nine-returns-clause-goes_on g t c = three_go_on c.in_ok-north.ensures.goes_on c.in_ok-middle.ensures.goes_on c.in_ok-south.ensures.goes_on
+pub nine-returns-clause-at_cost : goal.nine-returns-clause-at_cost
+nine-returns-clause-at_cost g t c =
+    at_cost_more (at_both_costs (at_both_costs c.in_ok-north.ensures.at_cost c.in_ok-middle.ensures.at_cost) c.in_ok-south.ensures.at_cost) (omega arith) (omega arith)
 
 pub centre_of_nine-pair-requires-2 : goal.centre_of_nine-pair-requires-2
 centre_of_nine-pair-requires-2 g t c κs within =
-    let stays = three_are _ _ c.in_ok-rows.ensures.goes_on.grows.sound c.in_ok-nw.ensures.goes_on.grows (suc c.args.grain) in
+    let stays = three_are _ _ c.in_ok-rows.ensures.at_cost.goes_on.grows.sound c.in_ok-nw.ensures.at_cost.goes_on.grows (suc c.args.grain) in
     let middle = stays c.in_ok-rows.rows.middle c.in_ok-rows.ensures.squares.middle in
     let south = stays c.in_ok-rows.rows.south c.in_ok-rows.ensures.squares.south in
     search rules
 
 pub centre_of_nine-join-requires : goal.centre_of_nine-join-requires
 centre_of_nine-join-requires g t c =
-    let sound = c.in_ok-nw.ensures.goes_on.grows.sound in
-    let grows = c.in_ok-sw.ensures.goes_on.grows in
+    let sound = c.in_ok-nw.ensures.at_cost.goes_on.grows.sound in
+    let grows = c.in_ok-sw.ensures.at_cost.goes_on.grows in
     let k = suc c.args.grain in
     four_of (omega (arith, c.requires.low)) (of_stays _ _ sound grows c.in_ok-nw.nw k c.in_ok-nw.ensures.west) (of_stays _ _ sound grows c.in_ok-nw.ne k c.in_ok-nw.ensures.east)
     c.in_ok-sw.ensures.west c.in_ok-sw.ensures.east
@@ -221,8 +211,8 @@ centre_of_nine-join-requires g t c =
 pub centre_of_nine-returns-clause-shows : goal.centre_of_nine-returns-clause-shows
 centre_of_nine-returns-clause-shows g t c = λ next p a b e shows.
     let k = c.args.grain in
-    let g1 = c.in_ok-rows.ensures.goes_on in
-    let g2 = c.in_ok-nw.ensures.goes_on in
+    let g1 = c.in_ok-rows.ensures.at_cost.goes_on in
+    let g2 = c.in_ok-nw.ensures.at_cost.goes_on in
     let e1 = rule_on (g.A.Automaton.next_of) e g1 in
     let mid = cells_after next p (generations c.args.first) in
     let last = cells_after next mid (2 ^ c.args.j) in
@@ -235,51 +225,52 @@ centre_of_nine-returns-clause-shows g t c = λ next p a b e shows.
     let south = c.in_ok-sw.ensures.shows next mid x (y +ℤ side (suc k)) (rule_on (g.A.Automaton.next_of) e1 g2)
     (stays rows.middle mid x (y +ℤ side (suc k)) nine.at_middle) (stays rows.south mid x (y +ℤ side (suc k) +ℤ side (suc k)) nine.at_south) in
     c.in_ok-join.ensures.shows last (a +ℤ side (suc k)) (b +ℤ side (suc k))
-    (four_at k g2.grows c.in_ok-sw.ensures.goes_on.grows c.in_ok-nw.nw c.in_ok-nw.ne c.in_ok-sw.sw c.in_ok-sw.se last a b north south)
+    (four_at k g2.grows c.in_ok-sw.ensures.at_cost.goes_on.grows c.in_ok-nw.nw c.in_ok-nw.ne c.in_ok-sw.sw c.in_ok-sw.se last a b north south)
 
-pub centre_of_nine-returns-clause-goes_on : goal.centre_of_nine-returns-clause-goes_on
-centre_of_nine-returns-clause-goes_on g t c =
-    four_go_on c.in_ok-rows.ensures.goes_on c.in_ok-nw.ensures.goes_on c.in_ok-sw.ensures.goes_on c.join.ensures.goes_on
+pub centre_of_nine-returns-clause-at_cost : goal.centre_of_nine-returns-clause-at_cost
+centre_of_nine-returns-clause-at_cost g t c = at_cost_of_thirteen (14 ^ c.args.grain) c.in_ok-rows.ensures.at_cost c.in_ok-nw.ensures.at_cost c.in_ok-sw.ensures.at_cost c.join.ensures.at_cost
 
-pub centre-returns-in_err-charge_watched-clause-costs : goal.centre-returns-in_err-charge_watched-clause-costs
-centre-returns-in_err-charge_watched-clause-costs g t c =
-    subst (λ l. Costs _ l c.charge_watched.new.self (14 ^ c.args.grain) 0) c.recall.ensures.same (costs_more c.charge_watched.ensures.costs (power_some c.args.grain) (omega arith))
+pub centre_of_nine-returns-in_err-join-clause-at_cost : goal.centre_of_nine-returns-in_err-join-clause-at_cost
+centre_of_nine-returns-in_err-join-clause-at_cost g t c = at_cost_of_thirteen (14 ^ c.args.grain) c.in_ok-rows.ensures.at_cost c.in_ok-nw.ensures.at_cost c.in_ok-sw.ensures.at_cost c.join.ensures.at_cost
 
-pub centre-returns-in_err-half-clause-costs : goal.centre-returns-in_err-half-clause-costs
-centre-returns-in_err-half-clause-costs g t c =
-    let paid = centre_costs {a = c.recall.new.self} {b = c.charge_watched.new.self} c.args.grain c.in_ok-charge_watched.ensures.counts c.in_ok-charge_watched.ensures.same c.new_centre.ensures.costs in
-    subst (λ l. Costs _ l c.new_centre.new.self (14 ^ c.args.grain) 0) c.recall.ensures.same paid
+pub centre-returns-in_err-charge_watched-clause-at_cost : goal.centre-returns-in_err-charge_watched-clause-at_cost
+centre-returns-in_err-charge_watched-clause-at_cost g t c = at_cost_as c.recall.ensures.same refl (at_cost_more c.charge_watched.ensures.at_cost (power_some c.args.grain) (omega arith))
 
-pub centre-returns-in_err-remember-clause-costs : goal.centre-returns-in_err-remember-clause-costs
-centre-returns-in_err-remember-clause-costs g t c =
-    let paid = centre_costs {a = c.recall.new.self} {b = c.charge_watched.new.self} c.args.grain c.in_ok-charge_watched.ensures.counts c.in_ok-charge_watched.ensures.same c.new_centre.ensures.costs in
-    subst (λ l. Costs _ c.args.self.now l (14 ^ c.args.grain) 0) (sym c.remember.ensures) (subst (λ l. Costs _ l c.new_centre.new.self (14 ^ c.args.grain) 0) c.recall.ensures.same paid)
+pub centre-returns-in_err-half-clause-at_cost : goal.centre-returns-in_err-half-clause-at_cost
+centre-returns-in_err-half-clause-at_cost g t c =
+    let charged = c.in_ok-charge_watched.ensures in
+    at_cost_of_centre c.args.grain c.recall.ensures.same refl charged.at_cost charged.counts charged.same c.new_centre.ensures.at_cost
 
-pub centre-returns-clause-costs : goal.centre-returns-clause-costs
-centre-returns-clause-costs g t c =
-    let paid = centre_costs {a = c.recall.new.self} {b = c.charge_watched.new.self} c.args.grain c.in_ok-charge_watched.ensures.counts c.in_ok-charge_watched.ensures.same c.new_centre.ensures.costs in
-    subst (λ l. Costs _ c.args.self.now l (14 ^ c.args.grain) 0) (sym c.remember.ensures) (subst (λ l. Costs _ l c.new_centre.new.self (14 ^ c.args.grain) 0) c.recall.ensures.same paid)
+pub centre-returns-in_err-remember-clause-at_cost : goal.centre-returns-in_err-remember-clause-at_cost
+centre-returns-in_err-remember-clause-at_cost g t c =
+    let charged = c.in_ok-charge_watched.ensures in
+    at_cost_of_centre c.args.grain c.recall.ensures.same c.remember.ensures charged.at_cost charged.counts charged.same c.new_centre.ensures.at_cost
 
-pub new_centre-returns-then-j-grain-clause-costs : goal.new_centre-returns-then-j-grain-clause-costs
-new_centre-returns-then-j-grain-clause-costs g t c = nine_costs c.args.grain (grind (arith, nat_tests, c.if-grain-eq0.false)) c.centre_of_nine.ensures.costs
+pub centre-returns-clause-at_cost : goal.centre-returns-clause-at_cost
+centre-returns-clause-at_cost g t c =
+    let charged = c.in_ok-charge_watched.ensures in
+    at_cost_of_centre c.args.grain c.recall.ensures.same c.remember.ensures charged.at_cost charged.counts charged.same c.new_centre.ensures.at_cost
 
-pub new_centre-returns-clause-costs : goal.new_centre-returns-clause-costs
-new_centre-returns-clause-costs g t c = nine_costs c.args.grain (grind (arith, nat_tests, c.if-grain-eq0.false)) c.centre_of_nine-2.ensures.costs
+pub new_centre-returns-then-j-grain-clause-at_cost : goal.new_centre-returns-then-j-grain-clause-at_cost
+new_centre-returns-then-j-grain-clause-at_cost g t c = at_cost_of_nine c.args.grain (grind (arith, nat_tests, c.if-grain-eq0.false)) c.centre_of_nine.ensures.at_cost
+
+pub new_centre-returns-clause-at_cost : goal.new_centre-returns-clause-at_cost
+new_centre-returns-clause-at_cost g t c = at_cost_of_nine c.args.grain (grind (arith, nat_tests, c.if-grain-eq0.false)) c.centre_of_nine-2.ensures.at_cost
 
 pub first_inner-returns-in_ok-inner_of_four-in-None-clause-shows : goal.first_inner-returns-in_ok-inner_of_four-in-None-clause-shows
 first_inner-returns-in_ok-inner_of_four-in-None-clause-shows g t c = λ next p a b e four. rw c.in-None.is (c.in_ok-inner_of_four-in-None.ensures.shows p a b four)
 
 pub first_inner-returns-in_ok-id-in-Some-clause-shows : goal.first_inner-returns-in_ok-id-in-Some-clause-shows
 first_inner-returns-in_ok-id-in-Some-clause-shows g t c = λ next p a b e four.
-    let joined = c.in_ok-id-in-Some.ensures.goes_on in
+    let joined = c.in_ok-id-in-Some.ensures.at_cost.goes_on in
     let same = e ∙ sym (ap (g.A.Automaton.next_of) joined.rule) in
     let new = c.centre.new.self.nodes in
     rw c.in-Some.is
-    (centre_ok next c.join.new.self.nodes new joined.grows.sound c.centre.ensures.goes_on.grows c.centre.result c.in_ok-id-in-Some.id c.args.grain c.in-Some.j p a b (c.in_ok-id-in-Some.ensures.shows p a b four)
+    (centre_ok next c.join.new.self.nodes new joined.grows.sound c.centre.ensures.at_cost.goes_on.grows c.centre.result c.in_ok-id-in-Some.id c.args.grain c.in-Some.j p a b (c.in_ok-id-in-Some.ensures.shows p a b four)
     (subst (λ f. IfOk c.centre.result (IsCentre f new c.in_ok-id-in-Some.id c.args.grain c.in-Some.j)) (sym same) c.centre.ensures.centre))
 
-pub first_inner-returns-in_ok-id-in-Some-clause-goes_on : goal.first_inner-returns-in_ok-id-in-Some-clause-goes_on
-first_inner-returns-in_ok-id-in-Some-clause-goes_on g t c = goes_on_again _ c.args.self.now c.join.new.self c.centre.new.self c.in_ok-id-in-Some.ensures.goes_on c.centre.ensures.goes_on
+pub first_inner-returns-in_ok-id-in-Some-clause-at_cost : goal.first_inner-returns-in_ok-id-in-Some-clause-at_cost
+first_inner-returns-in_ok-id-in-Some-clause-at_cost g t c = at_cost_more (at_both_costs c.in_ok-id-in-Some.ensures.at_cost c.centre.ensures.at_cost) (omega arith) (omega arith)
 
 pub first_inner-returns-then-is_none-clause-shows : goal.first_inner-returns-then-is_none-clause-shows
 first_inner-returns-then-is_none-clause-shows g t c = λ next p a b e four.
@@ -290,7 +281,7 @@ first_inner-returns-then-is_none-clause-shows g t c = λ next p a b e four.
     let r = c.leap_of_four.result in
     rw c.in-Some.is
     (subst (λ j. IfOk r (λ half. ShowsAt new half (suc k) (cells_after next p (2 ^ j)) (a +ℤ side k) (b +ℤ side k))) all
-    (leap_shows next c.args.self.now.nodes new sound c.leap_of_four.ensures.goes_on.grows r k c.args.nw c.args.ne c.args.sw c.args.se p a b four
+    (leap_shows next c.args.self.now.nodes new sound c.leap_of_four.ensures.at_cost.goes_on.grows r k c.args.nw c.args.ne c.args.sw c.args.se p a b four
     (subst (λ f. IfOk r (IsLeap f new k c.args.nw c.args.ne c.args.sw c.args.se)) (sym e) c.leap_of_four.ensures.leap)))
 
 pub first_inner-returns-then-is_none-clause-square : goal.first_inner-returns-then-is_none-clause-square
@@ -300,8 +291,8 @@ first_inner-returns-then-is_none-clause-square g t c =
 pub leap_of_four-remember_leap-requires : goal.leap_of_four-remember_leap-requires
 leap_of_four-remember_leap-requires g t c =
     let sound = subst (λ l. IsSoundStore l.nodes) c.self.view_is c.self.invariant.squares in
-    let joined = c.in_ok-id.ensures.goes_on in
-    let on = c.in_ok-half.ensures.goes_on in
+    let joined = c.in_ok-id.ensures.at_cost.goes_on in
+    let on = c.in_ok-half.ensures.at_cost.goes_on in
     subst (λ r. IsLeap (g.A.Automaton.next_of r) c.centre.new.self.nodes c.args.grain c.args.nw c.args.ne c.args.sw c.args.se c.in_ok-half.half) (sym (on.rule ∙ joined.rule))
     (leap_of_join (g.A.Automaton.next_of) c.args.self.now c.join.new.self c.centre.new.self sound joined on c.in_ok-id.id c.in_ok-half.half c.args.grain c.args.nw c.args.ne c.args.sw c.args.se
     c.requires.four c.in_ok-id.ensures.shows c.in_ok-half.ensures.centre)
@@ -310,13 +301,12 @@ pub leap_of_four-returns-clause-leap : goal.leap_of_four-returns-clause-leap
 leap_of_four-returns-clause-leap g t c =
     let sound = subst (λ l. IsSoundStore l.nodes) c.self.view_is c.self.invariant.squares in
     subst (λ l. IsLeap (g.A.Automaton.next_of c.args.self.now.rule) l.nodes c.args.grain c.args.nw c.args.ne c.args.sw c.args.se c.in_ok-half.half) (sym c.remember_leap.ensures)
-    (leap_of_join (g.A.Automaton.next_of) c.args.self.now c.join.new.self c.centre.new.self sound c.in_ok-id.ensures.goes_on c.in_ok-half.ensures.goes_on c.in_ok-id.id c.in_ok-half.half c.args.grain c.args.nw c.args.ne c.args.sw c.args.se
+    (leap_of_join (g.A.Automaton.next_of) c.args.self.now c.join.new.self c.centre.new.self sound c.in_ok-id.ensures.at_cost.goes_on c.in_ok-half.ensures.at_cost.goes_on c.in_ok-id.id c.in_ok-half.half c.args.grain c.args.nw c.args.ne c.args.sw c.args.se
     c.requires.four c.in_ok-id.ensures.shows c.in_ok-half.ensures.centre)
 
-pub leap_of_four-returns-in_err-half-clause-goes_on : goal.leap_of_four-returns-in_err-half-clause-goes_on
-leap_of_four-returns-in_err-half-clause-goes_on g t c = goes_on_again _ c.args.self.now c.join.new.self c.centre.new.self c.in_ok-id.ensures.goes_on c.in_err-half.ensures.goes_on
+pub leap_of_four-returns-in_err-half-clause-at_cost : goal.leap_of_four-returns-in_err-half-clause-at_cost
+leap_of_four-returns-in_err-half-clause-at_cost g t c = at_cost_more (at_both_costs c.in_ok-id.ensures.at_cost c.in_err-half.ensures.at_cost) (omega arith) (omega arith)
 
-pub leap_of_four-returns-clause-goes_on : goal.leap_of_four-returns-clause-goes_on
-leap_of_four-returns-clause-goes_on g t c =
-    subst (λ l. LeaperGrows _ c.args.self.now l) (sym c.remember_leap.ensures)
-    (goes_on_again _ c.args.self.now c.join.new.self c.centre.new.self c.in_ok-id.ensures.goes_on c.in_ok-half.ensures.goes_on)
+pub leap_of_four-returns-clause-at_cost : goal.leap_of_four-returns-clause-at_cost
+leap_of_four-returns-clause-at_cost g t c =
+    at_cost_as refl c.remember_leap.ensures (at_cost_more (at_both_costs c.in_ok-id.ensures.at_cost c.in_ok-half.ensures.at_cost) (omega arith) (omega arith))

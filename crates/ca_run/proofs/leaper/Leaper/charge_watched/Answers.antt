@@ -1,5 +1,5 @@
-use Rattle.ca_run.proofs.Leap.{goes_on_same}
+use Rattle.ca_run.proofs.Costs.{at_cost_none}
 use Rattle.ca_run.proofs.leaper.Leaper.charge_watched.Goals as goal
 
-pub returns-then-is_full-clause-goes_on : goal.returns-then-is_full-clause-goes_on
-returns-then-is_full-clause-goes_on g c = goes_on_same _ c.args.self.now c.is_full.ensures
+pub returns-then-is_full-clause-at_cost : goal.returns-then-is_full-clause-at_cost
+returns-then-is_full-clause-at_cost g c = at_cost_none c.args.self.now c.is_full.ensures

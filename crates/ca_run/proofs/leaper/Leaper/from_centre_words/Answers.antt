@@ -7,11 +7,11 @@ use Rattle.ca_run.proofs.leaper.Leaper.from_centre_words.Goals as goal
 pub returns-in-One-clause-centre : goal.returns-in-One-clause-centre
 returns-in-One-clause-centre g c =
     let sound = subst (λ l. IsSoundStore l.nodes) c.self.view_is c.self.invariant.squares in
-    centre_made WordShows (g.A.Automaton.next_of c.args.self.now.rule) c.args.self.now.nodes c.from_word.new.self.nodes sound c.from_word.ensures.goes_on.grows c.from_word.result c.args.id c.args.grain c.args.j 2 c.in-One.word
+    centre_made WordShows (g.A.Automaton.next_of c.args.self.now.rule) c.args.self.now.nodes c.from_word.new.self.nodes sound c.from_word.ensures.at_cost.goes_on.grows c.from_word.result c.args.id c.args.grain c.args.j 2 c.in-One.word
     c.requires.square (rw c.in-One.is at c.requires.words) c.from_word.ensures.shows
 
 pub returns-in-Four-clause-centre : goal.returns-in-Four-clause-centre
 returns-in-Four-clause-centre g c =
     let sound = subst (λ l. IsSoundStore l.nodes) c.self.view_is c.self.invariant.squares in
-    centre_made WordsShow (g.A.Automaton.next_of c.args.self.now.rule) c.args.self.now.nodes c.from_words.new.self.nodes sound c.from_words.ensures.goes_on.grows c.from_words.result c.args.id c.args.grain c.args.j 3 c.in-Four.words
+    centre_made WordsShow (g.A.Automaton.next_of c.args.self.now.rule) c.args.self.now.nodes c.from_words.new.self.nodes sound c.from_words.ensures.at_cost.goes_on.grows c.from_words.result c.args.id c.args.grain c.args.j 3 c.in-Four.words
     c.requires.square (rw c.in-Four.is at c.requires.words) c.from_words.ensures.shows

@@ -29,10 +29,10 @@ returns-clause-advanced g c =
     let half : Tree = record { root = root; level = k + 1 } in
     let trimmed = c.in_ok-trim.ensures in
     let padded = subst (λ l. IsPadded s0 tree l s1 wide) two c.in_ok-wide.ensures.padded in
-    let centred = subst (λ r. IsCentre (g.A.Automaton.next_of r) s2 wide.root k j root) c.in_ok-wide.ensures.goes_on.rule c.in_ok-root.ensures.centre in
+    let centred = subst (λ r. IsCentre (g.A.Automaton.next_of r) s2 wide.root k j root) c.in_ok-wide.ensures.at_cost.goes_on.rule c.in_ok-root.ensures.centre in
     record {
       is_tree = trimmed.tree;
       level = omega (arith, same, trimmed.level, c.max-grain.ensures, c.requires.level, c.requires.time);
-      cells = λ x y. trimmed.cells x y ∙ leap_cells next quiet s0 s1 s2 c.in_ok-wide.ensures.goes_on.grows.sound c.in_ok-root.ensures.goes_on.grows tree wide half k j root
+      cells = λ x y. trimmed.cells x y ∙ leap_cells next quiet s0 s1 s2 c.in_ok-wide.ensures.at_cost.goes_on.grows.sound c.in_ok-root.ensures.at_cost.goes_on.grows tree wide half k j root
           some low time padded centred refl one x y;
     }

@@ -38,7 +38,7 @@ pub returns-in_err-tree-clause-reached : goal.returns-in_err-tree-clause-reached
 returns-in_err-tree-clause-reached g c =
     let inv = c.digits.invariant in
     reached_kept (g.A.Automaton.next_of c.args.self.now.rule) c.args.self.now.nodes c.digits.self.nodes c.leap.new.self.nodes c.args.first.now c.args.n c.digits.reached
-    inv.goes_on.grows.sound c.in_err-tree.ensures.goes_on.grows inv.reached
+    inv.goes_on.grows.sound c.in_err-tree.ensures.at_cost.goes_on.grows inv.reached
 
 pub returns-in_err-tree-clause-costs : goal.returns-in_err-tree-clause-costs
 returns-in_err-tree-clause-costs g c =
@@ -54,7 +54,7 @@ returns-in_err-tree-clause-costs g c =
     let digit : left / 2 ^ c.digits.j % 2 ≡ 1 = grind (arith, nat_tests, c.if-left-j-eq1.true) in
     leapt_more c.args.self.now first begun c.args.n (c.digits.j + 1) 61 (omega (arith, c.digits-test.true))
     (one_leapt c.args.self.now first begun c.args.n next quiet s0 c.digits.self.nodes some c.digits.reached.tree inv.reached.low left c.digits.j (omega (arith, c.requires.reached.most)) digit
-    (at_time next (cell s0 first) (cell c.digits.self.nodes c.digits.reached.tree) c.digits.reached.generations (begun + left % 2 ^ c.digits.j) inv.time inv.reached.cells) inv.costs c.in_err-tree.ensures.costs)
+    (at_time next (cell s0 first) (cell c.digits.self.nodes c.digits.reached.tree) c.digits.reached.generations (begun + left % 2 ^ c.digits.j) inv.time inv.reached.cells) inv.costs c.in_err-tree.ensures.at_cost.costs)
 
 pub with_tree-requires : goal.with_tree-requires
 with_tree-requires g c = λ x y.
@@ -76,7 +76,7 @@ with_tree-requires g c = λ x y.
     let less = mod-le left (2 * 2 ^ j % 18446744073709551616) in
     let leapt = subst (λ r. (x y : ℤ) → cell s2 more x y ≡ cells_after (next r) (cell c.digits.self.nodes c.digits.reached.tree) (2 ^ j) x y) inv.goes_on.rule c.in_ok-tree.ensures.advanced.cells in
     let run = leapt_on rule s0 c.digits.self.nodes first c.args.n c.digits.reached inv.reached s2 more (2 ^ j) k some sum (omega (arith, less, c.requires.reached.most)) c.in_ok-tree.ensures.advanced.is_tree c.in_ok-tree.ensures.trimmed leapt in
-    let on = goes_on_again _ c.args.self.now c.digits.self c.leap.new.self inv.goes_on c.in_ok-tree.ensures.goes_on in
+    let on = goes_on_again _ c.args.self.now c.digits.self c.leap.new.self inv.goes_on c.in_ok-tree.ensures.at_cost.goes_on in
     let same = after_same rule (cell s0 first) (cell s2 first) k (λ u v. sym (tree_stays s0 s2 sound on.grows first c.requires.first.is_tree u v)) x y in
     let here = subst (λ r. cell s2 more x y ≡ cells_after (next r) (cell s2 first) k x y) (sym on.rule) (run.cells x y ∙ same) in
     subst (λ l. cell s2 more x y ≡ cells_after (next c.leap.new.self.rule) (cell l.nodes first) k x y) (sym c.self-then-left-j-eq1.view_is) here
@@ -114,9 +114,9 @@ digits-preserved g c =
                 let a : 0 / 2 ^ j % 2 ≡ 1 = subst (λ m. m / 2 ^ j % 2 ≡ 1) nothing digit in
                 let b : 0 / 2 ^ j % 2 ≡ 0 = bit_at-zero j in
                 absurd (omega (arith, a, b));
-            goes_on = goes_on_again _ c.args.self.now c.digits.self w.leap.new.self inv.goes_on w.in_ok-tree.ensures.goes_on;
+            goes_on = goes_on_again _ c.args.self.now c.digits.self w.leap.new.self inv.goes_on w.in_ok-tree.ensures.at_cost.goes_on;
             costs = one_leapt c.args.self.now first begun c.args.n next quiet s0 s1 some c.digits.reached.tree inv.reached.low left j (omega (arith, c.requires.reached.most)) digit
-                (at_time next (cell s0 first) (cell c.digits.self.nodes c.digits.reached.tree) c.digits.reached.generations (begun + left % 2 ^ c.digits.j) inv.time inv.reached.cells) inv.costs w.in_ok-tree.ensures.costs;
+                (at_time next (cell s0 first) (cell c.digits.self.nodes c.digits.reached.tree) c.digits.reached.generations (begun + left % 2 ^ c.digits.j) inv.time inv.reached.cells) inv.costs w.in_ok-tree.ensures.at_cost.costs;
           })
       | else-left-j-eq1 w ↦
           let digit : left / 2 ^ j % 2 ≡ 0 = grind (arith, nat_tests, w.if-left-j-eq1.false) in

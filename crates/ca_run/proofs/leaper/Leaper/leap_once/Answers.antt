@@ -35,7 +35,7 @@ with_tree-requires g c = λ x y.
     let run = with_leap (g.A.Automaton.next_of c.args.self.now.rule) c.args.origin.now c.args.self.now.nodes c.leap.new.self.nodes c.args.first.now c.args.n c.args.reached c.requires.reached some c.in-Ok.tree c.digit-digit.result
     c.digit-digit.ensures.low c.digit-digit.ensures.fits c.requires.more c.in-Ok.ensures.advanced.is_tree c.in-Ok.ensures.trimmed leapt in
     subst (λ r. cell c.leap.new.self.nodes c.in-Ok.tree x y ≡ cells_after (g.A.Automaton.next_of r) (cell c.args.origin.now c.args.first.now) (c.args.reached.generations + 1 * 2 ^ c.digit-digit.result % 18446744073709551616) x y)
-    (sym (c.in-Ok.ensures.goes_on.rule ∙ ap (λ l. l.rule) c.set_room.ensures)) (run.cells x y)
+    (sym (c.in-Ok.ensures.at_cost.goes_on.rule ∙ ap (λ l. l.rule) c.set_room.ensures)) (run.cells x y)
 
 pub returns-in-Ok-clause-reached : goal.returns-in-Ok-clause-reached
 returns-in-Ok-clause-reached g c =
@@ -50,5 +50,5 @@ returns-in_ok-tree-in-Err-Memory-clause-reached g c =
     let s0 = c.args.origin.now in
     let first = c.args.first.now in
     let mid = c.leap.new.self.nodes in
-    let kept = reached_kept next s0 c.args.self.now.nodes mid first c.args.n c.args.reached (subst (λ l. IsSoundStore l.nodes) c.self.view_is c.self.invariant.squares) (subst (λ l. Grows l.nodes mid) c.set_room.ensures c.in-Err-Memory.ensures.goes_on.grows) c.requires.reached in
+    let kept = reached_kept next s0 c.args.self.now.nodes mid first c.args.n c.args.reached (subst (λ l. IsSoundStore l.nodes) c.self.view_is c.self.invariant.squares) (subst (λ l. Grows l.nodes mid) c.set_room.ensures c.in-Err-Memory.ensures.at_cost.goes_on.grows) c.requires.reached in
     reached_moved next s0 mid first c.args.n c.args.reached kept c.leave_squares.new.self.nodes c.in_ok-tree-in-Err-Memory.tree c.in_ok-tree-in-Err-Memory.ensures.moved

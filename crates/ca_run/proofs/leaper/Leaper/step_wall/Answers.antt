@@ -3,10 +3,9 @@ use Rattle.ca_plane.specs.Generations.{cells_after}
 use Rattle.ca_quad.specs.Trees.{cell}
 use Rattle.ca_run.specs.inner.Bricks.{WallShows}
 use Rattle.ca_run.proofs.BrickMargins.{wall_as}
-use Rattle.ca_run.proofs.Costs.{costs_then, costs_more}
-use Rattle.ca_run.proofs.DenseRuns.{wall_cost}
+use Rattle.ca_run.proofs.Costs.{at_cost_more, at_both_costs}
+use Rattle.ca_run.proofs.DenseRuns.{at_wall_cost}
 use Rattle.ca_run.proofs.Levels.{trimmed_low}
-use Rattle.ca_run.proofs.Shown.{goes_on_again, three_go_on}
 use Rattle.ca_run.proofs.leaper.Leaper.step_wall.Goals as goal
 
 pub later_wall-requires-clause-shows : goal.later_wall-requires-clause-shows
@@ -32,26 +31,19 @@ returns-clause-reached g c =
       cells = λ x y. c.in_ok-tree-2.ensures.cells x y ∙ c.in_ok-tree.ensures.cells 0 later c.in_ok-later.ensures.shows x y;
     }
 
-pub returns-in_err-later-clause-costs : goal.returns-in_err-later-clause-costs
-returns-in_err-later-clause-costs g c = costs_more c.in_err-later.ensures.costs (omega arith) (omega arith)
+pub returns-in_err-later-clause-at_cost : goal.returns-in_err-later-clause-at_cost
+returns-in_err-later-clause-at_cost g c = at_cost_more c.in_err-later.ensures.at_cost (omega arith) (omega arith)
 
-pub returns-in_err-tree-clause-goes_on : goal.returns-in_err-tree-clause-goes_on
-returns-in_err-tree-clause-goes_on g c = goes_on_again _ _ _ _ c.in_ok-later.ensures.goes_on c.in_err-tree.ensures.goes_on
+pub returns-in_err-tree-clause-at_cost : goal.returns-in_err-tree-clause-at_cost
+returns-in_err-tree-clause-at_cost g c =
+    at_cost_more (at_wall_cost c.args.first.now.level c.reach-reach.result (omega (arith, c.if-reach-first.false)) c.in_ok-later.ensures.at_cost c.in_err-tree.ensures.at_cost) (omega arith) (omega arith)
 
-pub returns-in_err-tree-clause-costs : goal.returns-in_err-tree-clause-costs
-returns-in_err-tree-clause-costs g c =
-    costs_more (wall_cost c.args.first.now.level c.reach-reach.result (omega (arith, c.if-reach-first.false)) c.in_ok-later.ensures.costs c.in_err-tree.ensures.costs) (omega arith) (omega arith)
+pub returns-in_err-tree-2-clause-at_cost : goal.returns-in_err-tree-2-clause-at_cost
+returns-in_err-tree-2-clause-at_cost g c =
+    let wall = at_wall_cost c.args.first.now.level c.reach-reach.result (omega (arith, c.if-reach-first.false)) c.in_ok-later.ensures.at_cost c.in_ok-tree.ensures.at_cost in
+    at_cost_more (at_both_costs wall c.in_err-tree-2.ensures.at_cost) (omega arith) (omega arith)
 
-pub returns-in_err-tree-2-clause-goes_on : goal.returns-in_err-tree-2-clause-goes_on
-returns-in_err-tree-2-clause-goes_on g c = three_go_on c.in_ok-later.ensures.goes_on c.in_ok-tree.ensures.goes_on c.in_err-tree-2.ensures.goes_on
-
-pub returns-in_err-tree-2-clause-costs : goal.returns-in_err-tree-2-clause-costs
-returns-in_err-tree-2-clause-costs g c =
-    costs_then (wall_cost c.args.first.now.level c.reach-reach.result (omega (arith, c.if-reach-first.false)) c.in_ok-later.ensures.costs c.in_ok-tree.ensures.costs) c.in_err-tree-2.ensures.costs (omega arith) (omega arith)
-
-pub returns-clause-goes_on : goal.returns-clause-goes_on
-returns-clause-goes_on g c = three_go_on c.in_ok-later.ensures.goes_on c.in_ok-tree.ensures.goes_on c.in_ok-tree-2.ensures.goes_on
-
-pub returns-clause-costs : goal.returns-clause-costs
-returns-clause-costs g c =
-    costs_then (wall_cost c.args.first.now.level c.reach-reach.result (omega (arith, c.if-reach-first.false)) c.in_ok-later.ensures.costs c.in_ok-tree.ensures.costs) c.in_ok-tree-2.ensures.costs (omega arith) (omega arith)
+pub returns-clause-at_cost : goal.returns-clause-at_cost
+returns-clause-at_cost g c =
+    let wall = at_wall_cost c.args.first.now.level c.reach-reach.result (omega (arith, c.if-reach-first.false)) c.in_ok-later.ensures.at_cost c.in_ok-tree.ensures.at_cost in
+    at_cost_more (at_both_costs wall c.in_ok-tree-2.ensures.at_cost) (omega arith) (omega arith)

@@ -10,9 +10,9 @@ pub returns-in_default-clause-reached : goal.returns-in_default-clause-reached
 returns-in_default-clause-reached g c =
     let inv = c.walls.invariant in
     let sound = subst (λ l. IsSoundStore l.nodes) c.self.view_is c.self.invariant.squares in
-    let on = goes_on_again _ c.args.self.now c.walls.self c.step_wall.new.self inv.goes_on c.in_ok-stretch.ensures.goes_on in
+    let on = goes_on_again _ c.args.self.now c.walls.self c.step_wall.new.self inv.goes_on c.in_ok-stretch.ensures.at_cost.goes_on in
     let first = of_stays _ _ sound inv.goes_on.grows c.args.first.now.root c.args.first.now.level c.requires.first in
-    let kept = reached_stays _ _ _ c.args.first.now c.args.n c.walls.reached inv.goes_on.grows.sound c.in_ok-stretch.ensures.goes_on.grows first inv.reached in
+    let kept = reached_stays _ _ _ c.args.first.now c.args.n c.walls.reached inv.goes_on.grows.sound c.in_ok-stretch.ensures.at_cost.goes_on.grows first inv.reached in
     reached_before _ _ _ _ c.args.first.now c.args.n c.walls.reached sound on.grows c.requires.first kept
 
 pub returns-then-work-least-clause-reached : goal.returns-then-work-least-clause-reached
@@ -24,7 +24,7 @@ returns-then-work-least-clause-reached g c =
     (reached_before _ _ _ _ c.args.first.now c.args.n _ sound inv.goes_on.grows c.requires.first made)
 
 pub returns-then-work-least-clause-goes_on : goal.returns-then-work-least-clause-goes_on
-returns-then-work-least-clause-goes_on g c = goes_on_again _ c.args.self.now c.walls.self c.step_wall.new.self c.walls.invariant.goes_on c.in_ok-stretch.ensures.goes_on
+returns-then-work-least-clause-goes_on g c = goes_on_again _ c.args.self.now c.walls.self c.step_wall.new.self c.walls.invariant.goes_on c.in_ok-stretch.ensures.at_cost.goes_on
 
 pub walls-preserved : goal.walls-preserved
 walls-preserved g c =
@@ -34,9 +34,9 @@ walls-preserved g c =
     let first = of_stays _ _ sound inv.goes_on.grows c.args.first.now.root c.args.first.now.level c.requires.first in
     record {
       reached = subst (λ r. HasReached (g.A.Automaton.next_of r) c.step_wall.new.self.nodes c.args.first.now c.args.n c.step_wall.new.self.nodes c.in-Some.stretch.reached) inv.goes_on.rule
-          (reached_now _ _ _ c.args.first.now c.args.n _ inv.goes_on.grows.sound c.in_ok-stretch.ensures.goes_on.grows first made);
-      goes_on = goes_on_again _ c.args.self.now c.walls.self c.step_wall.new.self inv.goes_on c.in_ok-stretch.ensures.goes_on;
-      costs = wall_more c.args.first.now c.walls.counter inv.costs c.in_ok-stretch.ensures.costs;
+          (reached_now _ _ _ c.args.first.now c.args.n _ inv.goes_on.grows.sound c.in_ok-stretch.ensures.at_cost.goes_on.grows first made);
+      goes_on = goes_on_again _ c.args.self.now c.walls.self c.step_wall.new.self inv.goes_on c.in_ok-stretch.ensures.at_cost.goes_on;
+      costs = wall_more c.args.first.now c.walls.counter inv.costs c.in_ok-stretch.ensures.at_cost.costs;
     }
 
 pub returns-clause-reached : goal.returns-clause-reached
@@ -50,19 +50,19 @@ pub returns-in_err-stretch-clause-costs : goal.returns-in_err-stretch-clause-cos
 returns-in_err-stretch-clause-costs g c =
     let i = c.walls.counter in
     walls_done c.args.first.now c.args.n (i + 1) c.requires.least c.requires.many (omega (arith, c.walls-test.true))
-    (wall_more c.args.first.now i c.walls.invariant.costs c.in_err-stretch.ensures.costs)
+    (wall_more c.args.first.now i c.walls.invariant.costs c.in_err-stretch.ensures.at_cost.costs)
 
 pub returns-in_default-clause-costs : goal.returns-in_default-clause-costs
 returns-in_default-clause-costs g c =
     let i = c.walls.counter in
     walls_done c.args.first.now c.args.n (i + 1) c.requires.least c.requires.many (omega (arith, c.walls-test.true))
-    (wall_more c.args.first.now i c.walls.invariant.costs c.in_ok-stretch.ensures.costs)
+    (wall_more c.args.first.now i c.walls.invariant.costs c.in_ok-stretch.ensures.at_cost.costs)
 
 pub returns-then-work-least-clause-costs : goal.returns-then-work-least-clause-costs
 returns-then-work-least-clause-costs g c =
     let i = c.walls.counter in
     walls_done c.args.first.now c.args.n (i + 1) c.requires.least c.requires.many (omega (arith, c.walls-test.true))
-    (wall_more c.args.first.now i c.walls.invariant.costs c.in_ok-stretch.ensures.costs)
+    (wall_more c.args.first.now i c.walls.invariant.costs c.in_ok-stretch.ensures.at_cost.costs)
 
 pub returns-clause-costs : goal.returns-clause-costs
 returns-clause-costs g c =

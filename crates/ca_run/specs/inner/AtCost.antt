@@ -1,0 +1,8 @@
+-- What a leaper's calls leave, and at which cost (our own).
+use Rattle.std.specs.Prelude.{ℕ}
+use Rattle.ca_run.specs.Leaping.{LeaperView, LeaperGrows, Costs}
+
+-- what the leaper had stays, at a cost of no more than so many units of work and so many squares
+pub record GoesOnAtCost (Rule : Type 0) (old new : LeaperView Rule) (units squares : ℕ) : Type 0 where
+  pub goes_on : LeaperGrows Rule old new
+  pub costs : Costs Rule old new units squares
