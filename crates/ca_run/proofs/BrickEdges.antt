@@ -9,7 +9,7 @@ use Rattle.ca_plane.specs.Generations.{around, cells_after}
 use Rattle.ca_plane.specs.Moore.{eight_sum}
 use Rattle.ca_quad.proofs.Growth.{below_or_not}
 use Rattle.ca_run.specs.Masks.{GoesBy}
-use Rattle.ca_run.specs.inner.Bricks.{round_at, next_at, sum_round, IsNextBrick, BrickShows, BricksShow, brick_x, brick_y, column_at, HasMargin, HasNeighbours, HasBlankEdge}
+use Rattle.ca_run.specs.inner.Bricks.{round_at, next_cell_at, sum_round, IsNextBrick, BrickShows, BricksShow, brick_x, brick_y, column_at, HasMargin, HasNeighbours, HasBlankEdge}
 use Rattle.ca_run.specs.inner.Tiles.{next_by_count}
 use Rattle.ca_run.proofs.BrickRows.{wide_bit-lt}
 use Rattle.ca_run.proofs.BrickRounds.{round_at-middle, round_at-east}
@@ -18,7 +18,7 @@ use Rattle.ca_run.proofs.BrickPlaces.{column_shows, quotient, remainder, east_of
 module _ (next : List ℕ → ℕ) (masks : ℕ × ℕ) (goes_by : GoesBy next masks) (p : ℤ → ℤ → ℕ) (at : ℕ → ℕ → ℕ) (a b : ℤ)
     (bits : (x y : ℕ) → at x y < 2) (shown : (x y : ℕ) → x < 66 → y < 18 → at x y ≡ p ((a -ℤ pos 1) +ℤ pos x) ((b -ℤ pos 1) +ℤ pos y)) where
   -- what comes next by the cells of a brick and those round it is the plane's next state
-  pub next_shows : (x y : ℕ) → x < 64 → y < 16 → next_at masks at x y ≡ cells_after next p 1 (a +ℤ pos x) (b +ℤ pos y)
+  pub next_shows : (x y : ℕ) → x < 64 → y < 16 → next_cell_at masks at x y ≡ cells_after next p 1 (a +ℤ pos x) (b +ℤ pos y)
   next_shows x y h k =
       let u = a +ℤ pos x in
       let v = b +ℤ pos y in

@@ -5,7 +5,7 @@ use Rattle.std.specs.Ordering.{is_lt, ord_min}
 use Rattle.std.proofs.lemmas.Int.{ints}
 use Rattle.ca_plane.specs.declared.point.Point.{Point}
 use Rattle.ca_plane.specs.Sparse.{point_cmp}
-use Rattle.ca_run.specs.inner.Order.{IsBefore, IsFirst, IsFirstPlace, IsUpTo, IsEarlier}
+use Rattle.ca_run.specs.inner.Order.{IsBefore, IsFirstOrNone, IsFirstPlace, IsUpTo, IsEarlier}
 
 -- of two numbers one is less, or they are the same
 three_ways : (a b : ℤ) → (a <ℤ b) ⊎ ((a ≡ b) ⊎ (b <ℤ a))
@@ -64,7 +64,7 @@ pub before-trans : (a b c d e f : ℤ) → IsBefore a b c d → IsBefore c d e f
 before-trans a b c d e f one two = grind (arith, ints)
 
 -- no place with P, and none with Q, is read before one that isn't read after the first of them
-not_before-up_to : (P : ℤ → ℤ → Type 0) (a : Option Point) (at : Point) → IsFirst P a → IsUpTo (Some at) a → (x y : ℤ) → P x y → IsBefore x y at.x at.y → ⊥
+not_before-up_to : (P : ℤ → ℤ → Type 0) (a : Option Point) (at : Point) → IsFirstOrNone P a → IsUpTo (Some at) a → (x y : ℤ) → P x y → IsBefore x y at.x at.y → ⊥
 not_before-up_to P None at first up_to x y holds before = first x y holds
 not_before-up_to P (Some q) at first up_to x y holds before =
     elim (compared x y q.x q.y) [
@@ -76,27 +76,27 @@ not_before-up_to P (Some q) at first up_to x y holds before =
     ]
 
 -- where no point is the first, there is none
-none_left : (P : ℤ → ℤ → Type 0) (a : Option Point) → IsFirst P a → IsUpTo None a → (x y : ℤ) → P x y → ⊥
+none_left : (P : ℤ → ℤ → Type 0) (a : Option Point) → IsFirstOrNone P a → IsUpTo None a → (x y : ℤ) → P x y → ⊥
 none_left P None first up_to = first
 none_left P (Some q) first up_to = absurd up_to
 
 -- the first place at which P or Q holds is the earlier of the first place for P and that for Q
-pub IsFirst-either : (P Q : ℤ → ℤ → Type 0) (a b r : Option Point) → IsFirst P a → IsFirst Q b → IsEarlier a b r → IsFirst (λ x y. P x y ⊎ Q x y) r
-IsFirst-either P Q a b None one two earlier = λ x y either.
+pub IsFirstOrNone-either : (P Q : ℤ → ℤ → Type 0) (a b r : Option Point) → IsFirstOrNone P a → IsFirstOrNone Q b → IsEarlier a b r → IsFirstOrNone (λ x y. P x y ⊎ Q x y) r
+IsFirstOrNone-either P Q a b None one two earlier = λ x y either.
     elim either [ inl p ↦ none_left P a one earlier.left x y p | inr q ↦ none_left Q b two earlier.right x y q ]
-IsFirst-either P Q a b (Some at) one two earlier = record {
+IsFirstOrNone-either P Q a b (Some at) one two earlier = record {
   here = elim earlier.which [
-    | inl e ↦ inl ((let first : IsFirst P (Some at) = subst (IsFirst P) (sym e) one in first).here)
-    | inr e ↦ inr ((let first : IsFirst Q (Some at) = subst (IsFirst Q) (sym e) two in first).here)
+    | inl e ↦ inl ((let first : IsFirstOrNone P (Some at) = subst (IsFirstOrNone P) (sym e) one in first).here)
+    | inr e ↦ inr ((let first : IsFirstOrNone Q (Some at) = subst (IsFirstOrNone Q) (sym e) two in first).here)
   ];
   first = λ x y either before.
       elim either [ inl p ↦ not_before-up_to P a at one earlier.left x y p before | inr q ↦ not_before-up_to Q b at two earlier.right x y q before ];
 }
 
 -- the same of what is said in other words
-pub IsFirst-same : (P Q : ℤ → ℤ → Type 0) (r : Option Point) → ((x y : ℤ) → P x y → Q x y) → ((x y : ℤ) → Q x y → P x y) → IsFirst P r → IsFirst Q r
-IsFirst-same P Q None there back first = λ x y q. first x y (back x y q)
-IsFirst-same P Q (Some at) there back first = record {
+pub IsFirstOrNone-same : (P Q : ℤ → ℤ → Type 0) (r : Option Point) → ((x y : ℤ) → P x y → Q x y) → ((x y : ℤ) → Q x y → P x y) → IsFirstOrNone P r → IsFirstOrNone Q r
+IsFirstOrNone-same P Q None there back first = λ x y q. first x y (back x y q)
+IsFirstOrNone-same P Q (Some at) there back first = record {
   here = there at.x at.y first.here;
   first = λ x y q before. first.first x y (back x y q) before;
 }

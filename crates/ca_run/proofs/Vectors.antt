@@ -39,24 +39,24 @@ same_shift p q box box2 dx dy least least2 same =
 -- ---- no vector but (0, 0)
 
 -- both coordinates of the point are from -b to b
-abbrev IsWithin : ℕ → Point → Type 0
-IsWithin b at = (neg_ℤ (pos b) ≤ℤ at.x) × (at.x ≤ℤ pos b) × (neg_ℤ (pos b) ≤ℤ at.y) × (at.y ≤ℤ pos b)
+abbrev IsPointWithin : ℕ → Point → Type 0
+IsPointWithin b at = (neg_ℤ (pos b) ≤ℤ at.x) × (at.x ≤ℤ pos b) × (neg_ℤ (pos b) ≤ℤ at.y) × (at.y ≤ℤ pos b)
 
 -- and so from -c to c, where c is no less
-IsWithin-more : (b c : ℕ) (at : Point) → b ≤ c → IsWithin b at → IsWithin c at
-IsWithin-more b c at more within = (omega (arith, ints, within), omega (arith, ints, within), omega (arith, ints, within), omega (arith, ints, within))
+IsPointWithin-more : (b c : ℕ) (at : Point) → b ≤ c → IsPointWithin b at → IsPointWithin c at
+IsPointWithin-more b c at more within = (omega (arith, ints, within), omega (arith, ints, within), omega (arith, ints, within), omega (arith, ints, within))
 
 -- a point is within the sum of its coordinates, whatever their signs
-IsWithin-point : (b : ℕ) (at : Point) → IsWithin (b + (up at.x + down at.x + (up at.y + down at.y))) at
-IsWithin-point b at = (omega (arith, ints), omega (arith, ints), omega (arith, ints), omega (arith, ints))
+IsPointWithin-point : (b : ℕ) (at : Point) → IsPointWithin (b + (up at.x + down at.x + (up at.y + down at.y))) at
+IsPointWithin-point b at = (omega (arith, ints), omega (arith, ints), omega (arith, ints), omega (arith, ints))
 
 -- the points of a picture are within some number, since it is a finite list
-within : (p : Picture) → (b : ℕ) × All (λ e. IsWithin b e.0) p
+within : (p : Picture) → (b : ℕ) × All (λ e. IsPointWithin b e.0) p
 within [] = (0, All-nil _)
 within (e ∷ es) =
     let rest = within es in
     let b : ℕ = rest.0 + (up e.0.x + down e.0.x + (up e.0.y + down e.0.y)) in
-    (b, All-cons (λ f. IsWithin b f.0) e es (IsWithin-point rest.0 e.0) (All-weaker (λ f. IsWithin rest.0 f.0) (λ f. IsWithin b f.0) (λ f. IsWithin-more rest.0 b f.0 (omega arith)) es rest.1))
+    (b, All-cons (λ f. IsPointWithin b f.0) e es (IsPointWithin-point rest.0 e.0) (All-weaker (λ f. IsPointWithin rest.0 f.0) (λ f. IsPointWithin b f.0) (λ f. IsPointWithin-more rest.0 b f.0 (omega arith)) es rest.1))
 
 -- what goes on to something higher, and is never above a limit, isn't there
 no_climb : {X : Type 0} (P : X → Type 0) (height : X → ℤ) (next : X → X) (top : ℤ) → ((a : X) → P a → P (next a)) → ((a : X) → (height a +ℤ pos 1) ≤ℤ height (next a))
@@ -67,10 +67,10 @@ no_climb P height next top on rises below (suc n) a has above =
 
 -- a picture has no live cells that go on to ever higher ones
 no_end : (p : Picture) (height : Point → ℤ) (next : Point → Point) → ((at : Point) → cell p at.x at.y ≢ 0 → cell p (next at).x (next at).y ≢ 0)
-    → ((at : Point) → (height at +ℤ pos 1) ≤ℤ height (next at)) → ((b : ℕ) (at : Point) → IsWithin b at → (neg_ℤ (pos b) ≤ℤ height at) × (height at ≤ℤ pos b)) → IsLive p → ⊥
+    → ((at : Point) → (height at +ℤ pos 1) ≤ℤ height (next at)) → ((b : ℕ) (at : Point) → IsPointWithin b at → (neg_ℤ (pos b) ≤ℤ height at) × (height at ≤ℤ pos b)) → IsLive p → ⊥
 no_end p height next on rises height_within live =
     let b : ℕ = (within p).0 in
-    let all : (at : Point) → cell p at.x at.y ≢ 0 → IsWithin b at = λ at here. All-contains (λ e. IsWithin b e.0) p (at, cell p at.x at.y) (within p).1 (Contains-cell p at.x at.y here) in
+    let all : (at : Point) → cell p at.x at.y ≢ 0 → IsPointWithin b at = λ at here. All-contains (λ e. IsPointWithin b e.0) p (at, cell p at.x at.y) (within p).1 (Contains-cell p at.x at.y here) in
     let start : Point = record { y = live.1; x = live.0 } in
     let low : neg_ℤ (pos b) ≤ℤ height start = (height_within b start (all start live.2)).0 in
     no_climb (λ (at : Point). cell p at.x at.y ≢ 0) height next (pos b) on rises (λ at here. (height_within b at (all at here)).1) (b + b + 1) start live.2 (omega (arith, ints))

@@ -14,8 +14,8 @@ use Rattle.ca_run.specs.declared.bricks.frame.Frame.{Frame}
 use Rattle.ca_run.specs.declared.bricks.wall.Wall.{Wall}
 use Rattle.ca_run.specs.inner.Beyond.{DiesBeyond}
 use Rattle.ca_run.specs.inner.Words.{WordShows}
-use Rattle.ca_run.specs.inner.Bricks.{BrickShows, WallShows, LiesNear, IsAligned}
-use Rattle.ca_run.specs.inner.Frames.{IsOutOf, IsFrame, IsFramed, piece_start, row_start}
+use Rattle.ca_run.specs.inner.Bricks.{BrickShows, WallShows, LiesNearOrigin, IsAligned}
+use Rattle.ca_run.specs.inner.Frames.{IsOutOf, IsWallFrame, IsFramed, piece_start, row_start}
 use Rattle.ca_run.proofs.BrickLists.{zeros_blank}
 use Rattle.ca_run.proofs.ReadWords.{side_words}
 use Rattle.ca_run.proofs.Words.{word_from}
@@ -112,7 +112,7 @@ row_further : (first k : ℕ) → row_start (4 * first + k) ≡ piece_start firs
 row_further first k = omega (arith, ints)
 
 -- bricks that show a plane where those of a frame round it lie make a wall that shows it
-pub framed_wall : (wall : Wall) (frame : Frame) (m : ℕ) (p : ℤ → ℤ → ℕ) → IsFrame frame → IsFramed m frame p
+pub framed_wall : (wall : Wall) (frame : Frame) (m : ℕ) (p : ℤ → ℤ → ℕ) → IsWallFrame frame → IsFramed m frame p
     → wall.x ≡ piece_start frame.columns.first → wall.y ≡ piece_start frame.rows.first → wall.across ≡ frame.columns.count → wall.down ≡ 4 * frame.rows.count
     → length wall.bricks.items ≡ 4 * (frame.columns.count * frame.rows.count)
     → ((t : ℕ) → t < length wall.bricks.items
@@ -126,8 +126,8 @@ framed_wall wall frame m p is framed x y across down size shown = rw (x, y, acro
 })
 
 -- and it lies near the origin
-pub near_wall : (wall : Wall) (frame : Frame) → IsFrame frame → wall.x ≡ piece_start frame.columns.first → wall.y ≡ piece_start frame.rows.first → wall.across ≡ frame.columns.count → wall.down ≡ 4 * frame.rows.count
-    → LiesNear wall
+pub near_wall : (wall : Wall) (frame : Frame) → IsWallFrame frame → wall.x ≡ piece_start frame.columns.first → wall.y ≡ piece_start frame.rows.first → wall.across ≡ frame.columns.count → wall.down ≡ 4 * frame.rows.count
+    → LiesNearOrigin wall
 near_wall wall frame is x y across down = rw (x, y, across, down) (record {
   west = omega (arith, ints);
   north = omega (arith, ints);

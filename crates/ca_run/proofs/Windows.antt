@@ -12,12 +12,12 @@ use Rattle.ca_plane.specs.Sparse.{IsInPlane}
 use Rattle.ca_plane.proofs.Pictures.{cell-Sets, cell-Sets-other, Contains-cell}
 use Rattle.ca_run.specs.Reach.{IsInReach}
 use Rattle.ca_run.specs.declared.row.Row.{Row}
-use Rattle.ca_run.specs.declared.window.Window.{Window}
-use Rattle.ca_run.specs.inner.Order.{IsBefore, NoneBefore, IsFirst, IsFirstPlace, IsEarlier}
-use Rattle.ca_run.specs.inner.CellsAhead.{IsAhead}
+use Rattle.ca_run.specs.declared.window.MovingWindow.{MovingWindow}
+use Rattle.ca_run.specs.inner.Order.{IsBefore, NoneBefore, IsFirstOrNone, IsFirstPlace, IsEarlier}
+use Rattle.ca_run.specs.inner.CellsAhead.{AreCellsAhead}
 use Rattle.ca_run.specs.inner.Row.{ShowsRow, IsQuietRow, IsLiveRow, MovesOn}
 use Rattle.ca_run.specs.inner.Window.{nine_states, ShowsWindow, IsQuiet, StaysLive, SeesAhead, east_of, IsNextPlace, MovesTo}
-use Rattle.ca_run.proofs.Reading.{compared, not_both, not_itself, before-moved, before-trans, IsFirst-either, IsFirst-same}
+use Rattle.ca_run.proofs.Reading.{compared, not_both, not_itself, before-moved, before-trans, IsFirstOrNone-either, IsFirstOrNone-same}
 
 -- ---- the first place from which a cell ahead is seen
 
@@ -28,12 +28,12 @@ no_step : (y : ℤ) → y +ℤ pos 0 ≡ y
 no_step y = omega (arith, ints)
 
 -- from the first places of the three rows
-pub IsFirst-SeesAhead : (w : Window) (a b c upper r : Option Point) → IsFirst (λ x y. cell w.north.ahead (x +ℤ pos 1) (y +ℤ negsuc 0) ≢ 0) a → IsFirst (λ x y. cell w.middle.ahead (x +ℤ pos 1) (y +ℤ pos 0) ≢ 0) b → IsFirst (λ x y. cell w.south.ahead (x +ℤ pos 1) (y +ℤ pos 1) ≢ 0) c → IsEarlier a b upper → IsEarlier upper c r → IsFirst (SeesAhead w) r
-IsFirst-SeesAhead w a b c upper r north middle south two three =
-    let north' : IsFirst (λ x y. cell w.north.ahead (x +ℤ pos 1) (y -ℤ pos 1) ≢ 0) a = IsFirst-same (λ x y. cell w.north.ahead (x +ℤ pos 1) (y +ℤ negsuc 0) ≢ 0) (λ x y. cell w.north.ahead (x +ℤ pos 1) (y -ℤ pos 1) ≢ 0) a (λ x y live. subst (λ v. cell w.north.ahead (x +ℤ pos 1) v ≢ 0) (up_one y) live) (λ x y live. subst (λ v. cell w.north.ahead (x +ℤ pos 1) v ≢ 0) (sym (up_one y)) live) north in
-    let middle' : IsFirst (λ x y. cell w.middle.ahead (x +ℤ pos 1) y ≢ 0) b = IsFirst-same (λ x y. cell w.middle.ahead (x +ℤ pos 1) (y +ℤ pos 0) ≢ 0) (λ x y. cell w.middle.ahead (x +ℤ pos 1) y ≢ 0) b (λ x y live. subst (λ v. cell w.middle.ahead (x +ℤ pos 1) v ≢ 0) (no_step y) live) (λ x y live. subst (λ v. cell w.middle.ahead (x +ℤ pos 1) v ≢ 0) (sym (no_step y)) live) middle in
-    let two' : IsFirst (λ x y. (cell w.north.ahead (x +ℤ pos 1) (y -ℤ pos 1) ≢ 0) ⊎ (cell w.middle.ahead (x +ℤ pos 1) y ≢ 0)) upper = IsFirst-either (λ x y. cell w.north.ahead (x +ℤ pos 1) (y -ℤ pos 1) ≢ 0) (λ x y. cell w.middle.ahead (x +ℤ pos 1) y ≢ 0) a b upper north' middle' two in
-    IsFirst-either (λ x y. (cell w.north.ahead (x +ℤ pos 1) (y -ℤ pos 1) ≢ 0) ⊎ (cell w.middle.ahead (x +ℤ pos 1) y ≢ 0)) (λ x y. cell w.south.ahead (x +ℤ pos 1) (y +ℤ pos 1) ≢ 0) upper c r two' south three
+pub IsFirstOrNone-SeesAhead : (w : MovingWindow) (a b c upper r : Option Point) → IsFirstOrNone (λ x y. cell w.north.ahead (x +ℤ pos 1) (y +ℤ negsuc 0) ≢ 0) a → IsFirstOrNone (λ x y. cell w.middle.ahead (x +ℤ pos 1) (y +ℤ pos 0) ≢ 0) b → IsFirstOrNone (λ x y. cell w.south.ahead (x +ℤ pos 1) (y +ℤ pos 1) ≢ 0) c → IsEarlier a b upper → IsEarlier upper c r → IsFirstOrNone (SeesAhead w) r
+IsFirstOrNone-SeesAhead w a b c upper r north middle south two three =
+    let north' : IsFirstOrNone (λ x y. cell w.north.ahead (x +ℤ pos 1) (y -ℤ pos 1) ≢ 0) a = IsFirstOrNone-same (λ x y. cell w.north.ahead (x +ℤ pos 1) (y +ℤ negsuc 0) ≢ 0) (λ x y. cell w.north.ahead (x +ℤ pos 1) (y -ℤ pos 1) ≢ 0) a (λ x y live. subst (λ v. cell w.north.ahead (x +ℤ pos 1) v ≢ 0) (up_one y) live) (λ x y live. subst (λ v. cell w.north.ahead (x +ℤ pos 1) v ≢ 0) (sym (up_one y)) live) north in
+    let middle' : IsFirstOrNone (λ x y. cell w.middle.ahead (x +ℤ pos 1) y ≢ 0) b = IsFirstOrNone-same (λ x y. cell w.middle.ahead (x +ℤ pos 1) (y +ℤ pos 0) ≢ 0) (λ x y. cell w.middle.ahead (x +ℤ pos 1) y ≢ 0) b (λ x y live. subst (λ v. cell w.middle.ahead (x +ℤ pos 1) v ≢ 0) (no_step y) live) (λ x y live. subst (λ v. cell w.middle.ahead (x +ℤ pos 1) v ≢ 0) (sym (no_step y)) live) middle in
+    let two' : IsFirstOrNone (λ x y. (cell w.north.ahead (x +ℤ pos 1) (y -ℤ pos 1) ≢ 0) ⊎ (cell w.middle.ahead (x +ℤ pos 1) y ≢ 0)) upper = IsFirstOrNone-either (λ x y. cell w.north.ahead (x +ℤ pos 1) (y -ℤ pos 1) ≢ 0) (λ x y. cell w.middle.ahead (x +ℤ pos 1) y ≢ 0) a b upper north' middle' two in
+    IsFirstOrNone-either (λ x y. (cell w.north.ahead (x +ℤ pos 1) (y -ℤ pos 1) ≢ 0) ⊎ (cell w.middle.ahead (x +ℤ pos 1) y ≢ 0)) (λ x y. cell w.south.ahead (x +ℤ pos 1) (y +ℤ pos 1) ≢ 0) upper c r two' south three
 
 -- ---- one row
 
@@ -141,7 +141,7 @@ within_kept p row x y v reach shows live up down =
 -- ---- the next place
 
 -- what holds at the next place
-pub record IsReady (p : Picture) (w : Window) (at : Point) : Type 0 where
+pub record IsReady (p : Picture) (w : MovingWindow) (at : Point) : Type 0 where
   pub later : IsBefore w.place.x w.place.y at.x at.y
   pub north : Awaits p w.north at.x (at.y -ℤ pos 1)
   pub middle : Awaits p w.middle at.x at.y
@@ -150,7 +150,7 @@ pub record IsReady (p : Picture) (w : Window) (at : Point) : Type 0 where
   pub within : IsInPlane at
 
 -- where a live cell stays in sight
-IsReady-kept : (p : Picture) (w : Window) → All (λ e. IsInReach e.0.x e.0.y) p → ShowsWindow p w → StaysLive w → IsReady p w (east_of w.place)
+IsReady-kept : (p : Picture) (w : MovingWindow) → All (λ e. IsInReach e.0.x e.0.y) p → ShowsWindow p w → StaysLive w → IsReady p w (east_of w.place)
 IsReady-kept p w reach shows kept = record {
   later = inr (refl, omega (arith, ints));
   north = Awaits-east_of p w.north w.place.x (w.place.y -ℤ pos 1) shows.north;
@@ -170,7 +170,7 @@ IsReady-kept p w reach shows kept = record {
     none_between a b x y later before = omega (arith, ints)
 
 -- a live cell ahead is read after what is in sight, and is one of the picture
-ahead_later : (p ahead : Picture) (x y u v : ℤ) → IsAhead p ahead x y → cell ahead u v ≢ 0 → IsBefore x y u v
+ahead_later : (p ahead : Picture) (x y u v : ℤ) → AreCellsAhead p ahead x y → cell ahead u v ≢ 0 → IsBefore x y u v
 ahead_later p ahead x y u v is live =
     elim (compared x y u v) [ inl later ↦ later | inr o ↦ absurd (live (is.gone u v (λ later. not_both x y u v later o))) ]
 
@@ -204,10 +204,10 @@ none_before_seen p P at d dy first nine_states level =
     none_before-moved p dy (at.x +ℤ pos 1) d (λ x y live before. first.first x y (nine_states x y live) (before-moved (x +ℤ pos 1) (y +ℤ dy) (at.x +ℤ pos 1) d x y at.x at.y before (omega (arith, ints)) (omega (arith, ints))))
 
 -- a cell ahead of a row is seen
-meets_north : (w : Window) (x y : ℤ) → cell w.north.ahead (x +ℤ pos 1) (y +ℤ negsuc 0) ≢ 0 → SeesAhead w x y
+meets_north : (w : MovingWindow) (x y : ℤ) → cell w.north.ahead (x +ℤ pos 1) (y +ℤ negsuc 0) ≢ 0 → SeesAhead w x y
 meets_north w x y live = inl (inl (subst (λ v. cell w.north.ahead (x +ℤ pos 1) v ≢ 0) (up_one y) live))
 
-meets_middle : (w : Window) (x y : ℤ) → cell w.middle.ahead (x +ℤ pos 1) (y +ℤ pos 0) ≢ 0 → SeesAhead w x y
+meets_middle : (w : MovingWindow) (x y : ℤ) → cell w.middle.ahead (x +ℤ pos 1) (y +ℤ pos 0) ≢ 0 → SeesAhead w x y
 meets_middle w x y live = inl (inr (subst (λ v. cell w.middle.ahead (x +ℤ pos 1) v ≢ 0) (no_step y) live))
 
 -- places keep their order in the rows above and below
@@ -218,7 +218,7 @@ below : (a b x y : ℤ) → IsBefore a b x y → IsBefore a (b +ℤ pos 1) x (y 
 below a b x y before = before-moved a b x y a (b +ℤ pos 1) x (y +ℤ pos 1) before (omega (arith, ints)) (omega (arith, ints))
 
 -- where no cell ahead is seen before (c, d), nothing is live round the places up to there
-quiet_around : (p : Picture) (w : Window) (c d : ℤ) → ShowsWindow p w → IsQuiet w → NoneBefore w.north.ahead (c +ℤ pos 1) (d -ℤ pos 1) → NoneBefore w.middle.ahead (c +ℤ pos 1) d → NoneBefore w.south.ahead (c +ℤ pos 1) (d +ℤ pos 1) → (x y : ℤ) → IsBefore w.place.x w.place.y x y → IsBefore x y c d → around (cell p) x y ≡ replicate 9 0
+quiet_around : (p : Picture) (w : MovingWindow) (c d : ℤ) → ShowsWindow p w → IsQuiet w → NoneBefore w.north.ahead (c +ℤ pos 1) (d -ℤ pos 1) → NoneBefore w.middle.ahead (c +ℤ pos 1) d → NoneBefore w.south.ahead (c +ℤ pos 1) (d +ℤ pos 1) → (x y : ℤ) → IsBefore w.place.x w.place.y x y → IsBefore x y c d → around (cell p) x y ≡ replicate 9 0
 quiet_around p w c d shows quiet none_north none_middle none_south x y later before =
     let north = quiet_three p w.north w.place.x (w.place.y -ℤ pos 1) c (d -ℤ pos 1) x (y -ℤ pos 1) shows.north quiet.north none_north (above w.place.x w.place.y x y later) (above x y c d before) in
     let middle = quiet_three p w.middle w.place.x w.place.y c d x y shows.middle quiet.middle none_middle later before in
@@ -226,7 +226,7 @@ quiet_around p w c d shows quiet none_north none_middle none_south x y later bef
     simp (north.0, north.1, north.2, middle.0, middle.1, middle.2, south.0, south.1, south.2)
 
 -- where all that stays in sight is 0
-IsReady-quiet : (p : Picture) (w : Window) (at : Point) → All (λ e. IsInReach e.0.x e.0.y) p → ShowsWindow p w → IsQuiet w → IsFirstPlace (SeesAhead w) at → IsReady p w at
+IsReady-quiet : (p : Picture) (w : MovingWindow) (at : Point) → All (λ e. IsInReach e.0.x e.0.y) p → ShowsWindow p w → IsQuiet w → IsFirstPlace (SeesAhead w) at → IsReady p w at
 IsReady-quiet p w at reach shows quiet first =
     let nine_states : IsSeen w.place.x w.place.y at = elim first.here [
       | inl upper ↦ elim upper [
@@ -250,7 +250,7 @@ IsReady-quiet p w at reach shows quiet first =
 some_same : (p q : Point) → Some p ≡ Some q → p ≡ q
 some_same p q e = cc
 
-pub IsReady-next : (p : Picture) (w : Window) (at : Point) → All (λ e. IsInReach e.0.x e.0.y) p → ShowsWindow p w → IsNextPlace w (Some at) → IsReady p w at
+pub IsReady-next : (p : Picture) (w : MovingWindow) (at : Point) → All (λ e. IsInReach e.0.x e.0.y) p → ShowsWindow p w → IsNextPlace w (Some at) → IsReady p w at
 IsReady-next p w at reach shows next =
     elim next [
       | inl kept ↦ subst (λ (q : Point). IsReady p w q) (sym (some_same at (east_of w.place) kept.1)) (IsReady-kept p w reach shows kept.0)
@@ -258,7 +258,7 @@ IsReady-next p w at reach shows next =
     ]
 
 -- a window that moves on to the next place shows the picture there
-pub ShowsWindow-next : (p : Picture) (old new : Window) (at : Point) → ShowsWindow p old → IsReady p old at → MovesTo old new at → ShowsWindow p new
+pub ShowsWindow-next : (p : Picture) (old new : MovingWindow) (at : Point) → ShowsWindow p old → IsReady p old at → MovesTo old new at → ShowsWindow p new
 ShowsWindow-next p old new at shows ready moves =
     let north = ShowsRow-MovesOn p old.north new.north old.place.x (old.place.y -ℤ pos 1) at.x (at.y -ℤ pos 1) shows.north ready.north (above old.place.x old.place.y at.x at.y ready.later) moves.north in
     let middle = ShowsRow-MovesOn p old.middle new.middle old.place.x old.place.y at.x at.y shows.middle ready.middle ready.later moves.middle in
@@ -270,11 +270,11 @@ ShowsWindow-next p old new at shows ready moves =
     }
 
 -- what is in sight are the nine cells round the place
-pub nine_states-around : (p : Picture) (w : Window) → ShowsWindow p w → nine_states w ≡ around (cell p) w.place.x w.place.y
+pub nine_states-around : (p : Picture) (w : MovingWindow) → ShowsWindow p w → nine_states w ≡ around (cell p) w.place.x w.place.y
 nine_states-around p w shows = cc (shows.north.west, shows.north.centre, shows.north.east, shows.middle.west, shows.middle.centre, shows.middle.east, shows.south.west, shows.south.centre, shows.south.east)
 
 -- where there is no next place, nothing is live round the places that come after
-pub quiet_end : (p : Picture) (w : Window) (x y : ℤ) → ShowsWindow p w → IsNextPlace w None → IsBefore w.place.x w.place.y x y → around (cell p) x y ≡ replicate 9 0
+pub quiet_end : (p : Picture) (w : MovingWindow) (x y : ℤ) → ShowsWindow p w → IsNextPlace w None → IsBefore w.place.x w.place.y x y → around (cell p) x y ≡ replicate 9 0
 quiet_end p w x y shows next later =
     elim next [
       | inl kept ↦ absurd (let no : ⊥ = cc (kept.1) in no)

@@ -10,7 +10,7 @@ use Rattle.ca_plane.specs.Change.{Sets}
 use Rattle.ca_plane.proofs.Pictures.{place-from_true, cell-Sets, cell-Sets-other}
 use Rattle.ca_run.specs.Reach.{IsInReach}
 use Rattle.ca_run.specs.declared.row.Row.{Row}
-use Rattle.ca_run.specs.declared.window.Window.{Window}
+use Rattle.ca_run.specs.declared.window.MovingWindow.{MovingWindow}
 use Rattle.ca_run.specs.inner.Order.{IsBefore}
 use Rattle.ca_run.specs.inner.Row.{ShowsRow, IsLiveRow, MovesOn}
 use Rattle.ca_run.specs.inner.Window.{nine_states, ShowsWindow, east_of, IsNextPlace, MovesTo}
@@ -43,7 +43,7 @@ ShowsRow-corner p row x y b reach corner near west centre east ahead = record {
     inside_later y b v corner near inside = omega (arith, ints)
 
 -- a window that is in the corner
-pub ShowsWindow-corner : (p : Picture) (w : Window) → All (λ e. IsInReach e.0.x e.0.y) p → IsCorner w.place.x w.place.y → (w.north.west ≡ 0) × (w.north.centre ≡ 0) × (w.north.east ≡ 0) × (w.north.ahead ≡ p) → (w.middle.west ≡ 0) × (w.middle.centre ≡ 0) × (w.middle.east ≡ 0) × (w.middle.ahead ≡ p) → (w.south.west ≡ 0) × (w.south.centre ≡ 0) × (w.south.east ≡ 0) × (w.south.ahead ≡ p) → ShowsWindow p w
+pub ShowsWindow-corner : (p : Picture) (w : MovingWindow) → All (λ e. IsInReach e.0.x e.0.y) p → IsCorner w.place.x w.place.y → (w.north.west ≡ 0) × (w.north.centre ≡ 0) × (w.north.east ≡ 0) × (w.north.ahead ≡ p) → (w.middle.west ≡ 0) × (w.middle.centre ≡ 0) × (w.middle.east ≡ 0) × (w.middle.ahead ≡ p) → (w.south.west ≡ 0) × (w.south.centre ≡ 0) × (w.south.east ≡ 0) × (w.south.ahead ≡ p) → ShowsWindow p w
 ShowsWindow-corner p w reach corner north middle south = record {
   north = ShowsRow-corner p w.north w.place.x (w.place.y -ℤ pos 1) w.place.y reach corner (omega (arith, ints)) north.0 north.1 north.2 north.3;
   middle = ShowsRow-corner p w.middle w.place.x w.place.y w.place.y reach corner (omega (arith, ints)) middle.0 middle.1 middle.2 middle.3;
@@ -75,7 +75,7 @@ IsWritten-corner next p new a b reach corner empty quiet = record {
 -- ---- place by place
 
 -- the state of the next place is written
-set_there : (next : List ℕ → ℕ) (p old new : Picture) (w : Window) (at : Point) (s : ℕ) → next (replicate 9 0) ≡ 0 → IsWritten next p old w.place.x w.place.y → IsReady p w at → s ≡ next (around (cell p) at.x at.y) → Sets old new at s → IsWritten next p new at.x at.y
+set_there : (next : List ℕ → ℕ) (p old new : Picture) (w : MovingWindow) (at : Point) (s : ℕ) → next (replicate 9 0) ≡ 0 → IsWritten next p old w.place.x w.place.y → IsReady p w at → s ≡ next (around (cell p) at.x at.y) → Sets old new at s → IsWritten next p new at.x at.y
 set_there next p old new w at s quiet written ready state sets = record {
   up_to = λ x y not_later.
       elim (compared x y at.x at.y) [
@@ -95,14 +95,14 @@ set_there next p old new w at s quiet written ready state sets = record {
       ∙ written.behind x y (before-trans w.place.x w.place.y at.x at.y x y ready.later later);
 }
 
-pub IsWritten-set : (next : List ℕ → ℕ) (p old new : Picture) (w v : Window) (at : Point) (nine : List ℕ) (s : ℕ) → next (replicate 9 0) ≡ 0 → All (λ e. IsInReach e.0.x e.0.y) p → ShowsWindow p w → IsWritten next p old w.place.x w.place.y → IsNextPlace w (Some at) → MovesTo w v at → nine ≡ nine_states v → s ≡ next nine → Sets old new at s → IsWritten next p new v.place.x v.place.y
+pub IsWritten-set : (next : List ℕ → ℕ) (p old new : Picture) (w v : MovingWindow) (at : Point) (nine : List ℕ) (s : ℕ) → next (replicate 9 0) ≡ 0 → All (λ e. IsInReach e.0.x e.0.y) p → ShowsWindow p w → IsWritten next p old w.place.x w.place.y → IsNextPlace w (Some at) → MovesTo w v at → nine ≡ nine_states v → s ≡ next nine → Sets old new at s → IsWritten next p new v.place.x v.place.y
 IsWritten-set next p old new w v at nine s quiet reach shows written to moves sight state sets =
     let ready = IsReady-next p w at reach shows to in
     let there : nine ≡ around (cell p) at.x at.y = sight ∙ subst (λ (q : Point). nine_states v ≡ around (cell p) q.x q.y) moves.place (nine_states-around p v (ShowsWindow-next p w v at shows ready moves)) in
     subst (λ (q : Point). IsWritten next p new q.x q.y) (sym moves.place) (set_there next p old new w at s quiet written ready (state ∙ ap next there) sets)
 
 -- a state of 0 is there without a write
-pub IsWritten-skip : (next : List ℕ → ℕ) (p old : Picture) (w v : Window) (at : Point) (nine : List ℕ) (s : ℕ) → next (replicate 9 0) ≡ 0 → All (λ e. IsInReach e.0.x e.0.y) p → ShowsWindow p w → IsWritten next p old w.place.x w.place.y → IsNextPlace w (Some at) → MovesTo w v at → nine ≡ nine_states v → s ≡ next nine → s ≡ 0 → IsWritten next p old v.place.x v.place.y
+pub IsWritten-skip : (next : List ℕ → ℕ) (p old : Picture) (w v : MovingWindow) (at : Point) (nine : List ℕ) (s : ℕ) → next (replicate 9 0) ≡ 0 → All (λ e. IsInReach e.0.x e.0.y) p → ShowsWindow p w → IsWritten next p old w.place.x w.place.y → IsNextPlace w (Some at) → MovesTo w v at → nine ≡ nine_states v → s ≡ next nine → s ≡ 0 → IsWritten next p old v.place.x v.place.y
 IsWritten-skip next p old w v at nine s quiet reach shows written to moves sight state zero_there =
     let ready = IsReady-next p w at reach shows to in
     IsWritten-set next p old old w v at nine s quiet reach shows written to moves sight state (λ x y. unchanged _ (cell old x y) (λ here. let place = place-from_true x y at here in rw (place.0, place.1) (written.behind at.x at.y ready.later ∙ sym zero_there)))
@@ -112,7 +112,7 @@ IsWritten-skip next p old w v at nine s quiet reach shows written to moves sight
     unchanged false v same = refl
 
 -- at the end the new picture shows the next state everywhere
-pub IsWritten-end : (next : List ℕ → ℕ) (p new : Picture) (w : Window) → next (replicate 9 0) ≡ 0
+pub IsWritten-end : (next : List ℕ → ℕ) (p new : Picture) (w : MovingWindow) → next (replicate 9 0) ≡ 0
     → IsWritten next p new w.place.x w.place.y → ShowsWindow p w → IsNextPlace w None → IsAfter next p 1 new
 IsWritten-end next p new w quiet written shows none = λ x y. sym (shown x y)
   where
@@ -136,7 +136,7 @@ abbrev pub row_moves : Row → ℕ
 row_moves row = 3 * length row.ahead + lag row.centre row.east
 
 -- how many moves a window can still take
-abbrev pub moves_left : Window → ℕ
+abbrev pub moves_left : MovingWindow → ℕ
 moves_left w = row_moves w.north + row_moves w.middle + row_moves w.south
 
 -- with each move they don't become more
@@ -175,7 +175,7 @@ row_moves-fall old new at moves some =
 abbrev Brings : Row → ℤ → ℤ → Type 0
 Brings row x y = IsLiveRow row ⊎ (cell row.ahead x y ≢ 0)
 
-some_row : (w : Window) (at : Point) → IsNextPlace w (Some at) → (Brings w.north (at.x +ℤ pos 1) (at.y -ℤ pos 1) ⊎ Brings w.middle (at.x +ℤ pos 1) at.y) ⊎ Brings w.south (at.x +ℤ pos 1) (at.y +ℤ pos 1)
+some_row : (w : MovingWindow) (at : Point) → IsNextPlace w (Some at) → (Brings w.north (at.x +ℤ pos 1) (at.y -ℤ pos 1) ⊎ Brings w.middle (at.x +ℤ pos 1) at.y) ⊎ Brings w.south (at.x +ℤ pos 1) (at.y +ℤ pos 1)
 some_row w at next =
     elim next [
       | inl kept ↦ elim kept.0 [
@@ -188,7 +188,7 @@ some_row w at next =
       ]
     ]
 
-pub moves_left-fall : (old new : Window) (at : Point) → IsNextPlace old (Some at) → MovesTo old new at → moves_left new < moves_left old
+pub moves_left-fall : (old new : MovingWindow) (at : Point) → IsNextPlace old (Some at) → MovesTo old new at → moves_left new < moves_left old
 moves_left-fall old new at next moves =
     let north = row_moves-kept old.north new.north (record { y = at.y -ℤ pos 1; x = at.x +ℤ pos 1 }) moves.north in
     let middle = row_moves-kept old.middle new.middle (east_of at) moves.middle in

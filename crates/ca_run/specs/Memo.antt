@@ -25,8 +25,8 @@ AreRecentLeaps next nodes slots = (nw ne sw se half : ℕ) → HasRecent slots (
     → (k : ℕ) × IsLeap next nodes k nw ne sw se half
 
 -- all that is remembered is no more than may be: the entries of the memo, and the slots of the two tables
-abbrev pub IsWithin : MemoView → SlotsView (ℕ × ℕ) → SlotsView (ℕ × ℕ × ℕ × ℕ) → ℕ → Type 0
-IsWithin memo centres leaps capacity = memo.order.cap + (centres.most + leaps.most) ≤ capacity
+abbrev pub IsWithinCapacity : MemoView → SlotsView (ℕ × ℕ) → SlotsView (ℕ × ℕ × ℕ × ℕ) → ℕ → Type 0
+IsWithinCapacity memo centres leaps capacity = memo.order.cap + (centres.most + leaps.most) ≤ capacity
 
 -- the rule and the squares are sound, what is remembered are centres and no more than may be, and the rule goes by the
 -- masks, if there are some
@@ -39,5 +39,5 @@ pub record IsLeaper (next : List ℕ → ℕ) (RuleIsSound : Type 0) (nodes : Li
   pub singles : AreSingles next nodes memo
   pub recent_centres : AreRecentCentres next nodes centres.slots
   pub recent_leaps : AreRecentLeaps next nodes leaps.slots
-  pub within : IsWithin memo centres leaps capacity
+  pub within : IsWithinCapacity memo centres leaps capacity
   pub by_masks : IfSome masks (GoesBy next)

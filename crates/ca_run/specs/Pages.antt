@@ -20,7 +20,7 @@ abbrev pub ArePagesKept : List (Option Page) → List (Key × Option ℕ) → Ty
 ArePagesKept pages entries = (n : ℕ) (page : Page) → slice_get pages n ≡ Some (Some page) → HasPageKey entries n
 
 -- each page that stands is among the keys, and there are no more keys than there may be
-pub record IsBounded (pages : List (Option Page)) (order : LruCache Key (Option ℕ)) : Type 0 where
+pub record IsBoundedMemo (pages : List (Option Page)) (order : LruCache Key (Option ℕ)) : Type 0 where
   pub held : ArePagesKept pages order.entries
   pub most : length order.entries ≤ order.cap
 

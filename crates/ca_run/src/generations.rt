@@ -8,7 +8,7 @@ ghost use Rattle.ca_run.specs.Stepped.{HasStates, IsStepped, Steps};
 ghost use Rattle.ca_run.specs.inner.Reached.{IsOutOfReach};
 
 use crate::fault::RunFault;
-use crate::window::Window;
+use crate::window::MovingWindow;
 use ca_plane::limits::REACH;
 use ca_plane::{Automaton, Memory, Plane, Point};
 use std::alloc::Global;
@@ -67,7 +67,7 @@ fn next_plane<A: Automaton>(alloc: Global, rule: &A, cells: &[(Point, u8)]) -> R
 {
     // A rule that tells its states is sound: nothing is born where all is empty, and it keeps to its states.
     let _states = rule.states();
-    let mut window = Window::new(cells);
+    let mut window = MovingWindow::new(cells);
     let mut next = Plane::new(alloc);
     'places: while let Some(place) = window.next_place() {
         window.move_to(place);

@@ -3,7 +3,7 @@
 ghost use Rattle.std.specs.Prelude.{◌≡◌, ◌≢◌, ℤ, pos, negsuc, ◌+ℤ◌, ◌≤ℤ◌, [], ◌∷◌, IsTrue, IsFalse, IfSome};
 ghost use Rattle.ca_plane.specs.Plane.{cell};
 ghost use Rattle.ca_plane.specs.Sparse.{IsInPlane, IsSparse};
-ghost use Rattle.ca_run.specs.inner.Order.{NoneBefore, IsFirst};
+ghost use Rattle.ca_run.specs.inner.Order.{NoneBefore, IsFirstOrNone};
 ghost use Rattle.ca_run.specs.inner.CellsAhead.{IsWithout};
 
 use ca_plane::Point;
@@ -36,7 +36,7 @@ impl<'a> CellsAhead<'a> {
 
     // The point of the first cell.
     fn first(&self) -> Option<Point>
-        ensures first { IsFirst (λ x y. cell self.now x y ≢ 0) result }
+        ensures first { IsFirstOrNone (λ x y. cell self.now x y ≢ 0) result }
         ensures within { IfSome result (λ at. IsInPlane at) }
     {
         let ((point, _), _) = self.left.split_first()?;
@@ -108,7 +108,7 @@ impl<'a> Row<'a> {
     pub(crate) fn first_place(&self, dy: i64) -> Option<Point>
         requires low { negsuc 0 ≤ℤ dy }
         requires high { dy ≤ℤ pos 1 }
-        ensures { IsFirst (λ x y. cell self.now.ahead (x +ℤ pos 1) (y +ℤ dy) ≢ 0) result }
+        ensures { IsFirstOrNone (λ x y. cell self.now.ahead (x +ℤ pos 1) (y +ℤ dy) ≢ 0) result }
     {
         let point = self.ahead.first()?;
         Some(Point {

@@ -4,7 +4,7 @@ ghost use Rattle.std.specs.Prelude.{◌≡◌, pos, ◌+ℤ◌, ◌-ℤ◌, IsTr
 ghost use Rattle.std.specs.List.{All};
 ghost use Rattle.ca_plane.specs.Sparse.{IsInPlane, IsSparse};
 ghost use Rattle.ca_run.specs.Reach.{IsInReach};
-ghost use Rattle.ca_run.specs.inner.Order.{NoneBefore, IsFirst};
+ghost use Rattle.ca_run.specs.inner.Order.{NoneBefore, IsFirstOrNone};
 
 use crate::points::{earlier_point, one_less, one_more};
 use crate::row::Row;
@@ -21,7 +21,7 @@ const CORNER: Point = Point {
 /// It moves on to one place after another, row by row from the top, and passes over places round which no
 /// cell is live.
 #[derive(Drop)]
-pub(crate) struct Window<'a> {
+pub(crate) struct MovingWindow<'a> {
     place: Point,
     north: Row<'a>,
     middle: Row<'a>,
@@ -29,18 +29,18 @@ pub(crate) struct Window<'a> {
     ghost within: { IsInPlane place },
 }
 
-impl<'a> Window<'a> {
+impl<'a> MovingWindow<'a> {
     ghost use Rattle.ca_run.specs.inner.Window.{nine_states, ShowsWindow, IsQuiet, StaysLive, SeesAhead};
     ghost use Rattle.ca_run.specs.inner.Window.{IsNextPlace, MovesTo};
 
     /// A window that comes before all the cells.
-    pub(crate) fn new(cells: &'a [(Point, u8)]) -> Window<'a>
+    pub(crate) fn new(cells: &'a [(Point, u8)]) -> MovingWindow<'a>
         requires sparse { IsSparse cells.now }
         requires reach { All (λ e. IsInReach e.0.x e.0.y) cells.now }
         ensures shows { ShowsWindow cells.now result }
         ensures place { result.place ≡ CORNER }
     {
-        Window {
+        MovingWindow {
             place: CORNER,
             north: Row::new(cells),
             middle: Row::new(cells),
@@ -71,7 +71,7 @@ impl<'a> Window<'a> {
 
     // The first place from which a cell ahead is seen in the east.
     fn first_place(&self) -> Option<Point>
-        ensures { IsFirst (SeesAhead self.now) result }
+        ensures { IsFirstOrNone (SeesAhead self.now) result }
     {
         let upper = earlier_point(self.north.first_place(-1), self.middle.first_place(0));
         earlier_point(upper, self.south.first_place(1))

@@ -81,8 +81,8 @@ pub record LiesWithin (way : ℕ) (wall : Wall) : Type 0 where
   pub south : (wall.y +ℤ pos (16 * wall.down)) ≤ℤ pos way
 
 -- and the way is at most 2 ^ 62
-abbrev pub LiesNear : Wall → Type 0
-LiesNear wall = LiesWithin (2 ^ 62) wall
+abbrev pub LiesNearOrigin : Wall → Type 0
+LiesNearOrigin wall = LiesWithin (2 ^ 62) wall
 
 -- the wall begins a whole number of words from the origin
 pub record IsAligned (wall : Wall) : Type 0 where
@@ -128,8 +128,8 @@ abbrev pub round_cells : Round → ℕ → ℕ → ℕ
 round_cells round x y = wide_bit (slice_index round.west y) (slice_index round.here y) (slice_index round.east y) x
 
 -- the next state of the cell at (x + 1, y + 1)
-abbrev pub next_at : ℕ × ℕ → (ℕ → ℕ → ℕ) → ℕ → ℕ → ℕ
-next_at masks at x y = next_by_count masks.0 masks.1 (at (suc x) (suc y)) (sum_round at x y)
+abbrev pub next_cell_at : ℕ × ℕ → (ℕ → ℕ → ℕ) → ℕ → ℕ → ℕ
+next_cell_at masks at x y = next_by_count masks.0 masks.1 (at (suc x) (suc y)) (sum_round at x y)
 
 -- ---- masks as words
 
@@ -155,7 +155,7 @@ pub record HasNeighbours (across count t : ℕ) : Type 0 where
 
 -- the brick of the new ones is the next generation of the one there and of those round it
 pub record IsNextBrick (masks : ℕ × ℕ) (across : ℕ) (old new : List (List ℕ)) (t : ℕ) : Type 0 where
-  pub cells : (x y : ℕ) → x < 64 → y < 16 → row_cells (get_or new t []) x y ≡ next_at masks (round_at across old t) x y
+  pub cells : (x y : ℕ) → x < 64 → y < 16 → row_cells (get_or new t []) x y ≡ next_cell_at masks (round_at across old t) x y
 
 -- the brick and the cells round it are the same
 pub record IsSameRound (across : ℕ) (old new : List (List ℕ)) (t : ℕ) : Type 0 where

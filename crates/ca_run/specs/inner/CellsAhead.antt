@@ -12,6 +12,6 @@ pub record IsWithout (old new : Picture) (at : Point) : Type 0 where
   pub fewer : cell old at.x at.y ≢ 0 → length new < length old
 
 -- ahead shows exactly the cells of p that are read after (x, y)
-pub record IsAhead (p ahead : Picture) (x y : ℤ) : Type 0 where
+pub record AreCellsAhead (p ahead : Picture) (x y : ℤ) : Type 0 where
   pub after : (u v : ℤ) → IsBefore x y u v → cell ahead u v ≡ cell p u v
   pub gone : (u v : ℤ) → (IsBefore x y u v → ⊥) → cell ahead u v ≡ 0

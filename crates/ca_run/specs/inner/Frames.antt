@@ -44,7 +44,7 @@ pub record Spans (low high : ℤ) (m : ℕ) (span : Span) : Type 0 where
   pub behind : (high +ℤ pos (64 + m)) <ℤ piece_start (span.first + span.count)
 
 -- a wall has so many bricks at most
-pub record IsFrame (frame : Frame) : Type 0 where
+pub record IsWallFrame (frame : Frame) : Type 0 where
   pub columns : IsSpan frame.columns
   pub rows : IsSpan frame.rows
   pub few : frame.columns.count * frame.rows.count ≤ 2 ^ 16

@@ -17,9 +17,9 @@ pub record IsFirstPlace (P : ℤ → ℤ → Type 0) (at : Point) : Type 0 where
   pub first : (x y : ℤ) → P x y → IsBefore x y at.x at.y → ⊥
 
 -- that point, or none where P holds at no place
-abbrev pub IsFirst : (ℤ → ℤ → Type 0) → Option Point → Type 0
-IsFirst P None = (x y : ℤ) → P x y → ⊥
-IsFirst P (Some at) = IsFirstPlace P at
+abbrev pub IsFirstOrNone : (ℤ → ℤ → Type 0) → Option Point → Type 0
+IsFirstOrNone P None = (x y : ℤ) → P x y → ⊥
+IsFirstOrNone P (Some at) = IsFirstPlace P at
 
 -- the second point, if there is one, isn't read before the first
 abbrev pub IsUpTo : Option Point → Option Point → Type 0

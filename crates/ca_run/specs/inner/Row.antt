@@ -3,14 +3,14 @@ use Rattle.std.specs.Prelude.{◌≡◌, ◌≢◌, ℤ, pos, ◌+ℤ◌, ◌-�
 use Rattle.ca_plane.specs.declared.point.Point.{Point}
 use Rattle.ca_plane.specs.Plane.{Picture, cell}
 use Rattle.ca_run.specs.declared.row.Row.{Row}
-use Rattle.ca_run.specs.inner.CellsAhead.{IsWithout, IsAhead}
+use Rattle.ca_run.specs.inner.CellsAhead.{IsWithout, AreCellsAhead}
 
 -- the row shows p round (x, y), and what comes after
 pub record ShowsRow (p : Picture) (row : Row) (x y : ℤ) : Type 0 where
   pub west : row.west ≡ cell p (x -ℤ pos 1) y
   pub centre : row.centre ≡ cell p x y
   pub east : row.east ≡ cell p (x +ℤ pos 1) y
-  pub ahead : IsAhead p row.ahead (x +ℤ pos 1) y
+  pub ahead : AreCellsAhead p row.ahead (x +ℤ pos 1) y
 
 -- the two cells that stay in sight one place further on are 0
 abbrev pub IsQuietRow : Row → Type 0

@@ -1,7 +1,7 @@
 //! Where the bricks of a box lie on the plane.
 
 ghost use Rattle.std.specs.Prelude.{◌≡◌, ◌+◌, ◌≤◌, ◌^◌, pos, ◌-ℤ◌, false, IfSome};
-ghost use Rattle.ca_run.specs.inner.Frames.{IsSpan, IsFrame, IsNearBox, Spans, piece_start};
+ghost use Rattle.ca_run.specs.inner.Frames.{IsSpan, IsWallFrame, IsNearBox, Spans, piece_start};
 
 use ca_quad::WideBounds;
 
@@ -75,7 +75,7 @@ fn span_of(low: usize, high: usize, margin: usize) -> Option<Span>
 pub(crate) fn frame_of(bounds: WideBounds, margin: usize) -> Option<Frame>
     requires near { IsNearBox bounds }
     requires margin { margin ≤ 2 ^ 60 }
-    ensures frame { IfSome result IsFrame }
+    ensures frame { IfSome result IsWallFrame }
     ensures columns { IfSome result (λ frame. Spans bounds.x0 bounds.x1 margin frame.columns) }
     ensures rows { IfSome result (λ frame. Spans bounds.y0 bounds.y1 margin frame.rows) }
 {

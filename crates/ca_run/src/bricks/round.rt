@@ -2,7 +2,7 @@
 
 ghost use Rattle.std.specs.Prelude.{◌≡◌, ◌<◌, ℕ, suc};
 ghost use Rattle.ca_quad.specs.Trees.{row_cells};
-ghost use Rattle.ca_run.specs.inner.Bricks.{round_cells, sum_of_three, sum_of_two, pair_at, next_at};
+ghost use Rattle.ca_run.specs.inner.Bricks.{round_cells, sum_of_three, sum_of_two, pair_at, next_cell_at};
 
 use super::word::{NextCells, WordSums, neighbours};
 
@@ -20,7 +20,7 @@ impl Round {
     #[inline(always)]
     pub(super) fn next<N: NextCells>(&self, cells: &N) -> [u64; 16]
         ensures { (masks : ℕ × ℕ) (x y : ℕ) → N.goes_by cells.now masks → x < 64 → y < 16
-            → row_cells result x y ≡ next_at masks (round_cells self.now) x y }
+            → row_cells result x y ≡ next_cell_at masks (round_cells self.now) x y }
     {
         let mut next = [0; 16];
         let mut above = self.sums(0);

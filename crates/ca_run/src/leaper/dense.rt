@@ -7,7 +7,7 @@ ghost use Rattle.ca_quad.specs.Trees.{IsTree, cell};
 ghost use Rattle.ca_run.specs.Leaping.{LeaperGrows, EndsAtLimit};
 ghost use Rattle.ca_run.specs.inner.AtCost.{GoesOnAtCost};
 ghost use Rattle.ca_run.specs.Masks.{GoesBy};
-ghost use Rattle.ca_run.specs.inner.Bricks.{WallShows, IsInPlace, LiesNear, IsAligned};
+ghost use Rattle.ca_run.specs.inner.Bricks.{WallShows, IsInPlace, LiesNearOrigin, IsAligned};
 ghost use Rattle.ca_run.specs.inner.Dense.{HasReached, IsIdle, IsDense};
 
 use super::Leaper;
@@ -244,7 +244,7 @@ impl<A: Automaton> Leaper<A> {
         requires margin { margin ≤ 2 ^ 60 }
         ensures shows { IfOk result (λ found. IfSome found
             (λ wall. WallShows wall margin (cell self.now.nodes tree.now))) }
-        ensures near { IfOk result (λ found. IfSome found LiesNear) }
+        ensures near { IfOk result (λ found. IfSome found LiesNearOrigin) }
         ensures aligned { IfOk result (λ found. IfSome found IsAligned) }
         ensures room { IfOk result (λ found. IfSome found
             (λ wall. wall.across + length wall.bricks.items < 2 ^ 63)) }

@@ -8,7 +8,7 @@ ghost use Rattle.ca_run.specs.Leaping.{EndsAtLimit};
 ghost use Rattle.ca_run.specs.inner.AtCost.{GoesOnAtCost};
 ghost use Rattle.ca_run.specs.inner.Shown.{ShowsAt};
 ghost use Rattle.ca_run.specs.inner.Bricks.{IsWall, WallShows, IsNearWall, LiesWithin};
-ghost use Rattle.ca_run.specs.inner.Bricks.{LiesNear, IsAligned};
+ghost use Rattle.ca_run.specs.inner.Bricks.{LiesNearOrigin, IsAligned};
 ghost use Rattle.ca_run.specs.inner.Words.{eight};
 
 use super::Leaper;
@@ -174,7 +174,7 @@ impl Wall {
     // The smallest number from 6 on so that all its bricks lie within 2 to its power from the origin.
     pub(super) fn reach(&self) -> u8
         requires wall { IsWall self.now }
-        requires place { LiesNear self.now }
+        requires place { LiesNearOrigin self.now }
         ensures least { 6 ≤ result }
         ensures most { result ≤ 62 }
         ensures within { LiesWithin (2 ^ result) self.now }
@@ -190,7 +190,7 @@ impl Wall {
     // Whether all its bricks lie within a power of two from the origin.
     fn lies_within(&self, power: u8) -> bool
         requires wall { IsWall self.now }
-        requires place { LiesNear self.now }
+        requires place { LiesNearOrigin self.now }
         requires power { power ≤ 62 }
         ensures { result ≡ true → LiesWithin (2 ^ power) self.now }
     {

@@ -31,13 +31,13 @@ pub(crate) struct Memo {
 }
 
 impl Model for Memo {
-    ghost use Rattle.ca_run.specs.Pages.{MemoView, IsBounded};
+    ghost use Rattle.ca_run.specs.Pages.{MemoView, IsBoundedMemo};
 
     ghost Value = { MemoView };
 
     ghost view = { λ m. record { pages = m.pages.items; order = m.order } };
 
-    ghost invariant = { λ m. IsBounded m.pages.items m.order };
+    ghost invariant = { λ m. IsBoundedMemo m.pages.items m.order };
 }
 
 impl Memo {

@@ -6,8 +6,8 @@ ghost use Rattle.ca_quad.specs.Squares.{IsOf};
 ghost use Rattle.ca_quad.specs.Trees.{cell};
 ghost use Rattle.ca_run.specs.inner.Shown.{ShowsAt};
 ghost use Rattle.ca_run.specs.inner.Words.{WordShows, eight};
-ghost use Rattle.ca_run.specs.inner.Bricks.{BrickShows, WallShows, LiesNear, IsAligned};
-ghost use Rattle.ca_run.specs.inner.Frames.{IsReadable, IsFrame, IsFramed, piece_start, row_start};
+ghost use Rattle.ca_run.specs.inner.Bricks.{BrickShows, WallShows, LiesNearOrigin, IsAligned};
+ghost use Rattle.ca_run.specs.inner.Frames.{IsReadable, IsWallFrame, IsFramed, piece_start, row_start};
 
 use super::Leaper;
 use crate::bricks::{Frame, Wall, brick_of};
@@ -99,7 +99,7 @@ impl<A: Automaton> Leaper<A> {
     // box is looked at.
     fn brick_in(&self, tree: &Tree, frame: &Frame, i: usize, j: usize) -> Option<[u64; 16]>
         requires tree { IsReadable self.now.nodes tree.now }
-        requires frame { IsFrame frame.now }
+        requires frame { IsWallFrame frame.now }
         requires column { i < frame.now.columns.count }
         requires row { j < 4 * frame.now.rows.count }
         ensures { (m : ℕ) → IsFramed m frame.now (cell self.now.nodes tree.now)
@@ -125,10 +125,10 @@ impl<A: Automaton> Leaper<A> {
         frame: &Frame,
     ) -> Result<Option<Wall>, Memory>
         requires tree { IsReadable self.now.nodes tree.now }
-        requires frame { IsFrame frame.now }
+        requires frame { IsWallFrame frame.now }
         ensures shows { (m : ℕ) → IsFramed m frame.now (cell self.now.nodes tree.now)
             → IfOk result (λ found. IfSome found (λ wall. WallShows wall m (cell self.now.nodes tree.now))) }
-        ensures near { IfOk result (λ found. IfSome found LiesNear) }
+        ensures near { IfOk result (λ found. IfSome found LiesNearOrigin) }
         ensures aligned { IfOk result (λ found. IfSome found IsAligned) }
         ensures room { IfOk result (λ found. IfSome found
             (λ wall. wall.across + length wall.bricks.items < 2 ^ 63)) }

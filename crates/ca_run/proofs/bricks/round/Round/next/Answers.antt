@@ -1,6 +1,6 @@
 use Rattle.std.proofs.Common.{◌≡◌, ℕ, suc, ◌+◌, ◌<◌, sym, ap, ◌∙◌, arith, slice_index}
 use Rattle.std.proofs.lemmas.List.{length-set}
-use Rattle.ca_run.specs.inner.Bricks.{round_cells, sum_of_three, sum_of_two, count_at, sum_round, next_at}
+use Rattle.ca_run.specs.inner.Bricks.{round_cells, sum_of_three, sum_of_two, count_at, sum_round, next_cell_at}
 use Rattle.ca_run.proofs.BrickRows.{rows_grow, row_made}
 use Rattle.ca_run.proofs.bricks.round.Round.next.Goals as goal
 
@@ -18,7 +18,7 @@ rows-preserved g c =
     omega (arith, c.neighbours-count.ensures x, inv.above x h, inv.here_two x h, last) in
     record {
       made = λ masks x j by.
-          let f = next_at masks at in
+          let f = next_cell_at masks at in
           let row = row_made c.args.self.now masks.0 masks.1 y word (slice_index c.args.self.now.here (y + 1)) (count_at c.neighbours-count.result) f (ap (slice_index c.args.self.now.here) one)
           counted (λ x. c.next_word.ensures masks x by) in
           rows_grow f c.rows.next y word (omega (arith, inv.size, c.rows-test.true)) (λ x j. inv.made masks x j by) row x j;

@@ -1,6 +1,6 @@
 use Rattle.std.proofs.Common.{rules, SFits, w64, refl}
 use Rattle.std.proofs.lemmas.Int.{to_z-of_z}
-use Rattle.ca_run.proofs.window.Window.move_to.Goals as goal
+use Rattle.ca_run.proofs.window.MovingWindow.move_to.Goals as goal
 
 pub move_on-requires-3 : goal.move_on-requires-3
 move_on-requires-3 c =
