@@ -68,7 +68,7 @@ pub rule_on : {Rule : Type 0} {old new : LeaperView Rule} {next : List ℕ → �
 rule_on next_of e on = e ∙ sym (ap next_of on.rule)
 
 -- three squares that were made one after another are there
-pub trio_are : {Rule : Type 0} {l0 l1 l2 l3 : LeaperView Rule} → LeaperGrows Rule l0 l1 → LeaperGrows Rule l1 l2 → LeaperGrows Rule l2 l3 → (k : ℕ) (three : Trio)
+pub trio_are : {Rule : Type 0} {l0 l1 l2 l3 : LeaperView Rule} → LeaperGrows Rule l0 l1 → LeaperGrows Rule l1 l2 → LeaperGrows Rule l2 l3 → (k : ℕ) (three : Trio ℕ)
     → IsOf l1.nodes three.west k → IsOf l2.nodes three.middle k → IsOf l3.nodes three.east k → AreThree l3.nodes k three
 trio_are f g h k three west middle east = record {
   west = of_stays _ _ f.grows.sound (grows_on _ _ _ g.grows h.grows) three.west k west;
@@ -77,7 +77,7 @@ trio_are f g h k three west middle east = record {
 }
 
 -- and nine, row by row
-pub nine_are : {Rule : Type 0} {l0 l1 l2 l3 : LeaperView Rule} → LeaperGrows Rule l0 l1 → LeaperGrows Rule l1 l2 → LeaperGrows Rule l2 l3 → (k : ℕ) (rows : Rows)
+pub nine_are : {Rule : Type 0} {l0 l1 l2 l3 : LeaperView Rule} → LeaperGrows Rule l0 l1 → LeaperGrows Rule l1 l2 → LeaperGrows Rule l2 l3 → (k : ℕ) (rows : Rows ℕ)
     → AreThree l1.nodes k rows.north → AreThree l2.nodes k rows.middle → AreThree l3.nodes k rows.south → AreNine l3.nodes k rows
 nine_are f g h k rows north middle south = record {
   north = three_are _ _ f.grows.sound (grows_on _ _ _ g.grows h.grows) k rows.north north;
@@ -87,16 +87,16 @@ nine_are f g h k rows north middle south = record {
 
 module _ (nodes : List Node) (level : ℕ) where
   -- three squares from a place by another name
-  pub three_from : (three : Trio) (p : ℤ → ℤ → ℕ) (a b c d : ℤ) → a ≡ c → b ≡ d → ThreeShow nodes level three p a b → ThreeShow nodes level three p c d
+  pub three_from : (three : Trio ℕ) (p : ℤ → ℤ → ℕ) (a b c d : ℤ) → a ≡ c → b ≡ d → ThreeShow nodes level three p a b → ThreeShow nodes level three p c d
   three_from three p a b c d e f h = subst (λ x. ThreeShow nodes level three p x d) e (subst (λ y. ThreeShow nodes level three p a y) f h)
 
   -- the four in the west of two rows of three
-  pub west_four : (north south : Trio) (p : ℤ → ℤ → ℕ) (a b : ℤ) → ThreeShow nodes level north p a b → ThreeShow nodes level south p a (b +ℤ side level)
+  pub west_four : (north south : Trio ℕ) (p : ℤ → ℤ → ℕ) (a b : ℤ) → ThreeShow nodes level north p a b → ThreeShow nodes level south p a (b +ℤ side level)
       → FourShow nodes level north.west north.middle south.west south.middle p a b
   west_four north south p a b n s = record { at_nw = n.at_west; at_ne = n.at_middle; at_sw = s.at_west; at_se = s.at_middle }
 
   -- and those in the east
-  pub east_four : (north south : Trio) (p : ℤ → ℤ → ℕ) (a b : ℤ) → ThreeShow nodes level north p a b → ThreeShow nodes level south p a (b +ℤ side level)
+  pub east_four : (north south : Trio ℕ) (p : ℤ → ℤ → ℕ) (a b : ℤ) → ThreeShow nodes level north p a b → ThreeShow nodes level south p a (b +ℤ side level)
       → FourShow nodes level north.middle north.east south.middle south.east p (a +ℤ side level) b
   east_four north south p a b n s = record { at_nw = n.at_middle; at_ne = n.at_east; at_sw = s.at_middle; at_se = s.at_east }
 
@@ -130,7 +130,7 @@ module _ (k : ℕ) where
 
   -- and of three, by three calls, each of which goes by the rule that the first one went by
   pub trio_at : {Rule : Type 0} {l0 l1 l2 l3 : LeaperView Rule} {next : List ℕ → ℕ} (next_of : Rule → List ℕ → ℕ) → next ≡ next_of l0.rule
-      → LeaperGrows Rule l0 l1 → LeaperGrows Rule l1 l2 → LeaperGrows Rule l2 l3 → (three : Trio) (p : ℤ → ℤ → ℕ) (a c : ℤ) → ShowsAt l1.nodes three.west (suc k) p (a +ℤ side k) c
+      → LeaperGrows Rule l0 l1 → LeaperGrows Rule l1 l2 → LeaperGrows Rule l2 l3 → (three : Trio ℕ) (p : ℤ → ℤ → ℕ) (a c : ℤ) → ShowsAt l1.nodes three.west (suc k) p (a +ℤ side k) c
       → (next ≡ next_of l1.rule → ShowsAt l2.nodes three.middle (suc k) p ((a +ℤ side (suc k)) +ℤ side k) c)
       → (next ≡ next_of l2.rule → Grows l0.nodes l2.nodes → ShowsAt l3.nodes three.east (suc k) p ((a +ℤ side (suc (suc k))) +ℤ side k) c) → ThreeShow l3.nodes (suc k) three p (a +ℤ side k) c
   trio_at next_of e f g h three p a c west middle east =
@@ -143,7 +143,7 @@ module _ (k : ℕ) where
 
   -- and of nine
   pub nine_at : {Rule : Type 0} {l0 l1 l2 l3 : LeaperView Rule} {next : List ℕ → ℕ} (next_of : Rule → List ℕ → ℕ) → next ≡ next_of l0.rule
-      → LeaperGrows Rule l0 l1 → LeaperGrows Rule l1 l2 → LeaperGrows Rule l2 l3 → (rows : Rows) (p : ℤ → ℤ → ℕ) (c b : ℤ) → ThreeShow l1.nodes (suc k) rows.north p c (b +ℤ side k)
+      → LeaperGrows Rule l0 l1 → LeaperGrows Rule l1 l2 → LeaperGrows Rule l2 l3 → (rows : Rows ℕ) (p : ℤ → ℤ → ℕ) (c b : ℤ) → ThreeShow l1.nodes (suc k) rows.north p c (b +ℤ side k)
       → (next ≡ next_of l1.rule → ThreeShow l2.nodes (suc k) rows.middle p c ((b +ℤ side (suc k)) +ℤ side k))
       → (next ≡ next_of l2.rule → Grows l0.nodes l2.nodes → ThreeShow l3.nodes (suc k) rows.south p c ((b +ℤ side (suc (suc k))) +ℤ side k)) → NineShow l3.nodes (suc k) rows p c (b +ℤ side k)
   nine_at next_of e f g h rows p c b north middle south =

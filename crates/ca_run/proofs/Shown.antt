@@ -20,7 +20,7 @@ use Rattle.ca_run.specs.Pages.{MemoView, HasFullLeap, HasSingle, RemembersNoMore
 use Rattle.ca_run.specs.Slots.{SlotsView, HasRecent}
 use Rattle.ca_run.specs.Memo.{AreFullLeaps, AreSingles, IsLeaper, AreRecentCentres, AreRecentLeaps}
 use Rattle.ca_run.proofs.After.{after_again}
-use Rattle.ca_run.proofs.Looks.{looks_from, looks_together, looks_nw, looks_ne, looks_sw, looks_se, looks_centre}
+use Rattle.ca_run.proofs.Looks.{quarters_each, looks_from, looks_together, looks_nw, looks_ne, looks_sw, looks_se, looks_centre}
 
 -- ---- growth
 
@@ -51,14 +51,14 @@ module _ (old new : List Node) (sound : IsSoundStore old) (grows : Grows old new
     looks = λ x y i j. ap (λ f. f x y) (cells_stay old new sound grows level id h.is_square) ∙ h.looks x y i j;
   }
 
-  pub three_stay : (level : ℕ) (three : Trio) (p : ℤ → ℤ → ℕ) (a b : ℤ) → ThreeShow old level three p a b → ThreeShow new level three p a b
+  pub three_stay : (level : ℕ) (three : Trio ℕ) (p : ℤ → ℤ → ℕ) (a b : ℤ) → ThreeShow old level three p a b → ThreeShow new level three p a b
   three_stay level three p a b h = record {
     at_west = at_stays three.west level p a b h.at_west;
     at_middle = at_stays three.middle level p (a +ℤ side level) b h.at_middle;
     at_east = at_stays three.east level p (a +ℤ side level +ℤ side level) b h.at_east;
   }
 
-  pub three_are : (level : ℕ) (three : Trio) → AreThree old level three → AreThree new level three
+  pub three_are : (level : ℕ) (three : Trio ℕ) → AreThree old level three → AreThree new level three
   three_are level three h = record {
     west = of_stays old new sound grows three.west level h.west;
     middle = of_stays old new sound grows three.middle level h.middle;
@@ -99,20 +99,11 @@ module _ (old new : List Node) (sound : IsSoundStore old) (grows : Grows old new
   }
 
   pub four_was : (k nw ne sw se : ℕ) (p : ℤ → ℤ → ℕ) (a b : ℤ) → AreFour old k nw ne sw se → FourShow new k nw ne sw se p a b → FourShow old k nw ne sw se p a b
-  four_was k nw ne sw se p a b are h = record {
-    at_nw = at_was nw k p a b are.is_nw h.at_nw;
-    at_ne = at_was ne k p (a +ℤ side k) b are.is_ne h.at_ne;
-    at_sw = at_was sw k p a (b +ℤ side k) are.is_sw h.at_sw;
-    at_se = at_was se k p (a +ℤ side k) (b +ℤ side k) are.is_se h.at_se;
-  }
+  four_was k nw ne sw se p a b are h =
+      quarters_each _ _ _ _ _ _ h (λ u v. at_was nw k p u v are.is_nw) (λ u v. at_was ne k p u v are.is_ne) (λ u v. at_was sw k p u v are.is_sw) (λ u v. at_was se k p u v are.is_se)
 
   pub four_stay : (k nw ne sw se : ℕ) (p : ℤ → ℤ → ℕ) (a b : ℤ) → FourShow old k nw ne sw se p a b → FourShow new k nw ne sw se p a b
-  four_stay k nw ne sw se p a b h = record {
-    at_nw = at_stays nw k p a b h.at_nw;
-    at_ne = at_stays ne k p (a +ℤ side k) b h.at_ne;
-    at_sw = at_stays sw k p a (b +ℤ side k) h.at_sw;
-    at_se = at_stays se k p (a +ℤ side k) (b +ℤ side k) h.at_se;
-  }
+  four_stay k nw ne sw se p a b h = quarters_each _ _ _ _ _ _ h (at_stays nw k p) (at_stays ne k p) (at_stays sw k p) (at_stays se k p)
 
   pub four_go : (k nw ne sw se : ℕ) → AreFour old k nw ne sw se → AreFour new k nw ne sw se
   four_go k nw ne sw se h = record {

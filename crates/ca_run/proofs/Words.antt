@@ -4,10 +4,10 @@ use Rattle.std.specs.Prelude.{ℤ, pos, ◌+ℤ◌}
 use Rattle.std.proofs.lemmas.Int.{ints}
 use Rattle.ca_quad.specs.Trees.{word_cells}
 use Rattle.ca_run.specs.declared.leaper.words.Words.{Words}
-use Rattle.ca_run.specs.declared.leaper.wide_square.ThreeWords.{ThreeWords}
-use Rattle.ca_run.specs.declared.leaper.wide_square.NineWords.{NineWords}
+use Rattle.ca_run.specs.declared.leaper.trio.Trio.{Trio}
+use Rattle.ca_run.specs.declared.leaper.trio.Rows.{Rows}
 use Rattle.ca_run.specs.inner.Words.{WordShows, WordsShow, TwoWordsShow, ThreeWordsShow, NineWordsShow}
-use Rattle.ca_run.proofs.Looks.{looks_from}
+use Rattle.ca_run.proofs.Looks.{looks_from, quarters_each}
 
 -- the same from a place by another name
 pub word_from : (word : ℕ) (p : ℤ → ℤ → ℕ) (a b c d : ℤ) → a ≡ c → b ≡ d → WordShows word p a b → WordShows word p c d
@@ -18,12 +18,8 @@ pub word_of_same : (word : ℕ) (p q : ℤ → ℤ → ℕ) (a b : ℤ) → ((x 
 word_of_same word p q a b same h = record { looks = λ x y i j. h.looks x y i j ∙ same (a +ℤ pos x) (b +ℤ pos y) }
 
 pub words_of_same : (words : Words) (p q : ℤ → ℤ → ℕ) (a b : ℤ) → ((x y : ℤ) → p x y ≡ q x y) → WordsShow words p a b → WordsShow words q a b
-words_of_same words p q a b same h = record {
-  at_nw = word_of_same words.nw p q a b same h.at_nw;
-  at_ne = word_of_same words.ne p q (a +ℤ pos 8) b same h.at_ne;
-  at_sw = word_of_same words.sw p q a (b +ℤ pos 8) same h.at_sw;
-  at_se = word_of_same words.se p q (a +ℤ pos 8) (b +ℤ pos 8) same h.at_se;
-}
+words_of_same words p q a b same h =
+    quarters_each _ _ _ _ _ _ h (λ u v. word_of_same words.nw p q u v same) (λ u v. word_of_same words.ne p q u v same) (λ u v. word_of_same words.sw p q u v same) (λ u v. word_of_same words.se p q u v same)
 
 -- twice a word is a square of 16 by 16
 twice : (a : ℤ) → a +ℤ pos 16 ≡ (a +ℤ pos 8) +ℤ pos 8
@@ -50,7 +46,7 @@ words_halfway north south p a b g h = record {
 }
 
 -- the centres of two squares side by side and of the one between them lie side by side
-pub three_centres : (three : ThreeWords) (q : ℤ → ℤ → ℕ) (a b : ℤ) → WordShows three.west q (a +ℤ pos 4) (b +ℤ pos 4) → WordShows three.middle q ((a +ℤ pos 8) +ℤ pos 4) (b +ℤ pos 4)
+pub three_centres : (three : Trio ℕ) (q : ℤ → ℤ → ℕ) (a b : ℤ) → WordShows three.west q (a +ℤ pos 4) (b +ℤ pos 4) → WordShows three.middle q ((a +ℤ pos 8) +ℤ pos 4) (b +ℤ pos 4)
     → WordShows three.east q ((a +ℤ pos 16) +ℤ pos 4) (b +ℤ pos 4) → ThreeWordsShow three q (a +ℤ pos 4) (b +ℤ pos 4)
 three_centres three q a b west middle east = record {
   at_west = west;
@@ -59,14 +55,14 @@ three_centres three q a b west middle east = record {
 }
 
 -- the same of three that lie elsewhere
-three_from : (three : ThreeWords) (p : ℤ → ℤ → ℕ) (a b d : ℤ) → b ≡ d → ThreeWordsShow three p a b → ThreeWordsShow three p a d
+three_from : (three : Trio ℕ) (p : ℤ → ℤ → ℕ) (a b d : ℤ) → b ≡ d → ThreeWordsShow three p a b → ThreeWordsShow three p a d
 three_from three p a b d f h = record {
   at_west = word_from three.west p a b a d refl f h.at_west;
   at_middle = word_from three.middle p (a +ℤ pos 8) b (a +ℤ pos 8) d refl f h.at_middle;
   at_east = word_from three.east p (a +ℤ pos 8 +ℤ pos 8) b (a +ℤ pos 8 +ℤ pos 8) d refl f h.at_east;
 }
 
-pub nine_centres : (nine : NineWords) (q : ℤ → ℤ → ℕ) (a b : ℤ) → ThreeWordsShow nine.north q a (b +ℤ pos 4) → ThreeWordsShow nine.middle q a ((b +ℤ pos 8) +ℤ pos 4)
+pub nine_centres : (nine : Rows ℕ) (q : ℤ → ℤ → ℕ) (a b : ℤ) → ThreeWordsShow nine.north q a (b +ℤ pos 4) → ThreeWordsShow nine.middle q a ((b +ℤ pos 8) +ℤ pos 4)
     → ThreeWordsShow nine.south q a ((b +ℤ pos 16) +ℤ pos 4) → NineWordsShow nine q a (b +ℤ pos 4)
 nine_centres nine q a b north middle south = record {
   at_north = north;
@@ -75,11 +71,11 @@ nine_centres nine q a b north middle south = record {
 }
 
 -- the western and the eastern square that two rows of three make
-pub west_words : (north south : ThreeWords) (p : ℤ → ℤ → ℕ) (a b : ℤ) → ThreeWordsShow north p a b → ThreeWordsShow south p a (b +ℤ pos 8)
+pub west_words : (north south : Trio ℕ) (p : ℤ → ℤ → ℕ) (a b : ℤ) → ThreeWordsShow north p a b → ThreeWordsShow south p a (b +ℤ pos 8)
     → WordsShow (record { nw = north.west; ne = north.middle; sw = south.west; se = south.middle }) p a b
 west_words north south p a b g h = record { at_nw = g.at_west; at_ne = g.at_middle; at_sw = h.at_west; at_se = h.at_middle }
 
-pub east_words : (north south : ThreeWords) (p : ℤ → ℤ → ℕ) (a b : ℤ) → ThreeWordsShow north p a b → ThreeWordsShow south p a (b +ℤ pos 8)
+pub east_words : (north south : Trio ℕ) (p : ℤ → ℤ → ℕ) (a b : ℤ) → ThreeWordsShow north p a b → ThreeWordsShow south p a (b +ℤ pos 8)
     → WordsShow (record { nw = north.middle; ne = north.east; sw = south.middle; se = south.east }) p (a +ℤ pos 8) b
 east_words north south p a b g h = record { at_nw = g.at_middle; at_ne = g.at_east; at_sw = h.at_middle; at_se = h.at_east }
 

@@ -18,33 +18,37 @@ pub record ShowsAt (nodes : List Node) (id level : ℕ) (p : ℤ → ℤ → ℕ
 abbrev pub side : ℕ → ℤ
 side level = pos (2 ^ level)
 
--- four squares of this level show the plane: together they show it from (a, b) on
-pub record FourShow (nodes : List Node) (level nw ne sw se : ℕ) (p : ℤ → ℤ → ℕ) (a b : ℤ) : Type 0 where
-  pub at_nw : ShowsAt nodes nw level p a b
-  pub at_ne : ShowsAt nodes ne level p (a +ℤ side level) b
-  pub at_sw : ShowsAt nodes sw level p a (b +ℤ side level)
-  pub at_se : ShowsAt nodes se level p (a +ℤ side level) (b +ℤ side level)
+-- four of a kind show the plane, as the quarters of a square, each so wide: together they show it from (a, b) on
+pub record QuartersShow {T : Type 0} (Shows : T → (ℤ → ℤ → ℕ) → ℤ → ℤ → Type 0) (wide : ℤ) (nw ne sw se : T) (p : ℤ → ℤ → ℕ) (a b : ℤ) : Type 0 where
+  pub at_nw : Shows nw p a b
+  pub at_ne : Shows ne p (a +ℤ wide) b
+  pub at_sw : Shows sw p a (b +ℤ wide)
+  pub at_se : Shows se p (a +ℤ wide) (b +ℤ wide)
+
+-- four squares of this level show it
+abbrev pub FourShow : List Node → (level nw ne sw se : ℕ) → (ℤ → ℤ → ℕ) → ℤ → ℤ → Type 0
+FourShow nodes level nw ne sw se p a b = QuartersShow (λ id. ShowsAt nodes id level) (side level) nw ne sw se p a b
 
 -- three squares of this level are there
-pub record AreThree (nodes : List Node) (level : ℕ) (three : Trio) : Type 0 where
+pub record AreThree (nodes : List Node) (level : ℕ) (three : Trio ℕ) : Type 0 where
   pub west : IsOf nodes three.west level
   pub middle : IsOf nodes three.middle level
   pub east : IsOf nodes three.east level
 
 -- three squares of this level, side by side, show the plane from (a, b) on
-pub record ThreeShow (nodes : List Node) (level : ℕ) (three : Trio) (p : ℤ → ℤ → ℕ) (a b : ℤ) : Type 0 where
+pub record ThreeShow (nodes : List Node) (level : ℕ) (three : Trio ℕ) (p : ℤ → ℤ → ℕ) (a b : ℤ) : Type 0 where
   pub at_west : ShowsAt nodes three.west level p a b
   pub at_middle : ShowsAt nodes three.middle level p (a +ℤ side level) b
   pub at_east : ShowsAt nodes three.east level p (a +ℤ side level +ℤ side level) b
 
 -- nine squares of this level are there
-pub record AreNine (nodes : List Node) (level : ℕ) (rows : Rows) : Type 0 where
+pub record AreNine (nodes : List Node) (level : ℕ) (rows : Rows ℕ) : Type 0 where
   pub north : AreThree nodes level rows.north
   pub middle : AreThree nodes level rows.middle
   pub south : AreThree nodes level rows.south
 
 -- nine squares of this level show the plane: together they show it from (a, b) on
-pub record NineShow (nodes : List Node) (level : ℕ) (rows : Rows) (p : ℤ → ℤ → ℕ) (a b : ℤ) : Type 0 where
+pub record NineShow (nodes : List Node) (level : ℕ) (rows : Rows ℕ) (p : ℤ → ℤ → ℕ) (a b : ℤ) : Type 0 where
   pub at_north : ThreeShow nodes level rows.north p a b
   pub at_middle : ThreeShow nodes level rows.middle p a (b +ℤ side level)
   pub at_south : ThreeShow nodes level rows.south p a (b +ℤ side level +ℤ side level)

@@ -4,21 +4,18 @@ use Rattle.std.specs.Prelude.{◌≡◌, ℕ, ◌+◌, ◌-◌, ◌*◌, ◌/◌
 use Rattle.std.specs.Prelude.{nat_lt, if◌then◌else◌, slice_index}
 use Rattle.ca_quad.specs.Trees.{row_cells, word_cells}
 use Rattle.ca_run.specs.declared.leaper.words.Words.{Words}
-use Rattle.ca_run.specs.declared.leaper.wide_square.ThreeWords.{ThreeWords}
-use Rattle.ca_run.specs.declared.leaper.wide_square.NineWords.{NineWords}
+use Rattle.ca_run.specs.declared.leaper.trio.Trio.{Trio}
+use Rattle.ca_run.specs.declared.leaper.trio.Rows.{Rows}
 use Rattle.ca_run.specs.declared.leaper.wide_square.WideSquare.{WideSquare}
-use Rattle.ca_run.specs.inner.Shown.{Looks}
+use Rattle.ca_run.specs.inner.Shown.{Looks, QuartersShow}
 
 -- the word shows the plane from (a, b) on
 pub record WordShows (word : ℕ) (p : ℤ → ℤ → ℕ) (a b : ℤ) : Type 0 where
   pub looks : Looks 8 (word_cells word) p a b
 
--- four words show the plane: together they show it from (a, b) on
-pub record WordsShow (words : Words) (p : ℤ → ℤ → ℕ) (a b : ℤ) : Type 0 where
-  pub at_nw : WordShows words.nw p a b
-  pub at_ne : WordShows words.ne p (a +ℤ pos 8) b
-  pub at_sw : WordShows words.sw p a (b +ℤ pos 8)
-  pub at_se : WordShows words.se p (a +ℤ pos 8) (b +ℤ pos 8)
+-- the four words of a square of 16 by 16 cells show it
+abbrev pub WordsShow : Words → (ℤ → ℤ → ℕ) → ℤ → ℤ → Type 0
+WordsShow words p a b = QuartersShow WordShows (pos 8) words.nw words.ne words.sw words.se p a b
 
 -- two words side by side show the plane from (a, b) on
 pub record TwoWordsShow (two : ℕ × ℕ) (p : ℤ → ℤ → ℕ) (a b : ℤ) : Type 0 where
@@ -26,23 +23,20 @@ pub record TwoWordsShow (two : ℕ × ℕ) (p : ℤ → ℤ → ℕ) (a b : ℤ)
   pub at_east : WordShows two.1 p (a +ℤ pos 8) b
 
 -- and so do three
-pub record ThreeWordsShow (three : ThreeWords) (p : ℤ → ℤ → ℕ) (a b : ℤ) : Type 0 where
+pub record ThreeWordsShow (three : Trio ℕ) (p : ℤ → ℤ → ℕ) (a b : ℤ) : Type 0 where
   pub at_west : WordShows three.west p a b
   pub at_middle : WordShows three.middle p (a +ℤ pos 8) b
   pub at_east : WordShows three.east p (a +ℤ pos 8 +ℤ pos 8) b
 
 -- nine words show the plane: together they show it from (a, b) on
-pub record NineWordsShow (nine : NineWords) (p : ℤ → ℤ → ℕ) (a b : ℤ) : Type 0 where
+pub record NineWordsShow (nine : Rows ℕ) (p : ℤ → ℤ → ℕ) (a b : ℤ) : Type 0 where
   pub at_north : ThreeWordsShow nine.north p a b
   pub at_middle : ThreeWordsShow nine.middle p a (b +ℤ pos 8)
   pub at_south : ThreeWordsShow nine.south p a (b +ℤ pos 8 +ℤ pos 8)
 
--- the four quarters of a square of 32 by 32 cells show the plane: together they show it from (a, b) on
-pub record WideSquareShows (wide : WideSquare) (p : ℤ → ℤ → ℕ) (a b : ℤ) : Type 0 where
-  pub at_nw : WordsShow wide.nw p a b
-  pub at_ne : WordsShow wide.ne p (a +ℤ pos 16) b
-  pub at_sw : WordsShow wide.sw p a (b +ℤ pos 16)
-  pub at_se : WordsShow wide.se p (a +ℤ pos 16) (b +ℤ pos 16)
+-- the four quarters of a square of 32 by 32 cells show it
+abbrev pub WideSquareShows : WideSquare → (ℤ → ℤ → ℕ) → ℤ → ℤ → Type 0
+WideSquareShows wide p a b = QuartersShow WordsShow (pos 16) wide.nw wide.ne wide.sw wide.se p a b
 
 -- the tile shows the plane from (a, b) on, but for so many rows and columns at each of its sides
 pub record TileShows (rows : List ℕ) (margin : ℕ) (p : ℤ → ℤ → ℕ) (a b : ℤ) : Type 0 where

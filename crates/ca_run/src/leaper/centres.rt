@@ -127,7 +127,7 @@ impl<A: Automaton> Leaper<A> {
         grain: u8,
         first: Option<u8>,
         watch: &mut W,
-    ) -> Result<Rows, LeapFault>
+    ) -> Result<Rows<Id>, LeapFault>
         requires square { IsOf self.old.nodes id (suc (suc (suc grain))) }
         requires low { grain ≤ 122 }
         requires first { IsTimely grain first }
@@ -159,7 +159,7 @@ impl<A: Automaton> Leaper<A> {
         grain: u8,
         first: Option<u8>,
         watch: &mut W,
-    ) -> Result<Trio, LeapFault>
+    ) -> Result<Trio<Id>, LeapFault>
         requires west { IsOf self.old.nodes west (suc (suc grain)) }
         requires east { IsOf self.old.nodes east (suc (suc grain)) }
         requires low { grain ≤ 122 }
@@ -192,7 +192,7 @@ impl<A: Automaton> Leaper<A> {
         grain: u8,
         first: Option<u8>,
         watch: &mut W,
-    ) -> Result<Trio, LeapFault>
+    ) -> Result<Trio<Id>, LeapFault>
         requires four { AreFour self.old.nodes (suc (suc grain)) nw ne sw se }
         requires low { grain ≤ 122 }
         requires first { IsTimely grain first }
@@ -283,8 +283,8 @@ impl<A: Automaton> Leaper<A> {
     #[cycle(leap)]
     fn pair<W: Watch>(
         &mut self,
-        north: &Trio,
-        south: &Trio,
+        north: &Trio<Id>,
+        south: &Trio<Id>,
         grain: u8,
         j: u8,
         watch: &mut W,

@@ -1,19 +1,17 @@
-//! Three squares side by side.
+//! Three things side by side.
 
-use ca_quad::Id;
-
-/// Three squares of one level, side by side.
+/// Three side by side: squares of one level, or words.
 #[derive(Clone, Copy, Drop)]
-pub(crate) struct Trio {
-    pub west: Id,
-    pub middle: Id,
-    pub east: Id,
+pub(crate) struct Trio<T> {
+    pub west: T,
+    pub middle: T,
+    pub east: T,
 }
 
-/// Nine squares of one level, in three rows.
+/// Nine, in three rows.
 #[derive(Clone, Copy, Drop)]
-pub(crate) struct Rows {
-    pub north: Trio,
-    pub middle: Trio,
-    pub south: Trio,
+pub(crate) struct Rows<T> {
+    pub north: Trio<T>,
+    pub middle: Trio<T>,
+    pub south: Trio<T>,
 }

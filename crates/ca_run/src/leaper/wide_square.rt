@@ -6,6 +6,7 @@ ghost use Rattle.ca_run.specs.inner.Words.{WordsShow, TwoWordsShow, ThreeWordsSh
 ghost use Rattle.ca_run.specs.inner.Words.{WideSquareShows};
 ghost use Rattle.ca_run.specs.Masks.{GoesBy};
 
+use super::trio::{Rows, Trio};
 use super::words::Words;
 
 /// The four quarters of a square of 32 by 32 cells.
@@ -15,22 +16,6 @@ pub(crate) struct WideSquare {
     pub ne: Words,
     pub sw: Words,
     pub se: Words,
-}
-
-/// Three words side by side.
-#[derive(Clone, Copy, Drop)]
-pub(crate) struct ThreeWords {
-    pub west: u64,
-    pub middle: u64,
-    pub east: u64,
-}
-
-/// Nine words, in three rows.
-#[derive(Clone, Copy, Drop)]
-pub(crate) struct NineWords {
-    pub north: ThreeWords,
-    pub middle: ThreeWords,
-    pub south: ThreeWords,
 }
 
 impl WideSquare {
@@ -50,7 +35,7 @@ impl WideSquare {
     }
 
     // The centres of the nine squares.
-    fn nine(&self, masks: (u16, u16), n: u8) -> NineWords
+    fn nine(&self, masks: (u16, u16), n: u8) -> Rows<u64>
         requires { n ≤ 4 }
         ensures { (next : List ℕ → ℕ) (p : ℤ → ℤ → ℕ) (a b : ℤ) → GoesBy next masks
             → WideSquareShows self.now p a b
@@ -58,7 +43,7 @@ impl WideSquare {
     {
         let west = Words::middle_of_column(self.nw, self.sw);
         let east = Words::middle_of_column(self.ne, self.se);
-        NineWords {
+        Rows {
             north: three_centres(self.nw, self.ne, masks, n),
             middle: three_centres(west, east, masks, n),
             south: three_centres(self.sw, self.se, masks, n),
@@ -67,13 +52,13 @@ impl WideSquare {
 }
 
 // The centres of two squares side by side, and of the one between them.
-fn three_centres(west: Words, east: Words, masks: (u16, u16), n: u8) -> ThreeWords
+fn three_centres(west: Words, east: Words, masks: (u16, u16), n: u8) -> Trio<u64>
     requires { n ≤ 4 }
     ensures { (next : List ℕ → ℕ) (p : ℤ → ℤ → ℕ) (a b : ℤ) → GoesBy next masks → WordsShow west p a b
         → WordsShow east p (a +ℤ pos 16) b
         → ThreeWordsShow result (cells_after next p n) (a +ℤ pos 4) (b +ℤ pos 4) }
 {
-    ThreeWords {
+    Trio {
         west: west.centre(masks, n),
         middle: Words::middle_of_row(west, east).centre(masks, n),
         east: east.centre(masks, n),
@@ -81,7 +66,7 @@ fn three_centres(west: Words, east: Words, masks: (u16, u16), n: u8) -> ThreeWor
 }
 
 // The centres of two squares that overlap by half, made of two rows of three.
-fn pair(north: &ThreeWords, south: &ThreeWords, masks: (u16, u16), n: u8) -> (u64, u64)
+fn pair(north: &Trio<u64>, south: &Trio<u64>, masks: (u16, u16), n: u8) -> (u64, u64)
     requires { n ≤ 4 }
     ensures { (next : List ℕ → ℕ) (p : ℤ → ℤ → ℕ) (a b : ℤ) → GoesBy next masks
         → ThreeWordsShow north.now p a b → ThreeWordsShow south.now p a (b +ℤ pos 8)
