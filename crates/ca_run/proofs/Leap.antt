@@ -131,26 +131,26 @@ module _ (k : ℕ) where
   -- and of three, by three calls, each of which goes by the rule that the first one went by
   pub trio_at : {Rule : Type 0} {l0 l1 l2 l3 : LeaperView Rule} {next : List ℕ → ℕ} (next_of : Rule → List ℕ → ℕ) → next ≡ next_of l0.rule
       → LeaperGrows Rule l0 l1 → LeaperGrows Rule l1 l2 → LeaperGrows Rule l2 l3 → (three : Trio ℕ) (p : ℤ → ℤ → ℕ) (a c : ℤ) → ShowsAt l1.nodes three.west (suc k) p (a +ℤ side k) c
-      → (next ≡ next_of l1.rule → ShowsAt l2.nodes three.middle (suc k) p ((a +ℤ side (suc k)) +ℤ side k) c)
+      → (next ≡ next_of l1.rule → Grows l0.nodes l1.nodes → ShowsAt l2.nodes three.middle (suc k) p ((a +ℤ side (suc k)) +ℤ side k) c)
       → (next ≡ next_of l2.rule → Grows l0.nodes l2.nodes → ShowsAt l3.nodes three.east (suc k) p ((a +ℤ side (suc (suc k))) +ℤ side k) c) → ThreeShow l3.nodes (suc k) three p (a +ℤ side k) c
   trio_at next_of e f g h three p a c west middle east =
       let e1 = rule_on next_of e f in
       record {
         at_west = at_stays _ _ f.grows.sound (grows_on _ _ _ g.grows h.grows) three.west (suc k) p (a +ℤ side k) c west;
-        at_middle = at_from _ three.middle (suc k) p ((a +ℤ side (suc k)) +ℤ side k) c ((a +ℤ side k) +ℤ side (suc k)) c (side_turn a) refl (at_stays _ _ g.grows.sound h.grows three.middle (suc k) p ((a +ℤ side (suc k)) +ℤ side k) c (middle e1));
+        at_middle = at_from _ three.middle (suc k) p ((a +ℤ side (suc k)) +ℤ side k) c ((a +ℤ side k) +ℤ side (suc k)) c (side_turn a) refl (at_stays _ _ g.grows.sound h.grows three.middle (suc k) p ((a +ℤ side (suc k)) +ℤ side k) c (middle e1 f.grows));
         at_east = at_from _ three.east (suc k) p ((a +ℤ side (suc (suc k))) +ℤ side k) c ((a +ℤ side k) +ℤ side (suc k) +ℤ side (suc k)) c (side_far a) refl (east (rule_on next_of e1 g) (grows_on _ _ _ f.grows g.grows));
       }
 
   -- and of nine
   pub nine_at : {Rule : Type 0} {l0 l1 l2 l3 : LeaperView Rule} {next : List ℕ → ℕ} (next_of : Rule → List ℕ → ℕ) → next ≡ next_of l0.rule
       → LeaperGrows Rule l0 l1 → LeaperGrows Rule l1 l2 → LeaperGrows Rule l2 l3 → (rows : Rows ℕ) (p : ℤ → ℤ → ℕ) (c b : ℤ) → ThreeShow l1.nodes (suc k) rows.north p c (b +ℤ side k)
-      → (next ≡ next_of l1.rule → ThreeShow l2.nodes (suc k) rows.middle p c ((b +ℤ side (suc k)) +ℤ side k))
+      → (next ≡ next_of l1.rule → Grows l0.nodes l1.nodes → ThreeShow l2.nodes (suc k) rows.middle p c ((b +ℤ side (suc k)) +ℤ side k))
       → (next ≡ next_of l2.rule → Grows l0.nodes l2.nodes → ThreeShow l3.nodes (suc k) rows.south p c ((b +ℤ side (suc (suc k))) +ℤ side k)) → NineShow l3.nodes (suc k) rows p c (b +ℤ side k)
   nine_at next_of e f g h rows p c b north middle south =
       let e1 = rule_on next_of e f in
       record {
         at_north = three_stay _ _ f.grows.sound (grows_on _ _ _ g.grows h.grows) (suc k) rows.north p c (b +ℤ side k) north;
-        at_middle = three_from _ (suc k) rows.middle p c ((b +ℤ side (suc k)) +ℤ side k) c ((b +ℤ side k) +ℤ side (suc k)) refl (side_turn b) (three_stay _ _ g.grows.sound h.grows (suc k) rows.middle p c ((b +ℤ side (suc k)) +ℤ side k) (middle e1));
+        at_middle = three_from _ (suc k) rows.middle p c ((b +ℤ side (suc k)) +ℤ side k) c ((b +ℤ side k) +ℤ side (suc k)) refl (side_turn b) (three_stay _ _ g.grows.sound h.grows (suc k) rows.middle p c ((b +ℤ side (suc k)) +ℤ side k) (middle e1 f.grows));
         at_south = three_from _ (suc k) rows.south p c ((b +ℤ side (suc (suc k))) +ℤ side k) c ((b +ℤ side k) +ℤ side (suc k) +ℤ side (suc k)) refl (side_far b) (south (rule_on next_of e1 g) (grows_on _ _ _ f.grows g.grows));
       }
 

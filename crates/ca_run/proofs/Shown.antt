@@ -114,6 +114,9 @@ module _ (old new : List Node) (sound : IsSoundStore old) (grows : Grows old new
     is_se = of_stays old new sound grows se k h.is_se;
   }
 
+  pub four_there : (k nw ne sw se : ℕ) → k ≤ 124 → IsOf old nw k → IsOf old ne k → IsOf old sw k → IsOf old se k → AreFour new k nw ne sw se
+  four_there k nw ne sw se low f g h i = four_go k nw ne sw se (four_of low f g h i)
+
   leap_stays : (next : List ℕ → ℕ) (k nw ne sw se half : ℕ) → IsLeap next old k nw ne sw se half → IsLeap next new k nw ne sw se half
   leap_stays next k nw ne sw se half h = record {
     are_four = four_go (suc k) nw ne sw se h.are_four;

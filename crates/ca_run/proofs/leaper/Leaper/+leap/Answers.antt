@@ -10,7 +10,7 @@ use Rattle.ca_quad.proofs.Growth.{grows_on}
 use Rattle.ca_quad.proofs.Cells.{of_stays}
 use Rattle.ca_run.specs.Centre.{IsCentre, IsLeap}
 use Rattle.ca_run.specs.inner.Shown.{ShowsAt, FourShow, side, generations}
-use Rattle.ca_run.proofs.Shown.{at_stays, three_stay, three_are, four_of, four_go, four_stay, four_between, four_halfway, four_inner}
+use Rattle.ca_run.proofs.Shown.{at_stays, three_stay, three_are, four_of, four_go, four_there, four_stay, four_between, four_halfway, four_inner}
 use Rattle.ca_run.proofs.Leap.{rule_on, leap_shows, leap_square, leap_of_join, centre_ok, nine_centre, trio_are, nine_are, west_four, east_four, pair_at, trio_at, nine_at, four_at}
 use Rattle.ca_run.proofs.Costs.{at_cost_none, at_cost_more, at_cost_as, at_both_costs, at_cost_of_thirteen, at_cost_of_nine, at_cost_of_centre, power_some}
 use Rattle.ca_run.proofs.leaper.Leaper.+leap.Goals as goal
@@ -66,20 +66,19 @@ pair-returns-clause-at_cost g t c = at_cost_more (at_both_costs c.in_ok-west.ens
 pub trio-first_inner-requires : goal.trio-first_inner-requires
 trio-first_inner-requires g t c κs within =
     let sound = subst (λ l. IsSoundStore l.nodes) c.self.view_is c.self.invariant.squares in
-    let four = four_go _ _ sound c.in_ok-west.ensures.at_cost.goes_on.grows (suc c.args.grain) _ _ _ _
-    (four_of (omega (arith, c.requires.low)) c.quarters-nw.ensures.ne c.quarters-ne.ensures.nw c.quarters-nw.ensures.se c.quarters-ne.ensures.sw) in
+    let four = four_there _ _ sound c.in_ok-west.ensures.at_cost.goes_on.grows (suc c.args.grain) _ _ _ _ (omega (arith, c.requires.low))
+    c.quarters-nw.ensures.ne c.quarters-ne.ensures.nw c.quarters-nw.ensures.se c.quarters-ne.ensures.sw in
     search rules
 
 pub trio-returns-clause-shows : goal.trio-returns-clause-shows
 trio-returns-clause-shows g t c = λ next p a b e two.
     let k = c.args.grain in
-    let on = c.in_ok-west.ensures.at_cost.goes_on in
     let sound = subst (λ l. IsSoundStore l.nodes) c.self.view_is c.self.invariant.squares in
     let x = a +ℤ side (suc (suc k)) in
     let between = four_between c.args.self.now.nodes (suc k) _ _ _ _ _ _ _ _ p a b (c.quarters-nw.ensures.shows p a b two.at_west) (c.quarters-ne.ensures.shows p x b two.at_east) in
-    trio_at k (g.A.Automaton.next_of) e on c.in_ok-middle.ensures.at_cost.goes_on c.in_ok-east.ensures.at_cost.goes_on _ (cells_after next p (generations c.args.first)) a (b +ℤ side k)
+    trio_at k (g.A.Automaton.next_of) e c.in_ok-west.ensures.at_cost.goes_on c.in_ok-middle.ensures.at_cost.goes_on c.in_ok-east.ensures.at_cost.goes_on _ (cells_after next p (generations c.args.first)) a (b +ℤ side k)
     (c.in_ok-west.ensures.shows next p a b e two.at_west)
-    (λ e1. c.in_ok-middle.ensures.shows next p (a +ℤ side (suc k)) b e1 (four_stay _ _ sound on.grows (suc k) _ _ _ _ p (a +ℤ side (suc k)) b between))
+    (λ e1 grows. c.in_ok-middle.ensures.shows next p (a +ℤ side (suc k)) b e1 (four_stay _ _ sound grows (suc k) _ _ _ _ p (a +ℤ side (suc k)) b between))
     (λ e2 grows. c.in_ok-east.ensures.shows next p x b e2 (at_stays _ _ sound grows c.args.east (suc (suc k)) p x b two.at_east))
 
 pub trio-returns-clause-at_cost : goal.trio-returns-clause-at_cost
@@ -89,22 +88,20 @@ trio-returns-clause-at_cost g t c =
 pub middle_trio-first_inner-requires-2 : goal.middle_trio-first_inner-requires-2
 middle_trio-first_inner-requires-2 g t c κs within =
     let sound = subst (λ l. IsSoundStore l.nodes) c.self.view_is c.self.invariant.squares in
-    let four = four_go _ _ sound c.in_ok-west.ensures.at_cost.goes_on.grows (suc c.args.grain) _ _ _ _
-    (four_of (omega (arith, c.requires.low)) c.quarters-a.ensures.se c.quarters-c.ensures.sw c.quarters-e.ensures.ne c.quarters-g.ensures.nw) in
+    let four = four_there _ _ sound c.in_ok-west.ensures.at_cost.goes_on.grows (suc c.args.grain) _ _ _ _ (omega (arith, c.requires.low))
+    c.quarters-a.ensures.se c.quarters-c.ensures.sw c.quarters-e.ensures.ne c.quarters-g.ensures.nw in
     search rules
 
 pub middle_trio-first_inner-requires-3 : goal.middle_trio-first_inner-requires-3
 middle_trio-first_inner-requires-3 g t c κs within =
     let sound = subst (λ l. IsSoundStore l.nodes) c.self.view_is c.self.invariant.squares in
     let grows = grows_on _ _ _ c.in_ok-west.ensures.at_cost.goes_on.grows c.in_ok-middle.ensures.at_cost.goes_on.grows in
-    let four = four_go _ _ sound grows (suc c.args.grain) _ _ _ _
-    (four_of (omega (arith, c.requires.low)) c.quarters-c.ensures.sw c.quarters-c.ensures.se c.quarters-g.ensures.nw c.quarters-g.ensures.ne) in
+    let four = four_there _ _ sound grows (suc c.args.grain) _ _ _ _ (omega (arith, c.requires.low)) c.quarters-c.ensures.sw c.quarters-c.ensures.se c.quarters-g.ensures.nw c.quarters-g.ensures.ne in
     search rules
 
 pub middle_trio-returns-clause-shows : goal.middle_trio-returns-clause-shows
 middle_trio-returns-clause-shows g t c = λ next p a b e four.
     let k = c.args.grain in
-    let on = c.in_ok-west.ensures.at_cost.goes_on in
     let sound = subst (λ l. IsSoundStore l.nodes) c.self.view_is c.self.invariant.squares in
     let s0 = c.args.self.now.nodes in
     let x = a +ℤ side (suc (suc k)) in
@@ -116,9 +113,9 @@ middle_trio-returns-clause-shows g t c = λ next p a b e four.
     let half = b +ℤ side (suc k) in
     let inner = four_inner s0 (suc k) _ _ _ _ _ _ _ _ _ _ _ _ _ _ _ _ p a b nw ne sw se in
     let last = four_halfway s0 (suc k) _ _ _ _ _ _ _ _ p x b ne se in
-    trio_at k (g.A.Automaton.next_of) e on c.in_ok-middle.ensures.at_cost.goes_on c.in_ok-east.ensures.at_cost.goes_on _ (cells_after next p (generations c.args.first)) a (half +ℤ side k)
+    trio_at k (g.A.Automaton.next_of) e c.in_ok-west.ensures.at_cost.goes_on c.in_ok-middle.ensures.at_cost.goes_on c.in_ok-east.ensures.at_cost.goes_on _ (cells_after next p (generations c.args.first)) a (half +ℤ side k)
     (c.in_ok-west.ensures.shows next p a half e (four_halfway s0 (suc k) _ _ _ _ _ _ _ _ p a b nw sw))
-    (λ e1. c.in_ok-middle.ensures.shows next p (a +ℤ side (suc k)) half e1 (four_stay _ _ sound on.grows (suc k) _ _ _ _ p (a +ℤ side (suc k)) half inner))
+    (λ e1 grows. c.in_ok-middle.ensures.shows next p (a +ℤ side (suc k)) half e1 (four_stay _ _ sound grows (suc k) _ _ _ _ p (a +ℤ side (suc k)) half inner))
     (λ e2 grows. c.in_ok-east.ensures.shows next p x half e2 (four_stay _ _ sound grows (suc k) _ _ _ _ p x half last))
 
 pub middle_trio-returns-clause-at_cost : goal.middle_trio-returns-clause-at_cost
@@ -172,16 +169,15 @@ nine-trio-requires-2 g t c κs within =
 pub nine-returns-clause-shows : goal.nine-returns-clause-shows
 nine-returns-clause-shows g t c = λ next p a b e shows.
     let k = c.args.grain in
-    let on = c.in_ok-north.ensures.at_cost.goes_on in
     let sound = c.quarters-nw.ensures.sound in
     let one : k + 1 ≡ suc k = omega arith in
     let q = c.quarters-nw.result in
     let l = suc (suc k) in
     let s0 = c.args.self.now.nodes in
     let parts = subst (λ n. FourShow s0 (suc n) q.0 q.1 q.2 q.3 p a b) one (c.quarters-nw.ensures.shows p a b (subst (λ n. ShowsAt s0 c.args.id (suc (suc n)) p a b) (sym one) shows)) in
-    nine_at k (g.A.Automaton.next_of) e on c.in_ok-middle.ensures.at_cost.goes_on c.in_ok-south.ensures.at_cost.goes_on _ (cells_after next p (generations c.args.first)) (a +ℤ side k) b
+    nine_at k (g.A.Automaton.next_of) e c.in_ok-north.ensures.at_cost.goes_on c.in_ok-middle.ensures.at_cost.goes_on c.in_ok-south.ensures.at_cost.goes_on _ (cells_after next p (generations c.args.first)) (a +ℤ side k) b
     (c.in_ok-north.ensures.shows next p a b e (record { at_west = parts.at_nw; at_east = parts.at_ne }))
-    (λ e1. c.in_ok-middle.ensures.shows next p a b e1 (four_stay _ _ sound on.grows l q.0 q.1 q.2 q.3 p a b parts))
+    (λ e1 grows. c.in_ok-middle.ensures.shows next p a b e1 (four_stay _ _ sound grows l q.0 q.1 q.2 q.3 p a b parts))
     (λ e2 grows. c.in_ok-south.ensures.shows next p a (b +ℤ side l) e2
     (record { at_west = at_stays _ _ sound grows q.2 l p a (b +ℤ side l) parts.at_sw; at_east = at_stays _ _ sound grows q.3 l p (a +ℤ side l) (b +ℤ side l) parts.at_se }))
 
