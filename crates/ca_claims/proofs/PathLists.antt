@@ -9,7 +9,7 @@ use Rattle.std.proofs.lemmas.List.{map-append, append-nil}
 use Rattle.std.proofs.lemmas.List.Elements.{filter-append}
 use Rattle.std.proofs.lemmas.List.Quantifiers.{position-Some}
 use Rattle.indexmap.specs.IndexSet.{insert_key}
-use Rattle.ca_claims.specs.inner.Reading.{with_path}
+use Rattle.ca_claims.specs.Words.{with_word}
 use Rattle.ca_claims.specs.Text.{paths_once}
 
 -- bytes are equal to themselves
@@ -24,11 +24,11 @@ there (p ∷ ps) path zero h =
 there (p ∷ ps) path (suc i) h = or_right (bytes_eq path p) (list_any (bytes_eq path) ps) (there ps path i h)
 
 -- and isn't put again
-pub with_path_there : (paths : List (List ℕ)) (path : List ℕ) (i : ℕ) → slice_get paths i ≡ Some path → with_path paths path ≡ paths
-with_path_there paths path i h = rw (there paths path i h) refl
+pub with_word_there : (paths : List (List ℕ)) (path : List ℕ) (i : ℕ) → slice_get paths i ≡ Some path → with_word paths path ≡ paths
+with_word_there paths path i h = rw (there paths path i h) refl
 
 -- a filter takes away what is equal to x
-none_left : (p x : List ℕ) (es : List (List ℕ)) → bytes_eq p x ≡ true → filter (λ q. not (bytes_eq q x)) (with_path es p) ≡ filter (λ q. not (bytes_eq q x)) es
+none_left : (p x : List ℕ) (es : List (List ℕ)) → bytes_eq p x ≡ true → filter (λ q. not (bytes_eq q x)) (with_word es p) ≡ filter (λ q. not (bytes_eq q x)) es
 none_left p x es e =
     let gone : filter (λ q. not (bytes_eq q x)) (p ∷ []) ≡ [] = rw e refl in
     elim (cases_Bool (list_any (bytes_eq p) es)) [
@@ -49,7 +49,7 @@ kept_there p x (q ∷ es) e =
     ]
 
 -- and is put after those other than x
-put_after : (p x : List ℕ) (es : List (List ℕ)) → bytes_eq p x ≡ false → filter (λ q. not (bytes_eq q x)) (with_path es p) ≡ with_path (filter (λ q. not (bytes_eq q x)) es) p
+put_after : (p x : List ℕ) (es : List (List ℕ)) → bytes_eq p x ≡ false → filter (λ q. not (bytes_eq q x)) (with_word es p) ≡ with_word (filter (λ q. not (bytes_eq q x)) es) p
 put_after p x es e =
     let stays : filter (λ q. not (bytes_eq q x)) (p ∷ []) ≡ p ∷ [] = rw e refl in
     let same = kept_there p x es e in
@@ -59,15 +59,15 @@ put_after p x es e =
     ]
 
 -- a path equal to the first is there
-with_first : (p x : List ℕ) (es : List (List ℕ)) → bytes_eq p x ≡ true → with_path (x ∷ es) p ≡ x ∷ es
+with_first : (p x : List ℕ) (es : List (List ℕ)) → bytes_eq p x ≡ true → with_word (x ∷ es) p ≡ x ∷ es
 with_first p x es e = rw e refl
 
 -- any other is put after the first, as after the others
-with_other : (p x : List ℕ) (es : List (List ℕ)) → bytes_eq p x ≡ false → with_path (x ∷ es) p ≡ x ∷ with_path es p
+with_other : (p x : List ℕ) (es : List (List ℕ)) → bytes_eq p x ≡ false → with_word (x ∷ es) p ≡ x ∷ with_word es p
 with_other p x es e = elim (cases_Bool (list_any (bytes_eq p) es)) [ inl here ↦ rw (e, here) refl | inr new ↦ rw (e, new) refl ]
 
 -- each once, after one more path
-pub paths_once-push : (ps : List (List ℕ)) (p : List ℕ) → paths_once (ps ++ p ∷ []) ≡ with_path (paths_once ps) p
+pub paths_once-push : (ps : List (List ℕ)) (p : List ℕ) → paths_once (ps ++ p ∷ []) ≡ with_word (paths_once ps) p
 paths_once-push [] p = refl
 paths_once-push (x ∷ xs) p =
     let later = ap (λ l. x ∷ filter (λ q. not (bytes_eq q x)) l) (paths_once-push xs p) in
@@ -88,11 +88,11 @@ stands_last [] text = refl
 stands_last (t ∷ ts) text = stands_last ts text
 
 -- the paths keep their places
-pub kept_place : (paths : List (List ℕ)) (path : List ℕ) (i : ℕ) → i < length paths → slice_get (with_path paths path) i ≡ slice_get paths i
+pub kept_place : (paths : List (List ℕ)) (path : List ℕ) (i : ℕ) → i < length paths → slice_get (with_word paths path) i ≡ slice_get paths i
 kept_place paths path i h = elim (cases_Bool (list_any (bytes_eq path) paths)) [ inl here ↦ rw here refl | inr new ↦ rw new (stays_before paths (path ∷ []) i h) ]
 
 -- and are no fewer
-pub no_fewer : (paths : List (List ℕ)) (path : List ℕ) → length paths ≤ length (with_path paths path)
+pub no_fewer : (paths : List (List ℕ)) (path : List ℕ) → length paths ≤ length (with_word paths path)
 no_fewer paths path = elim (cases_Bool (list_any (bytes_eq path) paths)) [ inl here ↦ rw here (omega arith) | inr new ↦ rw new (omega (arith, length-append paths (path ∷ []))) ]
 
 module _ {K : Type 0} (items : K → List ℕ) (path : List ℕ) where
@@ -122,7 +122,7 @@ module _ {K : Type 0} (items : K → List ℕ) (path : List ℕ) where
   ]
 
   -- the items of keys, of which one is inserted
-  pub items_insert_key : (eq : K → K → Bool) (keys : List K) (k : K) → items k ≡ path → ((j : K) → eq k j ≡ bytes_eq path (items j)) → map items (insert_key eq keys k) ≡ with_path (map items keys) path
+  pub items_insert_key : (eq : K → K → Bool) (keys : List K) (k : K) → items k ≡ path → ((j : K) → eq k j ≡ bytes_eq path (items j)) → map items (insert_key eq keys k) ≡ with_word (map items keys) path
   items_insert_key eq keys k e same =
       let tests : eq k ≡ (λ j. bytes_eq path (items j)) = λ i j. same j i in
       let found : list_any (eq k) keys ≡ list_any (bytes_eq path) (map items keys) = ap (λ t. list_any t keys) tests ∙ sym (any_items keys) in

@@ -16,7 +16,8 @@ use Rattle.ca_claims.specs.Places.{path_at, named_at, claim_with_names, IsNamed}
 use Rattle.ca_claims.specs.Text.{Claim, patterns_of, about, HasGoodNumbers, ClaimTextLine, Version, Rule, Load, Claims, path_of, AreLoaded, IsAllowedLine, is_second, spoken, rule_paths, file_paths, paths_once, claims_from}
 use Rattle.ca_claims.specs.declared.claims.version.TextVersion.{TextVersion}
 use Rattle.ca_claims.specs.declared.claims.version.TextVersion.TheVariants.{Open, First, Second}
-use Rattle.ca_claims.specs.inner.Reading.{IsVersionAfter, KeepsClaimLines, StandsAt, AreKnownNames, known_place, at_places, with_path}
+use Rattle.ca_claims.specs.Words.{with_word}
+use Rattle.ca_claims.specs.inner.Reading.{IsVersionAfter, KeepsClaimLines, StandsAt, AreKnownNames, known_place, at_places}
 use Rattle.ca_claims.proofs.ClaimKinds.{paths_of, about_same, about_twice}
 use Rattle.ca_claims.proofs.PathLists.{paths_once-push, stays_before, stands_last, kept_place, no_fewer}
 use Rattle.ca_claims.proofs.LinesSaid.{spoken-append, rule_paths-append, file_paths-append, path_of-append, claims_from-append}
@@ -56,7 +57,7 @@ pub grown_same : (texts : List (List ℕ)) → Grown texts texts
 grown_same texts = record { no_shorter = omega arith; stays = λ i lt. refl }
 
 -- where a path is put
-pub grown_path : (paths : List (List ℕ)) (path : List ℕ) → Grown paths (with_path paths path)
+pub grown_path : (paths : List (List ℕ)) (path : List ℕ) → Grown paths (with_word paths path)
 grown_path paths path = record { no_shorter = no_fewer paths path; stays = kept_place paths path }
 
 -- and where a text is pushed
@@ -202,71 +203,71 @@ module _ (said : List (Option ClaimTextLine)) (names paths : List (List ℕ)) (r
   read_version = read_other (Some Version) refl refl refl (λ q. ap (λ ls. path_of ls q) (spoken-append said (Some Version ∷ [])) ∙ version_loads_none (spoken said) q)
 
   -- the paths after a line with one more
-  once_more : (path : List ℕ) (line : ClaimTextLine) → file_paths (Some line ∷ []) ≡ path ∷ [] → with_path paths path ≡ paths_once (file_paths (said ++ Some line ∷ []))
+  once_more : (path : List ℕ) (line : ClaimTextLine) → file_paths (Some line ∷ []) ≡ path ∷ [] → with_word paths path ≡ paths_once (file_paths (said ++ Some line ∷ []))
   once_more path line e =
-      ap (λ l. with_path l path) read.once ∙ sym (paths_once-push (file_paths said) path)
+      ap (λ l. with_word l path) read.once ∙ sym (paths_once-push (file_paths said) path)
       ∙ ap (λ l. paths_once (file_paths said ++ l)) (sym e) ∙ ap paths_once (sym (file_paths-append said (Some line ∷ [])))
 
   -- a line that says where a rule table is
-  pub read_rule : (path : List ℕ) (place : ℕ) → slice_get (with_path paths path) place ≡ Some path
-      → KeepsClaimLines (said ++ Some (Rule path) ∷ []) names (with_path paths path) (rules ++ place ∷ []) claims places
+  pub read_rule : (path : List ℕ) (place : ℕ) → slice_get (with_word paths path) place ≡ Some path
+      → KeepsClaimLines (said ++ Some (Rule path) ∷ []) names (with_word paths path) (rules ++ place ∷ []) claims places
   read_rule path place at =
       let s : Option ClaimTextLine = Some (Rule path) in
       let same = grown_same names in
       let longer = grown_path paths path in
       record {
         once = once_more path (Rule path) refl;
-        ruled = map-append (path_at (with_path paths path)) rules (place ∷ [])
-            ∙ ap (λ l. l ++ path_at (with_path paths path) place ∷ []) (rules_kept paths (with_path paths path) longer rules read.placed ∙ read.ruled)
+        ruled = map-append (path_at (with_word paths path)) rules (place ∷ [])
+            ∙ ap (λ l. l ++ path_at (with_word paths path) place ∷ []) (rules_kept paths (with_word paths path) longer rules read.placed ∙ read.ruled)
             ∙ ap (λ p. rule_paths said ++ unwrap_or p [] ∷ []) at
             ∙ sym (rule_paths-append said (s ∷ []));
-        placed = All-push (λ i. i < length (with_path paths path)) rules place (places_kept paths (with_path paths path) longer rules read.placed) (slice_get_within (with_path paths path) place path at);
-        asked = all_kept names names paths (with_path paths path) same longer claims read.good ∙ read.asked ∙ sym (claims_from-append 1 [] said (s ∷ []) ∙ append-nil (claims_from 1 [] said));
-        good = all_there names names paths (with_path paths path) same longer claims read.good;
-        known = λ q. subst (StandsAt names (with_path paths path) q (places q)) (sym (ap (λ ls. path_of ls q) (spoken-append said (s ∷ [])) ∙ rule_loads_none (spoken said) path q))
-            (name_kept names names paths (with_path paths path) same longer q (places q) (path_of (spoken said) q) (read.known q));
+        placed = All-push (λ i. i < length (with_word paths path)) rules place (places_kept paths (with_word paths path) longer rules read.placed) (slice_get_within (with_word paths path) place path at);
+        asked = all_kept names names paths (with_word paths path) same longer claims read.good ∙ read.asked ∙ sym (claims_from-append 1 [] said (s ∷ []) ∙ append-nil (claims_from 1 [] said));
+        good = all_there names names paths (with_word paths path) same longer claims read.good;
+        known = λ q. subst (StandsAt names (with_word paths path) q (places q)) (sym (ap (λ ls. path_of ls q) (spoken-append said (s ∷ [])) ∙ rule_loads_none (spoken said) path q))
+            (name_kept names names paths (with_word paths path) same longer q (places q) (path_of (spoken said) q) (read.known q));
       }
 
   -- the name wasn't loaded
   pub not_loaded : (name : List ℕ) → places name ≡ None → path_of (spoken said) name ≡ None
   not_loaded name new = subst (λ o. StandsAt names paths name o (path_of (spoken said) name)) new (read.known name)
 
-  module _ (name path : List ℕ) (at : ℕ) (new : places name ≡ None) (there : slice_get (with_path paths path) at ≡ Some path) where
+  module _ (name path : List ℕ) (at : ℕ) (new : places name ≡ None) (there : slice_get (with_word paths path) at ≡ Some path) where
     -- the place of a name that is pushed
     abbrev pub new_place : Place
     new_place = record { name = length names; path = at }
 
     -- it stands there
-    stands_now : (q : List ℕ) → bytes_eq name q ≡ true → StandsAt (names ++ name ∷ []) (with_path paths path) q (Some new_place) (path_of (spoken said ++ Load name path ∷ []) q)
+    stands_now : (q : List ℕ) → bytes_eq name q ≡ true → StandsAt (names ++ name ∷ []) (with_word paths path) q (Some new_place) (path_of (spoken said ++ Load name path ∷ []) q)
     stands_now q e =
         let same : name ≡ q = (bytes_eq-Decides name q).0 e in
         (path, stands_last names name ∙ ap Some same, there, loaded_now (spoken said) name path q (not_loaded name new) e)
 
     -- where a name stands after a line that loads one
-    known_after : (q : List ℕ) → StandsAt (names ++ name ∷ []) (with_path paths path) q (update bytes_eq places name (Some new_place) q) (path_of (spoken (said ++ Some (Load name path) ∷ [])) q)
+    known_after : (q : List ℕ) → StandsAt (names ++ name ∷ []) (with_word paths path) q (update bytes_eq places name (Some new_place) q) (path_of (spoken (said ++ Some (Load name path) ∷ [])) q)
     known_after q =
         rw (spoken-append said (Some (Load name path) ∷ []))
         elim (cases_Bool (bytes_eq name q)) [
           | inl e ↦ rw e (stands_now q e)
-          | inr e ↦ rw e (subst (StandsAt (names ++ name ∷ []) (with_path paths path) q (places q)) (sym (loaded_else (spoken said) name path q e))
-              (name_kept names (names ++ name ∷ []) paths (with_path paths path) (grown_push names name) (grown_path paths path) q (places q) (path_of (spoken said) q) (read.known q)))
+          | inr e ↦ rw e (subst (StandsAt (names ++ name ∷ []) (with_word paths path) q (places q)) (sym (loaded_else (spoken said) name path q e))
+              (name_kept names (names ++ name ∷ []) paths (with_word paths path) (grown_push names name) (grown_path paths path) q (places q) (path_of (spoken said) q) (read.known q)))
         ]
 
     -- a line that loads a name from a path
     pub read_load : (after : List ℕ → Option Place) → ((q : List ℕ) → after q ≡ update bytes_eq places name (Some new_place) q)
-        → KeepsClaimLines (said ++ Some (Load name path) ∷ []) (names ++ name ∷ []) (with_path paths path) rules claims after
+        → KeepsClaimLines (said ++ Some (Load name path) ∷ []) (names ++ name ∷ []) (with_word paths path) rules claims after
     read_load after updated =
         let s : Option ClaimTextLine = Some (Load name path) in
         let grown = grown_push names name in
         let longer = grown_path paths path in
         record {
           once = once_more path (Load name path) refl;
-          ruled = rules_kept paths (with_path paths path) longer rules read.placed ∙ read.ruled ∙ sym (rule_paths-append said (s ∷ []) ∙ append-nil (rule_paths said));
-          placed = places_kept paths (with_path paths path) longer rules read.placed;
-          asked = all_kept names (names ++ name ∷ []) paths (with_path paths path) grown longer claims read.good ∙ read.asked
+          ruled = rules_kept paths (with_word paths path) longer rules read.placed ∙ read.ruled ∙ sym (rule_paths-append said (s ∷ []) ∙ append-nil (rule_paths said));
+          placed = places_kept paths (with_word paths path) longer rules read.placed;
+          asked = all_kept names (names ++ name ∷ []) paths (with_word paths path) grown longer claims read.good ∙ read.asked
               ∙ sym (claims_from-append 1 [] said (s ∷ []) ∙ append-nil (claims_from 1 [] said));
-          good = all_there names (names ++ name ∷ []) paths (with_path paths path) grown longer claims read.good;
-          known = λ q. subst (λ o. StandsAt (names ++ name ∷ []) (with_path paths path) q o (path_of (spoken (said ++ s ∷ [])) q)) (sym (updated q)) (known_after q);
+          good = all_there names (names ++ name ∷ []) paths (with_word paths path) grown longer claims read.good;
+          known = λ q. subst (λ o. StandsAt (names ++ name ∷ []) (with_word paths path) q o (path_of (spoken (said ++ s ∷ [])) q)) (sym (updated q)) (known_after q);
         }
 
   -- a name that is known is loaded

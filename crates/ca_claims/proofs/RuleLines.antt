@@ -11,7 +11,7 @@ use Rattle.ca_claims.specs.declared.claims.line.ClaimLine.{ClaimLine}
 use Rattle.ca_claims.specs.declared.claims.line.Place.{Place}
 use Rattle.ca_claims.specs.Places.{path_at, claim_with_names, IsNamed}
 use Rattle.ca_claims.specs.Text.{ClaimText, by_path, named_patterns, paths_once, with_rule_line}
-use Rattle.ca_claims.specs.inner.Reading.{with_path}
+use Rattle.ca_claims.specs.Words.{with_word}
 use Rattle.ca_claims.proofs.PathLists.{paths_once-push}
 use Rattle.ca_claims.proofs.ReadOn.{grown_same, grown_path, rules_kept, places_kept, all_kept, all_there}
 
@@ -30,8 +30,8 @@ once_same [] distinct = refl
 once_same (p ∷ ps) distinct = ap (λ l. p ∷ filter (λ q. not (bytes_eq q p)) l) (once_same ps distinct.1) ∙ ap (λ l. p ∷ l) (none_taken p ps distinct.0)
 
 -- and once more
-one_path_more : (paths : List (List ℕ)) (path : List ℕ) → IsDistinct bytes_eq paths → with_path paths path ≡ paths_once (paths ++ path ∷ [])
-one_path_more paths path distinct = ap (λ l. with_path l path) (sym (once_same paths distinct)) ∙ sym (paths_once-push paths path)
+one_path_more : (paths : List (List ℕ)) (path : List ℕ) → IsDistinct bytes_eq paths → with_word paths path ≡ paths_once (paths ++ path ∷ [])
+one_path_more paths path distinct = ap (λ l. with_word l path) (sym (once_same paths distinct)) ∙ sym (paths_once-push paths path)
 
 -- what is asked by what is kept of a text
 abbrev pub kept_text : (names paths : List (List ℕ)) (rules : List ℕ) (claims : List (ClaimLine Place)) → ClaimText
@@ -43,11 +43,11 @@ kept_text names paths rules claims = record {
 }
 
 module _ (names paths : List (List ℕ)) (distinct : IsDistinct bytes_eq paths) (rules : List ℕ) (claims : List (ClaimLine Place)) (within : All (λ i. i < length paths) rules)
-    (good : All (λ l. IsNamed names paths l.claim) claims) (path : List ℕ) (place : ℕ) (at : slice_get (with_path paths path) place ≡ Some path) where
+    (good : All (λ l. IsNamed names paths l.claim) claims) (path : List ℕ) (place : ℕ) (at : slice_get (with_word paths path) place ≡ Some path) where
   -- a rule line more
-  pub one_rule_more : kept_text names (with_path paths path) (rules ++ place ∷ []) claims ≡ with_rule_line (kept_text names paths rules claims) path
+  pub one_rule_more : kept_text names (with_word paths path) (rules ++ place ∷ []) claims ≡ with_rule_line (kept_text names paths rules claims) path
   one_rule_more =
-      let more = with_path paths path in
+      let more = with_word paths path in
       let longer = grown_path paths path in
       let once = one_path_more paths path distinct in
       let ruled = map-append (path_at more) rules (place ∷ [])
@@ -57,8 +57,8 @@ module _ (names paths : List (List ℕ)) (distinct : IsDistinct bytes_eq paths) 
       λ i. record { paths = once i; rules = ruled i; claims = map by_path (same i); patterns = map named_patterns (same i) }
 
   -- whose table's path is there
-  pub rules_within : All (λ i. i < length (with_path paths path)) (rules ++ place ∷ [])
-  rules_within = All-push (λ i. i < length (with_path paths path)) rules place (places_kept paths (with_path paths path) (grown_path paths path) rules within) (slice_get_within (with_path paths path) place path at)
+  pub rules_within : All (λ i. i < length (with_word paths path)) (rules ++ place ∷ [])
+  rules_within = All-push (λ i. i < length (with_word paths path)) rules place (places_kept paths (with_word paths path) (grown_path paths path) rules within) (slice_get_within (with_word paths path) place path at)
 
-  pub claims_there : All (λ l. IsNamed names (with_path paths path) l.claim) claims
-  claims_there = all_there names names paths (with_path paths path) (grown_same names) (grown_path paths path) claims good
+  pub claims_there : All (λ l. IsNamed names (with_word paths path) l.claim) claims
+  claims_there = all_there names names paths (with_word paths path) (grown_same names) (grown_path paths path) claims good

@@ -17,7 +17,7 @@ use Rattle.ca_claims.specs.Needed.{IsNeeded}
 use Rattle.ca_claims.specs.Means.{bytes_at, HoldsRuleText}
 use Rattle.ca_claims.specs.Answers.{IsTableAt, AreTables, IsThere, IsMissing, HoldsTable, FirstBad}
 use Rattle.ca_claims.specs.Unknown.{IsUnreadFile, HoldsUnknownRule, IsUnknownRule, AreUnknownRules}
-use Rattle.ca_claims.specs.inner.Reading.{with_path}
+use Rattle.ca_claims.specs.Words.{with_word}
 use Rattle.ca_claims.specs.declared.verifier.tables.Tables.{Tables}
 use Rattle.ca_claims.specs.declared.verifier.tables.Tables.TheVariants.{Missing, Faulty, Read}
 use Rattle.ca_claims.specs.inner.Tables.{IsFaultyAt, AreRead}
@@ -45,7 +45,7 @@ module _ (bytes : List ℕ) where
 -- ---- names that are added
 
 -- a name is among others with one put after them where it was before, or is that one
-among_put : (names : List (List ℕ)) (put name : List ℕ) → IsTrue (list_any (bytes_eq name) (with_path names put)) ↔ (IsTrue (list_any (bytes_eq name) names) ⊎ (name ≡ put))
+among_put : (names : List (List ℕ)) (put name : List ℕ) → IsTrue (list_any (bytes_eq name) (with_word names put)) ↔ (IsTrue (list_any (bytes_eq name) names) ⊎ (name ≡ put))
 among_put names put name = elim (cases_Bool (list_any (bytes_eq put) names)) [
   | inl here ↦ rw here (λ h. inl h, λ some. elim some [ inl h ↦ h | inr same ↦ subst (λ n. list_any (bytes_eq n) names ≡ true) (sym same) here ])
   | inr new ↦ rw new (
@@ -66,7 +66,7 @@ adds_none tables needed file none names = λ name. (λ h. inl h, λ some. elim s
 
 -- a file that asks for a name adds it
 pub adds_name : (tables : List TableRule) (needed : Bool) → needed ≡ true → (bytes : Bor (List ℕ)) (name : List ℕ) → HoldsUnknownRule tables name bytes.now → (names : List (List ℕ))
-    → AddsAsked tables needed (Some bytes) names (with_path names name)
+    → AddsAsked tables needed (Some bytes) names (with_word names name)
 adds_name tables needed is bytes name holds names = λ q. (
   λ h. elim ((among_put names name q).0 h) [
     | inl before ↦ inl before

@@ -14,17 +14,16 @@ mod limits;
 mod line;
 mod marks;
 mod numbers;
-mod paths;
 mod reading;
 mod version;
 mod words;
 
 use crate::verifier::OneOrTwo;
+use crate::word_set::WordSet;
 pub(crate) use asks::{Asks, Barred, Wanted};
 use ca_plane::Memory;
 pub(crate) use line::{Claim, ClaimLine, Named, Place};
 use marks::{mark_claims, mark_each};
-pub(crate) use paths::Paths;
 pub use reading::read_claims;
 use std::alloc::Global;
 use std::marker::Model;
@@ -33,7 +32,7 @@ use std::marker::Model;
 /// and its claims.
 #[derive(Drop)]
 pub struct Claims {
-    paths: Paths,
+    paths: WordSet,
     names: Vec<Vec<u8>>,
     rules: Vec<usize>,
     claims: Vec<ClaimLine<Place>>,
@@ -73,7 +72,7 @@ impl Claims {
         requires { index < length self.now.paths }
         ensures { slice_get self.now.paths index ≡ Some result.now }
     {
-        self.paths.path(index)
+        self.paths.word(index)
     }
 
     /// The path with this index, where there are so many.

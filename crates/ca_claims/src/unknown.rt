@@ -15,8 +15,8 @@ use crate::claims::Claims;
 use crate::file::File;
 use crate::judge::look_up;
 use crate::read::read_pattern;
-use crate::rule_names::RuleNames;
 use crate::verdict::PatternFault;
+use crate::word_set::WordSet;
 use ca_plane::Memory;
 use ca_quad::Store;
 use ca_rule::{RuleFault, Table, TableFault, resolve};
@@ -31,21 +31,17 @@ use std::alloc::Global;
 ///
 /// Fails where there is no memory for the list of the files, the rule tables, a pattern or the names, of a text
 /// that makes a claim.
-pub fn unknown_rules(
-    alloc: Global,
-    claims: &Claims,
-    files: &[File<'_>],
-) -> Result<RuleNames, Memory>
+pub fn unknown_rules(alloc: Global, claims: &Claims, files: &[File<'_>]) -> Result<WordSet, Memory>
     ensures names { IfOk result (AreUnknownRules (contents files.now) claims.now) }
     ensures memory { OnErr result (claims.now.claims ≢ []) }
 {
     if claims.claim_count() == 0 {
-        return Ok(RuleNames::new(alloc));
+        return Ok(WordSet::new(alloc));
     }
     let marks = claims.needed(alloc)?;
     let needed = look_up(alloc, claims, files)?;
     let Some(tables) = needed.tables.good() else {
-        return Ok(RuleNames::new(alloc));
+        return Ok(WordSet::new(alloc));
     };
     names_of(alloc, &marks, &needed.found, tables)
 }
@@ -56,11 +52,11 @@ fn names_of(
     needed: &[bool],
     found: &[Option<&[u8]>],
     tables: &[Table],
-) -> Result<RuleNames, Memory>
+) -> Result<WordSet, Memory>
     requires { length needed.now ≡ length found.now }
     ensures { IfOk result (AreAskedBefore tables.now needed.now found.now (length found.now)) }
 {
-    let mut names = RuleNames::new(alloc);
+    let mut names = WordSet::new(alloc);
     'files: for index in 0..found.len() {
         add_name(alloc, needed[index], found[index], tables, &mut names)?;
     }
@@ -73,7 +69,7 @@ fn add_name(
     is_needed: bool,
     file: Option<&[u8]>,
     tables: &[Table],
-    names: &mut RuleNames,
+    names: &mut WordSet,
 ) -> Result<(), Memory>
     ensures { OnOk result (AddsAsked tables.now is_needed file.entry names.old names.new) }
 {
@@ -84,10 +80,11 @@ fn add_name(
         return Ok(());
     }
     let found = unknown_rule(alloc, bytes, tables)?;
-    match found {
-        Some(name) => names.put(alloc, &name),
-        None => Ok(()),
-    }
+    let Some(name) = found else {
+        return Ok(());
+    };
+    names.put(alloc, &name)?;
+    Ok(())
 }
 
 /// The rule text of a pattern file that is read, where it names no rule.

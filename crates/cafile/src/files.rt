@@ -3,7 +3,7 @@
 ghost use Rattle.std.specs.Prelude.{◌≡◌, ◌≢◌, [], map, IfOk, OnErr};
 
 use crate::streams::Source;
-use ca_claims::{Claims, File, NamedTable, RuleNames, table_named, unknown_rules};
+use ca_claims::{Claims, File, NamedTable, WordSet, table_named, unknown_rules};
 use ca_plane::{Dev, Memory};
 use ca_rule::TableFault;
 use ca_tool::{FaultyRule, InputFault, read_all, rule_path};
@@ -159,7 +159,7 @@ pub fn with_named_rules<R: Files + AllocGlobal>(
 ) -> Result<LoadedText, Memory> {
     let names = unknown_names(rt.alloc(), &text.claims, &text.files)?;
     for index in 0..names.len() {
-        let name = names.name(index);
+        let name = names.word(index);
         if let Some(path) = rule_path(rt.alloc(), folder.as_bytes(), name)? {
             load_once(rt, &path, &mut text.files)?;
             text = with_named_rule(rt.alloc(), name, &path, text)?;
@@ -198,7 +198,7 @@ fn unknown_names(
     alloc: Global,
     claims: &Claims,
     loaded: &[LoadedFile],
-) -> Result<RuleNames, Memory> {
+) -> Result<WordSet, Memory> {
     let files = views(alloc, loaded)?;
     unknown_rules(alloc, claims, &files)
 }

@@ -1,8 +1,8 @@
 -- How a claim text is read, a line at a time.
-use Rattle.std.specs.Prelude.{◌≡◌, ℕ, ◌<◌, ◌^◌, ℤ, pos, neg_ℤ, ◌≤ℤ◌, ◌<ℤ◌, ◌↔◌, ◌≢◌, List, [], ◌∷◌, ◌++◌, map, slice_get, length, All, MatchOption, true, false, Option, None, Some, IsSome, unwrap_or, if◌then◌else◌}
+use Rattle.std.specs.Prelude.{◌≡◌, ℕ, ◌<◌, ◌^◌, ℤ, pos, neg_ℤ, ◌≤ℤ◌, ◌<ℤ◌, ◌↔◌, ◌≢◌, List, [], map, slice_get, length, All, MatchOption, true, false, Option, None, Some, IsSome, unwrap_or}
 use Rattle.std.specs.Borrow.{Bor}
 use Rattle.std.specs.HashMap.{HashMap, get_by}
-use Rattle.std.specs.List.{list_any, AllByRecursion}
+use Rattle.std.specs.List.{AllByRecursion}
 use Rattle.std.specs.Str.{bytes_eq}
 use Rattle.ca_claims.specs.declared.claims.line.Claim.{Claim as ClaimOf}
 use Rattle.ca_claims.specs.declared.claims.line.ClaimLine.{ClaimLine}
@@ -18,10 +18,6 @@ use Rattle.ca_claims.specs.declared.fault.ClaimFault.TheVariants.{Syntax, Number
 use Rattle.ca_claims.specs.Places.{path_at, claim_with_names, IsNamed}
 use Rattle.ca_claims.specs.Text as text
 use Rattle.ca_claims.specs.TextFaults.{AreMisspelledClaimWords, HaveBadNumber, AskUnknown, LoadTaken, NeedMemory}
-
--- the paths, with this one after them where it isn't one of them
-abbrev pub with_path : List (List ℕ) → List ℕ → List (List ℕ)
-with_path paths path = if list_any (bytes_eq path) paths then paths else paths ++ path ∷ []
 
 -- what a line claims, of patterns that are given by their names
 abbrev pub claim_of : ClaimOf (Bor (List ℕ)) → text.Claim

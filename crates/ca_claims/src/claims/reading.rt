@@ -14,18 +14,19 @@ ghost use Rattle.ca_claims.specs.inner.Reading.{AreKnownNames, at_places};
 
 use super::Claims;
 use super::line::{Claim, ClaimLine, Place};
-use super::paths::Paths;
 use super::version::TextVersion;
 use super::words::{LineKind, line_kind};
 use crate::ClaimFault;
+use crate::word_set::WordSet;
+use ca_plane::Memory;
 use ca_plane::bytes::next_line;
-use std::alloc::{AllocError, Global};
+use std::alloc::Global;
 use std::collections::HashMap;
 
 /// What the lines of a text have said so far.
 #[derive(Drop)]
 struct Reading<'a> {
-    paths: Paths,
+    paths: WordSet,
     names: Vec<Vec<u8>>,
     places: HashMap<&'a [u8], Place>,
     rules: Vec<usize>,
@@ -39,7 +40,7 @@ impl<'a> Reading<'a> {
         ensures { IsClaimReading [] result }
     {
         Reading {
-            paths: Paths::new(alloc),
+            paths: WordSet::new(alloc),
             names: Vec::new(alloc),
             places: HashMap::new(alloc),
             rules: Vec::new(alloc),
@@ -97,7 +98,7 @@ impl<'a> Reading<'a> {
     }
 
     /// The name, which isn't loaded yet, is kept with its path.
-    fn keep(&mut self, alloc: Global, name: &'a [u8], path: &[u8]) -> Result<(), AllocError>
+    fn keep(&mut self, alloc: Global, name: &'a [u8], path: &[u8]) -> Result<(), Memory>
         requires { place_of self.now.places name.now ≡ None }
         ensures { OnOk result ((said : List (Option ClaimTextLine)) → IsClaimReading said self.old
             → IsClaimReading (said ++ Some (Load name.now path.now) ∷ []) self.new) }

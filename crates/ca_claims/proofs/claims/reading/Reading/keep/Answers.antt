@@ -15,7 +15,7 @@ returns c = λ said read.
     let old = c.args.self.now in
     let after = place_of c.insert.new.self in
     let names : List (List ℕ) = map (λ n. n.items) old.names.items in
-    let there = ap (λ l. slice_get l c.in_ok-put.field-0) (sym c.in_ok-put.ensures.paths) ∙ c.in_ok-put.ensures.index in
+    let there = ap (λ l. slice_get l c.in_ok-put.field-0) (sym c.in_ok-put.ensures.words) ∙ c.in_ok-put.ensures.index in
     let more : map (λ n. n.items) c.push.new.self.items ≡ names ++ name ∷ [] =
     ap (map (λ n. n.items)) c.in_ok-push.ensures.items ∙ map-append (λ n. n.items) old.names.items (c.in_ok-kept.kept ∷ []) ∙ ap (λ n. names ++ n ∷ []) c.in_ok-kept.ensures.items in
     let last : c.len.result ≡ length names = c.len.ensures ∙ old.names.ok.0 ∙ sym (length-map old.names.items (λ n. n.items)) in
@@ -23,6 +23,6 @@ returns c = λ said read.
     let loaded = read_load said names old.paths old.rules.items old.claims.items (place_of old.places) read.0 name path c.in_ok-put.field-0 c.requires there after
     (λ q. updated q ∙ ap (λ k. update bytes_eq (place_of old.places) name (Some (record { name = k; path = c.in_ok-put.field-0 })) q) last) in (
       subst (λ l. KeepsClaimLines (said ++ Some (Load name path) ∷ []) l c.put.new.self old.rules.items old.claims.items after) (sym more)
-          (subst (λ l. KeepsClaimLines (said ++ Some (Load name path) ∷ []) (names ++ name ∷ []) l old.rules.items old.claims.items after) (sym c.in_ok-put.ensures.paths) loaded),
+          (subst (λ l. KeepsClaimLines (said ++ Some (Load name path) ∷ []) (names ++ name ∷ []) l old.rules.items old.claims.items after) (sym c.in_ok-put.ensures.words) loaded),
       version_after said (Load name path) c.after_line-self.result (c.after_line-self.ensures (spoken said) (Load name path) read.1 refl),
     )

@@ -1,6 +1,7 @@
 use Rattle.std.proofs.Common.{ℕ, List, [], ◌∷◌, ◌++◌, map, Some, slice_get, if◌then◌else◌, refl, sym, ap, subst, ◌∙◌}
 use Rattle.ca_claims.specs.Text.{Rule, spoken}
-use Rattle.ca_claims.specs.inner.Reading.{KeepsClaimLines, place_of, with_path}
+use Rattle.ca_claims.specs.Words.{with_word}
+use Rattle.ca_claims.specs.inner.Reading.{KeepsClaimLines, place_of}
 use Rattle.ca_claims.proofs.ReadOn.{read_rule, version_after}
 use Rattle.ca_claims.proofs.claims.reading.Reading.rule.Goals as goal
 
@@ -9,11 +10,11 @@ returns-clause-ruled c = λ said read.
     let path : List ℕ = c.args.path.now in
     let old = c.args.self.now in
     let place = c.in-Ok.table in
-    let at = ap (λ l. slice_get l place) (sym c.in-Ok.ensures.paths) ∙ c.in-Ok.ensures.index in
+    let at = ap (λ l. slice_get l place) (sym c.in-Ok.ensures.words) ∙ c.in-Ok.ensures.index in
     let items = c.push.ensures.items ∙ ap (λ b. if b then old.rules.items ++ place ∷ [] else old.rules.items) c.if-is_err.ensures.negation in
     let ruled = read_rule said (map (λ n. n.items) old.names.items) old.paths old.rules.items old.claims.items (place_of old.places) read.0 path place at in (
-      subst (λ l. KeepsClaimLines (said ++ Some (Rule path) ∷ []) (map (λ n. n.items) old.names.items) l c.push.new.self.items old.claims.items (place_of old.places)) (sym c.in-Ok.ensures.paths)
-          (subst (λ l. KeepsClaimLines (said ++ Some (Rule path) ∷ []) (map (λ n. n.items) old.names.items) (with_path old.paths path) l old.claims.items (place_of old.places)) (sym items) ruled),
+      subst (λ l. KeepsClaimLines (said ++ Some (Rule path) ∷ []) (map (λ n. n.items) old.names.items) l c.push.new.self.items old.claims.items (place_of old.places)) (sym c.in-Ok.ensures.words)
+          (subst (λ l. KeepsClaimLines (said ++ Some (Rule path) ∷ []) (map (λ n. n.items) old.names.items) (with_word old.paths path) l old.claims.items (place_of old.places)) (sym items) ruled),
       version_after said (Rule path) c.after_line-self.result (c.after_line-self.ensures (spoken said) (Rule path) read.1 refl),
     )
 
