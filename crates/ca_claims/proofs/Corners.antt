@@ -1,5 +1,5 @@
 -- By which vector a tree can be another one, moved: the one between the corners of their least boxes.
-use Rattle.std.proofs.Common.{◌≡◌, ◌≢◌, ℕ, ◌^◌, List, Option, Some, None, MatchOption, sym, ap₂, ◌∙◌, inl, inr, arith}
+use Rattle.std.proofs.Common.{◌≡◌, ◌≢◌, ℕ, ◌^◌, List, sym, ap₂, ◌∙◌, inl, inr, arith}
 use Rattle.std.specs.Prelude.{ℤ, pos, neg_ℤ, ◌+ℤ◌, ◌-ℤ◌, ◌≤ℤ◌}
 use Rattle.std.proofs.lemmas.Bool.{cases_eq}
 use Rattle.std.proofs.lemmas.Int.{ints, by_lt_z}
@@ -17,7 +17,7 @@ use Rattle.ca_plane.specs.Limits.{IsInRange}
 use Rattle.ca_claims.specs.Text.{IsShift}
 use Rattle.ca_claims.specs.inner.Returns.{IsBroad, IsWide}
 use Rattle.ca_claims.specs.inner.Stages.{IsNear}
-use Rattle.ca_claims.specs.inner.Subjects.{HasLive, IsMove, IsNoMove, IsOnlyMove}
+use Rattle.ca_claims.specs.inner.Subjects.{HasLive, IsNoMove, IsOnlyMove}
 use Rattle.ca_claims.proofs.Searches.{search_within}
 
 -- cells in the square of a plane are all 0, or one is live
@@ -45,38 +45,33 @@ module _ (p q : ℤ → ℤ → ℕ) (dx dy : ℤ) (same : (x y : ℤ) → q x y
   live_before : (x y : ℤ) → q x y ≢ 0 → p (x -ℤ dx) (y -ℤ dy) ≢ 0
   live_before x y live = λ z. live (same x y ∙ z)
 
-  -- so the vector is that from the one least box to the other
-  pub corner_moved : (box box2 : WideBounds) → wide.IsLeastWideBox p box → wide.IsLeastWideBox q box2 → (dx ≡ box2.x0 -ℤ box.x0) × (dy ≡ box2.y0 -ℤ box.y0)
-  corner_moved box box2 least least2 =
-      let right = least2.all (box.x0 +ℤ dx) (least.left.0 +ℤ dy) (live_after box.x0 least.left.0 least.left.1) in
-      let left = least.all (box2.x0 -ℤ dx) (least2.left.0 -ℤ dy) (live_before box2.x0 least2.left.0 least2.left.1) in
-      let below = least2.all (least.top.0 +ℤ dx) (box.y0 +ℤ dy) (live_after least.top.0 box.y0 least.top.1) in
-      let above = least.all (least2.top.0 -ℤ dx) (box2.y0 -ℤ dy) (live_before least2.top.0 box2.y0 least2.top.1) in
-      (omega (arith, ints, right.0, left.0), omega (arith, ints, below.2, above.2))
-
-  -- and that between the opposite corners
-  pub far_corner_moved : (box box2 : WideBounds) → wide.IsLeastWideBox p box → wide.IsLeastWideBox q box2 → (dx ≡ box2.x1 -ℤ box.x1) × (dy ≡ box2.y1 -ℤ box.y1)
-  far_corner_moved box box2 least least2 =
-      let right = least2.all (box.x1 +ℤ dx) (least.right.0 +ℤ dy) (live_after box.x1 least.right.0 least.right.1) in
-      let left = least.all (box2.x1 -ℤ dx) (least2.right.0 -ℤ dy) (live_before box2.x1 least2.right.0 least2.right.1) in
-      let below = least2.all (least.bottom.0 +ℤ dx) (box.y1 +ℤ dy) (live_after least.bottom.0 box.y1 least.bottom.1) in
-      let above = least.all (least2.bottom.0 -ℤ dx) (box2.y1 -ℤ dy) (live_before least2.bottom.0 box2.y1 least2.bottom.1) in
-      (omega (arith, ints, right.1, left.1), omega (arith, ints, below.3, above.3))
+  -- so the vector is that from a corner of the one least box to that of the other, and that between the opposite corners
+  pub corners_moved : (box box2 : WideBounds) → wide.IsLeastWideBox p box → wide.IsLeastWideBox q box2
+      → ((dx ≡ box2.x0 -ℤ box.x0) × (dy ≡ box2.y0 -ℤ box.y0)) × ((dx ≡ box2.x1 -ℤ box.x1) × (dy ≡ box2.y1 -ℤ box.y1))
+  corners_moved box box2 least least2 =
+      let there : (x y : ℤ) → p x y ≢ 0 → wide.IsInWideBox box2 (x +ℤ dx) (y +ℤ dy) = λ x y live. least2.all (x +ℤ dx) (y +ℤ dy) (live_after x y live) in
+      let back : (x y : ℤ) → q x y ≢ 0 → wide.IsInWideBox box (x -ℤ dx) (y -ℤ dy) = λ x y live. least.all (x -ℤ dx) (y -ℤ dy) (live_before x y live) in
+      let left = there box.x0 least.left.0 least.left.1 in
+      let left2 = back box2.x0 least2.left.0 least2.left.1 in
+      let top = there least.top.0 box.y0 least.top.1 in
+      let top2 = back least2.top.0 box2.y0 least2.top.1 in
+      let right = there box.x1 least.right.0 least.right.1 in
+      let right2 = back box2.x1 least2.right.0 least2.right.1 in
+      let bottom = there least.bottom.0 box.y1 least.bottom.1 in
+      let bottom2 = back least2.bottom.0 box2.y1 least2.bottom.1 in
+      ((omega (arith, ints, left.0, left2.0), omega (arith, ints, top.2, top2.2)), (omega (arith, ints, right.1, right2.1), omega (arith, ints, bottom.3, bottom2.3)))
 
   -- and no cell leaves the square of a plane, where the moved ones are in it
   pub not_leaves : IsNear q → HasCellOutsidePlane (shifted_cells p dx dy) → ⊥
   not_leaves near (x, y, live, out) = live (sym (same x y) ∙ near x y out)
 
--- where one vector alone may move the other tree's cells onto the tree's, it does, or none does
-pub moved_or_none : (nodes : List Node) (tree other : Tree) (dx dy : ℤ) (now moved : ℤ → ℤ → ℕ) (back : Option (ℤ × ℤ)) → IsOnlyMove nodes tree other (dx, dy)
+-- where one vector alone may move the other tree's cells onto the tree's, and doesn't, none does
+pub no_move : (nodes : List Node) (tree other : Tree) (dx dy : ℤ) (now moved : ℤ → ℤ → ℕ) → IsOnlyMove nodes tree other (dx, dy)
     → ((x y : ℤ) → now x y ≡ cell nodes tree x y) → ((x y : ℤ) → moved x y ≡ shifted_cells (cell nodes other) dx dy x y)
-    → MatchOption back ((x : ℤ) × (y : ℤ) × (now x y ≢ moved x y)) (λ v. (v.0 ≡ dx) × (v.1 ≡ dy) × ((x y : ℤ) → now x y ≡ moved x y))
-    → MatchOption back (IsNoMove nodes tree other) (λ v. IsMove nodes tree other v.0 v.1)
-moved_or_none nodes tree other dx dy now moved None only stays shows told = λ a b is.
+    → (x y : ℤ) → now x y ≢ moved x y → IsNoMove nodes tree other
+no_move nodes tree other dx dy now moved only stays shows x y differs = λ a b is.
     let at = only a b is in
-    told.2 (stays told.0 told.1 ∙ is told.0 told.1 ∙ ap₂ (λ u v. shifted_cells (cell nodes other) u v told.0 told.1) at.0 at.1 ∙ sym (shows told.0 told.1))
-moved_or_none nodes tree other dx dy now moved (Some v) only stays shows told = λ x y.
-    sym (stays x y) ∙ told.2 x y ∙ shows x y ∙ ap₂ (λ a b. shifted_cells (cell nodes other) a b x y) (sym told.0) (sym told.1)
+    differs (stays x y ∙ is x y ∙ ap₂ (λ u v. shifted_cells (cell nodes other) u v x y) at.0 at.1 ∙ sym (shows x y))
 
 -- no cell in range leaves the square of a plane by a shift
 pub leaves_none : (p : ℤ → ℤ → ℕ) (dx dy : ℤ) → AreInRange p → IsShift dx → IsShift dy → HasCellOutsidePlane (shifted_cells p dx dy) → ⊥

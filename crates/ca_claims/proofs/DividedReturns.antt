@@ -56,7 +56,10 @@ anywhere next cells n nodes end pattern (Some v) ends shows told =
 
 -- what is judged, of a plane some generations on
 module _ (next : List ℕ → ℕ) (s0 s1 : List Node) (case : Case) (bars : BarsReturn s0 case) (end : Tree) (m : ℕ) (is : IsEndTree next s0 case.subject.pattern m s1 end) (cells : Picture)
-    (shows : ShowsTree s0 case.subject.pattern cells) (pattern : Tree) (later : ShowsTree s1 pattern cells) (back : Option (ℤ × ℤ)) where
+    (shows : ShowsTree s0 case.subject.pattern cells) (later : ShowsTree s1 case.subject.pattern cells) (back : Option (ℤ × ℤ)) where
+  abbrev pub pattern : Tree
+  pattern = case.subject.pattern
+
   ends : (x y : ℤ) → after next cells m x y ≡ trees.cell s1 end x y
   ends = shows_after next s0 s1 case.subject.pattern end m cells is shows
 

@@ -1,5 +1,5 @@
 -- What is found of the plane of a file's pattern, and what finding it may need.
-use Rattle.std.proofs.Common.{◌≡◌, ℕ, ◌+◌, ◌≤◌, List, Option, Result, Ok, Err, refl, sym, subst, ◌∙◌, inl, inr, arith}
+use Rattle.std.proofs.Common.{◌≡◌, ℕ, ◌+◌, ◌≤◌, List, Option, Result, Ok, Err, refl, sym, subst, ◌∙◌, arith}
 use Rattle.std.specs.Prelude.{ℤ, ◌-ℤ◌, IfOk, IfErr}
 use Rattle.ca_plane.specs.Plane.{Picture, IsLive, shifted}
 use Rattle.ca_plane.specs.Plane as plane
@@ -8,7 +8,6 @@ use Rattle.ca_plane.proofs.Shifts.{cell-shifted}
 use Rattle.ca_quad.specs.declared.node.Node.{Node}
 use Rattle.ca_quad.specs.Trees as trees
 use Rattle.ca_quad.specs.Trimmed.{HoldsAll}
-use Rattle.ca_quad.proofs.Growth.{below_or_not}
 use Rattle.ca_rule.specs.TableNext.{TableRule}
 use Rattle.ca_rule.specs.Rule.{next_of}
 use Rattle.ca_run.proofs.After.{after_same}
@@ -30,8 +29,9 @@ use Rattle.ca_claims.specs.inner.Patterns.{rule_of}
 use Rattle.ca_claims.specs.inner.Ready.{IsReady}
 use Rattle.ca_claims.specs.inner.Stages.{TakesRunAndSteps}
 use Rattle.ca_claims.specs.inner.Subjects.{ShowsTree}
-use Rattle.ca_claims.proofs.Shown.{small_shown}
+use Rattle.ca_claims.proofs.Held.{trimmed_low}
 use Rattle.ca_claims.proofs.Stages.{run_more}
+use Rattle.ca_claims.proofs.Told.{file_begins}
 
 module _ (nodes : List Node) (bytes : List ℕ) (tables : List TableRule) (ruled : Ruled) (ready : IsReady nodes bytes tables ruled) where
   -- a file means the cells that its tree shows
@@ -40,11 +40,7 @@ module _ (nodes : List Node) (bytes : List ℕ) (tables : List TableRule) (ruled
 
   -- which are of small states
   pub file_holds : HoldsSmallPattern bytes tables ready.read.cells (rule_of ruled)
-  file_holds = record {
-    generation = ruled.pattern.generation;
-    holds = record { rule_text = ruled.pattern.rule_text.items; holds = ready.read.loaded.holds; names = ready.names };
-    small = small_shown (trees.cell nodes ruled.pattern.tree) (plane.cell ready.read.cells) ready.read.loaded.shows (rule_of ruled) ready.small;
-  }
+  file_holds = (ruled.pattern.generation, file_begins nodes bytes tables ruled ready)
 
   -- and for which a run and steps may need so much work, where all of it is used up
   pub file_needs : (old new work n limit : ℕ) → old ≡ 0 → new ≡ work → TakesRunAndSteps old new ruled.pattern.tree.level n (cells_after (next_of (rule_of ruled)) (trees.cell nodes ruled.pattern.tree)) limit
@@ -54,13 +50,10 @@ module _ (nodes : List Node) (bytes : List ℕ) (tables : List TableRule) (ruled
       let tree = ruled.pattern.tree in
       let same : (m : ℕ) (x y : ℤ) → cells_after next (trees.cell nodes tree) m x y ≡ after next ready.read.cells m x y =
       λ m x y. after_same next (trees.cell nodes tree) (plane.cell ready.read.cells) m ready.read.loaded.shows x y in
-      elim (below_or_not start tree.level) [
-        | inl less ↦ absurd (ready.read.loaded.trimmed start first less (λ x y live. held x y (λ dead. live (same 0 x y ∙ dead))))
-        | inr high ↦
-            let most = takes digits level short some (λ m less x y live. holds m less x y (λ dead. live (same (n + m) x y ∙ dead))) in
-            let more = run_more n tree.level start digits (omega (arith, high)) in
-            omega (arith, none, all, most, more)
-      ]
+      let high = trimmed_low nodes tree (plane.cell ready.read.cells) start first ready.read.loaded.trimmed (same 0) held in
+      let most = takes digits level short some (λ m less x y live. holds m less x y (λ dead. live (same (n + m) x y ∙ dead))) in
+      let more = run_more n tree.level start digits (omega (arith, high)) in
+      omega (arith, none, all, most, more)
 
 -- ---- after no generations
 

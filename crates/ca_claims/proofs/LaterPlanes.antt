@@ -1,9 +1,9 @@
 -- Planes some generations on: where they are live, what states they have, and what is told and written of them.
 use Rattle.std.proofs.Common.{◌≡◌, ℕ, zero, suc, ◌<◌, ◌≤◌, ◌^◌, List, [], ◌∷◌, length, refl, sym, ap, ◌∙◌, inl, inr, arith, true, false, Bool, ◌&&◌}
-use Rattle.std.specs.Prelude.{ℤ, pos, neg_ℤ, ◌+ℤ◌, ◌≤ℤ◌, ◌⊎◌, replicate, if◌then◌else◌}
+use Rattle.std.specs.Prelude.{ℤ, ◌⊎◌, replicate, if◌then◌else◌}
 use Rattle.std.specs.List.{All}
 use Rattle.std.specs.Ordering.{int_eq}
-use Rattle.std.proofs.lemmas.Bool.{cases_eq, cases_order, and_from}
+use Rattle.std.proofs.lemmas.Bool.{cases_eq, and_from}
 use Rattle.std.proofs.lemmas.Bool.Decides.{Decides-int_eq}
 use Rattle.std.proofs.lemmas.Int.{ints}
 use Rattle.std.proofs.lemmas.List.Elements.{All-nil, All-cons, All-contains}
@@ -11,7 +11,6 @@ use Rattle.ca_plane.specs.declared.point.Point.{Point}
 use Rattle.ca_plane.specs.Plane.{Picture}
 use Rattle.ca_plane.specs.Plane as plane
 use Rattle.ca_plane.specs.Generations.{around, cells_after}
-use Rattle.ca_plane.specs.Limits.{IsInRange}
 use Rattle.ca_plane.specs.Population.{AreLivePlaces, HasPopulation}
 use Rattle.ca_plane.proofs.Pictures.{place-from_true}
 use Rattle.ca_quad.specs.declared.node.Node.{Node}
@@ -25,42 +24,22 @@ use Rattle.ca_quad.proofs.Listed.{tree_population}
 use Rattle.ca_quad.proofs.Reach.{low_fits}
 use Rattle.ca_quad.proofs.Shifts.{some_level}
 use Rattle.ca_macro.specs.Pattern.{AreInRange}
-use Rattle.ca_run.specs.Later.{IsWithin}
-use Rattle.ca_run.proofs.After.{after_dead}
 use Rattle.ca_claims.specs.Ahead.{HasCellOutOfRange}
 use Rattle.ca_claims.specs.inner.Cells.{IsBoxInRange, IsBoxOutOfRange}
 use Rattle.ca_claims.specs.inner.Glance.{AreNearBounds, IsLowTree}
-use Rattle.ca_claims.proofs.Corners.{not_above}
 use Rattle.ca_claims.proofs.FilesRead.{All-each}
+use Rattle.ca_claims.proofs.Held.{range_held, later_held, trimmed_low}
 
 -- ---- where they are live
 
 module _ (next : List ℕ → ℕ) (p : ℤ → ℤ → ℕ) (n : ℕ) (quiet : next (replicate 9 0) ≡ 0) (range : AreInRange p) (few : n ≤ 2 ^ 60) where
-  -- what holds where a cell that was live at first is within n of one that lives later
-  later_live : (x y : ℤ) → (cells_after next p n x y ≡ 0 → ⊥) → (a b : ℤ) → ((u v : ℤ) → IsWithin n x y u v → IsInRange (record { y = v; x = u }) → a ≤ℤ b) → a ≤ℤ b
-  later_live x y live a b tells =
-      not_above a b (λ out. live (after_dead next p quiet n x y (λ u v within.
-      elim (cases_eq (p u v) 0) [
-        | inl none ↦ none
-        | inr alive ↦ absurd (out (tells u v within (range u v alive)))
-      ])))
-
   -- few generations after cells in range the live ones lie in a square of 2^62 cells a side
   pub later_holds : HoldsAll 62 (cells_after next p n)
-  later_holds x y live =
-      let west : neg_ℤ (pos (2 ^ 61)) ≤ℤ x = later_live x y live _ _ (λ u v within here. omega (arith, ints, few, within, here)) in
-      let east : (x +ℤ pos 1) ≤ℤ pos (2 ^ 61) = later_live x y live _ _ (λ u v within here. omega (arith, ints, few, within, here)) in
-      let north : neg_ℤ (pos (2 ^ 61)) ≤ℤ y = later_live x y live _ _ (λ u v within here. omega (arith, ints, few, within, here)) in
-      let south : (y +ℤ pos 1) ≤ℤ pos (2 ^ 61) = later_live x y live _ _ (λ u v within here. omega (arith, ints, few, within, here)) in
-      ((west, omega (arith, ints, east)), (north, omega (arith, ints, south)))
+  later_holds = later_held next p n quiet 61 62 (omega (arith, few)) (range_held p range)
 
   -- so a tree of the least level that shows them is a low one
   pub later_is_low : (nodes : List Node) (tree : Tree) → IsTrimmed nodes tree → ((x y : ℤ) → trees.cell nodes tree x y ≡ cells_after next p n x y) → tree.level ≤ 62
-  later_is_low nodes tree trimmed shows = elim (cases_order tree.level 62) [
-    | inl low ↦ omega (arith, low)
-    | inr (inl same) ↦ omega (arith, same)
-    | inr (inr high) ↦ absurd (trimmed 62 (omega arith) high (λ x y live. later_holds x y (λ none. live (shows x y ∙ none))))
-  ]
+  later_is_low nodes tree trimmed shows = trimmed_low nodes tree (cells_after next p n) 62 (omega arith) trimmed shows later_holds
 
 -- ---- what states they have
 

@@ -1,8 +1,6 @@
 -- Trees as a leaper goes on: what was known of them stays, and what the pictures that they show have after some generations.
 use Rattle.std.proofs.Common.{◌≡◌, ℕ, List, Option, Some, None, Result, Ok, Err, MatchOption, refl, sym, subst, ◌∙◌, inl, inr, arith}
 use Rattle.std.specs.Prelude.{ℤ, ◌-ℤ◌, IfOk, IsNone}
-use Rattle.std.proofs.lemmas.Bool.{cases_eq}
-use Rattle.std.proofs.lemmas.Int.{ints}
 use Rattle.ca_plane.specs.Plane.{Picture, shifted}
 use Rattle.ca_plane.specs.Plane as plane
 use Rattle.ca_plane.proofs.Shifts.{cell-shifted}
@@ -25,29 +23,11 @@ use Rattle.ca_claims.specs.declared.verdict.Why.TheVariants.{Empty, Differs, Ear
 use Rattle.ca_claims.specs.Truth.{wanted_cells, claimed}
 use Rattle.ca_claims.specs.inner.Subjects.{ShowsTree, HasLive, IsPattern, IsNearTree, IsCase, BarsReturn, BarsDeath, AreShown, IsEndTree, IsDifference}
 
--- the tree of a pattern has no live cell outside the square of a plane
-pub near_pattern : (nodes : List Node) (tree : Tree) → IsPattern nodes tree → IsNearTree nodes tree
-near_pattern nodes tree h = record {
-  is_tree = h.is_tree;
-  low = omega (arith, h.low);
-  near = λ x y out.
-      elim (cases_eq (cell nodes tree x y) 0) [
-        | inl none ↦ none
-        | inr live ↦
-            let here = h.range x y live in
-            absurd (out (omega (arith, ints, here), omega (arith, ints, here), omega (arith, ints, here), omega (arith, ints, here)))
-      ];
-}
-
 -- ---- the store grows
 
 module _ (old new : List Node) (sound : IsSoundStore old) (grows : Grows old new) where
   pub shows_stays : (tree : Tree) (p : Picture) → IsTree old tree → ShowsTree old tree p → ShowsTree new tree p
   shows_stays tree p is shows = λ x y. shows x y ∙ sym (trees_stay old new sound grows tree is x y)
-
-  -- so does another tree that is the same one
-  pub copy_shows : (tree copy : Tree) (p : Picture) → copy ≡ tree → IsTree old tree → ShowsTree old tree p → ShowsTree new copy p
-  copy_shows tree copy p e is shows = subst (λ t. ShowsTree new t p) (sym e) (shows_stays tree p is shows)
 
   pub near_stays : (tree : Tree) → IsNearTree old tree → IsNearTree new tree
   near_stays tree h = record {

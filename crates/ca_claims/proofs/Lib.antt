@@ -33,6 +33,7 @@ pub mod Nearby
 pub mod Leapt
 pub mod Empties
 pub mod Corners
+pub mod Held
 pub mod Deaths
 pub mod DividedReturns
 pub mod Reasoned

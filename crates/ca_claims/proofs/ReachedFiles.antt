@@ -1,5 +1,5 @@
 -- What is reached some generations on, from the file that it began with; and what is told and written of it.
-use Rattle.std.proofs.Common.{◌≡◌, ℕ, ◌+◌, ◌<◌, ◌≤◌, List, sym, subst, ◌∙◌, inl, inr, arith}
+use Rattle.std.proofs.Common.{◌≡◌, ℕ, ◌+◌, ◌<◌, ◌≤◌, List, sym, subst, ◌∙◌, arith}
 use Rattle.std.specs.Prelude.{ℤ}
 use Rattle.ca_plane.specs.Plane.{Picture}
 use Rattle.ca_plane.specs.Plane as plane
@@ -8,7 +8,6 @@ use Rattle.ca_plane.specs.Limits.{generation_limit}
 use Rattle.ca_quad.specs.declared.node.Node.{Node}
 use Rattle.ca_quad.specs.declared.tree.Tree.{Tree}
 use Rattle.ca_quad.specs.Trees as trees
-use Rattle.ca_quad.proofs.Growth.{below_or_not}
 use Rattle.ca_rule.specs.TableNext.{TableRule}
 use Rattle.ca_rule.specs.Rule.{RuleValue, rule_value, next_of}
 use Rattle.ca_macro.specs.Pattern.{AreInRange}
@@ -30,10 +29,11 @@ use Rattle.ca_claims.specs.inner.Patterns.{rule_of}
 use Rattle.ca_claims.specs.inner.Ready.{IsReady, IsWritableTree, IsWrittenAs, AreUnwritten}
 use Rattle.ca_claims.specs.inner.Spending.{Takes}
 use Rattle.ca_claims.specs.inner.Stages.{IsLaterTree}
+use Rattle.ca_claims.proofs.Held.{trimmed_low}
 use Rattle.ca_claims.proofs.LaterPlanes.{picture_of, range_shown, out_shown}
 use Rattle.ca_claims.proofs.PatternsRead.{wanted}
 use Rattle.ca_claims.proofs.Shown.{small_shown, many_shown, population_shown}
-use Rattle.ca_claims.proofs.Told.{holds_ruled}
+use Rattle.ca_claims.proofs.Told.{file_begins}
 
 -- ---- from the file
 
@@ -41,12 +41,8 @@ module _ (nodes : List Node) (bytes : List ℕ) (tables : List TableRule) (ruled
   abbrev pub first : ℤ → ℤ → ℕ
   first = trees.cell nodes ruled.pattern.tree
 
-  -- it begins with the cells that its tree shows
-  pub file_begins : Begins bytes tables ready.read.cells (rule_of ruled) ruled.pattern.generation
-  file_begins = record {
-    holds = holds_ruled nodes bytes tables ruled ready.read ready.names;
-    small = small_shown first (plane.cell ready.read.cells) ready.read.loaded.shows (rule_of ruled) ready.small;
-  }
+  begins : Begins bytes tables ready.read.cells (rule_of ruled) ruled.pattern.generation
+  begins = file_begins nodes bytes tables ruled ready
 
   module _ (n : ℕ) where
     pub file_reaches : (generation : ℕ) → generation ≡ ruled.pattern.generation + n → generation < generation_limit → (store : List Node) (tree : Tree) → tree.level ≤ 62
@@ -55,7 +51,7 @@ module _ (nodes : List Node) (bytes : List ℕ) (tables : List TableRule) (ruled
     file_reaches generation added low store tree level later small = record {
       cells = ready.read.cells;
       begun = ruled.pattern.generation;
-      begins = file_begins;
+      begins = begins;
       kind_is = ready.read.loaded.kind;
       added = added;
       low = low;
@@ -70,19 +66,16 @@ module _ (nodes : List Node) (bytes : List ℕ) (tables : List TableRule) (ruled
     pub file_needs_run : (old new work : ℕ) → old ≡ 0 → new ≡ work → Takes old new 1 ruled.pattern.tree.level n → MayNeedRun work n (plane.cell ready.read.cells)
     file_needs_run old new work none all takes level digits some holds short =
         let tree = ruled.pattern.tree in
-        elim (below_or_not level tree.level) [
-          | inl less ↦ absurd (ready.read.loaded.trimmed level some less (λ x y live. holds x y (λ dead. live (ready.read.loaded.shows x y ∙ dead))))
-          | inr high ↦
-              let most = takes digits short in
-              let power = power_more (tree.level + digits + 2) (level + digits + 2) (omega (arith, high)) in
-              omega (arith, none, all, most, power)
-        ]
+        let high = trimmed_low nodes tree (plane.cell ready.read.cells) level some ready.read.loaded.trimmed ready.read.loaded.shows holds in
+        let most = takes digits short in
+        let power = power_more (tree.level + digits + 2) (level + digits + 2) (omega (arith, high)) in
+        omega (arith, none, all, most, power)
 
     pub file_is_late : generation_limit ≤ ruled.pattern.generation + n → (work : ℕ) → IsReachFault bytes tables n work GenTooLarge
-    file_is_late late work = (ready.read.cells, rule_of ruled, ruled.pattern.generation, file_begins, late)
+    file_is_late late work = (ready.read.cells, rule_of ruled, ruled.pattern.generation, begins, late)
 
     pub file_wants_work : ruled.pattern.generation + n < generation_limit → (work : ℕ) → MayNeedRun work n (plane.cell ready.read.cells) → IsReachFault bytes tables n work Work
-    file_wants_work low work need = (ready.read.cells, rule_of ruled, ruled.pattern.generation, file_begins, low, need)
+    file_wants_work low work need = (ready.read.cells, rule_of ruled, ruled.pattern.generation, begins, low, need)
 
   pub file_wants_memory : MayWantMemory bytes
   file_wants_memory = wanted bytes ready.read.loaded.holds.readable

@@ -17,6 +17,7 @@ use Rattle.ca_claims.specs.Answers.{HasSmallStates}
 use Rattle.ca_claims.specs.inner.Ready.{HoldsCells, IsWritablePlane}
 use Rattle.ca_claims.proofs.FewListed.{population-le}
 use Rattle.ca_claims.proofs.FilesRead.{in_format, shown_in_range}
+use Rattle.ca_claims.proofs.Shown.{small_shown}
 
 module _ (bytes : List ℕ) (file : RleFile) (f : ℤ → ℤ → ℕ) (rule_text : List ℕ) (generation : ℕ) (rle : format_of bytes ≡ Rle) (is_file : IsRleFile bytes file) (within : IsWithinLimits file) (parts : HasFileParts file f rule_text generation) where
   -- the file's picture
@@ -33,7 +34,11 @@ module _ (bytes : List ℕ) (file : RleFile) (f : ℤ → ℤ → ℕ) (rule_tex
   in_range = shown_in_range f picture parts.cells_are within.0.cells
 
   pub holds_cells : (tables : List TableRule) (rule : RuleValue) → NamesRule rule_text tables rule → HasSmallStates rule f → HoldsCells bytes tables f rule generation
-  holds_cells tables rule names small = record { picture = picture; holds = record { rule_text = rule_text; holds = holds; names = names }; shows = parts.cells_are; small = small }
+  holds_cells tables rule names small = record {
+    picture = picture;
+    begins = record { holds = record { rule_text = rule_text; holds = holds; names = names }; small = small_shown f (cell picture) parts.cells_are rule small };
+    shows = parts.cells_are;
+  }
 
 -- a sparse plane of a file's cells may be written
 pub file_is_writable : (bytes : List ℕ) (file : RleFile) (p : Picture) (rule_text : List ℕ) (generation : ℕ) (rle : format_of bytes ≡ Rle) (is_file : IsRleFile bytes file) (within : IsWithinLimits file) (parts : HasFileParts file (cell p) rule_text generation)

@@ -1,11 +1,10 @@
 -- How what calls take of a leaper's work adds up.
-use Rattle.std.proofs.Common.{◌≡◌, ◌≢◌, ℕ, ◌+◌, ◌-◌, ◌*◌, ◌<◌, ◌≤◌, ◌^◌, inl, inr, List, refl, sym, ap, ◌∙◌, arith}
+use Rattle.std.proofs.Common.{◌≡◌, ◌≢◌, ℕ, ◌+◌, ◌-◌, ◌*◌, ◌<◌, ◌≤◌, ◌^◌, List, refl, sym, ap, arith}
 use Rattle.std.proofs.Math.Nat.{mul-le-mul_left, mul-le-mul_right}
 use Rattle.ca_plane.specs.Plane.{Picture, cell}
 use Rattle.ca_quad.specs.declared.node.Node.{Node}
 use Rattle.ca_quad.specs.declared.tree.Tree.{Tree}
 use Rattle.ca_quad.specs.Trimmed.{IsTrimmed}
-use Rattle.ca_quad.proofs.Growth.{below_or_not}
 use Rattle.ca_run.specs.Leaping.{Costs, LeaperView, Spent}
 use Rattle.ca_run.proofs.Costs.{power_more}
 use Rattle.ca_claims.specs.declared.claims.asks.Asks.{Asks}
@@ -14,6 +13,7 @@ use Rattle.ca_claims.specs.declared.claims.asks.Barred.TheVariants.{Nothing, InP
 use Rattle.ca_claims.specs.Limited.{most_runs, IsNoMoreThan, MayBeUsedUp}
 use Rattle.ca_claims.specs.inner.Subjects.{ShowsTree}
 use Rattle.ca_claims.specs.inner.Spending.{Takes}
+use Rattle.ca_claims.proofs.Held.{trimmed_low}
 
 -- one run
 pub takes_one : {Rule : Type 0} (old new : LeaperView Rule) (level n : ℕ) → ((d : ℕ) → n < 2 ^ d → Costs Rule old new (14 ^ (level + d + 2)) 1048576) → Takes old.spent.used new.spent.used 1 level n
@@ -68,10 +68,8 @@ larger work asks low level more most d less =
 
 -- no level that holds the cells of a trimmed tree is below its own
 pub used_up : (nodes : List Node) (tree : Tree) (cells : Picture) (work : ℕ) (asks : Asks) → IsTrimmed nodes tree → ShowsTree nodes tree cells → IsNoMoreThan work asks tree.level → MayBeUsedUp work asks (cell cells)
-used_up nodes tree cells work asks trimmed shows most level some holds = elim (below_or_not level tree.level) [
-  | inl less ↦ absurd (trimmed level some less (λ x y live. holds x y (λ none. live (sym (shows x y) ∙ none))))
-  | inr high ↦ larger work asks tree.level level high most
-]
+used_up nodes tree cells work asks trimmed shows most level some holds =
+    larger work asks tree.level level (trimmed_low nodes tree (cell cells) level some trimmed (λ x y. sym (shows x y)) holds) most
 
 -- a claim takes one run at least
 pub some_runs : (barred : Barred) (n : ℕ) → (barred ≢ Nothing → 1 ≤ n) → 1 ≤ most_runs barred n

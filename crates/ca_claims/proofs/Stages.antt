@@ -15,8 +15,7 @@ use Rattle.ca_quad.specs.Trees.{cell}
 use Rattle.ca_quad.specs.Trimmed.{IsTrimmed, HoldsAll}
 use Rattle.ca_quad.proofs.Growth.{below_or_not}
 use Rattle.ca_quad.proofs.Trims.{trees_stay}
-use Rattle.ca_run.specs.Later.{IsWithin}
-use Rattle.ca_run.proofs.After.{after_dead, after_same, after_again}
+use Rattle.ca_run.proofs.After.{after_same, after_again}
 use Rattle.ca_run.proofs.Costs.{power_more}
 use Rattle.ca_claims.specs.Identified.{run_work}
 use Rattle.ca_claims.specs.Text.{longest_period}
@@ -25,7 +24,8 @@ use Rattle.ca_claims.specs.declared.identification.stage.Stage.{Stage}
 use Rattle.ca_claims.specs.declared.identification.stage.Stage.TheVariants.{Empty, Back, Other}
 use Rattle.ca_claims.specs.inner.Spending.{Takes}
 use Rattle.ca_claims.specs.inner.Stages.{IsNear, IsStart, IsFirst, AreMoved, AreMovedNowhere, IsStage, IsLaterTree, AreOtherUpTo, TakesSteps, TakesRun, TakesRunAndSteps}
-use Rattle.ca_claims.proofs.Corners.{live_after, not_above}
+use Rattle.ca_claims.proofs.Corners.{live_after}
+use Rattle.ca_claims.proofs.Held.{live_near, trimmed_low}
 use Rattle.ca_claims.proofs.Leapt.{near_stays}
 use Rattle.ca_claims.proofs.Searches.{search_within}
 use Rattle.ca_claims.proofs.Starts.{near_start, start_stays, start_near}
@@ -49,34 +49,25 @@ changes p q near near_later nowhere =
 -- ---- how far a pattern moves
 
 module _ (next : List ℕ → ℕ) (quiet : next (replicate 9 0) ≡ 0) (p : ℤ → ℤ → ℕ) (box : WideBounds) (least : IsLeastWideBox p box) (n : ℕ) where
-  -- what holds where a cell that was live at first is within n of one that lives after n generations
-  near_live : (x y : ℤ) → cells_after next p n x y ≢ 0 → (a b : ℤ) → ((u v : ℤ) → IsWithin n x y u v → IsInWideBox box u v → a ≤ℤ b) → a ≤ℤ b
-  near_live x y live a b tells =
-      not_above a b (λ out. live (after_dead next p quiet n x y (λ u v within.
-      elim (cases_eq (p u v) 0) [
-        | inl none ↦ none
-        | inr alive ↦ absurd (out (tells u v within (least.all u v alive)))
-      ])))
-
   module _ (dx dy : ℤ) (moved : AreMoved p (cells_after next p n) dx dy) where
     -- no farther to the left than n
     pub least_right : neg_ℤ (pos n) ≤ℤ dx
-    least_right = near_live (box.x0 +ℤ dx) (least.left.0 +ℤ dy) (live_after p (cells_after next p n) dx dy moved box.x0 least.left.0 least.left.1) _ _
+    least_right = live_near next p n quiet (IsInWideBox box) least.all (box.x0 +ℤ dx) (least.left.0 +ℤ dy) (live_after p (cells_after next p n) dx dy moved box.x0 least.left.0 least.left.1) _ _
         (λ u v within inside. omega (arith, ints, within, inside))
 
     -- nor to the right
     pub most_right : dx ≤ℤ pos n
-    most_right = near_live (box.x1 +ℤ dx) (least.right.0 +ℤ dy) (live_after p (cells_after next p n) dx dy moved box.x1 least.right.0 least.right.1) _ _
+    most_right = live_near next p n quiet (IsInWideBox box) least.all (box.x1 +ℤ dx) (least.right.0 +ℤ dy) (live_after p (cells_after next p n) dx dy moved box.x1 least.right.0 least.right.1) _ _
         (λ u v within inside. omega (arith, ints, within, inside))
 
     -- nor up
     pub least_down : neg_ℤ (pos n) ≤ℤ dy
-    least_down = near_live (least.top.0 +ℤ dx) (box.y0 +ℤ dy) (live_after p (cells_after next p n) dx dy moved least.top.0 box.y0 least.top.1) _ _
+    least_down = live_near next p n quiet (IsInWideBox box) least.all (least.top.0 +ℤ dx) (box.y0 +ℤ dy) (live_after p (cells_after next p n) dx dy moved least.top.0 box.y0 least.top.1) _ _
         (λ u v within inside. omega (arith, ints, within, inside))
 
     -- nor down
     pub most_down : dy ≤ℤ pos n
-    most_down = near_live (least.bottom.0 +ℤ dx) (box.y1 +ℤ dy) (live_after p (cells_after next p n) dx dy moved least.bottom.0 box.y1 least.bottom.1) _ _
+    most_down = live_near next p n quiet (IsInWideBox box) least.all (least.bottom.0 +ℤ dx) (box.y1 +ℤ dy) (live_after p (cells_after next p n) dx dy moved least.bottom.0 box.y1 least.bottom.1) _ _
         (λ u v within inside. omega (arith, ints, within, inside))
 
 -- ---- cells that are the same at every x and y
@@ -125,10 +116,8 @@ first_stays old new sound grows first is = record {
 -- ---- one generation on
 
 -- no generation on
-pub first_tree : (next : List ℕ → ℕ) (nodes : List Node) (tree now : Tree) → now ≡ tree → IsStart nodes tree → IsLaterTree next (cell nodes tree) 0 nodes now
-first_tree next nodes tree now same is =
-    subst (IsLaterTree next (cell nodes tree) 0 nodes) (sym same)
-    (record { near = near_start nodes tree is; low = let low = is.low in omega (arith, low); trimmed = is.trimmed; shows = λ x y. refl })
+pub first_tree : (next : List ℕ → ℕ) (nodes : List Node) (tree : Tree) → IsStart nodes tree → IsLaterTree next (cell nodes tree) 0 nodes tree
+first_tree next nodes tree is = record { near = near_start nodes tree is; low = let low = is.low in omega (arith, low); trimmed = is.trimmed; shows = λ x y. refl }
 
 module _ (next : List ℕ → ℕ) (p : ℤ → ℤ → ℕ) (n : ℕ) (nodes : List Node) (now : Tree) (is : IsLaterTree next p n nodes now) where
   one_on : (x y : ℤ) → cells_after next (cell nodes now) 1 x y ≡ cells_after next p (n + 1) x y
@@ -186,7 +175,7 @@ pub no_step : (old new : ℕ) (stages : ℕ → ℤ → ℤ → ℕ) (limit : �
 no_step old new stages limit same level some holds = omega (arith, same)
 
 -- one
-pub one_step : (old new level : ℕ) → Takes old new 1 level 1 → new ≤ old + 14 ^ (level + 3)
+pub one_step : (old new level : ℕ) → TakesRun old new level 1 → new ≤ old + 14 ^ (level + 3)
 one_step old new level takes =
     let most = takes 1 (omega arith) in
     let same : level + 1 + 2 ≡ level + 3 = omega arith in
@@ -196,14 +185,11 @@ one_step old new level takes =
 pub one_more_step : (old mid new : ℕ) (stages : ℕ → ℤ → ℤ → ℕ) (limit n : ℕ) (nodes : List Node) (tree : Tree) → IsTrimmed nodes tree → ((x y : ℤ) → cell nodes tree x y ≡ stages n x y)
     → n < limit → TakesSteps old mid stages limit n → new ≤ mid + 14 ^ (tree.level + 3) → TakesSteps old new stages limit (n + 1)
 one_more_step old mid new stages limit n nodes tree trimmed shows less before takes level some holds =
-    elim (below_or_not level tree.level) [
-      | inl low ↦ absurd (trimmed level some low (λ x y live. holds n less x y (λ none. live (shows x y ∙ none))))
-      | inr high ↦
-          let most = before level some holds in
-          let power = power_more (tree.level + 3) (level + 3) (omega (arith, high)) in
-          let sum : (n + 1) * 14 ^ (level + 3) ≡ n * 14 ^ (level + 3) + 14 ^ (level + 3) = omega arith in
-          omega (arith, most, power, sum, takes)
-    ]
+    let high = trimmed_low nodes tree (stages n) level some trimmed shows (holds n less) in
+    let most = before level some holds in
+    let power = power_more (tree.level + 3) (level + 3) (omega (arith, high)) in
+    let sum : (n + 1) * 14 ^ (level + 3) ≡ n * 14 ^ (level + 3) + 14 ^ (level + 3) = omega arith in
+    omega (arith, most, power, sum, takes)
 
 -- more may be allowed
 pub fewer_steps : (old new : ℕ) (stages : ℕ → ℤ → ℤ → ℕ) (limit n : ℕ) → n ≤ limit → TakesSteps old new stages limit n → TakesSteps old new stages limit limit
@@ -217,6 +203,13 @@ pub last_step : (old mid new : ℕ) (stages : ℕ → ℤ → ℤ → ℕ) (limi
     → n < limit → TakesSteps old mid stages limit n → new ≤ mid + 14 ^ (tree.level + 3) → TakesSteps old new stages limit limit
 last_step old mid new stages limit n nodes tree trimmed shows less before takes =
     fewer_steps old new stages limit (n + 1) (omega (arith, less)) (one_more_step old mid new stages limit n nodes tree trimmed shows less before takes)
+
+-- a run of some generations
+pub some_run : (old new level n : ℕ) → (n ≡ 0 → ⊥) → Takes old new 1 level n → TakesRun old new level n
+some_run old new level zero some takes = absurd (some refl)
+some_run old new level (suc n) some takes = λ digits short.
+    let most = takes digits short in
+    omega (arith, most)
 
 -- a run, and steps from there
 pub run_then_steps : (next : List ℕ → ℕ) (p : ℤ → ℤ → ℕ) (old mid new level n limit : ℕ) (nodes : List Node) (start : Tree) → IsLaterTree next p n nodes start

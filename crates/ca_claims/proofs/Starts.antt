@@ -1,7 +1,6 @@
 -- Trees of planes that are looked at, and what their planes show some generations on.
 use Rattle.std.proofs.Common.{◌≡◌, ◌≢◌, ℕ, ◌≤◌, ◌^◌, List, sym, ◌∙◌, inl, inr, arith}
 use Rattle.std.specs.Prelude.{ℤ, pos, neg_ℤ, ◌+ℤ◌, ◌≤ℤ◌, replicate}
-use Rattle.std.proofs.lemmas.Bool.{cases_eq, cases_order}
 use Rattle.std.proofs.lemmas.Int.{ints}
 use Rattle.ca_plane.specs.Plane.{Picture}
 use Rattle.ca_plane.specs.Plane as plane
@@ -10,30 +9,19 @@ use Rattle.ca_quad.specs.declared.node.Node.{Node}
 use Rattle.ca_quad.specs.declared.tree.Tree.{Tree}
 use Rattle.ca_quad.specs.Sound.{IsSoundStore, Grows}
 use Rattle.ca_quad.specs.Trees.{cell}
-use Rattle.ca_quad.specs.Trimmed.{IsWithinLevel, IsTrimmed, HoldsAll}
+use Rattle.ca_quad.specs.Trimmed.{IsTrimmed, HoldsAll}
 use Rattle.ca_quad.proofs.Cells.{of_stays}
 use Rattle.ca_quad.proofs.Trims.{trees_stay}
 use Rattle.ca_macro.specs.Pattern.{AreInRange}
-use Rattle.ca_run.specs.Later.{IsWithin}
-use Rattle.ca_run.proofs.After.{after_dead, after_same}
+use Rattle.ca_run.proofs.After.{after_same}
 use Rattle.ca_claims.specs.inner.Stages.{IsNear, IsStart, IsLaterTree}
 use Rattle.ca_claims.specs.inner.Subjects.{ShowsTree, IsPattern, IsNearTree}
-use Rattle.ca_claims.proofs.Corners.{not_above}
-use Rattle.ca_claims.proofs.LaterPlanes.{later_holds}
+use Rattle.ca_claims.proofs.Held.{held_near, later_held, trimmed_low}
+use Rattle.ca_claims.proofs.LaterPlanes.{later_holds, later_is_low}
 
 -- such a tree has no live cell outside the square of a plane
 pub near_start : (nodes : List Node) (tree : Tree) → IsStart nodes tree → IsNearTree nodes tree
-near_start nodes tree is = record {
-  is_tree = is.is_tree;
-  low = let low = is.low in omega (arith, low);
-  near = λ x y out.
-      elim (cases_eq (cell nodes tree x y) 0) [
-        | inl none ↦ none
-        | inr live ↦
-            let here = is.within x y live in
-            absurd (out (omega (arith, ints, here), omega (arith, ints, here), omega (arith, ints, here), omega (arith, ints, here)))
-      ];
-}
+near_start nodes tree is = record { is_tree = is.is_tree; low = let low = is.low in omega (arith, low); near = held_near (cell nodes tree) 62 (omega arith) is.within }
 
 -- that of a pattern is one
 pub pattern_start : (nodes : List Node) (tree : Tree) → IsPattern nodes tree → IsStart nodes tree
@@ -46,22 +34,21 @@ pattern_start nodes tree is = record {
       ((omega (arith, ints, here), omega (arith, ints, here)), (omega (arith, ints, here), omega (arith, ints, here)));
 }
 
--- and so is that of its plane, some generations on
+-- so neither has that
+pub near_pattern : (nodes : List Node) (tree : Tree) → IsPattern nodes tree → IsNearTree nodes tree
+near_pattern nodes tree is = near_start nodes tree (pattern_start nodes tree is)
+
+-- that of its plane, some generations on, is such a tree too
 pub later_start : (next : List ℕ → ℕ) (p : ℤ → ℤ → ℕ) (n : ℕ) (nodes : List Node) (tree : Tree) → next (replicate 9 0) ≡ 0 → AreInRange p → n ≤ 2 ^ 60
     → IsLaterTree next p n nodes tree → IsStart nodes tree
-later_start next p n nodes tree quiet range few is = record {
-  is_tree = is.near.is_tree;
-  low = elim (cases_order tree.level 63) [
-    | inl low ↦ omega (arith, low)
-    | inr (inl same) ↦ omega (arith, same)
-    | inr (inr high) ↦ absurd (is.trimmed 62 (omega arith) (omega (arith, high)) within)
-  ];
-  trimmed = is.trimmed;
-  within = within;
-}
-  where
-    within : HoldsAll 62 (cell nodes tree)
-    within x y live = later_holds next p n quiet range few x y (λ none. live (is.shows x y ∙ none))
+later_start next p n nodes tree quiet range few is =
+    let low = later_is_low next p n quiet range few nodes tree is.trimmed is.shows in
+    record {
+      is_tree = is.near.is_tree;
+      low = omega (arith, low);
+      trimmed = is.trimmed;
+      within = λ x y live. later_holds next p n quiet range few x y (λ none. live (is.shows x y ∙ none));
+    }
 
 -- one stays such a tree
 pub start_stays : (old new : List Node) → IsSoundStore old → Grows old new → (tree : Tree) → IsStart old tree → IsStart new tree
@@ -77,40 +64,17 @@ start_stays old new sound grows tree is =
 -- ---- what its plane shows some generations on
 
 module _ (next : List ℕ → ℕ) (p : ℤ → ℤ → ℕ) (n : ℕ) (quiet : next (replicate 9 0) ≡ 0) (within : HoldsAll 62 p) (few : n ≤ 2 ^ 61) where
-  -- what holds where a cell that was live at first is within n of one that lives later
-  live_near : (x y : ℤ) → cells_after next p n x y ≢ 0 → (a b : ℤ) → ((u v : ℤ) → IsWithin n x y u v → IsWithinLevel 62 u × IsWithinLevel 62 v → a ≤ℤ b) → a ≤ℤ b
-  live_near x y live a b tells =
-      not_above a b (λ out. live (after_dead next p quiet n x y (λ u v here.
-      elim (cases_eq (p u v) 0) [
-        | inl none ↦ none
-        | inr alive ↦ absurd (out (tells u v here (within u v alive)))
-      ])))
-
   -- the live cells lie in a square of 2^63 cells a side
   start_holds : HoldsAll 63 (cells_after next p n)
-  start_holds x y live =
-      let west : neg_ℤ (pos (2 ^ 62)) ≤ℤ x = live_near x y live _ _ (λ u v here at. omega (arith, ints, few, here, at)) in
-      let east : (x +ℤ pos 1) ≤ℤ pos (2 ^ 62) = live_near x y live _ _ (λ u v here at. omega (arith, ints, few, here, at)) in
-      let north : neg_ℤ (pos (2 ^ 62)) ≤ℤ y = live_near x y live _ _ (λ u v here at. omega (arith, ints, few, here, at)) in
-      let south : (y +ℤ pos 1) ≤ℤ pos (2 ^ 62) = live_near x y live _ _ (λ u v here at. omega (arith, ints, few, here, at)) in
-      ((west, omega (arith, ints, east)), (north, omega (arith, ints, south)))
+  start_holds = later_held next p n quiet 62 63 (omega (arith, few)) within
 
   -- so none lies outside the square of a plane
   pub start_near : IsNear (cells_after next p n)
-  start_near x y out = elim (cases_eq (cells_after next p n x y) 0) [
-    | inl none ↦ none
-    | inr live ↦
-        let here = start_holds x y live in
-        absurd (out (omega (arith, ints, here), omega (arith, ints, here), omega (arith, ints, here), omega (arith, ints, here)))
-  ]
+  start_near = held_near (cells_after next p n) 63 (omega arith) start_holds
 
   -- and a tree of the least level that shows them is a low one
   pub start_is_low : (nodes : List Node) (tree : Tree) → IsTrimmed nodes tree → ((x y : ℤ) → cell nodes tree x y ≡ cells_after next p n x y) → tree.level ≤ 63
-  start_is_low nodes tree trimmed shows = elim (cases_order tree.level 63) [
-    | inl low ↦ omega (arith, low)
-    | inr (inl same) ↦ omega (arith, same)
-    | inr (inr high) ↦ absurd (trimmed 63 (omega arith) high (λ x y live. start_holds x y (λ none. live (shows x y ∙ none))))
-  ]
+  start_is_low nodes tree trimmed shows = trimmed_low nodes tree (cells_after next p n) 63 (omega arith) trimmed shows start_holds
 
 -- ---- pictures
 

@@ -1,16 +1,12 @@
 -- Patterns that are written in another form or summed up, from their files.
-use Rattle.std.proofs.Common.{◌≡◌, ℕ, ◌≤◌, List, None, Result, Ok, Err, refl, sym, subst, ◌∙◌, inl, inr, arith}
+use Rattle.std.proofs.Common.{◌≡◌, ℕ, List, None, Result, Ok, Err, refl, sym, subst, ◌∙◌, arith}
 use Rattle.std.specs.Prelude.{ℤ}
 use Rattle.std.specs.Result.{IfOk, IfErr}
-use Rattle.std.proofs.lemmas.Bool.{cases_order}
 use Rattle.ca_plane.specs.Plane.{cell}
 use Rattle.ca_quad.specs.declared.node.Node.{Node}
-use Rattle.ca_quad.specs.declared.tree.Tree.{Tree}
 use Rattle.ca_quad.specs.Trees as trees
-use Rattle.ca_quad.specs.Trimmed.{IsTrimmed}
 use Rattle.ca_rule.specs.TableNext.{TableRule}
 use Rattle.ca_rule.specs.Rule.{RuleValue, NamesRule}
-use Rattle.ca_macro.specs.Pattern.{AreInRange}
 use Rattle.ca_claims.specs.declared.pattern.Loaded.{Loaded}
 use Rattle.ca_claims.specs.declared.pattern.Summary.{Summary}
 use Rattle.ca_claims.specs.declared.ruled.Ruled.{Ruled}
@@ -18,7 +14,7 @@ use Rattle.ca_claims.specs.declared.format.Format.{Format}
 use Rattle.ca_claims.specs.declared.conversion.ConvertFault.{ConvertFault}
 use Rattle.ca_claims.specs.declared.conversion.ConvertFault.TheVariants.{BadPattern, BadRule, StateTooLarge, TooManyCells, Memory}
 use Rattle.ca_claims.specs.Means.{format_of, HoldsRuledPattern}
-use Rattle.ca_claims.specs.Answers.{HasSmallStates}
+use Rattle.ca_claims.specs.Ahead.{Begins}
 use Rattle.ca_claims.specs.declared.refused.Refused.{Refused}
 use Rattle.ca_claims.specs.Refused.{IsDetailOf, HasDetail}
 use Rattle.ca_claims.specs.Converted.{IsConverted, IsSummary, IsConvertFault}
@@ -26,30 +22,33 @@ use Rattle.ca_claims.specs.inner.Glance.{IsTold}
 use Rattle.ca_claims.specs.inner.Patterns.{IsReadFrom, rule_of}
 use Rattle.ca_claims.specs.inner.Ready.{IsReady, HoldsCells, IsWrittenAs, AreUnwritten, with_no_detail}
 use Rattle.ca_claims.specs.inner.Subjects.{IsPattern}
+use Rattle.ca_claims.proofs.Held.{range_held, trimmed_low}
 use Rattle.ca_claims.proofs.PatternsRead.{wanted}
 use Rattle.ca_claims.proofs.Shown.{small_shown, many_shown, population_shown}
 
--- a tree of the least level whose live cells are in range has a low level
-level_is_low : (nodes : List Node) (tree : Tree) → IsTrimmed nodes tree → AreInRange (trees.cell nodes tree) → tree.level ≤ 63
-level_is_low nodes tree trimmed range = elim (cases_order tree.level 61) [
-  | inl low ↦ omega (arith, low)
-  | inr (inl same) ↦ omega (arith, same)
-  | inr (inr high) ↦ absurd (trimmed 61 (omega arith) high (λ x y live. let at = range x y live in ((at.0, at.1), (at.2, at.3))))
-]
-
--- so one that is read from a file is that of a pattern
+-- the tree that is read from a file is that of a pattern
 pub read_pattern : (nodes : List Node) (bytes : List ℕ) (pattern : Loaded) → IsReadFrom nodes bytes pattern → IsPattern nodes pattern.tree
-read_pattern nodes bytes pattern read = record { is_tree = read.loaded.tree; low = level_is_low nodes pattern.tree read.loaded.trimmed read.range; trimmed = read.loaded.trimmed; range = read.range }
+read_pattern nodes bytes pattern read =
+    let cells = trees.cell nodes pattern.tree in
+    let low = trimmed_low nodes pattern.tree cells 61 (omega arith) read.loaded.trimmed (λ x y. refl) (range_held cells read.range) in
+    record { is_tree = read.loaded.tree; low = omega (arith, low); trimmed = read.loaded.trimmed; range = read.range }
 
 -- a file holds the pattern that was read of it, with the rule that its rule text names
 pub holds_ruled : (nodes : List Node) (bytes : List ℕ) (tables : List TableRule) (ruled : Ruled) (read : IsReadFrom nodes bytes ruled.pattern) → NamesRule ruled.pattern.rule_text.items tables (rule_of ruled)
     → HoldsRuledPattern bytes tables read.cells (rule_of ruled) ruled.pattern.generation
 holds_ruled nodes bytes tables ruled read names = record { rule_text = ruled.pattern.rule_text.items; holds = read.loaded.holds; names = names }
 
--- so it is a file of the tree's cells
-pub ready_file : (nodes : List Node) (bytes : List ℕ) (tables : List TableRule) (ruled : Ruled) → IsReady nodes bytes tables ruled → HoldsCells bytes tables (trees.cell nodes ruled.pattern.tree) (rule_of ruled) ruled.pattern.generation
-ready_file nodes bytes tables ruled ready =
-    record { picture = ready.read.cells; holds = holds_ruled nodes bytes tables ruled ready.read ready.names; shows = ready.read.loaded.shows; small = ready.small }
+module _ (nodes : List Node) (bytes : List ℕ) (tables : List TableRule) (ruled : Ruled) (ready : IsReady nodes bytes tables ruled) where
+  -- which has the cells that its tree shows
+  pub file_begins : Begins bytes tables ready.read.cells (rule_of ruled) ruled.pattern.generation
+  file_begins = record {
+    holds = holds_ruled nodes bytes tables ruled ready.read ready.names;
+    small = small_shown (trees.cell nodes ruled.pattern.tree) (cell ready.read.cells) ready.read.loaded.shows (rule_of ruled) ready.small;
+  }
+
+  -- so it is a file of the tree's cells
+  pub ready_file : HoldsCells bytes tables (trees.cell nodes ruled.pattern.tree) (rule_of ruled) ruled.pattern.generation
+  ready_file = record { picture = ready.read.cells; begins = file_begins; shows = ready.read.loaded.shows }
 
 -- no more is known of why it isn't written
 pub undetailed : (bytes : List ℕ) (f : ℤ → ℤ → ℕ) (target : Format) (fault : ConvertFault) → AreUnwritten target f fault → IsDetailOf bytes fault None None
@@ -60,16 +59,13 @@ undetailed bytes f target TooManyCells h = (refl, refl)
 undetailed bytes f target Memory h = (refl, refl)
 
 module _ (bytes : List ℕ) (tables : List TableRule) (f : ℤ → ℤ → ℕ) (rule : RuleValue) (generation : ℕ) (file : HoldsCells bytes tables f rule generation) where
-  small : HasSmallStates rule (cell file.picture)
-  small = small_shown f (cell file.picture) file.shows rule file.small
-
   -- why it isn't written is why its file isn't converted
   unwritten : (target : Format) (fault : ConvertFault) → AreUnwritten target f fault → IsConvertFault bytes tables target fault
   unwritten target (BadPattern fault) h = absurd h
   unwritten target (BadRule fault) h = absurd h
   unwritten target StateTooLarge h = absurd h
-  unwritten target TooManyCells h = (h.0, file.picture, rule, generation, file.holds, small, many_shown f (cell file.picture) file.shows h.1)
-  unwritten target Memory h = wanted bytes file.holds.holds.readable
+  unwritten target TooManyCells h = (h.0, file.picture, rule, generation, file.begins.holds, file.begins.small, many_shown f (cell file.picture) file.shows h.1)
+  unwritten target Memory h = wanted bytes file.begins.holds.holds.readable
 
   pub refused : (A : Type 0) (target : Format) (r : Result A ConvertFault) (w : Result A (Refused ConvertFault)) → w ≡ with_no_detail r → IfErr r (AreUnwritten target f)
       → IfErr w (λ k. IsConvertFault bytes tables target k.fault)
@@ -86,8 +82,8 @@ module _ (bytes : List ℕ) (tables : List TableRule) (f : ℤ → ℤ → ℕ) 
     cells = file.picture;
     rule = rule;
     generation = generation;
-    holds = file.holds;
-    small = small;
+    holds = file.begins.holds;
+    small = file.begins.small;
     shown = written.shown;
     same = λ x y. sym (file.shows x y) ∙ written.same x y;
     format = written.format;
@@ -105,8 +101,8 @@ module _ (bytes : List ℕ) (tables : List TableRule) (f : ℤ → ℤ → ℕ) 
   summed_up summary told = record {
     cells = file.picture;
     rule = rule;
-    holds = subst (HoldsRuledPattern bytes tables file.picture rule) (sym told.generation_is) file.holds;
-    small = small;
+    holds = subst (HoldsRuledPattern bytes tables file.picture rule) (sym told.generation_is) file.begins.holds;
+    small = file.begins.small;
     kind = told.kind_is;
     printed = told.printed;
     population = population_shown f (cell file.picture) file.shows summary.cells told.population;

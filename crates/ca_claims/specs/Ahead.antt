@@ -12,7 +12,7 @@ use Rattle.ca_rule.specs.TableNext.{TableRule}
 use Rattle.ca_rule.specs.Rule.{RuleValue, rule_value, states_of, next_of, printed_form}
 use Rattle.ca_claims.specs.declared.format.Format.{Format}
 use Rattle.ca_claims.specs.declared.format.Format.TheVariants.{Rle}
-use Rattle.ca_claims.specs.declared.conversion.ConvertFault.TheVariants.{BadPattern, BadRule, StateTooLarge, TooManyCells, Memory}
+use Rattle.ca_claims.specs.declared.conversion.ConvertFault.TheVariants.{TooManyCells}
 use Rattle.ca_claims.specs.declared.pattern.Summary.{Summary}
 use Rattle.ca_claims.specs.declared.reached.Reached.{Reached}
 use Rattle.ca_claims.specs.declared.reached.ReachFault.{ReachFault}
@@ -93,14 +93,9 @@ HasCellOutOfRange cells = (x : ℤ) × (y : ℤ) × (cells x y ≢ 0) × (IsInRa
 -- the first reason for which the plane n generations on isn't written: it isn't reached; or a live cell is out of range then; or more cells are live
 -- than an RLE may have
 abbrev pub IsConvertFaultAfter : List ℕ → List TableRule → (n work : ℕ) → Format → ReachFault → Type 0
-IsConvertFaultAfter bytes tables n work target (Convert (BadPattern fault)) = IsReachFault bytes tables n work (Convert (BadPattern fault))
-IsConvertFaultAfter bytes tables n work target (Convert (BadRule fault)) = IsReachFault bytes tables n work (Convert (BadRule fault))
-IsConvertFaultAfter bytes tables n work target (Convert StateTooLarge) = IsReachFault bytes tables n work (Convert StateTooLarge)
 IsConvertFaultAfter bytes tables n work target (Convert TooManyCells) = (target ≡ Rle) × (cells : Picture) × (rule : RuleValue) × (generation : ℕ)
     × Begins bytes tables cells rule generation × (generation + n < generation_limit)
     × AreInRange (after (next_of rule) cells n) × HasTooManyCells (after (next_of rule) cells n)
-IsConvertFaultAfter bytes tables n work target (Convert Memory) = IsReachFault bytes tables n work (Convert Memory)
-IsConvertFaultAfter bytes tables n work target GenTooLarge = IsReachFault bytes tables n work GenTooLarge
-IsConvertFaultAfter bytes tables n work target Work = IsReachFault bytes tables n work Work
 IsConvertFaultAfter bytes tables n work target Range = (cells : Picture) × (rule : RuleValue) × (generation : ℕ)
     × Begins bytes tables cells rule generation × (generation + n < generation_limit) × HasCellOutOfRange (after (next_of rule) cells n)
+IsConvertFaultAfter bytes tables n work target fault = IsReachFault bytes tables n work fault

@@ -66,9 +66,6 @@ IsSummaryFault bytes tables Memory = MayWantMemory bytes
 
 -- the first reason for which the bytes aren't converted: one of those, or more live cells than an RLE may have
 abbrev pub IsConvertFault : List ℕ → List TableRule → Format → ConvertFault → Type 0
-IsConvertFault bytes tables target (BadPattern fault) = IsSummaryFault bytes tables (BadPattern fault)
-IsConvertFault bytes tables target (BadRule fault) = IsSummaryFault bytes tables (BadRule fault)
-IsConvertFault bytes tables target StateTooLarge = IsSummaryFault bytes tables StateTooLarge
 IsConvertFault bytes tables target TooManyCells = (target ≡ Rle) × (cells : Picture) × (rule : RuleValue) × (generation : ℕ)
     × HoldsRuledPattern bytes tables cells rule generation × HasSmallStates rule (cell cells) × HasTooManyCells (cell cells)
-IsConvertFault bytes tables target Memory = IsSummaryFault bytes tables Memory
+IsConvertFault bytes tables target fault = IsSummaryFault bytes tables fault

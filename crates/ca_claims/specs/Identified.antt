@@ -15,11 +15,12 @@ use Rattle.ca_claims.specs.declared.identity.Identity.TheVariants.{Empty, StillL
 use Rattle.ca_claims.specs.declared.identity.Growth.{Growth}
 use Rattle.ca_claims.specs.declared.identity.Unidentified.{Unidentified}
 use Rattle.ca_claims.specs.declared.verdict.Cause.{Cause}
-use Rattle.ca_claims.specs.declared.verdict.Cause.TheVariants.{NoFile, BadTable, BadPattern, BadRule, StateTooLarge, MixedRules, TooManyCells, Work, Memory}
+use Rattle.ca_claims.specs.declared.verdict.Cause.TheVariants.{BadPattern, BadRule, StateTooLarge, Work, Memory}
 use Rattle.ca_claims.specs.Text.{HasGoodNumbers}
 use Rattle.ca_claims.specs.Truth.{asks_of, IsTrueClaim}
 use Rattle.ca_claims.specs.Means.{HoldsRuleText, HoldsRuledPattern, HasRuleFault, MayWantMemory}
-use Rattle.ca_claims.specs.Answers.{IsPatternFaultOn, HasLargeState, HasSmallStates}
+use Rattle.ca_claims.specs.Answers.{IsPatternFaultOn, HasLargeState}
+use Rattle.ca_claims.specs.Ahead.{Begins}
 
 -- a claim of this kind is about one pattern alone
 abbrev pub IsOfOnePattern : Kind → Type 0
@@ -61,11 +62,9 @@ IsIdentity next cells limit (Unknown growth) = IsLive cells × HasNoTrueClaim ne
 abbrev pub IsIdentityAfter : (List ℕ → ℕ) → Picture → (n limit : ℕ) → Identity → Type 0
 IsIdentityAfter next cells n limit identity = (later : Picture) × IsAfter next cells n later × IsIdentity next later limit identity
 
--- the bytes are a file whose pattern has these cells, of small states, under the rule that its rule text names
-pub record HoldsSmallPattern (bytes : List ℕ) (tables : List TableRule) (cells : Picture) (rule : RuleValue) : Type 0 where
-  pub generation : ℕ
-  pub holds : HoldsRuledPattern bytes tables cells rule generation
-  pub small : HasSmallStates rule (cell cells)
+-- the bytes are a file whose pattern has these cells, of small states, under the rule that its rule text names, at some generation
+abbrev pub HoldsSmallPattern : List ℕ → List TableRule → Picture → RuleValue → Type 0
+HoldsSmallPattern bytes tables cells rule = (generation : ℕ) × Begins bytes tables cells rule generation
 
 -- it is that of the cells that the file means under its rule
 abbrev pub IsIdentified : List ℕ → List TableRule → (limit : ℕ) → Identity → Type 0
@@ -96,17 +95,14 @@ MayNeedWorkAfter work n stages limit = (start digits level : ℕ) → 1 ≤ star
 -- aren't read, or their rule text names no rule, or a state is too large, or work is out. Out of memory may come before any of them, where
 -- memory may run out for the bytes
 abbrev pub IsUnidentifiedFor : List ℕ → List TableRule → (work limit : ℕ) → Cause → Option ℕ → Type 0
-IsUnidentifiedFor bytes tables work limit NoFile line = ⊥
-IsUnidentifiedFor bytes tables work limit (BadTable fault) line = ⊥
 IsUnidentifiedFor bytes tables work limit (BadPattern fault) line = IsPatternFaultOn bytes fault line
 IsUnidentifiedFor bytes tables work limit (BadRule fault) line = (line ≡ None) × HasRuleFault bytes tables fault
 IsUnidentifiedFor bytes tables work limit StateTooLarge line = (line ≡ None) × (cells : Picture) × (rule : RuleValue) × (generation : ℕ)
     × HoldsRuledPattern bytes tables cells rule generation × HasLargeState rule (cell cells)
-IsUnidentifiedFor bytes tables work limit MixedRules line = ⊥
-IsUnidentifiedFor bytes tables work limit TooManyCells line = ⊥
 IsUnidentifiedFor bytes tables work limit Work line = (line ≡ None) × (cells : Picture) × (rule : RuleValue)
     × HoldsSmallPattern bytes tables cells rule × MayNeedWork work (after (next_of rule) cells) limit
 IsUnidentifiedFor bytes tables work limit Memory line = (line ≡ None) × MayWantMemory bytes
+IsUnidentifiedFor bytes tables work limit cause line = ⊥
 
 -- the rule text that comes with it: that of the bytes, where it names no rule
 abbrev pub IsTextOf : List ℕ → Cause → Option (Vec ℕ Global) → Type 0
@@ -120,16 +116,9 @@ IsUnidentified bytes tables work limit unidentified =
 
 -- the first reason for which it isn't found out what the plane of a pattern is n generations on: the same, but that the run to there takes work too
 abbrev pub IsUnidentifiedAfterFor : List ℕ → List TableRule → (work n limit : ℕ) → Cause → Option ℕ → Type 0
-IsUnidentifiedAfterFor bytes tables work n limit NoFile line = IsUnidentifiedFor bytes tables work limit NoFile line
-IsUnidentifiedAfterFor bytes tables work n limit (BadTable fault) line = IsUnidentifiedFor bytes tables work limit (BadTable fault) line
-IsUnidentifiedAfterFor bytes tables work n limit (BadPattern fault) line = IsUnidentifiedFor bytes tables work limit (BadPattern fault) line
-IsUnidentifiedAfterFor bytes tables work n limit (BadRule fault) line = IsUnidentifiedFor bytes tables work limit (BadRule fault) line
-IsUnidentifiedAfterFor bytes tables work n limit StateTooLarge line = IsUnidentifiedFor bytes tables work limit StateTooLarge line
-IsUnidentifiedAfterFor bytes tables work n limit MixedRules line = IsUnidentifiedFor bytes tables work limit MixedRules line
-IsUnidentifiedAfterFor bytes tables work n limit TooManyCells line = IsUnidentifiedFor bytes tables work limit TooManyCells line
 IsUnidentifiedAfterFor bytes tables work n limit Work line = (line ≡ None) × (cells : Picture) × (rule : RuleValue)
     × HoldsSmallPattern bytes tables cells rule × MayNeedWorkAfter work n (after (next_of rule) cells) limit
-IsUnidentifiedAfterFor bytes tables work n limit Memory line = IsUnidentifiedFor bytes tables work limit Memory line
+IsUnidentifiedAfterFor bytes tables work n limit cause line = IsUnidentifiedFor bytes tables work limit cause line
 
 abbrev pub IsUnidentifiedAfter : List ℕ → List TableRule → (work n limit : ℕ) → Unidentified → Type 0
 IsUnidentifiedAfter bytes tables work n limit unidentified =

@@ -2,9 +2,9 @@
 use Rattle.std.specs.Prelude.{◌≡◌, ℕ, List, Option, None, Some, Vec}
 use Rattle.std.specs.declared.alloc.Global.{Global}
 use Rattle.ca_claims.specs.declared.conversion.ConvertFault.{ConvertFault}
-use Rattle.ca_claims.specs.declared.conversion.ConvertFault.TheVariants.{BadPattern, BadRule, StateTooLarge, TooManyCells, Memory}
+use Rattle.ca_claims.specs.declared.conversion.ConvertFault.TheVariants.{BadPattern, BadRule}
 use Rattle.ca_claims.specs.declared.reached.ReachFault.{ReachFault}
-use Rattle.ca_claims.specs.declared.reached.ReachFault.TheVariants.{Convert, GenTooLarge, Work, Range}
+use Rattle.ca_claims.specs.declared.reached.ReachFault.TheVariants.{Convert}
 use Rattle.ca_claims.specs.declared.refused.Refused.{Refused}
 use Rattle.ca_claims.specs.Means.{HoldsRuleText}
 use Rattle.ca_claims.specs.Answers.{IsPatternFaultOn}
@@ -14,9 +14,7 @@ abbrev pub IsDetailOf : List ℕ → ConvertFault → Option ℕ → Option (Vec
 IsDetailOf bytes (BadPattern fault) line text = (text ≡ None) × IsPatternFaultOn bytes fault line
 IsDetailOf bytes (BadRule fault) line None = ⊥
 IsDetailOf bytes (BadRule fault) line (Some text) = (line ≡ None) × HoldsRuleText text.items bytes
-IsDetailOf bytes StateTooLarge line text = (line ≡ None) × (text ≡ None)
-IsDetailOf bytes TooManyCells line text = (line ≡ None) × (text ≡ None)
-IsDetailOf bytes Memory line text = (line ≡ None) × (text ≡ None)
+IsDetailOf bytes fault line text = (line ≡ None) × (text ≡ None)
 
 abbrev pub HasDetail : List ℕ → Refused ConvertFault → Type 0
 HasDetail bytes refused = IsDetailOf bytes refused.fault refused.line refused.rule_text
@@ -24,9 +22,7 @@ HasDetail bytes refused = IsDetailOf bytes refused.fault refused.line refused.ru
 -- the same of a fault for which a plane some generations on isn't reached
 abbrev pub IsReachDetailOf : List ℕ → ReachFault → Option ℕ → Option (Vec ℕ Global) → Type 0
 IsReachDetailOf bytes (Convert fault) line text = IsDetailOf bytes fault line text
-IsReachDetailOf bytes GenTooLarge line text = (line ≡ None) × (text ≡ None)
-IsReachDetailOf bytes Work line text = (line ≡ None) × (text ≡ None)
-IsReachDetailOf bytes Range line text = (line ≡ None) × (text ≡ None)
+IsReachDetailOf bytes fault line text = (line ≡ None) × (text ≡ None)
 
 abbrev pub HasReachDetail : List ℕ → Refused ReachFault → Type 0
 HasReachDetail bytes refused = IsReachDetailOf bytes refused.fault refused.line refused.rule_text

@@ -4,7 +4,6 @@ ghost use Rattle.std.specs.Prelude.{◌≡◌, ◌≤◌, ◌<◌, ◌+◌, ℤ,
 ghost use Rattle.ca_plane.specs.Bytes.{IsWord};
 ghost use Rattle.ca_plane.specs.Limits.{generation_limit};
 ghost use Rattle.ca_quad.specs.Trees.{cell};
-ghost use Rattle.ca_rule.specs.Rule.{rule_value};
 ghost use Rattle.ca_run.specs.Leaping.{LeaperGrows, EndsAtLimit};
 ghost use Rattle.ca_claims.specs.Ahead.{IsReached, IsReachFault, IsSummaryAfter, IsConvertedAfter};
 ghost use Rattle.ca_claims.specs.Ahead.{IsConvertFaultAfter};
@@ -12,13 +11,12 @@ ghost use Rattle.ca_claims.specs.declared.reached.ReachFault.TheVariants.{Conver
 ghost use Rattle.ca_claims.specs.Limited.{AreGoodLimits};
 ghost use Rattle.ca_claims.specs.Refused.{HasReachDetail};
 ghost use Rattle.ca_claims.specs.Text.{most_generations};
-ghost use Rattle.ca_claims.specs.inner.Ready.{IsWritableTree, IsWrittenAs, AreUnwritten};
 ghost use Rattle.ca_claims.specs.inner.Spending.{Takes};
 ghost use Rattle.ca_claims.specs.inner.Stages.{IsLaterTree};
 ghost use Rattle.ca_claims.specs.inner.Subjects.{IsPattern};
 
 use crate::cells::are_in_range;
-use crate::conversion::{ConvertFault, macro_of, rle_of_tree};
+use crate::conversion::{ConvertFault, text_of_tree};
 use crate::decide::tree_after;
 use crate::format::Format;
 use crate::glance::sum_up;
@@ -163,13 +161,19 @@ pub fn convert_after<O: Observer>(
         (λ refused. IsConvertFaultAfter bytes.now tables.now generations limits.work target refused.fault) }
     ensures detail { IfErr result (HasReachDetail bytes.now) }
 {
-    let reached = run_on(alloc, bytes, tables, generations, limits, observer)?;
-    match are_in_range(alloc, &reached.store, reached.tree) {
+    let Reached {
+        mut store,
+        tree,
+        rule,
+        generation,
+        ..
+    } = run_on(alloc, bytes, tables, generations, limits, observer)?;
+    match are_in_range(alloc, &store, &tree) {
         Ok(true) => {}
         Ok(false) => return Err(Refused::of(ReachFault::Range)),
         Err(_) => return Err(Refused::of(OUT_OF_MEMORY)),
     }
-    match text_of(alloc, reached, target) {
+    match text_of_tree(alloc, &mut store, tree, &rule, generation, target) {
         Ok(text) => Ok(text),
         Err(fault) => Err(Refused::of(ReachFault::Convert(fault))),
     }
@@ -205,8 +209,7 @@ fn end_of<A: Automaton, O: Observer>(
     requires pattern { IsPattern leaper.old.nodes pattern.now }
     requires few { generations ≤ most_generations }
     ensures end { IfOk result (λ end. IsLaterTree (A.next_of leaper.old.rule)
-        (cell leaper.old.nodes pattern.now) generations end.store end.tree) }
-    ensures level { IfOk result (λ end. end.tree.level ≤ 62) }
+        (cell leaper.old.nodes pattern.now) generations end.store end.tree × (end.tree.level ≤ 62)) }
     ensures small { ((x y : ℤ) → cell leaper.old.nodes pattern.now x y < A.state_count leaper.old.rule)
         → IfOk result (λ end. (x y : ℤ) → cell end.store end.tree x y < A.state_count leaper.old.rule) }
     ensures goes_on { LeaperGrows A leaper.old leaper.new }
@@ -223,24 +226,4 @@ fn end_of<A: Automaton, O: Observer>(
     let copy = store.import(leaper.store(), end)?;
     let tree = store.trim(copy)?;
     Ok(End { store, tree })
-}
-
-/// The tidy text of what is reached, whose live cells are in range.
-fn text_of(alloc: Global, reached: Reached<'_>, target: Format) -> Result<Vec<u8>, ConvertFault>
-    requires { IsWritableTree reached.store reached.tree (rule_value reached.rule) reached.generation }
-    ensures written { IfOk result (λ text. IsWrittenAs target (cell reached.entry.store reached.entry.tree)
-        (rule_value reached.entry.rule) reached.entry.generation text.items) }
-    ensures fault { IfErr result (AreUnwritten target (cell reached.entry.store reached.entry.tree)) }
-{
-    let Reached {
-        mut store,
-        tree,
-        rule,
-        generation,
-        ..
-    } = reached;
-    match target {
-        Format::Rle => rle_of_tree(alloc, &store, tree, &rule, generation),
-        Format::Mc => macro_of(alloc, &mut store, tree, &rule, generation),
-    }
 }

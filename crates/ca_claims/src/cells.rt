@@ -8,29 +8,28 @@ ghost use Rattle.ca_plane.specs.Population.{HasFewCells, HasTooManyCells};
 ghost use Rattle.ca_rule.specs.Rule.{rule_value};
 ghost use Rattle.ca_claims.specs.Answers.{HasLargeState, HasSmallStates};
 ghost use Rattle.ca_claims.specs.Ahead.{HasCellOutOfRange};
+ghost use Rattle.ca_claims.specs.inner.Patterns.{ShowsLarge, ShowsSmall};
 ghost use Rattle.ca_claims.specs.inner.Cells.{IsBoxInRange, IsBoxOutOfRange, IsPlaneOf};
 
+use crate::ruled::Ruled;
 use ca_plane::limits::{MOST_CELLS, RANGE};
 use ca_plane::{Automaton, Memory, Plane};
 use ca_quad::{QuadFault, Store, Tree, WideBounds};
 use ca_rule::Rule;
 use std::alloc::Global;
 
-/// Whether some cell of the tree has a state that the rule doesn't have.
+/// Whether some cell of the pattern has a state that its rule doesn't have.
 pub(crate) fn has_large_state(
     alloc: Global,
     store: &Store,
-    tree: Tree,
-    rule: &Rule<'_>,
+    ruled: &Ruled<'_>,
 ) -> Result<bool, Memory>
-    requires { IsTree store.now tree }
-    ensures large { IfOk result
-        (λ large. IsTrue large → HasLargeState (rule_value rule.now) (cell store.now tree)) }
-    ensures small { IfOk result
-        (λ large. IsFalse large → HasSmallStates (rule_value rule.now) (cell store.now tree)) }
+    requires { IsTree store.now ruled.now.pattern.tree }
+    ensures large { IfOk result (λ large. IsTrue large → ShowsLarge store.now ruled.now) }
+    ensures small { IfOk result (λ large. IsFalse large → ShowsSmall store.now ruled.now) }
 {
-    let greatest = store.greatest_state(alloc, tree)?;
-    Ok(u16::from(greatest) >= rule.states())
+    let greatest = store.greatest_state(alloc, ruled.pattern.tree)?;
+    Ok(u16::from(greatest) >= ruled.rule.states())
 }
 
 /// Whether some cell of the plane has a state that the rule doesn't have.
@@ -59,12 +58,12 @@ pub(crate) fn has_too_many_cells(alloc: Global, store: &Store, tree: Tree) -> Re
 }
 
 /// Whether every live cell of the tree is where a file may have it.
-pub(crate) fn are_in_range(alloc: Global, store: &Store, tree: Tree) -> Result<bool, Memory>
-    requires { IsTree store.now tree }
-    ensures within { IfOk result (λ within. IsTrue within → AreInRange (cell store.now tree)) }
-    ensures out { IfOk result (λ within. IsFalse within → HasCellOutOfRange (cell store.now tree)) }
+pub(crate) fn are_in_range(alloc: Global, store: &Store, tree: &Tree) -> Result<bool, Memory>
+    requires { IsTree store.now tree.now }
+    ensures within { IfOk result (λ within. IsTrue within → AreInRange (cell store.now tree.now)) }
+    ensures out { IfOk result (λ within. IsFalse within → HasCellOutOfRange (cell store.now tree.now)) }
 {
-    match store.bounds(alloc, tree)? {
+    match store.bounds(alloc, *tree)? {
         Some(bounds) => Ok(is_in_range(bounds)),
         None => Ok(true),
     }

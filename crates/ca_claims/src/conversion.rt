@@ -4,7 +4,7 @@ ghost use Rattle.std.specs.Prelude.{◌≡◌, IfOk, IfErr};
 ghost use Rattle.ca_plane.specs.Plane.{cell as plane_cell};
 ghost use Rattle.ca_quad.specs.Trees.{cell};
 ghost use Rattle.ca_rule.specs.Rule.{rule_value};
-ghost use Rattle.ca_claims.specs.declared.format.Format.TheVariants.{Rle, Mc};
+ghost use Rattle.ca_claims.specs.declared.format.Format.TheVariants.{Rle};
 ghost use Rattle.ca_claims.specs.Converted.{IsConverted, IsConvertFault};
 ghost use Rattle.ca_claims.specs.Refused.{HasDetail};
 ghost use Rattle.ca_claims.specs.inner.Ready.{IsWritableTree, IsWritablePlane, IsWrittenAs, AreUnwritten};
@@ -84,48 +84,26 @@ pub fn convert_with_detail(
     ensures fault { IfErr result (λ refused. IsConvertFault bytes.now tables.now target refused.fault) }
     ensures detail { IfErr result (HasDetail bytes.now) }
 {
-    match target {
-        Format::Rle => to_rle(alloc, bytes, tables),
-        Format::Mc => to_macro(alloc, bytes, tables),
-    }
-}
-
-/// The tidy RLE that a file is converted to. An RLE is written from the plane of its cells, without squares.
-fn to_rle(alloc: Global, bytes: &[u8], tables: &[Table]) -> Result<Vec<u8>, Refused<ConvertFault>>
-    ensures converted { IfOk result (λ text. IsConverted bytes.now tables.now Rle text.items) }
-    ensures fault { IfErr result (λ refused. IsConvertFault bytes.now tables.now Rle refused.fault) }
-    ensures detail { IfErr result (HasDetail bytes.now) }
-{
-    match format_of(bytes) {
-        Format::Rle => {
+    match (format_of(bytes), target) {
+        // An RLE is written as RLE from the plane of its cells, without squares.
+        (Format::Rle, Format::Rle) => {
             let ruled = read_ruled_plane(alloc, bytes, tables)?;
             written(rle_of_plane(alloc, &ruled.cells, &ruled.rule, ruled.generation))
         }
-        Format::Mc => {
+        _ => {
             let mut store = Store::new(alloc);
             let ruled = read_ruled(alloc, &mut store, bytes, tables)?;
             let pattern = &ruled.pattern;
-            written(rle_of_tree(alloc, &store, pattern.tree, &ruled.rule, pattern.generation))
+            written(text_of_tree(
+                alloc,
+                &mut store,
+                pattern.tree,
+                &ruled.rule,
+                pattern.generation,
+                target,
+            ))
         }
     }
-}
-
-/// The tidy macrocell that a file is converted to.
-fn to_macro(alloc: Global, bytes: &[u8], tables: &[Table]) -> Result<Vec<u8>, Refused<ConvertFault>>
-    ensures converted { IfOk result (λ text. IsConverted bytes.now tables.now Mc text.items) }
-    ensures fault { IfErr result (λ refused. IsConvertFault bytes.now tables.now Mc refused.fault) }
-    ensures detail { IfErr result (HasDetail bytes.now) }
-{
-    let mut store = Store::new(alloc);
-    let ruled = read_ruled(alloc, &mut store, bytes, tables)?;
-    let pattern = &ruled.pattern;
-    written(macro_of(
-        alloc,
-        &mut store,
-        pattern.tree,
-        &ruled.rule,
-        pattern.generation,
-    ))
 }
 
 /// What is written, or why nothing is.
@@ -159,44 +137,34 @@ fn rle_of_plane(
     }
 }
 
-/// The tidy RLE of a tree, where it hasn't too many cells.
-pub(crate) fn rle_of_tree(
-    alloc: Global,
-    store: &Store,
-    tree: Tree,
-    rule: &Rule<'_>,
-    generation: u64,
-) -> Result<Vec<u8>, ConvertFault>
-    requires { IsWritableTree store.now tree (rule_value rule.now) generation }
-    ensures written { IfOk result (λ text.
-        IsWrittenAs Rle (cell store.now tree) (rule_value rule.now) generation text.items) }
-    ensures fault { IfErr result (AreUnwritten Rle (cell store.now tree)) }
-{
-    match plane_of(alloc, store, tree) {
-        Ok(Some(cells)) => rle_of_plane(alloc, &cells, rule, generation),
-        Ok(None) => Err(ConvertFault::TooManyCells),
-        Err(_) => Err(ConvertFault::Memory),
-    }
-}
-
-/// The tidy macrocell of a tree.
-pub(crate) fn macro_of(
+/// The tidy text of the target's format with the cells of a tree, where they aren't too many for it.
+pub(crate) fn text_of_tree(
     alloc: Global,
     store: &mut Store,
     tree: Tree,
     rule: &Rule<'_>,
     generation: u64,
+    target: Format,
 ) -> Result<Vec<u8>, ConvertFault>
     requires { IsWritableTree store.old tree (rule_value rule.now) generation }
     ensures written { IfOk result (λ text.
-        IsWrittenAs Mc (cell store.old tree) (rule_value rule.now) generation text.items) }
-    ensures fault { IfErr result (AreUnwritten Mc (cell store.old tree)) }
+        IsWrittenAs target (cell store.old tree) (rule_value rule.now) generation text.items) }
+    ensures fault { IfErr result (AreUnwritten target (cell store.old tree)) }
 {
-    let Ok(rule_text) = rule.text(alloc) else {
-        return Err(ConvertFault::Memory);
-    };
-    match write_macro(alloc, store, tree, &rule_text, generation, rule.states()) {
-        Ok(text) => Ok(text),
-        Err(_) => Err(ConvertFault::Memory),
+    match target {
+        Format::Rle => match plane_of(alloc, store, tree) {
+            Ok(Some(cells)) => rle_of_plane(alloc, &cells, rule, generation),
+            Ok(None) => Err(ConvertFault::TooManyCells),
+            Err(_) => Err(ConvertFault::Memory),
+        },
+        Format::Mc => {
+            let Ok(rule_text) = rule.text(alloc) else {
+                return Err(ConvertFault::Memory);
+            };
+            match write_macro(alloc, store, tree, &rule_text, generation, rule.states()) {
+                Ok(text) => Ok(text),
+                Err(_) => Err(ConvertFault::Memory),
+            }
+        }
     }
 }

@@ -5,6 +5,8 @@ ghost use Rattle.std.specs.Prelude.{IfSome, IsTrue, IsFalse, MatchOption};
 ghost use Rattle.ca_plane.specs.Plane.{Picture, cell as plane_cell};
 ghost use Rattle.ca_plane.specs.Generations.{after, IsAfter};
 ghost use Rattle.ca_quad.specs.Boxes.{IsDead};
+ghost use Rattle.ca_quad.specs.Expanded.{HasCellOutsidePlane};
+ghost use Rattle.ca_quad.specs.Shifted.{shifted_cells};
 ghost use Rattle.ca_quad.specs.Trees.{cell};
 ghost use Rattle.ca_run.specs.Leaping.{LeaperGrows, EndsAtLimit};
 ghost use Rattle.ca_run.specs.declared.fault.LeapFault.TheVariants as leap_fault;
@@ -30,7 +32,7 @@ use ca_quad::{Spot, Store, Tree};
 use ca_run::{LeapFault, Leaper};
 use deaths::first_death;
 use returns::first_return;
-pub(crate) use returns::{distance, vector_if_same};
+pub(crate) use returns::{distance, vector_if_back};
 use std::alloc::Global;
 
 /// The trees that a claim is judged on.
@@ -157,7 +159,7 @@ fn find_wrong_cell<A: Automaton, O: Observer>(
     let generations = case.asks.generations;
     let end = tree_after(leaper, &case.subject.pattern, generations, observer)?;
     let wanted = claimed_tree(leaper, case)?;
-    find_difference(leaper, end, wanted, generations)
+    find_difference(leaper, &end, &wanted, generations)
 }
 
 // The tree of the claimed cells.
@@ -171,8 +173,8 @@ fn claimed_tree<A: Automaton>(leaper: &mut Leaper<A>, case: &Case) -> Result<Tre
 {
     let asks = case.asks;
     match asks.wanted {
-        Wanted::Own => moved_tree(leaper, copy(&case.subject.pattern), asks.dx, asks.dy),
-        Wanted::Other => moved_tree(leaper, copy(&case.subject.other), asks.dx, asks.dy),
+        Wanted::Own => moved_tree(leaper, case.subject.pattern, asks.dx, asks.dy),
+        Wanted::Other => moved_tree(leaper, case.subject.other, asks.dx, asks.dy),
         Wanted::NoCells => empty_tree(case.alloc, leaper),
     }
 }
@@ -191,15 +193,35 @@ fn moved_tree<A: Automaton>(
     ensures goes_on { LeaperGrows A leaper.old leaper.new }
     ensures spent { leaper.new.spent ≡ leaper.old.spent }
 {
+    let Some(moved) = moved_inside(leaper, pattern, dx, dy)? else {
+        unreachable!();
+    };
+    Ok(moved)
+}
+
+// A tree, moved by a vector, where no live cell leaves the square of a plane.
+fn moved_inside<A: Automaton>(
+    leaper: &mut Leaper<A>,
+    tree: Tree,
+    dx: i64,
+    dy: i64,
+) -> Result<Option<Tree>, Memory>
+    requires { IsNearTree leaper.old.nodes tree }
+    ensures moved { IfOk result (λ moved. MatchOption moved
+        (HasCellOutsidePlane (shifted_cells (cell leaper.old.nodes tree) dx dy))
+        (IsMoved leaper.old.nodes tree dx dy leaper.new.nodes)) }
+    ensures goes_on { LeaperGrows A leaper.old leaper.new }
+    ensures spent { leaper.new.spent ≡ leaper.old.spent }
+{
     // Says what holds of every leaper.
     let _ = leaper.store();
     if dx == 0 && dy == 0 {
-        return Ok(pattern);
+        return Ok(Some(tree));
     }
-    match leaper.shifted(pattern, dx, dy) {
-        Ok(moved) => Ok(moved),
+    match leaper.shifted(tree, dx, dy) {
+        Ok(moved) => Ok(Some(moved)),
         Err(MoveFault::Memory) => Err(Memory),
-        Err(MoveFault::Range) => unreachable!(),
+        Err(MoveFault::Range) => Ok(None),
     }
 }
 
@@ -211,16 +233,6 @@ fn empty_tree<A: Automaton>(alloc: Global, leaper: &mut Leaper<A>) -> Result<Tre
     ensures spent { leaper.new.spent ≡ leaper.old.spent }
 {
     leaper.load_plane(&Plane::new(alloc))
-}
-
-/// The same tree.
-pub(crate) fn copy(tree: &Tree) -> Tree
-    ensures { result ≡ tree.now }
-{
-    Tree {
-        root: tree.root,
-        level: tree.level,
-    }
 }
 
 // The tree some generations on.
@@ -241,38 +253,30 @@ pub(crate) fn tree_after<A: Automaton, O: Observer>(
     // Says what holds of every leaper.
     let _ = leaper.store();
     observer.goes_to(generations);
-    let end = leaper.advance_watched(copy(pattern), generations, observer)?;
+    let end = leaper.advance_watched(*pattern, generations, observer)?;
     Ok(end)
 }
 
 // Where one tree isn't as another one, if it isn't.
 fn find_difference<A: Automaton>(
     leaper: &mut Leaper<A>,
-    end: Tree,
-    wanted: Tree,
+    end: &Tree,
+    wanted: &Tree,
     gens: u64,
 ) -> Result<Option<Why>, LeapFault>
-    requires end { IsNearTree leaper.old.nodes end }
-    requires wanted { IsNearTree leaper.old.nodes wanted }
+    requires end { IsNearTree leaper.old.nodes end.now }
+    requires wanted { IsNearTree leaper.old.nodes wanted.now }
     ensures difference { IfOk result (λ why. MatchOption why
-        ((x y : ℤ) → cell leaper.old.nodes end x y ≡ cell leaper.old.nodes wanted x y)
-        (IsDifference (cell leaper.old.nodes end) (cell leaper.old.nodes wanted) gens)) }
+        ((x y : ℤ) → cell leaper.old.nodes end.now x y ≡ cell leaper.old.nodes wanted.now x y)
+        (IsDifference (cell leaper.old.nodes end.now) (cell leaper.old.nodes wanted.now) gens)) }
     ensures goes_on { LeaperGrows A leaper.old leaper.new }
     ensures spent { leaper.new.spent ≡ leaper.old.spent }
     ensures work { EndsAtLimit leaper.new.spent result }
 {
     // Says what holds of every leaper.
     let _ = leaper.store();
-    let first = Tree {
-        root: end.root,
-        level: end.level,
-    };
-    let second = Tree {
-        root: wanted.root,
-        level: wanted.level,
-    };
-    let found = leaper.difference(first, second)?;
-    Ok(difference_of(leaper.store(), end, wanted, found, gens))
+    let found = leaper.difference(*end, *wanted)?;
+    Ok(difference_of(leaper.store(), *end, *wanted, found, gens))
 }
 
 // What is reported of a place where two trees differ.

@@ -6,14 +6,11 @@ ghost use Rattle.ca_plane.specs.Plane.{Picture, IsLive, cell as plane_cell};
 ghost use Rattle.ca_plane.specs.Box.{IsLeastBox};
 ghost use Rattle.ca_quad.specs.Trees.{cell};
 ghost use Rattle.ca_rule.specs.Rule.{rule_value};
-ghost use Rattle.ca_claims.specs.declared.format.Format.TheVariants.{Rle, Mc};
 ghost use Rattle.ca_claims.specs.Converted.{IsSummary, IsSummaryFault};
-ghost use Rattle.ca_claims.specs.Means.{format_of};
 ghost use Rattle.ca_claims.specs.Refused.{HasDetail};
 ghost use Rattle.ca_claims.specs.inner.Glance.{AreNearBounds, IsLowTree, IsTold};
 
 use crate::conversion::ConvertFault;
-use crate::decide::copy;
 use crate::format::Format;
 use crate::pattern::Summary;
 use crate::read::format_of;
@@ -56,61 +53,36 @@ pub fn summary_with_detail(
     ensures detail { IfErr result (HasDetail bytes.now) }
 {
     match format_of(bytes) {
-        Format::Rle => rle_summary(alloc, bytes, tables),
-        Format::Mc => macro_summary(alloc, bytes, tables),
-    }
-}
-
-/// The summary of an RLE file, from the plane of its cells, without squares.
-fn rle_summary(
-    alloc: Global,
-    bytes: &[u8],
-    tables: &[Table],
-) -> Result<Summary, Refused<ConvertFault>>
-    requires { format_of bytes.now ≡ Rle }
-    ensures summary { IfOk result (IsSummary bytes.now tables.now) }
-    ensures word { IfOk result (λ s. IsWord s.rule_text.items) }
-    ensures fault { IfErr result (λ refused. IsSummaryFault bytes.now tables.now refused.fault) }
-    ensures detail { IfErr result (HasDetail bytes.now) }
-{
-    let ruled = read_ruled_plane(alloc, bytes, tables)?;
-    let Ok(rule_text) = ruled.rule.text(alloc) else {
-        return Err(Refused::of(ConvertFault::Memory));
-    };
-    Ok(Summary {
-        kind: Format::Rle,
-        rule_text,
-        generation: ruled.generation,
-        cells: ruled.cells.len() as u128,
-        bounds: ruled.cells.bounds(),
-    })
-}
-
-/// The summary of a macrocell file, from its squares.
-fn macro_summary(
-    alloc: Global,
-    bytes: &[u8],
-    tables: &[Table],
-) -> Result<Summary, Refused<ConvertFault>>
-    requires { format_of bytes.now ≡ Mc }
-    ensures summary { IfOk result (IsSummary bytes.now tables.now) }
-    ensures word { IfOk result (λ s. IsWord s.rule_text.items) }
-    ensures fault { IfErr result (λ refused. IsSummaryFault bytes.now tables.now refused.fault) }
-    ensures detail { IfErr result (HasDetail bytes.now) }
-{
-    let mut store = Store::new(alloc);
-    let ruled = read_ruled(alloc, &mut store, bytes, tables)?;
-    let pattern = &ruled.pattern;
-    match sum_up(
-        alloc,
-        &store,
-        &pattern.tree,
-        pattern.kind,
-        &ruled.rule,
-        pattern.generation,
-    ) {
-        Ok(summary) => Ok(summary),
-        Err(_) => Err(Refused::of(ConvertFault::Memory)),
+        // An RLE is summed up from the plane of its cells, without squares.
+        Format::Rle => {
+            let ruled = read_ruled_plane(alloc, bytes, tables)?;
+            let Ok(rule_text) = ruled.rule.text(alloc) else {
+                return Err(Refused::of(ConvertFault::Memory));
+            };
+            Ok(Summary {
+                kind: Format::Rle,
+                rule_text,
+                generation: ruled.generation,
+                cells: ruled.cells.len() as u128,
+                bounds: ruled.cells.bounds(),
+            })
+        }
+        Format::Mc => {
+            let mut store = Store::new(alloc);
+            let ruled = read_ruled(alloc, &mut store, bytes, tables)?;
+            let pattern = &ruled.pattern;
+            match sum_up(
+                alloc,
+                &store,
+                &pattern.tree,
+                pattern.kind,
+                &ruled.rule,
+                pattern.generation,
+            ) {
+                Ok(summary) => Ok(summary),
+                Err(_) => Err(Refused::of(ConvertFault::Memory)),
+            }
+        }
     }
 }
 
@@ -127,8 +99,8 @@ pub(crate) fn sum_up(
     ensures told { IfOk result (IsTold kind (cell store.now tree.now) (rule_value rule.now) generation) }
     ensures word { IfOk result (λ s. IsWord s.rule_text.items) }
 {
-    let cells = store.population(alloc, copy(tree))?;
-    let bounds = bounds_of(alloc, store, copy(tree))?;
+    let cells = store.population(alloc, *tree)?;
+    let bounds = bounds_of(alloc, store, *tree)?;
     let rule_text = rule.text(alloc)?;
     Ok(Summary {
         kind,

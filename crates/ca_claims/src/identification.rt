@@ -23,7 +23,6 @@ mod search;
 mod stage;
 
 use crate::conversion::ConvertFault;
-use crate::decide::copy;
 use crate::identity::{Identity, Unidentified};
 use crate::limits::Limits;
 use crate::observer::Observer;
@@ -34,7 +33,7 @@ use ca_plane::Automaton;
 use ca_quad::{Store, Tree};
 use ca_rule::Table;
 use ca_run::{LeapFault, Leaper};
-use later::start_tree;
+use later::later_tree;
 use search::search;
 use stage::First;
 use std::alloc::Global;
@@ -196,33 +195,36 @@ fn identity_after<A: Automaton, O: Observer>(
 {
     // Says what holds of every leaper.
     let _ = leaper.store();
-    let start = start_tree(leaper, pattern, generations, observer)?;
-    identity_of(alloc, leaper, start, limit, observer)
+    let start = later_tree(leaper, pattern, generations, observer)?;
+    identity_of(alloc, leaper, &start, limit, observer)
 }
 
 /// What the plane of a tree is under the leaper's rule, within so many generations.
 fn identity_of<A: Automaton, O: Observer>(
     alloc: Global,
     leaper: &mut Leaper<A>,
-    tree: Tree,
+    tree: &Tree,
     limit: u64,
     observer: &mut O,
 ) -> Result<Identity, LeapFault>
-    requires start { IsStart leaper.old.nodes tree }
+    requires start { IsStart leaper.old.nodes tree.now }
     requires some { 1 ≤ limit }
     requires most { limit ≤ longest_period }
-    ensures identity { (cells : Picture) → ShowsTree leaper.old.nodes tree cells
+    ensures identity { (cells : Picture) → ShowsTree leaper.old.nodes tree.now cells
         → IfOk result (IsIdentity (A.next_of leaper.old.rule) cells limit) }
     ensures goes_on { LeaperGrows A leaper.old leaper.new }
     ensures takes { TakesSteps leaper.old.spent.used leaper.new.spent.used
-        (cells_after (A.next_of leaper.old.rule) (cell leaper.old.nodes tree)) limit limit }
+        (cells_after (A.next_of leaper.old.rule) (cell leaper.old.nodes tree.now)) limit limit }
     ensures work { EndsAtLimit leaper.new.spent result }
 {
     // Says what holds of every leaper.
     let _ = leaper.store();
-    let Some(bounds) = leaper.store().bounds(alloc, copy(&tree))? else {
+    let Some(bounds) = leaper.store().bounds(alloc, *tree)? else {
         return Ok(Identity::Empty);
     };
-    let first = First { tree, bounds };
+    let first = First {
+        tree: *tree,
+        bounds,
+    };
     search(alloc, leaper, &first, limit, observer)
 }

@@ -12,7 +12,6 @@ ghost use Rattle.ca_claims.specs.inner.Patterns.{IsUnread, IsUnnamedFor, IsRuled
 
 use crate::cells::{has_large_cell, has_large_state};
 use crate::conversion::ConvertFault;
-use crate::decide::copy;
 use crate::pattern::Loaded;
 use crate::read::{BadPattern, bad_rle, read_with_line};
 use crate::refused::Refused;
@@ -101,7 +100,7 @@ pub(crate) fn read_ruled<'t>(
         Ok(ruled) => ruled,
         Err(unnamed) => return Err(unruled(unnamed)),
     };
-    match has_large_state(alloc, store, copy(&ruled.pattern.tree), &ruled.rule) {
+    match has_large_state(alloc, store, &ruled) {
         Ok(false) => Ok(ruled),
         Ok(true) => Err(Refused::of(ConvertFault::StateTooLarge)),
         Err(_) => Err(Refused::of(ConvertFault::Memory)),

@@ -17,8 +17,9 @@ use Rattle.ca_claims.specs.declared.ruled.RuledPlane.{RuledPlane}
 use Rattle.ca_claims.specs.declared.format.Format.{Format}
 use Rattle.ca_claims.specs.declared.format.Format.TheVariants.{Rle}
 use Rattle.ca_claims.specs.declared.conversion.ConvertFault.{ConvertFault}
-use Rattle.ca_claims.specs.declared.conversion.ConvertFault.TheVariants.{BadPattern, BadRule, StateTooLarge, TooManyCells, Memory}
-use Rattle.ca_claims.specs.Means.{format_of, HoldsPattern, HoldsRuledPattern}
+use Rattle.ca_claims.specs.declared.conversion.ConvertFault.TheVariants.{TooManyCells, Memory}
+use Rattle.ca_claims.specs.Ahead.{Begins}
+use Rattle.ca_claims.specs.Means.{format_of, HoldsPattern}
 use Rattle.ca_claims.specs.Answers.{HasSmallStates}
 use Rattle.ca_claims.specs.Converted.{IsTidyAs}
 use Rattle.ca_claims.specs.inner.Patterns.{IsReadFrom, rule_of}
@@ -33,9 +34,8 @@ pub record IsReady (nodes : List Node) (bytes : List ℕ) (tables : List TableRu
 -- the bytes are a file of cells whose states are small under the rule that its rule text names, at this generation
 pub record HoldsCells (bytes : List ℕ) (tables : List TableRule) (cells : ℤ → ℤ → ℕ) (rule : RuleValue) (generation : ℕ) : Type 0 where
   pub picture : Picture
-  pub holds : HoldsRuledPattern bytes tables picture rule generation
+  pub begins : Begins bytes tables picture rule generation
   pub shows : (x y : ℤ) → cells x y ≡ plane.cell picture x y
-  pub small : HasSmallStates rule cells
 
 -- cells that may be written: in range, of small states under the rule, at a generation below the limit
 pub record AreWritable (cells : ℤ → ℤ → ℕ) (rule : RuleValue) (generation : ℕ) : Type 0 where
@@ -69,11 +69,9 @@ pub record IsWrittenAs (target : Format) (cells : ℤ → ℤ → ℕ) (rule : R
 
 -- why cells aren't written in a format: an RLE may not have too many
 abbrev pub AreUnwritten : Format → (ℤ → ℤ → ℕ) → ConvertFault → Type 0
-AreUnwritten target cells (BadPattern fault) = ⊥
-AreUnwritten target cells (BadRule fault) = ⊥
-AreUnwritten target cells StateTooLarge = ⊥
 AreUnwritten target cells TooManyCells = (target ≡ Rle) × HasTooManyCells cells
 AreUnwritten target cells Memory = Unit {0}
+AreUnwritten target cells fault = ⊥
 
 -- the same, where nothing more is known of a fault
 abbrev pub with_no_detail : {T : Type 0} → Result T ConvertFault → Result T (Refused ConvertFault)

@@ -3,7 +3,7 @@ use Rattle.std.specs.Prelude.{ℕ, ◌≤◌, ◌<◌, ◌^◌, ℤ, pos, neg_�
 use Rattle.ca_plane.specs.Plane.{Picture, shifted}
 use Rattle.ca_plane.specs.Generations.{IsAfter}
 use Rattle.ca_claims.specs.declared.verdict.Why.{Why}
-use Rattle.ca_claims.specs.declared.verdict.Why.TheVariants.{Empty, Differs, Earlier, Died}
+use Rattle.ca_claims.specs.declared.verdict.Why.TheVariants.{Earlier, Died}
 use Rattle.ca_claims.specs.declared.claims.asks.Barred.{Barred}
 use Rattle.ca_claims.specs.declared.claims.asks.Barred.TheVariants.{EmptyPlane}
 use Rattle.ca_claims.specs.Truth.{IsLiveAfter, ShowsNothingBarred, MayReturnBy}
@@ -22,18 +22,14 @@ IsSparedBefore next cells barred n = (k : ℕ) → 1 ≤ k → k < n → ShowsNo
 
 -- the first return of the pattern, and it is before n
 abbrev pub IsFirstReturn : (List ℕ → ℕ) → Picture → Barred → ℕ → Why → Type 0
-IsFirstReturn next cells barred n Empty = ⊥
-IsFirstReturn next cells barred n (Differs x y found claimed generations) = ⊥
 IsFirstReturn next cells barred n (Earlier m dx dy) = (1 ≤ m) × (m < n) × MayReturnBy barred dx dy
     × IsAfter next cells m (shifted cells dx dy) × IsSparedBefore next cells barred m
-IsFirstReturn next cells barred n (Died m) = ⊥
+IsFirstReturn next cells barred n why = ⊥
 
 -- the least time after which the plane is empty, and it is before n
 abbrev pub IsFirstDeath : (List ℕ → ℕ) → Picture → ℕ → Why → Type 0
-IsFirstDeath next cells n Empty = ⊥
-IsFirstDeath next cells n (Differs x y found claimed generations) = ⊥
-IsFirstDeath next cells n (Earlier m dx dy) = ⊥
 IsFirstDeath next cells n (Died m) = (1 ≤ m) × (m < n) × IsAfter next cells m [] × IsSparedBefore next cells EmptyPlane m
+IsFirstDeath next cells n why = ⊥
 
 -- the plane is empty after n generations, and before that it isn't
 pub record IsLifeSpan (next : List ℕ → ℕ) (cells : Picture) (n : ℕ) : Type 0 where

@@ -75,6 +75,14 @@ pub record IsLaterTree (next : List ℕ → ℕ) (first : ℤ → ℤ → ℕ) (
   pub trimmed : IsTrimmed nodes tree
   pub shows : (x y : ℤ) → cell nodes tree x y ≡ cells_after next first n x y
 
+-- from the tree a plane can be taken n generations on: it is no larger than it need be, and no live cell lies outside the square of a plane then
+pub record CanGoOn (next : List ℕ → ℕ) (nodes : List Node) (tree : Tree) (n : ℕ) : Type 0 where
+  pub is_tree : IsTree nodes tree
+  pub low : tree.level ≤ 64
+  pub trimmed : IsTrimmed nodes tree
+  pub few : n ≤ 2 ^ 60
+  pub near : IsNear (cells_after next (cell nodes tree) n)
+
 -- the growth is that of the tree's plane
 abbrev pub IsGrowthOf : List Node → Tree → Growth → Type 0
 IsGrowthOf nodes tree growth = (cells : Picture) × ShowsTree nodes tree cells × IsGrowth cells growth

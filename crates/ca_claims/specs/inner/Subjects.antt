@@ -17,7 +17,7 @@ use Rattle.ca_claims.specs.declared.claims.asks.Barred.TheVariants.{EmptyPlane}
 use Rattle.ca_claims.specs.declared.decide.Subject.{Subject}
 use Rattle.ca_claims.specs.declared.decide.Case.{Case}
 use Rattle.ca_claims.specs.declared.verdict.Why.{Why}
-use Rattle.ca_claims.specs.declared.verdict.Why.TheVariants.{Empty, Differs, Earlier, Died}
+use Rattle.ca_claims.specs.declared.verdict.Why.TheVariants.{Differs}
 use Rattle.ca_claims.specs.Truth.{MayReturnBy, IsLiveAfter, ShowsNothingBarred}
 use Rattle.ca_claims.specs.inner.Decided.{BarsReturns, IsBounded}
 use Rattle.ca_claims.specs.inner.Divisors.{AreDivisors}
@@ -94,10 +94,8 @@ pub record IsMoved (old : List Node) (other : Tree) (dx dy : ℤ) (nodes : List 
 
 -- a cell that one plane has after n generations, and another hasn't
 abbrev pub IsDifference : (ℤ → ℤ → ℕ) → (ℤ → ℤ → ℕ) → ℕ → Why → Type 0
-IsDifference end wanted n Empty = ⊥
 IsDifference end wanted n (Differs x y found claimed generations) = (generations ≡ n) × (end x y ≡ found) × (wanted x y ≡ claimed) × (found ≢ claimed)
-IsDifference end wanted n (Earlier m dx dy) = ⊥
-IsDifference end wanted n (Died m) = ⊥
+IsDifference end wanted n why = ⊥
 
 -- one time at which some cell is live, and a later one after which the plane is empty, where it is after the claim's generations
 pub record AreLifeBounds (next : List ℕ → ℕ) (nodes : List Node) (case : Case) (low high : ℕ) : Type 0 where

@@ -1,6 +1,6 @@
 //! When a pattern is there again before a claim's generations are over.
 
-ghost use Rattle.std.specs.Prelude.{◌≡◌, ◌≢◌, ◌-◌, ◌≤◌, ◌^◌, ℤ, ◌-ℤ◌, IfOk, MatchOption};
+ghost use Rattle.std.specs.Prelude.{◌≡◌, ◌-◌, ◌≤◌, ◌^◌, ℤ, ◌-ℤ◌, IfOk, MatchOption};
 ghost use Rattle.ca_plane.specs.Plane.{Picture, shifted};
 ghost use Rattle.ca_plane.specs.Generations.{IsAfter};
 ghost use Rattle.ca_quad.specs.Trees.{cell};
@@ -12,11 +12,11 @@ ghost use Rattle.ca_claims.specs.inner.Subjects.{ShowsTree, IsNearTree, IsPatter
 ghost use Rattle.ca_claims.specs.inner.Subjects.{IsMove, IsNoMove, IsOnlyMove, IsBackBy};
 
 use super::divisors::proper_divisors;
-use super::{Case, copy, tree_after};
+use super::{Case, moved_inside, tree_after};
 use crate::claims::Barred;
 use crate::observer::Observer;
 use crate::verdict::Why;
-use ca_plane::{Automaton, Memory, MoveFault};
+use ca_plane::{Automaton, Memory};
 use ca_quad::{Store, Tree};
 use ca_run::{LeapFault, Leaper};
 use std::alloc::Global;
@@ -74,32 +74,39 @@ fn return_at<A: Automaton, O: Observer>(
     // Says what holds of every leaper.
     let _ = leaper.store();
     let end = tree_after(leaper, &case.subject.pattern, m, observer)?;
-    let pattern = copy(&case.subject.pattern);
+    let pattern = &case.subject.pattern;
     match case.asks.barred {
-        Barred::Anywhere => return_anywhere(case.alloc, leaper, end, pattern),
-        _ => vector_if_same(leaper, end, pattern, 0, 0),
+        Barred::Anywhere => return_anywhere(case.alloc, leaper, &end, pattern),
+        _ => match leaper.difference(end, *pattern)? {
+            None => Ok(Some((0, 0))),
+            Some(_) => Ok(None),
+        },
     }
 }
 
-/// The vector, where two trees show the same cells.
-pub(crate) fn vector_if_same<A: Automaton>(
+/// The vector, where a tree shows the cells of an earlier one moved by it. No other vector can move them there.
+pub(crate) fn vector_if_back<A: Automaton>(
     leaper: &mut Leaper<A>,
-    end: Tree,
-    moved: Tree,
+    now: Tree,
+    first: Tree,
     dx: i64,
     dy: i64,
 ) -> Result<Option<(i64, i64)>, LeapFault>
-    requires end { IsNearTree leaper.old.nodes end }
-    requires moved { IsNearTree leaper.old.nodes moved }
-    ensures back { IfOk result (λ back. MatchOption back
-        ((x : ℤ) × (y : ℤ) × (cell leaper.old.nodes end x y ≢ cell leaper.old.nodes moved x y))
-        (λ v. (v.0 ≡ dx) × (v.1 ≡ dy)
-        × ((x y : ℤ) → cell leaper.old.nodes end x y ≡ cell leaper.old.nodes moved x y))) }
+    requires now { IsNearTree leaper.old.nodes now }
+    requires first { IsNearTree leaper.old.nodes first }
+    requires only { IsOnlyMove leaper.old.nodes now first (dx, dy) }
+    ensures back { IfOk result (λ back. MatchOption back (IsNoMove leaper.old.nodes now first)
+        (λ v. IsMove leaper.old.nodes now first v.0 v.1)) }
     ensures goes_on { LeaperGrows A leaper.old leaper.new }
     ensures spent { leaper.new.spent ≡ leaper.old.spent }
     ensures work { EndsAtLimit leaper.new.spent result }
 {
-    match leaper.difference(end, moved)? {
+    // Says what holds of every leaper.
+    let _ = leaper.store();
+    let Some(moved) = moved_inside(leaper, first, dx, dy)? else {
+        return Ok(None);
+    };
+    match leaper.difference(now, moved)? {
         None => Ok(Some((dx, dy))),
         Some(_) => Ok(None),
     }
@@ -109,27 +116,23 @@ pub(crate) fn vector_if_same<A: Automaton>(
 fn return_anywhere<A: Automaton>(
     alloc: Global,
     leaper: &mut Leaper<A>,
-    end: Tree,
-    pattern: Tree,
+    end: &Tree,
+    pattern: &Tree,
 ) -> Result<Option<(i64, i64)>, LeapFault>
-    requires end { IsNearTree leaper.old.nodes end }
-    requires pattern { IsPattern leaper.old.nodes pattern }
-    requires live { HasLive (cell leaper.old.nodes pattern) }
-    ensures back { IfOk result (λ back. MatchOption back (IsNoMove leaper.old.nodes end pattern)
-        (λ v. IsMove leaper.old.nodes end pattern v.0 v.1)) }
+    requires end { IsNearTree leaper.old.nodes end.now }
+    requires pattern { IsPattern leaper.old.nodes pattern.now }
+    requires live { HasLive (cell leaper.old.nodes pattern.now) }
+    ensures back { IfOk result (λ back. MatchOption back (IsNoMove leaper.old.nodes end.now pattern.now)
+        (λ v. IsMove leaper.old.nodes end.now pattern.now v.0 v.1)) }
     ensures goes_on { LeaperGrows A leaper.old leaper.new }
     ensures spent { leaper.new.spent ≡ leaper.old.spent }
     ensures work { EndsAtLimit leaper.new.spent result }
 {
     let store = leaper.store();
-    let Some((dx, dy)) = corner_vector(alloc, store, copy(&end), copy(&pattern))? else {
+    let Some((dx, dy)) = corner_vector(alloc, store, *end, *pattern)? else {
         return Ok(None);
     };
-    match leaper.shifted(pattern, dx, dy) {
-        Ok(moved) => vector_if_same(leaper, end, moved, dx, dy),
-        Err(MoveFault::Memory) => Err(LeapFault::Memory),
-        Err(MoveFault::Range) => Ok(None),
-    }
+    vector_if_back(leaper, *end, *pattern, dx, dy)
 }
 
 // The vector from the corner of a live pattern's least box to that of a tree's, where the tree isn't empty:

@@ -6,7 +6,6 @@ ghost use Rattle.ca_claims.specs.inner.Glance.{IsLowTree};
 ghost use Rattle.ca_claims.specs.inner.Stages.{IsGrowthOf};
 ghost use Rattle.ca_claims.specs.inner.Subjects.{HasLive};
 
-use crate::decide::copy;
 use crate::glance::bounds_of;
 use crate::identity::Growth;
 use ca_plane::Memory;
@@ -14,13 +13,13 @@ use ca_quad::{Store, Tree};
 use std::alloc::Global;
 
 /// How many cells of a live tree's plane are live, and the smallest box round them.
-pub(super) fn growth_of(alloc: Global, store: &Store, tree: Tree) -> Result<Growth, Memory>
-    requires low { IsLowTree store.now tree }
-    requires live { HasLive (cell store.now tree) }
-    ensures { IfOk result (IsGrowthOf store.now tree) }
+pub(super) fn growth_of(alloc: Global, store: &Store, tree: &Tree) -> Result<Growth, Memory>
+    requires low { IsLowTree store.now tree.now }
+    requires live { HasLive (cell store.now tree.now) }
+    ensures { IfOk result (IsGrowthOf store.now tree.now) }
 {
-    let cells = store.population(alloc, copy(&tree))?;
-    match bounds_of(alloc, store, tree)? {
+    let cells = store.population(alloc, *tree)?;
+    match bounds_of(alloc, store, *tree)? {
         Some(bounds) => Ok(Growth { cells, bounds }),
         None => unreachable!(),
     }

@@ -14,7 +14,6 @@ ghost use Rattle.ca_claims.specs.inner.Stages.{TakesSteps};
 use super::growth::growth_of;
 use super::later::later_tree;
 use super::stage::{First, Stage, stage_of};
-use crate::decide::copy;
 use crate::identity::Identity;
 use crate::observer::Observer;
 use ca_plane::Automaton;
@@ -42,7 +41,7 @@ pub(super) fn search<A: Automaton, O: Observer>(
 {
     // Says what holds of every leaper.
     let _ = leaper.store();
-    let mut now = copy(&first.tree);
+    let mut now = first.tree;
     let mut generations: u64 = 0;
     'generations: while generations < limit {
         observer.goes_to(generations + 1);
@@ -55,7 +54,7 @@ pub(super) fn search<A: Automaton, O: Observer>(
             Stage::Other => {}
         }
     }
-    let growth = growth_of(alloc, leaper.store(), now)?;
+    let growth = growth_of(alloc, leaper.store(), &now)?;
     Ok(Identity::Unknown { growth })
 }
 

@@ -4,12 +4,12 @@ ghost use Rattle.std.specs.Prelude.{◌≡◌, ℕ, ℤ, IfOk, MatchOption};
 ghost use Rattle.ca_quad.specs.Boxes.{IsLeastWideBox};
 ghost use Rattle.ca_quad.specs.Trees.{cell};
 ghost use Rattle.ca_run.specs.Leaping.{LeaperGrows, EndsAtLimit};
-ghost use Rattle.ca_claims.specs.inner.Subjects.{IsNearTree, IsMove, IsNoMove, IsOnlyMove};
-ghost use Rattle.ca_claims.specs.inner.Stages.{IsStart, IsFirst, IsFirstBox, IsWideBox, IsStage};
+ghost use Rattle.ca_claims.specs.inner.Subjects.{IsNearTree};
+ghost use Rattle.ca_claims.specs.inner.Stages.{IsFirst, IsFirstBox, IsWideBox, IsStage};
 ghost use Rattle.ca_claims.specs.inner.Stages.{AreMovedNowhere, AreMovedOnlyBy};
 
-use crate::decide::{copy, distance, vector_if_same};
-use ca_plane::{Automaton, MoveFault};
+use crate::decide::{distance, vector_if_back};
+use ca_plane::Automaton;
 use ca_quad::{Tree, WideBounds};
 use ca_run::{LeapFault, Leaper};
 use std::alloc::Global;
@@ -47,13 +47,13 @@ pub(super) fn stage_of<A: Automaton>(
     ensures spent { leaper.new.spent ≡ leaper.old.spent }
     ensures work { EndsAtLimit leaper.new.spent result }
 {
-    let Some(bounds) = leaper.store().bounds(alloc, copy(now))? else {
+    let Some(bounds) = leaper.store().bounds(alloc, *now)? else {
         return Ok(Stage::Empty);
     };
     let Some((dx, dy)) = vector_between(&first.bounds, &bounds) else {
         return Ok(Stage::Other);
     };
-    match vector_if_back(leaper, copy(now), copy(&first.tree), dx, dy)? {
+    match vector_if_back(leaper, *now, first.tree, dx, dy)? {
         Some((dx, dy)) => Ok(Stage::Back { dx, dy }),
         None => Ok(Stage::Other),
     }
@@ -74,32 +74,4 @@ fn vector_between(from: &WideBounds, to: &WideBounds) -> Option<(i64, i64)>
         return None;
     }
     Some((distance(from.x0, to.x0), distance(from.y0, to.y0)))
-}
-
-// The vector, where a tree shows a pattern's cells moved by it. No other vector can move them there.
-fn vector_if_back<A: Automaton>(
-    leaper: &mut Leaper<A>,
-    now: Tree,
-    first: Tree,
-    dx: i64,
-    dy: i64,
-) -> Result<Option<(i64, i64)>, LeapFault>
-    requires now { IsNearTree leaper.old.nodes now }
-    requires first { IsStart leaper.old.nodes first }
-    requires only { IsOnlyMove leaper.old.nodes now first (dx, dy) }
-    ensures back { IfOk result (λ back. MatchOption back (IsNoMove leaper.old.nodes now first)
-        (λ v. IsMove leaper.old.nodes now first v.0 v.1)) }
-    ensures goes_on { LeaperGrows A leaper.old leaper.new }
-    ensures spent { leaper.new.spent ≡ leaper.old.spent }
-    ensures work { EndsAtLimit leaper.new.spent result }
-{
-    let _ = leaper.store();
-    if dx == 0 && dy == 0 {
-        return vector_if_same(leaper, now, first, 0, 0);
-    }
-    match leaper.shifted(first, dx, dy) {
-        Ok(moved) => vector_if_same(leaper, now, moved, dx, dy),
-        Err(MoveFault::Memory) => Err(LeapFault::Memory),
-        Err(MoveFault::Range) => Ok(None),
-    }
 }

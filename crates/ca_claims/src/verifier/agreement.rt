@@ -63,15 +63,15 @@ fn large_part(
 {
     match patterns {
         OneOrTwo::One(only) => {
-            if has_large_state(alloc, store, only.pattern.tree, &only.rule)? {
+            if has_large_state(alloc, store, only)? {
                 return Ok(Some(Part::First));
             }
         }
         OneOrTwo::Two(first, second) => {
-            if has_large_state(alloc, store, first.pattern.tree, &first.rule)? {
+            if has_large_state(alloc, store, first)? {
                 return Ok(Some(Part::First));
             }
-            if has_large_state(alloc, store, second.pattern.tree, &second.rule)? {
+            if has_large_state(alloc, store, second)? {
                 return Ok(Some(Part::Second));
             }
         }

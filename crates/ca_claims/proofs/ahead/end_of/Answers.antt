@@ -16,28 +16,19 @@ returns-clause-end g c =
     let end = c.in_ok-end.end in
     let shows : (x y : ℤ) → cell c.trim.new.self tree x y ≡ cells_after next first c.args.generations x y =
     λ x y. told.cells x y ∙ c.in_ok-copy.ensures.cells x y ∙ ap (λ s. cell s end x y) c.store-2.ensures.nodes ∙ c.in_ok-end.ensures.end.shows x y in
-    let low = later_is_low next first c.args.generations quiet c.requires.pattern.range c.requires.few c.trim.new.self tree told.trimmed shows in
-    record {
-      near = record {
-        is_tree = told.tree;
+    let low = later_is_low next first c.args.generations quiet c.requires.pattern.range c.requires.few c.trim.new.self tree told.trimmed shows in (
+      record {
+        near = record {
+          is_tree = told.tree;
+          low = omega (arith, low);
+          near = end_outside next first (cell c.trim.new.self tree) c.args.generations shows quiet c.requires.pattern.range c.requires.few;
+        };
         low = omega (arith, low);
-        near = end_outside next first (cell c.trim.new.self tree) c.args.generations shows quiet c.requires.pattern.range c.requires.few;
-      };
-      low = omega (arith, low);
-      trimmed = told.trimmed;
-      shows = shows;
-    }
-
-pub returns-clause-level : goal.returns-clause-level
-returns-clause-level g c =
-    let next = g.A.Automaton.next_of c.args.leaper.now.rule in
-    let quiet = g.met.A.Automaton.quiet c.args.leaper.now.rule c.store.ensures.rule in
-    let first = cell c.args.leaper.now.nodes c.args.pattern.now in
-    let tree = c.in_ok-tree.tree in
-    let told = c.in_ok-tree.ensures in
-    let end = c.in_ok-end.end in
-    later_is_low next first c.args.generations quiet c.requires.pattern.range c.requires.few c.trim.new.self tree told.trimmed
-    (λ x y. told.cells x y ∙ c.in_ok-copy.ensures.cells x y ∙ ap (λ s. cell s end x y) c.store-2.ensures.nodes ∙ c.in_ok-end.ensures.end.shows x y)
+        trimmed = told.trimmed;
+        shows = shows;
+      },
+      low,
+    )
 
 pub returns-clause-small : goal.returns-clause-small
 returns-clause-small g c = λ small x y.

@@ -28,11 +28,11 @@ returns-in-Ok-end_of-clause-reached g c =
     let told = c.in-Ok-end_of.ensures in
     let n = c.args.generations in
     let later = subst (λ r. IsLaterTree (next_of (rule_value r)) (cell store tree) n end.store end.tree) c.in-Ok-new.ensures.rule
-    (subst (λ s. IsLaterTree (next_of (rule_value leaper.rule)) (cell s tree) n end.store end.tree) c.in-Ok-new.ensures.store told.end) in
+    (subst (λ s. IsLaterTree (next_of (rule_value leaper.rule)) (cell s tree) n end.store end.tree) c.in-Ok-new.ensures.store told.end.0) in
     let first_small = subst (λ s. HasSmallStates (rule_value leaper.rule) (cell s tree)) (sym c.in-Ok-new.ensures.store)
     (subst (λ r. HasSmallStates (rule_value r) (cell store tree)) (sym c.in-Ok-new.ensures.rule) ready.small) in
     let small = subst (λ r. HasSmallStates (rule_value r) (cell end.store end.tree)) c.in-Ok-new.ensures.rule (told.small first_small) in
-    file_reaches store c.args.bytes.now c.args.tables.now ruled ready n c.in-Some.generation c.in-Some.ensures.0 c.in-Some.ensures.1 end.store end.tree told.level later small
+    file_reaches store c.args.bytes.now c.args.tables.now ruled ready n c.in-Some.generation c.in-Some.ensures.0 c.in-Some.ensures.1 end.store end.tree told.end.1 later small
 
 pub returns-in-Err-Memory-clause-fault : goal.returns-in-Err-Memory-clause-fault
 returns-in-Err-Memory-clause-fault g c =

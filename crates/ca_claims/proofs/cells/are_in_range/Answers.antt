@@ -7,5 +7,5 @@ use Rattle.ca_claims.proofs.cells.are_in_range.Goals as goal
 
 pub returns-in-Some-clause-out : goal.returns-in-Some-clause-out
 returns-in-Some-clause-out c = λ out.
-    let cells = cell c.args.store.now c.args.tree in
+    let cells = cell c.args.store.now c.args.tree.now in
     box_out_of_range cells c.in-Some.bounds (subst (λ found. MatchOption found (IsDead cells) (IsLeastWideBox cells)) c.in-Some.is c.in_ok-bounds.ensures) (c.is_in_range.ensures.out out)

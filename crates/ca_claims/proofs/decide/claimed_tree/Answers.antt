@@ -11,7 +11,7 @@ returns-in-Own-clause-shows g c = λ cells other shown.
     let asks = c.args.case.now.asks in
     ok_as c.moved_tree.result _ _
     (λ tree moved. claimed_shown new tree asks Own cells other c.in-Own.is (moved_shown old new subject.pattern tree cells asks.dx asks.dy shown.one
-    (λ x y. rw (c.copy.ensures, shift_reads asks.dx c.requires.bounded.right, shift_reads asks.dy c.requires.bounded.down) at (moved.shows x y))))
+    (λ x y. rw (shift_reads asks.dx c.requires.bounded.right, shift_reads asks.dy c.requires.bounded.down) at (moved.shows x y))))
     c.moved_tree.ensures.moved
 
 pub returns-in-Other-clause-shows : goal.returns-in-Other-clause-shows
@@ -22,5 +22,5 @@ returns-in-Other-clause-shows g c = λ cells other shown.
     let asks = c.args.case.now.asks in
     ok_as c.moved_tree-in-Other.result _ _
     (λ tree moved. claimed_shown new tree asks Other cells other c.in-Other.is (moved_shown old new subject.other tree other asks.dx asks.dy shown.two
-    (λ x y. rw (c.copy-in-Other.ensures, shift_reads asks.dx c.requires.bounded.right, shift_reads asks.dy c.requires.bounded.down) at (moved.shows x y))))
+    (λ x y. rw (shift_reads asks.dx c.requires.bounded.right, shift_reads asks.dy c.requires.bounded.down) at (moved.shows x y))))
     c.moved_tree-in-Other.ensures.moved

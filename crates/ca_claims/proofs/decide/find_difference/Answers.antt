@@ -9,30 +9,30 @@ use Rattle.ca_claims.proofs.decide.find_difference.Goals as goal
 
 pub difference_of-requires-clause-end : goal.difference_of-requires-clause-end
 difference_of-requires-clause-end g c =
-    subst (λ s. IsNearTree s c.args.end) (sym c.store-2.ensures.nodes)
-    (near_stays c.args.leaper.now.nodes c.difference.new.self.nodes c.store.ensures.sound c.in_ok-found.ensures.goes_on.grows c.args.end c.requires.end)
+    subst (λ s. IsNearTree s c.args.end.now) (sym c.store-2.ensures.nodes)
+    (near_stays c.args.leaper.now.nodes c.difference.new.self.nodes c.store.ensures.sound c.in_ok-found.ensures.goes_on.grows c.args.end.now c.requires.end)
 
 pub difference_of-requires-clause-wanted : goal.difference_of-requires-clause-wanted
 difference_of-requires-clause-wanted g c =
-    subst (λ s. IsNearTree s c.args.wanted) (sym c.store-2.ensures.nodes)
-    (near_stays c.args.leaper.now.nodes c.difference.new.self.nodes c.store.ensures.sound c.in_ok-found.ensures.goes_on.grows c.args.wanted c.requires.wanted)
+    subst (λ s. IsNearTree s c.args.wanted.now) (sym c.store-2.ensures.nodes)
+    (near_stays c.args.leaper.now.nodes c.difference.new.self.nodes c.store.ensures.sound c.in_ok-found.ensures.goes_on.grows c.args.wanted.now c.requires.wanted)
 
 pub difference_of-requires-clause-other : goal.difference_of-requires-clause-other
 difference_of-requires-clause-other g c =
     let old = c.args.leaper.now.nodes in
     let new = c.store-2.result.now in
-    let ends : (x y : ℤ) → cell new c.args.end x y ≡ cell old c.args.end x y = λ x y.
-    ap (λ s. cell s c.args.end x y) c.store-2.ensures.nodes ∙ trees_stay old c.difference.new.self.nodes c.store.ensures.sound c.in_ok-found.ensures.goes_on.grows c.args.end c.requires.end.is_tree x y in
-    let wanted : (x y : ℤ) → cell new c.args.wanted x y ≡ cell old c.args.wanted x y = λ x y.
-    ap (λ s. cell s c.args.wanted x y) c.store-2.ensures.nodes ∙ trees_stay old c.difference.new.self.nodes c.store.ensures.sound c.in_ok-found.ensures.goes_on.grows c.args.wanted c.requires.wanted.is_tree x y in
-    some_as c.in_ok-found.found (λ at. cell old c.args.end at.x at.y ≢ cell old c.args.wanted at.x at.y) (λ at. cell new c.args.end at.x at.y ≢ cell new c.args.wanted at.x at.y)
+    let ends : (x y : ℤ) → cell new c.args.end.now x y ≡ cell old c.args.end.now x y = λ x y.
+    ap (λ s. cell s c.args.end.now x y) c.store-2.ensures.nodes ∙ trees_stay old c.difference.new.self.nodes c.store.ensures.sound c.in_ok-found.ensures.goes_on.grows c.args.end.now c.requires.end.is_tree x y in
+    let wanted : (x y : ℤ) → cell new c.args.wanted.now x y ≡ cell old c.args.wanted.now x y = λ x y.
+    ap (λ s. cell s c.args.wanted.now x y) c.store-2.ensures.nodes ∙ trees_stay old c.difference.new.self.nodes c.store.ensures.sound c.in_ok-found.ensures.goes_on.grows c.args.wanted.now c.requires.wanted.is_tree x y in
+    some_as c.in_ok-found.found (λ at. cell old c.args.end.now at.x at.y ≢ cell old c.args.wanted.now at.x at.y) (λ at. cell new c.args.end.now at.x at.y ≢ cell new c.args.wanted.now at.x at.y)
     (λ at other same. other (sym (ends at.x at.y) ∙ (same ∙ wanted at.x at.y))) c.in_ok-found.ensures.some
 
 pub returns-clause-difference : goal.returns-clause-difference
 returns-clause-difference g c =
     let old = c.args.leaper.now.nodes in
     let new = c.store-2.result.now in
-    difference_told (cell new c.args.end) (cell new c.args.wanted) (cell old c.args.end) (cell old c.args.wanted) c.args.gens c.difference_of.result c.in_ok-found.found
-    (λ x y. sym (ap (λ s. cell s c.args.end x y) c.store-2.ensures.nodes ∙ trees_stay old c.difference.new.self.nodes c.store.ensures.sound c.in_ok-found.ensures.goes_on.grows c.args.end c.requires.end.is_tree x y))
-    (λ x y. sym (ap (λ s. cell s c.args.wanted x y) c.store-2.ensures.nodes ∙ trees_stay old c.difference.new.self.nodes c.store.ensures.sound c.in_ok-found.ensures.goes_on.grows c.args.wanted c.requires.wanted.is_tree x y))
+    difference_told (cell new c.args.end.now) (cell new c.args.wanted.now) (cell old c.args.end.now) (cell old c.args.wanted.now) c.args.gens c.difference_of.result c.in_ok-found.found
+    (λ x y. sym (ap (λ s. cell s c.args.end.now x y) c.store-2.ensures.nodes ∙ trees_stay old c.difference.new.self.nodes c.store.ensures.sound c.in_ok-found.ensures.goes_on.grows c.args.end.now c.requires.end.is_tree x y))
+    (λ x y. sym (ap (λ s. cell s c.args.wanted.now x y) c.store-2.ensures.nodes ∙ trees_stay old c.difference.new.self.nodes c.store.ensures.sound c.in_ok-found.ensures.goes_on.grows c.args.wanted.now c.requires.wanted.is_tree x y))
     c.in_ok-found.ensures.none.0 c.difference_of.ensures

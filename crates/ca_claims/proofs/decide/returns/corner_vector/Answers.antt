@@ -1,5 +1,5 @@
 use Rattle.ca_quad.specs.Trees.{cell}
-use Rattle.ca_claims.proofs.Corners.{live_after, corner_moved, corner_shift, corner_wide}
+use Rattle.ca_claims.proofs.Corners.{live_after, corners_moved, corner_shift, corner_wide}
 use Rattle.ca_claims.proofs.Times.{shift_broad, broad_again, wide_again, distance_reads}
 use Rattle.ca_claims.proofs.decide.returns.corner_vector.Goals as goal
 
@@ -35,7 +35,7 @@ returns c = λ dx dy is.
     let end = cell c.args.store.now c.args.end in
     let least = rw c.in-Some.is at c.in_ok-from.ensures in
     let least_end = rw c.in-Some-2.is at c.in_ok-to.ensures in
-    let vector = corner_moved pattern end dx dy is from to least least_end in
+    let vector = (corners_moved pattern end dx dy is from to least least_end).0 in
     let shift = corner_shift pattern from least c.requires.pattern.range in
     let wide = corner_wide end to least_end c.requires.end.near in
     (distance_reads from.x0 to.x0 dx c.distance.result (shift_broad from.x0 shift.0) wide.0 c.distance.ensures vector.0, distance_reads from.y0 to.y0 dy c.distance-2.result (shift_broad from.y0 shift.1) wide.1 c.distance-2.ensures vector.1)

@@ -1,14 +1,31 @@
 use Rattle.std.proofs.Common.{refl, sym, subst, ◌∙◌, arith}
 use Rattle.std.specs.Prelude.{pos}
 use Rattle.ca_quad.specs.Shifted.{shifted_cells, IsShiftRefused}
+use Rattle.ca_plane.specs.Generations.{cells_after}
 use Rattle.ca_quad.specs.Trees.{cell}
+use Rattle.ca_claims.specs.inner.Stages.{IsNear, IsLaterTree}
 use Rattle.ca_claims.proofs.Corners.{fits_near}
 use Rattle.ca_claims.proofs.Spending.{takes_one, takes_before}
+use Rattle.ca_claims.proofs.Stages.{some_run}
 use Rattle.ca_claims.proofs.Times.{moved_nowhere}
 use Rattle.ca_claims.proofs.identification.later.later_tree.Goals as goal
 
+pub returns-then-generations-eq0-clause-later : goal.returns-then-generations-eq0-clause-later
+returns-then-generations-eq0-clause-later g c =
+    let is = c.requires in
+    let next = g.A.Automaton.next_of c.args.leaper.now.rule in
+    let cells = cell c.args.leaper.now.nodes c.args.tree in
+    subst (λ n. IsLaterTree next cells n c.args.leaper.now.nodes c.args.tree) (sym c.if-generations-eq0.true)
+    (record {
+      near = record { is_tree = is.is_tree; low = let low = is.low in omega (arith, low); near = subst (λ n. IsNear (cells_after next cells n)) c.if-generations-eq0.true is.near };
+      low = is.low;
+      trimmed = is.trimmed;
+      shows = λ x y. refl;
+    })
+
 pub returns-in_err-later-clause-takes : goal.returns-in_err-later-clause-takes
-returns-in_err-later-clause-takes g c = takes_one c.args.leaper.now c.advance_watched.new.self c.args.tree.level c.args.generations c.advance_watched.ensures.costs
+returns-in_err-later-clause-takes g c =
+    some_run _ _ c.args.tree.level c.args.generations c.if-generations-eq0.false (takes_one c.args.leaper.now c.advance_watched.new.self c.args.tree.level c.args.generations c.advance_watched.ensures.costs)
 
 pub unreachable-requires : goal.unreachable-requires
 unreachable-requires g c =
@@ -30,10 +47,12 @@ returns-in-Ok-clause-later g c =
 
 pub returns-in-Ok-clause-takes : goal.returns-in-Ok-clause-takes
 returns-in-Ok-clause-takes g c =
-    takes_before c.args.leaper.now.spent.used c.advance_watched.new.self.spent c.shifted.new.self.spent 1 c.args.tree.level c.args.generations c.in-Ok.ensures.spent
-    (takes_one c.args.leaper.now c.advance_watched.new.self c.args.tree.level c.args.generations c.in_ok-later.ensures.costs)
+    some_run _ _ c.args.tree.level c.args.generations c.if-generations-eq0.false
+    (takes_before c.args.leaper.now.spent.used c.advance_watched.new.self.spent c.shifted.new.self.spent 1 c.args.tree.level c.args.generations c.in-Ok.ensures.spent
+    (takes_one c.args.leaper.now c.advance_watched.new.self c.args.tree.level c.args.generations c.in_ok-later.ensures.costs))
 
 pub returns-in-Err-Memory-clause-takes : goal.returns-in-Err-Memory-clause-takes
 returns-in-Err-Memory-clause-takes g c =
-    takes_before c.args.leaper.now.spent.used c.advance_watched.new.self.spent c.shifted.new.self.spent 1 c.args.tree.level c.args.generations c.in-Err-Memory.ensures.spent
-    (takes_one c.args.leaper.now c.advance_watched.new.self c.args.tree.level c.args.generations c.in_ok-later.ensures.costs)
+    some_run _ _ c.args.tree.level c.args.generations c.if-generations-eq0.false
+    (takes_before c.args.leaper.now.spent.used c.advance_watched.new.self.spent c.shifted.new.self.spent 1 c.args.tree.level c.args.generations c.in-Err-Memory.ensures.spent
+    (takes_one c.args.leaper.now c.advance_watched.new.self c.args.tree.level c.args.generations c.in_ok-later.ensures.costs))

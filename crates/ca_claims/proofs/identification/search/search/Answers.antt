@@ -19,7 +19,7 @@ generations-init g c =
     let first = cell s0 c.args.first.now.tree in
     record {
       goes_on = goes_on_same _ c.args.leaper.now c.store.ensures.sound;
-      now = first_tree next s0 c.args.first.now.tree c.copy-now.result c.copy-now.ensures c.requires.first.start;
+      now = first_tree next s0 c.args.first.now.tree c.requires.first.start;
       others = others_at_first next first;
       within = omega arith;
       takes = no_step _ _ (cells_after next first) c.args.limit refl;

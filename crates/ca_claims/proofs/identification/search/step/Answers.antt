@@ -1,4 +1,4 @@
-use Rattle.std.proofs.Common.{◌+◌, ◌≤◌, ◌^◌, sym, subst}
+use Rattle.std.proofs.Common.{◌+◌, ◌≤◌, ◌^◌, sym, subst, arith}
 use Rattle.ca_plane.specs.Generations.{cells_after}
 use Rattle.ca_quad.specs.Trees.{cell}
 use Rattle.ca_quad.proofs.Trims.{trees_stay}
@@ -7,11 +7,18 @@ use Rattle.ca_run.proofs.Shown.{goes_on_again}
 use Rattle.ca_claims.proofs.Stages.{one_step, near_next, later_next, later_stays, first_stays, stage_as}
 use Rattle.ca_claims.proofs.identification.search.step.Goals as goal
 
-pub later_tree-requires-clause-near : goal.later_tree-requires-clause-near
-later_tree-requires-clause-near g c =
+pub later_tree-requires : goal.later_tree-requires
+later_tree-requires g c =
     let nodes = c.args.leaper.now.nodes in
-    near_next (g.A.Automaton.next_of c.args.leaper.now.rule) (cell nodes c.args.first.now.tree) c.args.generations nodes c.args.now c.requires.now
-    (g.met.A.Automaton.quiet c.args.leaper.now.rule c.store.ensures.rule) c.requires.first.start.within c.requires.few
+    let now = c.requires.now in
+    record {
+      is_tree = now.near.is_tree;
+      low = now.low;
+      trimmed = now.trimmed;
+      few = omega arith;
+      near = near_next (g.A.Automaton.next_of c.args.leaper.now.rule) (cell nodes c.args.first.now.tree) c.args.generations nodes c.args.now now
+          (g.met.A.Automaton.quiet c.args.leaper.now.rule c.store.ensures.rule) c.requires.first.start.within c.requires.few;
+    }
 
 pub stage_of-requires-clause-first : goal.stage_of-requires-clause-first
 stage_of-requires-clause-first g c =

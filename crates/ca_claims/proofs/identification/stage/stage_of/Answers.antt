@@ -3,15 +3,13 @@ use Rattle.std.proofs.lemmas.Int.{to_z-of_z}
 use Rattle.ca_quad.specs.Boxes.{IsDead, IsLeastWideBox}
 use Rattle.ca_quad.specs.Shifted.{shifted_cells}
 use Rattle.ca_quad.specs.Trees.{cell}
-use Rattle.ca_claims.specs.inner.Subjects.{IsMove, IsNoMove}
 use Rattle.ca_claims.proofs.Corners.{corner_broad, corner_wide, far_corner_wide}
 use Rattle.ca_claims.proofs.Starts.{near_start}
 use Rattle.ca_claims.proofs.identification.stage.stage_of.Goals as goal
 
 pub returns-in_default-clause-stage : goal.returns-in_default-clause-stage
 returns-in_default-clause-stage g c =
-    subst (λ s. IsDead (cell s c.args.now.now)) c.store.ensures.nodes
-    (subst (λ t. IsDead (cell c.store.result.now t)) c.copy.ensures (rw c.in_default.is at c.in_ok-bounds.ensures))
+    subst (λ s. IsDead (cell s c.args.now.now)) c.store.ensures.nodes (rw c.in_default.is at c.in_ok-bounds.ensures)
 
 pub vector_between-requires-clause-from : goal.vector_between-requires-clause-from
 vector_between-requires-clause-from g c =
@@ -24,8 +22,7 @@ vector_between-requires-clause-from g c =
 pub vector_between-requires-clause-to : goal.vector_between-requires-clause-to
 vector_between-requires-clause-to g c =
     let now = cell c.args.leaper.now.nodes c.args.now.now in
-    let box = subst (λ s. IsLeastWideBox (cell s c.args.now.now) c.in-Some.bounds) c.store.ensures.nodes
-    (subst (λ t. IsLeastWideBox (cell c.store.result.now t) c.in-Some.bounds) c.copy.ensures (rw c.in-Some.is at c.in_ok-bounds.ensures)) in
+    let box = subst (λ s. IsLeastWideBox (cell s c.args.now.now) c.in-Some.bounds) c.store.ensures.nodes (rw c.in-Some.is at c.in_ok-bounds.ensures) in
     let corner = corner_wide now c.in-Some.bounds box c.requires.now.near in
     let far = far_corner_wide now c.in-Some.bounds box c.requires.now.near in
     record { left = corner.0; top = corner.1; right = far.0; bottom = far.1 }
@@ -33,10 +30,12 @@ vector_between-requires-clause-to g c =
 pub returns-in_default-vector_between-clause-stage : goal.returns-in_default-vector_between-clause-stage
 returns-in_default-vector_between-clause-stage g c =
     let nodes = c.args.leaper.now.nodes in
-    let box = subst (λ s. IsLeastWideBox (cell s c.args.now.now) c.in-Some.bounds) c.store.ensures.nodes
-    (subst (λ t. IsLeastWideBox (cell c.store.result.now t) c.in-Some.bounds) c.copy.ensures (rw c.in-Some.is at c.in_ok-bounds.ensures)) in
+    let box = subst (λ s. IsLeastWideBox (cell s c.args.now.now) c.in-Some.bounds) c.store.ensures.nodes (rw c.in-Some.is at c.in_ok-bounds.ensures) in
     let nowhere = rw c.in_default-vector_between.is at (c.vector_between.ensures (cell nodes c.args.first.now.tree) (cell nodes c.args.now.now) c.requires.first.box box) in
     ((c.in-Some.bounds.x0, box.left.0, box.left.1), nowhere)
+
+pub vector_if_back-requires-clause-first : goal.vector_if_back-requires-clause-first
+vector_if_back-requires-clause-first g c = near_start c.args.leaper.now.nodes c.args.first.now.tree c.requires.first.start
 
 pub vector_if_back-requires-clause-only : goal.vector_if_back-requires-clause-only
 vector_if_back-requires-clause-only g c = λ dx dy is.
@@ -44,11 +43,9 @@ vector_if_back-requires-clause-only g c = λ dx dy is.
     let first = c.args.first.now.tree in
     let fits_x : SFits w64 c.in-Some-vector_between.dx = search rules in
     let fits_y : SFits w64 c.in-Some-vector_between.dy = search rules in
-    let box = subst (λ s. IsLeastWideBox (cell s c.args.now.now) c.in-Some.bounds) c.store.ensures.nodes
-    (subst (λ t. IsLeastWideBox (cell c.store.result.now t) c.in-Some.bounds) c.copy.ensures (rw c.in-Some.is at c.in_ok-bounds.ensures)) in
+    let box = subst (λ s. IsLeastWideBox (cell s c.args.now.now) c.in-Some.bounds) c.store.ensures.nodes (rw c.in-Some.is at c.in_ok-bounds.ensures) in
     let only = rw c.in-Some-vector_between.is at (c.vector_between.ensures (cell nodes first) (cell nodes c.args.now.now) c.requires.first.box box) in
-    let moved = subst (λ t. IsMove nodes t first dx dy) c.copy-2.ensures (subst (λ t. IsMove nodes c.copy-2.result t dx dy) c.copy-3.ensures is) in
-    let vector = only dx dy moved in
+    let vector = only dx dy is in
     (vector.0 ∙ sym (to_z-of_z w64 c.in-Some-vector_between.dx fits_x), vector.1 ∙ sym (to_z-of_z w64 c.in-Some-vector_between.dy fits_y))
 
 pub returns-in-Some-2-clause-stage : goal.returns-in-Some-2-clause-stage
@@ -59,14 +56,13 @@ returns-in-Some-2-clause-stage g c = λ x y.
     let dy = c.in-Some-2.dy in
     let fits_x : SFits w64 dx = search rules in
     let fits_y : SFits w64 dy = search rules in
-    let moved = subst (λ t. IsMove nodes t first dx dy) c.copy-2.ensures (subst (λ t. IsMove nodes c.copy-2.result t dx dy) c.copy-3.ensures (rw c.in-Some-2.is at c.in_ok-dx.ensures.back)) in
+    let moved = rw c.in-Some-2.is at c.in_ok-dx.ensures.back in
     moved x y ∙ ap₂ (λ a b. shifted_cells (cell nodes first) a b x y) (sym (to_z-of_z w64 dx fits_x)) (sym (to_z-of_z w64 dy fits_y))
 
 pub returns-in-None-clause-stage : goal.returns-in-None-clause-stage
 returns-in-None-clause-stage g c =
     let nodes = c.args.leaper.now.nodes in
     let first = c.args.first.now.tree in
-    let box = subst (λ s. IsLeastWideBox (cell s c.args.now.now) c.in-Some.bounds) c.store.ensures.nodes
-    (subst (λ t. IsLeastWideBox (cell c.store.result.now t) c.in-Some.bounds) c.copy.ensures (rw c.in-Some.is at c.in_ok-bounds.ensures)) in
-    let nowhere = subst (λ t. IsNoMove nodes t first) c.copy-2.ensures (subst (λ t. IsNoMove nodes c.copy-2.result t) c.copy-3.ensures (rw c.in-None.is at c.in_ok-dx.ensures.back)) in
+    let box = subst (λ s. IsLeastWideBox (cell s c.args.now.now) c.in-Some.bounds) c.store.ensures.nodes (rw c.in-Some.is at c.in_ok-bounds.ensures) in
+    let nowhere = rw c.in-None.is at c.in_ok-dx.ensures.back in
     ((c.in-Some.bounds.x0, box.left.0, box.left.1), nowhere)

@@ -1,0 +1,30 @@
+use Rattle.std.proofs.Common.{refl, sym, subst, ◌∙◌}
+use Rattle.ca_quad.specs.Trees.{cell}
+use Rattle.ca_claims.specs.inner.Glance.{IsTold}
+use Rattle.ca_claims.specs.inner.Patterns.{rule_of}
+use Rattle.ca_claims.proofs.OneText.{bounds_shown}
+use Rattle.ca_claims.proofs.Told.{read_pattern, ready_file, summed_up}
+use Rattle.ca_claims.proofs.glance.summary_with_detail.Goals as goal
+
+pub returns-in-Rle-clause-summary : goal.returns-in-Rle-clause-summary
+returns-in-Rle-clause-summary c =
+    summed_up c.args.bytes.now c.args.tables.now _ _ _ c.in_ok-ruled-in-Rle.ensures.ready.file _ (record {
+      kind_is = sym c.in-Rle.is ∙ c.format_of.ensures;
+      printed = c.in-Ok.ensures.printed;
+      generation_is = refl;
+      population = c.len.ensures.population;
+      bounds = λ picture same. bounds_shown c.in_ok-ruled-in-Rle.ruled.cells picture same c.bounds.result c.bounds.ensures.none c.bounds.ensures.some;
+    })
+
+pub sum_up-requires : goal.sum_up-requires
+sum_up-requires c =
+    let pattern = read_pattern c.read_ruled.new.store c.args.bytes.now c.in_ok-ruled-in-Mc.ruled.pattern c.in_ok-ruled-in-Mc.ensures.ready.read in
+    record { is_tree = pattern.is_tree; low = pattern.low }
+
+pub returns-in-Ok-sum_up-clause-summary : goal.returns-in-Ok-sum_up-clause-summary
+returns-in-Ok-sum_up-clause-summary c =
+    let nodes = c.read_ruled.new.store in
+    let ruled = c.in_ok-ruled-in-Mc.ruled in
+    let ready = c.in_ok-ruled-in-Mc.ensures.ready in
+    summed_up c.args.bytes.now c.args.tables.now _ _ _ (ready_file nodes c.args.bytes.now c.args.tables.now ruled ready) c.in-Ok-sum_up.summary
+    (subst (λ k. IsTold k (cell nodes ruled.pattern.tree) (rule_of ruled) ruled.pattern.generation c.in-Ok-sum_up.summary) ready.read.loaded.kind c.in-Ok-sum_up.ensures.told)
