@@ -13,7 +13,7 @@ ghost use Rattle.ca_claims.specs.Refused.{HasReachDetail};
 ghost use Rattle.ca_claims.specs.Text.{most_generations};
 ghost use Rattle.ca_claims.specs.inner.Spending.{Takes};
 ghost use Rattle.ca_claims.specs.inner.Stages.{IsLaterTree};
-ghost use Rattle.ca_claims.specs.inner.Subjects.{IsPattern};
+ghost use Rattle.ca_claims.specs.inner.Subjects.{IsRun};
 
 use crate::cells::are_in_range;
 use crate::conversion::{ConvertFault, text_of_tree};
@@ -64,23 +64,18 @@ pub fn run_on<'t, O: Observer>(
         Ok(ruled) => ruled,
         Err(refused) => return Err(unreached(refused)),
     };
-    let Some(generation) = later_generation(ruled.pattern.generation, generations) else {
+    let pattern = &ruled.pattern;
+    let Some(generation) = later_generation(pattern.generation, generations) else {
         return Err(Refused::of(ReachFault::GenTooLarge));
     };
     let Ok(mut leaper) = Leaper::new(alloc, store, ruled.rule, limits.memo, limits.work) else {
         return Err(Refused::of(OUT_OF_MEMORY));
     };
-    match end_of(
-        alloc,
-        &mut leaper,
-        &ruled.pattern.tree,
-        generations,
-        observer,
-    ) {
+    match end_of(alloc, &mut leaper, pattern.tree, generations, observer) {
         Ok(End { store, tree }) => Ok(Reached {
             store,
             tree,
-            kind: ruled.pattern.kind,
+            kind: pattern.kind,
             rule: ruled.rule,
             generation,
         }),
@@ -202,24 +197,23 @@ struct End {
 fn end_of<A: Automaton, O: Observer>(
     alloc: Global,
     leaper: &mut Leaper<A>,
-    pattern: &Tree,
+    pattern: Tree,
     generations: u64,
     observer: &mut O,
 ) -> Result<End, LeapFault>
-    requires pattern { IsPattern leaper.old.nodes pattern.now }
-    requires few { generations ≤ most_generations }
+    requires { IsRun leaper.old.nodes pattern generations }
     ensures end { IfOk result (λ end. IsLaterTree (A.next_of leaper.old.rule)
-        (cell leaper.old.nodes pattern.now) generations end.store end.tree × (end.tree.level ≤ 62)) }
-    ensures small { ((x y : ℤ) → cell leaper.old.nodes pattern.now x y < A.state_count leaper.old.rule)
+        (cell leaper.old.nodes pattern) generations end.store end.tree × (end.tree.level ≤ 62)) }
+    ensures small { ((x y : ℤ) → cell leaper.old.nodes pattern x y < A.state_count leaper.old.rule)
         → IfOk result (λ end. (x y : ℤ) → cell end.store end.tree x y < A.state_count leaper.old.rule) }
     ensures goes_on { LeaperGrows A leaper.old leaper.new }
-    ensures takes { Takes leaper.old.spent.used leaper.new.spent.used 1 pattern.now.level generations }
+    ensures takes { Takes leaper.old.spent.used leaper.new.spent.used 1 pattern.level generations }
     ensures work { EndsAtLimit leaper.new.spent result }
 {
     // Says what holds of every leaper.
     let _ = leaper.store();
     observer.begins(1);
-    let run = tree_after(leaper, pattern, generations, observer);
+    let run = tree_after(leaper, &pattern, generations, observer);
     observer.ends();
     let end = run?;
     let mut store = Store::new(alloc);

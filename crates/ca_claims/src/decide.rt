@@ -17,7 +17,7 @@ ghost use Rattle.ca_claims.specs.declared.verdict.Cause.TheVariants.{Work, Memor
 ghost use Rattle.ca_claims.specs.declared.verdict.Verdict.TheVariants.{Refused};
 ghost use Rattle.ca_claims.specs.inner.Spending.{Takes};
 ghost use Rattle.ca_claims.specs.inner.Decided.{IsDecided};
-ghost use Rattle.ca_claims.specs.inner.Subjects.{ShowsTree, IsPattern, IsNearTree, IsCase, AreShown, HasLive};
+ghost use Rattle.ca_claims.specs.inner.Subjects.{ShowsTree, IsPattern, IsRun, IsNearTree, IsCase, AreShown, HasLive};
 ghost use Rattle.ca_claims.specs.inner.Subjects.{IsEndTree, IsMoved, IsDifference};
 
 mod deaths;
@@ -242,8 +242,7 @@ pub(crate) fn tree_after<A: Automaton, O: Observer>(
     generations: u64,
     observer: &mut O,
 ) -> Result<Tree, LeapFault>
-    requires pattern { IsPattern leaper.old.nodes pattern.now }
-    requires few { generations ≤ 2 ^ 60 }
+    requires { IsRun leaper.old.nodes pattern.now generations }
     ensures end { IfOk result
         (IsEndTree (A.next_of leaper.old.rule) leaper.old.nodes pattern.now generations leaper.new.nodes) }
     ensures goes_on { LeaperGrows A leaper.old leaper.new }

@@ -226,5 +226,5 @@ fn identity_of<A: Automaton, O: Observer>(
         tree: *tree,
         bounds,
     };
-    search(alloc, leaper, &first, limit, observer)
+    search(alloc, leaper, first, limit, observer)
 }

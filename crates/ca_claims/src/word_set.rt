@@ -10,8 +10,8 @@ use indexmap::IndexSet;
 use std::alloc::Global;
 use std::marker::Model;
 
-/// Words, as paths or names, of which no two are equal, in the order in which they were put. A word is found by
-/// its hash.
+/// Words, as paths or names, of which no two are equal, in the order in which they were put. A word is found
+/// by its hash.
 #[derive(Drop)]
 pub struct WordSet {
     set: IndexSet<Vec<u8>>,

@@ -18,6 +18,7 @@ use Rattle.ca_claims.specs.declared.decide.Subject.{Subject}
 use Rattle.ca_claims.specs.declared.decide.Case.{Case}
 use Rattle.ca_claims.specs.declared.verdict.Why.{Why}
 use Rattle.ca_claims.specs.declared.verdict.Why.TheVariants.{Differs}
+use Rattle.ca_claims.specs.Text.{most_generations}
 use Rattle.ca_claims.specs.Truth.{MayReturnBy, IsLiveAfter, ShowsNothingBarred}
 use Rattle.ca_claims.specs.inner.Decided.{BarsReturns, IsBounded}
 use Rattle.ca_claims.specs.inner.Divisors.{AreDivisors}
@@ -32,6 +33,11 @@ pub record IsPattern (nodes : List Node) (tree : Tree) : Type 0 where
   pub low : tree.level ≤ 63
   pub trimmed : IsTrimmed nodes tree
   pub range : AreInRange (cell nodes tree)
+
+-- a pattern's tree, from which a plane is taken n generations on
+pub record IsRun (nodes : List Node) (tree : Tree) (n : ℕ) : Type 0 where
+  pub pattern : IsPattern nodes tree
+  pub few : n ≤ most_generations
 
 -- a tree with no live cell outside the square of a plane
 pub record IsNearTree (nodes : List Node) (tree : Tree) : Type 0 where

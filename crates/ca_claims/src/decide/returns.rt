@@ -84,7 +84,8 @@ fn return_at<A: Automaton, O: Observer>(
     }
 }
 
-/// The vector, where a tree shows the cells of an earlier one moved by it. No other vector can move them there.
+/// The vector, where a tree shows the cells of an earlier one moved by it. No other vector can move them
+/// there.
 pub(crate) fn vector_if_back<A: Automaton>(
     leaper: &mut Leaper<A>,
     now: Tree,

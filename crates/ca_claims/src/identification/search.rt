@@ -25,18 +25,18 @@ use std::alloc::Global;
 pub(super) fn search<A: Automaton, O: Observer>(
     alloc: Global,
     leaper: &mut Leaper<A>,
-    first: &First,
+    first: First,
     limit: u64,
     observer: &mut O,
 ) -> Result<Identity, LeapFault>
-    requires first { IsFirst leaper.old.nodes first.now }
+    requires first { IsFirst leaper.old.nodes first }
     requires some { 1 ≤ limit }
     requires most { limit ≤ longest_period }
-    ensures identity { (cells : Picture) → ShowsTree leaper.old.nodes first.now.tree cells
+    ensures identity { (cells : Picture) → ShowsTree leaper.old.nodes first.tree cells
         → IfOk result (IsIdentity (A.next_of leaper.old.rule) cells limit) }
     ensures goes_on { LeaperGrows A leaper.old leaper.new }
     ensures takes { TakesSteps leaper.old.spent.used leaper.new.spent.used
-        (cells_after (A.next_of leaper.old.rule) (cell leaper.old.nodes first.now.tree)) limit limit }
+        (cells_after (A.next_of leaper.old.rule) (cell leaper.old.nodes first.tree)) limit limit }
     ensures work { EndsAtLimit leaper.new.spent result }
 {
     // Says what holds of every leaper.
@@ -45,7 +45,7 @@ pub(super) fn search<A: Automaton, O: Observer>(
     let mut generations: u64 = 0;
     'generations: while generations < limit {
         observer.goes_to(generations + 1);
-        let later = step(alloc, leaper, first, now, generations)?;
+        let later = step(alloc, leaper, &first, now, generations)?;
         now = later.tree;
         generations += 1;
         match later.stage {

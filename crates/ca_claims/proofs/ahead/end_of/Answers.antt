@@ -10,7 +10,7 @@ pub returns-clause-end : goal.returns-clause-end
 returns-clause-end g c =
     let next = g.A.Automaton.next_of c.args.leaper.now.rule in
     let quiet = g.met.A.Automaton.quiet c.args.leaper.now.rule c.store.ensures.rule in
-    let first = cell c.args.leaper.now.nodes c.args.pattern.now in
+    let first = cell c.args.leaper.now.nodes c.args.pattern in
     let tree = c.in_ok-tree.tree in
     let told = c.in_ok-tree.ensures in
     let end = c.in_ok-end.end in
@@ -34,7 +34,7 @@ pub returns-clause-small : goal.returns-clause-small
 returns-clause-small g c = λ small x y.
     let rule = c.args.leaper.now.rule in
     let count = g.A.Automaton.state_count rule in
-    let first = cell c.args.leaper.now.nodes c.args.pattern.now in
+    let first = cell c.args.leaper.now.nodes c.args.pattern in
     let end = c.in_ok-end.end in
     let shows = c.in_ok-tree.ensures.cells x y ∙ c.in_ok-copy.ensures.cells x y ∙ ap (λ s. cell s end x y) c.store-2.ensures.nodes ∙ c.in_ok-end.ensures.end.shows x y in
     let later = later_small (g.A.Automaton.next_of rule) first count (λ nine long below. g.met.A.Automaton.closed rule nine c.store.ensures.rule long below) small c.args.generations x y in

@@ -12,10 +12,13 @@ use Rattle.ca_claims.proofs.ReachedFiles.{file_reaches, file_needs_run, file_wan
 use Rattle.ca_claims.proofs.Told.{read_pattern}
 use Rattle.ca_claims.proofs.ahead.run_on.Goals as goal
 
-pub end_of-requires-clause-pattern : goal.end_of-requires-clause-pattern
-end_of-requires-clause-pattern g c =
+pub end_of-requires : goal.end_of-requires
+end_of-requires g c =
     let ruled = c.in-Ok.ruled in
-    subst (λ s. IsPattern s ruled.pattern.tree) (sym c.in-Ok-new.ensures.store) (read_pattern c.read_ruled.new.store c.args.bytes.now ruled.pattern c.in-Ok.ensures.ready.read)
+    record {
+      pattern = subst (λ s. IsPattern s ruled.pattern.tree) (sym c.in-Ok-new.ensures.store) (read_pattern c.read_ruled.new.store c.args.bytes.now ruled.pattern c.in-Ok.ensures.ready.read);
+      few = c.requires.few;
+    }
 
 pub returns-in-Ok-end_of-clause-reached : goal.returns-in-Ok-end_of-clause-reached
 returns-in-Ok-end_of-clause-reached g c =

@@ -2,6 +2,9 @@ use Rattle.ca_run.proofs.Shown.{goes_on_again}
 use Rattle.ca_claims.proofs.Leapt.{near_stays, case_stays, shown_stays, wrong_cell, ok_as}
 use Rattle.ca_claims.proofs.decide.find_wrong_cell.Goals as goal
 
+pub tree_after-requires : goal.tree_after-requires
+tree_after-requires g c = record { pattern = c.requires.pattern; few = c.requires.bounded.few }
+
 pub claimed_tree-requires : goal.claimed_tree-requires
 claimed_tree-requires g c = case_stays c.args.leaper.now.nodes c.tree_after.new.leaper.nodes c.store.ensures.sound c.in_ok-end.ensures.goes_on.grows c.args.case.now c.requires
 

@@ -5,9 +5,11 @@ use Rattle.ca_claims.proofs.Spending.{takes_one_more, takes_fewer}
 use Rattle.ca_claims.proofs.LifeSpans.{dead_by_middle, lives_at_middle, span_found}
 use Rattle.ca_claims.proofs.decide.deaths.life_span.Goals as goal
 
-pub tree_after-requires-clause-pattern : goal.tree_after-requires-clause-pattern
-tree_after-requires-clause-pattern g c =
-    pattern_stays c.args.leaper.now.nodes c.halves.leaper.nodes c.store.ensures.sound c.halves.invariant.goes_on.grows c.args.case.now.subject.pattern c.requires.subject.pattern
+pub tree_after-requires : goal.tree_after-requires
+tree_after-requires g c = record {
+  pattern = pattern_stays c.args.leaper.now.nodes c.halves.leaper.nodes c.store.ensures.sound c.halves.invariant.goes_on.grows c.args.case.now.subject.pattern c.requires.subject.pattern;
+  few = omega (arith, c.halves-test.true, c.halves.invariant.bounds.order, c.halves.invariant.bounds.within, c.requires.subject.bounded.few);
+}
 
 pub halves-preserved-then-is_dead : goal.halves-preserved-then-is_dead
 halves-preserved-then-is_dead g c = record {

@@ -6,6 +6,9 @@ use Rattle.ca_claims.proofs.DividedReturns.{back_here, back_there}
 use Rattle.ca_claims.proofs.Spending.{takes_before}
 use Rattle.ca_claims.proofs.decide.returns.return_at.Goals as goal
 
+pub tree_after-requires : goal.tree_after-requires
+tree_after-requires g c = record { pattern = c.requires.case.subject.pattern; few = c.requires.few }
+
 pub return_anywhere-requires-clause-pattern : goal.return_anywhere-requires-clause-pattern
 return_anywhere-requires-clause-pattern g c =
     pattern_stays c.args.leaper.now.nodes c.tree_after.new.leaper.nodes c.store.ensures.sound c.in_ok-end.ensures.goes_on.grows c.args.case.now.subject.pattern c.requires.case.subject.pattern

@@ -16,10 +16,10 @@ pub generations-init : goal.generations-init
 generations-init g c =
     let next = g.A.Automaton.next_of c.args.leaper.now.rule in
     let s0 = c.args.leaper.now.nodes in
-    let first = cell s0 c.args.first.now.tree in
+    let first = cell s0 c.args.first.tree in
     record {
       goes_on = goes_on_same _ c.args.leaper.now c.store.ensures.sound;
-      now = first_tree next s0 c.args.first.now.tree c.requires.first.start;
+      now = first_tree next s0 c.args.first.tree c.requires.first.start;
       others = others_at_first next first;
       within = omega arith;
       takes = no_step _ _ (cells_after next first) c.args.limit refl;
@@ -27,7 +27,7 @@ generations-init g c =
 
 pub step-requires-clause-first : goal.step-requires-clause-first
 step-requires-clause-first g c =
-    first_stays c.args.leaper.now.nodes c.generations.leaper.nodes c.store.ensures.sound c.generations.invariant.goes_on.grows c.args.first.now c.requires.first
+    first_stays c.args.leaper.now.nodes c.generations.leaper.nodes c.store.ensures.sound c.generations.invariant.goes_on.grows c.args.first c.requires.first
 
 pub step-requires-clause-now : goal.step-requires-clause-now
 step-requires-clause-now g c =
@@ -37,7 +37,7 @@ step-requires-clause-now g c =
 pub returns-in_err-later-clause-takes : goal.returns-in_err-later-clause-takes
 returns-in_err-later-clause-takes g c =
     let inv = c.generations.invariant in
-    last_step _ _ _ (cells_after (g.A.Automaton.next_of c.args.leaper.now.rule) (cell c.args.leaper.now.nodes c.args.first.now.tree)) c.args.limit c.generations.generations
+    last_step _ _ _ (cells_after (g.A.Automaton.next_of c.args.leaper.now.rule) (cell c.args.leaper.now.nodes c.args.first.tree)) c.args.limit c.generations.generations
     c.generations.leaper.nodes c.generations.now inv.now.trimmed inv.now.shows (omega (arith, c.generations-test.true)) inv.takes c.step.ensures.takes
 
 pub returns-in-Empty : goal.returns-in-Empty
@@ -46,10 +46,10 @@ returns-in-Empty g c =
     let n = c.generations.generations in
     let told = stage_to g.A.Automaton.next_of inv.goes_on.rule c.store.ensures.sound inv.goes_on.grows c.requires.first (n + 1) c.in_ok-later.later.stage c.in_ok-later.ensures.stage in
     let next = g.A.Automaton.next_of c.args.leaper.now.rule in
-    let p = cell c.args.leaper.now.nodes c.args.first.now.tree in
+    let p = cell c.args.leaper.now.nodes c.args.first.tree in
     record {
       identity = λ cells shows.
-          found_death next (g.met.A.Automaton.quiet c.args.leaper.now.rule c.store.ensures.rule) c.args.leaper.now.nodes c.args.first.now c.requires.first cells shows n inv.others c.args.limit
+          found_death next (g.met.A.Automaton.quiet c.args.leaper.now.rule c.store.ensures.rule) c.args.leaper.now.nodes c.args.first c.requires.first cells shows n inv.others c.args.limit
           (omega (arith, c.generations-test.true)) c.requires.most (subst (IsStage p (cells_after next p (n + 1))) c.in-Empty.is told);
       goes_on = goes_on_again _ c.args.leaper.now c.generations.leaper c.step.new.leaper inv.goes_on c.in_ok-later.ensures.goes_on;
       takes = last_step _ _ _ (cells_after next p) c.args.limit n c.generations.leaper.nodes c.generations.now inv.now.trimmed inv.now.shows (omega (arith, c.generations-test.true)) inv.takes c.step.ensures.takes;
@@ -62,14 +62,14 @@ returns-in-Back g c =
     let n = c.generations.generations in
     let told = stage_to g.A.Automaton.next_of inv.goes_on.rule c.store.ensures.sound inv.goes_on.grows c.requires.first (n + 1) c.in_ok-later.later.stage c.in_ok-later.ensures.stage in
     let next = g.A.Automaton.next_of c.args.leaper.now.rule in
-    let p = cell c.args.leaper.now.nodes c.args.first.now.tree in
+    let p = cell c.args.leaper.now.nodes c.args.first.tree in
     let dx = c.in-Back.dx in
     let dy = c.in-Back.dy in
     let fits_x : SFits w64 dx = search rules in
     let fits_y : SFits w64 dy = search rules in
     record {
       identity = λ cells shows.
-          let back = found_return next (g.met.A.Automaton.quiet c.args.leaper.now.rule c.store.ensures.rule) c.args.leaper.now.nodes c.args.first.now c.requires.first cells shows n inv.others c.args.limit
+          let back = found_return next (g.met.A.Automaton.quiet c.args.leaper.now.rule c.store.ensures.rule) c.args.leaper.now.nodes c.args.first c.requires.first cells shows n inv.others c.args.limit
           (omega (arith, c.generations-test.true)) c.requires.most dx dy (subst (IsStage p (cells_after next p (n + 1))) c.in-Back.is told) in
           c.returning.ensures next cells c.args.limit (omega (arith, c.generations-test.true)) c.requires.most
           (subst (λ a. IsReturn next cells (n + 1) a (to_z w64 (of_z w64 dy))) (sym (to_z-of_z w64 dx fits_x))
@@ -85,7 +85,7 @@ generations-preserved g c =
     let n = c.generations.generations in
     let told = stage_to g.A.Automaton.next_of inv.goes_on.rule c.store.ensures.sound inv.goes_on.grows c.requires.first (n + 1) c.in_ok-later.later.stage c.in_ok-later.ensures.stage in
     let s = c.generations.leaper.nodes in
-    let p = cell c.args.leaper.now.nodes c.args.first.now.tree in
+    let p = cell c.args.leaper.now.nodes c.args.first.tree in
     let stages = cells_after (g.A.Automaton.next_of c.args.leaper.now.rule) p in
     record {
       goes_on = goes_on_again _ c.args.leaper.now c.generations.leaper c.step.new.leaper inv.goes_on c.in_ok-later.ensures.goes_on;
@@ -99,7 +99,7 @@ pub growth_of-requires-clause-low : goal.growth_of-requires-clause-low
 growth_of-requires-clause-low g c =
     let inv = c.generations.invariant in
     let next = g.A.Automaton.next_of c.args.leaper.now.rule in
-    let p = cell c.args.leaper.now.nodes c.args.first.now.tree in
+    let p = cell c.args.leaper.now.nodes c.args.first.tree in
     let quiet = g.met.A.Automaton.quiet c.args.leaper.now.rule c.store.ensures.rule in
     let low = start_is_low next p c.generations.generations quiet c.requires.first.start.within (let within = inv.within in let most = c.requires.most in omega (arith, within, most)) c.generations.leaper.nodes c.generations.now inv.now.trimmed inv.now.shows in
     subst (λ s. IsLowTree s c.generations.now) (sym c.store-2.ensures.nodes) (record { is_tree = inv.now.near.is_tree; low = omega (arith, low) })
@@ -108,7 +108,7 @@ pub growth_of-requires-clause-live : goal.growth_of-requires-clause-live
 growth_of-requires-clause-live g c =
     let inv = c.generations.invariant in
     let next = g.A.Automaton.next_of c.args.leaper.now.rule in
-    let p = cell c.args.leaper.now.nodes c.args.first.now.tree in
+    let p = cell c.args.leaper.now.nodes c.args.first.tree in
     subst (λ s. HasLive (cell s c.generations.now)) (sym c.store-2.ensures.nodes)
     (last_live next p c.generations.generations c.generations.leaper.nodes c.generations.now inv.now inv.others (omega (arith, c.generations-test.false, c.requires.some)))
 
@@ -116,18 +116,18 @@ pub returns-clause-identity : goal.returns-clause-identity
 returns-clause-identity g c = λ cells shows.
     let inv = c.generations.invariant in
     let next = g.A.Automaton.next_of c.args.leaper.now.rule in
-    let p = cell c.args.leaper.now.nodes c.args.first.now.tree in
+    let p = cell c.args.leaper.now.nodes c.args.first.tree in
     let all : c.generations.generations ≡ c.args.limit = let within = inv.within in omega (arith, within, c.generations-test.false) in
-    found_none next (g.met.A.Automaton.quiet c.args.leaper.now.rule c.store.ensures.rule) c.args.leaper.now.nodes c.args.first.now c.requires.first cells shows c.args.limit
+    found_none next (g.met.A.Automaton.quiet c.args.leaper.now.rule c.store.ensures.rule) c.args.leaper.now.nodes c.args.first c.requires.first cells shows c.args.limit
     (subst (AreOtherUpTo next p) all inv.others) c.generations.leaper.nodes c.generations.now (subst (λ n. IsLaterTree next p n c.generations.leaper.nodes c.generations.now) all inv.now)
     c.in_ok-growth.growth (subst (λ s. IsGrowthOf s c.generations.now c.in_ok-growth.growth) c.store-2.ensures.nodes c.in_ok-growth.ensures)
 
 pub returns-clause-takes : goal.returns-clause-takes
 returns-clause-takes g c =
-    fewer_steps _ _ (cells_after (g.A.Automaton.next_of c.args.leaper.now.rule) (cell c.args.leaper.now.nodes c.args.first.now.tree)) c.args.limit c.generations.generations
+    fewer_steps _ _ (cells_after (g.A.Automaton.next_of c.args.leaper.now.rule) (cell c.args.leaper.now.nodes c.args.first.tree)) c.args.limit c.generations.generations
     c.generations.invariant.within c.generations.invariant.takes
 
 pub returns-in_err-growth-clause-takes : goal.returns-in_err-growth-clause-takes
 returns-in_err-growth-clause-takes g c =
-    fewer_steps _ _ (cells_after (g.A.Automaton.next_of c.args.leaper.now.rule) (cell c.args.leaper.now.nodes c.args.first.now.tree)) c.args.limit c.generations.generations
+    fewer_steps _ _ (cells_after (g.A.Automaton.next_of c.args.leaper.now.rule) (cell c.args.leaper.now.nodes c.args.first.tree)) c.args.limit c.generations.generations
     c.generations.invariant.within c.generations.invariant.takes
