@@ -211,6 +211,12 @@ some_run old new level (suc n) some takes = λ digits short.
     let most = takes digits short in
     omega (arith, most)
 
+-- a run, and no step
+pub run_alone : (next : List ℕ → ℕ) (p : ℤ → ℤ → ℕ) (old new level n limit : ℕ) → TakesRun old new level n → TakesRunAndSteps old new level n (cells_after next p) limit
+run_alone next p old new level n limit run digits height short some holds =
+    let first = run digits short in
+    omega (arith, first)
+
 -- a run, and steps from there
 pub run_then_steps : (next : List ℕ → ℕ) (p : ℤ → ℤ → ℕ) (old mid new level n limit : ℕ) (nodes : List Node) (start : Tree) → IsLaterTree next p n nodes start
     → TakesRun old mid level n → TakesSteps mid new (cells_after next (cell nodes start)) limit limit → TakesRunAndSteps old new level n (cells_after next p) limit

@@ -6,7 +6,7 @@ ghost use Rattle.ca_plane.specs.Generations.{cells_after};
 ghost use Rattle.ca_quad.specs.Trees.{cell};
 ghost use Rattle.ca_rule.specs.TableNext.{TableRule};
 ghost use Rattle.ca_run.specs.Leaping.{LeaperGrows, EndsAtLimit};
-ghost use Rattle.ca_claims.specs.Identified.{IsIdentity, IsIdentified, IsUnidentified};
+ghost use Rattle.ca_claims.specs.Identified.{IsIdentified, IsUnidentified};
 ghost use Rattle.ca_claims.specs.Identified.{IsIdentityAfter, IsIdentifiedAfter, IsUnidentifiedAfter};
 ghost use Rattle.ca_claims.specs.Limited.{AreGoodLimits};
 ghost use Rattle.ca_claims.specs.Converted.{IsSummaryFault};
@@ -14,7 +14,7 @@ ghost use Rattle.ca_claims.specs.Refused.{HasDetail};
 ghost use Rattle.ca_claims.specs.Text.{longest_period, most_generations};
 ghost use Rattle.ca_claims.specs.inner.Patterns.{cause_of};
 ghost use Rattle.ca_claims.specs.inner.Ready.{IsReady};
-ghost use Rattle.ca_claims.specs.inner.Stages.{IsStart, TakesSteps, TakesRunAndSteps};
+ghost use Rattle.ca_claims.specs.inner.Stages.{TakesRunAndSteps};
 ghost use Rattle.ca_claims.specs.inner.Subjects.{ShowsTree, IsPattern};
 
 mod growth;
@@ -196,29 +196,7 @@ fn identity_after<A: Automaton, O: Observer>(
     // Says what holds of every leaper.
     let _ = leaper.store();
     let start = later_tree(leaper, pattern, generations, observer)?;
-    identity_of(alloc, leaper, &start, limit, observer)
-}
-
-/// What the plane of a tree is under the leaper's rule, within so many generations.
-fn identity_of<A: Automaton, O: Observer>(
-    alloc: Global,
-    leaper: &mut Leaper<A>,
-    tree: &Tree,
-    limit: u64,
-    observer: &mut O,
-) -> Result<Identity, LeapFault>
-    requires start { IsStart leaper.old.nodes tree.now }
-    requires some { 1 ≤ limit }
-    requires most { limit ≤ longest_period }
-    ensures identity { (cells : Picture) → ShowsTree leaper.old.nodes tree.now cells
-        → IfOk result (IsIdentity (A.next_of leaper.old.rule) cells limit) }
-    ensures goes_on { LeaperGrows A leaper.old leaper.new }
-    ensures takes { TakesSteps leaper.old.spent.used leaper.new.spent.used
-        (cells_after (A.next_of leaper.old.rule) (cell leaper.old.nodes tree.now)) limit limit }
-    ensures work { EndsAtLimit leaper.new.spent result }
-{
-    // Says what holds of every leaper.
-    let _ = leaper.store();
+    let tree = &start;
     let Some(bounds) = leaper.store().bounds(alloc, *tree)? else {
         return Ok(Identity::Empty);
     };
