@@ -15,7 +15,8 @@ use Rattle.ca_run.specs.declared.leaper.trio.Rows.{Rows}
 use Rattle.ca_run.specs.Centre.{IsCentre, IsLeap}
 use Rattle.ca_run.specs.Leaping.{LeaperView, LeaperGrows}
 use Rattle.ca_run.specs.inner.Shown.{ShowsAt, FourShow, AreThree, ThreeShow, TwoShow, AreNine, NineShow, side}
-use Rattle.ca_run.proofs.Shown.{spends_same, at_stays, three_stay, three_are, four_was, four_stay, four_go, at_from, centre_at, is_centre_at, at_corner}
+use Rattle.ca_run.proofs.Overlaps.{pair_lies, trio_lies, rows_lie, four_lie}
+use Rattle.ca_run.proofs.Shown.{two_stay, spends_same, at_stays, three_stay, three_are, four_was, four_stay, four_go, at_from, centre_at, is_centre_at, at_corner}
 
 -- a leaper that does nothing goes on
 pub goes_on_same : (Rule : Type 0) (l : LeaperView Rule) → IsSoundStore l.nodes → LeaperGrows Rule l l
@@ -85,86 +86,33 @@ nine_are f g h k rows north middle south = record {
   south = south;
 }
 
-module _ (nodes : List Node) (level : ℕ) where
-  -- three squares from a place by another name
-  pub three_from : (three : Trio ℕ) (p : ℤ → ℤ → ℕ) (a b c d : ℤ) → a ≡ c → b ≡ d → ThreeShow nodes level three p a b → ThreeShow nodes level three p c d
-  three_from three p a b c d e f h = subst (λ x. ThreeShow nodes level three p x d) e (subst (λ y. ThreeShow nodes level three p a y) f h)
-
-  -- the four in the west of two rows of three
-  pub west_four : (north south : Trio ℕ) (p : ℤ → ℤ → ℕ) (a b : ℤ) → ThreeShow nodes level north p a b → ThreeShow nodes level south p a (b +ℤ side level)
-      → FourShow nodes level north.west north.middle south.west south.middle p a b
-  west_four north south p a b n s = record { at_nw = n.at_west; at_ne = n.at_middle; at_sw = s.at_west; at_se = s.at_middle }
-
-  -- and those in the east
-  pub east_four : (north south : Trio ℕ) (p : ℤ → ℤ → ℕ) (a b : ℤ) → ThreeShow nodes level north p a b → ThreeShow nodes level south p a (b +ℤ side level)
-      → FourShow nodes level north.middle north.east south.middle south.east p (a +ℤ side level) b
-  east_four north south p a b n s = record { at_nw = n.at_middle; at_ne = n.at_east; at_sw = s.at_middle; at_se = s.at_east }
-
 module _ (k : ℕ) where
-  -- half of a side and then a side is a side and then half of it
-  pub side_turn : (a : ℤ) → (a +ℤ side (suc k)) +ℤ side k ≡ (a +ℤ side k) +ℤ side (suc k)
-  side_turn a = omega (arith, ints)
-
-  pub side_twice : (a : ℤ) → (a +ℤ side k) +ℤ side k ≡ a +ℤ side (suc k)
-  side_twice a =
-      let up = two-pow-succ k in
-      omega (arith, ints, up)
-
-  pub side_far : (a : ℤ) → (a +ℤ side (suc (suc k))) +ℤ side k ≡ (a +ℤ side k) +ℤ side (suc k) +ℤ side (suc k)
-  side_far a =
-      let up = two-pow-succ (suc k) in
-      omega (arith, ints, up)
-
-  pub side_last : (a : ℤ) → ((a +ℤ side k) +ℤ side (suc k)) +ℤ side k ≡ (a +ℤ side (suc k)) +ℤ side (suc k)
-  side_last a =
-      let up = two-pow-succ k in
-      omega (arith, ints, up)
-
   -- centres of two squares that lie side by side and overlap by half
   pub pair_at : {old mid new : List Node} → Grows old mid → Grows mid new → (west east : ℕ) (p : ℤ → ℤ → ℕ) (a b c : ℤ) → ShowsAt mid west (suc k) p (a +ℤ side k) c → ShowsAt new east (suc k) p ((a +ℤ side (suc k)) +ℤ side k) c
       → TwoShow new (suc k) west east p (a +ℤ side k) c
-  pair_at f g west east p a b c w e = record {
-    at_west = at_stays _ _ f.sound g west (suc k) p (a +ℤ side k) c w;
-    at_east = at_from _ east (suc k) p ((a +ℤ side (suc k)) +ℤ side k) c ((a +ℤ side k) +ℤ side (suc k)) c (side_turn a) refl e;
-  }
+  pair_at {new = new} f g west east p a b c w e = pair_lies (λ id. ShowsAt new id (suc k)) k west east p a c (at_stays _ _ f.sound g west (suc k) p (a +ℤ side k) c w) e
 
   -- and of three, by three calls, each of which goes by the rule that the first one went by
   pub trio_at : {Rule : Type 0} {l0 l1 l2 l3 : LeaperView Rule} {next : List ℕ → ℕ} (next_of : Rule → List ℕ → ℕ) → next ≡ next_of l0.rule
       → LeaperGrows Rule l0 l1 → LeaperGrows Rule l1 l2 → LeaperGrows Rule l2 l3 → (three : Trio ℕ) (p : ℤ → ℤ → ℕ) (a c : ℤ) → ShowsAt l1.nodes three.west (suc k) p (a +ℤ side k) c
       → (next ≡ next_of l1.rule → Grows l0.nodes l1.nodes → ShowsAt l2.nodes three.middle (suc k) p ((a +ℤ side (suc k)) +ℤ side k) c)
       → (next ≡ next_of l2.rule → Grows l0.nodes l2.nodes → ShowsAt l3.nodes three.east (suc k) p ((a +ℤ side (suc (suc k))) +ℤ side k) c) → ThreeShow l3.nodes (suc k) three p (a +ℤ side k) c
-  trio_at next_of e f g h three p a c west middle east =
+  trio_at {l3 = l3} next_of e f g h three p a c west middle east =
       let e1 = rule_on next_of e f in
-      record {
-        at_west = at_stays _ _ f.grows.sound (grows_on _ _ _ g.grows h.grows) three.west (suc k) p (a +ℤ side k) c west;
-        at_middle = at_from _ three.middle (suc k) p ((a +ℤ side (suc k)) +ℤ side k) c ((a +ℤ side k) +ℤ side (suc k)) c (side_turn a) refl (at_stays _ _ g.grows.sound h.grows three.middle (suc k) p ((a +ℤ side (suc k)) +ℤ side k) c (middle e1 f.grows));
-        at_east = at_from _ three.east (suc k) p ((a +ℤ side (suc (suc k))) +ℤ side k) c ((a +ℤ side k) +ℤ side (suc k) +ℤ side (suc k)) c (side_far a) refl (east (rule_on next_of e1 g) (grows_on _ _ _ f.grows g.grows));
-      }
+      trio_lies (λ id. ShowsAt l3.nodes id (suc k)) k three p a c (at_stays _ _ f.grows.sound (grows_on _ _ _ g.grows h.grows) three.west (suc k) p (a +ℤ side k) c west)
+      (at_stays _ _ g.grows.sound h.grows three.middle (suc k) p ((a +ℤ side (suc k)) +ℤ side k) c (middle e1 f.grows)) (east (rule_on next_of e1 g) (grows_on _ _ _ f.grows g.grows))
 
   -- and of nine
   pub nine_at : {Rule : Type 0} {l0 l1 l2 l3 : LeaperView Rule} {next : List ℕ → ℕ} (next_of : Rule → List ℕ → ℕ) → next ≡ next_of l0.rule
       → LeaperGrows Rule l0 l1 → LeaperGrows Rule l1 l2 → LeaperGrows Rule l2 l3 → (rows : Rows ℕ) (p : ℤ → ℤ → ℕ) (c b : ℤ) → ThreeShow l1.nodes (suc k) rows.north p c (b +ℤ side k)
       → (next ≡ next_of l1.rule → Grows l0.nodes l1.nodes → ThreeShow l2.nodes (suc k) rows.middle p c ((b +ℤ side (suc k)) +ℤ side k))
       → (next ≡ next_of l2.rule → Grows l0.nodes l2.nodes → ThreeShow l3.nodes (suc k) rows.south p c ((b +ℤ side (suc (suc k))) +ℤ side k)) → NineShow l3.nodes (suc k) rows p c (b +ℤ side k)
-  nine_at next_of e f g h rows p c b north middle south =
+  nine_at {l3 = l3} next_of e f g h rows p c b north middle south =
       let e1 = rule_on next_of e f in
-      record {
-        at_north = three_stay _ _ f.grows.sound (grows_on _ _ _ g.grows h.grows) (suc k) rows.north p c (b +ℤ side k) north;
-        at_middle = three_from _ (suc k) rows.middle p c ((b +ℤ side (suc k)) +ℤ side k) c ((b +ℤ side k) +ℤ side (suc k)) refl (side_turn b) (three_stay _ _ g.grows.sound h.grows (suc k) rows.middle p c ((b +ℤ side (suc k)) +ℤ side k) (middle e1 f.grows));
-        at_south = three_from _ (suc k) rows.south p c ((b +ℤ side (suc (suc k))) +ℤ side k) c ((b +ℤ side k) +ℤ side (suc k) +ℤ side (suc k)) refl (side_far b) (south (rule_on next_of e1 g) (grows_on _ _ _ f.grows g.grows));
-      }
+      rows_lie (λ id. ShowsAt l3.nodes id (suc k)) k rows p c b (three_stay _ _ f.grows.sound (grows_on _ _ _ g.grows h.grows) (suc k) rows.north p c (b +ℤ side k) north)
+      (three_stay _ _ g.grows.sound h.grows (suc k) rows.middle p c ((b +ℤ side (suc k)) +ℤ side k) (middle e1 f.grows)) (south (rule_on next_of e1 g) (grows_on _ _ _ f.grows g.grows))
 
   -- the four centres lie together
   pub four_at : {s1 s2 s3 : List Node} → Grows s1 s2 → Grows s2 s3 → (nw ne sw se : ℕ) (p : ℤ → ℤ → ℕ) (a b : ℤ) → TwoShow s2 (suc k) nw ne p ((a +ℤ side k) +ℤ side k) ((b +ℤ side k) +ℤ side k)
       → TwoShow s3 (suc k) sw se p ((a +ℤ side k) +ℤ side k) (((b +ℤ side k) +ℤ side (suc k)) +ℤ side k) → FourShow s3 (suc k) nw ne sw se p (a +ℤ side (suc k)) (b +ℤ side (suc k))
-  four_at f g nw ne sw se p a b n s =
-      let x = side_twice a in
-      let y = side_twice b in
-      let z = side_last b in
-      let xx = ap (λ i. i +ℤ side (suc k)) x in
-      record {
-        at_nw = at_from _ nw (suc k) p _ _ _ _ x y (at_stays _ _ f.sound g nw (suc k) p _ _ n.at_west);
-        at_ne = at_from _ ne (suc k) p _ _ _ _ xx y (at_stays _ _ f.sound g ne (suc k) p _ _ n.at_east);
-        at_sw = at_from _ sw (suc k) p _ _ _ _ x z s.at_west;
-        at_se = at_from _ se (suc k) p _ _ _ _ xx z s.at_east;
-      }
+  four_at {s3 = s3} f g nw ne sw se p a b n s = four_lie (λ id. ShowsAt s3 id (suc k)) k nw ne sw se p a b (two_stay _ _ f.sound g (suc k) nw ne p _ _ n) s

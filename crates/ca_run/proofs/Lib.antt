@@ -6,6 +6,7 @@ pub mod Words
 pub mod Lanes
 pub mod Shown
 pub mod Bases
+pub mod Overlaps
 pub mod Leap
 pub mod Levels
 pub mod Trees

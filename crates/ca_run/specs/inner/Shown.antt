@@ -35,11 +35,15 @@ pub record AreThree (nodes : List Node) (level : ℕ) (three : Trio ℕ) : Type 
   pub middle : IsOf nodes three.middle level
   pub east : IsOf nodes three.east level
 
--- three squares of this level, side by side, show the plane from (a, b) on
-pub record ThreeShow (nodes : List Node) (level : ℕ) (three : Trio ℕ) (p : ℤ → ℤ → ℕ) (a b : ℤ) : Type 0 where
-  pub at_west : ShowsAt nodes three.west level p a b
-  pub at_middle : ShowsAt nodes three.middle level p (a +ℤ side level) b
-  pub at_east : ShowsAt nodes three.east level p (a +ℤ side level +ℤ side level) b
+-- three of a kind, side by side and each so wide, show the plane from (a, b) on
+pub record TrioShows {T : Type 0} (Shows : T → (ℤ → ℤ → ℕ) → ℤ → ℤ → Type 0) (wide : ℤ) (three : Trio T) (p : ℤ → ℤ → ℕ) (a b : ℤ) : Type 0 where
+  pub at_west : Shows three.west p a b
+  pub at_middle : Shows three.middle p (a +ℤ wide) b
+  pub at_east : Shows three.east p (a +ℤ wide +ℤ wide) b
+
+-- three squares of this level show it
+abbrev pub ThreeShow : List Node → (level : ℕ) → Trio ℕ → (ℤ → ℤ → ℕ) → ℤ → ℤ → Type 0
+ThreeShow nodes level three p a b = TrioShows (λ id. ShowsAt nodes id level) (side level) three p a b
 
 -- nine squares of this level are there
 pub record AreNine (nodes : List Node) (level : ℕ) (rows : Rows ℕ) : Type 0 where
@@ -47,16 +51,24 @@ pub record AreNine (nodes : List Node) (level : ℕ) (rows : Rows ℕ) : Type 0 
   pub middle : AreThree nodes level rows.middle
   pub south : AreThree nodes level rows.south
 
--- nine squares of this level show the plane: together they show it from (a, b) on
-pub record NineShow (nodes : List Node) (level : ℕ) (rows : Rows ℕ) (p : ℤ → ℤ → ℕ) (a b : ℤ) : Type 0 where
-  pub at_north : ThreeShow nodes level rows.north p a b
-  pub at_middle : ThreeShow nodes level rows.middle p a (b +ℤ side level)
-  pub at_south : ThreeShow nodes level rows.south p a (b +ℤ side level +ℤ side level)
+-- nine of a kind, in three rows, show the plane: together they show it from (a, b) on
+pub record RowsShow {T : Type 0} (Shows : T → (ℤ → ℤ → ℕ) → ℤ → ℤ → Type 0) (wide : ℤ) (rows : Rows T) (p : ℤ → ℤ → ℕ) (a b : ℤ) : Type 0 where
+  pub at_north : TrioShows Shows wide rows.north p a b
+  pub at_middle : TrioShows Shows wide rows.middle p a (b +ℤ wide)
+  pub at_south : TrioShows Shows wide rows.south p a (b +ℤ wide +ℤ wide)
 
--- two squares of this level, side by side, show the plane from (a, b) on
-pub record TwoShow (nodes : List Node) (level west east : ℕ) (p : ℤ → ℤ → ℕ) (a b : ℤ) : Type 0 where
-  pub at_west : ShowsAt nodes west level p a b
-  pub at_east : ShowsAt nodes east level p (a +ℤ side level) b
+-- nine squares of this level show it
+abbrev pub NineShow : List Node → (level : ℕ) → Rows ℕ → (ℤ → ℤ → ℕ) → ℤ → ℤ → Type 0
+NineShow nodes level rows p a b = RowsShow (λ id. ShowsAt nodes id level) (side level) rows p a b
+
+-- two of a kind, side by side and each so wide, show the plane from (a, b) on
+pub record PairShows {T : Type 0} (Shows : T → (ℤ → ℤ → ℕ) → ℤ → ℤ → Type 0) (wide : ℤ) (west east : T) (p : ℤ → ℤ → ℕ) (a b : ℤ) : Type 0 where
+  pub at_west : Shows west p a b
+  pub at_east : Shows east p (a +ℤ wide) b
+
+-- two squares of this level show it
+abbrev pub TwoShow : List Node → (level west east : ℕ) → (ℤ → ℤ → ℕ) → ℤ → ℤ → Type 0
+TwoShow nodes level west east p a b = PairShows (λ id. ShowsAt nodes id level) (side level) west east p a b
 
 -- how many generations the first half of a leap goes: none, or 2 ^ j
 abbrev pub generations : Option ℕ → ℕ

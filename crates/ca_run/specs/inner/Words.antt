@@ -4,8 +4,6 @@ use Rattle.std.specs.Prelude.{◌≡◌, ℕ, ◌+◌, ◌-◌, ◌*◌, ◌/◌
 use Rattle.std.specs.Prelude.{nat_lt, if◌then◌else◌, slice_index}
 use Rattle.ca_quad.specs.Trees.{row_cells, word_cells}
 use Rattle.ca_run.specs.declared.leaper.words.Words.{Words}
-use Rattle.ca_run.specs.declared.leaper.trio.Trio.{Trio}
-use Rattle.ca_run.specs.declared.leaper.trio.Rows.{Rows}
 use Rattle.ca_run.specs.declared.leaper.wide_square.WideSquare.{WideSquare}
 use Rattle.ca_run.specs.inner.Shown.{Looks, QuartersShow}
 
@@ -16,23 +14,6 @@ pub record WordShows (word : ℕ) (p : ℤ → ℤ → ℕ) (a b : ℤ) : Type 0
 -- the four words of a square of 16 by 16 cells show it
 abbrev pub WordsShow : Words → (ℤ → ℤ → ℕ) → ℤ → ℤ → Type 0
 WordsShow words p a b = QuartersShow WordShows (pos 8) words.nw words.ne words.sw words.se p a b
-
--- two words side by side show the plane from (a, b) on
-pub record TwoWordsShow (two : ℕ × ℕ) (p : ℤ → ℤ → ℕ) (a b : ℤ) : Type 0 where
-  pub at_west : WordShows two.0 p a b
-  pub at_east : WordShows two.1 p (a +ℤ pos 8) b
-
--- and so do three
-pub record ThreeWordsShow (three : Trio ℕ) (p : ℤ → ℤ → ℕ) (a b : ℤ) : Type 0 where
-  pub at_west : WordShows three.west p a b
-  pub at_middle : WordShows three.middle p (a +ℤ pos 8) b
-  pub at_east : WordShows three.east p (a +ℤ pos 8 +ℤ pos 8) b
-
--- nine words show the plane: together they show it from (a, b) on
-pub record NineWordsShow (nine : Rows ℕ) (p : ℤ → ℤ → ℕ) (a b : ℤ) : Type 0 where
-  pub at_north : ThreeWordsShow nine.north p a b
-  pub at_middle : ThreeWordsShow nine.middle p a (b +ℤ pos 8)
-  pub at_south : ThreeWordsShow nine.south p a (b +ℤ pos 8 +ℤ pos 8)
 
 -- the four quarters of a square of 32 by 32 cells show it
 abbrev pub WideSquareShows : WideSquare → (ℤ → ℤ → ℕ) → ℤ → ℤ → Type 0

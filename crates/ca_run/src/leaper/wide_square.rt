@@ -2,8 +2,8 @@
 
 ghost use Rattle.std.specs.Prelude.{ℕ, ◌+◌, ◌≤◌, ℤ, pos, ◌+ℤ◌, List};
 ghost use Rattle.ca_plane.specs.Generations.{cells_after};
-ghost use Rattle.ca_run.specs.inner.Words.{WordsShow, TwoWordsShow, ThreeWordsShow, NineWordsShow};
-ghost use Rattle.ca_run.specs.inner.Words.{WideSquareShows};
+ghost use Rattle.ca_run.specs.inner.Shown.{PairShows, TrioShows, RowsShow};
+ghost use Rattle.ca_run.specs.inner.Words.{WordShows, WordsShow, WideSquareShows};
 ghost use Rattle.ca_run.specs.Masks.{GoesBy};
 
 use super::trio::{Rows, Trio};
@@ -39,7 +39,7 @@ impl WideSquare {
         requires { n ≤ 4 }
         ensures { (next : List ℕ → ℕ) (p : ℤ → ℤ → ℕ) (a b : ℤ) → GoesBy next masks
             → WideSquareShows self.now p a b
-            → NineWordsShow result (cells_after next p n) (a +ℤ pos 4) (b +ℤ pos 4) }
+            → RowsShow WordShows (pos 8) result (cells_after next p n) (a +ℤ pos 4) (b +ℤ pos 4) }
     {
         let west = Words::middle_of_column(self.nw, self.sw);
         let east = Words::middle_of_column(self.ne, self.se);
@@ -56,7 +56,7 @@ fn three_centres(west: Words, east: Words, masks: (u16, u16), n: u8) -> Trio<u64
     requires { n ≤ 4 }
     ensures { (next : List ℕ → ℕ) (p : ℤ → ℤ → ℕ) (a b : ℤ) → GoesBy next masks → WordsShow west p a b
         → WordsShow east p (a +ℤ pos 16) b
-        → ThreeWordsShow result (cells_after next p n) (a +ℤ pos 4) (b +ℤ pos 4) }
+        → TrioShows WordShows (pos 8) result (cells_after next p n) (a +ℤ pos 4) (b +ℤ pos 4) }
 {
     Trio {
         west: west.centre(masks, n),
@@ -69,8 +69,9 @@ fn three_centres(west: Words, east: Words, masks: (u16, u16), n: u8) -> Trio<u64
 fn pair(north: &Trio<u64>, south: &Trio<u64>, masks: (u16, u16), n: u8) -> (u64, u64)
     requires { n ≤ 4 }
     ensures { (next : List ℕ → ℕ) (p : ℤ → ℤ → ℕ) (a b : ℤ) → GoesBy next masks
-        → ThreeWordsShow north.now p a b → ThreeWordsShow south.now p a (b +ℤ pos 8)
-        → TwoWordsShow result (cells_after next p n) (a +ℤ pos 4) (b +ℤ pos 4) }
+        → TrioShows WordShows (pos 8) north.now p a b
+        → TrioShows WordShows (pos 8) south.now p a (b +ℤ pos 8)
+        → PairShows WordShows (pos 8) result.0 result.1 (cells_after next p n) (a +ℤ pos 4) (b +ℤ pos 4) }
 {
     let west = Words {
         nw: north.west,

@@ -11,7 +11,8 @@ use Rattle.ca_quad.proofs.Cells.{of_stays}
 use Rattle.ca_run.specs.Centre.{IsCentre, IsLeap}
 use Rattle.ca_run.specs.inner.Shown.{ShowsAt, FourShow, side, generations}
 use Rattle.ca_run.proofs.Shown.{at_stays, three_stay, three_are, four_of, four_go, four_there, four_stay, four_between, four_halfway, four_inner}
-use Rattle.ca_run.proofs.Leap.{rule_on, leap_shows, leap_square, leap_of_join, centre_ok, nine_centre, trio_are, nine_are, west_four, east_four, pair_at, trio_at, nine_at, four_at}
+use Rattle.ca_run.proofs.Overlaps.{west_four, east_four}
+use Rattle.ca_run.proofs.Leap.{rule_on, leap_shows, leap_square, leap_of_join, centre_ok, nine_centre, trio_are, nine_are, pair_at, trio_at, nine_at, four_at}
 use Rattle.ca_run.proofs.Costs.{at_cost_none, at_cost_more, at_cost_as, at_both_costs, at_cost_of_thirteen, at_cost_of_nine, at_cost_of_centre, power_some}
 use Rattle.ca_run.proofs.leaper.Leaper.+leap.Goals as goal
 
@@ -55,9 +56,9 @@ pair-returns-clause-shows g t c = λ next p a b e north south.
     let sound = subst (λ l. IsSoundStore l.nodes) c.self.view_is c.self.invariant.squares in
     let n = c.args.north.now in
     let s = c.args.south.now in
-    let west = c.in_ok-west.ensures.shows next p a b e (west_four c.args.self.now.nodes (suc k) n s p a b north south) in
+    let west = c.in_ok-west.ensures.shows next p a b e (west_four north south) in
     let east = c.in_ok-east.ensures.shows next p (a +ℤ side (suc k)) b (rule_on (g.A.Automaton.next_of) e g1)
-    (east_four _ (suc k) n s p a b (three_stay _ _ sound g1.grows (suc k) n p a b north) (three_stay _ _ sound g1.grows (suc k) s p a (b +ℤ side (suc k)) south)) in
+    (east_four (three_stay _ _ sound g1.grows (suc k) n p a b north) (three_stay _ _ sound g1.grows (suc k) s p a (b +ℤ side (suc k)) south)) in
     pair_at k g1.grows c.in_ok-east.ensures.at_cost.goes_on.grows c.in_ok-west.west c.in_ok-east.east (cells_after next p (2 ^ c.args.j)) a b (b +ℤ side k) west east
 
 pub pair-returns-clause-at_cost : goal.pair-returns-clause-at_cost
