@@ -10,8 +10,8 @@ use Rattle.ca_quad.proofs.Growth.{grows_on}
 use Rattle.ca_quad.proofs.Cells.{of_stays}
 use Rattle.ca_run.specs.Centre.{IsCentre, IsLeap}
 use Rattle.ca_run.specs.inner.Shown.{ShowsAt, FourShow, side, generations}
-use Rattle.ca_run.proofs.Shown.{at_stays, three_stay, three_are, four_of, four_go, four_there, four_stay, four_between, four_halfway, four_inner}
-use Rattle.ca_run.proofs.Overlaps.{west_four, east_four}
+use Rattle.ca_run.proofs.Shown.{at_stays, three_stay, three_are, four_of, four_go, four_there, four_stay}
+use Rattle.ca_run.proofs.Overlaps.{west_four, east_four, four_between, four_halfway, four_inner}
 use Rattle.ca_run.proofs.Leap.{rule_on, leap_shows, leap_square, leap_of_join, centre_ok, nine_centre, trio_are, nine_are, pair_at, trio_at, nine_at, four_at}
 use Rattle.ca_run.proofs.Costs.{at_cost_none, at_cost_more, at_cost_as, at_both_costs, at_cost_of_thirteen, at_cost_of_nine, at_cost_of_centre, power_some}
 use Rattle.ca_run.proofs.leaper.Leaper.+leap.Goals as goal
@@ -76,7 +76,7 @@ trio-returns-clause-shows g t c = λ next p a b e two.
     let k = c.args.grain in
     let sound = subst (λ l. IsSoundStore l.nodes) c.self.view_is c.self.invariant.squares in
     let x = a +ℤ side (suc (suc k)) in
-    let between = four_between c.args.self.now.nodes (suc k) _ _ _ _ _ _ _ _ p a b (c.quarters-nw.ensures.shows p a b two.at_west) (c.quarters-ne.ensures.shows p x b two.at_east) in
+    let between = four_between (suc k) (c.quarters-nw.ensures.shows p a b two.at_west) (c.quarters-ne.ensures.shows p x b two.at_east) in
     trio_at k (g.A.Automaton.next_of) e c.in_ok-west.ensures.at_cost.goes_on c.in_ok-middle.ensures.at_cost.goes_on c.in_ok-east.ensures.at_cost.goes_on _ (cells_after next p (generations c.args.first)) a (b +ℤ side k)
     (c.in_ok-west.ensures.shows next p a b e two.at_west)
     (λ e1 grows. c.in_ok-middle.ensures.shows next p (a +ℤ side (suc k)) b e1 (four_stay _ _ sound grows (suc k) _ _ _ _ p (a +ℤ side (suc k)) b between))
@@ -104,7 +104,6 @@ pub middle_trio-returns-clause-shows : goal.middle_trio-returns-clause-shows
 middle_trio-returns-clause-shows g t c = λ next p a b e four.
     let k = c.args.grain in
     let sound = subst (λ l. IsSoundStore l.nodes) c.self.view_is c.self.invariant.squares in
-    let s0 = c.args.self.now.nodes in
     let x = a +ℤ side (suc (suc k)) in
     let y = b +ℤ side (suc (suc k)) in
     let nw = c.quarters-a.ensures.shows p a b four.at_nw in
@@ -112,10 +111,10 @@ middle_trio-returns-clause-shows g t c = λ next p a b e four.
     let sw = c.quarters-e.ensures.shows p a y four.at_sw in
     let se = c.quarters-g.ensures.shows p x y four.at_se in
     let half = b +ℤ side (suc k) in
-    let inner = four_inner s0 (suc k) _ _ _ _ _ _ _ _ _ _ _ _ _ _ _ _ p a b nw ne sw se in
-    let last = four_halfway s0 (suc k) _ _ _ _ _ _ _ _ p x b ne se in
+    let inner = four_inner (suc k) nw ne sw se in
+    let last = four_halfway (suc k) ne se in
     trio_at k (g.A.Automaton.next_of) e c.in_ok-west.ensures.at_cost.goes_on c.in_ok-middle.ensures.at_cost.goes_on c.in_ok-east.ensures.at_cost.goes_on _ (cells_after next p (generations c.args.first)) a (half +ℤ side k)
-    (c.in_ok-west.ensures.shows next p a half e (four_halfway s0 (suc k) _ _ _ _ _ _ _ _ p a b nw sw))
+    (c.in_ok-west.ensures.shows next p a half e (four_halfway (suc k) nw sw))
     (λ e1 grows. c.in_ok-middle.ensures.shows next p (a +ℤ side (suc k)) half e1 (four_stay _ _ sound grows (suc k) _ _ _ _ p (a +ℤ side (suc k)) half inner))
     (λ e2 grows. c.in_ok-east.ensures.shows next p x half e2 (four_stay _ _ sound grows (suc k) _ _ _ _ p x half last))
 

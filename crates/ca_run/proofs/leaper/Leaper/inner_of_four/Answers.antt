@@ -4,7 +4,7 @@ use Rattle.std.proofs.lemmas.Bool.Decides.{nat_tests}
 use Rattle.ca_quad.specs.Squares.{IsOf}
 use Rattle.ca_run.specs.inner.Shown.{ShowsAt, FourShow, side}
 use Rattle.ca_run.proofs.Bases.{inner_cells_at}
-use Rattle.ca_run.proofs.Shown.{four_inner}
+use Rattle.ca_run.proofs.Overlaps.{four_inner}
 use Rattle.ca_run.proofs.leaper.Leaper.inner_of_four.Goals as goal
 
 pub returns-then-grain-eq0-clause-shows : goal.returns-then-grain-eq0-clause-shows
@@ -23,7 +23,7 @@ returns-clause-shows g c = λ p a b four.
     let parts = subst (λ k. FourShow nodes (suc k) c.args.nw c.args.ne c.args.sw c.args.se p a b) (sym up) four in
     subst (λ k. IfOk c.join.result (λ half. ShowsAt c.join.new.self.nodes half (suc k) p (a +ℤ side k) (b +ℤ side k))) up
     (c.join.ensures.shows p _ _
-    (four_inner nodes (suc (c.args.grain - 1)) _ _ _ _ _ _ _ _ _ _ _ _ _ _ _ _ p a b
+    (four_inner (suc (c.args.grain - 1))
     (c.quarters-nw.ensures.shows p _ _ parts.at_nw) (c.quarters-ne.ensures.shows p _ _ parts.at_ne)
     (c.quarters-sw.ensures.shows p _ _ parts.at_sw) (c.quarters-se.ensures.shows p _ _ parts.at_se)))
 
