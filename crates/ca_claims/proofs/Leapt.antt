@@ -1,5 +1,5 @@
 -- Trees as a leaper goes on: what was known of them stays, and what the pictures that they show have after some generations.
-use Rattle.std.proofs.Common.{◌≡◌, ℕ, List, Option, Some, None, Result, Ok, Err, MatchOption, refl, sym, subst, ◌∙◌, inl, inr, arith}
+use Rattle.std.proofs.Common.{◌≡◌, ℕ, List, Option, Some, None, Result, Ok, Err, MatchOption, refl, sym, subst, ◌∙◌}
 use Rattle.std.specs.Prelude.{ℤ, ◌-ℤ◌, IfOk, IsNone}
 use Rattle.ca_plane.specs.Plane.{Picture, shifted}
 use Rattle.ca_plane.specs.Plane as plane

@@ -32,7 +32,7 @@ use Rattle.ca_claims.specs.inner.Stages.{IsLaterTree}
 use Rattle.ca_claims.proofs.Held.{trimmed_low}
 use Rattle.ca_claims.proofs.LaterPlanes.{picture_of, range_shown, out_shown}
 use Rattle.ca_claims.proofs.PatternsRead.{wanted}
-use Rattle.ca_claims.proofs.Shown.{small_shown, many_shown, population_shown}
+use Rattle.ca_claims.proofs.Shown.{many_shown, population_shown}
 use Rattle.ca_claims.proofs.Told.{file_begins}
 
 -- ---- from the file

@@ -1,7 +1,6 @@
-use Rattle.std.proofs.Common.{◌≡◌, sym, ap, subst, ◌∙◌, arith, w64, to_z, of_z}
+use Rattle.std.proofs.Common.{◌≡◌, sym, ap, subst, ◌∙◌, arith, w64, to_z}
 use Rattle.std.specs.Prelude.{pos}
 use Rattle.std.proofs.lemmas.Int.{to_z-of_z}
-use Rattle.ca_quad.specs.Expanded.{HasCellOutsidePlane}
 use Rattle.ca_quad.specs.Shifted.{shifted_cells, IsShiftRefused}
 use Rattle.ca_quad.specs.Trees.{cell}
 use Rattle.ca_claims.proofs.Corners.{fits_near}
