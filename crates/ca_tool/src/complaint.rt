@@ -7,20 +7,13 @@ ghost use Rattle.ca_tool.specs.Writing.{Sends};
 ghost use Rattle.ca_tool.specs.inner.Pieces.{pieces_text};
 
 use crate::fault::{Fault, InputFault, ToolFault};
-use crate::pieces::{NOTHING, Piece, send_pieces};
+use crate::pieces::{Piece, in_pieces, send_pieces};
 use crate::texts::{pattern_fault_bytes, rule_fault_bytes, table_kind, table_line};
 use crate::view::WindowFault;
 use ca_claims::{ClaimFault, ConvertFault};
 use ca_plane::{Dev, WriteFault};
 use ca_rule::TableFault;
 use std::io::Write;
-
-// A text in three pieces, of which the last two are empty.
-fn padded_text<'a>(text: &'a [u8]) -> [Piece<'a>; 3]
-    ensures { pieces_text result ≡ text.now }
-{
-    [Piece::Text(text), NOTHING, NOTHING]
-}
 
 // The text of a fault in three pieces.
 fn fault_pieces<'a>(fault: &Fault, path: &'a [u8]) -> [Piece<'a>; 3]
@@ -31,18 +24,16 @@ fn fault_pieces<'a>(fault: &Fault, path: &'a [u8]) -> [Piece<'a>; 3]
         Fault::Claims(fault) => claim_pieces(fault),
         Fault::Tool(ToolFault::BadTable(fault)) => table_pieces(fault),
         Fault::Tool(ToolFault::Convert(fault)) => convert_pieces(fault),
-        Fault::Tool(ToolFault::GenTooLarge) => padded_text(b"gen too large"),
-        Fault::Tool(ToolFault::Work) => padded_text(b"work"),
-        Fault::Tool(ToolFault::Range) => padded_text(b"range"),
-        Fault::Tool(ToolFault::Window(WindowFault::Range)) => padded_text(b"window out of range"),
-        Fault::Tool(ToolFault::Window(WindowFault::TooLarge)) => padded_text(b"window too large"),
-        Fault::Tool(ToolFault::Write) => padded_text(b"write"),
-        Fault::Tool(ToolFault::Memory) => padded_text(b"memory"),
-        Fault::Unnameable => [
-            Piece::Text(b"no claim text can name "),
-            Piece::Text(path),
-            NOTHING,
-        ],
+        Fault::Tool(ToolFault::GenTooLarge) => in_pieces![3; text b"gen too large"],
+        Fault::Tool(ToolFault::Work) => in_pieces![3; text b"work"],
+        Fault::Tool(ToolFault::Range) => in_pieces![3; text b"range"],
+        Fault::Tool(ToolFault::Window(WindowFault::Range)) =>
+            in_pieces![3; text b"window out of range"],
+        Fault::Tool(ToolFault::Window(WindowFault::TooLarge)) =>
+            in_pieces![3; text b"window too large"],
+        Fault::Tool(ToolFault::Write) => in_pieces![3; text b"write"],
+        Fault::Tool(ToolFault::Memory) => in_pieces![3; text b"memory"],
+        Fault::Unnameable => in_pieces![3; text b"no claim text can name ", text path],
     }
 }
 
@@ -50,9 +41,9 @@ fn input_pieces<'a>(fault: InputFault, path: &'a [u8]) -> [Piece<'a>; 3]
     ensures { pieces_text result ≡ input_fault_text fault path.now }
 {
     match fault {
-        InputFault::Read => [Piece::Text(b"cannot read "), Piece::Text(path), NOTHING],
-        InputFault::TooLong => [Piece::Text(b"too long "), Piece::Text(path), NOTHING],
-        InputFault::Memory => padded_text(b"memory"),
+        InputFault::Read => in_pieces![3; text b"cannot read ", text path],
+        InputFault::TooLong => in_pieces![3; text b"too long ", text path],
+        InputFault::Memory => in_pieces![3; text b"memory"],
     }
 }
 
@@ -64,41 +55,31 @@ fn claim_pieces<'a>(fault: ClaimFault) -> [Piece<'a>; 3]
         ClaimFault::Number { line } => (line, b": number"),
         ClaimFault::UnknownName { line } => (line, b": unknown name"),
         ClaimFault::NameTaken { line } => (line, b": name taken"),
-        ClaimFault::Memory => return padded_text(b"memory"),
+        ClaimFault::Memory => return in_pieces![3; text b"memory"],
     };
-    [
-        Piece::Text(b"claims line "),
-        Piece::Number(line),
-        Piece::Text(kind),
-    ]
+    in_pieces![text b"claims line ", number line, text kind]
 }
 
 fn table_pieces<'a>(fault: TableFault) -> [Piece<'a>; 3]
     ensures { pieces_text result ≡ rule_file_text fault }
 {
     if let TableFault::Memory = fault {
-        return padded_text(b"memory");
+        return in_pieces![3; text b"memory"];
     }
-    [
-        Piece::Text(b"bad table: line "),
-        Piece::Number(table_line(fault)),
-        Piece::Text(table_kind(fault)),
-    ]
+    in_pieces![text b"bad table: line ", number table_line(fault), text table_kind(fault)]
 }
 
 fn convert_pieces<'a>(fault: ConvertFault) -> [Piece<'a>; 3]
     ensures { pieces_text result ≡ convert_fault_text fault }
 {
     match fault {
-        ConvertFault::BadPattern(fault) => padded_text(pattern_fault_bytes(fault)),
-        ConvertFault::BadRule(fault) => [
-            Piece::Text(b"bad rule: "),
-            Piece::Text(rule_fault_bytes(fault)),
-            NOTHING,
-        ],
-        ConvertFault::StateTooLarge => padded_text(b"state too large"),
-        ConvertFault::TooManyCells => padded_text(b"too many cells"),
-        ConvertFault::Memory => padded_text(b"memory"),
+        ConvertFault::BadPattern(fault) => in_pieces![3; text pattern_fault_bytes(fault)],
+        ConvertFault::BadRule(fault) => {
+            in_pieces![3; text b"bad rule: ", text rule_fault_bytes(fault)]
+        }
+        ConvertFault::StateTooLarge => in_pieces![3; text b"state too large"],
+        ConvertFault::TooManyCells => in_pieces![3; text b"too many cells"],
+        ConvertFault::Memory => in_pieces![3; text b"memory"],
     }
 }
 
@@ -107,13 +88,7 @@ fn complaint_pieces<'a>(fault: &Fault, path: &'a [u8]) -> [Piece<'a>; 5]
     ensures { pieces_text result ≡ complaint fault.now path.now }
 {
     let [front, middle, back] = fault_pieces(fault, path);
-    [
-        Piece::Text(b"cafile: "),
-        front,
-        middle,
-        back,
-        Piece::Text(b"\n"),
-    ]
+    in_pieces![text b"cafile: ", piece front, piece middle, piece back, text b"\n"]
 }
 
 // The line that tells a fault after a path in pieces.
@@ -121,14 +96,8 @@ fn complaint_of_pieces<'a>(fault: &Fault, path: &'a [u8]) -> [Piece<'a>; 7]
     ensures { pieces_text result ≡ complaint_of fault.now path.now }
 {
     let [front, middle, back] = fault_pieces(fault, path);
-    [
-        Piece::Text(b"cafile: "),
-        Piece::Text(path),
-        Piece::Text(b": "),
-        front,
-        middle,
-        back,
-        Piece::Text(b"\n"),
+    in_pieces![
+        text b"cafile: ", text path, text b": ", piece front, piece middle, piece back, text b"\n",
     ]
 }
 

@@ -6,14 +6,14 @@ ghost use Rattle.ca_claims.specs.declared.identity.Identity.TheVariants.{Unknown
 ghost use Rattle.ca_tool.specs.declared.entry.Outcome.TheVariants.{Identified};
 ghost use Rattle.ca_plane.specs.Puts.{Puts};
 ghost use Rattle.ca_tool.specs.Catalog.{load_line, identity_line, refused_line, line_byte, unnameable_line};
-ghost use Rattle.ca_tool.specs.Catalog.{later_text, later_line, found_line};
+ghost use Rattle.ca_tool.specs.Catalog.{later_text, later_line};
 ghost use Rattle.ca_tool.specs.Catalog.{outcome_lines, entry_lines, rule_line};
 ghost use Rattle.ca_tool.specs.inner.Pieces.{pieces_text};
 
 use crate::entry::{Entry, Outcome};
 use crate::finding::{at_pieces, generations_word};
 use crate::growth::{push_counted, push_none};
-use crate::pieces::{Piece, push_pieces};
+use crate::pieces::{Piece, in_pieces, push_pieces};
 use crate::printing::cause_pieces;
 use ca_claims::{File, Growth, Identity, Unidentified};
 use ca_plane::Memory;
@@ -22,53 +22,22 @@ use ca_plane::text::push_text;
 fn load_pieces<'a>(name: &'a [u8], path: &'a [u8]) -> [Piece<'a>; 5]
     ensures { pieces_text result ≡ load_line name.now path.now }
 {
-    [
-        Piece::Text(b"load "),
-        Piece::Text(name),
-        Piece::Text(b" "),
-        Piece::Text(path),
-        Piece::Text(b"\n"),
-    ]
+    in_pieces![text b"load ", text name, text b" ", text path, text b"\n"]
 }
 
 // The line of a claim about one number of generations in pieces.
 fn number_pieces<'a>(word: &'a [u8], name: &'a [u8], number: u64) -> [Piece<'a>; 5]
     ensures { pieces_text result ≡ word.now ++ (name.now ++ (32 ∷ (decimal number ++ 10 ∷ []))) }
 {
-    [
-        Piece::Text(word),
-        Piece::Text(name),
-        Piece::Text(b" "),
-        Piece::Number(number),
-        Piece::Text(b"\n"),
-    ]
-}
-
-// A line of a word, a name and a text in pieces.
-fn word_pieces<'a>(word: &'a [u8], name: &'a [u8], text: &'a [u8]) -> [Piece<'a>; 4]
-    ensures { pieces_text result ≡ word.now ++ (name.now ++ (text.now ++ 10 ∷ [])) }
-{
-    [
-        Piece::Text(word),
-        Piece::Text(name),
-        Piece::Text(text),
-        Piece::Text(b"\n"),
-    ]
+    in_pieces![text word, text name, text b" ", number number, text b"\n"]
 }
 
 fn spaceship_pieces<'a>(name: &'a [u8], period: u64, dx: i64, dy: i64) -> [Piece<'a>; 9]
     ensures { pieces_text result ≡ codes "spaceship " ++ (name.now ++ (32 ∷ (decimal period ++ (32 ∷ (signed_decimal dx ++ (32 ∷ (signed_decimal dy ++ 10 ∷ []))))))) }
 {
-    [
-        Piece::Text(b"spaceship "),
-        Piece::Text(name),
-        Piece::Text(b" "),
-        Piece::Number(period),
-        Piece::Text(b" "),
-        Piece::Integer(dx),
-        Piece::Text(b" "),
-        Piece::Integer(dy),
-        Piece::Text(b"\n"),
+    in_pieces![
+        text b"spaceship ", text name, text b" ", number period,
+        text b" ", integer dx, text b" ", integer dy, text b"\n",
     ]
 }
 
@@ -93,8 +62,13 @@ fn push_identity(
     ensures { OnOk result (Puts out.old.items out.new.items (identity_line limit name.now identity)) }
 {
     match identity {
-        Identity::Empty => push_pieces(out, &word_pieces(b"# ", name, b": no cell is live")),
-        Identity::StillLife => push_pieces(out, &word_pieces(b"still ", name, b"")),
+        Identity::Empty => push_pieces(
+            out,
+            &in_pieces![text b"# ", text name, text b": no cell is live\n"],
+        ),
+        Identity::StillLife => {
+            push_pieces(out, &in_pieces![text b"still ", text name, text b"\n"])
+        }
         Identity::Oscillator { period } => {
             push_pieces(out, &number_pieces(b"oscillator ", name, period))
         }
@@ -122,26 +96,13 @@ fn push_later_text(
         Identity::Empty => push_text(out, b"no cell is live"),
         Identity::StillLife => push_text(out, b"still"),
         Identity::Oscillator { period } => push_counted(out, b"oscillator ", period),
-        Identity::Spaceship { period, dx, dy } => {
-            push_pieces(out, &spaceship_words(period, dx, dy))
-        }
+        Identity::Spaceship { period, dx, dy } => push_pieces(
+            out,
+            &in_pieces![text b"spaceship ", number period, text b" ", integer dx, text b" ", integer dy],
+        ),
         Identity::Dies { generations } => push_counted(out, b"dies ", generations),
         Identity::Unknown { growth } => push_none(out, limit, generations + limit, growth),
     }
-}
-
-fn spaceship_words<'a>(period: u64, dx: i64, dy: i64) -> [Piece<'a>; 6]
-    ensures { pieces_text result ≡ codes "spaceship "
-        ++ (decimal period ++ (32 ∷ (signed_decimal dx ++ (32 ∷ signed_decimal dy)))) }
-{
-    [
-        Piece::Text(b"spaceship "),
-        Piece::Number(period),
-        Piece::Text(b" "),
-        Piece::Integer(dx),
-        Piece::Text(b" "),
-        Piece::Integer(dy),
-    ]
 }
 
 // Puts the comment on what the plane of a pattern is found to be some generations on.
@@ -165,41 +126,15 @@ fn push_later(
     push_text(out, b"\n")
 }
 
-// Puts the line of what is found of a pattern, or of its plane some generations on.
-fn push_found(
-    out: &mut Vec<u8>,
-    generations: u64,
-    limit: u64,
-    name: &[u8],
-    identity: Identity,
-) -> Result<(), Memory>
-    requires { generations + limit < 2 ^ 64 }
-    ensures { OnOk result (Puts out.old.items out.new.items
-        (found_line generations limit name.now identity)) }
-{
-    if generations == 0 {
-        return push_identity(out, limit, name, identity);
-    }
-    push_later(out, generations, limit, name, identity)
-}
-
 // The comment on a file that is refused in pieces.
 fn refused_pieces<'a>(name: &'a [u8], path: &'a [u8], why: &Unidentified) -> [Piece<'a>; 10]
     ensures { pieces_text result ≡ refused_line name.now path.now why.now }
 {
     let [first, second] = cause_pieces(why.cause);
     let [at, number] = at_pieces(why.line);
-    [
-        Piece::Text(b"# "),
-        Piece::Text(name),
-        Piece::Text(b": "),
-        Piece::Text(path),
-        Piece::Text(b": "),
-        first,
-        second,
-        at,
-        number,
-        Piece::Text(b"\n"),
+    in_pieces![
+        text b"# ", text name, text b": ", text path, text b": ",
+        piece first, piece second, piece at, piece number, text b"\n",
     ]
 }
 
@@ -230,7 +165,7 @@ fn push_unnameable(out: &mut Vec<u8>, name: &[u8], path: &[u8]) -> Result<(), Me
     push_text(out, b": no claim text can name this path\n")
 }
 
-// Puts the lines on a file that is identified.
+// Puts the lines on a file that is identified: of its pattern, or of its plane some generations on.
 fn push_identified(
     out: &mut Vec<u8>,
     generations: u64,
@@ -244,7 +179,10 @@ fn push_identified(
         (outcome_lines generations limit name.now path.now (Identified identity))) }
 {
     push_pieces(out, &load_pieces(name, path))?;
-    push_found(out, generations, limit, name, identity)
+    if generations == 0 {
+        return push_identity(out, limit, name, identity);
+    }
+    push_later(out, generations, limit, name, identity)
 }
 
 /// Puts the lines on a file after what `out` holds: `limit` is the number of generations that were looked at, from

@@ -7,7 +7,7 @@ ghost use Rattle.ca_tool.specs.inner.Pieces.{pieces_text};
 
 use crate::fault::ToolFault;
 use crate::finding::{at_pieces, file_pieces, rule_pieces};
-use crate::pieces::{NOTHING, Piece, send_pieces};
+use crate::pieces::{NOTHING, Piece, in_pieces, send_pieces};
 use crate::texts::table_line;
 use ca_claims::Refused;
 use ca_plane::{Dev, WriteFault};
@@ -26,15 +26,7 @@ fn pattern_pieces<'a>(path: &'a [u8], refused: &'a Refused<ToolFault>) -> [Piece
 {
     let [at, number] = at_pieces(refused.line);
     let [word, text] = rule_pieces(&refused.rule_text);
-    let mut pieces = [NOTHING; 15];
-    pieces[0] = Piece::Text(b"  ");
-    pieces[1] = Piece::Text(path);
-    pieces[2] = at;
-    pieces[3] = number;
-    pieces[4] = word;
-    pieces[5] = text;
-    pieces[6] = Piece::Text(b"\n");
-    pieces
+    in_pieces![15; text b"  ", text path, piece at, piece number, piece word, piece text, text b"\n"]
 }
 
 // The line that explains a fault, where there is something to tell.

@@ -7,7 +7,7 @@ ghost use Rattle.ca_tool.specs.Printed.{cause_line, note_text, second_line, find
 ghost use Rattle.ca_tool.specs.Writing.{Sends};
 ghost use Rattle.ca_tool.specs.inner.Pieces.{pieces_text};
 
-use crate::pieces::{NOTHING, Piece, push_pieces, send_pieces};
+use crate::pieces::{NOTHING, Piece, in_pieces, push_pieces, send_pieces};
 use crate::printing::answer_pieces;
 use crate::texts::{table_kind, table_line};
 use ca_claims::{Answer, Cause, Note, Verdict, Why};
@@ -67,22 +67,10 @@ fn cell_pieces<'a>(before: &'a [u8], name: &'a [u8], why: Why) -> [Piece<'a>; 15
     else {
         return [NOTHING; 15];
     };
-    [
-        Piece::Text(before),
-        Piece::Text(b"  "),
-        Piece::Text(name),
-        Piece::Text(b" at "),
-        Piece::Integer(x),
-        Piece::Text(b","),
-        Piece::Integer(y),
-        Piece::Text(b": "),
-        Piece::Number(u64::from(found)),
-        Piece::Text(b" after "),
-        Piece::Number(gens),
-        Piece::Text(generations_word(gens)),
-        Piece::Text(b", claimed "),
-        Piece::Number(u64::from(claimed)),
-        Piece::Text(b"\n"),
+    in_pieces![
+        text before, text b"  ", text name, text b" at ", integer x, text b",", integer y,
+        text b": ", number u64::from(found), text b" after ", number gens, text generations_word(gens),
+        text b", claimed ", number u64::from(claimed), text b"\n",
     ]
 }
 
@@ -90,7 +78,7 @@ pub(crate) fn at_pieces<'a>(line: Option<u64>) -> [Piece<'a>; 2]
     ensures { pieces_text result ≡ at_line line }
 {
     match line {
-        Some(line) => [Piece::Text(b", line "), Piece::Number(line)],
+        Some(line) => in_pieces![text b", line ", number line],
         None => [NOTHING; 2],
     }
 }
@@ -105,22 +93,8 @@ pub(crate) fn file_pieces<'a>(
     ensures { pieces_text result ≡ file_line before.now name.now path.now line }
 {
     let [at, number] = at_pieces(line);
-    [
-        Piece::Text(before),
-        Piece::Text(b"  "),
-        Piece::Text(name),
-        Piece::Text(b": "),
-        Piece::Text(path),
-        at,
-        number,
-        Piece::Text(b"\n"),
-        NOTHING,
-        NOTHING,
-        NOTHING,
-        NOTHING,
-        NOTHING,
-        NOTHING,
-        NOTHING,
+    in_pieces![15;
+        text before, text b"  ", text name, text b": ", text path, piece at, piece number, text b"\n",
     ]
 }
 
@@ -129,7 +103,7 @@ pub(crate) fn rule_pieces<'a>(rule_text: &'a Option<Vec<u8>>) -> [Piece<'a>; 2]
     ensures { pieces_text result ≡ rule_words rule_text.now }
 {
     match rule_text {
-        Some(text) => [Piece::Text(b": rule "), Piece::Text(text)],
+        Some(text) => in_pieces![text b": rule ", text text],
         None => [NOTHING; 2],
     }
 }
@@ -152,20 +126,11 @@ fn faulty_pieces<'a>(file: FaultyRule<'a>) -> [Piece<'a>; 5]
     ensures { pieces_text result ≡ faulty_words (Some file.entry) }
 {
     if let TableFault::Memory = file.fault {
-        return [
-            Piece::Text(b": "),
-            Piece::Text(file.path),
-            Piece::Text(b": "),
-            Piece::Text(b"memory"),
-            NOTHING,
-        ];
+        return in_pieces![5; text b": ", text file.path, text b": memory"];
     }
-    [
-        Piece::Text(b": "),
-        Piece::Text(file.path),
-        Piece::Text(b": line "),
-        Piece::Number(table_line(file.fault)),
-        Piece::Text(table_kind(file.fault)),
+    in_pieces![
+        text b": ", text file.path,
+        text b": line ", number table_line(file.fault), text table_kind(file.fault),
     ]
 }
 
@@ -196,22 +161,10 @@ fn noted_pieces<'a>(
     let [at, number] = at_pieces(line);
     let [word, text] = rule_pieces(rule_text);
     let [colon, file, at_fault, fault_line, kind] = faulty_rule_pieces(style.faulty, rule_text);
-    [
-        Piece::Text(style.before),
-        Piece::Text(b"  "),
-        Piece::Text(name),
-        Piece::Text(b": "),
-        Piece::Text(path),
-        at,
-        number,
-        word,
-        text,
-        colon,
-        file,
-        at_fault,
-        fault_line,
-        kind,
-        Piece::Text(b"\n"),
+    in_pieces![
+        text style.before, text b"  ", text name, text b": ", text path,
+        piece at, piece number, piece word, piece text,
+        piece colon, piece file, piece at_fault, piece fault_line, piece kind, text b"\n",
     ]
 }
 

@@ -21,6 +21,43 @@ pub(crate) enum Piece<'a> {
 /// No bytes.
 pub(crate) const NOTHING: Piece<'static> = Piece::Text(b"");
 
+/// One of `in_pieces!`: a text, a number or an integer, or a piece that is there already.
+macro_rules! piece {
+    (text $text:expr) => {
+        $crate::pieces::Piece::Text($text)
+    };
+    (number $number:expr) => {
+        $crate::pieces::Piece::Number($number)
+    };
+    (integer $number:expr) => {
+        $crate::pieces::Piece::Integer($number)
+    };
+    (piece $piece:expr) => {
+        $piece
+    };
+}
+
+pub(crate) use piece;
+
+/// An array of pieces, as `in_pieces![text b"line ", number 3]`. With a length before them, as in
+/// `in_pieces![4; text b"line ", number 3]`, it ends with pieces of no bytes up to that length.
+macro_rules! in_pieces {
+    ($($kind:ident $value:expr),+ $(,)?) => {
+        [$($crate::pieces::piece!($kind $value)),+]
+    };
+    ($length:literal; $($kind:ident $value:expr),+ $(,)?) => {{
+        let mut pieces = [$crate::pieces::NOTHING; $length];
+        let mut place = 0;
+        $(
+            pieces[place] = $crate::pieces::piece!($kind $value);
+            place += 1;
+        )+
+        pieces
+    }};
+}
+
+pub(crate) use in_pieces;
+
 // The bytes of a piece; those of a number are kept in the buffer.
 fn piece_bytes<'a>(piece: Piece<'a>, buffer: &'a mut Buffer) -> &'a [u8]
     ensures { result.now ≡ piece_text piece.entry }

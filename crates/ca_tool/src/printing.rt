@@ -8,77 +8,54 @@ ghost use Rattle.ca_tool.specs.Printed.{return_text, why_text, table_fault_text,
 ghost use Rattle.ca_tool.specs.Printed.{answer_line, answer_lines, status_of, is_refusal, is_no};
 ghost use Rattle.ca_tool.specs.inner.Pieces.{pieces_text};
 
-use crate::pieces::{NOTHING, Piece, push_pieces};
+use crate::pieces::{Piece, in_pieces, push_pieces};
 use crate::texts::{pattern_fault_bytes, rule_fault_bytes, table_kind};
 use ca_claims::{Answer, Cause, Verdict, Why};
 use ca_plane::Memory;
 use ca_rule::TableFault;
 use std::alloc::Global;
 
-// A text in two pieces, of which the second is empty.
-fn padded_text<'a>(text: &'a [u8]) -> [Piece<'a>; 2]
-    ensures { pieces_text result ≡ text.now }
-{
-    [Piece::Text(text), NOTHING]
-}
-
 fn return_pieces<'a>(generations: u64, dx: i64, dy: i64) -> [Piece<'a>; 6]
     ensures { pieces_text result ≡ return_text generations dx dy }
 {
-    [
-        Piece::Text(b"the same after "),
-        Piece::Number(generations),
-        Piece::Text(b", shifted by "),
-        Piece::Integer(dx),
-        Piece::Text(b","),
-        Piece::Integer(dy),
+    in_pieces![
+        text b"the same after ", number generations, text b", shifted by ", integer dx, text b",", integer dy,
     ]
 }
 
 fn why_pieces<'a>(why: Why) -> [Piece<'a>; 6]
     ensures { pieces_text result ≡ why_text why }
 {
-    let mut pieces = [NOTHING; 6];
     match why {
-        Why::Empty => pieces[0] = Piece::Text(b"empty"),
-        Why::Differs { gens, .. } => {
-            pieces[0] = Piece::Text(b"cells differ after ");
-            pieces[1] = Piece::Number(gens);
-        }
-        Why::Earlier { m, dx, dy } => return return_pieces(m, dx, dy),
-        Why::Died { m } => {
-            pieces[0] = Piece::Text(b"empty after ");
-            pieces[1] = Piece::Number(m);
-        }
+        Why::Empty => in_pieces![6; text b"empty"],
+        Why::Differs { gens, .. } => in_pieces![6; text b"cells differ after ", number gens],
+        Why::Earlier { m, dx, dy } => return_pieces(m, dx, dy),
+        Why::Died { m } => in_pieces![6; text b"empty after ", number m],
     }
-    pieces
 }
 
 fn table_fault_pieces<'a>(fault: TableFault) -> [Piece<'a>; 2]
     ensures { pieces_text result ≡ table_fault_text fault }
 {
     if let TableFault::Memory = fault {
-        return padded_text(b"memory");
+        return in_pieces![2; text b"memory"];
     }
-    [Piece::Text(b"bad table:"), Piece::Text(table_kind(fault))]
+    in_pieces![text b"bad table:", text table_kind(fault)]
 }
 
 pub(crate) fn cause_pieces<'a>(cause: Cause) -> [Piece<'a>; 2]
     ensures { pieces_text result ≡ cause_text cause }
 {
     match cause {
-        Cause::NoFile => padded_text(b"no file"),
+        Cause::NoFile => in_pieces![2; text b"no file"],
         Cause::BadTable(fault) => table_fault_pieces(fault),
-        Cause::BadPattern(fault) => padded_text(pattern_fault_bytes(fault)),
-        Cause::BadRule(fault) => [
-            Piece::Text(b"bad rule: "),
-            Piece::Text(rule_fault_bytes(fault)),
-        ],
-        Cause::StateTooLarge => padded_text(b"state too large"),
-        Cause::MixedRules => padded_text(b"mixed rules"),
-        Cause::TooManyCells => padded_text(b"too many cells"),
-        Cause::Work => padded_text(b"work"),
-        Cause::Memory => padded_text(b"memory"),
+        Cause::BadPattern(fault) => in_pieces![2; text pattern_fault_bytes(fault)],
+        Cause::BadRule(fault) => in_pieces![text b"bad rule: ", text rule_fault_bytes(fault)],
+        Cause::StateTooLarge => in_pieces![2; text b"state too large"],
+        Cause::MixedRules => in_pieces![2; text b"mixed rules"],
+        Cause::TooManyCells => in_pieces![2; text b"too many cells"],
+        Cause::Work => in_pieces![2; text b"work"],
+        Cause::Memory => in_pieces![2; text b"memory"],
     }
 }
 
@@ -86,15 +63,7 @@ fn refusal_pieces<'a>(cause: Cause) -> [Piece<'a>; 7]
     ensures { pieces_text result ≡ verdict_text (Refused cause) }
 {
     let [first, second] = cause_pieces(cause);
-    [
-        Piece::Text(b"refused, "),
-        first,
-        second,
-        NOTHING,
-        NOTHING,
-        NOTHING,
-        NOTHING,
-    ]
+    in_pieces![7; text b"refused, ", piece first, piece second]
 }
 
 fn no_pieces<'a>(why: Why) -> [Piece<'a>; 7]
@@ -108,11 +77,7 @@ fn verdict_pieces<'a>(verdict: Verdict) -> [Piece<'a>; 7]
     ensures { pieces_text result ≡ verdict_text verdict }
 {
     match verdict {
-        Verdict::Yes => {
-            let mut pieces = [NOTHING; 7];
-            pieces[0] = Piece::Text(b"yes");
-            pieces
-        }
+        Verdict::Yes => in_pieces![7; text b"yes"],
         Verdict::No(why) => no_pieces(why),
         Verdict::Refused(cause) => refusal_pieces(cause),
     }
@@ -123,19 +88,9 @@ pub(crate) fn answer_pieces<'a>(before: &'a [u8], answer: &Answer) -> [Piece<'a>
     ensures { pieces_text result ≡ before.now ++ answer_line answer.now }
 {
     let [a, b, c, d, e, f, g] = verdict_pieces(answer.verdict);
-    [
-        Piece::Text(before),
-        Piece::Text(b"line "),
-        Piece::Number(answer.line),
-        Piece::Text(b": "),
-        a,
-        b,
-        c,
-        d,
-        e,
-        f,
-        g,
-        Piece::Text(b"\n"),
+    in_pieces![
+        text before, text b"line ", number answer.line, text b": ",
+        piece a, piece b, piece c, piece d, piece e, piece f, piece g, text b"\n",
     ]
 }
 

@@ -4,8 +4,8 @@ ghost use Rattle.std.specs.Prelude.{◌≡◌, true, false, IfOk, OnOk, OnErr, M
 ghost use Rattle.ca_plane.specs.Puts.{Puts};
 ghost use Rattle.ca_tool.specs.RulePaths.{has_two_dots, is_file_name, rule_path};
 
+use crate::pieces::{in_pieces, push_pieces};
 use ca_plane::Memory;
-use ca_plane::text::push_text;
 use std::alloc::Global;
 
 // Whether two dots stand side by side in a name.
@@ -48,11 +48,11 @@ pub fn rule_path(alloc: Global, folder: &[u8], name: &[u8]) -> Result<Option<Vec
     Ok(Some(path))
 }
 
-fn push_path(out: &mut Vec<u8>, folder: &[u8], name: &[u8]) -> Result<(), Memory>
+fn push_path<'a>(out: &mut Vec<u8>, folder: &'a [u8], name: &'a [u8]) -> Result<(), Memory>
     ensures { OnOk result (Puts out.old.items out.new.items (rule_path folder.now name.now)) }
 {
-    push_text(out, folder)?;
-    push_text(out, b"/")?;
-    push_text(out, name)?;
-    push_text(out, b".rule")
+    push_pieces(
+        out,
+        &in_pieces![text folder, text b"/", text name, text b".rule"],
+    )
 }
