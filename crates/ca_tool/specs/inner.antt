@@ -2,3 +2,4 @@
 pub mod Judged
 pub mod Pieces
 pub mod Refusals
+pub mod Searches

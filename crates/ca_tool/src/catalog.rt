@@ -9,10 +9,11 @@ ghost use Rattle.ca_claims.specs.Answers.{IsQuietTable, IsTableFault, FirstBad};
 ghost use Rattle.ca_claims.specs.Limited.{AreGoodLimits};
 ghost use Rattle.ca_claims.specs.Text.{longest_period, most_generations};
 ghost use Rattle.ca_tool.specs.Catalog.{is_death, claims_death, is_refused, version_line, rule_line, entry_lines, catalog_text};
-ghost use Rattle.ca_tool.specs.Catalog.{catalog_status, IsContentOutcome, IsOutcome, IsEntry, AreEntries};
+ghost use Rattle.ca_tool.specs.Catalog.{catalog_status, IsOutcome, IsEntry, AreEntries};
 ghost use Rattle.ca_tool.specs.Catalog.{AreRuleTables, IsCatalog, IsCatalogFault};
 ghost use Rattle.ca_tool.specs.CatalogSays.{SaysItsClaims};
 ghost use Rattle.ca_tool.specs.Writing.{WritesOneOf};
+ghost use Rattle.ca_tool.specs.inner.Searches.{IsGoodSearch};
 
 use crate::entry::{Content, Entry, Outcome, Subject};
 use crate::entry_lines::{push_entry, push_rule};
@@ -63,15 +64,13 @@ pub fn identify_run<W: Write, O: Observer>(
         Err(TableFault::Memory) => return Err(ToolFault::Memory),
         Err(fault) => return Err(ToolFault::BadTable(fault)),
     };
-    let Ok(entries) = entries_of(
-        alloc,
-        subjects,
-        &tables,
+    let search = Search {
+        tables: &tables,
         generations,
         limits,
         limit,
-        observer,
-    ) else {
+    };
+    let Ok(entries) = entries_of(alloc, subjects, &search, observer) else {
         return Err(ToolFault::Memory);
     };
     let Ok(text) = catalog_text(alloc, generations, limit, rules, &entries) else {
@@ -104,38 +103,33 @@ fn tables_of(alloc: Global, rules: &[File<'_>]) -> Result<Vec<Table>, TableFault
     Ok(tables)
 }
 
+// What is looked for in files: what their planes are some generations on, in as many more generations as the
+// limit says, under these tables and within these limits.
+#[derive(Clone, Copy)]
+struct Search<'a> {
+    tables: &'a [Table],
+    generations: u64,
+    limits: Limits,
+    limit: u64,
+}
+
 // The entries on the files, in order.
 fn entries_of<'a, O: Observer>(
     alloc: Global,
     subjects: &[Subject<'a>],
-    tables: &[Table],
-    generations: u64,
-    limits: Limits,
-    limit: u64,
+    search: &Search<'_>,
     observer: &mut O,
 ) -> Result<Vec<Entry<'a>>, Memory>
-    requires few { generations ≤ most_generations }
-    requires limits { AreGoodLimits limits }
-    requires some { 1 ≤ limit }
-    requires most { limit ≤ longest_period }
-    ensures entries { IfOk result
-        (λ entries. AreEntries tables.now limits.work generations limit [] subjects.now entries.items) }
+    requires { IsGoodSearch search.now }
+    ensures entries { IfOk result (λ entries. AreEntries search.now.tables.now search.now.limits.work
+        search.now.generations search.now.limit [] subjects.now entries.items) }
     ensures memory { OnErr result (subjects.now ≢ []) }
 {
     let mut names = Names::new(alloc);
     let mut entries = Vec::new(alloc);
     'subjects: for subject in subjects {
         observer.begins((entries.len() as u64).saturating_add(1));
-        let entry = entry_of(
-            alloc,
-            &mut names,
-            subject,
-            tables,
-            generations,
-            limits,
-            limit,
-            observer,
-        )?;
+        let entry = entry_of(alloc, &mut names, subject, search, observer)?;
         observer.ends();
         if entries.push(entry).is_err() {
             return Err(Memory);
@@ -149,20 +143,15 @@ fn entry_of<'a, O: Observer>(
     alloc: Global,
     names: &mut Names,
     subject: &Subject<'a>,
-    tables: &[Table],
-    generations: u64,
-    limits: Limits,
-    limit: u64,
+    search: &Search<'_>,
     observer: &mut O,
 ) -> Result<Entry<'a>, Memory>
-    requires few { generations ≤ most_generations }
-    requires limits { AreGoodLimits limits }
-    requires some { 1 ≤ limit }
-    requires most { limit ≤ longest_period }
-    ensures entry { IfOk result (IsEntry tables.now limits.work generations limit names.old subject.now) }
+    requires { IsGoodSearch search.now }
+    ensures entry { IfOk result (IsEntry search.now.tables.now search.now.limits.work
+        search.now.generations search.now.limit names.old subject.now) }
     ensures names { IfOk result (λ entry. names.new ≡ names.old ++ entry.name.items ∷ []) }
 {
-    let outcome = outcome_of(alloc, subject, tables, generations, limits, limit, observer);
+    let outcome = outcome_of(alloc, subject, search, observer);
     let name = names.add(alloc, subject.path)?;
     Ok(Entry {
         name,
@@ -175,49 +164,17 @@ fn entry_of<'a, O: Observer>(
 fn outcome_of<O: Observer>(
     alloc: Global,
     subject: &Subject<'_>,
-    tables: &[Table],
-    generations: u64,
-    limits: Limits,
-    limit: u64,
+    search: &Search<'_>,
     observer: &mut O,
 ) -> Outcome
-    requires few { generations ≤ most_generations }
-    requires limits { AreGoodLimits limits }
-    requires some { 1 ≤ limit }
-    requires most { limit ≤ longest_period }
-    ensures { IsOutcome tables.now limits.work generations limit subject.now result }
+    requires { IsGoodSearch search.now }
+    ensures { IsOutcome search.now.tables.now search.now.limits.work
+        search.now.generations search.now.limit subject.now result }
 {
     if !is_claim_path(subject.path) {
         return Outcome::Unnameable;
     }
-    content_outcome(
-        alloc,
-        subject.content,
-        tables,
-        generations,
-        limits,
-        limit,
-        observer,
-    )
-}
-
-// What comes of a file that gave this.
-fn content_outcome<O: Observer>(
-    alloc: Global,
-    content: Content<'_>,
-    tables: &[Table],
-    generations: u64,
-    limits: Limits,
-    limit: u64,
-    observer: &mut O,
-) -> Outcome
-    requires few { generations ≤ most_generations }
-    requires limits { AreGoodLimits limits }
-    requires some { 1 ≤ limit }
-    requires most { limit ≤ longest_period }
-    ensures { IsContentOutcome tables.now limits.work generations limit content.entry result }
-{
-    let bytes = match content {
+    let bytes = match subject.content {
         Content::Bytes(bytes) => bytes,
         Content::Missing(cause) => {
             return Outcome::Refused(Unidentified {
@@ -227,6 +184,12 @@ fn content_outcome<O: Observer>(
             });
         }
     };
+    let Search {
+        tables,
+        generations,
+        limits,
+        limit,
+    } = *search;
     match identify_after(alloc, bytes, tables, generations, limits, limit, observer) {
         Ok(identity) => Outcome::Identified(identity),
         Err(why) => Outcome::Refused(why),

@@ -11,6 +11,7 @@ subjects-preserved g c =
     let entry = c.in_ok-entry.entry in
     let pushed = c.push.ensures.items ∙ ap (λ b. if b then old ++ entry ∷ [] else old) c.if-is_err.ensures.negation in
     let at = slice_get-get_or subjects c.subjects.subject-index _ c.subjects-test.true in
-    let next = entries_next c.args.tables.now c.args.limits.work c.args.generations c.args.limit subjects c.subjects.subject-index _ old c.push.new.self.items entry c.subjects.names c.entry_of.new.names
+    let search = c.args.search.now in
+    let next = entries_next search.tables.now search.limits.work search.generations search.limit subjects c.subjects.subject-index _ old c.push.new.self.items entry c.subjects.names c.entry_of.new.names
     c.subjects.invariant.names c.subjects.invariant.holds at c.in_ok-entry.ensures.entry c.in_ok-entry.ensures.names pushed in
     record { names = next.0; holds = next.1 }

@@ -7,5 +7,5 @@ use Rattle.ca_tool.proofs.catalog.entries_of.Given as goal
 abbrev pub invariant-subjects : goal.invariant-subjects
 invariant-subjects g l = record {
   names : l.names ≡ names_of l.entries.items;
-  holds : AreEntries l.tables l.limits.work l.generations l.limit [] (take l.subject-index l.subjects) l.entries.items;
+  holds : AreEntries l.search.tables.now l.search.limits.work l.search.generations l.search.limit [] (take l.subject-index l.subjects) l.entries.items;
 }
