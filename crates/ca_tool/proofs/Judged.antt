@@ -6,9 +6,10 @@ use Rattle.std.proofs.lemmas.List.{append-nil, map-append, length-map}
 use Rattle.std.proofs.lemmas.List.Concat.{flat_map-append}
 use Rattle.std.proofs.lemmas.Slice.Zip.{AllZip-long}
 use Rattle.ca_plane.specs.Device.{AppendsPrefix}
-use Rattle.ca_plane.proofs.Sends.{prefix_of_first, prefix_of_second}
+use Rattle.ca_plane.proofs.Sends.{sent_both, prefix_of_first, prefix_of_second}
 use Rattle.ca_claims.specs.Text.{Claim}
 use Rattle.ca_claims.specs.declared.verdict.Answer.{Answer}
+use Rattle.ca_claims.specs.declared.note.Note.{Note}
 use Rattle.ca_claims.specs.Answers.{IsTrueAnswer, AreTrueAnswers, IsWithinWork, AreWithinWork}
 use Rattle.ca_claims.specs.Notes.{IsNote, HasItsNote}
 use Rattle.ca_claims.specs.Judging.{Judging, JudgesAndNotes}
@@ -82,6 +83,13 @@ judged_then old mid new xs ys first second = record {
       (subst (λ w. AreFindings (record { files = mid.files; rules = mid.rules; claims = second.judged; patterns = second.theirs; work = w }) ys) first.work second.holds)));
 }
 
+-- some were, and then one more
+pub judged_more : (old mid new : Judging) (answer : Answer) (note : Note) → (findings : List Finding) × WereJudged old mid findings → JudgesAndNotes mid new answer note → HasItsNote answer.verdict note
+    → (findings : List Finding) × WereJudged old new findings
+judged_more old mid new answer note (findings, so_far) one given =
+    let finding : Finding = record { answer = answer; note = note } in
+    (findings ++ finding ∷ [], judged_then old mid new findings (finding ∷ []) so_far (judged_one mid new finding one given))
+
 -- what is printed for some claims and for one more
 text_more : (style : ReportStyle) (findings : List Finding) (finding : Finding) → findings_text style (findings ++ finding ∷ []) ≡ findings_text style findings ++ finding_text style finding
 text_more style findings finding = flat_map-append (finding_text style) findings (finding ∷ []) ∙ ap (λ l. findings_text style findings ++ l) (append-nil (finding_text style finding))
@@ -104,6 +112,17 @@ report_in_part old mid new style finding before between after code (text, so_far
   text ++ finding_text style finding,
   (_, report_more old mid new style finding text code _ so_far one refl),
   prefix_of_second before between after text (finding_text style finding) sent part,
+)
+
+-- some claims were reported, and then one more
+pub report_whole : (old mid new : Judging) (style : ReportStyle) (finding : Finding) (before between after : Option (List ℕ)) (code next : ℕ)
+    → (text : List ℕ) × IsReportUpTo old mid style text code × Appends before between text → WereJudged mid new (finding ∷ [])
+    → ((answers : List Answer) → code ≡ status_of answers → next ≡ status_of (answers ++ finding.answer ∷ [])) → Appends between after (finding_text style finding)
+    → (text : List ℕ) × IsReportUpTo old new style text next × Appends before after text
+report_whole old mid new style finding before between after code next (text, so_far, sent) one worse more = (
+  text ++ finding_text style finding,
+  report_more old mid new style finding text code next so_far one (worse (answers_of so_far.findings) so_far.status),
+  sent_both before between after text (finding_text style finding) sent more,
 )
 
 -- where none is left, the findings are on all claims

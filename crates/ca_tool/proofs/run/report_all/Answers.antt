@@ -1,9 +1,6 @@
-use Rattle.std.proofs.Common.{◌++◌, rules, [], refl}
+use Rattle.std.proofs.Common.{rules, [], refl}
 use Rattle.std.proofs.KnownBytes.{Appends-nil}
-use Rattle.ca_plane.proofs.Sends.{sent_both}
-use Rattle.ca_tool.specs.Printed.{finding_text}
-use Rattle.ca_tool.specs.Runs.{answers_of}
-use Rattle.ca_tool.proofs.Judged.{judged_none, report_more, report_in_part}
+use Rattle.ca_tool.proofs.Judged.{judged_none, report_whole, report_in_part}
 use Rattle.ca_tool.proofs.run.report_all.Goals as goal
 
 pub claims-init : goal.claims-init
@@ -24,41 +21,15 @@ returns-then-is_err g c = record {
   nothing = search rules;
 }
 
--- one claim more was reported
+-- one claim more was reported, on each way
 pub claims-preserved-else-is_err : goal.claims-preserved-else-is_err
 claims-preserved-else-is_err g c =
-    let (text, so_far, sent) = c.claims.invariant.reported in
-    record {
-      reported = (
-        text ++ finding_text c.args.style.now c.in-Some.finding,
-        report_more _ _ _ c.args.style.now c.in-Some.finding text _ _ so_far c.in-Some.ensures (c.worse_status-code.ensures (answers_of so_far.findings) so_far.status),
-        sent_both _ _ _ text _ sent (search rules),
-      );
-      kept = search rules;
-    }
+    record { reported = report_whole c.args.judge.now c.claims.judge c.next_finding.new.judge c.args.style.now c.in-Some.finding _ _ _ _ _ c.claims.invariant.reported c.in-Some.ensures c.worse_status-code.ensures (search rules); kept = search rules }
 
--- the same, on the other way
 pub claims-preserved : goal.claims-preserved
 claims-preserved g c =
-    let (text, so_far, sent) = c.claims.invariant.reported in
-    record {
-      reported = (
-        text ++ finding_text c.args.style.now c.in-Some.finding,
-        report_more _ _ _ c.args.style.now c.in-Some.finding text _ _ so_far c.in-Some.ensures (c.worse_status-code.ensures (answers_of so_far.findings) so_far.status),
-        sent_both _ _ _ text _ sent (search rules),
-      );
-      kept = search rules;
-    }
+    record { reported = report_whole c.args.judge.now c.claims.judge c.next_finding.new.judge c.args.style.now c.in-Some.finding _ _ _ _ _ c.claims.invariant.reported c.in-Some.ensures c.worse_status-code.ensures (search rules); kept = search rules }
 
--- and on the third way
 pub claims-preserved-else-is_err-2 : goal.claims-preserved-else-is_err-2
 claims-preserved-else-is_err-2 g c =
-    let (text, so_far, sent) = c.claims.invariant.reported in
-    record {
-      reported = (
-        text ++ finding_text c.args.style.now c.in-Some.finding,
-        report_more _ _ _ c.args.style.now c.in-Some.finding text _ _ so_far c.in-Some.ensures (c.worse_status-code.ensures (answers_of so_far.findings) so_far.status),
-        sent_both _ _ _ text _ sent (search rules),
-      );
-      kept = search rules;
-    }
+    record { reported = report_whole c.args.judge.now c.claims.judge c.next_finding.new.judge c.args.style.now c.in-Some.finding _ _ _ _ _ c.claims.invariant.reported c.in-Some.ensures c.worse_status-code.ensures (search rules); kept = search rules }
