@@ -21,48 +21,19 @@ rule_inner rules.Wakes = refl
 rule_inner rules.Unknown = refl
 
 table_inner : (fault : TableFault) → Every is_inner (table_fault_text fault)
-table_inner (tables.NoRuleLine line) = refl
-table_inner (tables.NoTable line) = refl
-table_inner (tables.Syntax line) = refl
-table_inner (tables.States line) = refl
-table_inner (tables.Neighborhood line) = refl
-table_inner (tables.Symmetries line) = refl
-table_inner (tables.Variable line) = refl
-table_inner (tables.Unbound line) = refl
-table_inner (tables.Wakes line) = refl
 table_inner tables.Memory = refl
+table_inner fault = refl
 
 pattern_inner : (fault : PatternFault) → Every is_inner (pattern_fault_text fault)
-pattern_inner (patterns.Rle rle.Syntax) = refl
-pattern_inner (patterns.Rle rle.Header) = refl
-pattern_inner (patterns.Rle rle.XlifeRule) = refl
-pattern_inner (patterns.Rle rle.NoEnd) = refl
-pattern_inner (patterns.Rle rle.BadState) = refl
-pattern_inner (patterns.Rle rle.Range) = refl
-pattern_inner (patterns.Rle rle.TooManyCells) = refl
-pattern_inner (patterns.Rle rle.GenTooLarge) = refl
 pattern_inner (patterns.Rle rle.Memory) = refl
-pattern_inner (patterns.Macro macrocell.NotMacro) = refl
-pattern_inner (patterns.Macro macrocell.Timeline) = refl
-pattern_inner (patterns.Macro macrocell.Syntax) = refl
-pattern_inner (patterns.Macro macrocell.Forward) = refl
-pattern_inner (patterns.Macro macrocell.Level) = refl
-pattern_inner (patterns.Macro macrocell.LeafSize) = refl
-pattern_inner (patterns.Macro macrocell.Range) = refl
-pattern_inner (patterns.Macro macrocell.GenTooLarge) = refl
 pattern_inner (patterns.Macro macrocell.Memory) = refl
-pattern_inner patterns.Memory = refl
+pattern_inner fault = refl
 
 pub cause_inner : (cause : Cause) → Every is_inner (cause_text cause)
-cause_inner causes.NoFile = refl
 cause_inner (causes.BadTable fault) = table_inner fault
 cause_inner (causes.BadPattern fault) = pattern_inner fault
 cause_inner (causes.BadRule fault) = rule_inner fault
-cause_inner causes.StateTooLarge = refl
-cause_inner causes.MixedRules = refl
-cause_inner causes.TooManyCells = refl
-cause_inner causes.Work = refl
-cause_inner causes.Memory = refl
+cause_inner cause = refl
 
 pub at_inner : (line : Option ℕ) → Every is_inner (at_line line)
 at_inner None = refl
