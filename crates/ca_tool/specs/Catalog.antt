@@ -94,14 +94,8 @@ rule_line file = codes "rule " ++ (file.path.now ++ 10 ∷ [])
 
 -- the pattern dies: the claim that says so came with the second version of the language
 abbrev pub is_death : Outcome → Bool
-is_death Unnameable = false
-is_death (Refused why) = false
-is_death (Identified Empty) = false
-is_death (Identified StillLife) = false
-is_death (Identified (Oscillator period)) = false
-is_death (Identified (Spaceship period dx dy)) = false
 is_death (Identified (Dies generations)) = true
-is_death (Identified (Unknown growth)) = false
+is_death outcome = false
 
 -- some pattern dies, and the text claims it
 abbrev pub claims_death : ℕ → List Entry → Bool
@@ -169,13 +163,7 @@ pub record IsCatalog (subjects : List Subject) (rules : List File) (work n limit
 
 -- why no text is written: this is the fault of the first rule file that is no good table, or memory is out
 abbrev pub IsCatalogFault : List Subject → List File → ToolFault → Type 0
-IsCatalogFault subjects rules (tools.Input fault) = ⊥
 IsCatalogFault subjects rules (tools.BadTable fault) =
     FirstBad (λ file. (table : TableRule) × IsQuietTable file.bytes.now table) (λ file. IsTableFault file.bytes.now fault) rules
-IsCatalogFault subjects rules (tools.Convert fault) = ⊥
-IsCatalogFault subjects rules tools.GenTooLarge = ⊥
-IsCatalogFault subjects rules tools.Work = ⊥
-IsCatalogFault subjects rules tools.Range = ⊥
-IsCatalogFault subjects rules (tools.Window fault) = ⊥
-IsCatalogFault subjects rules tools.Write = ⊥
 IsCatalogFault subjects rules tools.Memory = (subjects ≢ []) ⊎ (rules ≢ [])
+IsCatalogFault subjects rules told = ⊥

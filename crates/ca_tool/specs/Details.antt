@@ -4,19 +4,12 @@ use Rattle.std.specs.declared.alloc.Global.{Global}
 use Rattle.ca_claims.specs.declared.refused.Refused.{Refused}
 use Rattle.ca_claims.specs.Refused.{IsDetailOf}
 use Rattle.ca_tool.specs.declared.fault.ToolFault.{ToolFault}
-use Rattle.ca_tool.specs.declared.fault.ToolFault.TheVariants.{Input, BadTable, Convert, GenTooLarge, Work, Range, Window, Write, Memory}
+use Rattle.ca_tool.specs.declared.fault.ToolFault.TheVariants.{Convert}
 
 -- the line on which a fault of the file with these bytes stands, and its rule text, which are known of a pattern that isn't shown or converted
 abbrev pub IsRunDetailOf : List ℕ → ToolFault → Option ℕ → Option (Vec ℕ Global) → Type 0
-IsRunDetailOf bytes (Input fault) line text = (line ≡ None) × (text ≡ None)
-IsRunDetailOf bytes (BadTable fault) line text = (line ≡ None) × (text ≡ None)
 IsRunDetailOf bytes (Convert fault) line text = IsDetailOf bytes fault line text
-IsRunDetailOf bytes GenTooLarge line text = (line ≡ None) × (text ≡ None)
-IsRunDetailOf bytes Work line text = (line ≡ None) × (text ≡ None)
-IsRunDetailOf bytes Range line text = (line ≡ None) × (text ≡ None)
-IsRunDetailOf bytes (Window fault) line text = (line ≡ None) × (text ≡ None)
-IsRunDetailOf bytes Write line text = (line ≡ None) × (text ≡ None)
-IsRunDetailOf bytes Memory line text = (line ≡ None) × (text ≡ None)
+IsRunDetailOf bytes fault line text = (line ≡ None) × (text ≡ None)
 
 abbrev pub HasRunDetail : List ℕ → Refused ToolFault → Type 0
 HasRunDetail bytes refused = IsRunDetailOf bytes refused.fault refused.line refused.rule_text

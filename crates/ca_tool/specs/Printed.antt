@@ -218,12 +218,10 @@ generations_word n = if nat_eq n 1 then codes " generation" else codes " generat
 
 -- the line about a cell that differs, of the pattern with this name, after a text that stands before each line
 abbrev pub cell_line : List ℕ → List ℕ → Why → List ℕ
-cell_line before name Empty = []
 cell_line before name (Differs x y found claimed gens) =
     before ++ (codes "  " ++ (name ++ (codes " at " ++ (signed_decimal x ++ (codes "," ++ (signed_decimal y ++ (codes ": " ++ (decimal found
     ++ (codes " after " ++ (decimal gens ++ (generations_word gens ++ (codes ", claimed " ++ (decimal claimed ++ 10 ∷ [])))))))))))))
-cell_line before name (Earlier m dx dy) = []
-cell_line before name (Died m) = []
+cell_line before name why = []
 
 -- on which line a file is faulty, where it has such a line
 abbrev pub at_line : Option ℕ → List ℕ
@@ -241,10 +239,8 @@ cause_line cause = None
 
 -- the line of a note on a no
 abbrev pub no_note_text : List ℕ → Why → Note → List ℕ
-no_note_text before why notes.Nothing = []
 no_note_text before why (notes.Cell name) = cell_line before name.now why
-no_note_text before why (notes.Pattern name path line text) = []
-no_note_text before why (notes.RuleFile path) = []
+no_note_text before why note = []
 
 -- a rule text that names no rule
 abbrev pub rule_words : Option (Vec ℕ Global) → List ℕ
@@ -273,10 +269,9 @@ noted_line before faulty name path line text = before ++ (codes "  " ++ (name ++
 
 -- the line of a note on a refusal
 abbrev pub refusal_note_text : List ℕ → List FaultyRule → Cause → Note → List ℕ
-refusal_note_text before faulty cause notes.Nothing = []
-refusal_note_text before faulty cause (notes.Cell name) = []
 refusal_note_text before faulty cause (notes.Pattern name path line text) = noted_line before faulty name.now path.now line text
 refusal_note_text before faulty cause (notes.RuleFile path) = file_line before (codes "rule file") path.now (cause_line cause)
+refusal_note_text before faulty cause note = []
 
 -- the second line, of a note on a verdict, where there is something to tell
 abbrev pub note_text : List ℕ → List FaultyRule → Verdict → Note → List ℕ
@@ -305,13 +300,9 @@ pattern_line path line text = codes "  " ++ (path ++ (at_line line ++ (rule_word
 abbrev pub explanation_of : ToolFault → Option ℕ → Option (Vec ℕ Global) → RunPaths → List ℕ
 explanation_of (tools.Input fault) line text paths = []
 explanation_of (tools.BadTable fault) line text paths = file_line [] (codes "rule file") paths.rule.now (Some (table_line fault))
-explanation_of (tools.Convert fault) line text paths = pattern_line paths.pattern.now line text
-explanation_of tools.GenTooLarge line text paths = pattern_line paths.pattern.now line text
-explanation_of tools.Work line text paths = pattern_line paths.pattern.now line text
-explanation_of tools.Range line text paths = pattern_line paths.pattern.now line text
-explanation_of (tools.Window fault) line text paths = pattern_line paths.pattern.now line text
 explanation_of tools.Write line text paths = []
 explanation_of tools.Memory line text paths = []
+explanation_of fault line text paths = pattern_line paths.pattern.now line text
 
 abbrev pub explanation : RefusedFor ToolFault → RunPaths → List ℕ
 explanation refused paths = explanation_of refused.fault refused.line refused.rule_text paths
