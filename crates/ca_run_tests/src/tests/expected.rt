@@ -35,9 +35,15 @@ pub(crate) fn within(y: i64, x: i64) -> Point
 
 /// The plane on which these cells were written one after another.
 pub(crate) fn plane_of(alloc: Global, cells: &[Cell]) -> Result<Plane, Memory> {
+    moved_plane_of(alloc, cells, 0)
+}
+
+/// The same, where each cell is moved so many places to the right and down.
+pub(crate) fn moved_plane_of(alloc: Global, cells: &[Cell], places: i64) -> Result<Plane, Memory> {
     let mut plane = Plane::new(alloc);
     'cells: for &(y, x, state) in cells {
-        plane.set(within(y, x), state)?;
+        let at = within(y.saturating_add(places), x.saturating_add(places));
+        plane.set(at, state)?;
     }
     Ok(plane)
 }

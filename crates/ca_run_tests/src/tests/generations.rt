@@ -5,7 +5,7 @@ ghost use Rattle.std.specs.List.{All};
 ghost use Rattle.std.proofs.Common.{rules, arith};
 ghost use Rattle.std.proofs.lemmas.Bool.Decides.{nat_tests};
 
-use super::expected::{Cell, GLIDER, expect, plane_of, shows};
+use super::expected::{Cell, GLIDER, expect, moved_plane_of, plane_of, shows};
 use ca_plane::{Automaton, Memory, Nine, Plane};
 use ca_quad::Store;
 use ca_run::{LeapFault, Leaper, RunFault, kernel16, step, steps};
@@ -174,18 +174,14 @@ fn a_hundred_thousand_cells_leap(rt: HostRuntime) -> Result<(), Fail> {
 }
 
 /// A glider after 64 generations.
-const GLIDER_64: &[Cell] = &[
-    (16, 17, 1),
-    (17, 18, 1),
-    (18, 16, 1),
-    (18, 17, 1),
-    (18, 18, 1),
-];
+fn glider_64(alloc: Global) -> Result<Plane, Memory> {
+    moved_plane_of(alloc, GLIDER, 16)
+}
 
 /// Whether a leaper that may remember and work out so much takes a glider 64 generations on, and how much it
 /// works out.
 fn glider_by(alloc: Global, memo: usize, work: u64) -> Result<(bool, u64), LeapFault> {
-    let (Ok(plane), Ok(later)) = (plane_of(alloc, GLIDER), plane_of(alloc, GLIDER_64)) else {
+    let (Ok(plane), Ok(later)) = (plane_of(alloc, GLIDER), glider_64(alloc)) else {
         return Err(LeapFault::Memory);
     };
     if !has_two_states(&plane) || !has_two_states(&later) {
@@ -281,7 +277,7 @@ fn squares_are_made_by_work(rt: HostRuntime) -> Result<(), Fail> {
 /// again.
 fn goes_on(alloc: Global) -> Result<bool, LeapFault> {
     let plane = plane_of(alloc, GLIDER)?;
-    let later = plane_of(alloc, GLIDER_64)?;
+    let later = glider_64(alloc)?;
     let mut leaper = Leaper::new(alloc, Store::new(alloc), Life, 262144, u64::MAX)?;
     match leaps_to(&mut leaper, &plane, 64, &later) {
         Err(LeapFault::Memory) => leaps_to(&mut leaper, &plane, 64, &later),
