@@ -75,12 +75,11 @@ pub trio-returns-clause-shows : goal.trio-returns-clause-shows
 trio-returns-clause-shows g t c = λ next p a b e two.
     let k = c.args.grain in
     let sound = subst (λ l. IsSoundStore l.nodes) c.self.view_is c.self.invariant.squares in
-    let x = a +ℤ side (suc (suc k)) in
-    let between = four_between (suc k) (c.quarters-nw.ensures.shows p a b two.at_west) (c.quarters-ne.ensures.shows p x b two.at_east) in
+    let between = four_between (suc k) (c.quarters-nw.ensures.shows p a b two.at_west) (c.quarters-ne.ensures.shows p (a +ℤ side (suc (suc k))) b two.at_east) in
     trio_at k (g.A.Automaton.next_of) e c.in_ok-west.ensures.at_cost.goes_on c.in_ok-middle.ensures.at_cost.goes_on c.in_ok-east.ensures.at_cost.goes_on _ (cells_after next p (generations c.args.first)) a (b +ℤ side k)
     (c.in_ok-west.ensures.shows next p a b e two.at_west)
     (λ e1 grows. c.in_ok-middle.ensures.shows next p (a +ℤ side (suc k)) b e1 (four_stay _ _ sound grows (suc k) _ _ _ _ p (a +ℤ side (suc k)) b between))
-    (λ e2 grows. c.in_ok-east.ensures.shows next p x b e2 (at_stays _ _ sound grows c.args.east (suc (suc k)) p x b two.at_east))
+    (λ e2 grows. c.in_ok-east.ensures.shows next p (a +ℤ side (suc (suc k))) b e2 (at_stays _ _ sound grows c.args.east (suc (suc k)) p (a +ℤ side (suc (suc k))) b two.at_east))
 
 pub trio-returns-clause-at_cost : goal.trio-returns-clause-at_cost
 trio-returns-clause-at_cost g t c =
