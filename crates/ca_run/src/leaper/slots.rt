@@ -11,7 +11,8 @@ use std::marker::Model;
 // How many slots there are at first.
 const FIRST: usize = 1024;
 
-/// Squares that are results, by their keys. A result has the slot of its key's hash until another comes there.
+/// Squares that are results, by their keys. A result has the slot of its key's hash until another comes
+/// there.
 #[derive(Drop)]
 pub(crate) struct Slots<K: SlotKey> {
     slots: Vec<Option<(K, Id)>>,
