@@ -1,16 +1,38 @@
-use Rattle.std.proofs.Common.{rules, ◌≡◌, ◌+◌, refl, sym, subst, arith, w64, SFits, to_z, of_z}
+use Rattle.std.proofs.Common.{rules, ◌≡◌, ℕ, ◌+◌, refl, sym, subst, arith, w64, SFits, to_z, of_z}
+use Rattle.std.specs.Prelude.{ℤ}
 use Rattle.std.proofs.lemmas.Int.{to_z-of_z}
 use Rattle.ca_plane.specs.Generations.{cells_after}
 use Rattle.ca_quad.specs.Trees.{cell}
 use Rattle.ca_run.proofs.Leap.{goes_on_same}
 use Rattle.ca_run.proofs.Shown.{goes_on_again}
 use Rattle.ca_claims.specs.inner.Glance.{IsLowTree}
-use Rattle.ca_claims.specs.inner.Stages.{IsStage, IsReturn, IsLaterTree, AreOtherUpTo, IsGrowthOf}
+use Rattle.ca_claims.specs.inner.Stages.{IsStage, IsReturn, IsLaterTree, AreOtherUpTo, IsGrowthOf, TakesSteps}
 use Rattle.ca_claims.specs.inner.Subjects.{HasLive}
 use Rattle.ca_claims.proofs.Identities.{last_live, found_none, found_death, found_return}
 use Rattle.ca_claims.proofs.Starts.{start_is_low}
 use Rattle.ca_claims.proofs.Stages.{first_tree, first_stays, others_at_first, one_more_other, step_from, step_to, stage_to, no_step, one_more_step, fewer_steps, last_step}
 use Rattle.ca_claims.proofs.identification.search.search.Goals as goal
+use Rattle.ca_claims.proofs.identification.search.search.Goals.{In_ok-later}
+
+-- after one generation more
+module _ (g : _) (c : In_ok-later g) where
+  abbrev first : ℤ → ℤ → ℕ
+  first = cell c.args.leaper.now.nodes c.args.first.tree
+
+  abbrev stages : ℕ → ℤ → ℤ → ℕ
+  stages = cells_after (g.A.Automaton.next_of c.args.leaper.now.rule) first
+
+  -- what the first pattern's plane shows
+  told : IsStage first (stages (c.generations.generations + 1)) c.in_ok-later.later.stage
+  told =
+      let inv = c.generations.invariant in
+      stage_to g.A.Automaton.next_of inv.goes_on.rule c.store.ensures.sound inv.goes_on.grows c.requires.first (c.generations.generations + 1) c.in_ok-later.later.stage c.in_ok-later.ensures.stage
+
+  -- what it took, and what may be taken besides
+  takes : TakesSteps c.args.leaper.now.spent.used c.step.new.leaper.spent.used stages c.args.limit c.args.limit
+  takes =
+      let inv = c.generations.invariant in
+      last_step _ _ _ stages c.args.limit c.generations.generations c.generations.leaper.nodes c.generations.now inv.now.trimmed inv.now.shows (omega (arith, c.generations-test.true)) inv.takes c.step.ensures.takes
 
 pub generations-init : goal.generations-init
 generations-init g c =
@@ -42,40 +64,36 @@ returns-in_err-later-clause-takes g c =
 
 pub returns-in-Empty : goal.returns-in-Empty
 returns-in-Empty g c =
-    let inv = c.generations.invariant in
+    let a = (goal.at.returns-in-Empty g c).In_ok-later in
     let n = c.generations.generations in
-    let told = stage_to g.A.Automaton.next_of inv.goes_on.rule c.store.ensures.sound inv.goes_on.grows c.requires.first (n + 1) c.in_ok-later.later.stage c.in_ok-later.ensures.stage in
-    let next = g.A.Automaton.next_of c.args.leaper.now.rule in
-    let p = cell c.args.leaper.now.nodes c.args.first.tree in
     record {
       identity = λ cells shows.
-          found_death next (g.met.A.Automaton.quiet c.args.leaper.now.rule c.store.ensures.rule) c.args.leaper.now.nodes c.args.first c.requires.first cells shows n inv.others c.args.limit
-          (omega (arith, c.generations-test.true)) c.requires.most (subst (IsStage p (cells_after next p (n + 1))) c.in-Empty.is told);
-      goes_on = goes_on_again _ c.args.leaper.now c.generations.leaper c.step.new.leaper inv.goes_on c.in_ok-later.ensures.goes_on;
-      takes = last_step _ _ _ (cells_after next p) c.args.limit n c.generations.leaper.nodes c.generations.now inv.now.trimmed inv.now.shows (omega (arith, c.generations-test.true)) inv.takes c.step.ensures.takes;
+          found_death (g.A.Automaton.next_of c.args.leaper.now.rule) (g.met.A.Automaton.quiet c.args.leaper.now.rule c.store.ensures.rule) c.args.leaper.now.nodes c.args.first c.requires.first
+          cells shows n c.generations.invariant.others c.args.limit (omega (arith, c.generations-test.true)) c.requires.most (subst (IsStage (first g a) (stages g a (n + 1))) c.in-Empty.is (told g a));
+      goes_on = goes_on_again _ c.args.leaper.now c.generations.leaper c.step.new.leaper c.generations.invariant.goes_on c.in_ok-later.ensures.goes_on;
+      takes = takes g a;
       work = search rules;
     }
 
 pub returns-in-Back : goal.returns-in-Back
 returns-in-Back g c =
-    let inv = c.generations.invariant in
+    let a = (goal.at.returns-in-Back g c).In_ok-later in
     let n = c.generations.generations in
-    let told = stage_to g.A.Automaton.next_of inv.goes_on.rule c.store.ensures.sound inv.goes_on.grows c.requires.first (n + 1) c.in_ok-later.later.stage c.in_ok-later.ensures.stage in
     let next = g.A.Automaton.next_of c.args.leaper.now.rule in
-    let p = cell c.args.leaper.now.nodes c.args.first.tree in
     let dx = c.in-Back.dx in
     let dy = c.in-Back.dy in
     let fits_x : SFits w64 dx = search rules in
     let fits_y : SFits w64 dy = search rules in
     record {
       identity = λ cells shows.
-          let back = found_return next (g.met.A.Automaton.quiet c.args.leaper.now.rule c.store.ensures.rule) c.args.leaper.now.nodes c.args.first c.requires.first cells shows n inv.others c.args.limit
-          (omega (arith, c.generations-test.true)) c.requires.most dx dy (subst (IsStage p (cells_after next p (n + 1))) c.in-Back.is told) in
+          let back = found_return next (g.met.A.Automaton.quiet c.args.leaper.now.rule c.store.ensures.rule) c.args.leaper.now.nodes c.args.first c.requires.first
+          cells shows n c.generations.invariant.others c.args.limit (omega (arith, c.generations-test.true)) c.requires.most dx dy
+          (subst (IsStage (first g a) (stages g a (n + 1))) c.in-Back.is (told g a)) in
           c.returning.ensures next cells c.args.limit (omega (arith, c.generations-test.true)) c.requires.most
           (subst (λ a. IsReturn next cells (n + 1) a (to_z w64 (of_z w64 dy))) (sym (to_z-of_z w64 dx fits_x))
           (subst (λ b. IsReturn next cells (n + 1) dx b) (sym (to_z-of_z w64 dy fits_y)) back));
-      goes_on = goes_on_again _ c.args.leaper.now c.generations.leaper c.step.new.leaper inv.goes_on c.in_ok-later.ensures.goes_on;
-      takes = last_step _ _ _ (cells_after next p) c.args.limit n c.generations.leaper.nodes c.generations.now inv.now.trimmed inv.now.shows (omega (arith, c.generations-test.true)) inv.takes c.step.ensures.takes;
+      goes_on = goes_on_again _ c.args.leaper.now c.generations.leaper c.step.new.leaper c.generations.invariant.goes_on c.in_ok-later.ensures.goes_on;
+      takes = takes g a;
       work = search rules;
     }
 
@@ -83,16 +101,14 @@ pub generations-preserved : goal.generations-preserved
 generations-preserved g c =
     let inv = c.generations.invariant in
     let n = c.generations.generations in
-    let told = stage_to g.A.Automaton.next_of inv.goes_on.rule c.store.ensures.sound inv.goes_on.grows c.requires.first (n + 1) c.in_ok-later.later.stage c.in_ok-later.ensures.stage in
     let s = c.generations.leaper.nodes in
-    let p = cell c.args.leaper.now.nodes c.args.first.tree in
-    let stages = cells_after (g.A.Automaton.next_of c.args.leaper.now.rule) p in
+    let a = (goal.at.generations-preserved g c).In_ok-later in
     record {
       goes_on = goes_on_again _ c.args.leaper.now c.generations.leaper c.step.new.leaper inv.goes_on c.in_ok-later.ensures.goes_on;
       now = step_to g.A.Automaton.next_of inv.goes_on.rule c.store.ensures.sound inv.goes_on.grows c.requires.first (n + 1) c.step.new.leaper.nodes c.in_ok-later.later.tree c.in_ok-later.ensures.tree;
-      others = one_more_other (g.A.Automaton.next_of c.args.leaper.now.rule) p n inv.others (subst (IsStage p (stages (n + 1))) c.in-Other.is told);
+      others = one_more_other (g.A.Automaton.next_of c.args.leaper.now.rule) (first g a) n inv.others (subst (IsStage (first g a) (stages g a (n + 1))) c.in-Other.is (told g a));
       within = omega (arith, c.generations-test.true);
-      takes = one_more_step _ _ _ stages c.args.limit n s c.generations.now inv.now.trimmed inv.now.shows (omega (arith, c.generations-test.true)) inv.takes c.step.ensures.takes;
+      takes = one_more_step _ _ _ (stages g a) c.args.limit n s c.generations.now inv.now.trimmed inv.now.shows (omega (arith, c.generations-test.true)) inv.takes c.step.ensures.takes;
     }
 
 pub growth_of-requires-clause-low : goal.growth_of-requires-clause-low
