@@ -1,23 +1,19 @@
 -- What is drawn of a pattern file, and why nothing is.
-use Rattle.std.specs.Prelude.{◌≡◌, ◌≢◌, ◌⊎◌, ℕ, ℤ, List, Option, Result}
+use Rattle.std.specs.Prelude.{◌≡◌, ℕ, ℤ, List}
 use Rattle.ca_plane.specs.Plane.{Picture}
 use Rattle.ca_plane.specs.Generations.{after}
-use Rattle.ca_plane.specs.Device.{Counted}
 use Rattle.ca_quad.specs.declared.tree.WideBounds.{WideBounds}
 use Rattle.ca_rule.specs.TableNext.{TableRule}
 use Rattle.ca_rule.specs.Rule.{RuleValue, next_of, states_of}
 use Rattle.ca_draw.specs.declared.window.Window.{Window}
 use Rattle.ca_draw.specs.Drawings.{drawing}
-use Rattle.ca_claims.specs.declared.conversion.ConvertFault.TheVariants as convert_fault
-use Rattle.ca_claims.specs.declared.reached.ReachFault.TheVariants as reach_fault
 use Rattle.ca_claims.specs.Ahead.{Begins, IsReachFault}
 use Rattle.ca_tool.specs.declared.drawing.DrawRequest.{DrawRequest}
 use Rattle.ca_tool.specs.declared.fault.ToolFault.{ToolFault}
 use Rattle.ca_tool.specs.declared.fault.ToolFault.TheVariants as tools
 use Rattle.ca_tool.specs.declared.view.WindowFault.{WindowFault}
 use Rattle.ca_tool.specs.Views.{IsBoxShown, IsWindowFor, IsNoWindowFor}
-use Rattle.ca_tool.specs.Runs.{HoldsOfTables, IsTableRefusal}
-use Rattle.ca_tool.specs.Writing.{WritesOneOf}
+use Rattle.ca_tool.specs.Runs.{TellsReach}
 
 -- the text is a picture of these cells, of so many states: that of the window that is asked for, of the box that is drawn of them
 pub record IsPictureOf (request : DrawRequest) (states : ℕ) (cells : ℤ → ℤ → ℕ) (text : List ℕ) : Type 0 where
@@ -46,20 +42,5 @@ IsDrawn bytes tables request text = HoldsOfLater bytes tables request.generation
 -- the first reason for which nothing is drawn of such a file: its plane isn't reached; or it has no window as it is asked for. Out of memory may
 -- come before any of them, where memory may run out for the bytes
 abbrev pub IsDrawFault : List ℕ → List TableRule → DrawRequest → ToolFault → Type 0
-IsDrawFault bytes tables request (tools.Input fault) = ⊥
-IsDrawFault bytes tables request (tools.BadTable fault) = ⊥
-IsDrawFault bytes tables request (tools.Convert fault) = (fault ≢ convert_fault.Memory) × IsReachFault bytes tables request.generations request.limits.work (reach_fault.Convert fault)
-IsDrawFault bytes tables request tools.GenTooLarge = IsReachFault bytes tables request.generations request.limits.work reach_fault.GenTooLarge
-IsDrawFault bytes tables request tools.Work = IsReachFault bytes tables request.generations request.limits.work reach_fault.Work
-IsDrawFault bytes tables request tools.Range = IsReachFault bytes tables request.generations request.limits.work reach_fault.Range
 IsDrawFault bytes tables request (tools.Window fault) = HoldsOfLater bytes tables request.generations (λ states cells. HasNoWindow request cells fault)
-IsDrawFault bytes tables request tools.Write = ⊥
-IsDrawFault bytes tables request tools.Memory = IsReachFault bytes tables request.generations request.limits.work (reach_fault.Convert convert_fault.Memory)
-
--- a run over the bytes of a pattern file, and over the text of a rule file, if there is one: what is drawn of them is written, with the status 0; or a
--- first part of it, and then a write fails; or nothing, since the rule file is no good table, or it is, and nothing is drawn
-abbrev pub WritesDrawn : {W : Type 0} → (W → Option (List ℕ)) → Counted W → Counted W → Option (List ℕ) → List ℕ → DrawRequest → Result ℕ ToolFault → Type 0
-WritesDrawn contents old new rule bytes request result = WritesOneOf contents old new
-    (λ text status. (status ≡ 0) × HoldsOfTables rule (λ tables. IsDrawn bytes tables request text))
-    (λ text. HoldsOfTables rule (λ tables. IsDrawn bytes tables request text))
-    (λ fault. IsTableRefusal rule fault ⊎ HoldsOfTables rule (λ tables. IsDrawFault bytes tables request fault)) result
+IsDrawFault bytes tables request told = TellsReach (IsReachFault bytes tables request.generations request.limits.work) told

@@ -11,8 +11,8 @@ use Rattle.ca_rule.specs.TableFaults as table_faults
 use Rattle.ca_rule.specs.declared.table.fault.TableFault.{TableFault}
 use Rattle.ca_rule.specs.declared.table.fault.TableFault.TheVariants as table_fault
 use Rattle.ca_claims.specs.Answers.{AreTrueAnswers, AreWithinWork, IsQuietTable}
-use Rattle.ca_claims.specs.Converted.{IsSummary}
-use Rattle.ca_claims.specs.Ahead.{IsSummaryAfter}
+use Rattle.ca_claims.specs.Converted.{IsSummary, IsSummaryFault, IsConverted, IsConvertFault}
+use Rattle.ca_claims.specs.Ahead.{IsSummaryAfter, IsReachFault, IsConvertedAfter, IsConvertFaultAfter}
 use Rattle.ca_claims.specs.declared.verdict.Answer.{Answer}
 use Rattle.ca_claims.specs.declared.pattern.Summary.{Summary}
 use Rattle.ca_claims.specs.declared.conversion.ConvertFault.{ConvertFault}
@@ -22,7 +22,9 @@ use Rattle.ca_claims.specs.declared.reached.ReachFault.TheVariants as reach_faul
 use Rattle.ca_tool.specs.declared.fault.InputFault.{InputFault}
 use Rattle.ca_tool.specs.declared.fault.InputFault.TheVariants as inputs
 use Rattle.ca_tool.specs.declared.fault.ToolFault.{ToolFault}
-use Rattle.ca_tool.specs.declared.fault.ToolFault.TheVariants.{Input, BadTable, Convert, GenTooLarge, Work, Range, Window, Write, Memory}
+use Rattle.ca_tool.specs.declared.fault.ToolFault.TheVariants.{Input, BadTable, Convert, GenTooLarge, Work, Range, Memory}
+use Rattle.ca_tool.specs.declared.pattern_run.TextForm.{TextForm}
+use Rattle.ca_tool.specs.declared.pattern_run.TextForm.TheVariants as forms
 use Rattle.ca_tool.specs.declared.finding.ReportStyle.{ReportStyle}
 use Rattle.ca_tool.specs.declared.finding.Finding.{Finding}
 use Rattle.ca_tool.specs.Printed.{answer_lines, findings_text, status_of, summary_text}
@@ -151,47 +153,52 @@ pub record IsShown (bytes : List ℕ) (tables : List TableRule) (text : List ℕ
   pub holds : IsSummary bytes tables summary
   pub lines : text ≡ summary_text summary
 
--- the file was read whole
-abbrev pub WasRead : Option (List ℕ) → Option (List ℕ) → Type 0
-WasRead old new = (bytes : List ℕ) × ReadsAll old new bytes
-
 -- what is wrong with the rule file, or that its table may be out of memory
 abbrev pub IsRuleFileFault : Option (List ℕ) → TableFault → Type 0
 IsRuleFileFault rule fault = (text : List ℕ) × (rule ≡ Some text) × table_faults.IsTableTextFault text fault
 
--- why the rule file is no good table, or that memory is out for that table
-abbrev pub IsTableRefusal : Option (List ℕ) → ToolFault → Type 0
-IsTableRefusal rule (Input fault) = ⊥
-IsTableRefusal rule (BadTable fault) = (fault ≢ table_fault.Memory) × IsRuleFileFault rule fault
-IsTableRefusal rule (Convert fault) = ⊥
-IsTableRefusal rule GenTooLarge = ⊥
-IsTableRefusal rule Work = ⊥
-IsTableRefusal rule Range = ⊥
-IsTableRefusal rule (Window told) = ⊥
-IsTableRefusal rule Write = ⊥
-IsTableRefusal rule Memory = IsRuleFileFault rule table_fault.Memory
+-- a run tells what is wrong with its rule file, where IsFault says that: out of memory is told alone
+abbrev pub TellsTable : (TableFault → Type 0) → ToolFault → Type 0
+TellsTable IsFault (BadTable fault) = (fault ≢ table_fault.Memory) × IsFault fault
+TellsTable IsFault Memory = IsFault table_fault.Memory
+TellsTable IsFault told = ⊥
 
--- why a run over bytes wrote nothing, where IsFault says why they are refused under some tables: the rule file is no good table; or it is, and
--- the pattern is refused; or memory is out, for the table or for the pattern
-abbrev pub IsBytesFault : Option (List ℕ) → (List TableRule → ConvertFault → Type 0) → ToolFault → Type 0
-IsBytesFault rule IsFault (Input fault) = ⊥
-IsBytesFault rule IsFault (BadTable fault) = (fault ≢ table_fault.Memory) × IsRuleFileFault rule fault
-IsBytesFault rule IsFault (Convert fault) = (fault ≢ convert_fault.Memory) × HoldsOfTables rule (λ tables. IsFault tables fault)
-IsBytesFault rule IsFault GenTooLarge = ⊥
-IsBytesFault rule IsFault Work = ⊥
-IsBytesFault rule IsFault Range = ⊥
-IsBytesFault rule IsFault (Window fault) = ⊥
-IsBytesFault rule IsFault Write = ⊥
-IsBytesFault rule IsFault Memory = IsRuleFileFault rule table_fault.Memory ⊎ HoldsOfTables rule (λ tables. IsFault tables convert_fault.Memory)
+-- the same of why its pattern isn't shown or converted
+abbrev pub TellsConvert : (ConvertFault → Type 0) → ToolFault → Type 0
+TellsConvert IsFault (Convert fault) = (fault ≢ convert_fault.Memory) × IsFault fault
+TellsConvert IsFault Memory = IsFault convert_fault.Memory
+TellsConvert IsFault told = ⊥
+
+-- and of why the plane of its pattern some generations on isn't reached or told
+abbrev pub TellsReach : (ReachFault → Type 0) → ToolFault → Type 0
+TellsReach IsFault GenTooLarge = IsFault reach_fault.GenTooLarge
+TellsReach IsFault Work = IsFault reach_fault.Work
+TellsReach IsFault Range = IsFault reach_fault.Range
+TellsReach IsFault told = TellsConvert (λ fault. IsFault (reach_fault.Convert fault)) told
+
+-- why a run over bytes wrote nothing, where IsFault says what it tells of them under some tables: the rule file is no good table, or memory is out
+-- for it; or it is a table, and that holds
+abbrev pub IsBytesFault : Option (List ℕ) → (List TableRule → ToolFault → Type 0) → ToolFault → Type 0
+IsBytesFault rule IsFault told = TellsTable (IsRuleFileFault rule) told ⊎ HoldsOfTables rule (λ tables. IsFault tables told)
 
 -- a run over the bytes of a pattern file, and over the text of a rule file, if there is one: a text that IsText of them is written, with the status
 -- 0; or a first part of such a text, and then a write fails; or nothing, for a fault that holds
 abbrev pub WritesUnder : {W : Type 0} → (W → Option (List ℕ)) → Counted W → Counted W → Option (List ℕ) → (List TableRule → List ℕ → Type 0)
-    → (List TableRule → ConvertFault → Type 0) → Result ℕ ToolFault → Type 0
+    → (List TableRule → ToolFault → Type 0) → Result ℕ ToolFault → Type 0
 WritesUnder contents old new rule IsText IsFault result = WritesOneOf contents old new
     (λ text status. (status ≡ 0) × HoldsOfTables rule (λ tables. IsText tables text))
     (λ text. HoldsOfTables rule (λ tables. IsText tables text))
     (IsBytesFault rule IsFault) result
+
+-- the text is what is written of a pattern file with these bytes: the five lines of a true summary, or the file that it is converted to
+abbrev pub IsFormOf : TextForm → List ℕ → List TableRule → List ℕ → Type 0
+IsFormOf forms.Summary bytes tables text = IsShown bytes tables text
+IsFormOf (forms.File target) bytes tables text = IsConverted bytes tables target text
+
+-- why neither is written
+abbrev pub IsFormFault : TextForm → List ℕ → List TableRule → ConvertFault → Type 0
+IsFormFault forms.Summary bytes tables fault = IsSummaryFault bytes tables fault
+IsFormFault (forms.File target) bytes tables fault = IsConvertFault bytes tables target fault
 
 -- the text is the five lines of a summary that is true of the plane of the bytes' pattern n generations on
 pub record IsShownAfter (bytes : List ℕ) (tables : List TableRule) (n : ℕ) (text : List ℕ) : Type 0 where
@@ -199,42 +206,20 @@ pub record IsShownAfter (bytes : List ℕ) (tables : List TableRule) (n : ℕ) (
   pub holds : IsSummaryAfter bytes tables n summary
   pub lines : text ≡ summary_text summary
 
--- why a run over bytes some generations on wrote nothing, where IsFault says why the plane isn't reached or told under some tables: the rule file is
--- no good table; or it is, and that holds; or memory is out, for the table or for the plane
-abbrev pub IsFaultAfter : Option (List ℕ) → (List TableRule → ReachFault → Type 0) → ToolFault → Type 0
-IsFaultAfter rule IsFault (Input fault) = ⊥
-IsFaultAfter rule IsFault (BadTable fault) = (fault ≢ table_fault.Memory) × IsRuleFileFault rule fault
-IsFaultAfter rule IsFault (Convert fault) = (fault ≢ convert_fault.Memory) × HoldsOfTables rule (λ tables. IsFault tables (reach_fault.Convert fault))
-IsFaultAfter rule IsFault GenTooLarge = HoldsOfTables rule (λ tables. IsFault tables reach_fault.GenTooLarge)
-IsFaultAfter rule IsFault Work = HoldsOfTables rule (λ tables. IsFault tables reach_fault.Work)
-IsFaultAfter rule IsFault Range = HoldsOfTables rule (λ tables. IsFault tables reach_fault.Range)
-IsFaultAfter rule IsFault (Window fault) = ⊥
-IsFaultAfter rule IsFault Write = ⊥
-IsFaultAfter rule IsFault Memory =
-    IsRuleFileFault rule table_fault.Memory ⊎ HoldsOfTables rule (λ tables. IsFault tables (reach_fault.Convert convert_fault.Memory))
+-- what is written of that plane
+abbrev pub IsFormAfter : TextForm → List ℕ → List TableRule → ℕ → List ℕ → Type 0
+IsFormAfter forms.Summary bytes tables n text = IsShownAfter bytes tables n text
+IsFormAfter (forms.File target) bytes tables n text = IsConvertedAfter bytes tables n target text
 
--- a run over the bytes of a pattern file some generations on, and over the text of a rule file, if there is one: a text that IsText of them is written,
--- with the status 0; or a first part of such a text, and then a write fails; or nothing, for a fault that holds
-abbrev pub WritesAfter : {W : Type 0} → (W → Option (List ℕ)) → Counted W → Counted W → Option (List ℕ) → (List TableRule → List ℕ → Type 0)
-    → (List TableRule → ReachFault → Type 0) → Result ℕ ToolFault → Type 0
-WritesAfter contents old new rule IsText IsFault result = WritesOneOf contents old new
-    (λ text status. (status ≡ 0) × HoldsOfTables rule (λ tables. IsText tables text))
-    (λ text. HoldsOfTables rule (λ tables. IsText tables text))
-    (IsFaultAfter rule IsFault) result
+abbrev pub IsFormFaultAfter : TextForm → List ℕ → List TableRule → ℕ → (work : ℕ) → ReachFault → Type 0
+IsFormFaultAfter forms.Summary bytes tables n work fault = IsReachFault bytes tables n work fault
+IsFormFaultAfter (forms.File target) bytes tables n work fault = IsConvertFaultAfter bytes tables n work target fault
 
--- why a run wrote nothing, where IsFault says why bytes under some tables are refused: the file isn't read; or it is, and the rule file is no
--- good table; or it is, and the pattern is refused; or memory is out, for the table or for the pattern
+-- why a run wrote nothing, where IsFault says why bytes under some tables are refused: the file isn't read; or it is, and a run over its bytes writes
+-- nothing
 abbrev pub IsRunFault : Option (List ℕ) → Option (List ℕ) → Option (List ℕ) → (List ℕ → List TableRule → ConvertFault → Type 0) → ToolFault → Type 0
 IsRunFault old new rule IsFault (Input fault) = IsInputFault old new fault
-IsRunFault old new rule IsFault (BadTable fault) = (fault ≢ table_fault.Memory) × WasRead old new × IsRuleFileFault rule fault
-IsRunFault old new rule IsFault (Convert fault) = (fault ≢ convert_fault.Memory) × HoldsOfReadFile old new rule (λ bytes tables. IsFault bytes tables fault)
-IsRunFault old new rule IsFault GenTooLarge = ⊥
-IsRunFault old new rule IsFault Work = ⊥
-IsRunFault old new rule IsFault Range = ⊥
-IsRunFault old new rule IsFault (Window fault) = ⊥
-IsRunFault old new rule IsFault Write = ⊥
-IsRunFault old new rule IsFault Memory = (WasRead old new × IsRuleFileFault rule table_fault.Memory)
-    ⊎ HoldsOfReadFile old new rule (λ bytes tables. IsFault bytes tables convert_fault.Memory)
+IsRunFault old new rule IsFault told = (bytes : List ℕ) × ReadsAll old new bytes × IsBytesFault rule (λ tables. TellsConvert (IsFault bytes tables)) told
 
 -- a run over a file, and over the text of a rule file, if there is one: the file is read, and a text that IsText of its bytes is written, with the
 -- status 0; or a first part of such a text, and then a write fails; or nothing, for a fault that holds

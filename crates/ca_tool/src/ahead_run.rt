@@ -1,36 +1,33 @@
 //! Runs of `show` and of `convert` some generations on, over the bytes of a pattern file.
 
-ghost use Rattle.std.specs.Prelude.{ℕ, ◌≤◌, List, IfOk, IfErr};
+ghost use Rattle.std.specs.Prelude.{◌≡◌, ℕ, ◌≤◌, List, IfOk, IfErr};
 ghost use Rattle.std.specs.Option.{option_copied};
-ghost use Rattle.ca_plane.specs.Bytes.{IsWord};
-ghost use Rattle.ca_claims.specs.Ahead.{IsReachFault, IsSummaryAfter, IsConvertedAfter, IsConvertFaultAfter};
 ghost use Rattle.ca_claims.specs.Limited.{AreGoodLimits};
 ghost use Rattle.ca_claims.specs.Refused.{HasReachDetail};
 ghost use Rattle.ca_claims.specs.Text.{most_generations};
 ghost use Rattle.ca_tool.specs.Details.{HasRunDetail, fault_alone};
-ghost use Rattle.ca_tool.specs.Runs.{IsShownAfter, WritesAfter};
-ghost use Rattle.ca_tool.specs.inner.Refusals.{TellsReach};
+ghost use Rattle.ca_tool.specs.Runs.{TellsReach, IsFormAfter, IsFormFaultAfter, WritesUnder};
 
 use crate::fault::ToolFault;
-use crate::pattern_run::{convert_refusal, known_table, tables_of, write};
+use crate::pattern_run::{TextForm, convert_refusal, known_table, tables_of, write};
 use crate::summary::summary_lines;
 use ca_claims::{
-    ConvertFault, Limits, Observer, ReachFault, Refused, Summary, Target, convert_after,
-    summary_after,
+    ConvertFault, Limits, Observer, ReachFault, Refused, convert_after, summary_after,
 };
 use ca_plane::Dev;
 use ca_rule::Table;
 use std::alloc::Global;
 use std::io::Write;
 
-/// Writes the five lines that are shown of the plane of a pattern file so many generations on, at most
-/// 1152921504606846976, under the table of the rule file, if there is one. It answers the exit status 0. The
-/// observer sees how far the generations are.
+/// Writes what is asked of the plane of a pattern file so many generations on, at most 1152921504606846976,
+/// under the table of the rule file, if there is one. It answers the exit status 0. The observer sees how far
+/// the generations are. A fault comes with what is known of it.
 ///
 /// Nothing is written before all is judged.
-pub fn show_after<W: Write, O: Observer>(
+pub fn write_form_after<W: Write, O: Observer>(
     alloc: Global,
     bytes: &[u8],
+    form: TextForm,
     table: Option<&[u8]>,
     generations: u64,
     limits: Limits,
@@ -39,46 +36,10 @@ pub fn show_after<W: Write, O: Observer>(
 ) -> Result<u8, Refused<ToolFault>>
     requires limits { AreGoodLimits limits }
     requires few { generations ≤ most_generations }
-    // The lines of a true summary are written, or a first part of them and then a write fails, or none for
-    // another fault.
-    ensures writes { WritesAfter W.contents output.old output.new (option_copied table.entry)
-        (λ tables text. IsShownAfter bytes.now tables generations text)
-        (λ tables fault. IsReachFault bytes.now tables generations limits.work fault) (fault_alone result) }
-    ensures detail { IfErr result (HasRunDetail bytes.now) }
-{
-    let table = match known_table(alloc, table) {
-        Ok(table) => table,
-        Err(refused) => return Err(refused),
-    };
-    let tables = tables_of(&table);
-    let text = match summary_text_after(alloc, bytes, tables, generations, limits, observer) {
-        Ok(text) => text,
-        Err(refused) => return Err(reach_refusal(refused)),
-    };
-    write(output, &text)
-}
-
-/// Writes the file of the target's format of the plane of a pattern file so many generations on, at most
-/// 1152921504606846976, under the table of the rule file, if there is one. It answers the exit status 0. The
-/// observer sees how far the generations are.
-///
-/// Nothing is written before all is judged.
-pub fn convert_bytes_after<W: Write, O: Observer>(
-    alloc: Global,
-    bytes: &[u8],
-    target: Target,
-    table: Option<&[u8]>,
-    generations: u64,
-    limits: Limits,
-    observer: &mut O,
-    output: &mut Dev<W>,
-) -> Result<u8, Refused<ToolFault>>
-    requires limits { AreGoodLimits limits }
-    requires few { generations ≤ most_generations }
-    // That file is written, or a first part of it and then a write fails, or nothing for another fault.
-    ensures writes { WritesAfter W.contents output.old output.new (option_copied table.entry)
-        (λ tables text. IsConvertedAfter bytes.now tables generations target text)
-        (λ tables fault. IsConvertFaultAfter bytes.now tables generations limits.work target fault)
+    // That text is written, or a first part of it and then a write fails, or nothing for another fault.
+    ensures writes { WritesUnder W.contents output.old output.new (option_copied table.entry)
+        (λ tables text. IsFormAfter form bytes.now tables generations text)
+        (λ tables. TellsReach (IsFormFaultAfter form bytes.now tables generations limits.work))
         (fault_alone result) }
     ensures detail { IfErr result (HasRunDetail bytes.now) }
 {
@@ -87,17 +48,18 @@ pub fn convert_bytes_after<W: Write, O: Observer>(
         Err(refused) => return Err(refused),
     };
     let tables = tables_of(&table);
-    let text = match convert_after(alloc, bytes, target, tables, generations, limits, observer) {
+    let text = match text_after(alloc, bytes, form, tables, generations, limits, observer) {
         Ok(text) => text,
         Err(refused) => return Err(reach_refusal(refused)),
     };
     write(output, &text)
 }
 
-// The lines of the summary of a plane some generations on.
-fn summary_text_after<O: Observer>(
+// The text that is written of a plane some generations on.
+fn text_after<O: Observer>(
     alloc: Global,
     bytes: &[u8],
+    form: TextForm,
     tables: &[Table],
     generations: u64,
     limits: Limits,
@@ -105,21 +67,28 @@ fn summary_text_after<O: Observer>(
 ) -> Result<Vec<u8>, Refused<ReachFault>>
     requires limits { AreGoodLimits limits }
     requires few { generations ≤ most_generations }
-    ensures shown { IfOk result (λ text. IsShownAfter bytes.now tables.now generations text.items) }
+    ensures text { IfOk result (λ text. IsFormAfter form bytes.now tables.now generations text.items) }
     ensures fault { IfErr result
-        (λ refused. IsReachFault bytes.now tables.now generations limits.work refused.fault) }
+        (λ refused. IsFormFaultAfter form bytes.now tables.now generations limits.work refused.fault) }
     ensures detail { IfErr result (HasReachDetail bytes.now) }
 {
-    let summary = summary_after(alloc, bytes, tables, generations, limits, observer)?;
-    let Ok(text) = summary_lines(alloc, &summary) else {
-        return Err(Refused::of(ReachFault::Convert(ConvertFault::Memory)));
-    };
-    Ok(text)
+    match form {
+        TextForm::Summary => {
+            let summary = summary_after(alloc, bytes, tables, generations, limits, observer)?;
+            let Ok(text) = summary_lines(alloc, &summary) else {
+                return Err(Refused::of(ReachFault::Convert(ConvertFault::Memory)));
+            };
+            Ok(text)
+        }
+        TextForm::File(target) => {
+            convert_after(alloc, bytes, target, tables, generations, limits, observer)
+        }
+    }
 }
 
 /// What a run answers where a plane isn't reached or told.
 pub(crate) fn reach_refusal(refused: Refused<ReachFault>) -> Refused<ToolFault>
-    ensures tells { TellsReach refused.fault result.fault }
+    ensures tells { TellsReach (λ fault. fault ≡ refused.fault) result.fault }
     ensures detail { (bytes : List ℕ) → HasReachDetail bytes refused → HasRunDetail bytes result }
 {
     match refused.fault {

@@ -8,7 +8,8 @@ ghost use Rattle.ca_claims.specs.Limited.{AreGoodLimits};
 ghost use Rattle.ca_claims.specs.Text.{most_generations};
 ghost use Rattle.ca_tool.specs.Details.{HasRunDetail, fault_alone};
 ghost use Rattle.ca_tool.specs.Views.{IsBoxShown};
-ghost use Rattle.ca_tool.specs.Drawn.{IsPictureOf, IsDrawn, IsDrawFault, WritesDrawn};
+ghost use Rattle.ca_tool.specs.Drawn.{IsPictureOf, IsDrawn, IsDrawFault};
+ghost use Rattle.ca_tool.specs.Runs.{WritesUnder};
 ghost use Rattle.ca_tool.specs.inner.Refusals.{IsUndrawn};
 
 use crate::ahead_run::reach_refusal;
@@ -59,8 +60,10 @@ pub fn draw_bytes<W: Write, O: Observer>(
 ) -> Result<u8, Refused<ToolFault>>
     requires limits { AreGoodLimits request.limits }
     requires few { request.generations ≤ most_generations }
-    ensures writes { WritesDrawn W.contents output.old output.new (option_copied table.entry) bytes.now
-        request (fault_alone result) }
+    // It is written, or a first part of it and then a write fails, or nothing for another fault.
+    ensures writes { WritesUnder W.contents output.old output.new (option_copied table.entry)
+        (λ tables text. IsDrawn bytes.now tables request text)
+        (λ tables. IsDrawFault bytes.now tables request) (fault_alone result) }
     ensures detail { IfErr result (HasRunDetail bytes.now) }
 {
     let table = match known_table(alloc, table) {

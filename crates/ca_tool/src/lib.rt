@@ -22,7 +22,7 @@ mod summary;
 mod texts;
 mod view;
 
-pub use ahead_run::{convert_bytes_after, show_after};
+pub use ahead_run::write_form_after;
 pub use catalog::{identify_run, says_its_claims};
 pub use complaint::{complain, complain_with_path};
 pub use drawing::{DrawRequest, draw_bytes};
@@ -31,7 +31,7 @@ pub use explanation::{RunPaths, explain};
 pub use fault::{Fault, InputFault, ToolFault};
 pub use finding::{FaultyRule, ReportStyle};
 pub use names::is_claim_path;
-pub use pattern_run::{convert_bytes, convert_run, show_bytes, show_run};
+pub use pattern_run::{TextForm, convert_run, show_run, write_form};
 pub use printing::{lines, status};
 pub use read::{MAX_FILE, read_all};
 pub use rule_folder::rule_path;

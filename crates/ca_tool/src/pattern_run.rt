@@ -8,8 +8,8 @@ ghost use Rattle.ca_claims.specs.Refused.{HasDetail};
 ghost use Rattle.ca_tool.specs.Details.{HasRunDetail, fault_alone};
 ghost use Rattle.ca_tool.specs.Writing.{Sends};
 ghost use Rattle.ca_tool.specs.Runs.{ReadsAll, TakesFile, AreKnownTables, IsShown, IsRuleFileFault, RunsOver};
-ghost use Rattle.ca_tool.specs.Runs.{WritesUnder, IsTableRefusal};
-ghost use Rattle.ca_tool.specs.inner.Refusals.{TellsTable, TellsConvert, IsReadingFault};
+ghost use Rattle.ca_tool.specs.Runs.{TellsTable, TellsConvert, IsFormOf, IsFormFault, WritesUnder};
+ghost use Rattle.ca_tool.specs.inner.Refusals.{IsReadingFault};
 
 use crate::fault::ToolFault;
 use crate::read::read_all;
@@ -19,6 +19,15 @@ use ca_plane::{Dev, send};
 use ca_rule::{Table, TableFault};
 use std::alloc::Global;
 use std::io::{Read, Write};
+
+/// What is written of a pattern.
+#[derive(Clone, Copy, Debug, PartialEq, Eq)]
+pub enum TextForm {
+    /// The five lines that are shown of it.
+    Summary,
+    /// The file of this format that it is converted to.
+    File(Target),
+}
 
 /// Reads a pattern file and writes the five lines that are shown of it, under the table of the rule file, if
 /// there is one. It answers the exit status 0.
@@ -35,30 +44,7 @@ pub fn show_run<R: Read, W: Write>(
     ensures runs { RunsOver R.remaining W.contents input.old input.new (option_copied table.entry)
         output.old output.new IsShown IsSummaryFault result }
 {
-    let bytes = read(alloc, input)?;
-    fault_alone(show_bytes(alloc, &bytes, table, output))
-}
-
-/// The same over the bytes of a pattern file that was read. A fault comes with what is known of it.
-pub fn show_bytes<W: Write>(
-    alloc: Global,
-    bytes: &[u8],
-    table: Option<&[u8]>,
-    output: &mut Dev<W>,
-) -> Result<u8, Refused<ToolFault>>
-    ensures writes { WritesUnder W.contents output.old output.new (option_copied table.entry)
-        (IsShown bytes.now) (IsSummaryFault bytes.now) (fault_alone result) }
-    ensures detail { IfErr result (HasRunDetail bytes.now) }
-{
-    let table = match known_table(alloc, table) {
-        Ok(table) => table,
-        Err(refused) => return Err(refused),
-    };
-    let text = match file_summary(alloc, bytes, tables_of(&table)) {
-        Ok(text) => text,
-        Err(refused) => return Err(convert_refusal(refused)),
-    };
-    write(output, &text)
+    form_run(alloc, input, TextForm::Summary, table, output)
 }
 
 /// Reads a pattern file and writes the file of the target's format that it is converted to, under the table
@@ -78,28 +64,45 @@ pub fn convert_run<R: Read, W: Write>(
         output.old output.new (λ bytes tables text. IsConverted bytes tables target text)
         (λ bytes tables fault. IsConvertFault bytes tables target fault) result }
 {
-    let source = read(alloc, input)?;
-    fault_alone(convert_bytes(alloc, &source, target, table, output))
+    form_run(alloc, input, TextForm::File(target), table, output)
 }
 
-/// The same over the bytes of a pattern file that was read. A fault comes with what is known of it.
-pub fn convert_bytes<W: Write>(
+fn form_run<R: Read, W: Write>(
+    alloc: Global,
+    input: &mut Dev<R>,
+    form: TextForm,
+    table: Option<&[u8]>,
+    output: &mut Dev<W>,
+) -> Result<u8, ToolFault>
+    ensures { RunsOver R.remaining W.contents input.old input.new (option_copied table.entry)
+        output.old output.new (IsFormOf form) (IsFormFault form) result }
+{
+    let bytes = read(alloc, input)?;
+    fault_alone(write_form(alloc, &bytes, form, table, output))
+}
+
+/// Writes what is asked of the bytes of a pattern file, under the table of the rule file, if there is one. It
+/// answers the exit status 0. A fault comes with what is known of it.
+///
+/// Nothing is written before all is judged.
+pub fn write_form<W: Write>(
     alloc: Global,
     bytes: &[u8],
-    target: Target,
+    form: TextForm,
     table: Option<&[u8]>,
     output: &mut Dev<W>,
 ) -> Result<u8, Refused<ToolFault>>
+    // That text is written, or a first part of it and then a write fails, or nothing for another fault.
     ensures writes { WritesUnder W.contents output.old output.new (option_copied table.entry)
-        (λ tables text. IsConverted bytes.now tables target text)
-        (λ tables fault. IsConvertFault bytes.now tables target fault) (fault_alone result) }
+        (IsFormOf form bytes.now) (λ tables. TellsConvert (IsFormFault form bytes.now tables))
+        (fault_alone result) }
     ensures detail { IfErr result (HasRunDetail bytes.now) }
 {
     let table = match known_table(alloc, table) {
         Ok(table) => table,
         Err(refused) => return Err(refused),
     };
-    let text = match convert_with_detail(alloc, bytes, target, tables_of(&table)) {
+    let text = match form_text(alloc, bytes, form, tables_of(&table)) {
         Ok(text) => text,
         Err(refused) => return Err(convert_refusal(refused)),
     };
@@ -125,7 +128,8 @@ pub(crate) fn known_table(
     rule: Option<&[u8]>,
 ) -> Result<Option<Table>, Refused<ToolFault>>
     ensures known { IfOk result (λ table. AreKnownTables (option_copied rule.entry) (option_to_list table)) }
-    ensures fault { IfErr result (λ refused. IsTableRefusal (option_copied rule.entry) refused.fault) }
+    ensures fault { IfErr result
+        (λ refused. TellsTable (IsRuleFileFault (option_copied rule.entry)) refused.fault) }
     ensures detail { (bytes : List ℕ) → IfErr result (HasRunDetail bytes) }
 {
     match rule_table(alloc, rule) {
@@ -155,7 +159,7 @@ pub(crate) fn tables_of(table: &Option<Table>) -> &[Table]
 
 // What a run answers where the rule file holds no good table.
 fn table_refusal(fault: TableFault) -> Refused<ToolFault>
-    ensures tells { TellsTable fault result.fault }
+    ensures tells { TellsTable (λ f. f ≡ fault) result.fault }
     ensures detail { (bytes : List ℕ) → HasRunDetail bytes result }
 {
     match fault {
@@ -166,7 +170,7 @@ fn table_refusal(fault: TableFault) -> Refused<ToolFault>
 
 /// What a run answers where the pattern is refused.
 pub(crate) fn convert_refusal(refused: Refused<ConvertFault>) -> Refused<ToolFault>
-    ensures tells { TellsConvert refused.fault result.fault }
+    ensures tells { TellsConvert (λ fault. fault ≡ refused.fault) result.fault }
     ensures detail { (bytes : List ℕ) → HasDetail bytes refused → HasRunDetail bytes result }
 {
     match refused.fault {
@@ -179,21 +183,27 @@ pub(crate) fn convert_refusal(refused: Refused<ConvertFault>) -> Refused<ToolFau
     }
 }
 
-// The lines of a summary of a pattern file.
-fn file_summary(
+// The text that is written of a pattern file.
+fn form_text(
     alloc: Global,
     bytes: &[u8],
+    form: TextForm,
     tables: &[Table],
 ) -> Result<Vec<u8>, Refused<ConvertFault>>
-    ensures shown { IfOk result (λ text. IsShown bytes.now tables.now text.items) }
-    ensures fault { IfErr result (λ refused. IsSummaryFault bytes.now tables.now refused.fault) }
+    ensures text { IfOk result (λ text. IsFormOf form bytes.now tables.now text.items) }
+    ensures fault { IfErr result (λ refused. IsFormFault form bytes.now tables.now refused.fault) }
     ensures detail { IfErr result (HasDetail bytes.now) }
 {
-    let summary = summary_with_detail(alloc, bytes, tables)?;
-    let Ok(text) = summary_lines(alloc, &summary) else {
-        return Err(Refused::of(ConvertFault::Memory));
-    };
-    Ok(text)
+    match form {
+        TextForm::Summary => {
+            let summary = summary_with_detail(alloc, bytes, tables)?;
+            let Ok(text) = summary_lines(alloc, &summary) else {
+                return Err(Refused::of(ConvertFault::Memory));
+            };
+            Ok(text)
+        }
+        TextForm::File(target) => convert_with_detail(alloc, bytes, target, tables),
+    }
 }
 
 /// Writes the whole text, and answers the exit status.

@@ -1,31 +1,26 @@
 //! The commands `show`, `convert` and `draw`.
 
-ghost use Rattle.ca_claims.specs.Limited.{AreGoodLimits};
-
 use crate::FAULT;
 use crate::files::{LoadedFile, load_rule_file, open_source, read_file};
 use crate::progress::{Heading, Progress};
 use crate::streams::Streams;
 use crate::words::{DrawWords, PatternExtras};
-use ca_claims::{ConvertFault, File, Limits, Observer, Refused, Target};
+use ca_claims::{ConvertFault, File, Refused};
 use ca_plane::limits::MOST_GENERATIONS;
 use ca_plane::{Dev, Memory};
 use ca_rule::RuleFault;
 use ca_run::Unwatched;
 use ca_tool::{
-    Fault, InputFault, RunPaths, ToolFault, complain, convert_bytes, convert_bytes_after,
-    draw_bytes, explain, read_all, show_after, show_bytes,
+    Fault, InputFault, RunPaths, TextForm, ToolFault, complain, draw_bytes, explain, read_all,
+    write_form, write_form_after,
 };
-use std::alloc::Global;
-use std::rt::{Clock, Files, Stderr, Stdin, Stdout};
+use std::rt::{Clock, Files, Stderr, Stdin};
 
 /// What is written of a pattern file.
 #[derive(Clone, Copy)]
 pub enum Form {
-    /// The lines that tell what it holds.
-    Summary,
-    /// A file of this format.
-    File(Target),
+    /// The lines that tell what it holds, or a file of a format.
+    Text(TextForm),
     /// The picture that these words ask for.
     Picture(DrawWords),
 }
@@ -130,71 +125,30 @@ fn run<R: Clock + AllocGlobal>(
         Some(rule) => Some(rule.bytes),
         None => None,
     };
+    let alloc = rt.alloc();
+    let bytes = pattern.bytes;
     let limits = extras.limits();
     let output = &mut streams.output;
     let Some(generations) = extras.after else {
-        return run_at_once(rt.alloc(), form, pattern.bytes, table, limits, output);
+        return match form {
+            Form::Text(form) => write_form(alloc, bytes, form, table, output),
+            Form::Picture(words) => {
+                let request = words.request(0, limits);
+                draw_bytes(alloc, bytes, request, table, &mut Unwatched, output)
+            }
+        };
     };
     let heading = Heading::Run { path: pattern.path };
     let mut observer = Progress::new(rt, &mut streams.errors, heading, extras.progress);
-    run_after(
-        rt.alloc(),
-        form,
-        pattern.bytes,
-        table,
-        generations,
-        limits,
-        &mut observer,
-        output,
-    )
-}
-
-// The same of the pattern as it is.
-fn run_at_once(
-    alloc: Global,
-    form: Form,
-    bytes: &[u8],
-    table: Option<&[u8]>,
-    limits: Limits,
-    output: &mut Dev<Stdout>,
-) -> Result<u8, Refused<ToolFault>>
-    requires { AreGoodLimits limits }
-{
-    match form {
-        Form::Summary => show_bytes(alloc, bytes, table, output),
-        Form::File(target) => convert_bytes(alloc, bytes, target, table, output),
-        Form::Picture(words) => draw_bytes(
-            alloc,
-            bytes,
-            words.request(0, limits),
-            table,
-            &mut Unwatched,
-            output,
-        ),
-    }
-}
-
-// The same some generations on. The words keep these within their limit, and more are brought within.
-fn run_after<O: Observer>(
-    alloc: Global,
-    form: Form,
-    bytes: &[u8],
-    table: Option<&[u8]>,
-    generations: u64,
-    limits: Limits,
-    observer: &mut O,
-    output: &mut Dev<Stdout>,
-) -> Result<u8, Refused<ToolFault>>
-    requires { AreGoodLimits limits }
-{
+    let observer = &mut observer;
+    // The words keep the generations within their limit, and more are brought within.
     let generations = generations.min(MOST_GENERATIONS);
     match form {
-        Form::Summary => show_after(alloc, bytes, table, generations, limits, observer, output),
-        Form::File(target) => {
-            convert_bytes_after(
+        Form::Text(form) => {
+            write_form_after(
                 alloc,
                 bytes,
-                target,
+                form,
                 table,
                 generations,
                 limits,
