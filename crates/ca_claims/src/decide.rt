@@ -17,8 +17,8 @@ ghost use Rattle.ca_claims.specs.declared.verdict.Cause.TheVariants.{Work, Memor
 ghost use Rattle.ca_claims.specs.declared.verdict.Verdict.TheVariants.{Refused};
 ghost use Rattle.ca_claims.specs.inner.Spending.{Takes};
 ghost use Rattle.ca_claims.specs.inner.Decided.{IsDecided};
-ghost use Rattle.ca_claims.specs.inner.Subjects.{ShowsTree, IsPattern, IsRun, IsNearTree, IsCase, AreShown, HasLive};
-ghost use Rattle.ca_claims.specs.inner.Subjects.{IsEndTree, IsMoved, IsDifference};
+ghost use Rattle.ca_claims.specs.inner.Subjects.{ShowsTree, IsPattern, IsRun, IsNearTree, IsCase, AreShown};
+ghost use Rattle.ca_claims.specs.inner.Subjects.{HasLive, IsEndTree, IsMoved, IsDifference};
 
 mod deaths;
 mod divisors;
