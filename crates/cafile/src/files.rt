@@ -194,11 +194,7 @@ fn with_named_rule(
 }
 
 // The rule texts of the claims' patterns that name no rule.
-fn unknown_names(
-    alloc: Global,
-    claims: &Claims,
-    loaded: &[LoadedFile],
-) -> Result<WordSet, Memory> {
+fn unknown_names(alloc: Global, claims: &Claims, loaded: &[LoadedFile]) -> Result<WordSet, Memory> {
     let files = views(alloc, loaded)?;
     unknown_rules(alloc, claims, &files)
 }
