@@ -10,8 +10,7 @@ use Rattle.ca_quad.specs.declared.tree.WideBounds.{WideBounds}
 use Rattle.ca_quad.specs.Boxes as wide
 use Rattle.ca_quad.specs.Expanded.{FitsPlane, HasCellOutsidePlane}
 use Rattle.ca_quad.specs.Shifted.{shifted_cells}
-use Rattle.ca_quad.specs.Trees.{cell}
-use Rattle.ca_quad.specs.Trimmed.{HoldsAll}
+use Rattle.ca_quad.specs.Trees.{cell, HoldsAll}
 use Rattle.ca_macro.specs.Pattern.{AreInRange}
 use Rattle.ca_plane.specs.Limits.{IsInRange}
 use Rattle.ca_claims.specs.Text.{IsShift}

@@ -6,8 +6,7 @@ use Rattle.std.proofs.lemmas.Int.{ints}
 use Rattle.ca_plane.specs.Generations.{cells_after}
 use Rattle.ca_quad.specs.declared.node.Node.{Node}
 use Rattle.ca_quad.specs.declared.tree.Tree.{Tree}
-use Rattle.ca_quad.specs.Trees.{cell}
-use Rattle.ca_quad.specs.Trimmed.{IsTrimmed, HoldsAll}
+use Rattle.ca_quad.specs.Trees.{cell, IsTrimmed, HoldsAll}
 use Rattle.ca_quad.proofs.Growth.{below_or_not}
 use Rattle.ca_macro.specs.Pattern.{AreInRange}
 use Rattle.ca_run.specs.Later.{IsWithin}

@@ -7,7 +7,7 @@ use Rattle.ca_plane.specs.Generations.{after, cells_after}
 use Rattle.ca_plane.proofs.Shifts.{cell-shifted}
 use Rattle.ca_quad.specs.declared.node.Node.{Node}
 use Rattle.ca_quad.specs.Trees as trees
-use Rattle.ca_quad.specs.Trimmed.{HoldsAll}
+use Rattle.ca_quad.specs.Trees.{HoldsAll}
 use Rattle.ca_rule.specs.TableNext.{TableRule}
 use Rattle.ca_rule.specs.Rule.{next_of}
 use Rattle.ca_run.proofs.After.{after_same}

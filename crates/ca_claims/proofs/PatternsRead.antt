@@ -11,7 +11,7 @@ use Rattle.ca_plane.proofs.Pictures.{cell-listed}
 use Rattle.ca_quad.specs.declared.node.Node.{Node}
 use Rattle.ca_quad.specs.Sound.{IsSoundStore, Grows}
 use Rattle.ca_quad.specs.Trees as trees
-use Rattle.ca_quad.specs.Trimmed.{IsTrimmed}
+use Rattle.ca_quad.specs.Trees.{IsTrimmed}
 use Rattle.ca_quad.proofs.Cells.{of_stays}
 use Rattle.ca_quad.proofs.Trims.{trees_stay}
 use Rattle.ca_rule.specs.TableNext.{TableRule}

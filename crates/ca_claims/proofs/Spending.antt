@@ -4,7 +4,7 @@ use Rattle.std.proofs.Math.Nat.{mul-le-mul_left, mul-le-mul_right}
 use Rattle.ca_plane.specs.Plane.{Picture, cell}
 use Rattle.ca_quad.specs.declared.node.Node.{Node}
 use Rattle.ca_quad.specs.declared.tree.Tree.{Tree}
-use Rattle.ca_quad.specs.Trimmed.{IsTrimmed}
+use Rattle.ca_quad.specs.Trees.{IsTrimmed}
 use Rattle.ca_run.specs.Leaping.{Costs, LeaperView, Spent}
 use Rattle.ca_run.proofs.Costs.{power_more}
 use Rattle.ca_claims.specs.declared.claims.asks.Asks.{Asks}

@@ -6,7 +6,7 @@ use Rattle.ca_plane.specs.Generations.{after, IsAfter}
 use Rattle.ca_plane.specs.Limits.{IsInRange, generation_limit}
 use Rattle.ca_plane.specs.Population.{HasPopulation, HasTooManyCells}
 use Rattle.ca_quad.specs.Trees as trees
-use Rattle.ca_quad.specs.Trimmed.{IsTrimmed, HoldsAll}
+use Rattle.ca_quad.specs.Trees.{IsTrimmed, HoldsAll}
 use Rattle.ca_macro.specs.Pattern.{AreInRange}
 use Rattle.ca_rule.specs.TableNext.{TableRule}
 use Rattle.ca_rule.specs.Rule.{RuleValue, rule_value, states_of, next_of, printed_form}

@@ -5,7 +5,7 @@ use Rattle.ca_plane.specs.Plane.{Picture, cell, IsLive}
 use Rattle.ca_plane.specs.Box.{IsLeastBox}
 use Rattle.ca_plane.specs.Generations.{after, IsAfter}
 use Rattle.ca_plane.specs.Population.{HasPopulation}
-use Rattle.ca_quad.specs.Trimmed.{HoldsAll}
+use Rattle.ca_quad.specs.Trees.{HoldsAll}
 use Rattle.ca_rule.specs.TableNext.{TableRule}
 use Rattle.ca_rule.specs.Rule.{RuleValue, next_of}
 use Rattle.ca_claims.specs.declared.claims.line.Kind.{Kind}

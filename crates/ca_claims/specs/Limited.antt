@@ -1,6 +1,6 @@
 -- How much may be spent on the judgement of a claim.
 use Rattle.std.specs.Prelude.{ℕ, ◌+◌, ◌*◌, ◌<◌, ◌≤◌, ◌^◌, ℤ}
-use Rattle.ca_quad.specs.Trimmed.{HoldsAll}
+use Rattle.ca_quad.specs.Trees.{HoldsAll}
 use Rattle.ca_claims.specs.declared.claims.asks.Asks.{Asks}
 use Rattle.ca_claims.specs.declared.claims.asks.Barred.{Barred}
 use Rattle.ca_claims.specs.declared.claims.asks.Barred.TheVariants.{Nothing, InPlace, Anywhere, EmptyPlane}

@@ -3,7 +3,7 @@ use Rattle.std.specs.Prelude.{◌≡◌, ℕ, ℤ, List}
 use Rattle.ca_plane.specs.Plane.{Picture, cell}
 use Rattle.ca_quad.specs.declared.node.Node.{Node}
 use Rattle.ca_quad.specs.Trees as trees
-use Rattle.ca_quad.specs.Trimmed.{IsTrimmed}
+use Rattle.ca_quad.specs.Trees.{IsTrimmed}
 use Rattle.ca_claims.specs.declared.pattern.Loaded.{Loaded}
 use Rattle.ca_claims.specs.Means.{format_of, HoldsPattern}
 

@@ -7,7 +7,7 @@ use Rattle.std.proofs.lemmas.Fmt.{decimal_digit}
 use Rattle.ca_plane.specs.Bytes.{AreDigits, is_digit, value, lines_of, text_of, words_of}
 use Rattle.ca_plane.specs.Plane.{Picture, cell}
 use Rattle.ca_plane.proofs.Pictures.{place-from_true}
-use Rattle.ca_quad.specs.Trimmed.{IsWithinLevel}
+use Rattle.ca_quad.specs.Trees.{IsWithinLevel}
 use Rattle.ca_macro.specs.declared.fault.MacroFault.TheVariants.{Forward}
 use Rattle.ca_macro.specs.Nodes.{Node, Leaf, node_level, leaf_rows}
 use Rattle.ca_macro.specs.File.{Adds, IsNumber, begins_macro}

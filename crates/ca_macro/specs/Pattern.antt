@@ -6,7 +6,7 @@ use Rattle.ca_plane.specs.Limits.{IsInRange, generation_limit}
 use Rattle.ca_quad.specs.declared.node.Node.{Node}
 use Rattle.ca_quad.specs.declared.tree.Tree.{Tree}
 use Rattle.ca_quad.specs.Trees as trees
-use Rattle.ca_quad.specs.Trimmed.{IsTrimmed}
+use Rattle.ca_quad.specs.Trees.{IsTrimmed}
 use Rattle.ca_macro.specs.declared.pattern.MacroPattern.{MacroPattern}
 use Rattle.ca_macro.specs.File.{MacrocellFile, IsMacrocellFile}
 use Rattle.ca_macro.specs.Limits.{IsMacrocellWithinRange}

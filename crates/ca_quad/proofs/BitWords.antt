@@ -15,8 +15,7 @@ use Rattle.ca_plane.specs.Sparse.{reach}
 use Rattle.ca_plane.proofs.BitPlanes.{AddsWord-at_end}
 use Rattle.ca_quad.specs.declared.tree.Spot.{Spot}
 use Rattle.ca_quad.specs.declared.node.Node.{Node}
-use Rattle.ca_quad.specs.Trees.{ShowsSquare, row_cells}
-use Rattle.ca_quad.specs.Trimmed.{HoldsAll}
+use Rattle.ca_quad.specs.Trees.{ShowsSquare, row_cells, HoldsAll}
 use Rattle.ca_quad.specs.inner.BitParts.{cells_of_word, HaveCells, HasNoCell, IsBoxOfWord, AreApart, AddsCells, AreMoved}
 use Rattle.ca_quad.specs.inner.Filled.{counted, HoldsBox}
 use Rattle.ca_quad.specs.inner.Window.{ShowsFrom}

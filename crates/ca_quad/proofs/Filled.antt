@@ -12,8 +12,7 @@ use Rattle.ca_quad.specs.declared.tree.Spot.{Spot}
 use Rattle.ca_quad.specs.declared.tree.Tree.{Tree}
 use Rattle.ca_quad.specs.Squares.{IsOf, together, cell_of}
 use Rattle.ca_quad.specs.Sound.{IsSoundStore, Grows}
-use Rattle.ca_quad.specs.Trees.{ShowsSquare, AreFour, AreQuarters, cell as tree_cell}
-use Rattle.ca_quad.specs.Trimmed.{HoldsAll}
+use Rattle.ca_quad.specs.Trees.{ShowsSquare, AreFour, AreQuarters, cell as tree_cell, HoldsAll}
 use Rattle.ca_quad.specs.inner.Drawn.{ArePartCorners}
 use Rattle.ca_quad.specs.inner.Filled.{counted, IsEmptyOf, LiesNear, HoldsBox}
 use Rattle.ca_quad.specs.inner.Ring.{none}

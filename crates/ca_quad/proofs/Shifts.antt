@@ -13,8 +13,7 @@ use Rattle.ca_quad.specs.Expanded.{FitsPlane}
 use Rattle.ca_quad.specs.Shifted.{shifted_cells}
 use Rattle.ca_quad.specs.Sound.{IsSoundStore, Grows}
 use Rattle.ca_quad.specs.Squares.{square_of, IsOf, cell_of}
-use Rattle.ca_quad.specs.Trees.{IsTree, AreFour, AreQuarters, cell}
-use Rattle.ca_quad.specs.Trimmed.{HoldsAll, IsTrimmed}
+use Rattle.ca_quad.specs.Trees.{IsTree, AreFour, AreQuarters, cell, HoldsAll, IsTrimmed}
 use Rattle.ca_quad.specs.inner.Cut.{cells_of_four, IsCut}
 use Rattle.ca_quad.specs.inner.Shifted.{IsNoFarther, IsShort, HasRoom, CanMove, shifted_box}
 use Rattle.ca_quad.specs.inner.Window.{ShowsFrom}

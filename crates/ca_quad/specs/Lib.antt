@@ -4,7 +4,6 @@ pub mod Trees
 pub mod Boxes
 pub mod Expanded
 pub mod Shifted
-pub mod Trimmed
 pub mod Added
 pub mod SquareValues
 pub mod inner

@@ -1,5 +1,5 @@
 -- What calls give: squares with stated cells, and the cells of trees on the unbounded plane.
-use Rattle.std.specs.Prelude.{◌≡◌, ℕ, suc, ◌+◌, ◌-◌, ◌*◌, ◌^◌, ◌<◌, ◌≤◌, nat_lt, if◌then◌else◌, ℤ, pos, ◌+ℤ◌, List, [], ◌∷◌, length, slice_index}
+use Rattle.std.specs.Prelude.{◌≡◌, ◌≢◌, ℕ, suc, ◌+◌, ◌-◌, ◌*◌, ◌^◌, ◌<◌, ◌≤◌, nat_lt, if◌then◌else◌, ℤ, pos, neg_ℤ, ◌+ℤ◌, ◌<ℤ◌, ◌≤ℤ◌, List, [], ◌∷◌, length, slice_index}
 use Rattle.std.specs.Int.{bit_at}
 use Rattle.ca_quad.specs.declared.node.Node.{Node}
 use Rattle.ca_quad.specs.declared.square.Square.{Square}
@@ -89,3 +89,15 @@ abbrev pub cell : List Node → Tree → ℤ → ℤ → ℕ
 cell nodes tree x y =
     let half = pos (2 ^ (tree.level - 1)) in
     from_corner (cell_of nodes tree.level tree.root) (x +ℤ half) (y +ℤ half)
+
+-- a tree of this level covers x and y from -2^(level-1) to 2^(level-1) - 1
+abbrev pub IsWithinLevel : ℕ → ℤ → Type 0
+IsWithinLevel level n = (neg_ℤ (pos (2 ^ (level - 1))) ≤ℤ n) × (n <ℤ pos (2 ^ (level - 1)))
+
+-- every live cell lies in the square of a tree of this level
+abbrev pub HoldsAll : ℕ → (ℤ → ℤ → ℕ) → Type 0
+HoldsAll level cells = (x y : ℤ) → cells x y ≢ 0 → IsWithinLevel level x × IsWithinLevel level y
+
+-- no lower level holds every live cell of the tree
+abbrev pub IsTrimmed : List Node → Tree → Type 0
+IsTrimmed nodes tree = (level : ℕ) → 1 ≤ level → level < tree.level → HoldsAll level (cell nodes tree) → ⊥

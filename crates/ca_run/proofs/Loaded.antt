@@ -9,8 +9,7 @@ use Rattle.ca_plane.specs.Sparse.{reach, IsInPlane, IsSparse}
 use Rattle.ca_plane.proofs.Pictures.{Contains-cell}
 use Rattle.ca_quad.specs.declared.node.Node.{Node}
 use Rattle.ca_quad.specs.declared.tree.Tree.{Tree}
-use Rattle.ca_quad.specs.Trees.{cell}
-use Rattle.ca_quad.specs.Trimmed.{IsWithinLevel, IsTrimmed}
+use Rattle.ca_quad.specs.Trees.{cell, IsWithinLevel, IsTrimmed}
 use Rattle.ca_quad.proofs.Growth.{below_or_not}
 
 -- a coordinate of a plane lies within a tree of level 64

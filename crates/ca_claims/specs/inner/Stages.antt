@@ -8,8 +8,7 @@ use Rattle.ca_quad.specs.declared.tree.Tree.{Tree}
 use Rattle.ca_quad.specs.declared.tree.WideBounds.{WideBounds}
 use Rattle.ca_quad.specs.Boxes.{IsDead, IsLeastWideBox}
 use Rattle.ca_quad.specs.Shifted.{shifted_cells}
-use Rattle.ca_quad.specs.Trees.{IsTree, cell}
-use Rattle.ca_quad.specs.Trimmed.{IsTrimmed, HoldsAll}
+use Rattle.ca_quad.specs.Trees.{IsTree, cell, IsTrimmed, HoldsAll}
 use Rattle.ca_claims.specs.declared.identification.stage.First.{First}
 use Rattle.ca_claims.specs.declared.identification.stage.Stage.{Stage}
 use Rattle.ca_claims.specs.declared.identification.stage.Stage.TheVariants.{Empty, Back, Other}

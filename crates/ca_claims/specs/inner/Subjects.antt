@@ -7,9 +7,8 @@ use Rattle.ca_plane.specs.Generations.{IsAfter, cells_after}
 use Rattle.ca_plane.specs.Sparse.{IsInPlane}
 use Rattle.ca_quad.specs.declared.node.Node.{Node}
 use Rattle.ca_quad.specs.declared.tree.Tree.{Tree}
-use Rattle.ca_quad.specs.Trees.{IsTree, cell}
+use Rattle.ca_quad.specs.Trees.{IsTree, cell, IsTrimmed}
 use Rattle.ca_quad.specs.Shifted.{shifted_cells}
-use Rattle.ca_quad.specs.Trimmed.{IsTrimmed}
 use Rattle.ca_macro.specs.Pattern.{AreInRange}
 use Rattle.ca_claims.specs.declared.claims.asks.Asks.{Asks}
 use Rattle.ca_claims.specs.declared.claims.asks.Barred.{Barred}

@@ -3,8 +3,7 @@
 ghost use Rattle.std.specs.Prelude.{◌≡◌, ◌⊎◌, ◌↔◌, ◌≤ℤ◌, ◌<ℤ◌, ℤ, pos, neg_ℤ, IsTrue, IfOk, OnOk, IfErr};
 ghost use Rattle.ca_plane.specs.Limits.{range};
 ghost use Rattle.ca_quad.specs.Sound.{Grows};
-ghost use Rattle.ca_quad.specs.Trees.{IsTree, cell};
-ghost use Rattle.ca_quad.specs.Trimmed.{IsTrimmed};
+ghost use Rattle.ca_quad.specs.Trees.{IsTree, cell, IsTrimmed};
 ghost use Rattle.ca_macro.specs.declared.fault.MacroFault.TheVariants.{Range, Memory};
 ghost use Rattle.ca_macro.specs.Pattern.{AreInRange};
 

@@ -3,8 +3,7 @@
 ghost use Rattle.std.specs.Prelude.{◌≡◌, ℕ, ◌-◌, ◌≤◌, ◌^◌, ℤ, IsTrue, IsFalse, IfOk};
 ghost use Rattle.ca_plane.specs.Plane.{cell as plane_cell};
 ghost use Rattle.ca_quad.specs.Sound.{Grows};
-ghost use Rattle.ca_quad.specs.Trees.{IsTree, cell};
-ghost use Rattle.ca_quad.specs.Trimmed.{HoldsAll, IsTrimmed};
+ghost use Rattle.ca_quad.specs.Trees.{IsTree, cell, HoldsAll, IsTrimmed};
 ghost use Rattle.ca_quad.specs.inner.Filled.{counted, AreRowsOf, HoldsBox, IsEmptyOf};
 ghost use Rattle.ca_quad.specs.inner.Window.{ShowsFrom};
 

@@ -3,8 +3,7 @@
 ghost use Rattle.std.specs.Prelude.{◌≡◌, ◌≤◌, ◌+◌, ℕ, ℤ, length, take, IfOk, OnOk};
 ghost use Rattle.ca_quad.specs.Squares.{level_of};
 ghost use Rattle.ca_quad.specs.Sound.{IsSoundStore, Grows};
-ghost use Rattle.ca_quad.specs.Trees.{IsIn, IsTree, cell};
-ghost use Rattle.ca_quad.specs.Trimmed.{IsTrimmed};
+ghost use Rattle.ca_quad.specs.Trees.{IsIn, IsTree, cell, IsTrimmed};
 ghost use Rattle.ca_quad.specs.Added.{IsCopy, AddsCopies};
 ghost use Rattle.ca_quad.specs.inner.Copied.{AreCopies};
 

@@ -4,8 +4,7 @@ ghost use Rattle.std.specs.Prelude.{◌≡◌, ℕ, suc, ◌+◌, ◌≤◌, ◌
 ghost use Rattle.std.specs.List.{All};
 ghost use Rattle.ca_quad.specs.Squares.{level_of, dot, together, cell_of, IsOf};
 ghost use Rattle.ca_quad.specs.Sound.{Grows};
-ghost use Rattle.ca_quad.specs.Trees.{IsIn, IsTree, ShowsSquare, AreFour, cell};
-ghost use Rattle.ca_quad.specs.Trimmed.{IsTrimmed};
+ghost use Rattle.ca_quad.specs.Trees.{IsIn, IsTree, ShowsSquare, AreFour, cell, IsTrimmed};
 ghost use Rattle.ca_quad.specs.inner.Ring.{IsEmptySquare, Rings, TellsMiddle, ringed};
 
 use super::Store;

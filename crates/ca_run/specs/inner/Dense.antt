@@ -2,9 +2,8 @@
 use Rattle.std.specs.Prelude.{◌≡◌, ℕ, ◌+◌, ◌*◌, ◌<◌, ◌≤◌, ◌^◌, min, max, ℤ, List, length, Result, IfOk}
 use Rattle.ca_plane.specs.Generations.{cells_after}
 use Rattle.ca_quad.specs.declared.node.Node.{Node}
-use Rattle.ca_quad.specs.Trees.{IsTree, cell}
+use Rattle.ca_quad.specs.Trees.{IsTree, cell, HoldsAll}
 use Rattle.ca_quad.specs.declared.tree.Tree.{Tree}
-use Rattle.ca_quad.specs.Trimmed.{HoldsAll}
 use Rattle.ca_run.specs.declared.fault.LeapFault.{LeapFault}
 use Rattle.ca_run.specs.Leaping.{Costs, LeaperView}
 use Rattle.ca_run.specs.declared.leaper.dense.Reached.{Reached}

@@ -2,8 +2,7 @@
 
 ghost use Rattle.std.specs.Prelude.{◌≡◌, ◌≢◌, ◌≤◌, ◌↔◌, ℤ, ◌-ℤ◌, IfOk, IfErr, IsNone, IfSome};
 ghost use Rattle.ca_plane.specs.Plane.{cell as plane_cell};
-ghost use Rattle.ca_quad.specs.Trees.{IsTree, cell};
-ghost use Rattle.ca_quad.specs.Trimmed.{IsTrimmed};
+ghost use Rattle.ca_quad.specs.Trees.{IsTree, cell, IsTrimmed};
 ghost use Rattle.ca_quad.specs.Expanded.{FitsPlane};
 ghost use Rattle.ca_quad.specs.Shifted.{shifted_cells, IsShiftRefused};
 ghost use Rattle.ca_run.specs.Leaping.{LeaperGrows};

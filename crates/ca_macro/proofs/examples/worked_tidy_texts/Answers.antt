@@ -2,7 +2,7 @@ use Rattle.std.proofs.Common.{ℕ, zero, suc, ◌≤◌, pos, [], ◌∷◌, inl
 use Rattle.std.specs.List.{AllByRecursion}
 use Rattle.std.proofs.lemmas.Int.{ints}
 use Rattle.ca_plane.specs.Plane.{cell}
-use Rattle.ca_quad.specs.Trimmed.{IsWithinLevel}
+use Rattle.ca_quad.specs.Trees.{IsWithinLevel}
 use Rattle.ca_macro.specs.Nodes.{Cells, Parts}
 use Rattle.ca_macro.specs.Tidy.{Fits}
 use Rattle.ca_macro.specs.Examples.{glider_file, glider, cross_file, cross}
