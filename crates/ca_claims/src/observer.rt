@@ -3,7 +3,7 @@
 use ca_run::{Unwatched, Watch};
 
 /// Sees how far the judging of a claim is, while it lasts. As a `Watch`, it also sees how many generations a
-/// run has reached.
+/// run has reached. A run of one file's pattern some generations on begins and ends as a claim on line 1 does.
 pub trait Observer: Watch {
     /// The claim on this line is judged next.
     fn begins(&mut self, line: u64);

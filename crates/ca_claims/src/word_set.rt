@@ -1,7 +1,7 @@
 //! Words, each once, in the order in which they first appear.
 
-ghost use Rattle.std.specs.Prelude.{◌≡◌, ◌≢◌, ℕ, ◌<◌, [], Some, slice_get, length, IfOk, MatchOption};
-ghost use Rattle.std.specs.List.{IsDistinct};
+ghost use Rattle.std.specs.Prelude.{◌≡◌, ◌≢◌, ℕ, ◌<◌, [], Some, slice_get, length, IfOk, OnErr, MatchOption};
+ghost use Rattle.std.specs.List.{IsDistinct, list_any};
 ghost use Rattle.std.specs.Str.{bytes_eq};
 ghost use Rattle.ca_claims.specs.Words.{with_word};
 
@@ -51,6 +51,13 @@ impl WordSet {
         &self.set.as_slice()[index]
     }
 
+    /// Whether the word is one of these.
+    pub fn contains(&self, word: &[u8]) -> bool
+        ensures { result ≡ list_any (bytes_eq word.now) self.now }
+    {
+        self.set.get_index_of(word).is_some()
+    }
+
     /// The index of the word, where it is one of these.
     pub fn index_of(&self, word: &[u8]) -> Option<usize>
         ensures { MatchOption result ((i : ℕ) → slice_get self.now i ≢ Some word.now)
@@ -63,10 +70,11 @@ impl WordSet {
     ///
     /// # Errors
     ///
-    /// Fails where there is no memory for the word.
+    /// Fails where there is no memory for the word, and then leaves the words as they were.
     pub fn put(&mut self, alloc: Global, word: &[u8]) -> Result<usize, Memory>
         ensures words { IfOk result (λ _. self.new ≡ with_word self.old word.now) }
         ensures index { IfOk result (λ i. slice_get self.new i ≡ Some word.now) }
+        ensures refused { OnErr result (self.new ≡ self.old) }
     {
         if let Some(index) = self.index_of(word) {
             return Ok(index);

@@ -195,7 +195,7 @@ abbrev pub IsFormOf : TextForm → List ℕ → List TableRule → List ℕ → 
 IsFormOf forms.Summary bytes tables text = IsShown bytes tables text
 IsFormOf (forms.File target) bytes tables text = IsConverted bytes tables target text
 
--- why neither is written
+-- why it isn't written
 abbrev pub IsFormFault : TextForm → List ℕ → List TableRule → ConvertFault → Type 0
 IsFormFault forms.Summary bytes tables fault = IsSummaryFault bytes tables fault
 IsFormFault (forms.File target) bytes tables fault = IsConvertFault bytes tables target fault
@@ -211,6 +211,7 @@ abbrev pub IsFormAfter : TextForm → List ℕ → List TableRule → ℕ → Li
 IsFormAfter forms.Summary bytes tables n text = IsShownAfter bytes tables n text
 IsFormAfter (forms.File target) bytes tables n text = IsConvertedAfter bytes tables n target text
 
+-- why none of it is written
 abbrev pub IsFormFaultAfter : TextForm → List ℕ → List TableRule → ℕ → (work : ℕ) → ReachFault → Type 0
 IsFormFaultAfter forms.Summary bytes tables n work fault = IsReachFault bytes tables n work fault
 IsFormFaultAfter (forms.File target) bytes tables n work fault = IsConvertFaultAfter bytes tables n work target fault

@@ -18,8 +18,8 @@ ghost use Rattle.ca_tool.specs.inner.Searches.{IsGoodSearch};
 use crate::entry::{Content, Entry, Outcome, Subject};
 use crate::entry_lines::{push_entry, push_rule};
 use crate::fault::ToolFault;
-use crate::names::{Names, is_claim_path};
-use ca_claims::{File, Identity, Limits, Observer, Unidentified, identify_after};
+use crate::names::{add_name, is_claim_path};
+use ca_claims::{File, Identity, Limits, Observer, Unidentified, WordSet, identify_after};
 use ca_plane::text::push_text;
 use ca_plane::{Dev, Memory, send};
 use ca_rule::{Table, TableFault};
@@ -125,7 +125,7 @@ fn entries_of<'a, O: Observer>(
         search.now.generations search.now.limit [] subjects.now entries.items) }
     ensures memory { OnErr result (subjects.now ≢ []) }
 {
-    let mut names = Names::new(alloc);
+    let mut names = WordSet::new(alloc);
     let mut entries = Vec::new(alloc);
     'subjects: for subject in subjects {
         observer.begins((entries.len() as u64).saturating_add(1));
@@ -141,7 +141,7 @@ fn entries_of<'a, O: Observer>(
 // The entry on a file, under a name that is put after the others.
 fn entry_of<'a, O: Observer>(
     alloc: Global,
-    names: &mut Names,
+    names: &mut WordSet,
     subject: &Subject<'a>,
     search: &Search<'_>,
     observer: &mut O,
@@ -152,7 +152,7 @@ fn entry_of<'a, O: Observer>(
     ensures names { IfOk result (λ entry. names.new ≡ names.old ++ entry.name.items ∷ []) }
 {
     let outcome = outcome_of(alloc, subject, search, observer);
-    let name = names.add(alloc, subject.path)?;
+    let name = add_name(alloc, names, subject.path)?;
     Ok(Entry {
         name,
         path: subject.path,

@@ -1,18 +1,17 @@
 //! Names for the files of a claim text, of which no two are equal.
 
-ghost use Rattle.std.specs.Prelude.{◌≡◌, ℕ, ◌<◌, ◌^◌, ◌-◌, ◌++◌, ◌∷◌, [], map, codes, decimal, false, IfOk, OnOk};
+ghost use Rattle.std.specs.Prelude.{◌≡◌, ℕ, ◌<◌, ◌^◌, ◌-◌, ◌++◌, ◌∷◌, [], map, codes, decimal, IfOk, OnOk, OnErr};
 ghost use Rattle.std.specs.List.{list_all};
 ghost use Rattle.ca_plane.specs.Bytes.{is_word_byte};
 ghost use Rattle.ca_plane.specs.Puts.{Puts};
 ghost use Rattle.ca_tool.specs.Names.{is_word, is_claim_path, last_component, without_ending, name_byte};
-ghost use Rattle.ca_tool.specs.Names.{with_first_byte, claim_name, numbered, is_taken, IsFreeName};
+ghost use Rattle.ca_tool.specs.Names.{with_first_byte, claim_name, numbered, IsFreeName};
 
+use ca_claims::WordSet;
 use ca_plane::Memory;
 use ca_plane::bytes::is_word_byte;
 use ca_plane::text::{push_number, push_text};
-use indexmap::IndexSet;
 use std::alloc::Global;
-use std::marker::Model;
 
 fn are_word_bytes(bytes: &[u8]) -> bool
     ensures { result ≡ list_all is_word_byte bytes.now }
@@ -124,74 +123,33 @@ fn push_place(out: &mut Vec<u8>, place: u64) -> Result<(), Memory>
     push_number(out, place)
 }
 
-/// Names of a claim text, of which no two are equal. A name is found by its hash.
-#[derive(Drop)]
-pub(crate) struct Names {
-    set: IndexSet<Vec<u8>>,
-}
-
-impl Model for Names {
-    ghost use Rattle.std.specs.Prelude.{ℕ, List, map};
-
-    ghost Value = { List (List ℕ) };
-
-    ghost view = { λ n. map (λ name. name.items) n.set.keys };
-}
-
-impl Names {
-    /// No names.
-    pub(crate) fn new(alloc: Global) -> Names
-        ensures { result ≡ [] }
-    {
-        Names {
-            set: IndexSet::new(alloc),
+// The name itself, or the first with `-2`, `-3` and so on after it that is none of these.
+fn free_name(alloc: Global, names: &WordSet, name: &[u8]) -> Result<Vec<u8>, Memory>
+    ensures { IfOk result (λ free. IsFreeName names.now name.now free.items) }
+{
+    'places: for place in 0..u64::MAX {
+        let free = numbered(alloc, name, place)?;
+        if !names.contains(&free) {
+            return Ok(free);
         }
     }
+    Err(Memory)
+}
 
-    // Whether the name is one of these.
-    fn contains(&self, name: &[u8]) -> bool
-        ensures { result ≡ is_taken self.now name.now }
-    {
-        self.set.get_index_of(name).is_some()
-    }
-
-    // Puts a name that is none of these after them.
-    fn put(&mut self, alloc: Global, name: &[u8]) -> Result<(), Memory>
-        requires { is_taken self.old name.now ≡ false }
-        ensures { OnOk result (self.new ≡ self.old ++ name.now ∷ []) }
-    {
-        let name = Vec::from_slice(alloc, name)?;
-        self.set.insert(name)?;
-        Ok(())
-    }
-
-    // The name itself, or the first with `-2`, `-3` and so on after it that is none of these.
-    fn free_name(&self, alloc: Global, name: &[u8]) -> Result<Vec<u8>, Memory>
-        ensures { IfOk result (λ free. IsFreeName self.now name.now free.items) }
-    {
-        'places: for place in 0..u64::MAX {
-            let free = numbered(alloc, name, place)?;
-            if !self.contains(&free) {
-                return Ok(free);
-            }
-        }
-        Err(Memory)
-    }
-
-    /// A name for the file of a path that is none of these, and is put after them: the file's own name without its
-    /// ending, with `_` for blanks, a leading `#` or no name at all, and with `-2`, `-3` and so on where that is
-    /// taken.
-    ///
-    /// # Errors
-    ///
-    /// Fails where there is no memory for it.
-    pub(crate) fn add(&mut self, alloc: Global, path: &[u8]) -> Result<Vec<u8>, Memory>
-        ensures name { IfOk result (λ name. IsFreeName self.old (claim_name path.now) name.items) }
-        ensures names { IfOk result (λ name. self.new ≡ self.old ++ name.items ∷ []) }
-    {
-        let own = claim_name(alloc, path)?;
-        let name = self.free_name(alloc, &own)?;
-        self.put(alloc, &name)?;
-        Ok(name)
-    }
+/// A name for the file of a path that is none of these, and is put after them: the file's own name without its
+/// ending, with `_` for blanks, a leading `#` or no name at all, and with `-2`, `-3` and so on where that is
+/// taken.
+///
+/// # Errors
+///
+/// Fails where there is no memory for it, and then leaves the names as they were.
+pub(crate) fn add_name(alloc: Global, names: &mut WordSet, path: &[u8]) -> Result<Vec<u8>, Memory>
+    ensures name { IfOk result (λ name. IsFreeName names.old (claim_name path.now) name.items) }
+    ensures names { IfOk result (λ name. names.new ≡ names.old ++ name.items ∷ []) }
+    ensures refused { OnErr result (names.new ≡ names.old) }
+{
+    let own = claim_name(alloc, path)?;
+    let name = free_name(alloc, names, &own)?;
+    names.put(alloc, &name)?;
+    Ok(name)
 }
