@@ -1,14 +1,18 @@
 -- What is found out of a square from its cells, or from the same of its parts.
-use Rattle.std.proofs.Common.{◌≡◌, ℕ, suc, ◌+◌, ◌-◌, ◌≤◌, ◌^◌, inl, inr, ◌==◌, cond, Some, List, length, refl, sym, ap, subst, ◌∙◌, arith}
+use Rattle.std.proofs.Common.{◌≡◌, ℕ, suc, ◌+◌, ◌-◌, ◌≤◌, ◌^◌, inl, inr, ◌==◌, cond, Some, Option, List, length, refl, sym, ap, subst, ◌∙◌, arith}
 use Rattle.std.proofs.lemmas.Bool.{cases_Bool, eqb-true}
 use Rattle.std.proofs.Math.Nat.{two-pow-succ}
 use Rattle.ca_quad.specs.declared.node.Node.{Node}
 use Rattle.ca_quad.specs.declared.square.Square.TheVariants.{Four, Parts}
-use Rattle.ca_quad.specs.Squares.{square_of, level, dot, cell_of}
-use Rattle.ca_quad.specs.Sound.{HasParts}
+use Rattle.ca_quad.specs.declared.store.extent.Extent.{Extent}
+use Rattle.ca_quad.specs.Boxes.{AreSquareBoxes}
+use Rattle.ca_quad.specs.Squares.{square_of, level, level_of, IsOf, dot, cell_of}
+use Rattle.ca_quad.specs.Sound.{HasParts, IsSoundStore, Grows}
 use Rattle.ca_quad.specs.SquareValues.{square_value}
-use Rattle.ca_quad.specs.inner.Measure.{Ends, IsJoined, IsMeasureOf}
-use Rattle.ca_quad.proofs.Cells.{dot_ends, cell_ends}
+use Rattle.ca_quad.specs.Trees.{IsIn}
+use Rattle.ca_quad.specs.inner.Extent.{IsSquareExtent}
+use Rattle.ca_quad.specs.inner.Measure.{Ends, IsJoined, IsMeasureOf, AreMeasures}
+use Rattle.ca_quad.proofs.Cells.{dot_ends, cell_ends, cells_stay, of_stays}
 use Rattle.ca_quad.proofs.Walks.{four_show, parts_show}
 
 module _ {V : Type 0} (is : (ℕ → ℕ → ℕ) → ℕ → V → Type 0) (nodes : List Node) (id : ℕ) where
@@ -34,6 +38,24 @@ module _ {V : Type 0} (is : (ℕ → ℕ → ℕ) → ℕ → V → Type 0) (nod
       let all_joined : IsJoined is (2 ^ (m - 1)) a b c d all = subst (λ n. IsJoined is n a b c d all) half joined in
       rw (parts_show nodes id k of m nw ne sw se some e, both)
       (all_joined (part nw) (part ne) (part sw) (part se) (ends nw) (ends ne) (ends sw) (ends se) (f (m - 1) whole.is_nw) (g (m - 1) whole.is_ne) (h (m - 1) whole.is_sw) (i (m - 1) whole.is_se))
+
+-- when the store grows, what was measured stays true
+module _ {V : Type 0} (is : (ℕ → ℕ → ℕ) → ℕ → V → Type 0) (old new : List Node) (sound : IsSoundStore old) (grows : Grows old new) where
+  measure_stays : (id : ℕ) (value : V) → IsIn old id → IsMeasureOf is old id value → IsMeasureOf is new id value
+  measure_stays id value before of level now =
+      let was : IsOf old id (level_of old id) = record { before = before; is_level = refl } in
+      let same : level_of old id ≡ level = sym (of_stays old new sound grows id (level_of old id) was).is_level ∙ now.is_level in
+      let was_level : IsOf old id level = subst (IsOf old id) same was in
+      subst (λ cells. is cells (2 ^ level) value) (sym (cells_stay old new sound grows level id was_level)) (of level was_level)
+
+  pub measures_stay : (values : List (ℕ × V)) → AreMeasures is old values → AreMeasures is new values
+  measures_stay values are id value h =
+      let one = are id value h in
+      (omega (arith, one.0, grows.longer), measure_stays id value one.0 one.1)
+
+-- and so do the boxes of squares
+pub boxes_stay : (old new : List Node) → IsSoundStore old → Grows old new → (boxes : List (ℕ × Option Extent)) → AreSquareBoxes old boxes → AreSquareBoxes new boxes
+boxes_stay old new sound grows = measures_stay (λ cells side found. IsSquareExtent cells side side found) old new sound grows
 
 some_same : {V : Type 0} {v w : V} → Some v ≡ Some w → v ≡ w
 some_same e = cc

@@ -1,6 +1,10 @@
--- The least box round the live cells of a tree.
-use Rattle.std.specs.Prelude.{◌≡◌, ◌≢◌, ℕ, ℤ, ◌≤ℤ◌}
+-- The least box round the live cells of a tree, and of a square.
+use Rattle.std.specs.Prelude.{◌≡◌, ◌≢◌, ℕ, ℤ, ◌≤ℤ◌, List, Option}
+use Rattle.ca_quad.specs.declared.node.Node.{Node}
+use Rattle.ca_quad.specs.declared.store.extent.Extent.{Extent}
 use Rattle.ca_quad.specs.declared.tree.WideBounds.{WideBounds}
+use Rattle.ca_quad.specs.inner.Extent.{IsSquareExtent}
+use Rattle.ca_quad.specs.inner.Measure.{AreMeasures}
 
 -- every cell is 0
 abbrev pub IsDead : (ℤ → ℤ → ℕ) → Type 0
@@ -17,3 +21,7 @@ pub record IsLeastWideBox (cells : ℤ → ℤ → ℕ) (box : WideBounds) : Typ
   pub right : (y : ℤ) × (cells box.x1 y ≢ 0)
   pub top : (x : ℤ) × (cells x box.y0 ≢ 0)
   pub bottom : (x : ℤ) × (cells x box.y1 ≢ 0)
+
+-- each of these boxes is that of one of these squares: the least round its live cells, or none where there are none
+abbrev pub AreSquareBoxes : List Node → List (ℕ × Option Extent) → Type 0
+AreSquareBoxes nodes boxes = AreMeasures (λ cells side found. IsSquareExtent cells side side found) nodes boxes

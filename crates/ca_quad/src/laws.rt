@@ -1,9 +1,11 @@
 //! Laws of the squares of a store, over the definitions alone.
 
-ghost use Rattle.std.specs.Prelude.{◌≡◌, ℕ, ◌↔◌, List};
+ghost use Rattle.std.specs.Prelude.{◌≡◌, ℕ, ◌↔◌, List, Option};
 ghost use Rattle.ca_quad.specs.declared.node.Node.{Node};
+ghost use Rattle.ca_quad.specs.declared.store.extent.Extent.{Extent};
 ghost use Rattle.ca_quad.specs.Squares.{IsOf};
 ghost use Rattle.ca_quad.specs.Sound.{IsSoundStore, Grows};
+ghost use Rattle.ca_quad.specs.Boxes.{AreSquareBoxes};
 ghost use Rattle.ca_quad.specs.Trees.{IsIn, AreSame, Stays};
 
 use crate::store::Store;
@@ -19,4 +21,10 @@ pub fn one_id(store: &Store)
 pub fn old_squares_stay()
     ensures { (old new : List Node) → IsSoundStore old → Grows old new → (id level : ℕ) → IsOf old id level
         → Stays old new id level }
+{}
+
+/// When a store grows, the boxes of its squares that are known stay true.
+pub fn square_boxes_stay()
+    ensures { (old new : List Node) → IsSoundStore old → Grows old new → (boxes : List (ℕ × Option Extent))
+        → AreSquareBoxes old boxes → AreSquareBoxes new boxes }
 {}

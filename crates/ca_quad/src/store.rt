@@ -16,7 +16,7 @@ mod cut_words;
 mod cuts;
 mod difference;
 mod draw;
-mod extent;
+pub(crate) mod extent;
 mod from_bits;
 mod from_plane;
 mod gather;

@@ -1,8 +1,9 @@
 //! The first generation after which a pattern is back or dead.
 
-ghost use Rattle.std.specs.Prelude.{◌≡◌, ℕ, ◌+◌, ◌≤◌, ◌<◌, ◌^◌, List, IfOk};
+ghost use Rattle.std.specs.Prelude.{◌≡◌, ℕ, ◌+◌, ◌≤◌, ◌<◌, ◌^◌, List, IfOk, OnOk};
 ghost use Rattle.ca_plane.specs.Plane.{Picture};
 ghost use Rattle.ca_plane.specs.Generations.{cells_after};
+ghost use Rattle.ca_quad.specs.Boxes.{AreSquareBoxes};
 ghost use Rattle.ca_quad.specs.Trees.{IsTree, cell};
 ghost use Rattle.ca_run.specs.Leaping.{LeaperGrows, EndsAtLimit};
 ghost use Rattle.ca_claims.specs.Identified.{IsIdentity};
@@ -17,7 +18,7 @@ use super::stage::{First, Stage, stage_of};
 use crate::identity::Identity;
 use crate::observer::Observer;
 use ca_plane::Automaton;
-use ca_quad::Tree;
+use ca_quad::{SquareBoxes, Tree};
 use ca_run::{LeapFault, Leaper, Unwatched};
 use std::alloc::Global;
 
@@ -43,9 +44,10 @@ pub(super) fn search<A: Automaton, O: Observer>(
     let _ = leaper.store();
     let mut now = first.tree;
     let mut generations: u64 = 0;
+    let mut boxes = SquareBoxes::new(alloc);
     'generations: while generations < limit {
         observer.goes_to(generations + 1);
-        let later = step(alloc, leaper, &first, now, generations)?;
+        let later = step(alloc, leaper, &first, now, generations, &mut boxes)?;
         now = later.tree;
         generations += 1;
         match later.stage {
@@ -72,17 +74,20 @@ fn step<A: Automaton>(
     first: &First,
     now: Tree,
     generations: u64,
+    boxes: &mut SquareBoxes,
 ) -> Result<Later, LeapFault>
     requires first { IsFirst leaper.old.nodes first.now }
     requires few { generations < longest_period }
     requires now { IsLaterTree (A.next_of leaper.old.rule) (cell leaper.old.nodes first.now.tree) generations
         leaper.old.nodes now }
+    requires boxes { AreSquareBoxes leaper.old.nodes boxes.old }
     ensures tree { IfOk result
         (λ later. IsLaterTree (A.next_of leaper.old.rule) (cell leaper.old.nodes first.now.tree)
         (generations + 1) leaper.new.nodes later.tree) }
     ensures stage { IfOk result (λ later. IsStage (cell leaper.old.nodes first.now.tree)
         (cells_after (A.next_of leaper.old.rule) (cell leaper.old.nodes first.now.tree) (generations + 1))
         later.stage) }
+    ensures boxes { OnOk result (AreSquareBoxes leaper.new.nodes boxes.new) }
     ensures goes_on { LeaperGrows A leaper.old leaper.new }
     ensures takes { leaper.new.spent.used ≤ leaper.old.spent.used + 14 ^ (now.level + 3) }
     ensures work { EndsAtLimit leaper.new.spent result }
@@ -91,7 +96,7 @@ fn step<A: Automaton>(
     let _ = leaper.store();
     let _ = generations;
     let tree = later_tree(leaper, now, 1, &mut Unwatched)?;
-    let stage = stage_of(alloc, leaper, first, &tree)?;
+    let stage = stage_of(alloc, leaper, first, &tree, boxes)?;
     Ok(Later { tree, stage })
 }
 

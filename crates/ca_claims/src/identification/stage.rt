@@ -1,7 +1,7 @@
 //! What a pattern's plane shows some generations on.
 
-ghost use Rattle.std.specs.Prelude.{◌≡◌, ℕ, ℤ, IfOk, MatchOption};
-ghost use Rattle.ca_quad.specs.Boxes.{IsLeastWideBox};
+ghost use Rattle.std.specs.Prelude.{◌≡◌, ℕ, ℤ, IfOk, OnOk, MatchOption};
+ghost use Rattle.ca_quad.specs.Boxes.{IsLeastWideBox, AreSquareBoxes};
 ghost use Rattle.ca_quad.specs.Trees.{cell};
 ghost use Rattle.ca_run.specs.Leaping.{LeaperGrows, EndsAtLimit};
 ghost use Rattle.ca_claims.specs.inner.Subjects.{IsNearTree};
@@ -10,7 +10,7 @@ ghost use Rattle.ca_claims.specs.inner.Stages.{AreMovedNowhere, AreMovedOnlyBy};
 
 use crate::decide::{distance, vector_if_back};
 use ca_plane::Automaton;
-use ca_quad::{Tree, WideBounds};
+use ca_quad::{SquareBoxes, Tree, WideBounds};
 use ca_run::{LeapFault, Leaper};
 use std::alloc::Global;
 
@@ -33,21 +33,25 @@ pub(super) enum Stage {
 }
 
 /// What a tree shows of a live pattern. Nothing is moved or compared where the boxes have different sizes.
+/// The boxes are those of squares that were measured before, and then of these too.
 pub(super) fn stage_of<A: Automaton>(
     alloc: Global,
     leaper: &mut Leaper<A>,
     first: &First,
     now: &Tree,
+    boxes: &mut SquareBoxes,
 ) -> Result<Stage, LeapFault>
     requires first { IsFirst leaper.old.nodes first.now }
     requires now { IsNearTree leaper.old.nodes now.now }
+    requires boxes { AreSquareBoxes leaper.old.nodes boxes.old }
     ensures stage { IfOk result
         (IsStage (cell leaper.old.nodes first.now.tree) (cell leaper.old.nodes now.now)) }
+    ensures boxes { OnOk result (AreSquareBoxes leaper.new.nodes boxes.new) }
     ensures goes_on { LeaperGrows A leaper.old leaper.new }
     ensures spent { leaper.new.spent ≡ leaper.old.spent }
     ensures work { EndsAtLimit leaper.new.spent result }
 {
-    let Some(bounds) = leaper.store().bounds(alloc, *now)? else {
+    let Some(bounds) = leaper.store().bounds_with(alloc, *now, boxes)? else {
         return Ok(Stage::Empty);
     };
     let Some((dx, dy)) = vector_between(&first.bounds, &bounds) else {

@@ -3,6 +3,7 @@ use Rattle.std.specs.Prelude.{◌≡◌, ℕ, ◌+◌, ◌≤◌, ◌^◌, ◌�
 use Rattle.ca_quad.specs.declared.node.Node.{Node}
 use Rattle.ca_quad.specs.Squares.{IsOf, together, cell_of}
 use Rattle.ca_quad.specs.SquareValues.{square_value}
+use Rattle.ca_quad.specs.Trees.{IsIn}
 
 -- beyond this side every cell is 0
 abbrev pub Ends : ℕ → (ℕ → ℕ → ℕ) → Type 0
@@ -18,6 +19,6 @@ IsJoined is side a b c d all =
 abbrev pub IsMeasureOf : {V : Type 0} → ((ℕ → ℕ → ℕ) → ℕ → V → Type 0) → List Node → ℕ → V → Type 0
 IsMeasureOf is nodes id value = (level : ℕ) → IsOf nodes id level → is (cell_of nodes level id) (2 ^ level) value
 
--- each value of a square is its measure
+-- each value is the measure of one of these squares
 abbrev pub AreMeasures : {V : Type 0} → ((ℕ → ℕ → ℕ) → ℕ → V → Type 0) → List Node → List (ℕ × V) → Type 0
-AreMeasures is nodes values = (id : ℕ) (value : _) → square_value values id ≡ Some value → IsMeasureOf is nodes id value
+AreMeasures is nodes values = (id : ℕ) (value : _) → square_value values id ≡ Some value → IsIn nodes id × IsMeasureOf is nodes id value

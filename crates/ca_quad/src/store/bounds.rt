@@ -1,14 +1,14 @@
 //! The least box round the live cells of a tree.
 
-ghost use Rattle.std.specs.Prelude.{◌≡◌, ◌^◌, ◌+◌, ◌≤◌, pos, ◌-ℤ◌, IfOk, MatchOption};
+ghost use Rattle.std.specs.Prelude.{◌≡◌, ◌^◌, ◌+◌, ◌≤◌, pos, ◌-ℤ◌, IfOk, OnOk, MatchOption};
 ghost use Rattle.ca_quad.specs.Trees.{IsTree, cell};
-ghost use Rattle.ca_quad.specs.Boxes.{IsDead, IsLeastWideBox};
+ghost use Rattle.ca_quad.specs.Boxes.{IsDead, IsLeastWideBox, AreSquareBoxes};
 ghost use Rattle.ca_quad.specs.inner.Extent.{FitsSide};
 
 use super::Store;
 use super::extent::Extent;
 use super::read::half_side;
-use crate::square_map::SquareMap;
+use crate::square_boxes::SquareBoxes;
 use crate::tree::{Tree, WideBounds};
 use ca_plane::Memory;
 use std::alloc::Global;
@@ -26,8 +26,29 @@ impl Store {
         ensures { IfOk result (λ found. MatchOption found (IsDead (cell self.now tree))
             (IsLeastWideBox (cell self.now tree))) }
     {
+        self.bounds_with(alloc, tree, &mut SquareBoxes::new(alloc))
+    }
+
+    /// The same box, of squares that may have been measured before. Those that are measured now are remembered too.
+    ///
+    /// # Errors
+    ///
+    /// As for `bounds`.
+    pub fn bounds_with(
+        &self,
+        alloc: Global,
+        tree: Tree,
+        boxes: &mut SquareBoxes,
+    ) -> Result<Option<WideBounds>, Memory>
+        requires tree { IsTree self.now tree }
+        requires boxes { AreSquareBoxes self.now boxes.old }
+        ensures bounds { IfOk result (λ found. MatchOption found (IsDead (cell self.now tree))
+            (IsLeastWideBox (cell self.now tree))) }
+        ensures boxes { OnOk result (AreSquareBoxes self.now boxes.new) }
+    {
+        boxes.make_room(alloc);
         let half = half_side(self.level(tree.root));
-        let extent: Option<Extent> = self.measure(tree.root, &mut SquareMap::new(alloc))?;
+        let extent: Option<Extent> = self.measure(tree.root, &mut boxes.boxes)?;
         let Some(extent) = extent else {
             return Ok(None);
         };

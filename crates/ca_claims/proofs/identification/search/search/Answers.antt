@@ -43,6 +43,7 @@ generations-init g c =
       goes_on = goes_on_same _ c.args.leaper.now c.store.ensures.sound;
       now = first_tree next s0 c.args.first.tree c.requires.first.start;
       others = others_at_first next first;
+      boxes = c.new-boxes.ensures s0;
       within = omega arith;
       takes = no_step _ _ (cells_after next first) c.args.limit refl;
     }
@@ -107,6 +108,7 @@ generations-preserved g c =
       goes_on = goes_on_again _ c.args.leaper.now c.generations.leaper c.step.new.leaper inv.goes_on c.in_ok-later.ensures.goes_on;
       now = step_to g.A.Automaton.next_of inv.goes_on.rule c.store.ensures.sound inv.goes_on.grows c.requires.first (n + 1) c.step.new.leaper.nodes c.in_ok-later.later.tree c.in_ok-later.ensures.tree;
       others = one_more_other (g.A.Automaton.next_of c.args.leaper.now.rule) (first g a) n inv.others (subst (IsStage (first g a) (stages g a (n + 1))) c.in-Other.is (told g a));
+      boxes = c.in_ok-later.ensures.boxes;
       within = omega (arith, c.generations-test.true);
       takes = one_more_step _ _ _ (stages g a) c.args.limit n s c.generations.now inv.now.trimmed inv.now.shows (omega (arith, c.generations-test.true)) inv.takes c.step.ensures.takes;
     }

@@ -1,5 +1,6 @@
 use Rattle.std.proofs.Common.{◌-◌, ◌≤◌}
 use Rattle.ca_plane.specs.Generations.{cells_after}
+use Rattle.ca_quad.specs.Boxes.{AreSquareBoxes}
 use Rattle.ca_quad.specs.Trees.{cell}
 use Rattle.ca_run.specs.Leaping.{LeaperGrows}
 use Rattle.ca_claims.specs.inner.Stages.{IsLaterTree, AreOtherUpTo, TakesSteps}
@@ -11,6 +12,7 @@ invariant-generations g l = record {
   goes_on : LeaperGrows _ l.fn.leaper l.leaper;
   now : IsLaterTree (g.A.Automaton.next_of l.fn.leaper.rule) (cell l.fn.leaper.nodes l.fn.first.tree) l.generations l.leaper.nodes l.now;
   others : AreOtherUpTo (g.A.Automaton.next_of l.fn.leaper.rule) (cell l.fn.leaper.nodes l.fn.first.tree) l.generations;
+  boxes : AreSquareBoxes l.leaper.nodes l.boxes;
   within : l.generations ≤ l.fn.limit;
   takes : TakesSteps l.fn.leaper.spent.used l.leaper.spent.used (cells_after (g.A.Automaton.next_of l.fn.leaper.rule) (cell l.fn.leaper.nodes l.fn.first.tree)) l.fn.limit l.generations;
 }

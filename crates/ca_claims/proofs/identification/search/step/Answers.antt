@@ -1,6 +1,7 @@
 use Rattle.std.proofs.Common.{◌+◌, ◌≤◌, ◌^◌, sym, subst, arith}
 use Rattle.ca_plane.specs.Generations.{cells_after}
 use Rattle.ca_quad.specs.Trees.{cell}
+use Rattle.ca_quad.proofs.Measures.{boxes_stay}
 use Rattle.ca_quad.proofs.Trims.{trees_stay}
 use Rattle.ca_run.specs.Leaping.{Spent}
 use Rattle.ca_run.proofs.Shown.{goes_on_again}
@@ -23,6 +24,10 @@ later_tree-requires g c =
 pub stage_of-requires-clause-first : goal.stage_of-requires-clause-first
 stage_of-requires-clause-first g c =
     first_stays c.args.leaper.now.nodes c.later_tree.new.leaper.nodes c.store.ensures.sound c.in_ok-tree.ensures.goes_on.grows c.args.first.now c.requires.first
+
+pub stage_of-requires-clause-boxes : goal.stage_of-requires-clause-boxes
+stage_of-requires-clause-boxes g c =
+    boxes_stay c.args.leaper.now.nodes c.later_tree.new.leaper.nodes c.store.ensures.sound c.in_ok-tree.ensures.goes_on.grows _ c.requires.boxes
 
 pub returns-clause-tree : goal.returns-clause-tree
 returns-clause-tree g c =

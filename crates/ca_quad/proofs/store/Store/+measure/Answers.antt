@@ -1,3 +1,4 @@
+use Rattle.ca_quad.specs.Trees.{IsIn}
 use Rattle.ca_quad.specs.inner.Measure.{IsMeasureOf}
 use Rattle.ca_quad.proofs.Measures.{measure_parts, one_more}
 use Rattle.ca_quad.proofs.store.Store.+measure.Goals as goal
@@ -13,5 +14,5 @@ returns-in_ok-put-in-Parts-clause-measure g t c =
 
 pub returns-in_ok-put-in-Parts-clause-measures : goal.returns-in_ok-put-in-Parts-clause-measures
 returns-in_ok-put-in-Parts-clause-measures g t c =
-    one_more (IsMeasureOf g.M.Measure.is c.args.self.now) c.measure-in-Parts-3.new.measures c.put.new.self c.args.id c.of_four-measure.result c.in_ok-se-in-Parts.ensures.measures
-    (returns-in_ok-put-in-Parts-clause-measure g t c) c.in_ok-put-in-Parts.ensures
+    one_more (λ id value. IsIn c.args.self.now id × IsMeasureOf g.M.Measure.is c.args.self.now id value) c.measure-in-Parts-3.new.measures c.put.new.self c.args.id c.of_four-measure.result c.in_ok-se-in-Parts.ensures.measures
+    (c.requires.known, returns-in_ok-put-in-Parts-clause-measure g t c) c.in_ok-put-in-Parts.ensures
