@@ -9,7 +9,7 @@ use crate::store::extent::Extent;
 use std::alloc::Global;
 use std::marker::Model;
 
-// So many boxes are remembered at most before a walk begins, some 10 MB of them.
+// So many boxes are remembered at most from one walk to the next, some 10 MB of them.
 const MOST: usize = 1 << 16;
 
 /// The least boxes round the live cells of some squares of one store, as `Store::bounds_with` has found them.

@@ -46,9 +46,9 @@ impl Store {
             (IsLeastWideBox (cell self.now tree))) }
         ensures boxes { OnOk result (AreSquareBoxes self.now boxes.new) }
     {
-        boxes.make_room(alloc);
         let half = half_side(self.level(tree.root));
         let extent: Option<Extent> = self.measure(tree.root, &mut boxes.boxes)?;
+        boxes.make_room(alloc);
         let Some(extent) = extent else {
             return Ok(None);
         };
