@@ -138,13 +138,14 @@ def try_unread(files):
 def try_unneeded(files):
     """No file is opened but the one of the rule that isn't known: a run that opens a pipe which nobody writes doesn't end."""
     spread, text = files.path("spread.rule", SPREAD), pattern_of("Spread")
-    for name in ("s23b3", "B3S23", "Spread", "Other"):
+    for name in ("s23b3", "B3S23", "Spread", "Other", "Used:T10,10"):
         os.mkfifo(os.path.join(files.rules, f"{name}.rule"))
     files.rule("Used.rule", rule_of("Used"))
     used, wanted = pattern_of("Used")
     large = files.path("large", PATTERNS["state_table"][0])
     runs = [(["show", files.path("used", used)], wanted), (["show", files.path("table", text[0]), "--rule", spread], text[1]),
-            (["show", large, "--rule", spread], fault("state too large"))]
+            (["show", large, "--rule", spread], fault("state too large")),
+            (["show", files.path("bounded", pattern_of("Used:T10,10")[0])], fault("bad rule: bounded"))]
     for rule in ("s23b3", "B3S23"):
         runs.append((["show", files.path(rule, f"x = 1, y = 1, rule = {rule}\no!\n")], ample(b"format rle\nrule B3/S23\ngen 0\ncells 1\nbox 0 0 1 1\n")))
     runs += [(["show", files.path(name, PATTERNS[name][0])], fault(PATTERNS[name][1])) for name in ("no_end", "bounded_mc", "wakes", "state")]
