@@ -2,6 +2,7 @@
 """`identify`: the claim text that it prints, of files whose claims are known, of soups that are run here, and of all files of examples/, whose text is proved by
 `verify`; how far patterns grow of which no claim is true; names, paths and rule files; files that are refused; and how far it looks."""
 import os
+import random
 import re
 import tempfile
 
@@ -187,6 +188,14 @@ def try_growth(tally, files):
     tally.expect("a cell in a corner of the range", run(["identify", corner, "--limit", "3"]), ample(entry("corner", corner, shown_after(corner, 3)).encode()))
     ends = files.path("ends.rle", f"#CXRLE Pos={-edge},{-edge}\nx = {side}, y = {side}, rule = B3/S23\n3o{side - 2}${side - 2}b2o${side - 2}b2o!\n")
     tally.expect("patterns in two corners of the range", run(["identify", ends, "--limit", "1"]), ample(entry("ends", ends, none_within(1, 7, side - 1, side + 1)).encode()))
+
+
+def try_many_squares(tally, files):
+    """Blinkers that lie so far apart that each generation has some 100000 different squares."""
+    chance = random.Random(7)
+    corners = {(chance.randrange(1 << 40), chance.randrange(1 << 40)) for _ in range(4000)}
+    path = files.path("apart.rle", rle.tidy({(x + i, y): 1 for x, y in corners for i in range(3)}, "B3/S23", 0, 2))
+    tally.expect("blinkers far apart", run(["identify", path]), ample(entry("apart", path, "oscillator 2").encode()))
 
 
 def try_after(tally, files):
@@ -416,7 +425,7 @@ def main():
     try_known(tally)
     try_true_claims(tally)
     try_limits(tally)
-    for trial in (try_squares, try_growth, try_after, try_all, try_names, try_refused, try_rules):
+    for trial in (try_squares, try_growth, try_many_squares, try_after, try_all, try_names, try_refused, try_rules):
         with tempfile.TemporaryDirectory() as folder:
             trial(tally, Folder(folder))
     tally.finish()

@@ -1,4 +1,4 @@
-//! The least boxes of squares, so that no walk measures a square that an earlier one did.
+//! The least boxes of squares, so that a walk need not measure a square that an earlier one did.
 
 ghost use Rattle.std.specs.Prelude.{List};
 ghost use Rattle.ca_quad.specs.declared.node.Node.{Node};

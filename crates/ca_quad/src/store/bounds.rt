@@ -29,7 +29,8 @@ impl Store {
         self.bounds_with(alloc, tree, &mut SquareBoxes::new(alloc))
     }
 
-    /// The same box, of squares that may have been measured before. Those that are measured now are remembered too.
+    /// The same box, of squares that may have been measured before. Those that are measured now are remembered
+    /// too, as long as they are not too many.
     ///
     /// # Errors
     ///
