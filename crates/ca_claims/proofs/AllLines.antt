@@ -7,7 +7,7 @@ use Rattle.ca_plane.specs.Bytes.{lines_of, words_of}
 use Rattle.ca_claims.specs.declared.claims.reading.Reading.{Reading}
 use Rattle.ca_claims.specs.declared.fault.ClaimFault.{ClaimFault}
 use Rattle.ca_claims.specs.declared.fault.ClaimFault.TheVariants.{Syntax, Number, UnknownName, NameTaken, Memory}
-use Rattle.ca_claims.specs.Text.{ClaimTextLine, ClaimLinesSay, spoken}
+use Rattle.ca_claims.specs.Text.{ClaimTextLine, ClaimLinesSay, said_lines}
 use Rattle.ca_claims.specs.TextFaults.{HasClaimLine, AreMisspelledClaimWords, HaveBadNumber, AskUnknown, LoadTaken, NeedMemory, IsFirstClaimFault}
 use Rattle.ca_claims.specs.inner.Reading.{IsClaimReading, SaysNext, HasClaimFault}
 use Rattle.ca_claims.proofs.LinesSaid.{ClaimLinesSay-push, length_said}
@@ -40,7 +40,7 @@ module _ (bytes rest : List ℕ) (number : ℕ) (reading : Reading) (so_far : Ha
 
   -- one more line
   pub one_read : (line later : List ℕ) (after : Reading) → lines_of rest ≡ line ∷ lines_of later → length later < length rest
-      → ((said : List (Option ClaimTextLine)) → IsClaimReading said reading → number + 1 ≡ length said + 1 → (s : Option ClaimTextLine) × SaysNext (spoken said) (words_of line) s × IsClaimReading (said ++ s ∷ []) after)
+      → ((said : List (Option ClaimTextLine)) → IsClaimReading said reading → number + 1 ≡ length said + 1 → (s : Option ClaimTextLine) × SaysNext (said_lines said) (words_of line) s × IsClaimReading (said ++ s ∷ []) after)
       → HasRead bytes later (number + 1) after
   one_read line later after next shorter says =
       let s = says so_far.said so_far.read number_said in
@@ -55,7 +55,7 @@ module _ (bytes rest : List ℕ) (number : ℕ) (reading : Reading) (so_far : Ha
       }
 
   -- the line that follows, of whose words this holds
-  next_line : (P : List ClaimTextLine → List (List ℕ) → Type 0) (line later : List ℕ) (n : ℕ) → lines_of rest ≡ line ∷ lines_of later → n ≡ number + 1 → P (spoken so_far.said) (words_of line) → HasClaimLine bytes n P
+  next_line : (P : List ClaimTextLine → List (List ℕ) → Type 0) (line later : List ℕ) (n : ℕ) → lines_of rest ≡ line ∷ lines_of later → n ≡ number + 1 → P (said_lines so_far.said) (words_of line) → HasClaimLine bytes n P
   next_line P line later n next e holds =
       let counted = so_far.counted in
       record {
@@ -70,7 +70,7 @@ module _ (bytes rest : List ℕ) (number : ℕ) (reading : Reading) (so_far : Ha
       }
 
   -- its fault is the first of the text
-  fault_next : (line later : List ℕ) → lines_of rest ≡ line ∷ lines_of later → (f : ClaimFault) → HasClaimFault (number + 1) (spoken so_far.said) (words_of line) f → IsFirstClaimFault bytes f
+  fault_next : (line later : List ℕ) → lines_of rest ≡ line ∷ lines_of later → (f : ClaimFault) → HasClaimFault (number + 1) (said_lines so_far.said) (words_of line) f → IsFirstClaimFault bytes f
   fault_next line later next (Syntax n) h = next_line AreMisspelledClaimWords line later n next h.0 h.1
   fault_next line later next (Number n) h = next_line HaveBadNumber line later n next h.0 h.1
   fault_next line later next (UnknownName n) h = next_line AskUnknown line later n next h.0 h.1
@@ -79,7 +79,7 @@ module _ (bytes rest : List ℕ) (number : ℕ) (reading : Reading) (so_far : Ha
 
   -- so is the one that `?` passes on
   pub first_fault : {T : Type 0} (line later : List ℕ) → lines_of rest ≡ line ∷ lines_of later → (r : Result T ClaimFault) (f : ClaimFault) → IsErrAnd r (λ passed. passed ≡ f)
-      → ((said : List (Option ClaimTextLine)) → IsClaimReading said reading → HasClaimFault (number + 1) (spoken said) (words_of line) f) → IfErr r (λ g. IsFirstClaimFault bytes g)
+      → ((said : List (Option ClaimTextLine)) → IsClaimReading said reading → HasClaimFault (number + 1) (said_lines said) (words_of line) f) → IfErr r (λ g. IsFirstClaimFault bytes g)
   first_fault line later next r f h faults =
       let p = err_from_is_err_and r h in
       subst (λ o. IfErr o (λ g. IsFirstClaimFault bytes g)) (sym p.1) (subst (IsFirstClaimFault bytes) (sym p.2) (fault_next line later next f (faults so_far.said so_far.read)))

@@ -25,20 +25,20 @@ use Rattle.ca_claims.specs.declared.verdict.Verdict.{Verdict}
 use Rattle.ca_claims.specs.declared.verdict.Verdict.TheVariants.{Yes, No, Refused}
 use Rattle.ca_claims.specs.declared.verifier.one_or_two.OneOrTwo.{OneOrTwo}
 use Rattle.ca_claims.specs.declared.verifier.one_or_two.OneOrTwo.TheVariants.{One, Two}
-use Rattle.ca_claims.specs.declared.verifier.prepared.Prepared.{Prepared}
+use Rattle.ca_claims.specs.declared.verifier.prepared.PreparedClaim.{PreparedClaim}
 use Rattle.ca_claims.specs.declared.verifier.agreement.Disagreement.{Disagreement}
 use Rattle.ca_claims.specs.declared.verifier.agreement.Disagreement.TheVariants.{Large, Mixed}
 use Rattle.ca_claims.specs.declared.verifier.agreement.Disagreement.TheVariants as disagreement
 use Rattle.ca_claims.specs.declared.verdict.PatternFault.{PatternFault}
 use Rattle.ca_claims.specs.declared.verdict.PatternFault.TheVariants as pattern_fault
 use Rattle.ca_claims.specs.declared.refusal.About.TheVariants as about
-use Rattle.ca_claims.specs.declared.refusal.Part.{Part}
-use Rattle.ca_claims.specs.declared.refusal.Part.TheVariants.{First, Second}
+use Rattle.ca_claims.specs.declared.refusal.WhichPattern.{WhichPattern}
+use Rattle.ca_claims.specs.declared.refusal.WhichPattern.TheVariants.{First, Second}
 use Rattle.ca_claims.specs.declared.refusal.Refusal.{Refusal}
-use Rattle.ca_claims.specs.declared.decide.Subject.{Subject}
-use Rattle.ca_claims.specs.declared.ruled.Ruled.{Ruled}
-use Rattle.ca_claims.specs.declared.ruled.Unnamed.{Unnamed}
-use Rattle.ca_claims.specs.Text.{Claim, patterns_of, about, HasGoodNumbers}
+use Rattle.ca_claims.specs.declared.decide.ClaimTrees.{ClaimTrees}
+use Rattle.ca_claims.specs.declared.ruled.RuledPattern.{RuledPattern}
+use Rattle.ca_claims.specs.declared.ruled.UnnamedRule.{UnnamedRule}
+use Rattle.ca_claims.specs.Text.{Claim, patterns_of, map_patterns, HasGoodNumbers}
 use Rattle.ca_claims.specs.Places.{path_at}
 use Rattle.ca_claims.specs.Means.{bytes_at, IsReadable, MayWantMemory}
 use Rattle.ca_claims.specs.Truth.{asks_of, wanted_cells}
@@ -46,17 +46,17 @@ use Rattle.ca_claims.specs.inner.Decided.{IsBounded, IsDecided}
 use Rattle.ca_claims.specs.Limited.{IsNoMoreThan}
 use Rattle.ca_claims.specs.Answers.{IsPatternFaultOn, IsBadPatternOn, AreTables, IsMissing, IsThere, IsReadableFile, HasRule, IsSmall, SomeOf, FirstIs, HaveOtherRules, HasCause, IsGoodPattern, AreGood, IsJudged, IsTrueVerdict, IsBadPattern, IsUnnamed, IsUnnamedBy, IsLarge, IsCrowded, WantsMemory}
 use Rattle.ca_claims.specs.inner.Subjects.{ShowsTree, IsPattern, AreShown, IsSubject}
-use Rattle.ca_claims.specs.inner.Prepared.{IsPrepared, IsFit, AreFewCounted, IsCountRefused, wanted_tree, wanted_part, last_part, refusal_for, disagreement_refusal}
+use Rattle.ca_claims.specs.inner.PreparedClaim.{IsPrepared, IsFit, AreFewCounted, IsCountRefused, wanted_tree, wanted_part, last_part, refusal_for, disagreement_refusal}
 use Rattle.ca_claims.specs.inner.Found.{IsFound}
 use Rattle.ca_claims.specs.inner.Refusals.{IsRefusal, IsOnVerdict, IsJudgedOn}
 use Rattle.ca_claims.specs.inner.Patterns.{items, IsEachOnce, FirstBadAt, IsReadFrom, IsUnreadFor, HasName, IsUnnamedFor, rule_of, IsRuledAs, ShowsLarge, ShowsSmall, AreOfOneRule, AreMixed, Disagree, AreBoth}
 use Rattle.ca_claims.proofs.ClaimKinds.{asks_bounded, paths_of}
 use Rattle.ca_claims.proofs.PatternsRead.{fault_on, IsReadAt, IsRuledAt, path_has_fault, path_has_rule, path_is_unnamed, path_reads, ruled_path_reads, ruled_at, ruled_has_rule, ruled_is_good, ruled_is_large, ruled_is_small, ruled_picture, ruled_reads, tree_shows, wanted}
-use Rattle.ca_claims.proofs.Shown.{few_shown, many_shown, few_none, none_many}
+use Rattle.ca_claims.proofs.EqualCells.{few_shown, many_shown, few_none, none_many}
 use Rattle.ca_claims.proofs.Spending.{used_up}
-use Rattle.ca_claims.proofs.Told.{read_pattern}
+use Rattle.ca_claims.proofs.WrittenForms.{read_pattern}
 use Rattle.ca_claims.proofs.Parts.{first_part, zip_part}
-use Rattle.ca_claims.proofs.Zipped.{some_first, zip_left, zip_beside, zip_first, zip_front, zip_through}
+use Rattle.ca_claims.proofs.PairedLists.{some_first, zip_left, zip_beside, zip_first, zip_front, zip_through}
 
 -- ---- the paths of a claim's patterns
 
@@ -66,7 +66,7 @@ once_map f each all (inl same) = inl (ap (map f) same)
 once_map f each all (inr (x, e, d)) = inr (f x, ap (map f) e, ap (map f) d)
 
 -- and so do the paths at indices
-pub once_paths : (paths : List (List ℕ)) (claim : ClaimOf ℕ) (places : List ℕ) → IsEachOnce places (patterns_of claim) → IsEachOnce (map (path_at paths) places) (patterns_of (about (path_at paths) claim))
+pub once_paths : (paths : List (List ℕ)) (claim : ClaimOf ℕ) (places : List ℕ) → IsEachOnce places (patterns_of claim) → IsEachOnce (map (path_at paths) places) (patterns_of (map_patterns (path_at paths) claim))
 once_paths paths claim places once =
     subst (IsEachOnce (map (path_at paths) places)) (sym (paths_of (path_at paths) claim)) (once_map (path_at paths) places (patterns_of claim) once)
 
@@ -95,13 +95,13 @@ module _ (files : List (List ℕ × List ℕ)) (paths : List (List ℕ)) (found 
   found_there (i ∷ is) (b ∷ bs) within at = (bytes_found files paths found i (Some b) same within.0 at.0, found_there is bs within.1 at.1)
 
   -- and where one is missing, no file has its path
-  pub found_missing : (rules : List (List ℕ)) (asks : Asks) (part : Part) (places : List ℕ) → AllByRecursion (λ i. i < length found) places
+  pub found_missing : (rules : List (List ℕ)) (asks : Asks) (part : WhichPattern) (places : List ℕ) → AllByRecursion (λ i. i < length found) places
       → FirstBadAt part places (IsFound found) (λ i. get_or found i None ≡ None) → IsRefusal files paths rules asks (map (path_at paths) places) (record { cause = NoFile; about = about.Pattern part None None })
   found_missing rules asks part places within bad =
       let at = missing part places within bad in
       record { holds = inl (some_first (IsThere files) (IsMissing files) (map (path_at paths) places) (first_part (IsThere files) (IsMissing files) part (map (path_at paths) places) at)); idle = λ e. cc; on = (refl, refl, at) }
     where
-      missing : (p : Part) (is : List ℕ) → AllByRecursion (λ i. i < length found) is → FirstBadAt p is (IsFound found) (λ i. get_or found i None ≡ None)
+      missing : (p : WhichPattern) (is : List ℕ) → AllByRecursion (λ i. i < length found) is → FirstBadAt p is (IsFound found) (λ i. get_or found i None ≡ None)
           → FirstBadAt p (map (path_at paths) is) (IsThere files) (IsMissing files)
       missing First [] all none = absurd none
       missing First (i ∷ is) all none = bytes_found files paths found i None same all.0 none
@@ -161,7 +161,7 @@ module _ (nodes : List Node) (files : List (List ℕ × List ℕ)) where
       zip_through (λ path b. bytes_at files path ≡ Some b.now) (λ b p. IsReadFrom nodes b.now p) (IsReadAt nodes files) (λ path b p e read. record { bytes = b.now; at_path = e; read = read })
 
   -- the patterns with the rules that their texts name
-  pub ruled_each : (tables : List TableRule) (paths : List (List ℕ)) (patterns : List Loaded) (ruled : List Ruled) → AllZip (IsReadAt nodes files) paths patterns → AllZip (IsRuledAs tables) patterns ruled
+  pub ruled_each : (tables : List TableRule) (paths : List (List ℕ)) (patterns : List Loaded) (ruled : List RuledPattern) → AllZip (IsReadAt nodes files) paths patterns → AllZip (IsRuledAs tables) patterns ruled
       → AllZip (λ path r. IsRuledAt nodes files path tables r) paths ruled
   ruled_each tables =
       zip_through (IsReadAt nodes files) (IsRuledAs tables) (λ path r. IsRuledAt nodes files path tables r) (λ path p r. ruled_at nodes files path tables p r)
@@ -174,7 +174,7 @@ right_all R Q f (x ∷ xs) [] all = absurd all
 right_all R Q f (x ∷ xs) (y ∷ ys) all = (f x y all.0, right_all R Q f xs ys all.1)
 
 -- the trees of patterns that were read are in the store
-module _ (nodes : List Node) (there : List (Bor (List ℕ))) (tables : List TableRule) (patterns : List Loaded) (ruled : List Ruled) (read : AllZip (λ b p. IsReadFrom nodes b.now p) there patterns)
+module _ (nodes : List Node) (there : List (Bor (List ℕ))) (tables : List TableRule) (patterns : List Loaded) (ruled : List RuledPattern) (read : AllZip (λ b p. IsReadFrom nodes b.now p) there patterns)
     (named : AllZip (IsRuledAs tables) patterns ruled) where
   read_ruled : AllZip (λ b r. IsReadFrom nodes b.now r.pattern) there ruled
   read_ruled =
@@ -189,7 +189,7 @@ module _ (nodes : List Node) (there : List (Bor (List ℕ))) (tables : List Tabl
   are_patterns = right_all (λ b r. IsReadFrom nodes b.now r.pattern) (λ r. IsPattern nodes r.pattern.tree) (λ b r is. read_pattern nodes b.now r.pattern is) there ruled read_ruled
 
 -- so are those that a claim is judged on
-pub both_are_patterns : (nodes : List Node) (patterns : List Ruled) (subject : Subject) → AllByRecursion (λ r. IsPattern nodes r.pattern.tree) patterns → AreBoth patterns subject
+pub both_are_patterns : (nodes : List Node) (patterns : List RuledPattern) (subject : ClaimTrees) → AllByRecursion (λ r. IsPattern nodes r.pattern.tree) patterns → AreBoth patterns subject
     → IsPattern nodes subject.pattern × IsPattern nodes subject.other
 both_are_patterns nodes [] subject all both = absurd both
 both_are_patterns nodes (a ∷ []) subject all both = (subst (IsPattern nodes) (sym both.0) all.0, subst (IsPattern nodes) (sym both.1) all.0)
@@ -207,7 +207,7 @@ reads_want : (files : List (List ℕ × List ℕ)) (path : List ℕ) → IsReada
 reads_want files path reads = (reads.0, reads.1, wanted reads.0 reads.2)
 
 module _ (files : List (List ℕ × List ℕ)) (every rules : List (List ℕ)) (asks : Asks) (tables : List TableRule) (are : AreTables files rules tables) where
-  module _ (each : List (List ℕ)) (there : List (Bor (List ℕ))) (at : AllZip (λ path b. bytes_at files path ≡ Some b.now) each there) (part : Part) where
+  module _ (each : List (List ℕ)) (there : List (Bor (List ℕ))) (at : AllZip (λ path b. bytes_at files path ≡ Some b.now) each there) (part : WhichPattern) where
     -- a file doesn't read
     unreadable : (fault : PatternFault) (line : Option ℕ) → FirstBadAt part there (λ b. IsReadable b.now) (λ b. IsPatternFaultOn b.now fault line)
         → IsRefusal files every rules asks each (record { cause = BadPattern fault; about = about.Pattern part line None })
@@ -254,7 +254,7 @@ module _ (files : List (List ℕ × List ℕ)) (every rules : List (List ℕ)) (
 
   module _ (nodes : List Node) where
     -- a rule text names no rule
-    pub unnamed : (each : List (List ℕ)) (patterns : List Loaded) (part : Part) (wrong : Unnamed) → AllZip (IsReadAt nodes files) each patterns
+    pub unnamed : (each : List (List ℕ)) (patterns : List Loaded) (part : WhichPattern) (wrong : UnnamedRule) → AllZip (IsReadAt nodes files) each patterns
         → FirstBadAt part patterns (HasName tables) (λ p. IsUnnamedFor tables p wrong)
         → IsRefusal files every rules asks each (record { cause = BadRule wrong.fault; about = about.Pattern part None (Some wrong.rule_text) })
     unnamed each patterns part wrong read bad =
@@ -269,12 +269,12 @@ module _ (files : List (List ℕ × List ℕ)) (every rules : List (List ℕ)) (
         }
 
     -- the pattern is that of the file with a path, with its rule
-    abbrev At : List ℕ → Ruled → Type 0
+    abbrev At : List ℕ → RuledPattern → Type 0
     At path ruled = IsRuledAt nodes files path tables ruled
 
-    module _ (paths : List (List ℕ)) (patterns : List Ruled) (ruled : AllZip At paths patterns) where
+    module _ (paths : List (List ℕ)) (patterns : List RuledPattern) (ruled : AllZip At paths patterns) where
       -- a state is too large
-      too_large : (part : Part) → FirstBadAt part patterns (ShowsSmall nodes) (ShowsLarge nodes)
+      too_large : (part : WhichPattern) → FirstBadAt part patterns (ShowsSmall nodes) (ShowsLarge nodes)
           → IsRefusal files every rules asks paths (record { cause = StateTooLarge; about = about.Pattern part None None })
       too_large part bad =
           let at = zip_part At (IsSmall files tables) (IsLarge files tables) (ShowsSmall nodes) (ShowsLarge nodes) (λ path r is. ruled_is_small nodes files path tables r is)
@@ -298,7 +298,7 @@ module _ (files : List (List ℕ × List ℕ)) (every rules : List (List ℕ)) (
       all_read = zip_left At (IsReadableFile files) (λ path r at. path_reads nodes files path r.pattern at.read_at) paths patterns ruled
 
     -- the first two patterns have different rules
-    other_rules : (paths : List (List ℕ)) (patterns : List Ruled) → AllZip At paths patterns → AreMixed patterns → SomeOf (λ p. SomeOf (HaveOtherRules files tables p) paths) paths
+    other_rules : (paths : List (List ℕ)) (patterns : List RuledPattern) → AllZip At paths patterns → AreMixed patterns → SomeOf (λ p. SomeOf (HaveOtherRules files tables p) paths) paths
     other_rules paths [] ruled mixed = absurd mixed
     other_rules paths (a ∷ []) ruled mixed = absurd mixed
     other_rules [] (a ∷ b ∷ patterns) ruled mixed = absurd ruled
@@ -315,19 +315,19 @@ module _ (files : List (List ℕ × List ℕ)) (every rules : List (List ℕ)) (
         )))
 
     -- memory is needed for patterns with rules
-    wanting : (paths : List (List ℕ)) (patterns : OneOrTwo Ruled) → AllZip At paths (items patterns) → HasCause files rules asks paths Memory
+    wanting : (paths : List (List ℕ)) (patterns : OneOrTwo RuledPattern) → AllZip At paths (items patterns) → HasCause files rules asks paths Memory
     wanting [] (One a) ruled = absurd ruled
     wanting [] (Two a b) ruled = absurd ruled
     wanting (p ∷ paths) (One a) ruled = let reads = all_read (p ∷ paths) (a ∷ []) ruled in read_wanting (p ∷ paths) reads reads.0
     wanting (p ∷ paths) (Two a b) ruled = let reads = all_read (p ∷ paths) (a ∷ b ∷ []) ruled in read_wanting (p ∷ paths) reads reads.0
 
     -- so a claim about them is refused where there is none
-    pub no_memory : (paths : List (List ℕ)) (patterns : OneOrTwo Ruled) → AllZip At paths (items patterns)
+    pub no_memory : (paths : List (List ℕ)) (patterns : OneOrTwo RuledPattern) → AllZip At paths (items patterns)
         → IsRefusal files every rules asks paths (record { cause = Memory; about = about.Claim })
     no_memory paths patterns ruled = record { holds = wanting paths patterns ruled; idle = λ e. cc; on = inr (inr refl) }
 
     -- the patterns have no one rule under which their states are small
-    pub disagreed : (paths : List (List ℕ)) (patterns : OneOrTwo Ruled) (why : Disagreement) → AllZip At paths (items patterns) → Disagree nodes (items patterns) why
+    pub disagreed : (paths : List (List ℕ)) (patterns : OneOrTwo RuledPattern) (why : Disagreement) → AllZip At paths (items patterns) → Disagree nodes (items patterns) why
         → IsRefusal files every rules asks paths (disagreement_refusal why)
     disagreed paths patterns (Large part) ruled h = too_large paths (items patterns) ruled part h
     disagreed paths patterns Mixed ruled h =
@@ -342,10 +342,10 @@ module _ (files : List (List ℕ × List ℕ)) (every rules : List (List ℕ)) (
       other_shown : Picture
       good : AreGood files tables paths shown other_shown rule
 
-    good_under : (path : List ℕ) (a : Ruled) (at : At path a) (rule : RuleValue) → rule ≡ rule_of a → ShowsSmall nodes a → IsGoodPattern files tables path (ruled_picture nodes files path tables a at) rule
+    good_under : (path : List ℕ) (a : RuledPattern) (at : At path a) (rule : RuleValue) → rule ≡ rule_of a → ShowsSmall nodes a → IsGoodPattern files tables path (ruled_picture nodes files path tables a at) rule
     good_under path a at rule e small = subst (IsGoodPattern files tables path (ruled_picture nodes files path tables a at)) (sym e) (ruled_is_good nodes files path tables a at small)
 
-    agreed : (paths : List (List ℕ)) (patterns : OneOrTwo Ruled) (rule : RuleValue) → AllZip At paths (items patterns)
+    agreed : (paths : List (List ℕ)) (patterns : OneOrTwo RuledPattern) (rule : RuleValue) → AllZip At paths (items patterns)
         → AllByRecursion (ShowsSmall nodes) (items patterns) → AreOfOneRule (items patterns) rule → Agreed paths rule
     agreed [] (One a) rule ruled small one = absurd ruled
     agreed (p ∷ q ∷ paths) (One a) rule ruled small one = absurd ruled.1
@@ -371,11 +371,11 @@ module _ (files : List (List ℕ × List ℕ)) (every rules : List (List ℕ)) (
     -- ---- what is judged
 
     -- the tree of a pattern shows its file's picture
-    tree_shown : (path : List ℕ) (a : Ruled) (at : At path a) (tree : Tree) → tree ≡ a.pattern.tree → ShowsTree nodes tree (ruled_picture nodes files path tables a at)
+    tree_shown : (path : List ℕ) (a : RuledPattern) (at : At path a) (tree : Tree) → tree ≡ a.pattern.tree → ShowsTree nodes tree (ruled_picture nodes files path tables a at)
     tree_shown path a at tree e = subst (λ t. ShowsTree nodes t (ruled_picture nodes files path tables a at)) (sym e) (λ x y. sym (tree_shows nodes files path tables a at x y))
 
     -- the trees show the pictures on which the patterns agree
-    all_shown : (paths : List (List ℕ)) (patterns : OneOrTwo Ruled) (subject : Subject) (rule : RuleValue) (ruled : AllZip At paths (items patterns))
+    all_shown : (paths : List (List ℕ)) (patterns : OneOrTwo RuledPattern) (subject : ClaimTrees) (rule : RuleValue) (ruled : AllZip At paths (items patterns))
         (small : AllByRecursion (ShowsSmall nodes) (items patterns)) (one : AreOfOneRule (items patterns) rule) → AreBoth (items patterns) subject
         → AreShown nodes subject (agreed paths patterns rule ruled small one).shown (agreed paths patterns rule ruled small one).other_shown
     unfolding agreed
@@ -393,7 +393,7 @@ module _ (files : List (List ℕ × List ℕ)) (every rules : List (List ℕ)) (
     some_is e = cc
 
     -- where the wanted tree's cells are too many, so are those that are wanted
-    many_wanted : (subject : Subject) (cells other : Picture) → AreShown nodes subject cells other → (wanted : Wanted) (tree : Tree) → wanted_tree wanted subject ≡ Some tree
+    many_wanted : (subject : ClaimTrees) (cells other : Picture) → AreShown nodes subject cells other → (wanted : Wanted) (tree : Tree) → wanted_tree wanted subject ≡ Some tree
         → HasTooManyCells (trees.cell nodes tree) → HasTooManyCells (cell (wanted_cells wanted cells other))
     many_wanted subject cells other shown Own tree is many =
         many_shown (trees.cell nodes subject.pattern) (cell cells) (λ x y. sym (shown.one x y)) (subst (λ t. HasTooManyCells (trees.cell nodes t)) (sym (some_is is)) many)
@@ -402,14 +402,14 @@ module _ (files : List (List ℕ × List ℕ)) (every rules : List (List ℕ)) (
     many_wanted subject cells other shown NoCells tree is many = let no : ⊥ = cc in absurd no
 
     -- and where they are few
-    few_wanted : (subject : Subject) (cells other : Picture) → AreShown nodes subject cells other → (wanted : Wanted)
+    few_wanted : (subject : ClaimTrees) (cells other : Picture) → AreShown nodes subject cells other → (wanted : Wanted)
         → IfSome (wanted_tree wanted subject) (λ tree. HasFewCells (trees.cell nodes tree)) → HasFewCells (cell (wanted_cells wanted cells other))
     few_wanted subject cells other shown Own few = few_shown (trees.cell nodes subject.pattern) (cell cells) (λ x y. sym (shown.one x y)) few
     few_wanted subject cells other shown Other few = few_shown (trees.cell nodes subject.other) (cell other) (λ x y. sym (shown.two x y)) few
     few_wanted subject cells other shown NoCells few = few_none
 
     -- that pattern is crowded
-    part_crowded : (paths : List (List ℕ)) (patterns : List Ruled) → AllZip At paths patterns → (cells other : Picture) (rule : RuleValue) → AreGood files tables paths cells other rule
+    part_crowded : (paths : List (List ℕ)) (patterns : List RuledPattern) → AllZip At paths patterns → (cells other : Picture) (rule : RuleValue) → AreGood files tables paths cells other rule
         → (wanted : Wanted) → HasTooManyCells (cell (wanted_cells wanted cells other)) → FirstBadAt (wanted_part wanted (last_part patterns)) paths (IsSmall files tables) (IsCrowded files tables)
     part_crowded [] patterns ruled cells other rule good wanted many = absurd good
     part_crowded (p ∷ paths) [] ruled cells other rule good wanted many = absurd ruled
@@ -425,7 +425,7 @@ module _ (files : List (List ℕ × List ℕ)) (every rules : List (List ℕ)) (
     part_crowded (p ∷ q ∷ []) (a ∷ b ∷ patterns) ruled cells other rule good NoCells many = absurd (none_many many)
 
     -- so is why cells aren't known to be few
-    pub crowded : (paths : List (List ℕ)) (patterns : OneOrTwo Ruled) (subject : Subject) (rule : RuleValue) (refusal : Refusal) → AllZip At paths (items patterns)
+    pub crowded : (paths : List (List ℕ)) (patterns : OneOrTwo RuledPattern) (subject : ClaimTrees) (rule : RuleValue) (refusal : Refusal) → AllZip At paths (items patterns)
         → AllByRecursion (ShowsSmall nodes) (items patterns) → AreOfOneRule (items patterns) rule → AreBoth (items patterns) subject
         → IsCountRefused nodes asks subject (last_part (items patterns)) refusal → IsRefusal files every rules asks paths refusal
     crowded paths patterns subject rule refusal ruled small one both (inl memory) =
@@ -441,7 +441,7 @@ module _ (files : List (List ℕ × List ℕ)) (every rules : List (List ℕ)) (
         })
 
     -- a leaper over the trees is prepared
-    pub all_prepared : (paths : List (List ℕ)) (patterns : OneOrTwo Ruled) (prepared : Prepared) → nodes ≡ prepared.leaper.nodes → (rule : RuleValue) → rule ≡ rule_value prepared.leaper.rule
+    pub all_prepared : (paths : List (List ℕ)) (patterns : OneOrTwo RuledPattern) (prepared : PreparedClaim) → nodes ≡ prepared.leaper.nodes → (rule : RuleValue) → rule ≡ rule_value prepared.leaper.rule
         → AllZip At paths (items patterns) → AllByRecursion (ShowsSmall nodes) (items patterns) → AreOfOneRule (items patterns) rule → AreBoth (items patterns) prepared.subject
         → AreFewCounted nodes asks prepared.subject → IsPrepared files rules asks paths prepared
     all_prepared paths patterns prepared same rule under ruled small one both few =
@@ -486,24 +486,24 @@ decided_on files paths rules patterns next cells other asks (No why) decided = t
 decided_on files paths rules patterns next cells other asks (Refused cause) decided = inr decided
 
 -- so it is one of a claim about paths of which each is given once
-pub true_verdict : (files : List (List ℕ × List ℕ)) (rules at : List (List ℕ)) (work : ℕ) (claim : ClaimOf ℕ) (paths : List (List ℕ)) (prepared : Prepared) (verdict : Verdict)
-    → IsEachOnce paths (patterns_of (about (path_at at) claim)) → (is : IsPrepared files rules (asks_of claim.kind) paths prepared)
+pub true_verdict : (files : List (List ℕ × List ℕ)) (rules at : List (List ℕ)) (work : ℕ) (claim : ClaimOf ℕ) (paths : List (List ℕ)) (prepared : PreparedClaim) (verdict : Verdict)
+    → IsEachOnce paths (patterns_of (map_patterns (path_at at) claim)) → (is : IsPrepared files rules (asks_of claim.kind) paths prepared)
     → IsFit work prepared → (verdict ≡ Refused Work → IsNoMoreThan work (asks_of claim.kind) prepared.subject.pattern.level)
-    → IsDecided (next_of (rule_value prepared.leaper.rule)) is.cells is.other (asks_of claim.kind) verdict → IsJudgedOn files at rules work (about (path_at at) claim) verdict about.Claim
+    → IsDecided (next_of (rule_value prepared.leaper.rule)) is.cells is.other (asks_of claim.kind) verdict → IsJudgedOn files at rules work (map_patterns (path_at at) claim) verdict about.Claim
 true_verdict files rules at work claim paths prepared verdict once is fit spent decided =
     let rule = rule_value prepared.leaper.rule in
     let (tables, are, good) = is.agree in
-    let judged : IsJudged files rules (about (path_at at) claim) is.cells is.other rule = ((tables, are, judged_of_all files tables paths (patterns_of (about (path_at at) claim)) is.cells is.other rule once good), is.few) in
+    let judged : IsJudged files rules (map_patterns (path_at at) claim) is.cells is.other rule = ((tables, are, judged_of_all files tables paths (patterns_of (map_patterns (path_at at) claim)) is.cells is.other rule once good), is.few) in
     record {
-      holds = decided_true files rules (about (path_at at) claim) is.cells is.other rule verdict judged decided;
+      holds = decided_true files rules (map_patterns (path_at at) claim) is.cells is.other rule verdict judged decided;
       within = λ out. (is.cells, is.other, rule, judged, used_up prepared.leaper.nodes prepared.subject.pattern is.cells work (asks_of claim.kind) fit.pattern.trimmed is.shown.one (spent out));
-      on = decided_on files at rules (patterns_of (about (path_at at) claim)) (next_of rule) is.cells is.other (asks_of claim.kind) verdict decided;
+      on = decided_on files at rules (patterns_of (map_patterns (path_at at) claim)) (next_of rule) is.cells is.other (asks_of claim.kind) verdict decided;
     }
 
 -- ---- what is judged is fit for it
 
 module _ (nodes : List Node) where
-  pub all_fit : (patterns : List Ruled) (prepared : Prepared) → nodes ≡ prepared.leaper.nodes → AllByRecursion (λ r. IsPattern nodes r.pattern.tree) patterns → AreBoth patterns prepared.subject
+  pub all_fit : (patterns : List RuledPattern) (prepared : PreparedClaim) → nodes ≡ prepared.leaper.nodes → AllByRecursion (λ r. IsPattern nodes r.pattern.tree) patterns → AreBoth patterns prepared.subject
       → prepared.leaper.spent.used ≡ 0 → IsFit prepared.leaper.spent.limit prepared
   all_fit patterns prepared same all both none =
       let each = both_are_patterns nodes patterns prepared.subject all both in
@@ -515,5 +515,5 @@ module _ (nodes : List Node) where
       }
 
 -- so is its subject for a claim
-pub is_subject : (work : ℕ) (kind : Kind) (asks : Asks) (prepared : Prepared) → asks ≡ asks_of kind → HasGoodNumbers kind → IsFit work prepared → IsSubject prepared.leaper.nodes asks prepared.subject
+pub is_subject : (work : ℕ) (kind : Kind) (asks : Asks) (prepared : PreparedClaim) → asks ≡ asks_of kind → HasGoodNumbers kind → IsFit work prepared → IsSubject prepared.leaper.nodes asks prepared.subject
 is_subject work kind asks prepared same good fit = record { pattern = fit.pattern; other = fit.other; bounded = subst IsBounded (sym same) (asks_bounded kind good) }

@@ -10,14 +10,15 @@ use Rattle.ca_claims.specs.declared.claims.line.Kind.TheVariants.{Still, Oscilla
 use Rattle.ca_claims.specs.declared.claims.asks.Asks.{Asks}
 use Rattle.ca_claims.specs.declared.claims.asks.Barred.{Barred}
 use Rattle.ca_claims.specs.declared.claims.asks.Barred.TheVariants.{Nothing, InPlace, Anywhere, EmptyPlane}
-use Rattle.ca_claims.specs.Text.{patterns_of, about, most_generations, IsShift, HasGoodNumbers}
+use Rattle.ca_plane.specs.Limits.{most_generations}
+use Rattle.ca_claims.specs.Text.{patterns_of, map_patterns, IsShift, HasGoodNumbers}
 use Rattle.ca_claims.specs.Truth.{asks_of}
 use Rattle.ca_claims.specs.inner.Decided.{BarsReturns, IsBounded}
 
 -- ---- the claim about other patterns
 
 -- its patterns are the others
-pub paths_of : {P Q : Type 0} (f : P → Q) (claim : ClaimOf P) → patterns_of (about f claim) ≡ map f (patterns_of claim)
+pub paths_of : {P Q : Type 0} (f : P → Q) (claim : ClaimOf P) → patterns_of (map_patterns f claim) ≡ map f (patterns_of claim)
 paths_of {P} f claim = ap (λ l. f claim.pattern ∷ l) (others claim.other)
   where
     others : (o : Option P) → option_to_list (option_map f o) ≡ map f (option_to_list o)
@@ -25,7 +26,7 @@ paths_of {P} f claim = ap (λ l. f claim.pattern ∷ l) (others claim.other)
     others (Some p) = refl
 
 -- patterns that are given the same make the same claim
-pub about_same : {P Q : Type 0} (f g : P → Q) (claim : ClaimOf P) → AllByRecursion (λ p. f p ≡ g p) (patterns_of claim) → about f claim ≡ about g claim
+pub about_same : {P Q : Type 0} (f g : P → Q) (claim : ClaimOf P) → AllByRecursion (λ p. f p ≡ g p) (patterns_of claim) → map_patterns f claim ≡ map_patterns g claim
 about_same {P} f g claim h =
     let first = h.0 in
     let second = others claim.other h.1 in
@@ -36,7 +37,7 @@ about_same {P} f g claim h =
     others (Some p) all = ap Some all.0
 
 -- patterns may be given by way of others
-pub about_twice : {P Q R : Type 0} (f : P → Q) (g : Q → R) (claim : ClaimOf P) → about g (about f claim) ≡ about (λ p. g (f p)) claim
+pub about_twice : {P Q R : Type 0} (f : P → Q) (g : Q → R) (claim : ClaimOf P) → map_patterns g (map_patterns f claim) ≡ map_patterns (λ p. g (f p)) claim
 about_twice {P} f g claim = ap (λ o. record { pattern = g (f claim.pattern); other = o; kind = claim.kind }) (others claim.other)
   where
     others : (o : Option P) → option_map g (option_map f o) ≡ option_map (λ p. g (f p)) o

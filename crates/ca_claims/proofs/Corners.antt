@@ -15,12 +15,12 @@ use Rattle.ca_macro.specs.Pattern.{AreInRange}
 use Rattle.ca_plane.specs.Limits.{IsInRange}
 use Rattle.ca_claims.specs.Text.{IsShift}
 use Rattle.ca_claims.specs.inner.Returns.{IsBroad, IsWide}
-use Rattle.ca_claims.specs.inner.Stages.{IsNear}
+use Rattle.ca_claims.specs.inner.Stages.{IsWithinPlane}
 use Rattle.ca_claims.specs.inner.Subjects.{HasLive, IsNoMove, IsOnlyMove}
 use Rattle.ca_claims.proofs.Searches.{search_within}
 
 -- cells in the square of a plane are all 0, or one is live
-pub dead_or_live : (p : ℤ → ℤ → ℕ) → IsNear p → (((x y : ℤ) → p x y ≡ 0) → ⊥) → HasLive p
+pub dead_or_live : (p : ℤ → ℤ → ℕ) → IsWithinPlane p → (((x y : ℤ) → p x y ≡ 0) → ⊥) → HasLive p
 dead_or_live p near live =
     elim (search_within p (λ _ _. 0) (2 ^ 62) (pos 0) (pos 0)) [
       | inr found ↦ found
@@ -61,7 +61,7 @@ module _ (p q : ℤ → ℤ → ℕ) (dx dy : ℤ) (same : (x y : ℤ) → q x y
       ((omega (arith, ints, left.0, left2.0), omega (arith, ints, top.2, top2.2)), (omega (arith, ints, right.1, right2.1), omega (arith, ints, bottom.3, bottom2.3)))
 
   -- and no cell leaves the square of a plane, where the moved ones are in it
-  pub not_leaves : IsNear q → HasCellOutsidePlane (shifted_cells p dx dy) → ⊥
+  pub not_leaves : IsWithinPlane q → HasCellOutsidePlane (shifted_cells p dx dy) → ⊥
   not_leaves near (x, y, live, out) = live (sym (same x y) ∙ near x y out)
 
 -- where one vector alone may move the other tree's cells onto the tree's, and doesn't, none does
@@ -79,7 +79,7 @@ leaves_none p dx dy range across down (x, y, live, out) =
     out (omega (arith, ints, here, across, down), omega (arith, ints, here, across, down), omega (arith, ints, here, across, down), omega (arith, ints, here, across, down))
 
 -- cells that fit into the square of a plane are 0 elsewhere
-pub fits_near : (p : ℤ → ℤ → ℕ) → FitsPlane p → IsNear p
+pub fits_near : (p : ℤ → ℤ → ℕ) → FitsPlane p → IsWithinPlane p
 fits_near p fits x y out =
     elim (cases_eq (p x y) 0) [
       | inl none ↦ none
@@ -98,7 +98,7 @@ corner_range p box least range =
     (left.0, left.1, top.2, top.3)
 
 -- or in the square of a plane
-corner_near : (q : ℤ → ℤ → ℕ) (box : WideBounds) → wide.IsLeastWideBox q box → IsNear q
+corner_near : (q : ℤ → ℤ → ℕ) (box : WideBounds) → wide.IsLeastWideBox q box → IsWithinPlane q
     → IsInPlane (record { y = box.y0; x = box.x0 })
 corner_near q box least near = (
   not_above _ _ (λ out. least.left.1 (near box.x0 least.left.0 (λ a. out a.0))),
@@ -121,13 +121,13 @@ corner_broad p box least within =
     ((omega (arith, ints, left), omega (arith, ints, left)), (omega (arith, ints, top), omega (arith, ints, top)))
 
 -- or of the square of a plane
-pub corner_wide : (q : ℤ → ℤ → ℕ) (box : WideBounds) → wide.IsLeastWideBox q box → IsNear q → IsWide box.x0 × IsWide box.y0
+pub corner_wide : (q : ℤ → ℤ → ℕ) (box : WideBounds) → wide.IsLeastWideBox q box → IsWithinPlane q → IsWide box.x0 × IsWide box.y0
 corner_wide q box least near =
     let here = corner_near q box least near in
     ((omega (arith, ints, here), omega (arith, ints, here)), (omega (arith, ints, here), omega (arith, ints, here)))
 
 -- the opposite corner lies there too
-pub far_corner_wide : (q : ℤ → ℤ → ℕ) (box : WideBounds) → wide.IsLeastWideBox q box → IsNear q → IsWide box.x1 × IsWide box.y1
+pub far_corner_wide : (q : ℤ → ℤ → ℕ) (box : WideBounds) → wide.IsLeastWideBox q box → IsWithinPlane q → IsWide box.x1 × IsWide box.y1
 far_corner_wide q box least near =
     let left : neg_ℤ (pos (2 ^ 62)) ≤ℤ box.x1 = not_above _ _ (λ out. least.right.1 (near box.x1 least.right.0 (λ a. out a.0))) in
     let right : box.x1 ≤ℤ pos (2 ^ 62) = not_above _ _ (λ out. least.right.1 (near box.x1 least.right.0 (λ a. out a.1))) in

@@ -20,8 +20,8 @@ use Rattle.ca_claims.specs.inner.Returns.{IsSparedBefore, IsFirstReturn}
 use Rattle.ca_claims.specs.declared.decide.Case.{Case}
 use Rattle.ca_claims.specs.inner.Subjects.{ShowsTree, BarsReturn, IsEndTree, IsMove, IsNoMove, AreLeft, IsBackBy}
 use Rattle.ca_claims.proofs.Times.{unmoved}
-use Rattle.ca_claims.proofs.Divided.{changed_before, nowhere_before}
-use Rattle.ca_claims.proofs.Leapt.{shows_after}
+use Rattle.ca_claims.proofs.ReturnsAtDivisors.{changed_before, nowhere_before}
+use Rattle.ca_claims.proofs.LeaptTrees.{shows_after}
 
 -- a pattern that is back at n, and at no proper divisor of n, is back at no time before n
 not_before : (next : List ℕ → ℕ) (p : Picture) (barred : Barred) (n : ℕ) (u v : ℤ) → MayReturnBy barred u v → IsAfter next p n (shifted p u v)

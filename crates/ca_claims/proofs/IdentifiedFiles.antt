@@ -20,7 +20,7 @@ use Rattle.ca_claims.specs.declared.claims.line.Kind.{Kind}
 use Rattle.ca_claims.specs.declared.identity.Identity.{Identity}
 use Rattle.ca_claims.specs.declared.identity.Identity.TheVariants.{Empty, StillLife, Oscillator, Spaceship, Dies, Unknown}
 use Rattle.ca_claims.specs.declared.identity.Unidentified.{Unidentified}
-use Rattle.ca_claims.specs.declared.ruled.Ruled.{Ruled}
+use Rattle.ca_claims.specs.declared.ruled.RuledPattern.{RuledPattern}
 use Rattle.ca_claims.specs.declared.verdict.Cause.{Cause}
 use Rattle.ca_claims.specs.declared.verdict.Cause.TheVariants.{NoFile, BadTable, BadPattern, BadRule, StateTooLarge, MixedRules, TooManyCells, Work, Memory}
 use Rattle.ca_claims.specs.Identified.{IsTrueWithin, IsIdentity, IsIdentified, IsIdentifiedAfter, HoldsSmallPattern, MayNeedWork, MayNeedWorkAfter, IsUnidentifiedFor, IsUnidentified, IsUnidentifiedAfterFor, IsUnidentifiedAfter}
@@ -29,11 +29,11 @@ use Rattle.ca_claims.specs.inner.Patterns.{rule_of}
 use Rattle.ca_claims.specs.inner.Ready.{IsReady}
 use Rattle.ca_claims.specs.inner.Stages.{TakesRunAndSteps}
 use Rattle.ca_claims.specs.inner.Subjects.{ShowsTree}
-use Rattle.ca_claims.proofs.Held.{trimmed_low}
+use Rattle.ca_claims.proofs.CellsNearMiddle.{trimmed_low}
 use Rattle.ca_claims.proofs.Stages.{run_more}
-use Rattle.ca_claims.proofs.Told.{file_begins}
+use Rattle.ca_claims.proofs.WrittenForms.{file_begins}
 
-module _ (nodes : List Node) (bytes : List ℕ) (tables : List TableRule) (ruled : Ruled) (ready : IsReady nodes bytes tables ruled) where
+module _ (nodes : List Node) (bytes : List ℕ) (tables : List TableRule) (ruled : RuledPattern) (ready : IsReady nodes bytes tables ruled) where
   -- a file means the cells that its tree shows
   pub file_shows : ShowsTree nodes ruled.pattern.tree ready.read.cells
   file_shows = λ x y. sym (ready.read.loaded.shows x y)

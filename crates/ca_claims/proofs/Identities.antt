@@ -19,12 +19,12 @@ use Rattle.ca_claims.specs.declared.identity.Growth.{Growth}
 use Rattle.ca_claims.specs.declared.identity.Identity.{Identity}
 use Rattle.ca_claims.specs.declared.identity.Identity.TheVariants.{Unknown}
 use Rattle.ca_claims.specs.Identified.{IsIdentity, IsIdentityAfter, IsTrueWithin, HasNoTrueClaim}
-use Rattle.ca_claims.specs.Text.{longest_period}
+use Rattle.ca_plane.specs.Limits.{longest_period}
 use Rattle.ca_claims.specs.Truth.{IsChanged, IsNowhere, IsLiveAfter}
 use Rattle.ca_claims.specs.inner.Stages.{IsFirst, IsStage, IsReturn, IsLaterTree, IsGrowthOf, AreMoved, AreMovedNowhere, AreOtherUpTo}
 use Rattle.ca_claims.specs.inner.Subjects.{ShowsTree, HasLive}
 use Rattle.ca_claims.proofs.LaterPlanes.{tree_picture}
-use Rattle.ca_claims.proofs.Leapt.{ok_as}
+use Rattle.ca_claims.proofs.LeaptTrees.{ok_as}
 use Rattle.ca_claims.proofs.Starts.{near_start, start_near, picture_after}
 use Rattle.ca_claims.proofs.Stages.{changes, least_right, most_right, least_down, most_down}
 

@@ -5,7 +5,7 @@ use Rattle.ca_claims.specs.declared.conversion.ConvertFault.{ConvertFault}
 use Rattle.ca_claims.specs.declared.conversion.ConvertFault.TheVariants as convert_fault
 use Rattle.ca_claims.specs.Converted.{IsSummaryFault}
 use Rattle.ca_claims.specs.Identified.{IsUnidentifiedAfterFor, IsTextOf}
-use Rattle.ca_claims.specs.Refused.{IsDetailOf}
+use Rattle.ca_claims.specs.DetailedFault.{IsDetailOf}
 use Rattle.ca_claims.specs.inner.Patterns.{cause_of}
 
 -- the fault of the file is the cause

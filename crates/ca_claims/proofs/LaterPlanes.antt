@@ -20,7 +20,7 @@ use Rattle.ca_quad.specs.Boxes.{IsDead, IsLeastWideBox}
 use Rattle.ca_quad.specs.Trees as trees
 use Rattle.ca_quad.specs.Trees.{IsTrimmed, HoldsAll}
 use Rattle.ca_quad.specs.Sound.{IsSoundStore}
-use Rattle.ca_quad.proofs.Listed.{tree_population}
+use Rattle.ca_quad.proofs.LiveCells.{tree_population}
 use Rattle.ca_quad.proofs.Reach.{low_fits}
 use Rattle.ca_quad.proofs.Shifts.{some_level}
 use Rattle.ca_macro.specs.Pattern.{AreInRange}
@@ -28,7 +28,7 @@ use Rattle.ca_claims.specs.Ahead.{HasCellOutOfRange}
 use Rattle.ca_claims.specs.inner.Cells.{IsBoxInRange, IsBoxOutOfRange}
 use Rattle.ca_claims.specs.inner.Glance.{AreNearBounds, IsLowTree}
 use Rattle.ca_claims.proofs.FilesRead.{All-each}
-use Rattle.ca_claims.proofs.Held.{range_held, later_held, trimmed_low}
+use Rattle.ca_claims.proofs.CellsNearMiddle.{range_held, later_held, trimmed_low}
 
 -- ---- where they are live
 

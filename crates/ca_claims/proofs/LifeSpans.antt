@@ -12,8 +12,8 @@ use Rattle.ca_claims.specs.declared.decide.Case.{Case}
 use Rattle.ca_claims.specs.inner.Returns.{IsLifeSpan}
 use Rattle.ca_claims.specs.inner.Subjects.{ShowsTree, HasLive, BarsDeath, IsEndTree, AreLifeBounds}
 use Rattle.ca_claims.proofs.Deaths.{live_at_all}
-use Rattle.ca_claims.proofs.Leapt.{shows_after, shows_stays}
-use Rattle.ca_claims.proofs.Reasoned.{live_shown, death_is_some}
+use Rattle.ca_claims.proofs.LeaptTrees.{shows_after, shows_stays}
+use Rattle.ca_claims.proofs.Reasons.{live_shown, death_is_some}
 
 module _ (next : List ℕ → ℕ) (nodes : List Node) (case : Case) where
   -- it lives at first, and is dead at last

@@ -5,11 +5,11 @@ use Rattle.std.specs.Str.{bytes_eq}
 use Rattle.std.proofs.lemmas.Bool.{cases_Bool}
 use Rattle.std.proofs.lemmas.List.{append-nil}
 use Rattle.ca_plane.specs.Bytes.{words_of}
-use Rattle.ca_claims.specs.Text.{about, ClaimTextLine, Version, Rule, Load, Claims, path_of, ClaimWordsSay, IsAllowedLine, ClaimLinesSay, spoken, rule_paths, file_paths, claims_from}
+use Rattle.ca_claims.specs.Text.{map_patterns, ClaimTextLine, Version, Rule, Load, Claims, path_of, ClaimWordsSay, IsAllowedLine, ClaimLinesSay, said_lines, rule_paths, file_paths, claims_from}
 use Rattle.ca_claims.specs.inner.Reading.{SaysNext}
 
 -- what lines say and then more lines
-pub spoken-append : (said more : List (Option ClaimTextLine)) → spoken (said ++ more) ≡ spoken said ++ spoken more
+pub spoken-append : (said more : List (Option ClaimTextLine)) → said_lines (said ++ more) ≡ said_lines said ++ said_lines more
 spoken-append [] more = refl
 spoken-append (None ∷ said) more = spoken-append said more
 spoken-append (Some line ∷ said) more = ap (λ l. line ∷ l) (spoken-append said more)
@@ -51,7 +51,7 @@ pub one_before : (earlier : List ClaimTextLine) (line : ClaimTextLine) (lines : 
 one_before earlier line lines = append_assoc earlier (line ∷ []) lines
 
 -- the claims that they make
-pub claims_from-append : (n : ℕ) (earlier : List ClaimTextLine) (said more : List (Option ClaimTextLine)) → claims_from n earlier (said ++ more) ≡ claims_from n earlier said ++ claims_from (n + length said) (earlier ++ spoken said) more
+pub claims_from-append : (n : ℕ) (earlier : List ClaimTextLine) (said more : List (Option ClaimTextLine)) → claims_from n earlier (said ++ more) ≡ claims_from n earlier said ++ claims_from (n + length said) (earlier ++ said_lines said) more
 claims_from-append n earlier [] more = ap (λ k. claims_from k earlier more) (omega arith) ∙ ap (λ l. claims_from (n + 0) l more) (sym (append-nil earlier))
 claims_from-append n earlier (None ∷ said) more =
     claims_from-append (n + 1) earlier said more
@@ -59,20 +59,20 @@ claims_from-append n earlier (None ∷ said) more =
 claims_from-append n earlier (Some Version ∷ said) more =
     let line = Version in
     claims_from-append (n + 1) (earlier ++ line ∷ []) said more
-    ∙ ap (λ l. claims_from (n + 1) (earlier ++ line ∷ []) said ++ l) (same_claims _ _ _ _ more (omega arith) (one_before earlier line (spoken said)))
+    ∙ ap (λ l. claims_from (n + 1) (earlier ++ line ∷ []) said ++ l) (same_claims _ _ _ _ more (omega arith) (one_before earlier line (said_lines said)))
 claims_from-append n earlier (Some (Rule path) ∷ said) more =
     let line = Rule path in
     claims_from-append (n + 1) (earlier ++ line ∷ []) said more
-    ∙ ap (λ l. claims_from (n + 1) (earlier ++ line ∷ []) said ++ l) (same_claims _ _ _ _ more (omega arith) (one_before earlier line (spoken said)))
+    ∙ ap (λ l. claims_from (n + 1) (earlier ++ line ∷ []) said ++ l) (same_claims _ _ _ _ more (omega arith) (one_before earlier line (said_lines said)))
 claims_from-append n earlier (Some (Load name path) ∷ said) more =
     let line = Load name path in
     claims_from-append (n + 1) (earlier ++ line ∷ []) said more
-    ∙ ap (λ l. claims_from (n + 1) (earlier ++ line ∷ []) said ++ l) (same_claims _ _ _ _ more (omega arith) (one_before earlier line (spoken said)))
+    ∙ ap (λ l. claims_from (n + 1) (earlier ++ line ∷ []) said ++ l) (same_claims _ _ _ _ more (omega arith) (one_before earlier line (said_lines said)))
 claims_from-append n earlier (Some (Claims claim) ∷ said) more =
     let line = Claims claim in
-    ap (λ l. (n, about (λ name. (name, unwrap_or (path_of earlier name) [])) claim) ∷ l)
+    ap (λ l. (n, map_patterns (λ name. (name, unwrap_or (path_of earlier name) [])) claim) ∷ l)
     (claims_from-append (n + 1) (earlier ++ line ∷ []) said more
-    ∙ ap (λ l. claims_from (n + 1) (earlier ++ line ∷ []) said ++ l) (same_claims _ _ _ _ more (omega arith) (one_before earlier line (spoken said))))
+    ∙ ap (λ l. claims_from (n + 1) (earlier ++ line ∷ []) said ++ l) (same_claims _ _ _ _ more (omega arith) (one_before earlier line (said_lines said))))
 
 -- each line says something or nothing
 pub length_said : (earlier : List ClaimTextLine) (lines : List (List ℕ)) (said : List (Option ClaimTextLine)) → ClaimLinesSay earlier lines said → length said ≡ length lines
@@ -83,7 +83,7 @@ length_said earlier (l ∷ ls) (None ∷ said) h = ap suc (length_said earlier l
 length_said earlier (l ∷ ls) (Some line ∷ said) h = ap suc (length_said (earlier ++ line ∷ []) ls said h.3)
 
 -- one more line
-pub ClaimLinesSay-push : (earlier : List ClaimTextLine) (lines : List (List ℕ)) (said : List (Option ClaimTextLine)) (l : List ℕ) (s : Option ClaimTextLine) → ClaimLinesSay earlier lines said → SaysNext (earlier ++ spoken said) (words_of l) s → ClaimLinesSay earlier (lines ++ l ∷ []) (said ++ s ∷ [])
+pub ClaimLinesSay-push : (earlier : List ClaimTextLine) (lines : List (List ℕ)) (said : List (Option ClaimTextLine)) (l : List ℕ) (s : Option ClaimTextLine) → ClaimLinesSay earlier lines said → SaysNext (earlier ++ said_lines said) (words_of l) s → ClaimLinesSay earlier (lines ++ l ∷ []) (said ++ s ∷ [])
 ClaimLinesSay-push earlier [] [] l None h next = (next, tt)
 ClaimLinesSay-push earlier [] [] l (Some line) h next =
     (next.0, subst (λ ls. ClaimWordsSay ls (words_of l) line) (append-nil earlier) next.1, subst (λ ls. IsAllowedLine ls line) (append-nil earlier) next.2, tt)
@@ -91,5 +91,5 @@ ClaimLinesSay-push earlier [] (s ∷ said) l t h next = absurd h
 ClaimLinesSay-push earlier (k ∷ ks) [] l t h next = absurd h
 ClaimLinesSay-push earlier (k ∷ ks) (None ∷ said) l t h next = (h.0, ClaimLinesSay-push earlier ks said l t h.1 next)
 ClaimLinesSay-push earlier (k ∷ ks) (Some line ∷ said) l t h next =
-    let after : SaysNext ((earlier ++ line ∷ []) ++ spoken said) (words_of l) t = subst (λ ls. SaysNext ls (words_of l) t) (sym (one_before earlier line (spoken said))) next in
+    let after : SaysNext ((earlier ++ line ∷ []) ++ said_lines said) (words_of l) t = subst (λ ls. SaysNext ls (words_of l) t) (sym (one_before earlier line (said_lines said))) next in
     (h.0, h.1, h.2, ClaimLinesSay-push (earlier ++ line ∷ []) ks said l t h.3 after)

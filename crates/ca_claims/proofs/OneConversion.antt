@@ -20,7 +20,7 @@ use Rattle.ca_claims.specs.Means.{format_of, MeansAs, IsReadableAs, HoldsRuledPa
 use Rattle.ca_claims.specs.Answers.{HasSmallStates}
 use Rattle.ca_claims.specs.Converted.{IsConverted, IsSummary, IsSameSummary, IsSummaryFault, IsConvertFault}
 use Rattle.ca_claims.proofs.Verdicts.{reads_without_fault, one_fault_of, one_ruled, small_or_large, named_or_fault, one_rule_fault_of}
-use Rattle.ca_claims.proofs.FewListed.{population-le}
+use Rattle.ca_claims.proofs.PicturePopulations.{population-le}
 
 -- ---- causes
 

@@ -10,7 +10,7 @@ use Rattle.ca_claims.specs.declared.fault.ClaimFault.{ClaimFault}
 use Rattle.ca_claims.specs.declared.fault.ClaimFault.TheVariants.{Syntax, Number, UnknownName, NameTaken, Memory}
 use Rattle.ca_claims.specs.declared.claims.line.Kind.{Kind}
 use Rattle.ca_claims.specs.declared.claims.line.Kind.TheVariants.{Still, Oscillator, Spaceship, Becomes, BecomesShifted, Dies}
-use Rattle.ca_claims.specs.Text.{Claim, ClaimTextLine, Version, Rule, Load, Claims, WordsClaim, ClaimWordsSay, HasGoodNumbers, IsAllowedLine, ClaimLinesSay, IsClaimText, spoken}
+use Rattle.ca_claims.specs.Text.{Claim, ClaimTextLine, Version, Rule, Load, Claims, WordsClaim, ClaimWordsSay, HasGoodNumbers, IsAllowedLine, ClaimLinesSay, IsClaimText, said_lines}
 use Rattle.ca_claims.specs.TextFaults.{IsFirstClaimFault}
 use Rattle.ca_claims.specs.inner.Reading.{SaysNext, HasClaimFault}
 use Rattle.ca_claims.proofs.LinesSaid.{one_before}
@@ -156,10 +156,10 @@ same_said earlier (l ∷ ls) (s ∷ ss) (t ∷ ts) h k =
 same_said earlier lines s t h k = absurd h
 
 -- what lines say after the first, and what the first says
-spoken_first : (earlier : List ClaimTextLine) (s : Option ClaimTextLine) (said : List (Option ClaimTextLine)) → earlier ++ spoken (s ∷ said) ≡ after_first earlier s ++ spoken said
+spoken_first : (earlier : List ClaimTextLine) (s : Option ClaimTextLine) (said : List (Option ClaimTextLine)) → earlier ++ said_lines (s ∷ said) ≡ after_first earlier s ++ said_lines said
 unfolding after_first
 spoken_first earlier None said = refl
-spoken_first earlier (Some line) said = sym (one_before earlier line (spoken said))
+spoken_first earlier (Some line) said = sym (one_before earlier line (said_lines said))
 
 -- a faulty line says nothing that a line may say
 fault_says_none : (n : ℕ) (earlier : List ClaimTextLine) (words : List (List ℕ)) (f : ClaimFault) (s : Option ClaimTextLine) → f ≢ Memory → HasClaimFault n earlier words f → SaysNext earlier words s → ⊥
@@ -207,7 +207,7 @@ FirstAt n earlier (l ∷ ls) f = HasClaimFault n earlier (words_of l) f ⊎ ((s 
 
 -- a fault after good lines is the first
 first_at : (n : ℕ) (earlier : List ClaimTextLine) (before : List (List ℕ)) (l : List ℕ) (later : List (List ℕ)) (said : List (Option ClaimTextLine)) (f : ClaimFault) → ClaimLinesSay earlier before said
-    → HasClaimFault (length before + n) (earlier ++ spoken said) (words_of l) f → FirstAt n earlier (before ++ l ∷ later) f
+    → HasClaimFault (length before + n) (earlier ++ said_lines said) (words_of l) f → FirstAt n earlier (before ++ l ∷ later) f
 first_at n earlier [] l later [] f good h =
     inl (subst (λ ls. HasClaimFault n ls (words_of l) f) (append-nil earlier) (subst (λ m. HasClaimFault m (earlier ++ []) (words_of l) f) (let e : 0 + n ≡ n = omega arith in e) h))
 first_at n earlier [] l later (s ∷ said) f good h = absurd good
@@ -215,7 +215,7 @@ first_at n earlier (k ∷ ks) l later [] f good h = absurd good
 first_at n earlier (k ∷ ks) l later (s ∷ said) f good h =
     let a = first_says earlier k ks s said good in
     let counted : suc (length ks) + n ≡ length ks + (n + 1) = omega arith in
-    inr (s, a.0, first_at (n + 1) (after_first earlier s) ks l later said f a.1 (subst (λ ls. HasClaimFault (length ks + (n + 1)) ls (words_of l) f) (spoken_first earlier s said) (subst (λ m. HasClaimFault m (earlier ++ spoken (s ∷ said)) (words_of l) f) counted h)))
+    inr (s, a.0, first_at (n + 1) (after_first earlier s) ks l later said f a.1 (subst (λ ls. HasClaimFault (length ks + (n + 1)) ls (words_of l) f) (spoken_first earlier s said) (subst (λ m. HasClaimFault m (earlier ++ said_lines (s ∷ said)) (words_of l) f) counted h)))
 
 -- the first fault of a text is that of its lines
 of_lines : (bytes : List ℕ) (f : ClaimFault) → f ≢ Memory → IsFirstClaimFault bytes f → FirstAt 1 [] (lines_of bytes) f

@@ -12,7 +12,7 @@ use Rattle.ca_claims.specs.declared.verdict.Why.TheVariants.{Empty, Differs, Ear
 use Rattle.ca_claims.specs.declared.claims.asks.Asks.{Asks}
 use Rattle.ca_claims.specs.declared.claims.asks.Barred.{Barred}
 use Rattle.ca_claims.specs.declared.claims.asks.Barred.TheVariants.{EmptyPlane}
-use Rattle.ca_claims.specs.Truth.{claimed, MayReturnBy, IsReason, IsSameReason}
+use Rattle.ca_claims.specs.Truth.{claimed_cells, MayReturnBy, IsReason, IsSameReason}
 use Rattle.ca_claims.proofs.Verdicts.{back, dead}
 
 -- ---- the vector of a return
@@ -66,7 +66,7 @@ one_death next cells other asks m n one two =
 
 -- where a cell isn't the claimed one, the claimed cells don't stand
 not_both : (next : List ℕ → ℕ) (cells other : Picture) (asks : Asks) (x y : ℤ) (found wanted n : ℕ)
-    → IsReason next cells other asks (Differs x y found wanted n) → IsAfter next cells asks.generations (claimed asks cells other) → ⊥
+    → IsReason next cells other asks (Differs x y found wanted n) → IsAfter next cells asks.generations (claimed_cells asks cells other) → ⊥
 not_both next cells other asks x y found wanted n differs stands =
     differs.4 (sym differs.2 ∙ ap (λ k. after next cells k x y) differs.1 ∙ stands x y ∙ differs.3)
 

@@ -14,7 +14,7 @@ use Rattle.ca_claims.specs.declared.format.Format.{Format}
 use Rattle.ca_claims.specs.declared.format.Format.TheVariants.{Rle, Mc}
 use Rattle.ca_claims.specs.Converted.{IsTidyAs, IsConverted}
 use Rattle.ca_claims.proofs.Verdicts.{one_ruled}
-use Rattle.ca_claims.proofs.Written.{tidy_shown}
+use Rattle.ca_claims.proofs.WrittenMeanings.{tidy_shown}
 
 -- a text that is tidy for a picture is so for one that shows the same
 module _ (p q : Picture) (same : IsSame p q) where

@@ -1,21 +1,21 @@
 -- One of a claim's one or two patterns, which is bad, after one that is good.
 use Rattle.std.proofs.Common.{◌≡◌, ℕ, List, [], ◌∷◌, map, Option, Vec, Global, inl, inr, refl, ap, sym, subst}
 use Rattle.std.specs.List.{AllByRecursion, AllZip}
-use Rattle.ca_claims.specs.declared.claims.line.Named.{Named}
+use Rattle.ca_claims.specs.declared.claims.line.NamedPath.{NamedPath}
 use Rattle.ca_claims.specs.declared.refusal.About.{About}
 use Rattle.ca_claims.specs.declared.refusal.About.TheVariants as about
-use Rattle.ca_claims.specs.declared.refusal.Part.{Part}
-use Rattle.ca_claims.specs.declared.refusal.Part.TheVariants.{First, Second}
+use Rattle.ca_claims.specs.declared.refusal.WhichPattern.{WhichPattern}
+use Rattle.ca_claims.specs.declared.refusal.WhichPattern.TheVariants.{First, Second}
 use Rattle.ca_claims.specs.declared.verdict.Cause.{Cause}
 use Rattle.ca_claims.specs.declared.verdict.Cause.TheVariants.{NoFile, BadPattern, BadRule, StateTooLarge, TooManyCells}
 use Rattle.ca_claims.specs.Places.{path_at, named_path}
 use Rattle.ca_claims.specs.Answers.{IsThere, FirstBad, IsOfPattern, IsOfRuleFile}
 use Rattle.ca_claims.specs.Notes.{IsFirstBad}
 use Rattle.ca_claims.specs.inner.Patterns.{IsEachOnce, FirstBadAt, IsListPart}
-use Rattle.ca_claims.specs.inner.Refusals.{IsOn}
+use Rattle.ca_claims.specs.inner.Refusals.{IsCauseAbout}
 
 -- the first bad one
-pub first_part : {X : Type 0} (Good Bad : X → Type 0) (part : Part) (xs : List X) → FirstBadAt part xs Good Bad → FirstBad Good Bad xs
+pub first_part : {X : Type 0} (Good Bad : X → Type 0) (part : WhichPattern) (xs : List X) → FirstBadAt part xs Good Bad → FirstBad Good Bad xs
 first_part Good Bad First [] bad = absurd bad
 first_part Good Bad First (x ∷ xs) bad = inl bad
 first_part Good Bad Second [] bad = absurd bad
@@ -24,7 +24,7 @@ first_part Good Bad Second (x ∷ y ∷ ys) bad = inr (bad.0, inl bad.1)
 
 -- it is bad of what belongs to it
 pub zip_part : {X Y : Type 0} (R : X → Y → Type 0) (Good Bad : X → Type 0) (Right Wrong : Y → Type 0) → ((x : X) (y : Y) → R x y → Right y → Good x)
-    → ((x : X) (y : Y) → R x y → Wrong y → Bad x) → (part : Part) (xs : List X) (ys : List Y) → AllZip R xs ys → FirstBadAt part ys Right Wrong → FirstBadAt part xs Good Bad
+    → ((x : X) (y : Y) → R x y → Wrong y → Bad x) → (part : WhichPattern) (xs : List X) (ys : List Y) → AllZip R xs ys → FirstBadAt part ys Right Wrong → FirstBadAt part xs Good Bad
 zip_part R Good Bad Right Wrong f g First [] [] all bad = absurd bad
 zip_part R Good Bad Right Wrong f g First [] (y ∷ ys) all bad = absurd all
 zip_part R Good Bad Right Wrong f g First (x ∷ xs) [] all bad = absurd all
@@ -37,17 +37,17 @@ zip_part R Good Bad Right Wrong f g Second (x ∷ []) (y ∷ z ∷ zs) all bad =
 zip_part R Good Bad Right Wrong f g Second (x ∷ w ∷ ws) (y ∷ z ∷ zs) all bad = (f x y all.0 bad.0, g w z all.1.0 bad.1)
 
 -- of patterns of which two may be one
-once_part : {X : Type 0} (Good Bad : X → Type 0) (part : Part) (each all : List X) → IsEachOnce each all → FirstBadAt part each Good Bad → FirstBadAt part all Good Bad
+once_part : {X : Type 0} (Good Bad : X → Type 0) (part : WhichPattern) (each all : List X) → IsEachOnce each all → FirstBadAt part each Good Bad → FirstBadAt part all Good Bad
 once_part {X} Good Bad part each all (inl same) bad = subst (λ (l : List X). FirstBadAt part l Good Bad) (sym same) bad
 once_part {X} Good Bad part each all (inr (x, e, d)) bad =
     subst (λ (l : List X). FirstBadAt part l Good Bad) (sym d) (twice part (subst (λ (l : List X). FirstBadAt part l Good Bad) e bad))
   where
-    twice : (p : Part) → FirstBadAt p (x ∷ []) Good Bad → FirstBadAt p (x ∷ x ∷ []) Good Bad
+    twice : (p : WhichPattern) → FirstBadAt p (x ∷ []) Good Bad → FirstBadAt p (x ∷ x ∷ []) Good Bad
     twice First b = b
     twice Second b = absurd b
 
 -- by its name and path
-named_part : (paths : List (List ℕ)) (Good Bad : List ℕ → Type 0) (part : Part) (patterns : List Named) (pattern : Named) → IsListPart part patterns pattern
+named_part : (paths : List (List ℕ)) (Good Bad : List ℕ → Type 0) (part : WhichPattern) (patterns : List NamedPath) (pattern : NamedPath) → IsListPart part patterns pattern
     → FirstBadAt part (map (λ n. path_at paths n.path) patterns) Good Bad → IsFirstBad (map (named_path paths) patterns) pattern.name.now (path_at paths pattern.path) Good Bad
 named_part paths Good Bad First [] pattern is bad = absurd bad
 named_part paths Good Bad First (n ∷ ns) pattern is bad = inl (ap (named_path paths) (sym is), bad)
@@ -67,14 +67,14 @@ module _ (files : List (List ℕ × List ℕ)) (rules : List (List ℕ)) where
   of_pattern F H f cause line text is = absurd is
 
   -- so it is told by its name and path
-  pub told_part : (paths : List (List ℕ)) (part : Part) (patterns : List Named) (pattern : Named) → IsListPart part patterns pattern → (cause : Cause) (line : Option ℕ) (text : Option (Vec ℕ Global))
+  pub told_part : (paths : List (List ℕ)) (part : WhichPattern) (patterns : List NamedPath) (pattern : NamedPath) → IsListPart part patterns pattern → (cause : Cause) (line : Option ℕ) (text : Option (Vec ℕ Global))
       → IsOfPattern files rules cause (FirstBadAt part (map (λ n. path_at paths n.path) patterns)) line text
       → IsOfPattern files rules cause (IsFirstBad (map (named_path paths) patterns) pattern.name.now (path_at paths pattern.path)) line text
   told_part paths part patterns pattern is = of_pattern (FirstBadAt part (map (λ n. path_at paths n.path) patterns)) (IsFirstBad (map (named_path paths) patterns) pattern.name.now (path_at paths pattern.path))
       (λ Good Bad bad. named_part paths Good Bad part patterns pattern is bad)
 
   -- and a cause is about the same of patterns of which two may be one
-  pub on_all : (paths each all : List (List ℕ)) → IsEachOnce each all → (cause : Cause) (on : About) → IsOn files paths rules each cause on → IsOn files paths rules all cause on
+  pub on_all : (paths each all : List (List ℕ)) → IsEachOnce each all → (cause : Cause) (on : About) → IsCauseAbout files paths rules each cause on → IsCauseAbout files paths rules all cause on
   on_all paths each all once cause about.Claim is = is
   on_all paths each all once cause (about.Pattern part line text) is =
       of_pattern (FirstBadAt part each) (FirstBadAt part all) (λ Good Bad bad. once_part Good Bad part each all once bad) cause line text is
@@ -92,6 +92,6 @@ module _ (files : List (List ℕ × List ℕ)) (rules : List (List ℕ)) where
       of_file k path h = h
 
 -- the paths of patterns that are given by their names too
-pub named_paths : (paths : List (List ℕ)) (patterns : List Named) → map (λ p. p.1) (map (named_path paths) patterns) ≡ map (λ n. path_at paths n.path) patterns
+pub named_paths : (paths : List (List ℕ)) (patterns : List NamedPath) → map (λ p. p.1) (map (named_path paths) patterns) ≡ map (λ n. path_at paths n.path) patterns
 named_paths paths [] = refl
 named_paths paths (n ∷ ns) = ap (λ l. path_at paths n.path ∷ l) (named_paths paths ns)

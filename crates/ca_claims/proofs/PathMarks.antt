@@ -8,12 +8,12 @@ use Rattle.std.proofs.lemmas.List.Elements.{All-head, All-tail}
 use Rattle.std.proofs.lemmas.Option.{none-some, same_Some, slice_get-get_or, unwrap_or-slice_get}
 use Rattle.std.proofs.lemmas.Slice.Eq.{bytes_eq-Decides}
 use Rattle.ca_claims.specs.declared.claims.line.ClaimLine.{ClaimLine}
-use Rattle.ca_claims.specs.declared.claims.line.Place.{Place}
+use Rattle.ca_claims.specs.declared.claims.line.NamePlace.{NamePlace}
 use Rattle.ca_claims.specs.Text.{ClaimText, patterns_of, named_patterns}
 use Rattle.ca_claims.specs.Places.{path_at, named_at, claim_with_names, IsNamed}
 use Rattle.ca_claims.specs.Answers.{SomeOf}
-use Rattle.ca_claims.specs.Needed.{IsNeeded}
-use Rattle.ca_claims.specs.inner.Marks.{marked, claims_marked}
+use Rattle.ca_claims.specs.NeededFiles.{IsNeeded}
+use Rattle.ca_claims.specs.inner.Marks.{with_marks, claims_marked}
 use Rattle.ca_claims.proofs.ClaimKinds.{paths_of}
 
 -- ---- lists
@@ -39,11 +39,11 @@ some_map f P (x ∷ xs) =
     )
 
 -- marks are no fewer once some are set
-pub length-marked : (marks : List Bool) (is : List ℕ) → length (marked marks is) ≡ length marks
+pub length-marked : (marks : List Bool) (is : List ℕ) → length (with_marks marks is) ≡ length marks
 length-marked marks [] = refl
 length-marked marks (i ∷ is) = length-marked (set marks i true) is ∙ length-set marks i true
 
-pub length-claims_marked : (marks : List Bool) (claims : List (ClaimLine Place)) → length (claims_marked marks claims) ≡ length marks
+pub length-claims_marked : (marks : List Bool) (claims : List (ClaimLine NamePlace)) → length (claims_marked marks claims) ≡ length marks
 length-claims_marked marks [] = refl
 length-claims_marked marks (l ∷ ls) = length-claims_marked _ ls ∙ length-marked marks (map (λ p. p.path) (patterns_of l.claim))
 
@@ -110,7 +110,7 @@ each_of_all P [] h = tt
 each_of_all P (x ∷ xs) h = (All-head P x xs h, each_of_all P xs (All-tail P x xs h))
 
 -- the indices of places that are within the names and paths
-path_indices : (names paths : List (List ℕ)) (places : List Place) → AllByRecursion (λ p. (p.name < length names) × (p.path < length paths)) places
+path_indices : (names paths : List (List ℕ)) (places : List NamePlace) → AllByRecursion (λ p. (p.name < length names) × (p.path < length paths)) places
     → AllByRecursion (λ i. i < length paths) (map (λ p. p.path) places)
 path_indices names paths [] h = tt
 path_indices names paths (p ∷ ps) h = (h.0.1, path_indices names paths ps h.1)
@@ -120,7 +120,7 @@ path_there : (paths : List (List ℕ)) (i : ℕ) → i < length paths → slice_
 path_there paths i within = slice_get-get_or paths i [] within ∙ ap Some (sym (unwrap_or-slice_get paths i []))
 
 -- a claim's pattern has the path exactly where one of its places has
-pattern_paths : (names paths : List (List ℕ)) (l : ClaimLine Place) (q : List ℕ)
+pattern_paths : (names paths : List (List ℕ)) (l : ClaimLine NamePlace) (q : List ℕ)
     → SomeOf (λ p. p ≡ q) (map (path_at paths) (map (λ p. p.path) (patterns_of l.claim))) ↔ SomeOf (λ n. n.1 ≡ q) (named_patterns (claim_with_names names paths l))
 pattern_paths names paths l q =
     let places = patterns_of l.claim in
@@ -133,23 +133,23 @@ pattern_paths names paths l q =
     )
 
 -- the paths of these claims' patterns
-abbrev pub IsClaimed : List (List ℕ) → List (List ℕ) → List (ClaimLine Place) → List ℕ → Type 0
+abbrev pub IsClaimed : List (List ℕ) → List (List ℕ) → List (ClaimLine NamePlace) → List ℕ → Type 0
 IsClaimed names paths claims q = SomeOf (SomeOf (λ n. n.1 ≡ q)) (map named_patterns (map (claim_with_names names paths) claims))
 
 module _ (names paths : List (List ℕ)) (distinct : IsDistinct bytes_eq paths) where
   -- the marks of the paths at these indices are set
   marks_set : (P : List ℕ → Type 0) (is : List ℕ) (marks : List Bool) → AllByRecursion (λ i. i < length paths) is → Marks P paths marks
-      → Marks (λ q. SomeOf (λ p. p ≡ q) (map (path_at paths) is) ⊎ P q) paths (marked marks is)
+      → Marks (λ q. SomeOf (λ p. p ≡ q) (map (path_at paths) is) ⊎ P q) paths (with_marks marks is)
   marks_set P [] marks within h = marks_same P (λ q. ⊥ ⊎ P q) (λ q. (λ holds. inr holds, λ some. elim some [ inl none ↦ absurd none | inr holds ↦ holds ])) paths marks h
   marks_set P (i ∷ is) marks within h =
       let p = path_at paths i in
       let one = mark_one p P paths marks i distinct (path_there paths i within.0) h in
       marks_same (λ q. SomeOf (λ r. r ≡ q) (map (path_at paths) is) ⊎ ((p ≡ q) ⊎ P q)) (λ q. SomeOf (λ r. r ≡ q) (map (path_at paths) (i ∷ is)) ⊎ P q)
-      (λ q. move_first (SomeOf (λ r. r ≡ q) (map (path_at paths) is)) (p ≡ q) (P q)) paths (marked marks (i ∷ is))
+      (λ q. move_first (SomeOf (λ r. r ≡ q) (map (path_at paths) is)) (p ≡ q) (P q)) paths (with_marks marks (i ∷ is))
       (marks_set (λ q. (p ≡ q) ⊎ P q) is (set marks i true) within.1 one)
 
   -- and those of the claims' patterns
-  marks_claimed : (P : List ℕ → Type 0) (claims : List (ClaimLine Place)) (marks : List Bool) → All (λ l. IsNamed names paths l.claim) claims → Marks P paths marks
+  marks_claimed : (P : List ℕ → Type 0) (claims : List (ClaimLine NamePlace)) (marks : List Bool) → All (λ l. IsNamed names paths l.claim) claims → Marks P paths marks
       → Marks (λ q. IsClaimed names paths claims q ⊎ P q) paths (claims_marked marks claims)
   marks_claimed P [] marks good h = marks_same P (λ q. ⊥ ⊎ P q) (λ q. (λ holds. inr holds, λ some. elim some [ inl none ↦ absurd none | inr holds ↦ holds ])) paths marks h
   marks_claimed P (l ∷ ls) marks good h =
@@ -158,22 +158,22 @@ module _ (names paths : List (List ℕ)) (distinct : IsDistinct bytes_eq paths) 
       let First : List ℕ → Type 0 = λ q. SomeOf (λ n. n.1 ≡ q) (named_patterns (claim_with_names names paths l)) in
       let one = marks_set P is marks (path_indices names paths (patterns_of l.claim) asked.within) h in
       let first = marks_same (λ q. SomeOf (λ p. p ≡ q) (map (path_at paths) is) ⊎ P q) (λ q. First q ⊎ P q)
-      (λ q. or_same (pattern_paths names paths l q) (P q)) paths (marked marks is) one in
+      (λ q. or_same (pattern_paths names paths l q) (P q)) paths (with_marks marks is) one in
       marks_same (λ q. IsClaimed names paths ls q ⊎ (First q ⊎ P q)) (λ q. IsClaimed names paths (l ∷ ls) q ⊎ P q)
       (λ q. move_first (IsClaimed names paths ls q) (First q) (P q)) paths (claims_marked marks (l ∷ ls))
-      (marks_claimed (λ q. First q ⊎ P q) ls (marked marks is) (All-tail (λ k. IsNamed names paths k.claim) l ls good) first)
+      (marks_claimed (λ q. First q ⊎ P q) ls (with_marks marks is) (All-tail (λ k. IsNamed names paths k.claim) l ls good) first)
 
   -- ---- the files that a text needs
 
   -- all that is needed is marked
-  pub needed_marks : (rules : List ℕ) (claims : List (ClaimLine Place)) (asked : ClaimText) → asked.claims ≢ [] → asked.rules ≡ map (path_at paths) rules
+  pub needed_marks : (rules : List ℕ) (claims : List (ClaimLine NamePlace)) (asked : ClaimText) → asked.claims ≢ [] → asked.rules ≡ map (path_at paths) rules
       → asked.patterns ≡ map named_patterns (map (claim_with_names names paths) claims) → All (λ i. i < length paths) rules → All (λ l. IsNamed names paths l.claim) claims
-      → Marks (IsNeeded asked) paths (claims_marked (marked (replicate (length paths) false) rules) claims)
+      → Marks (IsNeeded asked) paths (claims_marked (with_marks (replicate (length paths) false) rules) claims)
   needed_marks rules claims asked some is_rule is_pattern within good =
-      let Ruled : List ℕ → Type 0 = λ q. SomeOf (λ r. r ≡ q) (map (path_at paths) rules) in
+      let RuledPattern : List ℕ → Type 0 = λ q. SomeOf (λ r. r ≡ q) (map (path_at paths) rules) in
       let ruled = marks_set (λ q. ⊥) rules (replicate (length paths) false) (each_of_all (λ i. i < length paths) rules within) (no_marks (λ q. ⊥) paths (λ q none. none)) in
-      let both = marks_claimed (λ q. Ruled q ⊎ ⊥) claims (marked (replicate (length paths) false) rules) good ruled in
-      marks_same (λ q. IsClaimed names paths claims q ⊎ (Ruled q ⊎ ⊥)) (IsNeeded asked)
+      let both = marks_claimed (λ q. RuledPattern q ⊎ ⊥) claims (with_marks (replicate (length paths) false) rules) good ruled in
+      marks_same (λ q. IsClaimed names paths claims q ⊎ (RuledPattern q ⊎ ⊥)) (IsNeeded asked)
       (λ q. (
         λ h. (
           some,
@@ -186,7 +186,7 @@ module _ (names paths : List (List ℕ)) (distinct : IsDistinct bytes_eq paths) 
           | inl rule ↦ inr (inl (subst (SomeOf (λ r. r ≡ q)) is_rule rule))
           | inr claimed ↦ inl (subst (SomeOf (SomeOf (λ n. n.1 ≡ q))) is_pattern claimed)
         ],
-      )) paths (claims_marked (marked (replicate (length paths) false) rules) claims) both
+      )) paths (claims_marked (with_marks (replicate (length paths) false) rules) claims) both
 
 -- without a claim nothing is
 pub nothing_needed : (asked : ClaimText) (paths : List (List ℕ)) → asked.claims ≡ [] → Marks (IsNeeded asked) paths (replicate (length paths) false)

@@ -21,14 +21,14 @@ use Rattle.ca_macro.specs.Pattern.{AreInRange}
 use Rattle.ca_claims.specs.declared.pattern.Loaded.{Loaded}
 use Rattle.ca_claims.specs.declared.format.Format.{Format}
 use Rattle.ca_claims.specs.declared.format.Format.TheVariants.{Rle, Mc}
-use Rattle.ca_claims.specs.declared.ruled.Ruled.{Ruled}
-use Rattle.ca_claims.specs.declared.ruled.Unnamed.{Unnamed}
+use Rattle.ca_claims.specs.declared.ruled.RuledPattern.{RuledPattern}
+use Rattle.ca_claims.specs.declared.ruled.UnnamedRule.{UnnamedRule}
 use Rattle.ca_claims.specs.Means.{bytes_at, format_of, HoldsPattern, IsReadableAs, IsReadable, MayWantMemoryAs, MayWantMemory}
 use Rattle.ca_claims.specs.declared.verdict.PatternFault.{PatternFault}
 use Rattle.ca_claims.specs.declared.verdict.PatternFault.TheVariants as pattern_fault
 use Rattle.ca_claims.specs.Answers.{IsPatternFault, IsPatternFaultOn, IsRuled, HasSmallStates, IsReadableFile, HasRule, IsSmall, IsLarge, IsUnnamed, IsUnnamedBy, IsGoodPattern}
 use Rattle.ca_claims.specs.inner.Patterns.{IsReadFrom, IsUnreadFor, HasName, IsUnnamedFor, rule_of, IsRuledAs, ShowsLarge, ShowsSmall}
-use Rattle.ca_claims.proofs.Shown.{small_shown, large_shown, many_shown}
+use Rattle.ca_claims.proofs.EqualCells.{small_shown, large_shown, many_shown}
 
 -- ---- files that read
 
@@ -101,7 +101,7 @@ module _ (nodes : List Node) (files : List (List ℕ × List ℕ)) (path : List 
     pub path_has_fault : (tables : List TableRule) (fault : RuleFault) → IsRuleFault pattern.rule_text.items tables fault → IsUnnamed files tables fault path
     path_has_fault tables fault wrong = (at.bytes, at.at_path, (at.read.cells, pattern.rule_text.items, pattern.generation, at.read.loaded.holds, wrong))
 
-    pub path_is_unnamed : (tables : List TableRule) (unnamed : Unnamed) → IsUnnamedFor tables pattern unnamed → IsUnnamedBy files tables unnamed.fault (Some unnamed.rule_text) path
+    pub path_is_unnamed : (tables : List TableRule) (unnamed : UnnamedRule) → IsUnnamedFor tables pattern unnamed → IsUnnamedBy files tables unnamed.fault (Some unnamed.rule_text) path
     path_is_unnamed tables unnamed is = (
       at.bytes,
       at.at_path,
@@ -121,17 +121,17 @@ module _ (nodes : List Node) (files : List (List ℕ × List ℕ)) (path : List 
 
   module _ (tables : List TableRule) where
     -- the pattern is that of the file with this path, and the rule that of its rule text
-    pub record IsRuledAt (ruled : Ruled) : Type 0 where
+    pub record IsRuledAt (ruled : RuledPattern) : Type 0 where
       pub read_at : IsReadAt ruled.pattern
       pub named : NamesRule ruled.pattern.rule_text.items tables (rule_of ruled)
 
-    pub ruled_at : (pattern : Loaded) (ruled : Ruled) → IsReadAt pattern → IsRuledAs tables pattern ruled → IsRuledAt ruled
+    pub ruled_at : (pattern : Loaded) (ruled : RuledPattern) → IsReadAt pattern → IsRuledAs tables pattern ruled → IsRuledAt ruled
     ruled_at pattern ruled at kept = record {
       read_at = subst IsReadAt (sym kept.0) at;
       named = subst (λ p. NamesRule p.rule_text.items tables (rule_of ruled)) (sym kept.0) kept.1;
     }
 
-    module _ (ruled : Ruled) (at : IsRuledAt ruled) where
+    module _ (ruled : RuledPattern) (at : IsRuledAt ruled) where
       -- the picture of its file
       abbrev pub ruled_picture : Picture
       ruled_picture = at.read_at.read.cells

@@ -20,28 +20,28 @@ use Rattle.ca_claims.specs.declared.pattern.Summary.{Summary}
 use Rattle.ca_claims.specs.declared.reached.Reached.{Reached}
 use Rattle.ca_claims.specs.declared.reached.ReachFault.{ReachFault}
 use Rattle.ca_claims.specs.declared.reached.ReachFault.TheVariants.{Convert, GenTooLarge, Work, Range}
-use Rattle.ca_claims.specs.declared.ruled.Ruled.{Ruled}
-use Rattle.ca_claims.specs.Ahead.{Begins, IsReached, MayNeedRun, IsReachFault, IsAhead, IsSummaryAfter, IsConvertedAfter, HasCellOutOfRange, IsConvertFaultAfter}
+use Rattle.ca_claims.specs.declared.ruled.RuledPattern.{RuledPattern}
+use Rattle.ca_claims.specs.Ahead.{HoldsSmallRuledPattern, IsReached, MayNeedRun, IsReachFault, IsAhead, IsSummaryAfter, IsConvertedAfter, HasCellOutOfRange, IsConvertFaultAfter}
 use Rattle.ca_claims.specs.Answers.{HasSmallStates}
 use Rattle.ca_claims.specs.Means.{MayWantMemory}
-use Rattle.ca_claims.specs.inner.Glance.{IsLowTree, IsTold}
+use Rattle.ca_claims.specs.inner.Glance.{IsLowTree, IsSummaryOf}
 use Rattle.ca_claims.specs.inner.Patterns.{rule_of}
 use Rattle.ca_claims.specs.inner.Ready.{IsReady, IsWritableTree, IsWrittenAs, AreUnwritten}
 use Rattle.ca_claims.specs.inner.Spending.{Takes}
 use Rattle.ca_claims.specs.inner.Stages.{IsLaterTree}
-use Rattle.ca_claims.proofs.Held.{trimmed_low}
+use Rattle.ca_claims.proofs.CellsNearMiddle.{trimmed_low}
 use Rattle.ca_claims.proofs.LaterPlanes.{picture_of, range_shown, out_shown}
 use Rattle.ca_claims.proofs.PatternsRead.{wanted}
-use Rattle.ca_claims.proofs.Shown.{many_shown, population_shown}
-use Rattle.ca_claims.proofs.Told.{file_begins}
+use Rattle.ca_claims.proofs.EqualCells.{many_shown, population_shown}
+use Rattle.ca_claims.proofs.WrittenForms.{file_begins}
 
 -- ---- from the file
 
-module _ (nodes : List Node) (bytes : List ℕ) (tables : List TableRule) (ruled : Ruled) (ready : IsReady nodes bytes tables ruled) where
+module _ (nodes : List Node) (bytes : List ℕ) (tables : List TableRule) (ruled : RuledPattern) (ready : IsReady nodes bytes tables ruled) where
   abbrev pub first : ℤ → ℤ → ℕ
   first = trees.cell nodes ruled.pattern.tree
 
-  begins : Begins bytes tables ready.read.cells (rule_of ruled) ruled.pattern.generation
+  begins : HoldsSmallRuledPattern bytes tables ready.read.cells (rule_of ruled) ruled.pattern.generation
   begins = file_begins nodes bytes tables ruled ready
 
   module _ (n : ℕ) where
@@ -112,7 +112,7 @@ module _ (bytes : List ℕ) (tables : List TableRule) (n : ℕ) (reached : Reach
   is_ahead later shows = record { cells = is.cells; begun = is.begun; begins = is.begins; stands = λ x y. sym (is.shows x y) ∙ shows x y; added = is.added; low = is.low }
 
   -- what is told of it is the summary
-  pub reached_told : (summary : Summary) → IsTold reached.kind (trees.cell reached.store reached.tree) (rule_value reached.rule) reached.generation summary → IsSummaryAfter bytes tables n summary
+  pub reached_told : (summary : Summary) → IsSummaryOf reached.kind (trees.cell reached.store reached.tree) (rule_value reached.rule) reached.generation summary → IsSummaryAfter bytes tables n summary
   reached_told summary told =
       let (later, shows) = picture_of f summary.cells told.population in
       record {

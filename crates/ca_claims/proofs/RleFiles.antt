@@ -15,9 +15,9 @@ use Rattle.ca_claims.specs.declared.format.Format.TheVariants.{Rle}
 use Rattle.ca_claims.specs.Means.{format_of, MeansAs, IsReadableAs, HoldsPattern}
 use Rattle.ca_claims.specs.Answers.{HasSmallStates}
 use Rattle.ca_claims.specs.inner.Ready.{HoldsCells, IsWritablePlane}
-use Rattle.ca_claims.proofs.FewListed.{population-le}
+use Rattle.ca_claims.proofs.PicturePopulations.{population-le}
 use Rattle.ca_claims.proofs.FilesRead.{in_format, shown_in_range}
-use Rattle.ca_claims.proofs.Shown.{small_shown}
+use Rattle.ca_claims.proofs.EqualCells.{small_shown}
 
 module _ (bytes : List ℕ) (file : RleFile) (f : ℤ → ℤ → ℕ) (rule_text : List ℕ) (generation : ℕ) (rle : format_of bytes ≡ Rle) (is_file : IsRleFile bytes file) (within : IsWithinLimits file) (parts : HasFileParts file f rule_text generation) where
   -- the file's picture

@@ -8,12 +8,12 @@ use Rattle.std.proofs.lemmas.List.Elements.{All-push}
 use Rattle.std.proofs.lemmas.Option.{slice_get_within}
 use Rattle.std.proofs.lemmas.Slice.Eq.{bytes_eq-Decides}
 use Rattle.ca_claims.specs.declared.claims.line.ClaimLine.{ClaimLine}
-use Rattle.ca_claims.specs.declared.claims.line.Place.{Place}
+use Rattle.ca_claims.specs.declared.claims.line.NamePlace.{NamePlace}
 use Rattle.ca_claims.specs.Places.{path_at, claim_with_names, IsNamed}
 use Rattle.ca_claims.specs.Text.{ClaimText, by_path, named_patterns, paths_once, with_rule_line}
 use Rattle.ca_claims.specs.Words.{with_word}
 use Rattle.ca_claims.proofs.PathLists.{paths_once-push}
-use Rattle.ca_claims.proofs.ReadOn.{grown_same, grown_path, rules_kept, places_kept, all_kept, all_there}
+use Rattle.ca_claims.proofs.NextLines.{grown_same, grown_path, rules_kept, places_kept, all_kept, all_there}
 
 -- a path unlike all others is taken out of none of them
 none_taken : (p : List ℕ) (ps : List (List ℕ)) → AllByRecursion (λ q. bytes_eq p q ≡ false) ps → filter (λ q. not (bytes_eq q p)) ps ≡ ps
@@ -34,7 +34,7 @@ one_path_more : (paths : List (List ℕ)) (path : List ℕ) → IsDistinct bytes
 one_path_more paths path distinct = ap (λ l. with_word l path) (sym (once_same paths distinct)) ∙ sym (paths_once-push paths path)
 
 -- what is asked by what is kept of a text
-abbrev pub kept_text : (names paths : List (List ℕ)) (rules : List ℕ) (claims : List (ClaimLine Place)) → ClaimText
+abbrev pub kept_text : (names paths : List (List ℕ)) (rules : List ℕ) (claims : List (ClaimLine NamePlace)) → ClaimText
 kept_text names paths rules claims = record {
   paths = paths;
   rules = map (path_at paths) rules;
@@ -42,7 +42,7 @@ kept_text names paths rules claims = record {
   patterns = map named_patterns (map (claim_with_names names paths) claims);
 }
 
-module _ (names paths : List (List ℕ)) (distinct : IsDistinct bytes_eq paths) (rules : List ℕ) (claims : List (ClaimLine Place)) (within : All (λ i. i < length paths) rules)
+module _ (names paths : List (List ℕ)) (distinct : IsDistinct bytes_eq paths) (rules : List ℕ) (claims : List (ClaimLine NamePlace)) (within : All (λ i. i < length paths) rules)
     (good : All (λ l. IsNamed names paths l.claim) claims) (path : List ℕ) (place : ℕ) (at : slice_get (with_word paths path) place ≡ Some path) where
   -- a rule line more
   pub one_rule_more : kept_text names (with_word paths path) (rules ++ place ∷ []) claims ≡ with_rule_line (kept_text names paths rules claims) path

@@ -13,7 +13,7 @@ use Rattle.ca_claims.specs.declared.claims.asks.Barred.TheVariants.{Nothing, InP
 use Rattle.ca_claims.specs.Limited.{most_runs, IsNoMoreThan, MayBeUsedUp}
 use Rattle.ca_claims.specs.inner.Subjects.{ShowsTree}
 use Rattle.ca_claims.specs.inner.Spending.{Takes}
-use Rattle.ca_claims.proofs.Held.{trimmed_low}
+use Rattle.ca_claims.proofs.CellsNearMiddle.{trimmed_low}
 
 -- one run
 pub takes_one : {Rule : Type 0} (old new : LeaperView Rule) (level n : ℕ) → ((d : ℕ) → n < 2 ^ d → Costs Rule old new (14 ^ (level + d + 2)) 1048576) → Takes old.spent.used new.spent.used 1 level n

@@ -17,21 +17,21 @@ use Rattle.ca_quad.proofs.Trims.{trees_stay}
 use Rattle.ca_run.proofs.After.{after_same, after_again}
 use Rattle.ca_run.proofs.Costs.{power_more}
 use Rattle.ca_claims.specs.Identified.{run_work}
-use Rattle.ca_claims.specs.Text.{longest_period}
+use Rattle.ca_plane.specs.Limits.{longest_period}
 use Rattle.ca_claims.specs.declared.identification.stage.First.{First}
 use Rattle.ca_claims.specs.declared.identification.stage.Stage.{Stage}
 use Rattle.ca_claims.specs.declared.identification.stage.Stage.TheVariants.{Empty, Back, Other}
 use Rattle.ca_claims.specs.inner.Spending.{Takes}
-use Rattle.ca_claims.specs.inner.Stages.{IsNear, IsStart, IsFirst, AreMoved, AreMovedNowhere, IsStage, IsLaterTree, AreOtherUpTo, TakesSteps, TakesRun, TakesRunAndSteps}
+use Rattle.ca_claims.specs.inner.Stages.{IsWithinPlane, IsStart, IsFirst, AreMoved, AreMovedNowhere, IsStage, IsLaterTree, AreOtherUpTo, TakesSteps, TakesRun, TakesRunAndSteps}
 use Rattle.ca_claims.proofs.Corners.{live_after}
-use Rattle.ca_claims.proofs.Held.{live_near, trimmed_low}
-use Rattle.ca_claims.proofs.Leapt.{near_stays}
+use Rattle.ca_claims.proofs.CellsNearMiddle.{live_near, trimmed_low}
+use Rattle.ca_claims.proofs.LeaptTrees.{near_stays}
 use Rattle.ca_claims.proofs.Searches.{search_within}
 use Rattle.ca_claims.proofs.Starts.{near_start, start_stays, start_near}
 use Rattle.ca_claims.proofs.Times.{moved_nowhere}
 
 -- later cells that the first ones are moved onto by no vector differ from them somewhere
-pub changes : (p q : ℤ → ℤ → ℕ) → IsNear p → IsNear q → AreMovedNowhere p q → (x : ℤ) × (y : ℤ) × (q x y ≢ p x y)
+pub changes : (p q : ℤ → ℤ → ℕ) → IsWithinPlane p → IsWithinPlane q → AreMovedNowhere p q → (x : ℤ) × (y : ℤ) × (q x y ≢ p x y)
 changes p q near near_later nowhere =
     elim (search_within q p (2 ^ 62) (pos 0) (pos 0)) [
       | inr found ↦ found
@@ -123,7 +123,7 @@ module _ (next : List ℕ → ℕ) (p : ℤ → ℤ → ℕ) (n : ℕ) (nodes : 
   one_on x y = after_same next (cell nodes now) (cells_after next p n) 1 is.shows x y ∙ after_again next p n 1 x y
 
   -- few generations after the start no live cell lies outside the square of a plane
-  pub near_next : next (replicate 9 0) ≡ 0 → HoldsAll 62 p → n < longest_period → IsNear (cells_after next (cell nodes now) 1)
+  pub near_next : next (replicate 9 0) ≡ 0 → HoldsAll 62 p → n < longest_period → IsWithinPlane (cells_after next (cell nodes now) 1)
   near_next quiet within few = λ x y out. one_on x y ∙ start_near next p (n + 1) quiet within (omega (arith, few)) x y out
 
   -- the tree that is one generation on from this one

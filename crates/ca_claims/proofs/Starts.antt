@@ -13,9 +13,9 @@ use Rattle.ca_quad.proofs.Cells.{of_stays}
 use Rattle.ca_quad.proofs.Trims.{trees_stay}
 use Rattle.ca_macro.specs.Pattern.{AreInRange}
 use Rattle.ca_run.proofs.After.{after_same}
-use Rattle.ca_claims.specs.inner.Stages.{IsNear, IsStart, IsLaterTree}
+use Rattle.ca_claims.specs.inner.Stages.{IsWithinPlane, IsStart, IsLaterTree}
 use Rattle.ca_claims.specs.inner.Subjects.{ShowsTree, IsPattern, IsNearTree}
-use Rattle.ca_claims.proofs.Held.{held_near, later_held, trimmed_low}
+use Rattle.ca_claims.proofs.CellsNearMiddle.{held_near, later_held, trimmed_low}
 use Rattle.ca_claims.proofs.LaterPlanes.{later_holds, later_is_low}
 
 -- such a tree has no live cell outside the square of a plane
@@ -68,7 +68,7 @@ module _ (next : List ℕ → ℕ) (p : ℤ → ℤ → ℕ) (n : ℕ) (quiet : 
   start_holds = later_held next p n quiet 62 63 (omega (arith, few)) within
 
   -- so none lies outside the square of a plane
-  pub start_near : IsNear (cells_after next p n)
+  pub start_near : IsWithinPlane (cells_after next p n)
   start_near = held_near (cells_after next p n) 63 (omega arith) start_holds
 
   -- and a tree of the least level that shows them is a low one

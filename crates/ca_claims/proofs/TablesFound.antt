@@ -14,7 +14,7 @@ use Rattle.ca_claims.specs.inner.Tables.{IsFaultyAt}
 use Rattle.ca_claims.specs.declared.refusal.About.TheVariants as about
 use Rattle.ca_claims.specs.inner.Refusals.{IsRefusal}
 use Rattle.ca_claims.proofs.Causes.{bytes_found}
-use Rattle.ca_claims.proofs.Zipped.{first_weaker, some_first}
+use Rattle.ca_claims.proofs.PairedLists.{first_weaker, some_first}
 use Rattle.ca_claims.proofs.FoundFiles.{found-length}
 
 -- what holds of all holds of one of them

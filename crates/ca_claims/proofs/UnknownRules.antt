@@ -13,7 +13,7 @@ use Rattle.ca_rule.specs.declared.fault.RuleFault.TheVariants.{Unknown}
 use Rattle.ca_claims.specs.declared.verifier.tables.FaultyTable.{FaultyTable}
 use Rattle.ca_claims.specs.Text.{ClaimText}
 use Rattle.ca_claims.specs.Places.{path_at}
-use Rattle.ca_claims.specs.Needed.{IsNeeded}
+use Rattle.ca_claims.specs.NeededFiles.{IsNeeded}
 use Rattle.ca_claims.specs.Means.{bytes_at, HoldsRuleText}
 use Rattle.ca_claims.specs.Answers.{IsTableAt, AreTables, IsThere, IsMissing, HoldsTable, FirstBad}
 use Rattle.ca_claims.specs.Unknown.{IsUnreadFile, HoldsUnknownRule, IsUnknownRule, AreUnknownRules}
@@ -25,7 +25,7 @@ use Rattle.ca_claims.specs.inner.Unknown.{AsksFor, IsAskedBefore, AreAskedBefore
 use Rattle.ca_claims.proofs.Causes.{bytes_found}
 use Rattle.ca_claims.proofs.FoundFiles.{found-length}
 use Rattle.ca_claims.proofs.Verdicts.{one_meaning, reads_without_fault, one_tables, tables_there, there_or_none, all_or_some, table_or_fault}
-use Rattle.ca_claims.proofs.Zipped.{first_weaker, some_first, zip_left}
+use Rattle.ca_claims.proofs.PairedLists.{first_weaker, some_first, zip_left}
 
 -- ---- one file
 
@@ -127,7 +127,7 @@ bytes_of None bytes e = absurd (none-some bytes e)
 bytes_of (Some b) bytes e = (b, refl, same_Some b.now bytes e)
 
 module _ (files : List (List ℕ × List ℕ)) (asked : ClaimText) (needed : List Bool) (found : List (Option (Bor (List ℕ)))) (tables : List TableRule)
-    (same : map option_copied found ≡ map (bytes_at files) asked.paths) (marked : AllZip (λ path mark. IsTrue mark ↔ IsNeeded asked path) asked.paths needed) (known : AreTables files asked.rules tables) where
+    (same : map option_copied found ≡ map (bytes_at files) asked.paths) (with_marks : AllZip (λ path mark. IsTrue mark ↔ IsNeeded asked path) asked.paths needed) (known : AreTables files asked.rules tables) where
   within_paths : (i : ℕ) → i < length found → i < length asked.paths
   within_paths i within = subst (λ n. i < n) (found-length option_copied (bytes_at files) found asked.paths same) within
 
@@ -139,7 +139,7 @@ module _ (files : List (List ℕ × List ℕ)) (asked : ClaimText) (needed : Lis
   marked_at : (i : ℕ) → i < length asked.paths → IsTrue (get_or needed i false) ↔ IsNeeded asked (path_at asked.paths i)
   marked_at i within =
       subst (λ path. IsTrue (get_or needed i false) ↔ IsNeeded asked path) (sym (unwrap_or-slice_get asked.paths i []))
-      (zip_at (λ path mark. IsTrue mark ↔ IsNeeded asked path) asked.paths needed i [] false marked within)
+      (zip_at (λ path mark. IsTrue mark ↔ IsNeeded asked path) asked.paths needed i [] false with_marks within)
 
   asked_is_unknown : (name : List ℕ) → IsAskedBefore tables needed found (length found) name → IsUnknownRule files asked name
   asked_is_unknown name (i, lt, asks) =
@@ -170,7 +170,7 @@ module _ (files : List (List ℕ × List ℕ)) (asked : ClaimText) (needed : Lis
 
   -- for each file there is a mark
   pub as_many_marks : length needed ≡ length found
-  as_many_marks = sym (as_long (λ path mark. IsTrue mark ↔ IsNeeded asked path) asked.paths needed marked) ∙ sym (found-length option_copied (bytes_at files) found asked.paths same)
+  as_many_marks = sym (as_long (λ path mark. IsTrue mark ↔ IsNeeded asked path) asked.paths needed with_marks) ∙ sym (found-length option_copied (bytes_at files) found asked.paths same)
 
 -- where the rule lines' files aren't all tables nothing is asked for
 pub none_without_tables : (files : List (List ℕ × List ℕ)) (asked : ClaimText) → ((tables : List TableRule) → AreTables files asked.rules tables → ⊥) → AreUnknownRules files asked []

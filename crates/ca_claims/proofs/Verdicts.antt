@@ -35,7 +35,7 @@ use Rattle.ca_claims.specs.Text.{Claim, patterns_of}
 use Rattle.ca_claims.specs.Truth.{asks_of, wanted_cells, ShowsNothingBarred, MayReturnBy, IsTrueClaim, IsReason}
 use Rattle.ca_claims.specs.Answers.{IsPatternFault, IsQuietTable, IsTableFault, HasLargeState, HasSmallStates, HoldsOfFile, IsTableAt, AreTables, IsRuled, IsMissing, IsThere, HoldsTable, IsReadableFile, HasRule, IsSmall, SomeOf, FirstBad, HaveOtherRules, FilesAreThere, TablesAreGood, PatternsAreRead, PatternsHaveRules, StatesAreSmall, AgreeOn, HasFewCounted, HasTooManyCounted, HasCause, IsCauseFor, IsGoodPattern, AreGood, IsJudged, IsBadTable, IsBadPattern, IsUnnamed, IsLarge}
 use Rattle.ca_claims.proofs.PatternsRead.{ruled_path_reads}
-use Rattle.ca_claims.proofs.Zipped.{zip_left}
+use Rattle.ca_claims.proofs.PairedLists.{zip_left}
 
 -- ---- a claim is true or there is a reason against it, not both
 

@@ -22,7 +22,8 @@ use Rattle.ca_claims.specs.Answers.{HasSmallStates}
 use Rattle.ca_claims.specs.Converted.{IsTidyAs, IsSummaryFault}
 
 -- the bytes are a file whose pattern has these cells, of small states, under the rule that its rule text names, at this generation
-pub record Begins (bytes : List ℕ) (tables : List TableRule) (cells : Picture) (rule : RuleValue) (generation : ℕ) : Type 0 where
+pub record HoldsSmallRuledPattern (bytes : List ℕ) (tables : List TableRule) (cells : Picture)
+    (rule : RuleValue) (generation : ℕ) : Type 0 where
   pub holds : HoldsRuledPattern bytes tables cells rule generation
   pub small : HasSmallStates rule (cell cells)
 
@@ -31,7 +32,7 @@ pub record Begins (bytes : List ℕ) (tables : List TableRule) (cells : Picture)
 pub record IsReached (bytes : List ℕ) (tables : List TableRule) (n : ℕ) (reached : Reached) : Type 0 where
   pub cells : Picture
   pub begun : ℕ
-  pub begins : Begins bytes tables cells (rule_value reached.rule) begun
+  pub begins : HoldsSmallRuledPattern bytes tables cells (rule_value reached.rule) begun
   pub kind_is : reached.kind ≡ format_of bytes
   pub added : reached.generation ≡ begun + n
   pub low : reached.generation < generation_limit
@@ -50,23 +51,25 @@ MayNeedRun work n cells = (level digits : ℕ) → 1 ≤ level → HoldsAll leve
 abbrev pub IsReachFault : List ℕ → List TableRule → (n work : ℕ) → ReachFault → Type 0
 IsReachFault bytes tables n work (Convert fault) = IsSummaryFault bytes tables fault
 IsReachFault bytes tables n work GenTooLarge = (cells : Picture) × (rule : RuleValue) × (generation : ℕ)
-    × Begins bytes tables cells rule generation × (generation_limit ≤ generation + n)
+    × HoldsSmallRuledPattern bytes tables cells rule generation × (generation_limit ≤ generation + n)
 IsReachFault bytes tables n work Work = (cells : Picture) × (rule : RuleValue) × (generation : ℕ)
-    × Begins bytes tables cells rule generation × (generation + n < generation_limit) × MayNeedRun work n (cell cells)
+    × HoldsSmallRuledPattern bytes tables cells rule generation × (generation + n < generation_limit) × MayNeedRun work n (cell cells)
 IsReachFault bytes tables n work Range = ⊥
 
 -- n generations on from the file's pattern, under its rule, the plane has these cells, at this generation, which is below the limit
-pub record IsAhead (bytes : List ℕ) (tables : List TableRule) (n : ℕ) (later : Picture) (rule : RuleValue) (generation : ℕ) : Type 0 where
+pub record IsAhead (bytes : List ℕ) (tables : List TableRule) (n : ℕ) (later : Picture) (rule : RuleValue)
+    (generation : ℕ) : Type 0 where
   pub cells : Picture
   pub begun : ℕ
-  pub begins : Begins bytes tables cells rule begun
+  pub begins : HoldsSmallRuledPattern bytes tables cells rule begun
   pub stands : IsAfter (next_of rule) cells n later
   pub added : generation ≡ begun + n
   pub low : generation < generation_limit
 
 -- the summary is that of the plane n generations on: the format of the bytes, the printed form of their rule, their generation and n, the number of
 -- live cells, and the least box round them
-pub record IsSummaryAfter (bytes : List ℕ) (tables : List TableRule) (n : ℕ) (summary : Summary) : Type 0 where
+pub record IsSummaryAfter (bytes : List ℕ) (tables : List TableRule) (n : ℕ)
+    (summary : Summary) : Type 0 where
   pub later : Picture
   pub rule : RuleValue
   pub ahead : IsAhead bytes tables n later rule summary.generation
@@ -77,7 +80,8 @@ pub record IsSummaryAfter (bytes : List ℕ) (tables : List TableRule) (n : ℕ)
 
 -- the text is what the plane n generations on is written as: it is the tidy text of the target's format, of the same cells at every x and y, with the
 -- printed form of the rule, and of the file's generation and n; and its reader takes it
-pub record IsConvertedAfter (bytes : List ℕ) (tables : List TableRule) (n : ℕ) (target : Format) (text : List ℕ) : Type 0 where
+pub record IsConvertedAfter (bytes : List ℕ) (tables : List TableRule) (n : ℕ) (target : Format)
+    (text : List ℕ) : Type 0 where
   pub later : Picture
   pub rule : RuleValue
   pub generation : ℕ
@@ -94,8 +98,8 @@ HasCellOutOfRange cells = (x : ℤ) × (y : ℤ) × (cells x y ≢ 0) × (IsInRa
 -- than an RLE may have
 abbrev pub IsConvertFaultAfter : List ℕ → List TableRule → (n work : ℕ) → Format → ReachFault → Type 0
 IsConvertFaultAfter bytes tables n work target (Convert TooManyCells) = (target ≡ Rle) × (cells : Picture) × (rule : RuleValue) × (generation : ℕ)
-    × Begins bytes tables cells rule generation × (generation + n < generation_limit)
+    × HoldsSmallRuledPattern bytes tables cells rule generation × (generation + n < generation_limit)
     × AreInRange (after (next_of rule) cells n) × HasTooManyCells (after (next_of rule) cells n)
 IsConvertFaultAfter bytes tables n work target Range = (cells : Picture) × (rule : RuleValue) × (generation : ℕ)
-    × Begins bytes tables cells rule generation × (generation + n < generation_limit) × HasCellOutOfRange (after (next_of rule) cells n)
+    × HoldsSmallRuledPattern bytes tables cells rule generation × (generation + n < generation_limit) × HasCellOutOfRange (after (next_of rule) cells n)
 IsConvertFaultAfter bytes tables n work target fault = IsReachFault bytes tables n work fault

@@ -132,7 +132,8 @@ abbrev pub IsUnnamed : List (List ℕ × List ℕ) → List TableRule → RuleFa
 IsUnnamed files tables fault path = HoldsOfFile files (λ bytes. HasRuleFault bytes tables fault) path
 
 -- and that rule text is this
-abbrev pub IsUnnamedBy : List (List ℕ × List ℕ) → List TableRule → RuleFault → Option (Vec ℕ Global) → List ℕ → Type 0
+abbrev pub IsUnnamedBy : List (List ℕ × List ℕ) → List TableRule → RuleFault → Option (Vec ℕ Global) → List ℕ
+    → Type 0
 IsUnnamedBy files tables fault None path = ⊥
 IsUnnamedBy files tables fault (Some text) path = HoldsOfFile files (λ bytes. HoldsRuleText text.items bytes × IsRuleFault text.items tables fault) path
 
@@ -150,7 +151,8 @@ HaveOtherRules files tables path other = (cells : Picture) × (rule : RuleValue)
     × IsRuled files tables path cells rule × IsRuled files tables other other_cells other_rule × (IsSameRule rule other_rule → ⊥)
 
 -- a pattern's file is there and is read, and means these cells, of small states, under this rule
-pub record IsGoodPattern (files : List (List ℕ × List ℕ)) (tables : List TableRule) (path : List ℕ) (cells : Picture) (rule : RuleValue) : Type 0 where
+pub record IsGoodPattern (files : List (List ℕ × List ℕ)) (tables : List TableRule) (path : List ℕ)
+    (cells : Picture) (rule : RuleValue) : Type 0 where
   pub ruled : IsRuled files tables path cells rule
   pub small : HasSmallStates rule (cell cells)
 
@@ -159,7 +161,8 @@ abbrev pub IsCrowded : List (List ℕ × List ℕ) → List TableRule → List �
 IsCrowded files tables path = (cells : Picture) × (rule : RuleValue) × IsGoodPattern files tables path cells rule × HasTooManyCells (cell cells)
 
 -- the patterns of a claim's paths mean these cells under this rule; where there is one pattern, it is the other too
-abbrev pub AreGood : List (List ℕ × List ℕ) → List TableRule → List (List ℕ) → Picture → Picture → RuleValue → Type 0
+abbrev pub AreGood : List (List ℕ × List ℕ) → List TableRule → List (List ℕ) → Picture → Picture → RuleValue
+    → Type 0
 AreGood files tables [] cells other rule = ⊥
 AreGood files tables (path ∷ []) cells other rule = IsGoodPattern files tables path cells rule × (other ≡ cells)
 AreGood files tables (path ∷ other_path ∷ []) cells other rule =
@@ -180,7 +183,8 @@ abbrev pub PatternsAreRead : List (List ℕ × List ℕ) → (rules paths : List
 PatternsAreRead files rules paths tables = AreTables files rules tables × AllByRecursion (IsReadableFile files) paths
 
 -- fourth: their rule texts name rules
-abbrev pub PatternsHaveRules : List (List ℕ × List ℕ) → (rules paths : List (List ℕ)) → List TableRule → Type 0
+abbrev pub PatternsHaveRules : List (List ℕ × List ℕ) → (rules paths : List (List ℕ)) → List TableRule
+    → Type 0
 PatternsHaveRules files rules paths tables = AreTables files rules tables × AllByRecursion (HasRule files tables) paths
 
 -- fifth: their states are small
@@ -188,7 +192,8 @@ abbrev pub StatesAreSmall : List (List ℕ × List ℕ) → (rules paths : List 
 StatesAreSmall files rules paths tables = AreTables files rules tables × AllByRecursion (IsSmall files tables) paths
 
 -- sixth: they are of one rule, and mean these cells under it
-abbrev pub AgreeOn : List (List ℕ × List ℕ) → (rules paths : List (List ℕ)) → Picture → Picture → RuleValue → Type 0
+abbrev pub AgreeOn : List (List ℕ × List ℕ) → (rules paths : List (List ℕ)) → Picture → Picture → RuleValue
+    → Type 0
 AgreeOn files rules paths cells other rule = (tables : List TableRule) × AreTables files rules tables × AreGood files tables paths cells other rule
 
 -- cells are counted where the claim moves them: a spaceship's own, and those of a pattern that another becomes, moved
@@ -227,7 +232,8 @@ IsOfClaim cause = (cause ≡ MixedRules) ⊎ ((cause ≡ Work) ⊎ (cause ≡ Me
 
 -- one of the claim's patterns: what `First` tells of it, by what is good of the paths before it and what is bad of its own. Only a file
 -- that isn't read has a line, and only one whose rule text names no rule has that text; `rules` are the paths of the text's rule lines
-abbrev pub IsOfPattern : List (List ℕ × List ℕ) → List (List ℕ) → Cause → (First : (Good Bad : List ℕ → Type 0) → Type 0) → Option ℕ
+abbrev pub IsOfPattern : List (List ℕ × List ℕ) → List (List ℕ) → Cause
+    → (First : (Good Bad : List ℕ → Type 0) → Type 0) → Option ℕ
     → Option (Vec ℕ Global) → Type 0
 IsOfPattern files rules NoFile First line text = (line ≡ None) × (text ≡ None) × First (IsThere files) (IsMissing files)
 IsOfPattern files rules (BadPattern fault) First line text = (text ≡ None) × First (IsReadableFile files) (IsBadPatternOn files fault line)
@@ -266,7 +272,8 @@ abbrev pub IsWithinWork : List (List ℕ × List ℕ) → List (List ℕ) → (w
 IsWithinWork files rules work claim verdict = verdict ≡ Refused Work → MayUseUp files rules work claim
 
 -- so are all claims that are out of work
-abbrev pub AreWithinWork : List (List ℕ × List ℕ) → List (List ℕ) → (work : ℕ) → List (ℕ × Claim) → List Answer → Type 0
+abbrev pub AreWithinWork : List (List ℕ × List ℕ) → List (List ℕ) → (work : ℕ) → List (ℕ × Claim)
+    → List Answer → Type 0
 AreWithinWork files rules work claims answers = AllZip (λ numbered answer. IsWithinWork files rules work numbered.1 answer.verdict) claims answers
 
 -- a verdict is true: a yes of a claim that is true of the planes that the files mean, a no of one that is false, with the

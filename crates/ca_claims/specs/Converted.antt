@@ -22,7 +22,8 @@ IsTidyAs Mc text cells rule_text generation states = macrocell.IsTidyMacrocell t
 
 -- the text is what the bytes are converted to: of the same cells at every x and y, with the printed form of the rule, and of the same
 -- generation; it is the tidy text of the target's format, and its reader takes it
-pub record IsConverted (bytes : List ℕ) (tables : List TableRule) (target : Format) (text : List ℕ) : Type 0 where
+pub record IsConverted (bytes : List ℕ) (tables : List TableRule) (target : Format)
+    (text : List ℕ) : Type 0 where
   pub cells : Picture
   pub rule : RuleValue
   pub generation : ℕ

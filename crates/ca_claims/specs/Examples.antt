@@ -1,5 +1,6 @@
 -- Small claim texts and patterns, for which the definitions are worked out.
 use Rattle.std.specs.Prelude.{ℕ, pos, neg_ℤ, List, [], ◌∷◌, ◌++◌, Option, None, Some, codes}
+use Rattle.ca_plane.specs.Bytes.{text_of}
 use Rattle.ca_plane.specs.Plane.{Picture}
 use Rattle.ca_rule.specs.Counts.{counts_of}
 use Rattle.ca_rule.specs.Next.{bs_next}
@@ -21,11 +22,6 @@ still_of pattern = of_one pattern Still
 -- that one pattern becomes another
 abbrev pub becomes_of : List ℕ → ℕ → List ℕ → Claim
 becomes_of pattern generations other = record { pattern = pattern; other = Some other; kind = Becomes generations }
-
--- lines, each ended by LF
-abbrev pub text_of : List (List ℕ) → List ℕ
-text_of [] = []
-text_of (l ∷ ls) = l ++ 10 ∷ text_of ls
 
 -- the text of these lines has this first fault
 abbrev pub HaveFault : List (List ℕ) → ClaimFault → Type 0

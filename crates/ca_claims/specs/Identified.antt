@@ -20,7 +20,7 @@ use Rattle.ca_claims.specs.Text.{HasGoodNumbers}
 use Rattle.ca_claims.specs.Truth.{asks_of, IsTrueClaim}
 use Rattle.ca_claims.specs.Means.{HoldsRuleText, HoldsRuledPattern, HasRuleFault, MayWantMemory}
 use Rattle.ca_claims.specs.Answers.{IsPatternFaultOn, HasLargeState}
-use Rattle.ca_claims.specs.Ahead.{Begins}
+use Rattle.ca_claims.specs.Ahead.{HoldsSmallRuledPattern}
 
 -- a claim of this kind is about one pattern alone
 abbrev pub IsOfOnePattern : Kind → Type 0
@@ -64,7 +64,7 @@ IsIdentityAfter next cells n limit identity = (later : Picture) × IsAfter next 
 
 -- the bytes are a file whose pattern has these cells, of small states, under the rule that its rule text names, at some generation
 abbrev pub HoldsSmallPattern : List ℕ → List TableRule → Picture → RuleValue → Type 0
-HoldsSmallPattern bytes tables cells rule = (generation : ℕ) × Begins bytes tables cells rule generation
+HoldsSmallPattern bytes tables cells rule = (generation : ℕ) × HoldsSmallRuledPattern bytes tables cells rule generation
 
 -- it is that of the cells that the file means under its rule
 abbrev pub IsIdentified : List ℕ → List TableRule → (limit : ℕ) → Identity → Type 0

@@ -1,15 +1,16 @@
 -- How much may be spent on the judgement of a claim.
 use Rattle.std.specs.Prelude.{ℕ, ◌+◌, ◌*◌, ◌<◌, ◌≤◌, ◌^◌, ℤ}
+use Rattle.ca_plane.specs.Limits.{most_memo}
 use Rattle.ca_quad.specs.Trees.{HoldsAll}
 use Rattle.ca_claims.specs.declared.claims.asks.Asks.{Asks}
 use Rattle.ca_claims.specs.declared.claims.asks.Barred.{Barred}
 use Rattle.ca_claims.specs.declared.claims.asks.Barred.TheVariants.{Nothing, InPlace, Anywhere, EmptyPlane}
 use Rattle.ca_claims.specs.declared.limits.Limits.{Limits}
 
--- the memo has an entry at least, and 16777216 at most; any work may be allowed
+-- the memo has an entry at least, and no more than it may have; any work may be allowed
 pub record AreGoodLimits (limits : Limits) : Type 0 where
   pub least : 1 ≤ limits.memo
-  pub most : limits.memo ≤ 16777216
+  pub most : limits.memo ≤ most_memo
 
 -- how often a pattern may be taken some generations on for a claim that asks this: once, and where something is barred at earlier times,
 -- no more often than it claims generations

@@ -8,6 +8,7 @@ use Rattle.ca_claims.specs.declared.claims.line.Claim.{Claim as ClaimOf}
 use Rattle.ca_claims.specs.declared.claims.line.Kind.{Kind}
 use Rattle.ca_claims.specs.declared.claims.line.Kind.TheVariants.{Still, Oscillator, Spaceship, Becomes, BecomesShifted, Dies}
 use Rattle.ca_plane.specs.Bytes.{lines_of, words_of, AreDigits, IsInteger, value}
+use Rattle.ca_plane.specs.Limits.{greatest_shift, most_generations, longest_period}
 
 -- a claim about patterns, which are given by their names in a text, and by the paths of their files once names are resolved
 abbrev pub Claim : Type 0
@@ -18,20 +19,8 @@ abbrev pub patterns_of : {P : Type 0} → ClaimOf P → List P
 patterns_of claim = claim.pattern ∷ option_to_list claim.other
 
 -- the same claim, with f of what gives each pattern
-abbrev pub about : {P Q : Type 0} → (P → Q) → ClaimOf P → ClaimOf Q
-about f claim = record { pattern = f claim.pattern; other = option_map f claim.other; kind = claim.kind }
-
--- the greatest shift in one direction
-abbrev pub greatest_shift : ℕ
-greatest_shift = 2 ^ 60
-
--- the most generations
-abbrev pub most_generations : ℕ
-most_generations = 2 ^ 60
-
--- the longest period
-abbrev pub longest_period : ℕ
-longest_period = 2 ^ 32 - 1
+abbrev pub map_patterns : {P Q : Type 0} → (P → Q) → ClaimOf P → ClaimOf Q
+map_patterns f claim = record { pattern = f claim.pattern; other = option_map f claim.other; kind = claim.kind }
 
 -- at most the greatest, to either side
 abbrev pub IsShift : ℤ → Type 0
@@ -130,10 +119,10 @@ abbrev pub IsClaimText : List ℕ → List (Option ClaimTextLine) → Type 0
 IsClaimText bytes said = ClaimLinesSay [] (lines_of bytes) said
 
 -- what the lines say that aren't skipped
-abbrev pub spoken : List (Option ClaimTextLine) → List ClaimTextLine
-spoken [] = []
-spoken (None ∷ said) = spoken said
-spoken (Some line ∷ said) = line ∷ spoken said
+abbrev pub said_lines : List (Option ClaimTextLine) → List ClaimTextLine
+said_lines [] = []
+said_lines (None ∷ said) = said_lines said
+said_lines (Some line ∷ said) = line ∷ said_lines said
 
 -- the paths of the rule tables, in the order of their lines
 abbrev pub rule_paths : List (Option ClaimTextLine) → List (List ℕ)
@@ -160,18 +149,19 @@ paths_once (p ∷ ps) = p ∷ filter (λ q. not (bytes_eq q p)) (paths_once ps)
 
 -- the claims with the numbers of their lines, of which the first is n; each about names, with the paths that earlier lines
 -- load them from
-abbrev pub claims_from : ℕ → List ClaimTextLine → List (Option ClaimTextLine) → List (ℕ × ClaimOf (List ℕ × List ℕ))
+abbrev pub claims_from : ℕ → List ClaimTextLine → List (Option ClaimTextLine)
+    → List (ℕ × ClaimOf (List ℕ × List ℕ))
 claims_from n earlier [] = []
 claims_from n earlier (None ∷ said) = claims_from (n + 1) earlier said
 claims_from n earlier (Some Version ∷ said) = claims_from (n + 1) (earlier ++ Version ∷ []) said
 claims_from n earlier (Some (Rule path) ∷ said) = claims_from (n + 1) (earlier ++ Rule path ∷ []) said
 claims_from n earlier (Some (Load name path) ∷ said) = claims_from (n + 1) (earlier ++ Load name path ∷ []) said
 claims_from n earlier (Some (Claims claim) ∷ said) =
-    (n, about (λ name. (name, unwrap_or (path_of earlier name) [])) claim) ∷ claims_from (n + 1) (earlier ++ Claims claim ∷ []) said
+    (n, map_patterns (λ name. (name, unwrap_or (path_of earlier name) [])) claim) ∷ claims_from (n + 1) (earlier ++ Claims claim ∷ []) said
 
 -- such a claim, about the paths alone
 abbrev pub by_path : ℕ × ClaimOf (List ℕ × List ℕ) → ℕ × Claim
-by_path c = (c.0, about (λ p. p.1) c.1)
+by_path c = (c.0, map_patterns (λ p. p.1) c.1)
 
 -- the names and paths of its patterns
 abbrev pub named_patterns : ℕ × ClaimOf (List ℕ × List ℕ) → List (List ℕ × List ℕ)

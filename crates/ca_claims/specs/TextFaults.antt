@@ -3,10 +3,11 @@ use Rattle.std.specs.Prelude.{◌≡◌, ◌≢◌, ℕ, ◌+◌, List, [], ◌�
 use Rattle.ca_plane.specs.Bytes.{lines_of, words_of}
 use Rattle.ca_claims.specs.declared.fault.ClaimFault.{ClaimFault}
 use Rattle.ca_claims.specs.declared.fault.ClaimFault.TheVariants.{Syntax, Number, UnknownName, NameTaken, Memory}
-use Rattle.ca_claims.specs.Text.{Claim, patterns_of, HasGoodNumbers, ClaimTextLine, Version, Load, Claims, is_skipped, ClaimWordsSay, path_of, AreLoaded, IsAllowedLine, ClaimLinesSay, spoken}
+use Rattle.ca_claims.specs.Text.{Claim, patterns_of, HasGoodNumbers, ClaimTextLine, Version, Load, Claims, is_skipped, ClaimWordsSay, path_of, AreLoaded, IsAllowedLine, ClaimLinesSay, said_lines}
 
 -- good lines are followed by a line, the n-th of the text; this holds of what the good lines say, and of its words
-pub record HasClaimLine (bytes : List ℕ) (n : ℕ) (P : List ClaimTextLine → List (List ℕ) → Type 0) : Type 0 where
+pub record HasClaimLine (bytes : List ℕ) (n : ℕ)
+    (P : List ClaimTextLine → List (List ℕ) → Type 0) : Type 0 where
   pub before : List (List ℕ)
   pub line : List ℕ
   pub later : List (List ℕ)
@@ -14,7 +15,7 @@ pub record HasClaimLine (bytes : List ℕ) (n : ℕ) (P : List ClaimTextLine →
   pub good : ClaimLinesSay [] before said
   pub among : lines_of bytes ≡ before ++ line ∷ later
   pub number : n ≡ length before + 1
-  pub holds : P (spoken said) (words_of line)
+  pub holds : P (said_lines said) (words_of line)
 
 -- the words say nothing that a line may say there: another keyword, another count of words, no number where there must be one, `claims`
 -- after another line or with another word than `2`, or a claim of the second version in a text that doesn't begin with `claims 2`

@@ -30,8 +30,8 @@ wanted_cells Other cells other = other
 wanted_cells NoCells cells other = []
 
 -- the claimed cells: those that are wanted, moved by the vector
-abbrev pub claimed : Asks → Picture → Picture → Picture
-claimed asks cells other = shifted (wanted_cells asks.wanted cells other) asks.dx asks.dy
+abbrev pub claimed_cells : Asks → Picture → Picture → Picture
+claimed_cells asks cells other = shifted (wanted_cells asks.wanted cells other) asks.dx asks.dy
 
 -- after n generations some cell isn't what it was
 abbrev pub IsChanged : (List ℕ → ℕ) → Picture → ℕ → Type 0
@@ -56,7 +56,7 @@ ShowsNothingBarred next cells EmptyPlane n = IsLiveAfter next cells n
 -- and no earlier time, starting at 1, shows what is barred
 pub record IsTrueClaim (next : List ℕ → ℕ) (cells other : Picture) (asks : Asks) : Type 0 where
   pub live : IsTrue asks.live → IsLive cells
-  pub stands : IsAfter next cells asks.generations (claimed asks cells other)
+  pub stands : IsAfter next cells asks.generations (claimed_cells asks cells other)
   pub least : (m : ℕ) → 1 ≤ m → m < asks.generations → ShowsNothingBarred next cells asks.barred m
 
 -- the vector by which an earlier return is barred: (0, 0) in its place, any anywhere, and else none
@@ -73,13 +73,13 @@ abbrev pub IsReason : (List ℕ → ℕ) → Picture → Picture → Asks → Wh
 IsReason next cells other asks Empty = IsTrue asks.live × (IsLive cells → ⊥)
 IsReason next cells other asks (Differs x y found wanted generations) = (IsTrue asks.live → IsLive cells)
     × (generations ≡ asks.generations) × (after next cells generations x y ≡ found)
-    × (cell (claimed asks cells other) x y ≡ wanted) × (found ≢ wanted)
+    × (cell (claimed_cells asks cells other) x y ≡ wanted) × (found ≢ wanted)
 IsReason next cells other asks (Earlier m dx dy) = IsLive cells
-    × IsAfter next cells asks.generations (claimed asks cells other) × (1 ≤ m) × (m < asks.generations)
+    × IsAfter next cells asks.generations (claimed_cells asks cells other) × (1 ≤ m) × (m < asks.generations)
     × MayReturnBy asks.barred dx dy × IsAfter next cells m (shifted cells dx dy)
     × ((k : ℕ) → 1 ≤ k → k < m → ShowsNothingBarred next cells asks.barred k)
 IsReason next cells other asks (Died m) = IsLive cells
-    × IsAfter next cells asks.generations (claimed asks cells other) × (1 ≤ m) × (m < asks.generations)
+    × IsAfter next cells asks.generations (claimed_cells asks cells other) × (1 ≤ m) × (m < asks.generations)
     × (asks.barred ≡ EmptyPlane) × IsAfter next cells m []
     × ((k : ℕ) → 1 ≤ k → k < m → ShowsNothingBarred next cells asks.barred k)
 

@@ -6,7 +6,7 @@ use Rattle.ca_rule.specs.TableNext.{TableRule}
 use Rattle.ca_rule.specs.Rule.{IsRuleFault}
 use Rattle.ca_rule.specs.declared.fault.RuleFault.TheVariants.{Unknown}
 use Rattle.ca_claims.specs.Text.{ClaimText}
-use Rattle.ca_claims.specs.Needed.{IsNeeded}
+use Rattle.ca_claims.specs.NeededFiles.{IsNeeded}
 use Rattle.ca_claims.specs.Means.{HoldsRuleText}
 use Rattle.ca_claims.specs.declared.verdict.PatternFault.{PatternFault}
 use Rattle.ca_claims.specs.declared.unknown.NamedTable.{NamedTable}

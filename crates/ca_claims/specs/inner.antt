@@ -5,7 +5,7 @@ pub mod Glance
 pub mod Kept
 pub mod Marks
 pub mod Patterns
-pub mod Prepared
+pub mod PreparedClaim
 pub mod Reading
 pub mod Ready
 pub mod Refusals

@@ -2,15 +2,14 @@
 
 ghost use Rattle.std.specs.Prelude.{◌≡◌, ◌≤◌, ◌<◌, ◌+◌, ℤ, None, IfOk, IfErr, MatchOption};
 ghost use Rattle.ca_plane.specs.Bytes.{IsWord};
-ghost use Rattle.ca_plane.specs.Limits.{generation_limit};
+ghost use Rattle.ca_plane.specs.Limits.{generation_limit, most_generations};
 ghost use Rattle.ca_quad.specs.Trees.{cell};
 ghost use Rattle.ca_run.specs.Leaping.{LeaperGrows, EndsAtLimit};
 ghost use Rattle.ca_claims.specs.Ahead.{IsReached, IsReachFault, IsSummaryAfter, IsConvertedAfter};
 ghost use Rattle.ca_claims.specs.Ahead.{IsConvertFaultAfter};
 ghost use Rattle.ca_claims.specs.declared.reached.ReachFault.TheVariants.{Convert};
 ghost use Rattle.ca_claims.specs.Limited.{AreGoodLimits};
-ghost use Rattle.ca_claims.specs.Refused.{HasReachDetail};
-ghost use Rattle.ca_claims.specs.Text.{most_generations};
+ghost use Rattle.ca_claims.specs.DetailedFault.{HasReachDetail};
 ghost use Rattle.ca_claims.specs.inner.Spending.{Takes};
 ghost use Rattle.ca_claims.specs.inner.Stages.{IsLaterTree};
 ghost use Rattle.ca_claims.specs.inner.Subjects.{IsRun};
@@ -18,13 +17,13 @@ ghost use Rattle.ca_claims.specs.inner.Subjects.{IsRun};
 use crate::cells::are_in_range;
 use crate::conversion::{ConvertFault, text_of_tree};
 use crate::decide::tree_after;
+use crate::detailed_fault::DetailedFault;
 use crate::format::Format;
 use crate::glance::sum_up;
 use crate::limits::Limits;
 use crate::observer::Observer;
 use crate::pattern::Summary;
 use crate::reached::{ReachFault, Reached};
-use crate::refused::Refused;
 use crate::ruled::read_ruled;
 use ca_plane::Automaton;
 use ca_plane::limits::GENERATION_LIMIT;
@@ -51,7 +50,7 @@ pub fn run_on<'t, O: Observer>(
     generations: u64,
     limits: Limits,
     observer: &mut O,
-) -> Result<Reached<'t>, Refused<ReachFault>>
+) -> Result<Reached<'t>, DetailedFault<ReachFault>>
     requires limits { AreGoodLimits limits }
     requires few { generations ≤ most_generations }
     ensures reached { IfOk result (IsReached bytes.now tables.now generations) }
@@ -62,14 +61,14 @@ pub fn run_on<'t, O: Observer>(
     let mut store = Store::new(alloc);
     let ruled = match read_ruled(alloc, &mut store, bytes, tables) {
         Ok(ruled) => ruled,
-        Err(refused) => return Err(unreached(refused)),
+        Err(refused) => return Err(reach_fault_of(refused)),
     };
     let pattern = &ruled.pattern;
     let Some(generation) = later_generation(pattern.generation, generations) else {
-        return Err(Refused::of(ReachFault::GenTooLarge));
+        return Err(DetailedFault::of(ReachFault::GenTooLarge));
     };
     let Ok(mut leaper) = Leaper::new(alloc, store, ruled.rule, limits.memo, limits.work) else {
-        return Err(Refused::of(OUT_OF_MEMORY));
+        return Err(DetailedFault::of(OUT_OF_MEMORY));
     };
     match end_of(alloc, &mut leaper, pattern.tree, generations, observer) {
         Ok(End { store, tree }) => Ok(Reached {
@@ -79,22 +78,19 @@ pub fn run_on<'t, O: Observer>(
             rule: ruled.rule,
             generation,
         }),
-        Err(LeapFault::Memory) => Err(Refused::of(OUT_OF_MEMORY)),
-        Err(LeapFault::Work) => Err(Refused::of(ReachFault::Work)),
+        Err(LeapFault::Memory) => Err(DetailedFault::of(OUT_OF_MEMORY)),
+        Err(LeapFault::Work) => Err(DetailedFault::of(ReachFault::Work)),
     }
 }
 
 /// A fault of a pattern file as one of a plane that isn't reached.
-fn unreached(refused: Refused<ConvertFault>) -> Refused<ReachFault>
+fn reach_fault_of(refused: DetailedFault<ConvertFault>) -> DetailedFault<ReachFault>
     ensures fault { result.fault ≡ Convert refused.fault }
     ensures line { result.line ≡ refused.line }
     ensures rule_text { result.rule_text ≡ refused.rule_text }
 {
-    Refused {
-        fault: ReachFault::Convert(refused.fault),
-        line: refused.line,
-        rule_text: refused.rule_text,
-    }
+    let fault = ReachFault::Convert(refused.fault);
+    refused.with_fault(fault)
 }
 
 /// The summary of the plane of a pattern file so many generations on.
@@ -109,7 +105,7 @@ pub fn summary_after<O: Observer>(
     generations: u64,
     limits: Limits,
     observer: &mut O,
-) -> Result<Summary, Refused<ReachFault>>
+) -> Result<Summary, DetailedFault<ReachFault>>
     requires limits { AreGoodLimits limits }
     requires few { generations ≤ most_generations }
     ensures summary { IfOk result (IsSummaryAfter bytes.now tables.now generations) }
@@ -128,7 +124,7 @@ pub fn summary_after<O: Observer>(
         reached.generation,
     ) {
         Ok(summary) => Ok(summary),
-        Err(_) => Err(Refused::of(OUT_OF_MEMORY)),
+        Err(_) => Err(DetailedFault::of(OUT_OF_MEMORY)),
     }
 }
 
@@ -147,7 +143,7 @@ pub fn convert_after<O: Observer>(
     generations: u64,
     limits: Limits,
     observer: &mut O,
-) -> Result<Vec<u8>, Refused<ReachFault>>
+) -> Result<Vec<u8>, DetailedFault<ReachFault>>
     requires limits { AreGoodLimits limits }
     requires few { generations ≤ most_generations }
     ensures converted { IfOk result
@@ -165,12 +161,12 @@ pub fn convert_after<O: Observer>(
     } = run_on(alloc, bytes, tables, generations, limits, observer)?;
     match are_in_range(alloc, &store, &tree) {
         Ok(true) => {}
-        Ok(false) => return Err(Refused::of(ReachFault::Range)),
-        Err(_) => return Err(Refused::of(OUT_OF_MEMORY)),
+        Ok(false) => return Err(DetailedFault::of(ReachFault::Range)),
+        Err(_) => return Err(DetailedFault::of(OUT_OF_MEMORY)),
     }
     match text_of_tree(alloc, &mut store, tree, &rule, generation, target) {
         Ok(text) => Ok(text),
-        Err(fault) => Err(Refused::of(ReachFault::Convert(fault))),
+        Err(fault) => Err(DetailedFault::of(ReachFault::Convert(fault))),
     }
 }
 

@@ -11,7 +11,7 @@ ghost use Rattle.ca_claims.specs.Ahead.{HasCellOutOfRange};
 ghost use Rattle.ca_claims.specs.inner.Patterns.{ShowsLarge, ShowsSmall};
 ghost use Rattle.ca_claims.specs.inner.Cells.{IsBoxInRange, IsBoxOutOfRange, IsPlaneOf};
 
-use crate::ruled::Ruled;
+use crate::ruled::RuledPattern;
 use ca_plane::limits::{MOST_CELLS, RANGE};
 use ca_plane::{Automaton, Memory, Plane};
 use ca_quad::{QuadFault, Store, Tree, WideBounds};
@@ -22,7 +22,7 @@ use std::alloc::Global;
 pub(crate) fn has_large_state(
     alloc: Global,
     store: &Store,
-    ruled: &Ruled<'_>,
+    ruled: &RuledPattern<'_>,
 ) -> Result<bool, Memory>
     requires { IsTree store.now ruled.now.pattern.tree }
     ensures large { IfOk result (λ large. IsTrue large → ShowsLarge store.now ruled.now) }

@@ -6,7 +6,7 @@ ghost use Rattle.std.specs.List.{AllByRecursion, AllZip, IsDistinct};
 ghost use Rattle.std.specs.Str.{bytes_eq};
 ghost use Rattle.ca_claims.specs.Places.{path_at, claim_with_paths, named_path, IsAsked};
 ghost use Rattle.ca_claims.specs.inner.Patterns.{items};
-ghost use Rattle.ca_claims.specs.Needed.{IsNeeded};
+ghost use Rattle.ca_claims.specs.NeededFiles.{IsNeeded};
 ghost use Rattle.ca_claims.specs.Text.{Claim as TextClaim, patterns_of, with_rule_line};
 
 mod asks;
@@ -22,7 +22,7 @@ use crate::verifier::OneOrTwo;
 use crate::word_set::WordSet;
 pub(crate) use asks::{Asks, Barred, Wanted};
 use ca_plane::Memory;
-pub(crate) use line::{Claim, ClaimLine, Named, Place};
+pub(crate) use line::{Claim, ClaimLine, NamePlace, NamedPath};
 use marks::{mark_claims, mark_each};
 pub use reading::read_claims;
 use std::alloc::Global;
@@ -35,7 +35,7 @@ pub struct Claims {
     paths: WordSet,
     names: Vec<Vec<u8>>,
     rules: Vec<usize>,
-    claims: Vec<ClaimLine<Place>>,
+    claims: Vec<ClaimLine<NamePlace>>,
 }
 
 impl Model for Claims {
@@ -163,7 +163,7 @@ impl Claims {
     }
 
     /// The patterns of the claim with this index, in their order.
-    pub(crate) fn patterns(&self, index: usize) -> OneOrTwo<Named<'_>>
+    pub(crate) fn patterns(&self, index: usize) -> OneOrTwo<NamedPath<'_>>
         requires { index < length self.now.claims }
         ensures patterns { slice_get self.now.patterns index
             ≡ Some (map (named_path self.now.paths) (items result)) }
@@ -172,21 +172,24 @@ impl Claims {
             → patterns_of claim.1 ≡ map (λ p. path_at self.now.paths p.path) (items result) }
     {
         match self.claims[index].claim.patterns() {
-            OneOrTwo::One(only) => OneOrTwo::One(named(&self.names, only)),
+            OneOrTwo::One(only) => OneOrTwo::One(name_and_path(&self.names, only)),
             OneOrTwo::Two(first, second) => {
-                OneOrTwo::Two(named(&self.names, first), named(&self.names, second))
+                OneOrTwo::Two(
+                    name_and_path(&self.names, first),
+                    name_and_path(&self.names, second),
+                )
             }
         }
     }
 }
 
 // The name at a place, and the index of its path.
-fn named(names: &[Vec<u8>], place: Place) -> Named<'_>
+fn name_and_path(names: &[Vec<u8>], place: NamePlace) -> NamedPath<'_>
     requires { place.name < length names.now }
     ensures name { result.name.now ≡ path_at (map (λ n. n.items) names.now) place.name }
     ensures path { result.path ≡ place.path }
 {
-    Named {
+    NamedPath {
         name: &names[place.name],
         path: place.path,
     }

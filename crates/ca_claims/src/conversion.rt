@@ -6,14 +6,14 @@ ghost use Rattle.ca_quad.specs.Trees.{cell};
 ghost use Rattle.ca_rule.specs.Rule.{rule_value};
 ghost use Rattle.ca_claims.specs.declared.format.Format.TheVariants.{Rle};
 ghost use Rattle.ca_claims.specs.Converted.{IsConverted, IsConvertFault};
-ghost use Rattle.ca_claims.specs.Refused.{HasDetail};
+ghost use Rattle.ca_claims.specs.DetailedFault.{HasDetail};
 ghost use Rattle.ca_claims.specs.inner.Ready.{IsWritableTree, IsWritablePlane, IsWrittenAs, AreUnwritten};
 ghost use Rattle.ca_claims.specs.inner.Ready.{with_no_detail};
 
 use crate::cells::plane_of;
+use crate::detailed_fault::DetailedFault;
 use crate::format::Format;
 use crate::read::format_of;
-use crate::refused::Refused;
 use crate::ruled::{read_ruled, read_ruled_plane};
 use crate::verdict::PatternFault;
 use ca_macro::write_macro;
@@ -79,7 +79,7 @@ pub fn convert_with_detail(
     bytes: &[u8],
     target: Format,
     tables: &[Table],
-) -> Result<Vec<u8>, Refused<ConvertFault>>
+) -> Result<Vec<u8>, DetailedFault<ConvertFault>>
     ensures converted { IfOk result (λ text. IsConverted bytes.now tables.now target text.items) }
     ensures fault { IfErr result (λ refused. IsConvertFault bytes.now tables.now target refused.fault) }
     ensures detail { IfErr result (HasDetail bytes.now) }
@@ -88,13 +88,13 @@ pub fn convert_with_detail(
         // An RLE is written as RLE from the plane of its cells, without squares.
         (Format::Rle, Format::Rle) => {
             let ruled = read_ruled_plane(alloc, bytes, tables)?;
-            written(rle_of_plane(alloc, &ruled.cells, &ruled.rule, ruled.generation))
+            without_detail(rle_of_plane(alloc, &ruled.cells, &ruled.rule, ruled.generation))
         }
         _ => {
             let mut store = Store::new(alloc);
             let ruled = read_ruled(alloc, &mut store, bytes, tables)?;
             let pattern = &ruled.pattern;
-            written(text_of_tree(
+            without_detail(text_of_tree(
                 alloc,
                 &mut store,
                 pattern.tree,
@@ -107,12 +107,14 @@ pub fn convert_with_detail(
 }
 
 /// What is written, or why nothing is.
-fn written(text: Result<Vec<u8>, ConvertFault>) -> Result<Vec<u8>, Refused<ConvertFault>>
+fn without_detail(
+    text: Result<Vec<u8>, ConvertFault>,
+) -> Result<Vec<u8>, DetailedFault<ConvertFault>>
     ensures { result ≡ with_no_detail text }
 {
     match text {
         Ok(text) => Ok(text),
-        Err(fault) => Err(Refused::of(fault)),
+        Err(fault) => Err(DetailedFault::of(fault)),
     }
 }
 

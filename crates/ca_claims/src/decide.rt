@@ -12,7 +12,7 @@ ghost use Rattle.ca_run.specs.Leaping.{LeaperGrows, EndsAtLimit};
 ghost use Rattle.ca_run.specs.declared.fault.LeapFault.TheVariants as leap_fault;
 ghost use Rattle.ca_claims.specs.Limited.{most_runs, IsNoMoreThan};
 ghost use Rattle.ca_claims.specs.Text.{IsShift};
-ghost use Rattle.ca_claims.specs.Truth.{claimed, IsTrueClaim, IsReason};
+ghost use Rattle.ca_claims.specs.Truth.{claimed_cells, IsTrueClaim, IsReason};
 ghost use Rattle.ca_claims.specs.declared.verdict.Cause.TheVariants.{Work, Memory as NoMemory};
 ghost use Rattle.ca_claims.specs.declared.verdict.Verdict.TheVariants.{Refused};
 ghost use Rattle.ca_claims.specs.inner.Spending.{Takes};
@@ -37,7 +37,7 @@ use std::alloc::Global;
 
 /// The trees that a claim is judged on.
 #[derive(Drop)]
-pub(crate) struct Subject {
+pub(crate) struct ClaimTrees {
     /// That of the claim's pattern.
     pub(crate) pattern: Tree,
     /// That of the other pattern that a claim may name; else the same one.
@@ -48,7 +48,7 @@ pub(crate) struct Subject {
 #[derive(Drop)]
 pub(crate) struct Case {
     pub(crate) alloc: Global,
-    pub(crate) subject: Subject,
+    pub(crate) subject: ClaimTrees,
     pub(crate) asks: Asks,
 }
 
@@ -68,12 +68,12 @@ pub(crate) fn decide<A: Automaton, O: Observer>(
     match why_not(leaper, case, observer) {
         Ok(None) => Verdict::Yes,
         Ok(Some(why)) => Verdict::No(why),
-        Err(fault) => Verdict::Refused(cause_of(fault)),
+        Err(fault) => Verdict::Refused(cause_of_leap_fault(fault)),
     }
 }
 
 // The cause of a refusal where leaps came to no end.
-fn cause_of(fault: LeapFault) -> Cause
+fn cause_of_leap_fault(fault: LeapFault) -> Cause
     ensures cause { (result ≡ Work) ⊎ (result ≡ NoMemory) }
     ensures work { result ≡ Work → fault ≡ leap_fault.Work }
 {
@@ -145,9 +145,9 @@ fn find_wrong_cell<A: Automaton, O: Observer>(
     ensures wrong { (cells other : Picture) → AreShown leaper.old.nodes case.now.subject cells other
         → IfOk result (λ why. MatchOption why
         (IsAfter (A.next_of leaper.old.rule) cells case.now.asks.generations
-        (claimed case.now.asks cells other))
+        (claimed_cells case.now.asks cells other))
         (IsDifference (after (A.next_of leaper.old.rule) cells case.now.asks.generations)
-        (plane_cell (claimed case.now.asks cells other))
+        (plane_cell (claimed_cells case.now.asks cells other))
         case.now.asks.generations)) }
     ensures goes_on { LeaperGrows A leaper.old leaper.new }
     ensures takes { Takes leaper.old.spent.used leaper.new.spent.used 1 case.now.subject.pattern.level
@@ -167,7 +167,7 @@ fn claimed_tree<A: Automaton>(leaper: &mut Leaper<A>, case: &Case) -> Result<Tre
     requires { IsCase leaper.old.nodes case.now }
     ensures near { IfOk result (IsNearTree leaper.new.nodes) }
     ensures shows { (cells other : Picture) → AreShown leaper.old.nodes case.now.subject cells other
-        → IfOk result (λ tree. ShowsTree leaper.new.nodes tree (claimed case.now.asks cells other)) }
+        → IfOk result (λ tree. ShowsTree leaper.new.nodes tree (claimed_cells case.now.asks cells other)) }
     ensures goes_on { LeaperGrows A leaper.old leaper.new }
     ensures spent { leaper.new.spent ≡ leaper.old.spent }
 {

@@ -7,14 +7,14 @@ ghost use Rattle.ca_plane.specs.Box.{IsLeastBox};
 ghost use Rattle.ca_quad.specs.Trees.{cell};
 ghost use Rattle.ca_rule.specs.Rule.{rule_value};
 ghost use Rattle.ca_claims.specs.Converted.{IsSummary, IsSummaryFault};
-ghost use Rattle.ca_claims.specs.Refused.{HasDetail};
-ghost use Rattle.ca_claims.specs.inner.Glance.{AreNearBounds, IsLowTree, IsTold};
+ghost use Rattle.ca_claims.specs.DetailedFault.{HasDetail};
+ghost use Rattle.ca_claims.specs.inner.Glance.{AreNearBounds, IsLowTree, IsSummaryOf};
 
 use crate::conversion::ConvertFault;
+use crate::detailed_fault::DetailedFault;
 use crate::format::Format;
 use crate::pattern::Summary;
 use crate::read::format_of;
-use crate::refused::Refused;
 use crate::ruled::{read_ruled, read_ruled_plane};
 use ca_plane::{Bounds, Memory};
 use ca_quad::{Store, Tree, WideBounds};
@@ -46,7 +46,7 @@ pub fn summary_with_detail(
     alloc: Global,
     bytes: &[u8],
     tables: &[Table],
-) -> Result<Summary, Refused<ConvertFault>>
+) -> Result<Summary, DetailedFault<ConvertFault>>
     ensures summary { IfOk result (IsSummary bytes.now tables.now) }
     ensures word { IfOk result (λ s. IsWord s.rule_text.items) }
     ensures fault { IfErr result (λ refused. IsSummaryFault bytes.now tables.now refused.fault) }
@@ -57,7 +57,7 @@ pub fn summary_with_detail(
         Format::Rle => {
             let ruled = read_ruled_plane(alloc, bytes, tables)?;
             let Ok(rule_text) = ruled.rule.text(alloc) else {
-                return Err(Refused::of(ConvertFault::Memory));
+                return Err(DetailedFault::of(ConvertFault::Memory));
             };
             Ok(Summary {
                 kind: Format::Rle,
@@ -80,7 +80,7 @@ pub fn summary_with_detail(
                 pattern.generation,
             ) {
                 Ok(summary) => Ok(summary),
-                Err(_) => Err(Refused::of(ConvertFault::Memory)),
+                Err(_) => Err(DetailedFault::of(ConvertFault::Memory)),
             }
         }
     }
@@ -96,7 +96,7 @@ pub(crate) fn sum_up(
     generation: u64,
 ) -> Result<Summary, Memory>
     requires { IsLowTree store.now tree.now }
-    ensures told { IfOk result (IsTold kind (cell store.now tree.now) (rule_value rule.now) generation) }
+    ensures told { IfOk result (IsSummaryOf kind (cell store.now tree.now) (rule_value rule.now) generation) }
     ensures word { IfOk result (λ s. IsWord s.rule_text.items) }
 {
     let cells = store.population(alloc, *tree)?;
@@ -120,13 +120,13 @@ pub(crate) fn bounds_of(alloc: Global, store: &Store, tree: Tree) -> Result<Opti
     // Says what holds of every store.
     let _ = store.count();
     match store.bounds(alloc, tree)? {
-        Some(bounds) => Ok(Some(narrowed(bounds))),
+        Some(bounds) => Ok(Some(bounds_of_wide(bounds))),
         None => Ok(None),
     }
 }
 
 /// A box that lies near the middle of the plane.
-fn narrowed(bounds: WideBounds) -> Bounds
+fn bounds_of_wide(bounds: WideBounds) -> Bounds
     requires { AreNearBounds bounds }
     ensures x0 { result.x0 ≡ bounds.x0 }
     ensures y0 { result.y0 ≡ bounds.y0 }

@@ -10,8 +10,8 @@ ghost use Rattle.ca_claims.specs.Identified.{IsIdentified, IsUnidentified};
 ghost use Rattle.ca_claims.specs.Identified.{IsIdentityAfter, IsIdentifiedAfter, IsUnidentifiedAfter};
 ghost use Rattle.ca_claims.specs.Limited.{AreGoodLimits};
 ghost use Rattle.ca_claims.specs.Converted.{IsSummaryFault};
-ghost use Rattle.ca_claims.specs.Refused.{HasDetail};
-ghost use Rattle.ca_claims.specs.Text.{longest_period, most_generations};
+ghost use Rattle.ca_claims.specs.DetailedFault.{HasDetail};
+ghost use Rattle.ca_plane.specs.Limits.{longest_period, most_generations};
 ghost use Rattle.ca_claims.specs.inner.Patterns.{cause_of};
 ghost use Rattle.ca_claims.specs.inner.Ready.{IsReady};
 ghost use Rattle.ca_claims.specs.inner.Stages.{TakesRunAndSteps};
@@ -23,11 +23,11 @@ mod search;
 mod stage;
 
 use crate::conversion::ConvertFault;
+use crate::detailed_fault::DetailedFault;
 use crate::identity::{Identity, Unidentified};
 use crate::limits::Limits;
 use crate::observer::Observer;
-use crate::refused::Refused;
-use crate::ruled::{Ruled, read_ruled};
+use crate::ruled::{RuledPattern, read_ruled};
 use crate::verdict::Cause;
 use ca_plane::Automaton;
 use ca_quad::{Store, Tree};
@@ -98,7 +98,7 @@ pub fn identify_after<O: Observer>(
         (IsUnidentifiedAfter bytes.now tables.now limits.work generations limit) }
 {
     let mut store = Store::new(alloc);
-    let Ruled { pattern, rule } = read_small(alloc, &mut store, bytes, tables)?;
+    let RuledPattern { pattern, rule } = read_small(alloc, &mut store, bytes, tables)?;
     let Ok(mut leaper) = Leaper::new(alloc, store, rule, limits.memo, limits.work) else {
         return Err(OUT_OF_MEMORY);
     };
@@ -136,19 +136,19 @@ fn read_small<'t>(
     store: &mut Store,
     bytes: &[u8],
     tables: &'t [Table],
-) -> Result<Ruled<'t>, Unidentified>
+) -> Result<RuledPattern<'t>, Unidentified>
     ensures ready { IfOk result (IsReady store.new bytes.now tables.now) }
     ensures unidentified { (work n limit : ℕ)
         → IfErr result (IsUnidentifiedAfter bytes.now tables.now work n limit) }
 {
     match read_ruled(alloc, store, bytes, tables) {
         Ok(ruled) => Ok(ruled),
-        Err(refused) => Err(unidentified(refused)),
+        Err(refused) => Err(identification_refusal(refused)),
     }
 }
 
 /// Why the pattern of a file that isn't taken up isn't identified.
-fn unidentified(refused: Refused<ConvertFault>) -> Unidentified
+fn identification_refusal(refused: DetailedFault<ConvertFault>) -> Unidentified
     ensures { (bytes : List ℕ) (tables : List TableRule) (work n limit : ℕ)
         → IsSummaryFault bytes tables refused.fault → HasDetail bytes refused
         → IsUnidentifiedAfter bytes tables work n limit result }

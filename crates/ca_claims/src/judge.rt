@@ -17,7 +17,7 @@ use crate::note::Note;
 use crate::noting::note_on;
 use crate::observer::Observer;
 use crate::verdict::Answer;
-use crate::verifier::{Library, Needed, Tables, Task, find_files, verdict_on};
+use crate::verifier::{Library, NeededFiles, Tables, Task, find_files, verdict_on};
 use ca_plane::Memory;
 use ca_run::Unwatched;
 use std::alloc::Global;
@@ -30,7 +30,7 @@ pub struct Judge<'a> {
     alloc: Global,
     files: &'a [File<'a>],
     claims: &'a Claims,
-    needed: Needed<'a>,
+    needed: NeededFiles<'a>,
     library: Library<'a>,
     limits: Limits,
     index: usize,
@@ -141,20 +141,20 @@ pub(crate) fn look_up<'a>(
     alloc: Global,
     claims: &Claims,
     files: &[File<'a>],
-) -> Result<Needed<'a>, Memory>
+) -> Result<NeededFiles<'a>, Memory>
     ensures found { IfOk result
         (λ n. claims.now.claims ≢ [] → AreFound (contents files.now) claims.now n.found.items n.tables) }
     ensures memory { OnErr result (claims.now.claims ≢ []) }
 {
     if claims.claim_count() == 0 {
-        return Ok(Needed {
+        return Ok(NeededFiles {
             found: Vec::new(alloc),
             tables: Tables::Read(Vec::new(alloc)),
         });
     }
     let found = find_files(alloc, claims, files)?;
     let tables = Tables::read(alloc, claims.rules(), &found)?;
-    Ok(Needed { found, tables })
+    Ok(NeededFiles { found, tables })
 }
 
 /// A library for the claims of a text. For one claim alone nothing is kept.
@@ -169,7 +169,7 @@ fn answer_to<'a, 'f, O: Observer>(
     library: &mut Library<'f>,
     claims: &'a Claims,
     index: usize,
-    needed: &Needed<'f>,
+    needed: &NeededFiles<'f>,
     limits: Limits,
     observer: &mut O,
 ) -> (Answer, Note<'a>)

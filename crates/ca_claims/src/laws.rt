@@ -2,7 +2,7 @@
 
 ghost use Rattle.std.specs.Prelude.{◌≡◌, ◌≢◌, ℕ, List, [], ◌∷◌, Option, codes};
 ghost use Rattle.ca_claims.specs.Text.{ClaimTextLine, IsClaimText, asked_by};
-ghost use Rattle.ca_claims.specs.Needed.{IsNeeded};
+ghost use Rattle.ca_claims.specs.NeededFiles.{IsNeeded};
 ghost use Rattle.ca_claims.specs.TextFaults.{IsFirstClaimFault};
 ghost use Rattle.ca_claims.specs.Examples.{block_text, block_said, block_asked, every_text, every_said};
 ghost use Rattle.ca_claims.specs.Examples.{every_asked, rule_line_text, table_said, tables_text, tables_said};

@@ -3,9 +3,6 @@
 ghost use Rattle.std.specs.Prelude.{◌≡◌};
 ghost use Rattle.ca_claims.specs.Limited.{AreGoodLimits};
 
-/// The most entries that a claim's memo may have.
-pub const MOST_MEMO: usize = 16777216;
-
 /// How many entries a claim's memo may have, unless it is set.
 pub const USUAL_MEMO: usize = 262144;
 

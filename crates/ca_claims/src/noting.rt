@@ -7,17 +7,17 @@ ghost use Rattle.ca_claims.specs.Notes.{IsNote, HasItsNote};
 ghost use Rattle.ca_claims.specs.inner.Patterns.{items, IsListPart};
 ghost use Rattle.ca_claims.specs.inner.Refusals.{IsOnVerdict};
 
-use crate::claims::{Claims, Named};
+use crate::claims::{Claims, NamedPath};
 use crate::note::Note;
-use crate::refusal::{About, Judged, Part};
+use crate::refusal::{About, JudgedClaim, WhichPattern};
 use crate::verdict::{Verdict, Why};
 use crate::verifier::OneOrTwo;
 
 /// The note on a verdict on a claim about these patterns.
 pub(crate) fn note_on<'a>(
     claims: &'a Claims,
-    patterns: &OneOrTwo<Named<'a>>,
-    judged: Judged,
+    patterns: &OneOrTwo<NamedPath<'a>>,
+    judged: JudgedClaim,
 ) -> Note<'a>
     requires within { AllByRecursion (λ n. n.path < length claims.now.paths) (items patterns.now) }
     ensures { (files : List (List ℕ × List ℕ))
@@ -29,7 +29,7 @@ pub(crate) fn note_on<'a>(
 {
     match (judged.verdict, judged.about) {
         (Verdict::No(Why::Differs { .. }), _) => Note::Cell {
-            name: named_part(patterns, Part::First).name,
+            name: named_part(patterns, WhichPattern::First).name,
         },
         (
             Verdict::Refused(_),
@@ -56,12 +56,12 @@ pub(crate) fn note_on<'a>(
 }
 
 /// This one of a claim's patterns; the only one, where there is one.
-fn named_part<'a>(patterns: &OneOrTwo<Named<'a>>, part: Part) -> Named<'a>
+fn named_part<'a>(patterns: &OneOrTwo<NamedPath<'a>>, part: WhichPattern) -> NamedPath<'a>
     ensures { IsListPart part (items patterns.now) result }
 {
     match (patterns, part) {
         (OneOrTwo::One(only), _) => *only,
-        (OneOrTwo::Two(first, _), Part::First) => *first,
-        (OneOrTwo::Two(_, second), Part::Second) => *second,
+        (OneOrTwo::Two(first, _), WhichPattern::First) => *first,
+        (OneOrTwo::Two(_, second), WhichPattern::Second) => *second,
     }
 }

@@ -17,7 +17,7 @@ pub(crate) enum About {
     /// One of its patterns. Where the cause is a fault that stands on a line of the file, this is the line;
     /// where the file's rule text names no rule, this is the text.
     Pattern {
-        part: Part,
+        part: WhichPattern,
         line: Option<u64>,
         rule_text: Option<Vec<u8>>,
     },
@@ -27,14 +27,14 @@ pub(crate) enum About {
 
 /// Which of a claim's patterns.
 #[derive(Clone, Copy)]
-pub(crate) enum Part {
+pub(crate) enum WhichPattern {
     First,
     Second,
 }
 
 /// A verdict, and what its cause is about where it is a refusal.
 #[derive(Drop)]
-pub(crate) struct Judged {
+pub(crate) struct JudgedClaim {
     pub(crate) verdict: Verdict,
     pub(crate) about: About,
 }

@@ -4,7 +4,7 @@ ghost use Rattle.std.specs.Prelude.{◌≡◌, ℕ, List, Some, None, IfOk, IfEr
 ghost use Rattle.ca_rule.specs.TableNext.{TableRule};
 ghost use Rattle.ca_claims.specs.declared.conversion.ConvertFault.TheVariants.{BadRule};
 ghost use Rattle.ca_claims.specs.Converted.{IsSummaryFault};
-ghost use Rattle.ca_claims.specs.Refused.{HasDetail};
+ghost use Rattle.ca_claims.specs.DetailedFault.{HasDetail};
 ghost use Rattle.ca_claims.specs.declared.format.Format.TheVariants.{Rle};
 ghost use Rattle.ca_claims.specs.Means.{format_of};
 ghost use Rattle.ca_claims.specs.inner.Ready.{IsReady, IsReadyPlane};
@@ -12,9 +12,9 @@ ghost use Rattle.ca_claims.specs.inner.Patterns.{IsUnread, IsUnnamedFor, IsRuled
 
 use crate::cells::{has_large_cell, has_large_state};
 use crate::conversion::ConvertFault;
+use crate::detailed_fault::DetailedFault;
 use crate::pattern::Loaded;
 use crate::read::{BadPattern, bad_rle, read_with_line};
-use crate::refused::Refused;
 use crate::verdict::PatternFault;
 use ca_plane::Plane;
 use ca_quad::Store;
@@ -24,25 +24,28 @@ use std::alloc::Global;
 
 /// A pattern, and the rule that its rule text names.
 #[derive(Drop)]
-pub(crate) struct Ruled<'t> {
+pub(crate) struct RuledPattern<'t> {
     pub pattern: Loaded,
     pub rule: Rule<'t>,
 }
 
 /// A rule text that names no rule, and what is wrong with it.
 #[derive(Drop)]
-pub(crate) struct Unnamed {
+pub(crate) struct UnnamedRule {
     pub fault: RuleFault,
     pub rule_text: Vec<u8>,
 }
 
 /// The pattern with the rule that its rule text names among the tables, or what is wrong with the text.
-pub(crate) fn with_rule<'t>(pattern: Loaded, tables: &'t [Table]) -> Result<Ruled<'t>, Unnamed>
+pub(crate) fn with_rule<'t>(
+    pattern: Loaded,
+    tables: &'t [Table],
+) -> Result<RuledPattern<'t>, UnnamedRule>
     ensures { MatchResult result (IsRuledAs tables.now pattern) (IsUnnamedFor tables.now pattern) }
 {
     match resolve(&pattern.rule_text, tables) {
-        Ok(rule) => Ok(Ruled { pattern, rule }),
-        Err(fault) => Err(Unnamed {
+        Ok(rule) => Ok(RuledPattern { pattern, rule }),
+        Err(fault) => Err(UnnamedRule {
             fault,
             rule_text: pattern.rule_text,
         }),
@@ -50,14 +53,14 @@ pub(crate) fn with_rule<'t>(pattern: Loaded, tables: &'t [Table]) -> Result<Rule
 }
 
 /// Why a pattern file isn't taken up that isn't read.
-fn unread(bad: BadPattern) -> Refused<ConvertFault>
+fn refusal_of_bad_pattern(bad: BadPattern) -> DetailedFault<ConvertFault>
     ensures fault { (bytes : List ℕ) (tables : List TableRule) → IsUnread bytes bad
         → IsSummaryFault bytes tables result.fault }
     ensures detail { (bytes : List ℕ) → IsUnread bytes bad → HasDetail bytes result }
 {
     match bad.fault {
-        PatternFault::Memory => Refused::of(ConvertFault::Memory),
-        fault => Refused {
+        PatternFault::Memory => DetailedFault::of(ConvertFault::Memory),
+        fault => DetailedFault {
             fault: ConvertFault::BadPattern(fault),
             line: bad.line,
             rule_text: None,
@@ -66,14 +69,14 @@ fn unread(bad: BadPattern) -> Refused<ConvertFault>
 }
 
 /// Why a pattern file isn't taken up whose rule text names no rule.
-fn unruled(unnamed: Unnamed) -> Refused<ConvertFault>
+fn refusal_of_unnamed_rule(unnamed: UnnamedRule) -> DetailedFault<ConvertFault>
     ensures { result ≡ record {
       fault = BadRule unnamed.fault;
       line = None;
       rule_text = Some unnamed.rule_text;
     } }
 {
-    Refused {
+    DetailedFault {
         fault: ConvertFault::BadRule(unnamed.fault),
         line: None,
         rule_text: Some(unnamed.rule_text),
@@ -87,23 +90,23 @@ pub(crate) fn read_ruled<'t>(
     store: &mut Store,
     bytes: &[u8],
     tables: &'t [Table],
-) -> Result<Ruled<'t>, Refused<ConvertFault>>
+) -> Result<RuledPattern<'t>, DetailedFault<ConvertFault>>
     ensures ready { IfOk result (IsReady store.new bytes.now tables.now) }
     ensures fault { IfErr result (λ refused. IsSummaryFault bytes.now tables.now refused.fault) }
     ensures detail { IfErr result (HasDetail bytes.now) }
 {
     let pattern = match read_with_line(alloc, store, bytes) {
         Ok(pattern) => pattern,
-        Err(bad) => return Err(unread(bad)),
+        Err(bad) => return Err(refusal_of_bad_pattern(bad)),
     };
     let ruled = match with_rule(pattern, tables) {
         Ok(ruled) => ruled,
-        Err(unnamed) => return Err(unruled(unnamed)),
+        Err(unnamed) => return Err(refusal_of_unnamed_rule(unnamed)),
     };
     match has_large_state(alloc, store, &ruled) {
         Ok(false) => Ok(ruled),
-        Ok(true) => Err(Refused::of(ConvertFault::StateTooLarge)),
-        Err(_) => Err(Refused::of(ConvertFault::Memory)),
+        Ok(true) => Err(DetailedFault::of(ConvertFault::StateTooLarge)),
+        Err(_) => Err(DetailedFault::of(ConvertFault::Memory)),
     }
 }
 
@@ -121,7 +124,7 @@ pub(crate) fn read_ruled_plane<'t>(
     alloc: Global,
     bytes: &[u8],
     tables: &'t [Table],
-) -> Result<RuledPlane<'t>, Refused<ConvertFault>>
+) -> Result<RuledPlane<'t>, DetailedFault<ConvertFault>>
     requires { format_of bytes.now ≡ Rle }
     ensures ready { IfOk result (IsReadyPlane bytes.now tables.now) }
     ensures fault { IfErr result (λ refused. IsSummaryFault bytes.now tables.now refused.fault) }
@@ -133,14 +136,14 @@ pub(crate) fn read_ruled_plane<'t>(
         generation,
     } = match read_rle_with_line(alloc, bytes) {
         Ok(pattern) => pattern,
-        Err(found) => return Err(unread(bad_rle(found))),
+        Err(found) => return Err(refusal_of_bad_pattern(bad_rle(found))),
     };
     let rule = match resolve(&rule_text, tables) {
         Ok(rule) => rule,
-        Err(fault) => return Err(unruled(Unnamed { fault, rule_text })),
+        Err(fault) => return Err(refusal_of_unnamed_rule(UnnamedRule { fault, rule_text })),
     };
     if has_large_cell(&cells, &rule) {
-        return Err(Refused::of(ConvertFault::StateTooLarge));
+        return Err(DetailedFault::of(ConvertFault::StateTooLarge));
     }
     Ok(RuledPlane {
         cells,

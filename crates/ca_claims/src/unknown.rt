@@ -58,13 +58,13 @@ fn names_of(
 {
     let mut names = WordSet::new(alloc);
     'files: for index in 0..found.len() {
-        add_name(alloc, needed[index], found[index], tables, &mut names)?;
+        add_unknown(alloc, needed[index], found[index], tables, &mut names)?;
     }
     Ok(names)
 }
 
 /// Adds the name that a file asks for, if it asks for one.
-fn add_name(
+fn add_unknown(
     alloc: Global,
     is_needed: bool,
     file: Option<&[u8]>,

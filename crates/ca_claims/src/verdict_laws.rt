@@ -184,7 +184,8 @@ pub fn one_kind_of_verdict()
 /// With more rule lines at the text's end, whose files are good tables, a true verdict stays true, but for one that
 /// a pattern's rule isn't known: so they change no other claim.
 pub fn added_rules_change_no_verdict()
-    ensures { (files : List (List ℕ × List ℕ)) (rules more : List (List ℕ)) (claim : Claim) (verdict : Verdict)
+    ensures { (files : List (List ℕ × List ℕ)) (rules more : List (List ℕ))
+        (claim : Claim) (verdict : Verdict)
         → AllByRecursion (HoldsTable files) more → verdict ≢ Refused (BadRule Unknown)
         → IsTrueVerdict files rules claim verdict → IsTrueVerdict files (rules ++ more) claim verdict }
 {}

@@ -2,7 +2,7 @@
 
 ghost use Rattle.std.specs.Prelude.{◌≡◌, ◌≢◌, ℕ, List, [], ◌∷◌, map, IfOk, OnErr, MatchResult};
 ghost use Rattle.std.specs.Option.{option_copied};
-ghost use Rattle.ca_claims.specs.Text.{Claim as TextClaim, patterns_of, about};
+ghost use Rattle.ca_claims.specs.Text.{Claim as TextClaim, patterns_of, map_patterns};
 ghost use Rattle.ca_claims.specs.Places.{path_at};
 ghost use Rattle.ca_claims.specs.Means.{contents, bytes_at};
 ghost use Rattle.ca_claims.specs.declared.refusal.About.TheVariants as abouts;
@@ -34,13 +34,13 @@ use crate::file::File;
 use crate::judge::Judge;
 use crate::limits::Limits;
 use crate::observer::Observer;
-use crate::refusal::{About, Judged, Refusal};
+use crate::refusal::{About, JudgedClaim, Refusal};
 use crate::verdict::{Answer, Cause, Verdict};
 use ca_plane::Memory;
 pub(crate) use library::Library;
-pub(crate) use needed::Needed;
+pub(crate) use needed::NeededFiles;
 pub(crate) use one_or_two::OneOrTwo;
-use prepared::{Prepared, prepare};
+use prepared::{PreparedClaim, prepare};
 use std::alloc::Global;
 pub(crate) use tables::Tables;
 pub(crate) use task::Task;
@@ -102,12 +102,12 @@ pub(crate) fn verdict_on<'a, O: Observer>(
     library: &mut Library<'a>,
     task: &Task<'_, 'a>,
     observer: &mut O,
-) -> Judged
+) -> JudgedClaim
     requires { CanBeJudged task.now }
     ensures { (files : List (List ℕ × List ℕ)) (paths rules : List (List ℕ))
         → IsOnFiles files paths rules task.now
         → IsJudgedOn files paths rules task.now.limits.work
-        (about (path_at paths) task.now.claim.now) result.verdict result.about }
+        (map_patterns (path_at paths) task.now.claim.now) result.verdict result.about }
 {
     let judged = as_judged(judge(alloc, library, task, observer));
     if library.is_empty() || !wants_memory(&judged.verdict) {
@@ -124,18 +124,18 @@ fn wants_memory(verdict: &Verdict) -> bool {
 }
 
 /// The verdict that was reached, or the refusal.
-fn as_judged(judged: Result<Verdict, Refusal>) -> Judged
+fn as_judged(judged: Result<Verdict, Refusal>) -> JudgedClaim
     ensures { (files : List (List ℕ × List ℕ)) (paths rules : List (List ℕ)) (work : ℕ) (claim : TextClaim)
         → MatchResult judged (λ verdict. IsJudgedOn files paths rules work claim verdict abouts.Claim)
         (λ r. IsJudgedOn files paths rules work claim (Refused r.cause) r.about)
         → IsJudgedOn files paths rules work claim result.verdict result.about }
 {
     match judged {
-        Ok(verdict) => Judged {
+        Ok(verdict) => JudgedClaim {
             verdict,
             about: About::Claim,
         },
-        Err(refusal) => Judged {
+        Err(refusal) => JudgedClaim {
             verdict: Verdict::Refused(refusal.cause),
             about: refusal.about,
         },
@@ -154,9 +154,9 @@ fn judge<'a, O: Observer>(
         → IsOnFiles files paths rules task.now
         → MatchResult result
         (λ verdict. IsJudgedOn files paths rules task.now.limits.work
-        (about (path_at paths) task.now.claim.now) verdict abouts.Claim)
-        (λ r. IsJudgedOn files paths rules task.now.limits.work (about (path_at paths) task.now.claim.now)
-        (Refused r.cause) r.about) }
+        (map_patterns (path_at paths) task.now.claim.now) verdict abouts.Claim)
+        (λ r. IsJudgedOn files paths rules task.now.limits.work
+        (map_patterns (path_at paths) task.now.claim.now) (Refused r.cause) r.about) }
 {
     let asks = task.claim.kind.asks();
     let places = places_of(task.claim);
@@ -175,7 +175,7 @@ fn judge<'a, O: Observer>(
 // The verdict on a claim that asks this, on what was prepared for it.
 fn decide_on<O: Observer>(
     alloc: Global,
-    prepared: Prepared<'_>,
+    prepared: PreparedClaim<'_>,
     asks: Asks,
     observer: &mut O,
 ) -> Verdict
@@ -186,7 +186,7 @@ fn decide_on<O: Observer>(
     ensures work { prepared.entry.leaper.spent.used ≡ 0 → result ≡ Refused Work
         → IsNoMoreThan prepared.entry.leaper.spent.limit asks prepared.entry.subject.pattern.level }
 {
-    let Prepared {
+    let PreparedClaim {
         mut leaper,
         subject,
     } = prepared;

@@ -3,7 +3,7 @@ use Rattle.std.proofs.Common.{◌≡◌, ℕ, suc, ◌+◌, ◌-◌, ◌*◌, �
 use Rattle.std.proofs.lemmas.Nat.{pow_pos, mul-le}
 use Rattle.std.proofs.Math.Nat.{div-eq_of_lt, div-mul-le_self, lt-div-mul-add, add-mul-div_right}
 use Rattle.ca_quad.specs.declared.node.Node.{Node}
-use Rattle.ca_quad.specs.Squares.{together, cell_of}
+use Rattle.ca_quad.specs.Squares.{joined_cells, cell_of}
 use Rattle.ca_quad.specs.Trees.{IsEmpty}
 use Rattle.ca_quad.proofs.Growth.{below_or_not}
 use Rattle.ca_quad.proofs.Cells.{in_nw, in_ne, in_sw, in_se, at_ne, at_sw, at_se, cell_ends}
@@ -53,7 +53,7 @@ beyond k half x c is h =
 -- a square in four that lie together is one of one of these
 module _ (k half : ℕ) (nw ne sw se : ℕ → ℕ → ℕ) (column row : ℕ) where
   abbrev four : ℕ → ℕ → ℕ
-  four = together (half * 2 ^ k) nw ne sw se
+  four = joined_cells (half * 2 ^ k) nw ne sw se
 
   pub blank_nw : column < half → row < half → IsBlankIn nw k column row ↔ IsBlankIn four k column row
   blank_nw h i = (

@@ -3,10 +3,10 @@ use Rattle.std.proofs.Common.{◌≡◌, ℕ, suc, ◌+◌, ◌-◌, ◌*◌, �
 use Rattle.std.proofs.lemmas.Nat.{pow-add}
 use Rattle.std.proofs.Math.Nat.{two-pow-succ}
 use Rattle.ca_quad.specs.declared.node.Node.{Node}
-use Rattle.ca_quad.specs.Squares.{IsOf, together, cell_of}
+use Rattle.ca_quad.specs.Squares.{IsOf, joined_cells, cell_of}
 use Rattle.ca_quad.specs.Trees.{IsEmpty, AreQuarters}
 use Rattle.ca_quad.proofs.Cuts.{quarters_at}
-use Rattle.ca_draw.specs.declared.squares.Part.{Part}
+use Rattle.ca_draw.specs.declared.squares.PartPlace.{PartPlace}
 use Rattle.ca_draw.specs.inner.Blanks.{IsBlankIn, LiesInPart}
 use Rattle.ca_draw.proofs.Blanks.{blank_whole, blank_nw, blank_ne, blank_sw, blank_se}
 
@@ -39,10 +39,10 @@ module _ (nodes : List Node) (id scale column row half level nw ne sw se : ℕ) 
       is_half ∙ ap (λ k. 2 ^ k) e
 
   abbrev four : ℕ → ℕ → ℕ
-  four = together (half * 2 ^ scale) (cell_of nodes m nw) (cell_of nodes m ne) (cell_of nodes m sw) (cell_of nodes m se)
+  four = joined_cells (half * 2 ^ scale) (cell_of nodes m nw) (cell_of nodes m ne) (cell_of nodes m sw) (cell_of nodes m se)
 
   same : (x y : ℕ) → cell_of nodes (suc m) id x y ≡ four x y
-  same x y = q.has_cells x y ∙ ap (λ n. together n (cell_of nodes m nw) (cell_of nodes m ne) (cell_of nodes m sw) (cell_of nodes m se) x y) whole
+  same x y = q.has_cells x y ∙ ap (λ n. joined_cells n (cell_of nodes m nw) (cell_of nodes m ne) (cell_of nodes m sw) (cell_of nodes m se) x y) whole
 
   lies : (part c r : ℕ) → IsOf nodes part m → c < half → r < half → IsBlankIn (cell_of nodes m part) scale c r ↔ IsBlankIn four scale column row
       → LiesInPart nodes id m scale column row (record { id = part; column = c; row = r })
@@ -84,7 +84,7 @@ whole_blank nodes id level scale column row same i j r b =
     rw (c, d, sym same) (λ t. e.0 (b.0 t), λ k. b.1 (e.1 k))
 
 -- one that lies in a part
-pub part_blank : (nodes : List Node) (id level scale column row : ℕ) (part : Part) → 1 ≤ level → LiesInPart nodes id (level - 1) scale column row part
+pub part_blank : (nodes : List Node) (id level scale column row : ℕ) (part : PartPlace) → 1 ≤ level → LiesInPart nodes id (level - 1) scale column row part
     → (r : Bool) → (r ≡ true) ↔ IsBlankIn (cell_of nodes (level - 1) part.id) scale part.column part.row → (r ≡ true) ↔ IsBlankIn (cell_of nodes level id) scale column row
 part_blank nodes id level scale column row part some lies r b =
     let next : suc (level - 1) ≡ level = omega arith in

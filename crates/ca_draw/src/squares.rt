@@ -12,7 +12,7 @@ use ca_quad::{Id, Spot, Store, Tree, edge_distance};
 
 // One of the four parts of a square, and a column and a row of squares in it.
 #[derive(Clone, Copy)]
-struct Part {
+struct PartPlace {
     id: Id,
     column: u128,
     row: u128,
@@ -98,7 +98,7 @@ fn is_blank_in(store: &Store, id: Id, level: u8, scale: u8, column: u128, row: u
 }
 
 // The part of a larger square in which one of its squares lies, and where it lies in that.
-fn part_at(store: &Store, id: Id, level: u8, scale: u8, column: u128, row: u128) -> Part
+fn part_at(store: &Store, id: Id, level: u8, scale: u8, column: u128, row: u128) -> PartPlace
     requires square { IsOf store.now id level }
     requires least { 1 ≤ scale }
     requires most { scale < level }
@@ -111,26 +111,26 @@ fn part_at(store: &Store, id: Id, level: u8, scale: u8, column: u128, row: u128)
     let [nw, ne, sw, se] = store.children(id);
     if row < half {
         if column < half {
-            return Part {
+            return PartPlace {
                 id: nw,
                 column,
                 row,
             };
         }
-        return Part {
+        return PartPlace {
             id: ne,
             column: column - half,
             row,
         };
     }
     if column < half {
-        return Part {
+        return PartPlace {
             id: sw,
             column,
             row: row - half,
         };
     }
-    Part {
+    PartPlace {
         id: se,
         column: column - half,
         row: row - half,

@@ -15,7 +15,7 @@ pub const MOST_SIDE: u16 = 8192;
 pub const MOST_SCALE: u8 = 124;
 
 // How far from 0 the columns and rows of a window may be.
-const REACH: i128 = 1 << 124;
+const WINDOW_REACH: i128 = 1 << 124;
 
 /// A window of the plane, which shows squares of 2^`scale` by 2^`scale` cells. The square at column c and row
 /// r has the cells whose x and y, divided by 2^`scale` and rounded down, are c and r. Columns are counted to
@@ -135,7 +135,10 @@ impl Window {
 fn are_strips(first: i128, count: u16) -> bool
     ensures { IsTrue result ↔ AreStrips first count }
 {
-    1 <= count && count <= MOST_SIDE && -REACH <= first && first <= REACH - i128::from(count)
+    1 <= count
+        && count <= MOST_SIDE
+        && -WINDOW_REACH <= first
+        && first <= WINDOW_REACH - i128::from(count)
 }
 
 // The columns from that of an x to that of another, or the rows of two y, where they are at most so many.
@@ -148,7 +151,7 @@ fn strips_between(scale: u8, from: i128, to: i128, most: u16) -> Option<Strips>
 {
     let first = strip(scale, from);
     let last = strip(scale, to);
-    if first < -REACH || last >= REACH {
+    if first < -WINDOW_REACH || last >= WINDOW_REACH {
         return None;
     }
     let count = count_of(first, last);

@@ -12,13 +12,13 @@ use Rattle.ca_plane.specs.declared.point.Point.{Point}
 use Rattle.ca_plane.specs.Plane.{Picture, IsPicture, cell, shifted}
 use Rattle.ca_plane.proofs.Pictures.{place-from_true, cell-first}
 use Rattle.ca_plane.proofs.Shifts.{cell-shifted}
-use Rattle.ca_quad.specs.Squares.{dot, together}
+use Rattle.ca_quad.specs.Squares.{one_cell, joined_cells}
 use Rattle.ca_quad.specs.Trees.{from_corner, row_cells}
 use Rattle.ca_quad.proofs.Growth.{below_or_not}
-use Rattle.ca_quad.specs.inner.Measure.{Ends}
+use Rattle.ca_quad.specs.inner.Measure.{EndsWithin}
 use Rattle.ca_quad.proofs.Cells.{in_nw, in_ne, in_sw, in_se, dot_ends, together_ends}
 use Rattle.ca_quad.proofs.Edges.{off_x, off_y}
-use Rattle.ca_macro.specs.Shown.{row_from, rows_from, leaf_state, joined}
+use Rattle.ca_macro.specs.Shown.{row_from, rows_from, leaf_state, joined_picture}
 use Rattle.ca_macro.specs.inner.Leaves.{row_bits, leaf_bits}
 
 -- ---- one picture after another
@@ -152,14 +152,14 @@ from_corner_same p q same (negsuc x) (negsuc y) = refl
 
 -- ---- four cells
 
-pub four_cells : (nw ne sw se x y : ℕ) → in_rows ((nw ∷ ne ∷ []) ∷ (sw ∷ se ∷ []) ∷ []) x y ≡ together 1 (dot nw) (dot ne) (dot sw) (dot se) x y
+pub four_cells : (nw ne sw se x y : ℕ) → in_rows ((nw ∷ ne ∷ []) ∷ (sw ∷ se ∷ []) ∷ []) x y ≡ joined_cells 1 (one_cell nw) (one_cell ne) (one_cell sw) (one_cell se) x y
 four_cells nw ne sw se zero zero = refl
 four_cells nw ne sw se (suc zero) zero = refl
 four_cells nw ne sw se zero (suc zero) = refl
 four_cells nw ne sw se (suc zero) (suc zero) = refl
-four_cells nw ne sw se (suc (suc x)) zero = sym (together_ends 1 (dot nw) (dot ne) (dot sw) (dot se) (dot_ends nw 1 (omega arith)) (dot_ends ne 1 (omega arith)) (dot_ends sw 1 (omega arith)) (dot_ends se 1 (omega arith)) (suc (suc x)) zero (inl (omega arith)))
-four_cells nw ne sw se (suc (suc x)) (suc zero) = sym (together_ends 1 (dot nw) (dot ne) (dot sw) (dot se) (dot_ends nw 1 (omega arith)) (dot_ends ne 1 (omega arith)) (dot_ends sw 1 (omega arith)) (dot_ends se 1 (omega arith)) (suc (suc x)) (suc zero) (inl (omega arith)))
-four_cells nw ne sw se x (suc (suc y)) = sym (together_ends 1 (dot nw) (dot ne) (dot sw) (dot se) (dot_ends nw 1 (omega arith)) (dot_ends ne 1 (omega arith)) (dot_ends sw 1 (omega arith)) (dot_ends se 1 (omega arith)) x (suc (suc y)) (inr (omega arith)))
+four_cells nw ne sw se (suc (suc x)) zero = sym (together_ends 1 (one_cell nw) (one_cell ne) (one_cell sw) (one_cell se) (dot_ends nw 1 (omega arith)) (dot_ends ne 1 (omega arith)) (dot_ends sw 1 (omega arith)) (dot_ends se 1 (omega arith)) (suc (suc x)) zero (inl (omega arith)))
+four_cells nw ne sw se (suc (suc x)) (suc zero) = sym (together_ends 1 (one_cell nw) (one_cell ne) (one_cell sw) (one_cell se) (dot_ends nw 1 (omega arith)) (dot_ends ne 1 (omega arith)) (dot_ends sw 1 (omega arith)) (dot_ends se 1 (omega arith)) (suc (suc x)) (suc zero) (inl (omega arith)))
+four_cells nw ne sw se x (suc (suc y)) = sym (together_ends 1 (one_cell nw) (one_cell ne) (one_cell sw) (one_cell se) (dot_ends nw 1 (omega arith)) (dot_ends ne 1 (omega arith)) (dot_ends sw 1 (omega arith)) (dot_ends se 1 (omega arith)) x (suc (suc y)) (inr (omega arith)))
 
 -- ---- the bits of a leaf
 
@@ -202,7 +202,7 @@ pub shifted_states : (p : Picture) (dx dy : ℤ) → IsPicture p → IsPicture (
 shifted_states p dx dy h = All-map (λ (e : Point × ℕ). (1 ≤ e.1) × (e.1 ≤ 255)) (λ (e : Point × ℕ). (record { y = e.0.y +ℤ dy; x = e.0.x +ℤ dx }, e.1)) p h
 
 module _ (half : ℕ) (p q r s : Picture) (hp : IsPicture p) (hq : IsPicture q) (hr : IsPicture r) (hs : IsPicture s) where
-  pub joined_states : IsPicture (joined half p q r s)
+  pub joined_states : IsPicture (joined_picture half p q r s)
   joined_states =
       All-append (λ e. (1 ≤ e.1) × (e.1 ≤ 255)) p (shifted q (pos half) (pos 0) ++ (shifted r (pos 0) (pos half) ++ shifted s (pos half) (pos half))) hp
       (All-append (λ e. (1 ≤ e.1) × (e.1 ≤ 255)) (shifted q (pos half) (pos 0)) (shifted r (pos 0) (pos half) ++ shifted s (pos half) (pos half)) (shifted_states q (pos half) (pos 0) hq)
@@ -214,7 +214,7 @@ module _ (half : ℕ) (p q r s : Picture) (hp : IsPicture p) (hq : IsPicture q) 
     third : (cell (shifted q (pos half) (pos 0)) x y ≡ 0) ⊎ (cell (shifted r (pos 0) (pos half)) x y + cell (shifted s (pos half) (pos half)) x y ≡ 0)
     first : (cell p x y ≡ 0) ⊎ (cell (shifted q (pos half) (pos 0)) x y + (cell (shifted r (pos 0) (pos half)) x y + cell (shifted s (pos half) (pos half)) x y) ≡ 0)
 
-  joined_sum : (x y : ℤ) → AtMostOne x y → cell (joined half p q r s) x y
+  joined_sum : (x y : ℤ) → AtMostOne x y → cell (joined_picture half p q r s) x y
       ≡ cell p x y + (cell (shifted q (pos half) (pos 0)) x y + (cell (shifted r (pos 0) (pos half)) x y + cell (shifted s (pos half) (pos half)) x y))
   joined_sum x y h =
       let q1 : Picture = shifted q (pos half) (pos 0) in
@@ -225,7 +225,7 @@ module _ (half : ℕ) (p q r s : Picture) (hp : IsPicture p) (hq : IsPicture q) 
       let a = cell-plus p (q1 ++ (r1 ++ s1)) x y hp (elim h.first [ inl e ↦ inl e | inr e ↦ inr (b ∙ (ap (λ n. cell q1 x y + n) c ∙ e)) ]) in
       a ∙ ap (λ n. cell p x y + n) (b ∙ ap (λ n. cell q1 x y + n) c)
 
-  module _ (a b c d : ℕ → ℕ → ℕ) (ea : Ends half a) (eb : Ends half b) (ec : Ends half c) (ed : Ends half d)
+  module _ (a b c d : ℕ → ℕ → ℕ) (ea : EndsWithin half a) (eb : EndsWithin half b) (ec : EndsWithin half c) (ed : EndsWithin half d)
       (pa : (x y : ℤ) → cell p x y ≡ from_corner a x y) (qb : (x y : ℤ) → cell q x y ≡ from_corner b x y)
       (rc : (x y : ℤ) → cell r x y ≡ from_corner c x y) (sd : (x y : ℤ) → cell s x y ≡ from_corner d x y)
     where
@@ -240,7 +240,7 @@ module _ (half : ℕ) (p q r s : Picture) (hp : IsPicture p) (hq : IsPicture q) 
 
       -- where all four are 0
       none : (x y : ℤ) → from_corner a x y ≡ 0 → from_corner b (x -ℤ pos half) (y -ℤ pos 0) ≡ 0 → from_corner c (x -ℤ pos 0) (y -ℤ pos half) ≡ 0
-          → from_corner d (x -ℤ pos half) (y -ℤ pos half) ≡ 0 → cell (joined half p q r s) x y ≡ 0
+          → from_corner d (x -ℤ pos half) (y -ℤ pos half) ≡ 0 → cell (joined_picture half p q r s) x y ≡ 0
       none x y na nb nc nd =
           let e = pa x y ∙ na in
           let f = q_at x y ∙ nb in
@@ -249,14 +249,14 @@ module _ (half : ℕ) (p q r s : Picture) (hp : IsPicture p) (hq : IsPicture q) 
           joined_sum x y (record { last = inl g; third = inl f; first = inl e }) ∙ omega arith
 
       -- to the left they are
-      none_left : (x y : ℤ) → x <ℤ pos 0 → cell (joined half p q r s) x y ≡ 0
+      none_left : (x y : ℤ) → x <ℤ pos 0 → cell (joined_picture half p q r s) x y ≡ 0
       none_left x y h = none x y (off_x a half ea x y (inl h)) (off_x b half eb _ _ (inl (omega (arith, ints)))) (off_x c half ec _ _ (inl (omega (arith, ints)))) (off_x d half ed _ _ (inl (omega (arith, ints))))
 
       -- and above
-      none_above : (x y : ℤ) → y <ℤ pos 0 → cell (joined half p q r s) x y ≡ 0
+      none_above : (x y : ℤ) → y <ℤ pos 0 → cell (joined_picture half p q r s) x y ≡ 0
       none_above x y h = none x y (off_y a half ea x y (inl h)) (off_y b half eb _ _ (inl (omega (arith, ints)))) (off_y c half ec _ _ (inl (omega (arith, ints)))) (off_y d half ed _ _ (inl (omega (arith, ints))))
 
-      at_nw : (x y : ℕ) → x < half → y < half → cell (joined half p q r s) (pos x) (pos y) ≡ a x y
+      at_nw : (x y : ℕ) → x < half → y < half → cell (joined_picture half p q r s) (pos x) (pos y) ≡ a x y
       at_nw x y h k =
           let e = pa (pos x) (pos y) in
           let f = q_at (pos x) (pos y) ∙ off_x b half eb (pos x -ℤ pos half) (pos y -ℤ pos 0) (inl (omega (arith, ints))) in
@@ -264,7 +264,7 @@ module _ (half : ℕ) (p q r s : Picture) (hp : IsPicture p) (hq : IsPicture q) 
           let i = s_at (pos x) (pos y) ∙ off_x d half ed (pos x -ℤ pos half) (pos y -ℤ pos half) (inl (omega (arith, ints))) in
           joined_sum (pos x) (pos y) (record { last = inl g; third = inl f; first = inr (omega arith) }) ∙ omega arith
 
-      at_ne : (x y : ℕ) → half ≤ x → y < half → cell (joined half p q r s) (pos x) (pos y) ≡ b (x - half) y
+      at_ne : (x y : ℕ) → half ≤ x → y < half → cell (joined_picture half p q r s) (pos x) (pos y) ≡ b (x - half) y
       at_ne x y h k =
           let e = pa (pos x) (pos y) ∙ off_x a half ea (pos x) (pos y) (inr (omega (arith, ints))) in
           let f = q_at (pos x) (pos y) ∙ at_corner b (pos x -ℤ pos half) (pos y -ℤ pos 0) (x - half) y (omega (arith, ints)) (omega (arith, ints)) in
@@ -272,7 +272,7 @@ module _ (half : ℕ) (p q r s : Picture) (hp : IsPicture p) (hq : IsPicture q) 
           let i = s_at (pos x) (pos y) ∙ off_y d half ed (pos x -ℤ pos half) (pos y -ℤ pos half) (inl (omega (arith, ints))) in
           joined_sum (pos x) (pos y) (record { last = inl g; third = inr (omega arith); first = inl e }) ∙ omega arith
 
-      at_sw : (x y : ℕ) → x < half → half ≤ y → cell (joined half p q r s) (pos x) (pos y) ≡ c x (y - half)
+      at_sw : (x y : ℕ) → x < half → half ≤ y → cell (joined_picture half p q r s) (pos x) (pos y) ≡ c x (y - half)
       at_sw x y h k =
           let e = pa (pos x) (pos y) ∙ off_y a half ea (pos x) (pos y) (inr (omega (arith, ints))) in
           let f = q_at (pos x) (pos y) ∙ off_x b half eb (pos x -ℤ pos half) (pos y -ℤ pos 0) (inl (omega (arith, ints))) in
@@ -280,7 +280,7 @@ module _ (half : ℕ) (p q r s : Picture) (hp : IsPicture p) (hq : IsPicture q) 
           let i = s_at (pos x) (pos y) ∙ off_x d half ed (pos x -ℤ pos half) (pos y -ℤ pos half) (inl (omega (arith, ints))) in
           joined_sum (pos x) (pos y) (record { last = inr i; third = inl f; first = inl e }) ∙ omega arith
 
-      at_se : (x y : ℕ) → half ≤ x → half ≤ y → cell (joined half p q r s) (pos x) (pos y) ≡ d (x - half) (y - half)
+      at_se : (x y : ℕ) → half ≤ x → half ≤ y → cell (joined_picture half p q r s) (pos x) (pos y) ≡ d (x - half) (y - half)
       at_se x y h k =
           let e = pa (pos x) (pos y) ∙ off_x a half ea (pos x) (pos y) (inr (omega (arith, ints))) in
           let f = q_at (pos x) (pos y) ∙ off_y b half eb (pos x -ℤ pos half) (pos y -ℤ pos 0) (inr (omega (arith, ints))) in
@@ -288,7 +288,7 @@ module _ (half : ℕ) (p q r s : Picture) (hp : IsPicture p) (hq : IsPicture q) 
           let i = s_at (pos x) (pos y) ∙ at_corner d (pos x -ℤ pos half) (pos y -ℤ pos half) (x - half) (y - half) (omega (arith, ints)) (omega (arith, ints)) in
           joined_sum (pos x) (pos y) (record { last = inl g; third = inl f; first = inl e }) ∙ omega arith
 
-      pub joined_cell : (x y : ℤ) → cell (joined half p q r s) x y ≡ from_corner (together half a b c d) x y
+      pub joined_cell : (x y : ℤ) → cell (joined_picture half p q r s) x y ≡ from_corner (joined_cells half a b c d) x y
       joined_cell (pos x) (pos y) =
           elim (below_or_not x half) [
             | inl h ↦ elim (below_or_not y half) [

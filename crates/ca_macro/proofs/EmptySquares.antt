@@ -5,26 +5,26 @@ use Rattle.std.proofs.lemmas.List.{get_or_append_left, length_push}
 use Rattle.std.proofs.lemmas.Option.{slice_get_within, get_or_from_slice_get}
 use Rattle.std.proofs.Math.Seq.{get_or-append_seam}
 use Rattle.ca_quad.specs.declared.node.Node.{Node as Kept}
-use Rattle.ca_quad.specs.Squares.{dot, together, cell_of}
+use Rattle.ca_quad.specs.Squares.{one_cell, joined_cells, cell_of}
 use Rattle.ca_quad.specs.Sound.{IsSoundStore, Grows}
 use Rattle.ca_quad.specs.Trees.{ShowsSquare}
 use Rattle.ca_quad.proofs.Growth.{below_or_not}
-use Rattle.ca_quad.proofs.Shown.{shows_as, shows_stays}
+use Rattle.ca_quad.proofs.ShownSquares.{shows_as, shows_stays}
 use Rattle.ca_quad.proofs.Walks.{dot_empty, together_empty}
 use Rattle.ca_macro.specs.inner.Reading.{AreEmpties}
 
 -- four empty cells
-pub leaf_empty : (store : List Kept) (id : ℕ) → ShowsSquare store id 1 (together 1 (dot 0) (dot 0) (dot 0) (dot 0)) → ShowsSquare store id 1 (λ x y. 0)
+pub leaf_empty : (store : List Kept) (id : ℕ) → ShowsSquare store id 1 (joined_cells 1 (one_cell 0) (one_cell 0) (one_cell 0) (one_cell 0)) → ShowsSquare store id 1 (λ x y. 0)
 leaf_empty store id h =
-    shows_as store id 1 (together 1 (dot 0) (dot 0) (dot 0) (dot 0)) (λ x y. 0)
-    (together_empty 1 (dot 0) (dot 0) (dot 0) (dot 0) (dot_empty 0 refl) (dot_empty 0 refl) (dot_empty 0 refl) (dot_empty 0 refl)) h
+    shows_as store id 1 (joined_cells 1 (one_cell 0) (one_cell 0) (one_cell 0) (one_cell 0)) (λ x y. 0)
+    (together_empty 1 (one_cell 0) (one_cell 0) (one_cell 0) (one_cell 0) (dot_empty 0 refl) (dot_empty 0 refl) (dot_empty 0 refl) (dot_empty 0 refl)) h
 
 -- one that is four times an empty one
 pub join_empty : (old new : List Kept) (part id k : ℕ) → ShowsSquare old part k (λ x y. 0)
-    → ShowsSquare new id (suc k) (together (2 ^ k) (cell_of old k part) (cell_of old k part) (cell_of old k part) (cell_of old k part)) → ShowsSquare new id (suc k) (λ x y. 0)
+    → ShowsSquare new id (suc k) (joined_cells (2 ^ k) (cell_of old k part) (cell_of old k part) (cell_of old k part) (cell_of old k part)) → ShowsSquare new id (suc k) (λ x y. 0)
 join_empty old new part id k none h =
     let cells = cell_of old k part in
-    shows_as new id (suc k) (together (2 ^ k) cells cells cells cells) (λ x y. 0)
+    shows_as new id (suc k) (joined_cells (2 ^ k) cells cells cells cells) (λ x y. 0)
     (together_empty (2 ^ k) cells cells cells cells none.has_cells none.has_cells none.has_cells none.has_cells) h
 
 -- the last one so far

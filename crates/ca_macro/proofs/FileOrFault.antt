@@ -12,7 +12,7 @@ use Rattle.ca_quad.proofs.Growth.{below_or_not}
 use Rattle.ca_macro.specs.declared.fault.MacroFault.{MacroFault}
 use Rattle.ca_macro.specs.declared.fault.MacroFault.TheVariants.{NotMacro, Timeline, Syntax, Forward, Level, LeafSize, Range, GenTooLarge, Memory}
 use Rattle.ca_macro.specs.Nodes.{Node, Leaf, Cells, Parts, NamesPart, IsLevel}
-use Rattle.ca_macro.specs.File.{MacrocellLine, Nothing, Rule, Generation, Adds, AreNumbers, MacrocellWordsSay, added, IsAllowedNode, MacrocellLinesSay, MacrocellFile, begins_macro, IsMacrocellFile}
+use Rattle.ca_macro.specs.File.{MacrocellLine, Nothing, Rule, Generation, Adds, AreNumbers, MacrocellWordsSay, added_nodes, IsAllowedNode, MacrocellLinesSay, MacrocellFile, begins_macro, IsMacrocellFile}
 use Rattle.ca_macro.specs.Faults.{HasMacrocellLine, is_leaf_byte, HasBadPart, AreFaulty, IsFirstMacrocellFault}
 use Rattle.ca_macro.specs.inner.Leaves.{leaf_fault, leaf_cells, IsLeafFault}
 use Rattle.ca_macro.specs.inner.Reading.{file_of_lines}
@@ -229,7 +229,7 @@ record HasFaulty (earlier : List Node) (lines : List (List ℕ)) : Type 0 where
   fault : MacroFault
   lines_are : lines ≡ good ++ line ∷ later
   say : MacrocellLinesSay earlier good said
-  faulty : AreFaulty fault (earlier ++ flat_map added said) (words_of line)
+  faulty : AreFaulty fault (earlier ++ flat_map added_nodes said) (words_of line)
 
 lines_judged : (earlier : List Node) (lines : List (List ℕ)) → ((said : List MacrocellLine) × MacrocellLinesSay earlier lines said) ⊎ HasFaulty earlier lines
 lines_judged earlier [] = inl ([], tt)
@@ -246,7 +246,7 @@ lines_judged earlier (l ∷ ls) =
             say = tt;
             faulty = subst (λ e. AreFaulty f.0 e (words_of l)) (sym (append-nil earlier)) f.1;
           })
-      | inl s ↦ elim (lines_judged (earlier ++ added s.0) ls) [
+      | inl s ↦ elim (lines_judged (earlier ++ added_nodes s.0) ls) [
         | inl said ↦ inl (s.0 ∷ said.0, (s.1, s.2, said.1))
         | inr bad ↦
             inr (record {
@@ -257,7 +257,7 @@ lines_judged earlier (l ∷ ls) =
               fault = bad.fault;
               lines_are = ap (λ x. l ∷ x) bad.lines_are;
               say = (s.1, s.2, bad.say);
-              faulty = subst (λ e. AreFaulty bad.fault e (words_of bad.line)) (append_assoc earlier (added s.0) (flat_map added bad.said)) bad.faulty;
+              faulty = subst (λ e. AreFaulty bad.fault e (words_of bad.line)) (append_assoc earlier (added_nodes s.0) (flat_map added_nodes bad.said)) bad.faulty;
             })
       ]
     ]

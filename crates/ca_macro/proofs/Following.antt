@@ -7,6 +7,7 @@ use Rattle.ca_plane.specs.Plane.{Picture}
 use Rattle.ca_macro.specs.Nodes.{Node}
 use Rattle.ca_macro.specs.Shown.{numbered_square, node_picture, squares_after, squares_of}
 use Rattle.ca_macro.specs.Tidy.{node_parts, walks_after}
+use Rattle.ca_plane.proofs.Elements.{all_append, all_weaker}
 
 -- ---- lists that are made one after another, each from the earlier ones
 
@@ -84,14 +85,6 @@ walk_last ns n =
     ap (λ l. numbered_square l (suc (length ns))) (walks_are [] (ns ++ n ∷ [])) ∙ number_last walk_to ns n ∙ ap (λ l. walk_to l n) (sym (walks_are [] ns))
 
 -- ---- walks come to earlier nodes alone
-
-pub all_append : {A : Type 0} (P : A → Type 0) (xs ys : List A) → AllByRecursion P xs → AllByRecursion P ys → AllByRecursion P (xs ++ ys)
-all_append P [] ys a b = b
-all_append P (x ∷ xs) ys a b = (a.0, all_append P xs ys a.1 b)
-
-pub all_weaker : {A : Type 0} (P Q : A → Type 0) → ((x : A) → P x → Q x) → (xs : List A) → AllByRecursion P xs → AllByRecursion Q xs
-all_weaker P Q f [] a = tt
-all_weaker P Q f (x ∷ xs) a = (f x a.0, all_weaker P Q f xs a.1)
 
 -- each is from 1 to this number
 abbrev pub Within : ℕ → List ℕ → Type 0

@@ -16,12 +16,13 @@ use Rattle.ca_quad.specs.Trees.{from_corner, IsIn, IsEmpty}
 use Rattle.ca_quad.proofs.Cells.{same_cells}
 use Rattle.ca_quad.proofs.Growth.{below_or_not}
 use Rattle.ca_quad.proofs.Measures.{one_more}
-use Rattle.ca_macro.specs.declared.write.written.Written.{Written}
+use Rattle.ca_macro.specs.declared.write.written.WrittenNode.{WrittenNode}
 use Rattle.ca_macro.specs.Nodes.{Node, Leaf, Cells, Parts, node_level, NamesPart, MayFollow}
 use Rattle.ca_macro.specs.Shown.{numbered_square, row_from, rows_from, leaf_state, node_picture, squares_of}
 use Rattle.ca_macro.specs.Tidy.{AreInPlace, HasForm, is_empty}
 use Rattle.ca_macro.specs.inner.Written.{node_of, kept_cells, IsPictureOfSquare, IsWrittenNumber, IsNodeOf, IsGathered}
-use Rattle.ca_macro.proofs.Following.{square_stays, square_last, all_append}
+use Rattle.ca_macro.proofs.Following.{square_stays, square_last}
+use Rattle.ca_plane.proofs.Elements.{all_append}
 
 -- ---- places in lists of nodes
 
@@ -163,7 +164,7 @@ last_number kept states ns id node h = record {
 -- ---- a node is put after the others
 
 -- the nodes that are written with one more, and its number
-pub written_more : (old new : List Written) (node : Written) (number : ℕ) → new ≡ old ++ node ∷ [] → number ≡ length new → (map node_of new ≡ map node_of old ++ node_of node ∷ []) × (suc (length (map node_of old)) ≡ number)
+pub written_more : (old new : List WrittenNode) (node : WrittenNode) (number : ℕ) → new ≡ old ++ node ∷ [] → number ≡ length new → (map node_of new ≡ map node_of old ++ node_of node ∷ []) × (suc (length (map node_of old)) ≡ number)
 written_more old new node number more last =
     let nodes = ap (map node_of) more ∙ map-append node_of old (node ∷ []) in
     let count = ap length more ∙ length-append old (node ∷ []) in

@@ -8,14 +8,14 @@ use Rattle.ca_plane.specs.Plane.{Picture, IsPicture, cell}
 use Rattle.ca_plane.proofs.Shifts.{cell-shifted}
 use Rattle.ca_quad.specs.declared.node.Node.{Node as Kept}
 use Rattle.ca_quad.specs.declared.tree.Tree.{Tree}
-use Rattle.ca_quad.specs.Squares.{dot, together, cell_of}
+use Rattle.ca_quad.specs.Squares.{one_cell, joined_cells, cell_of}
 use Rattle.ca_quad.specs.Sound.{IsSoundStore, Grows}
 use Rattle.ca_quad.specs.Trees.{ShowsSquare, AreFour, IsTree, row_cells, from_corner, cell as tree_cell}
 use Rattle.ca_quad.proofs.Cells.{cell_ends, cells_stay, of_stays}
-use Rattle.ca_quad.proofs.Shown.{shows_stays}
+use Rattle.ca_quad.proofs.ShownSquares.{shows_stays}
 use Rattle.ca_macro.specs.declared.read.squares.Squares.{Squares}
 use Rattle.ca_macro.specs.Nodes.{Node, Leaf, Cells, Parts, node_level, NamesPart, IsLevel, MayFollow}
-use Rattle.ca_macro.specs.Shown.{leaf_state, rows_from, joined, numbered_square, node_picture, squares_after, squares_of, centred, rooted, picture_of_nodes}
+use Rattle.ca_macro.specs.Shown.{leaf_state, rows_from, joined_picture, numbered_square, node_picture, squares_after, squares_of, centred_picture, root_picture, picture_of_nodes}
 use Rattle.ca_macro.specs.Faults.{HasBadPart}
 use Rattle.ca_macro.specs.inner.Leaves.{leaf_bits}
 use Rattle.ca_plane.specs.Bytes.{nearest_u64}
@@ -175,10 +175,10 @@ leaf_drawn store id bits leaf h e low earlier =
     rows_drawn store id 3 (row_cells bits) (map (map leaf_state) leaf) h (leaf_states leaf)
     (λ x y. ap (λ b. row_cells b x y) e ∙ leaf_cell 8 leaf x y low)
 
-pub cells_drawn : (store : List Kept) (id nw ne sw se : ℕ) → ShowsSquare store id 1 (together 1 (dot nw) (dot ne) (dot sw) (dot se))
+pub cells_drawn : (store : List Kept) (id nw ne sw se : ℕ) → ShowsSquare store id 1 (joined_cells 1 (one_cell nw) (one_cell ne) (one_cell sw) (one_cell se))
     → AllByRecursion (λ s. s ≤ 255) (nw ∷ ne ∷ sw ∷ se ∷ []) → (earlier : List Picture) → Draws store (record { root = id; level = 1 }) (node_picture earlier (Cells nw ne sw se))
 cells_drawn store id nw ne sw se h low earlier =
-    rows_drawn store id 1 (together 1 (dot nw) (dot ne) (dot sw) (dot se)) ((nw ∷ ne ∷ []) ∷ (sw ∷ se ∷ []) ∷ []) h
+    rows_drawn store id 1 (joined_cells 1 (one_cell nw) (one_cell ne) (one_cell sw) (one_cell se)) ((nw ∷ ne ∷ []) ∷ (sw ∷ se ∷ []) ∷ []) h
     ((low.0, (low.1.0, tt)), ((low.1.1.0, (low.1.1.1.0, tt)), tt)) (λ x y. sym (four_cells nw ne sw se x y))
 
 -- an empty square shows nothing
@@ -219,8 +219,8 @@ module _ (store : List Kept) (half_level a b c d : ℕ) (p q r s : Picture)
 
     -- four squares joined
     pub joined_drawn : (new : List Kept) (id : ℕ)
-        → ShowsSquare new id (suc half_level) (together (2 ^ half_level) (cell_of store half_level a) (cell_of store half_level b) (cell_of store half_level c) (cell_of store half_level d))
-        → Draws new (record { root = id; level = suc half_level }) (joined (2 ^ half_level) p q r s)
+        → ShowsSquare new id (suc half_level) (joined_cells (2 ^ half_level) (cell_of store half_level a) (cell_of store half_level b) (cell_of store half_level c) (cell_of store half_level d))
+        → Draws new (record { root = id; level = suc half_level }) (joined_picture (2 ^ half_level) p q r s)
     joined_drawn new id h =
         let side = 2 ^ half_level in
         let ends = cell_ends store half_level in
@@ -231,7 +231,7 @@ module _ (store : List Kept) (half_level a b c d : ℕ) (p q r s : Picture)
               joined_cell side p q r s da.states db.states dc.states dd.states
               (cell_of store half_level a) (cell_of store half_level b) (cell_of store half_level c) (cell_of store half_level d)
               (ends a) (ends b) (ends c) (ends d) da.has_cells db.has_cells dc.has_cells dd.has_cells x y
-              ∙ from_corner_same (together side (cell_of store half_level a) (cell_of store half_level b) (cell_of store half_level c) (cell_of store half_level d))
+              ∙ from_corner_same (joined_cells side (cell_of store half_level a) (cell_of store half_level b) (cell_of store half_level c) (cell_of store half_level d))
               (cell_of new (suc half_level) id) (λ i j. sym (h.has_cells i j)) x y;
         }
 
@@ -262,7 +262,7 @@ root_at store (n ∷ m ∷ ns) (p ∷ q ∷ ps) (u ∷ v ∷ ts) t h e =
     record { node = later.node; last = later.last; level = later.level; draws = later.draws }
 
 -- a tree whose square shows a picture from its corner on shows it from its middle on
-pub centred_shows : (store : List Kept) (t : Tree) (p : Picture) → Draws store t p → (x y : ℤ) → tree_cell store t x y ≡ cell (centred t.level p) x y
+pub centred_shows : (store : List Kept) (t : Tree) (p : Picture) → Draws store t p → (x y : ℤ) → tree_cell store t x y ≡ cell (centred_picture t.level p) x y
 centred_shows store t p h x y =
     let half = 2 ^ (t.level - 1) in
     let at : (u : ℤ) → u -ℤ neg_ℤ (pos half) ≡ u +ℤ pos half = λ u. omega (arith, ints) in
@@ -273,7 +273,7 @@ pub root_shows : (store : List Kept) (nodes : List Node) (squares : Squares) (t 
 root_shows store nodes squares t h e =
     let root = root_at store nodes (squares_of nodes) squares.squares.items t h.drawn e in
     let picture = numbered_square (squares_of nodes) (length nodes) in
-    (root.draws.is_tree, λ x y. centred_shows store t picture root.draws x y ∙ ap (λ l. cell (centred l picture) x y) root.level ∙ sym (ap (λ r. cell (rooted r picture) x y) root.last))
+    (root.draws.is_tree, λ x y. centred_shows store t picture root.draws x y ∙ ap (λ l. cell (centred_picture l picture) x y) root.level ∙ sym (ap (λ r. cell (root_picture r picture) x y) root.last))
 
 -- without a node nothing is shown
 pub no_root_shows : (old new : List Kept) (nodes : List Node) (squares : Squares) (id : ℕ) → AreSquares old nodes squares → length squares.squares.items ≡ 0
@@ -290,7 +290,7 @@ last_picture store (n ∷ ns) (p ∷ ps) [] h = absurd h
 last_picture store (n ∷ []) (p ∷ ps) (t ∷ ts) h = h.1.states
 last_picture store (n ∷ m ∷ ns) (p ∷ ps) (t ∷ ts) h = last_picture store (m ∷ ns) ps ts h.2
 
-rooted_states : (root : Option Node) (square : Picture) → IsPicture square → IsPicture (rooted root square)
+rooted_states : (root : Option Node) (square : Picture) → IsPicture square → IsPicture (root_picture root square)
 rooted_states None square h = All-nil (λ e. (1 ≤ e.1) × (e.1 ≤ 255))
 rooted_states (Some root) square h = shifted_states square (neg_ℤ (pos (2 ^ (node_level root - 1)))) (neg_ℤ (pos (2 ^ (node_level root - 1)))) h
 
@@ -313,8 +313,8 @@ module _ (old new : List Kept) (sound : IsSoundStore old) (grows : Grows old new
         drawn_four new low a b c d (numbered_square (squares_of nodes) nw) (numbered_square (squares_of nodes) ne) (numbered_square (squares_of nodes) sw) (numbered_square (squares_of nodes) se)
         (part_at nw a p ea hp) (part_at ne b q eb hq) (part_at sw c r ec hr) (part_at se d s ed hs) small
 
-    pub parts_joined : (after : List Kept) (id : ℕ) → ShowsSquare after id (suc low) (together (2 ^ low) (cell_of new low a) (cell_of new low b) (cell_of new low c) (cell_of new low d))
-        → Draws after (record { root = id; level = suc low }) (joined (2 ^ low) (numbered_square (squares_of nodes) nw) (numbered_square (squares_of nodes) ne) (numbered_square (squares_of nodes) sw) (numbered_square (squares_of nodes) se))
+    pub parts_joined : (after : List Kept) (id : ℕ) → ShowsSquare after id (suc low) (joined_cells (2 ^ low) (cell_of new low a) (cell_of new low b) (cell_of new low c) (cell_of new low d))
+        → Draws after (record { root = id; level = suc low }) (joined_picture (2 ^ low) (numbered_square (squares_of nodes) nw) (numbered_square (squares_of nodes) ne) (numbered_square (squares_of nodes) sw) (numbered_square (squares_of nodes) se))
     parts_joined after id h =
         joined_drawn new low a b c d (numbered_square (squares_of nodes) nw) (numbered_square (squares_of nodes) ne) (numbered_square (squares_of nodes) sw) (numbered_square (squares_of nodes) se)
         (part_at nw a p ea hp) (part_at ne b q eb hq) (part_at sw c r ec hr) (part_at se d s ed hs) after id h

@@ -1,7 +1,7 @@
 pub mod Leaves
 pub mod LeafLines
 pub mod Numbers
-pub mod Worked
+pub mod WorkedExamples
 pub mod Drawings
 pub mod KeptSquares
 pub mod LinesRead

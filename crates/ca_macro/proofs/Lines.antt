@@ -6,9 +6,9 @@ use Rattle.std.proofs.lemmas.Grind.{flat_map-append}
 use Rattle.std.proofs.lemmas.List.{take_all}
 use Rattle.ca_plane.specs.Puts.{Puts}
 use Rattle.ca_macro.specs.Nodes.{leaf_mark}
-use Rattle.ca_macro.specs.declared.write.written.Written.{Written}
+use Rattle.ca_macro.specs.declared.write.written.WrittenNode.{WrittenNode}
 use Rattle.ca_macro.specs.Tidy.{node_text}
-use Rattle.ca_macro.specs.inner.Written.{row_of, node_of}
+use Rattle.ca_macro.specs.inner.Written.{row_marks, node_of}
 
 pub puts_on : (a b c t u : List ℕ) → Puts a b t → Puts b c u → Puts a c (t ++ u)
 puts_on a b c t u p q = record { whole = q.whole ∙ ap (λ l. l ++ u) p.whole ∙ append_assoc a t u }
@@ -17,13 +17,13 @@ puts_on a b c t u p q = record { whole = q.whole ∙ ap (λ l. l ++ u) p.whole �
 pub puts_all : {A : Type 0} (f : A → List ℕ) (xs : List A) (i : ℕ) (start text : List ℕ) → length xs ≤ i → Puts start text (flat_map f (take i xs)) → Puts start text (flat_map f xs)
 puts_all f xs i start text h p = subst (λ l. Puts start text (flat_map f l)) (take_all i xs h) p
 
-pub lines_as : (ns : List Written) → flat_map (λ n. node_text (node_of n) ++ 10 ∷ []) ns ≡ flat_map (λ line. line ++ 10 ∷ []) (map node_text (map node_of ns))
+pub lines_as : (ns : List WrittenNode) → flat_map (λ n. node_text (node_of n) ++ 10 ∷ []) ns ≡ flat_map (λ line. line ++ 10 ∷ []) (map node_text (map node_of ns))
 lines_as [] = refl
 lines_as (n ∷ ns) = ap (λ l. (node_text (node_of n) ++ 10 ∷ []) ++ l) (lines_as ns)
 
-pub rows_as : (rows : List ℕ) → flat_map (λ (row : ℕ). map leaf_mark (row_of 8 row) ++ 36 ∷ []) rows ≡ flat_map (λ row. map leaf_mark row ++ 36 ∷ []) (map (row_of 8) rows)
+pub rows_as : (rows : List ℕ) → flat_map (λ (row : ℕ). map leaf_mark (row_marks 8 row) ++ 36 ∷ []) rows ≡ flat_map (λ row. map leaf_mark row ++ 36 ∷ []) (map (row_marks 8) rows)
 rows_as [] = refl
-rows_as (r ∷ rs) = ap (λ l. (map leaf_mark (row_of 8 r) ++ 36 ∷ []) ++ l) (rows_as rs)
+rows_as (r ∷ rs) = ap (λ l. (map leaf_mark (row_marks 8 r) ++ 36 ∷ []) ++ l) (rows_as rs)
 
 abbrev ended : List ℕ → List ℕ
 ended line = line ++ 10 ∷ []
@@ -40,7 +40,7 @@ pub unequal : (a b : ℕ) → (a ≡ b → ⊥) → (a == b) ≡ false
 unequal a b h = elim (cases_Bool (a == b)) [ inl e ↦ absurd (h (eqb-true a b e)) | inr e ↦ e ]
 
 -- a row's first cell, and the others
-pub row_step : (width bits : ℕ) (more : List ℕ) → (width ≡ 0 → ⊥) → (bits ≡ 0 → ⊥) → leaf_mark (bits % 2 == 1) ∷ (map leaf_mark (row_of (width - 1) (bits / 2)) ++ more) ≡ map leaf_mark (row_of width bits) ++ more
+pub row_step : (width bits : ℕ) (more : List ℕ) → (width ≡ 0 → ⊥) → (bits ≡ 0 → ⊥) → leaf_mark (bits % 2 == 1) ∷ (map leaf_mark (row_marks (width - 1) (bits / 2)) ++ more) ≡ map leaf_mark (row_marks width bits) ++ more
 row_step zero bits more w b = absurd (w refl)
 row_step (suc width) bits more w b =
     let e : suc width - 1 ≡ width = omega arith in

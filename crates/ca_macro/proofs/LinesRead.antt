@@ -10,30 +10,30 @@ use Rattle.ca_macro.specs.declared.fault.MacroFault.{MacroFault}
 use Rattle.ca_macro.specs.declared.fault.MacroFault.TheVariants.{NotMacro, Memory}
 use Rattle.ca_macro.specs.declared.read.reading.Reading.{Reading}
 use Rattle.ca_macro.specs.Nodes.{Node}
-use Rattle.ca_macro.specs.File.{MacrocellLine, MacrocellWordsSay, added, IsAllowedNode, MacrocellLinesSay, begins_macro}
+use Rattle.ca_macro.specs.File.{MacrocellLine, MacrocellWordsSay, added_nodes, IsAllowedNode, MacrocellLinesSay, begins_macro}
 use Rattle.ca_macro.specs.Faults.{HasMacrocellLine, AreFaulty, AddNode}
 use Rattle.ca_macro.specs.inner.Reading.{HasNodeFault, HasFaultOn, IsMacrocellReading}
 
 -- ---- one more line
 
-added-append : (said more : List MacrocellLine) → flat_map added (said ++ more) ≡ flat_map added said ++ flat_map added more
+added-append : (said more : List MacrocellLine) → flat_map added_nodes (said ++ more) ≡ flat_map added_nodes said ++ flat_map added_nodes more
 added-append [] more = refl
-added-append (s ∷ said) more = ap (λ l. added s ++ l) (added-append said more) ∙ sym (append_assoc (added s) (flat_map added said) (flat_map added more))
+added-append (s ∷ said) more = ap (λ l. added_nodes s ++ l) (added-append said more) ∙ sym (append_assoc (added_nodes s) (flat_map added_nodes said) (flat_map added_nodes more))
 
 -- the nodes, once one more line has said this
-pub added-push : (said : List MacrocellLine) (s : MacrocellLine) → flat_map added (said ++ s ∷ []) ≡ flat_map added said ++ added s
-added-push said s = added-append said (s ∷ []) ∙ ap (λ l. flat_map added said ++ l) (append-nil (added s))
+pub added-push : (said : List MacrocellLine) (s : MacrocellLine) → flat_map added_nodes (said ++ s ∷ []) ≡ flat_map added_nodes said ++ added_nodes s
+added-push said s = added-append said (s ∷ []) ∙ ap (λ l. flat_map added_nodes said ++ l) (append-nil (added_nodes s))
 
 allowed_after : (e f : List Node) (s : MacrocellLine) → e ≡ f → IsAllowedNode e s → IsAllowedNode f s
 allowed_after e f s same h = subst (λ l. IsAllowedNode l s) same h
 
 pub MacrocellLinesSay-push : (earlier : List Node) (lines : List (List ℕ)) (said : List MacrocellLine) (l : List ℕ) (s : MacrocellLine) → MacrocellLinesSay earlier lines said
-    → MacrocellWordsSay (words_of l) s → IsAllowedNode (earlier ++ flat_map added said) s → MacrocellLinesSay earlier (lines ++ l ∷ []) (said ++ s ∷ [])
+    → MacrocellWordsSay (words_of l) s → IsAllowedNode (earlier ++ flat_map added_nodes said) s → MacrocellLinesSay earlier (lines ++ l ∷ []) (said ++ s ∷ [])
 MacrocellLinesSay-push earlier [] [] l s h says allowed = (says, allowed_after (earlier ++ []) earlier s (append-nil earlier) allowed, tt)
 MacrocellLinesSay-push earlier [] (t ∷ said) l s h says allowed = absurd h
 MacrocellLinesSay-push earlier (k ∷ ks) [] l s h says allowed = absurd h
 MacrocellLinesSay-push earlier (k ∷ ks) (t ∷ said) l s h says allowed =
-    (h.0, h.1, MacrocellLinesSay-push (earlier ++ added t) ks said l s h.2 says (allowed_after (earlier ++ (added t ++ flat_map added said)) ((earlier ++ added t) ++ flat_map added said) s (sym (append_assoc earlier (added t) (flat_map added said))) allowed))
+    (h.0, h.1, MacrocellLinesSay-push (earlier ++ added_nodes t) ks said l s h.2 says (allowed_after (earlier ++ (added_nodes t ++ flat_map added_nodes said)) ((earlier ++ added_nodes t) ++ flat_map added_nodes said) s (sym (append_assoc earlier (added_nodes t) (flat_map added_nodes said))) allowed))
 
 -- ---- line by line
 
@@ -58,7 +58,7 @@ none_read bytes line rest store reading lines read grows shorter =
 module _ (bytes rest : List ℕ) (count : ℕ) (old store : List Kept) (reading : Reading) (front : AreRead bytes rest count old store reading) where
   -- one more line
   pub one_read : (line later : List ℕ) (new : List Kept) (after : Reading) → lines_of rest ≡ line ∷ lines_of later → Grows store new
-      → ((said : List MacrocellLine) → IsMacrocellReading store said reading → (s : MacrocellLine) × MacrocellWordsSay (words_of line) s × IsAllowedNode (flat_map added said) s × IsMacrocellReading new (said ++ s ∷ []) after)
+      → ((said : List MacrocellLine) → IsMacrocellReading store said reading → (s : MacrocellLine) × MacrocellWordsSay (words_of line) s × IsAllowedNode (flat_map added_nodes said) s × IsMacrocellReading new (said ++ s ∷ []) after)
       → length later < length rest → AreRead bytes later (count + 1) old new after
   one_read line later new after next grows says shorter =
       let s = says front.said front.read in
@@ -76,7 +76,7 @@ module _ (bytes rest : List ℕ) (count : ℕ) (old store : List Kept) (reading 
 
   -- the line that follows, of whose words this holds
   abbrev next_line : (P : List Node → List (List ℕ) → Type 0) (line later : List ℕ) → begins_macro bytes ≡ true → lines_of rest ≡ line ∷ lines_of later
-      → P (flat_map added front.said) (words_of line) → HasMacrocellLine bytes P
+      → P (flat_map added_nodes front.said) (words_of line) → HasMacrocellLine bytes P
   next_line P line later begins next holds = record {
     first = front.first;
     good = front.good;
@@ -90,13 +90,13 @@ module _ (bytes rest : List ℕ) (count : ℕ) (old store : List Kept) (reading 
   }
 
   -- it is faulty
-  faulty_next : (f : MacroFault) (line later : List ℕ) → begins_macro bytes ≡ true → lines_of rest ≡ line ∷ lines_of later → AreFaulty f (flat_map added front.said) (words_of line)
+  faulty_next : (f : MacroFault) (line later : List ℕ) → begins_macro bytes ≡ true → lines_of rest ≡ line ∷ lines_of later → AreFaulty f (flat_map added_nodes front.said) (words_of line)
       → (found : HasMacrocellLine bytes (AreFaulty f)) × (count + 1 ≡ length found.good + 2)
   faulty_next f line later begins next holds = (next_line (AreFaulty f) line later begins next holds, let same : count + 1 ≡ length front.good + 2 = let counted = front.counted in omega arith in same)
 
   -- its fault is that of the text
   pub fault_next : (line later : List ℕ) → begins_macro bytes ≡ true → lines_of rest ≡ line ∷ lines_of later
-      → (f : MacroFault) → ((said : List MacrocellLine) → IsMacrocellReading store said reading → HasNodeFault f (flat_map added said) (words_of line)) → HasFaultOn bytes f (count + 1)
+      → (f : MacroFault) → ((said : List MacrocellLine) → IsMacrocellReading store said reading → HasNodeFault f (flat_map added_nodes said) (words_of line)) → HasFaultOn bytes f (count + 1)
   fault_next line later begins next NotMacro h = absurd (h front.said front.read)
   fault_next line later begins next Memory h = next_line AddNode line later begins next (h front.said front.read)
   fault_next line later begins next f h = faulty_next f line later begins next (h front.said front.read)

@@ -4,9 +4,9 @@ use Rattle.std.specs.List.{AllByRecursion, AllPairs, slice_index_or, list_all}
 use Rattle.std.proofs.Math.Nat.{two-pow-succ}
 use Rattle.std.proofs.lemmas.Bool.{cases_Bool, and_from}
 use Rattle.ca_plane.specs.Plane.{cell}
-use Rattle.ca_quad.specs.Squares.{dot, together}
+use Rattle.ca_quad.specs.Squares.{one_cell, joined_cells}
 use Rattle.ca_quad.specs.Trees.{IsEmpty}
-use Rattle.ca_quad.specs.inner.Measure.{Ends}
+use Rattle.ca_quad.specs.inner.Measure.{EndsWithin}
 use Rattle.ca_quad.proofs.Cells.{together_ends, same_nw, same_ne, same_sw, same_se}
 use Rattle.ca_macro.specs.Nodes.{Node, Leaf, Cells, Parts, node_level, NamesPart, MayFollow}
 use Rattle.ca_macro.specs.Shown.{numbered_square, node_picture, squares_of, leaf_state}
@@ -83,13 +83,13 @@ in_leaf rows x y = slice_index (slice_index_or (map (map leaf_state) rows) y [])
 -- the cells of a node
 abbrev pub node_cells : List Node → Node → ℕ → ℕ → ℕ
 node_cells ns (Leaf rows) = in_leaf rows
-node_cells ns (Cells nw ne sw se) = together 1 (dot nw) (dot ne) (dot sw) (dot se)
-node_cells ns (Parts level nw ne sw se) = together (2 ^ (level - 1)) (cells_at ns nw) (cells_at ns ne) (cells_at ns sw) (cells_at ns se)
+node_cells ns (Cells nw ne sw se) = joined_cells 1 (one_cell nw) (one_cell ne) (one_cell sw) (one_cell se)
+node_cells ns (Parts level nw ne sw se) = joined_cells (2 ^ (level - 1)) (cells_at ns nw) (cells_at ns ne) (cells_at ns sw) (cells_at ns se)
 
 -- the picture with a number shows its cells alone, which end with the side of its level
 pub record IsShown (ns : List Node) (level n : ℕ) : Type 0 where
   pub shows : IsPictureOfSquare (numbered_square (squares_of ns) n) (cells_at ns n)
-  pub ends : Ends (2 ^ level) (cells_at ns n)
+  pub ends : EndsWithin (2 ^ level) (cells_at ns n)
 
 none_right : (row : List Bool) (x : ℕ) → length row ≤ x → slice_index (map leaf_state row) x ≡ 0
 none_right [] x h = refl
@@ -106,15 +106,15 @@ leaf_below [] x y h = refl
 leaf_below (row ∷ rows) x zero h = absurd (omega arith)
 leaf_below (row ∷ rows) x (suc y) h = leaf_below rows x y (omega arith)
 
-leaf_ends : (rows : List (List Bool)) → length rows ≡ 8 → AllByRecursion (λ row. length row ≤ 8) rows → Ends 8 (in_leaf rows)
+leaf_ends : (rows : List (List Bool)) → length rows ≡ 8 → AllByRecursion (λ row. length row ≤ 8) rows → EndsWithin 8 (in_leaf rows)
 leaf_ends rows eight short x y (inl h) = leaf_right rows 8 x y short h
 leaf_ends rows eight short x y (inr h) = leaf_below rows x y (omega arith)
 
-none_ends : (side : ℕ) → Ends side (λ x y. 0)
+none_ends : (side : ℕ) → EndsWithin side (λ x y. 0)
 none_ends side x y h = refl
 
 -- a picture of some cells is one of its own
-own_shows : (ns : List Node) (level n : ℕ) (f : ℕ → ℕ → ℕ) → IsPictureOfSquare (numbered_square (squares_of ns) n) f → Ends (2 ^ level) f → IsShown ns level n
+own_shows : (ns : List Node) (level n : ℕ) (f : ℕ → ℕ → ℕ) → IsPictureOfSquare (numbered_square (squares_of ns) n) f → EndsWithin (2 ^ level) f → IsShown ns level n
 own_shows ns level n f shows ends = record {
   shows = picture_as (numbered_square (squares_of ns) n) f (cells_at ns n) (λ x y. sym (shows (pos x) (pos y))) shows;
   ends = λ x y h. shows (pos x) (pos y) ∙ ends x y h;
@@ -128,16 +128,16 @@ parts_show ns level nw ne sw se a b c d =
     (live_at ns nw) (live_at ns ne) (live_at ns sw) a.shows b.shows c.shows d.shows
 
 parts_end : (ns : List Node) (level nw ne sw se : ℕ) → 2 ≤ level → IsShown ns (level - 1) nw → IsShown ns (level - 1) ne → IsShown ns (level - 1) sw → IsShown ns (level - 1) se
-    → Ends (2 ^ level) (node_cells ns (Parts level nw ne sw se))
+    → EndsWithin (2 ^ level) (node_cells ns (Parts level nw ne sw se))
 parts_end ns level nw ne sw se large a b c d =
     let next : suc (level - 1) ≡ level = omega arith in
     let side : 2 ^ (level - 1) + 2 ^ (level - 1) ≡ 2 ^ level = sym (two-pow-succ (level - 1)) ∙ ap (λ l. 2 ^ l) next in
-    subst (λ s. Ends s (node_cells ns (Parts level nw ne sw se))) side
+    subst (λ s. EndsWithin s (node_cells ns (Parts level nw ne sw se))) side
     (together_ends (2 ^ (level - 1)) (cells_at ns nw) (cells_at ns ne) (cells_at ns sw) (cells_at ns se) a.ends b.ends c.ends d.ends)
 
 -- a node shows its cells, where its parts show theirs
 node_shown : (states : ℕ) (ns : List Node) (i : ℕ) (node : Node) → ((level n : ℕ) → n ≤ i → NamesPart ns level n → IsShown ns level n) → Follows ns i node → HasForm states node
-    → IsPictureOfSquare (node_picture (squares_of ns) node) (node_cells ns node) × Ends (2 ^ node_level node) (node_cells ns node)
+    → IsPictureOfSquare (node_picture (squares_of ns) node) (node_cells ns node) × EndsWithin (2 ^ node_level node) (node_cells ns node)
 node_shown states ns i (Leaf rows) part follows form = (rows_show (map (map leaf_state) rows) (in_leaf rows) (λ x y. refl), leaf_ends rows form.1 form.2)
 node_shown states ns i (Cells nw ne sw se) part follows form = (four_show nw ne sw se (node_cells ns (Cells nw ne sw se)) (λ x y. refl), four_end nw ne sw se)
 node_shown states ns i (Parts level nw ne sw se) part follows form =
@@ -164,7 +164,7 @@ module _ (states : ℕ) (ns : List Node) (well : AreWell states ns) where
       let node = is_node states ns well i at.0 in
       let both = node_shown states ns i (node_at ns i) (λ l n k. shown_below most l n (omega arith)) node.follows node.form in
       own_shows ns level (suc i) (node_cells ns (node_at ns i)) (subst (λ p. IsPictureOfSquare p (node_cells ns (node_at ns i))) (sym node.square) both.0)
-      (subst (λ l. Ends (2 ^ l) (node_cells ns (node_at ns i))) at.1 both.1)
+      (subst (λ l. EndsWithin (2 ^ l) (node_cells ns (node_at ns i))) at.1 both.1)
 
   pub shown : (level n : ℕ) → NamesPart ns level n → IsShown ns level n
   shown level n = shown_below n level n (omega arith)
@@ -193,7 +193,7 @@ module _ (states : ℕ) (ns : List Node) (well : AreWell states ns) where
   four_none : (a b c d : ℕ) → a ≡ 0 → b ≡ 0 → c ≡ 0 → d ≡ 0 → list_all (λ n. n == 0) (a ∷ b ∷ c ∷ d ∷ []) ≡ true
   four_none a b c d p q r s = rw (p, q, r, s) refl
 
-  nothing_together : (side x y : ℕ) → 0 ≡ together side (λ x y. 0) (λ x y. 0) (λ x y. 0) (λ x y. 0) x y
+  nothing_together : (side x y : ℕ) → 0 ≡ joined_cells side (λ x y. 0) (λ x y. 0) (λ x y. 0) (λ x y. 0) x y
   nothing_together side x y =
       elim (cases_Bool (nat_lt y side)) [
         | inl e ↦ elim (cases_Bool (nat_lt x side)) [ inl f ↦ rw (e, f) refl | inr f ↦ rw (e, f) refl ]
@@ -210,7 +210,7 @@ module _ (states : ℕ) (ns : List Node) (well : AreWell states ns) where
       let q = cells_at ns ne in
       let r = cells_at ns sw in
       let s = cells_at ns se in
-      let same : (x y : ℕ) → together side p q r s x y ≡ together side none none none none x y = λ x y. h x y ∙ nothing_together side x y in
+      let same : (x y : ℕ) → joined_cells side p q r s x y ≡ joined_cells side none none none none x y = λ x y. h x y ∙ nothing_together side x y in
       four_none nw ne sw se
       (part (level - 1) nw follows.1.1 follows.1.0 (same_nw side p q r s none none none none same (shown (level - 1) nw follows.1.0).ends (none_ends side)))
       (part (level - 1) ne follows.2.1 follows.2.0 (same_ne side p q r s none none none none same (shown (level - 1) ne follows.2.0).ends (none_ends side)))

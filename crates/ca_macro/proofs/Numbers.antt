@@ -5,9 +5,9 @@ use Rattle.ca_plane.specs.Bytes.{nearest_u64, value}
 use Rattle.ca_macro.specs.declared.line.numbers.Numbers.{Numbers}
 use Rattle.ca_macro.specs.File.{IsNumber, AreNumbers}
 use Rattle.ca_macro.specs.Faults.{AreMisspelledNodeWords}
-use Rattle.ca_macro.specs.inner.Numbers.{Keeps, AreKept}
+use Rattle.ca_macro.specs.inner.Numbers.{KeepsNumberOf, AreKept}
 
-numbers_kept : (words : List (List ℕ)) (kept : List ℕ) → AllZip Keeps words kept → AllZip IsNumber words (map value words) × (kept ≡ map nearest_u64 (map value words)) × (length (map value words) ≡ length kept)
+numbers_kept : (words : List (List ℕ)) (kept : List ℕ) → AllZip KeepsNumberOf words kept → AllZip IsNumber words (map value words) × (kept ≡ map nearest_u64 (map value words)) × (length (map value words) ≡ length kept)
 numbers_kept [] [] h = (tt, refl, refl)
 numbers_kept [] (k ∷ ks) h = absurd h
 numbers_kept (w ∷ ws) [] h = absurd h
@@ -27,7 +27,7 @@ five_items (a ∷ b ∷ c ∷ d ∷ e ∷ []) h = (a, b, c, d, e, refl)
 five_items (a ∷ b ∷ c ∷ d ∷ e ∷ f ∷ ns) h = absurd (omega arith)
 
 -- five words of which these are kept are a node's five numbers
-pub five_kept : (words : List (List ℕ)) (kept : List ℕ) → length kept ≡ 5 → AllZip Keeps words kept
+pub five_kept : (words : List (List ℕ)) (kept : List ℕ) → length kept ≡ 5 → AllZip KeepsNumberOf words kept
     → AreKept words (record { level = slice_index_or kept 0 0; nw = slice_index_or kept 1 0; ne = slice_index_or kept 2 0; sw = slice_index_or kept 3 0; se = slice_index_or kept 4 0 })
 five_kept words kept n h =
     let all = numbers_kept words kept h in

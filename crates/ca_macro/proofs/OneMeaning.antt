@@ -7,7 +7,7 @@ use Rattle.ca_plane.specs.Limits.{default_rule}
 use Rattle.ca_macro.specs.declared.fault.MacroFault.{MacroFault}
 use Rattle.ca_macro.specs.declared.fault.MacroFault.TheVariants.{NotMacro, Range, Memory}
 use Rattle.ca_macro.specs.Nodes.{Node}
-use Rattle.ca_macro.specs.File.{MacrocellLine, added, MacrocellLinesSay, last_rule, last_line_generation, MacrocellFile, begins_macro, IsMacrocellFile}
+use Rattle.ca_macro.specs.File.{MacrocellLine, added_nodes, MacrocellLinesSay, last_rule, last_line_generation, MacrocellFile, begins_macro, IsMacrocellFile}
 use Rattle.ca_macro.specs.Limits.{IsMacrocellWithinRange, IsMacrocellOutOfRange}
 use Rattle.ca_macro.specs.Faults.{HasMacrocellLine, AreFaulty, IsFirstMacrocellFault, IsFirstMacrocellFaultOn, IsFaultyMacrocellLine, IsMacrocellFault, IsMacrocellFaultOn}
 use Rattle.ca_macro.specs.inner.Reading.{HasFaultOn, IsMacrocellReadingFault, file_of_lines}
@@ -24,7 +24,7 @@ with_said s (Ok said) = Ok (s ∷ said)
 with_said s (Err f) = Err f
 
 abbrev after_line : ℕ → List Node → (List Node → Told) → Verdict → Told
-after_line n earlier later (Ok s) = with_said s (later (earlier ++ added s))
+after_line n earlier later (Ok s) = with_said s (later (earlier ++ added_nodes s))
 after_line n earlier later (Err f) = Err (f, n)
 
 -- what lines say, or the fault of the first faulty one and its number; the first of all has this number
@@ -36,10 +36,10 @@ lines_told : (n : ℕ) (earlier : List Node) (lines : List (List ℕ)) (said : L
 lines_told n earlier [] [] h = refl
 lines_told n earlier [] (s ∷ said) h = absurd h
 lines_told n earlier (l ∷ ls) [] h = absurd h
-lines_told n earlier (l ∷ ls) (s ∷ said) h = rw (said_told earlier (words_of l) s h.0 h.1, lines_told (n + 1) (earlier ++ added s) ls said h.2) refl
+lines_told n earlier (l ∷ ls) (s ∷ said) h = rw (said_told earlier (words_of l) s h.0 h.1, lines_told (n + 1) (earlier ++ added_nodes s) ls said h.2) refl
 
 first_told : (n m : ℕ) (earlier : List Node) (good : List (List ℕ)) (said : List MacrocellLine) (line : List ℕ) (later : List (List ℕ)) (f : MacroFault) → MacrocellLinesSay earlier good said
-    → AreFaulty f (earlier ++ flat_map added said) (words_of line) → m ≡ length good + n → told n earlier (good ++ line ∷ later) ≡ Err (f, m)
+    → AreFaulty f (earlier ++ flat_map added_nodes said) (words_of line) → m ≡ length good + n → told n earlier (good ++ line ∷ later) ≡ Err (f, m)
 first_told n m earlier [] [] line later f h faulty e =
     let same : m ≡ n = omega arith in
     rw (same, fault_told earlier (words_of line) f (subst (λ e. AreFaulty f e (words_of line)) (append-nil earlier) faulty)) refl
@@ -48,7 +48,7 @@ first_told n m earlier (l ∷ ls) [] line later f h faulty e = absurd h
 first_told n m earlier (l ∷ ls) (s ∷ said) line later f h faulty e =
     rw (
       said_told earlier (words_of l) s h.0 h.1,
-      first_told (n + 1) m (earlier ++ added s) ls said line later f h.2 (subst (λ e. AreFaulty f e (words_of line)) (sym (append_assoc earlier (added s) (flat_map added said))) faulty)
+      first_told (n + 1) m (earlier ++ added_nodes s) ls said line later f h.2 (subst (λ e. AreFaulty f e (words_of line)) (sym (append_assoc earlier (added_nodes s) (flat_map added_nodes said))) faulty)
           (omega arith),
     ) refl
 
@@ -132,7 +132,7 @@ same_file n m r s g k a b c = rw (a, b, c) refl
 
 file_is : (bytes : List ℕ) (file : MacrocellFile) (h : IsMacrocellFile bytes file) → file ≡ file_of_lines h.said
 file_is bytes file h =
-    same_file file.nodes (flat_map added h.said) file.rule_text (last_rule default_rule h.said) file.generation (last_line_generation 0 h.said) h.nodes h.rule_text h.generation
+    same_file file.nodes (flat_map added_nodes h.said) file.rule_text (last_rule default_rule h.said) file.generation (last_line_generation 0 h.said) h.nodes h.rule_text h.generation
 
 pub one_file : (bytes : List ℕ) (f g : MacrocellFile) → IsMacrocellFile bytes f → IsMacrocellFile bytes g → f ≡ g
 one_file bytes f g h k =

@@ -7,11 +7,11 @@ use Rattle.std.proofs.lemmas.Int.{ints}
 use Rattle.std.proofs.lemmas.Option.{same_Some}
 use Rattle.ca_plane.specs.Plane.{cell}
 use Rattle.ca_plane.proofs.Shifts.{cell-shifted}
-use Rattle.ca_quad.specs.Squares.{together}
+use Rattle.ca_quad.specs.Squares.{joined_cells}
 use Rattle.ca_quad.proofs.Cells.{same_nw, same_ne, same_sw, same_se}
 use Rattle.ca_quad.proofs.Growth.{below_or_not}
 use Rattle.ca_macro.specs.Nodes.{Node, Leaf, Cells, Parts, node_level, NamesPart, MayFollow}
-use Rattle.ca_macro.specs.Shown.{numbered_square, squares_of, centred, rooted, picture_of_nodes, leaf_state}
+use Rattle.ca_macro.specs.Shown.{numbered_square, squares_of, centred_picture, root_picture, picture_of_nodes, leaf_state}
 use Rattle.ca_macro.specs.Tidy.{lowest_level, IsLeastLevel, AreInPlace, HasForm, is_empty, node_parts, walks_after, walk_of, numbers_once, tidy_lines, IsTidyMacrocell}
 use Rattle.ca_macro.proofs.Following.{walk_to, walk_stays, walk_last, walks_length}
 use Rattle.ca_macro.proofs.Gathering.{dead_square, four_dead, in_place_at, each_part, split_at}
@@ -91,8 +91,8 @@ module _ (states : ℕ) (ns ms : List Node) (v : AreWell states ns) (w : AreWell
       let side = 2 ^ (l - 1) in
       let below : level - 1 ≡ l - 1 = omega arith in
       let name : (n : ℕ) → NamesPart ms (level - 1) n → NamesPart ms (l - 1) n = λ n named. subst (λ m. NamesPart ms m n) below named in
-      let these : (x y : ℕ) → together side (cells_at ns nw) (cells_at ns ne) (cells_at ns sw) (cells_at ns se) x y ≡ together side (cells_at ms a) (cells_at ms b) (cells_at ms c) (cells_at ms d) x y =
-      λ x y. same x y ∙ ap (λ m. together (2 ^ m) (cells_at ms a) (cells_at ms b) (cells_at ms c) (cells_at ms d) x y) below in
+      let these : (x y : ℕ) → joined_cells side (cells_at ns nw) (cells_at ns ne) (cells_at ns sw) (cells_at ns se) x y ≡ joined_cells side (cells_at ms a) (cells_at ms b) (cells_at ms c) (cells_at ms d) x y =
+      λ x y. same x y ∙ ap (λ m. joined_cells (2 ^ m) (cells_at ms a) (cells_at ms b) (cells_at ms c) (cells_at ms d) x y) below in
       let ends = λ (n : ℕ) (named : NamesPart ns (l - 1) n). (shown states ns v (l - 1) n named).ends in
       let stops = λ (n : ℕ) (named : NamesPart ms (l - 1) n). (shown states ms w (l - 1) n named).ends in (
         e,
@@ -360,7 +360,7 @@ root_cells : (ns : List Node) (root : Node) (cells : ℤ → ℤ → ℕ) → la
 root_cells ns root cells last same x y =
     let far = neg_ℤ (pos (2 ^ (node_level root - 1))) in
     let square = numbered_square (squares_of ns) (length ns) in
-    let picture : picture_of_nodes ns ≡ centred (node_level root) square = ap (λ o. rooted o square) last in
+    let picture : picture_of_nodes ns ≡ centred_picture (node_level root) square = ap (λ o. root_picture o square) last in
     let whole = same (pos x +ℤ far) (pos y +ℤ far) ∙ ap (λ p. cell p (pos x +ℤ far) (pos y +ℤ far)) picture ∙ cell-shifted square far far (pos x +ℤ far) (pos y +ℤ far) in
     sym (whole ∙ ap₂ (cell square) (there_and_back (pos x) far) (there_and_back (pos y) far))
 
@@ -374,7 +374,7 @@ one_least states cells k level a b =
 
 nothing_shown : (ns : List Node) (root : Node) → ns ≡ root ∷ [] → is_empty root ≡ true → (x y : ℤ) → cell (picture_of_nodes ns) x y ≡ 0
 nothing_shown ns root single e x y =
-    ap (λ l. cell (picture_of_nodes l) x y) single ∙ ap (λ p. cell (centred (node_level root) p) x y) (dead_square [] root e)
+    ap (λ l. cell (picture_of_nodes l) x y) single ∙ ap (λ p. cell (centred_picture (node_level root) p) x y) (dead_square [] root e)
 
 one_empty : (states : ℕ) (p q : Node) → MayFollow [] p → MayFollow [] q → HasForm states p → HasForm states q → lowest_level states ≤ node_level p → node_level p ≡ node_level q
     → is_empty p ≡ true → is_empty q ≡ true → p ≡ q

@@ -10,14 +10,14 @@ use Rattle.std.proofs.lemmas.Int.{ints}
 use Rattle.std.proofs.lemmas.Nat.Bits.{bit_at-zero, bit_at_lowest, bit_at-suc}
 use Rattle.ca_plane.specs.Plane.{Picture, cell, shifted}
 use Rattle.ca_plane.proofs.Shifts.{cell-shifted}
-use Rattle.ca_quad.specs.Squares.{dot, together}
+use Rattle.ca_quad.specs.Squares.{one_cell, joined_cells}
 use Rattle.ca_quad.specs.Trees.{from_corner, row_cells}
-use Rattle.ca_quad.specs.inner.Measure.{Ends}
+use Rattle.ca_quad.specs.inner.Measure.{EndsWithin}
 use Rattle.ca_quad.proofs.Cells.{in_nw, in_ne, in_sw, in_se, dot_ends, together_ends}
 use Rattle.ca_quad.proofs.Growth.{below_or_not}
-use Rattle.ca_macro.specs.Shown.{row_from, rows_from, leaf_state, joined}
-use Rattle.ca_macro.specs.inner.Written.{row_of, IsPictureOfSquare}
-use Rattle.ca_macro.proofs.Following.{all_append}
+use Rattle.ca_macro.specs.Shown.{row_from, rows_from, leaf_state, joined_picture}
+use Rattle.ca_macro.specs.inner.Written.{row_marks, IsPictureOfSquare}
+use Rattle.ca_plane.proofs.Elements.{all_append}
 
 -- ---- one picture after another
 
@@ -170,33 +170,33 @@ bit_next : (live : ℕ) (more : List ℕ) (bits : ℕ) → live ≡ bits % 2 →
 bit_next live more bits e later zero = e ∙ sym (bit_at_lowest bits)
 bit_next live more bits e later (suc i) = later i ∙ sym (bit_at-suc bits i)
 
-row_bit : (width bits i : ℕ) → bits < 2 ^ width → slice_index (map leaf_state (row_of width bits)) i ≡ bit_at bits i
+row_bit : (width bits i : ℕ) → bits < 2 ^ width → slice_index (map leaf_state (row_marks width bits)) i ≡ bit_at bits i
 row_bit zero bits i h = let z : bits ≡ 0 = omega arith in rw z (sym (bit_at-zero i))
 row_bit (suc width) bits i h =
     let half : bits / 2 < 2 ^ width = omega (arith, two-pow-succ width) in
     elim (cases_Bool (bits == 0)) [
       | inl e ↦ rw e (sym (ap (λ b. bit_at b i) (eqb-true bits 0 e) ∙ bit_at-zero i))
-      | inr e ↦ rw e (bit_next (leaf_state (bits % 2 == 1)) (map leaf_state (row_of width (bits / 2))) bits (state_bit bits) (λ j. row_bit width (bits / 2) j half) i)
+      | inr e ↦ rw e (bit_next (leaf_state (bits % 2 == 1)) (map leaf_state (row_marks width (bits / 2))) bits (state_bit bits) (λ j. row_bit width (bits / 2) j half) i)
     ]
 
-rows_at : (bytes : List ℕ) (j : ℕ) → slice_index_or (map (map leaf_state) (map (row_of 8) bytes)) j [] ≡ map leaf_state (row_of 8 (slice_index bytes j))
+rows_at : (bytes : List ℕ) (j : ℕ) → slice_index_or (map (map leaf_state) (map (row_marks 8) bytes)) j [] ≡ map leaf_state (row_marks 8 (slice_index bytes j))
 rows_at [] j = refl
 rows_at (b ∷ bs) zero = refl
 rows_at (b ∷ bs) (suc j) = rows_at bs j
 
 pub leaf_shows : (bytes : List ℕ) (cells : ℕ → ℕ → ℕ) → ((y : ℕ) → slice_index bytes y < 256) → ((x y : ℕ) → cells x y ≡ row_cells bytes x y)
-    → IsPictureOfSquare (rows_from (pos 0) (map (map leaf_state) (map (row_of 8) bytes))) cells
+    → IsPictureOfSquare (rows_from (pos 0) (map (map leaf_state) (map (row_marks 8) bytes))) cells
 leaf_shows bytes cells low same =
-    rows_show (map (map leaf_state) (map (row_of 8) bytes)) cells (λ x y. ap (λ r. slice_index r x) (rows_at bytes y) ∙ row_bit 8 (slice_index bytes y) x (low y) ∙ sym (same x y))
+    rows_show (map (map leaf_state) (map (row_marks 8) bytes)) cells (λ x y. ap (λ r. slice_index r x) (rows_at bytes y) ∙ row_bit 8 (slice_index bytes y) x (low y) ∙ sym (same x y))
 
 -- ---- four cells
 
-pub four_end : (nw ne sw se : ℕ) → Ends (1 + 1) (together 1 (dot nw) (dot ne) (dot sw) (dot se))
+pub four_end : (nw ne sw se : ℕ) → EndsWithin (1 + 1) (joined_cells 1 (one_cell nw) (one_cell ne) (one_cell sw) (one_cell se))
 four_end nw ne sw se =
     let one : 1 ≤ 1 = omega arith in
-    together_ends 1 (dot nw) (dot ne) (dot sw) (dot se) (dot_ends nw 1 one) (dot_ends ne 1 one) (dot_ends sw 1 one) (dot_ends se 1 one)
+    together_ends 1 (one_cell nw) (one_cell ne) (one_cell sw) (one_cell se) (dot_ends nw 1 one) (dot_ends ne 1 one) (dot_ends sw 1 one) (dot_ends se 1 one)
 
-four_at : (nw ne sw se : ℕ) (x y : ℕ) → slice_index (slice_index_or ((nw ∷ ne ∷ []) ∷ (sw ∷ se ∷ []) ∷ []) y []) x ≡ together 1 (dot nw) (dot ne) (dot sw) (dot se) x y
+four_at : (nw ne sw se : ℕ) (x y : ℕ) → slice_index (slice_index_or ((nw ∷ ne ∷ []) ∷ (sw ∷ se ∷ []) ∷ []) y []) x ≡ joined_cells 1 (one_cell nw) (one_cell ne) (one_cell sw) (one_cell se) x y
 four_at nw ne sw se zero zero = refl
 four_at nw ne sw se (suc zero) zero = refl
 four_at nw ne sw se zero (suc zero) = refl
@@ -205,7 +205,7 @@ four_at nw ne sw se (suc (suc x)) zero = sym (four_end nw ne sw se (suc (suc x))
 four_at nw ne sw se (suc (suc x)) (suc zero) = sym (four_end nw ne sw se (suc (suc x)) (suc zero) (inl (omega arith)))
 four_at nw ne sw se x (suc (suc y)) = sym (four_end nw ne sw se x (suc (suc y)) (inr (omega arith)))
 
-pub four_show : (nw ne sw se : ℕ) (cells : ℕ → ℕ → ℕ) → ((x y : ℕ) → cells x y ≡ together 1 (dot nw) (dot ne) (dot sw) (dot se) x y)
+pub four_show : (nw ne sw se : ℕ) (cells : ℕ → ℕ → ℕ) → ((x y : ℕ) → cells x y ≡ joined_cells 1 (one_cell nw) (one_cell ne) (one_cell sw) (one_cell se) x y)
     → IsPictureOfSquare (rows_from (pos 0) ((nw ∷ ne ∷ []) ∷ (sw ∷ se ∷ []) ∷ [])) cells
 four_show nw ne sw se cells same = rows_show ((nw ∷ ne ∷ []) ∷ (sw ∷ se ∷ []) ∷ []) cells (λ x y. four_at nw ne sw se x y ∙ sym (same x y))
 
@@ -242,7 +242,7 @@ picture_as p f g same h = λ x y. h x y ∙ corner_same f g same x y
 abbrev first_of : (a b c d : ℕ) → ℕ
 first_of a b c d = or_else a (or_else b (or_else c d))
 
-module _ (half : ℕ) (p q r s : ℕ → ℕ → ℕ) (ends_p : Ends half p) (ends_q : Ends half q) (ends_r : Ends half r) where
+module _ (half : ℕ) (p q r s : ℕ → ℕ → ℕ) (ends_p : EndsWithin half p) (ends_q : EndsWithin half q) (ends_r : EndsWithin half r) where
   abbrev laid : ℤ → ℤ → ℕ
   laid x y =
       first_of (from_corner p x y) (from_corner q (x -ℤ pos half) (y -ℤ pos 0)) (from_corner r (x -ℤ pos 0) (y -ℤ pos half)) (from_corner s (x -ℤ pos half) (y -ℤ pos half))
@@ -251,35 +251,35 @@ module _ (half : ℕ) (p q r s : ℕ → ℕ → ℕ) (ends_p : Ends half p) (en
       → from_corner s (x -ℤ pos half) (y -ℤ pos half) ≡ d → first_of a b c d ≡ n → laid x y ≡ n
   laid_as x y a b c d n e f g h same = rw (e, f, g, h) same
 
-  within : (i j : ℕ) → laid (pos i) (pos j) ≡ together half p q r s i j
+  within : (i j : ℕ) → laid (pos i) (pos j) ≡ joined_cells half p q r s i j
   within i j =
       let x0 : pos i -ℤ pos 0 ≡ pos i = omega (arith, ints) in
       let y0 : pos j -ℤ pos 0 ≡ pos j = omega (arith, ints) in
       elim (below_or_not i half) [
         | inl k ↦ elim (below_or_not j half) [
           | inl l ↦
-              laid_as (pos i) (pos j) (p i j) 0 0 0 (together half p q r s i j) refl (left_of q (pos i -ℤ pos half) (pos j -ℤ pos 0) (omega (arith, ints))) (above r (pos i -ℤ pos 0) (pos j -ℤ pos half) (omega (arith, ints))) (left_of s (pos i -ℤ pos half) (pos j -ℤ pos half) (omega (arith, ints)))
+              laid_as (pos i) (pos j) (p i j) 0 0 0 (joined_cells half p q r s i j) refl (left_of q (pos i -ℤ pos half) (pos j -ℤ pos 0) (omega (arith, ints))) (above r (pos i -ℤ pos 0) (pos j -ℤ pos half) (omega (arith, ints))) (left_of s (pos i -ℤ pos half) (pos j -ℤ pos half) (omega (arith, ints)))
               (or_zero (p i j) ∙ sym (in_nw half p q r s i j k l))
           | inr l ↦
               let down : pos j -ℤ pos half ≡ pos (j - half) = omega (arith, ints) in
-              laid_as (pos i) (pos j) 0 0 (r i (j - half)) 0 (together half p q r s i j) (ends_p i j (inr l)) (left_of q (pos i -ℤ pos half) (pos j -ℤ pos 0) (omega (arith, ints))) (corner_at r (pos i -ℤ pos 0) (pos j -ℤ pos half) i (j - half) x0 down)
+              laid_as (pos i) (pos j) 0 0 (r i (j - half)) 0 (joined_cells half p q r s i j) (ends_p i j (inr l)) (left_of q (pos i -ℤ pos half) (pos j -ℤ pos 0) (omega (arith, ints))) (corner_at r (pos i -ℤ pos 0) (pos j -ℤ pos half) i (j - half) x0 down)
               (left_of s (pos i -ℤ pos half) (pos j -ℤ pos half) (omega (arith, ints))) (or_zero (r i (j - half)) ∙ sym (in_sw half p q r s i j k l))
         ]
         | inr k ↦
             let right : pos i -ℤ pos half ≡ pos (i - half) = omega (arith, ints) in
             elim (below_or_not j half) [
               | inl l ↦
-                  laid_as (pos i) (pos j) 0 (q (i - half) j) 0 0 (together half p q r s i j) (ends_p i j (inl k)) (corner_at q (pos i -ℤ pos half) (pos j -ℤ pos 0) (i - half) j right y0) (above r (pos i -ℤ pos 0) (pos j -ℤ pos half) (omega (arith, ints)))
+                  laid_as (pos i) (pos j) 0 (q (i - half) j) 0 0 (joined_cells half p q r s i j) (ends_p i j (inl k)) (corner_at q (pos i -ℤ pos half) (pos j -ℤ pos 0) (i - half) j right y0) (above r (pos i -ℤ pos 0) (pos j -ℤ pos half) (omega (arith, ints)))
                   (above s (pos i -ℤ pos half) (pos j -ℤ pos half) (omega (arith, ints))) (or_zero (q (i - half) j) ∙ sym (in_ne half p q r s i j k l))
               | inr l ↦
                   let down : pos j -ℤ pos half ≡ pos (j - half) = omega (arith, ints) in
-                  laid_as (pos i) (pos j) 0 0 0 (s (i - half) (j - half)) (together half p q r s i j) (ends_p i j (inl k))
+                  laid_as (pos i) (pos j) 0 0 0 (s (i - half) (j - half)) (joined_cells half p q r s i j) (ends_p i j (inl k))
                   (corner_at q (pos i -ℤ pos half) (pos j -ℤ pos 0) (i - half) j right y0 ∙ ends_q (i - half) j (inr l)) (corner_at r (pos i -ℤ pos 0) (pos j -ℤ pos half) i (j - half) x0 down ∙ ends_r i (j - half) (inl k))
                   (corner_at s (pos i -ℤ pos half) (pos j -ℤ pos half) (i - half) (j - half) right down) (sym (in_se half p q r s i j k l))
             ]
       ]
 
-  all_around : (x y : ℤ) → laid x y ≡ from_corner (together half p q r s) x y
+  all_around : (x y : ℤ) → laid x y ≡ from_corner (joined_cells half p q r s) x y
   all_around (pos i) (pos j) = within i j
   all_around (pos i) (negsuc j) =
       laid_as (pos i) (negsuc j) 0 0 0 0 0 refl (above q (pos i -ℤ pos half) (negsuc j -ℤ pos 0) (omega (arith, ints))) (above r (pos i -ℤ pos 0) (negsuc j -ℤ pos half) (omega (arith, ints))) (above s (pos i -ℤ pos half) (negsuc j -ℤ pos half) (omega (arith, ints))) refl
@@ -290,7 +290,7 @@ module _ (half : ℕ) (p q r s : ℕ → ℕ → ℕ) (ends_p : Ends half p) (en
 
   -- four pictures that are joined show their cells together
   pub joined_show : (a b c d : Picture) → NoneDead a → NoneDead b → NoneDead c → IsPictureOfSquare a p → IsPictureOfSquare b q → IsPictureOfSquare c r → IsPictureOfSquare d s
-      → IsPictureOfSquare (joined half a b c d) (together half p q r s)
+      → IsPictureOfSquare (joined_picture half a b c d) (joined_cells half p q r s)
   joined_show a b c d u v w e f g h = λ x y.
       cell-append a _ x y u
       ∙ ap₂ or_else (e x y)

@@ -12,12 +12,12 @@ use Rattle.ca_quad.specs.declared.node.Node.{Node as Kept}
 use Rattle.ca_quad.specs.declared.tree.Tree.{Tree}
 use Rattle.ca_quad.specs.Squares as squares
 use Rattle.ca_quad.specs.Trees.{from_corner, IsEmpty, IsTree, cell, IsTrimmed}
-use Rattle.ca_quad.specs.inner.Measure.{Ends}
+use Rattle.ca_quad.specs.inner.Measure.{EndsWithin}
 use Rattle.ca_quad.proofs.Cells.{cell_ends}
 use Rattle.ca_quad.proofs.Differ.{cell_at}
 use Rattle.ca_quad.proofs.Growth.{below_or_not}
 use Rattle.ca_macro.specs.Nodes.{Node, Cells, Parts, node_level}
-use Rattle.ca_macro.specs.Shown.{numbered_square, squares_of, centred, rooted, picture_of_nodes}
+use Rattle.ca_macro.specs.Shown.{numbered_square, squares_of, centred_picture, root_picture, picture_of_nodes}
 use Rattle.ca_macro.specs.Pattern.{AreInRange}
 use Rattle.ca_macro.specs.Tidy.{lowest_level, Fits, IsLeastLevel, walks_after, numbers_once, AreTidyNodes}
 use Rattle.ca_macro.specs.inner.Written.{kept_cells, IsPictureOfSquare, IsWrittenNumber, IsGathered, KeepsFirstOrder, empty_root}
@@ -25,7 +25,7 @@ use Rattle.ca_macro.proofs.Gathering.{corner_zero}
 
 -- ---- where the live cells of a tree are
 
-live_inside : (side : ℕ) (f : ℕ → ℕ → ℕ) → Ends side f → (u v : ℤ) → from_corner f u v ≢ 0 → (pos 0 ≤ℤ u) × (u <ℤ pos side) × (pos 0 ≤ℤ v) × (v <ℤ pos side)
+live_inside : (side : ℕ) (f : ℕ → ℕ → ℕ) → EndsWithin side f → (u v : ℤ) → from_corner f u v ≢ 0 → (pos 0 ≤ℤ u) × (u <ℤ pos side) × (pos 0 ≤ℤ v) × (v <ℤ pos side)
 live_inside side f ends (pos i) (pos j) live =
     elim (below_or_not i side) [
       | inl h ↦ elim (below_or_not j side) [
@@ -160,7 +160,7 @@ last_node (n ∷ m ∷ ns) (suc i) d h = last_node (m ∷ ns) i (Some n) (omega 
 back : (x : ℤ) (half : ℕ) → x -ℤ neg_ℤ (pos half) ≡ x +ℤ pos half
 back x half = omega (arith, ints)
 
-root_shown : (kept : List Kept) (t : Tree) (square : Picture) → IsPictureOfSquare square (squares.cell_of kept t.level t.root) → (x y : ℤ) → cell kept t x y ≡ plane.cell (centred t.level square) x y
+root_shown : (kept : List Kept) (t : Tree) (square : Picture) → IsPictureOfSquare square (squares.cell_of kept t.level t.root) → (x y : ℤ) → cell kept t x y ≡ plane.cell (centred_picture t.level square) x y
 root_shown kept t square shows x y =
     let half = 2 ^ (t.level - 1) in
     let shift = neg_ℤ (pos half) in
@@ -176,7 +176,7 @@ module _ (kept : List Kept) (t : Tree) (is_tree : IsTree kept t) (states : ℕ) 
       let is_level : node_level root.0 ≡ t.level = same_Some (node_level root.0) (squares.level_of kept t.root) named ∙ is_tree.is_level in
       let shows : IsPictureOfSquare (numbered_square (squares_of ns) (length ns)) (squares.cell_of kept t.level t.root) =
       subst (λ l. IsPictureOfSquare (numbered_square (squares_of ns) (length ns)) (squares.cell_of kept l t.root)) is_tree.is_level (subst (λ k. IsPictureOfSquare (numbered_square (squares_of ns) k) (kept_cells kept t.root)) last number.shows) in
-      let picture : picture_of_nodes ns ≡ centred t.level (numbered_square (squares_of ns) (length ns)) = ap (λ o. rooted o (numbered_square (squares_of ns) (length ns))) root.1 ∙ ap (λ l. centred l (numbered_square (squares_of ns) (length ns))) is_level in
+      let picture : picture_of_nodes ns ≡ centred_picture t.level (numbered_square (squares_of ns) (length ns)) = ap (λ o. root_picture o (numbered_square (squares_of ns) (length ns))) root.1 ∙ ap (λ l. centred_picture l (numbered_square (squares_of ns) (length ns))) is_level in
       record {
         root = root.0;
         shown = λ x y. root_shown kept t (numbered_square (squares_of ns) (length ns)) shows x y ∙ ap (λ p. plane.cell p x y) (sym picture);

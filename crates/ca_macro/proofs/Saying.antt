@@ -16,7 +16,7 @@ use Rattle.ca_macro.specs.declared.line.comment.Comment.TheVariants as comment
 use Rattle.ca_macro.specs.declared.read.reading.Reading.{Reading}
 use Rattle.ca_macro.specs.declared.read.squares.Squares.{Squares}
 use Rattle.ca_macro.specs.Nodes.{Node, Parts, IsLevel}
-use Rattle.ca_macro.specs.File.{MacrocellLine, Nothing, Rule, Generation, Adds, MacrocellWordsSay, added, IsAllowedNode, last_rule, last_line_generation}
+use Rattle.ca_macro.specs.File.{MacrocellLine, Nothing, Rule, Generation, Adds, MacrocellWordsSay, added_nodes, IsAllowedNode, last_rule, last_line_generation}
 use Rattle.ca_macro.specs.Faults.{AreFaulty, HasBadPart}
 use Rattle.ca_macro.specs.inner.Comments.{said_of}
 use Rattle.ca_macro.specs.inner.Reading.{AreSquares, IsBadNumber, HaveNumberFault, HasNodeFault, IsMacrocellReading}
@@ -92,9 +92,9 @@ generation_kept count (Generation n ∷ said) s h = generation_kept n said s h
 generation_kept count (Adds n ∷ said) s h = generation_kept count said s h
 
 -- a line that adds no node leaves the squares
-no_node : (store : List Kept) (said : List MacrocellLine) (s : MacrocellLine) (squares : Squares) → added s ≡ [] → AreSquares store (flat_map added said) squares → AreSquares store (flat_map added (said ++ s ∷ [])) squares
+no_node : (store : List Kept) (said : List MacrocellLine) (s : MacrocellLine) (squares : Squares) → added_nodes s ≡ [] → AreSquares store (flat_map added_nodes said) squares → AreSquares store (flat_map added_nodes (said ++ s ∷ [])) squares
 no_node store said s squares none h =
-    subst (λ ns. AreSquares store ns squares) (sym (added-push said s ∙ ap (λ l. flat_map added said ++ l) none ∙ append-nil (flat_map added said))) h
+    subst (λ ns. AreSquares store ns squares) (sym (added-push said s ∙ ap (λ l. flat_map added_nodes said ++ l) none ∙ append-nil (flat_map added_nodes said))) h
 
 pub nothing_said : (store : List Kept) (said : List MacrocellLine) (reading : Reading) → IsMacrocellReading store said reading → IsMacrocellReading store (said ++ Nothing ∷ []) reading
 nothing_said store said reading h = record {
@@ -135,7 +135,7 @@ comment_allowed earlier (comment.Generation count) = tt
 
 -- ---- nodes
 
-pub node_said : (old new : List Kept) (said : List MacrocellLine) (reading : Reading) (after : Squares) (node : Node) → IsMacrocellReading old said reading → AreSquares new (flat_map added said ++ node ∷ []) after
+pub node_said : (old new : List Kept) (said : List MacrocellLine) (reading : Reading) (after : Squares) (node : Node) → IsMacrocellReading old said reading → AreSquares new (flat_map added_nodes said ++ node ∷ []) after
     → IsMacrocellReading new (said ++ Adds node ∷ []) (record { squares = after; rule = reading.rule; generation = reading.generation })
 node_said old new said reading after node h squares = record {
   squares = subst (λ ns. AreSquares new ns after) (sym (added-push said (Adds node))) squares;

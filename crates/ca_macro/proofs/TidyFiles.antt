@@ -10,13 +10,13 @@ use Rattle.std.proofs.lemmas.List.{length-map}
 use Rattle.ca_plane.proofs.Pictures.{cell-first}
 use Rattle.ca_plane.specs.declared.point.Point.{Point}
 use Rattle.ca_macro.specs.Nodes.{Node, Leaf, Cells, Parts, MayFollow}
-use Rattle.ca_macro.specs.File.{Rule, Generation, Adds, added, MacrocellLinesSay, last_rule, last_line_generation, MacrocellFile, begins_macro, IsMacrocellFile}
-use Rattle.ca_macro.specs.Shown.{rooted, picture_of_nodes}
+use Rattle.ca_macro.specs.File.{Rule, Generation, Adds, added_nodes, MacrocellLinesSay, last_rule, last_line_generation, MacrocellFile, begins_macro, IsMacrocellFile}
+use Rattle.ca_macro.specs.Shown.{root_picture, picture_of_nodes}
 use Rattle.ca_macro.specs.Limits.{IsMacrocellWithinRange}
 use Rattle.ca_macro.specs.Pattern.{AreInRange, Holds}
 use Rattle.ca_macro.specs.Tidy.{AreInPlace, HasForm, node_text, generation_lines, tidy_lines, IsTidyMacrocell, AreTidyNodes}
 use Rattle.ca_plane.specs.Puts.{Puts}
-use Rattle.ca_macro.specs.declared.write.written.Written.{Written}
+use Rattle.ca_macro.specs.declared.write.written.WrittenNode.{WrittenNode}
 use Rattle.ca_macro.specs.inner.Written.{node_of}
 use Rattle.ca_macro.proofs.Roots.{least_as}
 use Rattle.ca_macro.proofs.Gathering.{names_low}
@@ -60,7 +60,7 @@ module _ (states most : ℕ) (fits : most < 2 ^ 64) where
       let count = length-append earlier (n ∷ []) in
       (node_line earlier n place.0 (small_after most earlier n fits (omega arith) place.0), nodes_lines (earlier ++ n ∷ []) ns (omega arith) place.1)
 
-added_all : (ns : List Node) → flat_map added (map Adds ns) ≡ ns
+added_all : (ns : List Node) → flat_map added_nodes (map Adds ns) ≡ ns
 added_all [] = refl
 added_all (n ∷ ns) = ap (λ l. n ∷ l) (added_all ns)
 
@@ -141,7 +141,7 @@ all_in_range : (p q : Picture) (cells : ℤ → ℤ → ℕ) → AreInRange cell
 all_in_range p [] cells range shown a = tt
 all_in_range p (e ∷ es) cells range shown a = (range e.0.x e.0.y (λ z. a.0 (sym (shown e.0.x e.0.y) ∙ z)), all_in_range p es cells range shown a.1)
 
-rooted_live : (root : Option Node) (square : Picture) → NoneDead square → NoneDead (rooted root square)
+rooted_live : (root : Option Node) (square : Picture) → NoneDead square → NoneDead (root_picture root square)
 rooted_live None square live = tt
 rooted_live (Some root) square live = shifted_live square _ _ live
 
@@ -187,7 +187,7 @@ tidy_nodes_as states other cells ns same a = record {
   order = a.order;
 }
 
-pub tidy_text : (none text rule : List ℕ) (other cells : ℤ → ℤ → ℕ) (generation states : ℕ) (given ns : List Written) → none ≡ [] → given ≡ ns
+pub tidy_text : (none text rule : List ℕ) (other cells : ℤ → ℤ → ℕ) (generation states : ℕ) (given ns : List WrittenNode) → none ≡ [] → given ≡ ns
     → Puts none text (flat_map (λ line. line ++ 10 ∷ []) (tidy_lines rule generation (map node_of given))) → ((x y : ℤ) → other x y ≡ cells x y) → AreTidyNodes states other (map node_of ns)
     → IsTidyMacrocell text cells rule generation states
 tidy_text none text rule other cells generation states given ns empty same puts shown a = record {

@@ -4,7 +4,7 @@ use Rattle.std.specs.List.{AllByRecursion, AllZip, flat_map, join_with_byte}
 use Rattle.std.proofs.lemmas.Bool.{and_parts}
 use Rattle.std.proofs.lemmas.Bool.Decides.{nat_tests}
 use Rattle.ca_plane.specs.Bytes.{Every, is_blank, is_line_end, is_digit, is_word_byte, with_front, words_of, lines_of, IsWord, AreDigits}
-use Rattle.ca_plane.proofs.Fronts.{every_append, every_wider, every_digit, every_word_byte}
+use Rattle.ca_plane.proofs.Fronts.{every_append, every_wider, every_digit, every_word_byte, digits_in_word}
 use Rattle.ca_plane.proofs.FirstWords.{word_from}
 use Rattle.ca_plane.proofs.Lines.{lines_ahead, words_ahead, words_next}
 use Rattle.ca_macro.specs.Nodes.{Node, Leaf, Cells, Parts, leaf_mark, leaf_rows, MayFollow}
@@ -26,9 +26,6 @@ lines_read (l ∷ ls) a =
 
 word_is_line : (bytes : List ℕ) → Every is_word_byte bytes → IsLine bytes
 word_is_line bytes h = every_wider is_word_byte (λ b. not (is_line_end b)) (λ b t. (and_parts (not (is_blank b)) (not (is_line_end b)) t).1) bytes h
-
-digits_in_word : (digits : List ℕ) → AreDigits digits → Every is_word_byte digits
-digits_in_word digits h = every_wider is_digit is_word_byte (λ b t. grind (arith, nat_tests)) digits (every_digit digits h)
 
 digits_are_word : (digits : List ℕ) → AreDigits digits → IsWord digits
 digits_are_word [] h = absurd cc

@@ -8,19 +8,19 @@ use Rattle.std.proofs.lemmas.List.{length-map}
 use Rattle.ca_plane.specs.Plane.{Picture}
 use Rattle.ca_quad.specs.declared.node.Node.{Node as Kept}
 use Rattle.ca_quad.specs.Squares as squares
-use Rattle.ca_quad.specs.Squares.{dot, together, IsOf}
+use Rattle.ca_quad.specs.Squares.{one_cell, joined_cells, IsOf}
 use Rattle.ca_quad.specs.SquareValues.{square_value}
 use Rattle.ca_quad.specs.Trees.{IsIn, IsEmpty, AreQuarters, row_cells}
-use Rattle.ca_quad.specs.inner.Measure.{Ends}
+use Rattle.ca_quad.specs.inner.Measure.{EndsWithin}
 use Rattle.ca_quad.proofs.Cells.{cell_ends, at_nw, at_ne, at_sw, at_se}
 use Rattle.ca_quad.proofs.Growth.{below_or_not}
 use Rattle.ca_macro.specs.Nodes.{Node, Leaf, Cells, Parts, NamesPart}
-use Rattle.ca_macro.specs.Shown.{numbered_square, joined, node_picture, squares_after, squares_of, leaf_state}
-use Rattle.ca_macro.specs.inner.Written.{row_of, kept_cells, IsPictureOfSquare, IsWrittenNumber, IsNodeOf, Extends, KeepsFirstOrder, leaf_level, HasFitParts}
+use Rattle.ca_macro.specs.Shown.{numbered_square, joined_picture, node_picture, squares_after, squares_of, leaf_state}
+use Rattle.ca_macro.specs.inner.Written.{row_marks, kept_cells, IsPictureOfSquare, IsWrittenNumber, IsNodeOf, Extends, KeepsFirstOrder, leaf_level, HasFitParts}
 use Rattle.ca_macro.proofs.Lines.{unequal}
-use Rattle.ca_macro.proofs.Following.{all_append}
 use Rattle.ca_macro.proofs.Pictures.{NoneDead, rows_live, shifted_live, leaf_shows, four_show, joined_show, picture_as}
 use Rattle.ca_macro.proofs.Gathering.{corner_zero, number_goes_on}
+use Rattle.ca_plane.proofs.Elements.{all_append}
 
 -- ---- no picture of a node lists a dead cell
 
@@ -58,7 +58,7 @@ empty_number kept ns id h = record {
 
 -- ---- leaves
 
-last_live : (width bits : ℕ) (d : Option Bool) → bits < 2 ^ width → (bits == 0) ≡ false → last_or d (row_of width bits) ≡ Some true
+last_live : (width bits : ℕ) (d : Option Bool) → bits < 2 ^ width → (bits == 0) ≡ false → last_or d (row_marks width bits) ≡ Some true
 last_live zero bits d h some = let z : bits ≢ 0 = λ e. grind (arith, nat_tests) in absurd (z (omega arith))
 last_live (suc width) bits d h some =
     let half : bits / 2 < 2 ^ width = omega (arith, two-pow-succ width) in
@@ -72,22 +72,22 @@ last_live (suc width) bits d h some =
       | inr e ↦ rw some (last_live width (bits / 2) (Some (bits % 2 == 1)) half e)
     ]
   where
-    none_after : (width : ℕ) → last_or (Some true) (row_of width 0) ≡ Some true
+    none_after : (width : ℕ) → last_or (Some true) (row_marks width 0) ≡ Some true
     none_after zero = refl
     none_after (suc width) = refl
 
-ends_live : (bits : ℕ) → bits < 256 → last_or (Some true) (row_of 8 bits) ≡ Some true
+ends_live : (bits : ℕ) → bits < 256 → last_or (Some true) (row_marks 8 bits) ≡ Some true
 ends_live bits h =
     elim (cases_Bool (bits == 0)) [
       | inl e ↦ let z : bits ≡ 0 = eqb-true bits 0 e in rw z refl
       | inr e ↦ last_live 8 bits (Some true) h e
     ]
 
-all_end_live : (bytes : List ℕ) → ((y : ℕ) → slice_index bytes y < 256) → AllByRecursion (λ row. last_or (Some true) row ≡ Some true) (map (row_of 8) bytes)
+all_end_live : (bytes : List ℕ) → ((y : ℕ) → slice_index bytes y < 256) → AllByRecursion (λ row. last_or (Some true) row ≡ Some true) (map (row_marks 8) bytes)
 all_end_live [] low = tt
 all_end_live (b ∷ bs) low = (ends_live b (low 0), all_end_live bs (λ y. low (suc y)))
 
-row_length : (width bits : ℕ) → length (row_of width bits) ≤ width
+row_length : (width bits : ℕ) → length (row_marks width bits) ≤ width
 row_length zero bits = omega arith
 row_length (suc width) bits =
     elim (cases_Bool (bits == 0)) [
@@ -95,7 +95,7 @@ row_length (suc width) bits =
       | inr e ↦ rw e (let l = row_length width (bits / 2) in omega arith)
     ]
 
-all_short : (bytes : List ℕ) → AllByRecursion (λ row. length row ≤ 8) (map (row_of 8) bytes)
+all_short : (bytes : List ℕ) → AllByRecursion (λ row. length row ≤ 8) (map (row_marks 8) bytes)
 all_short [] = tt
 all_short (b ∷ bs) = (row_length 8 b, all_short bs)
 
@@ -117,21 +117,21 @@ pub level_form : (states k level : ℕ) → suc k ≡ level → leaf_level state
 level_form states k level next h e = let three : leaf_level states ≡ 3 = rw e refl in omega arith
 
 pub leaf_node : (kept : List Kept) (states : ℕ) (ns : List Node) (id : ℕ) (bytes : List ℕ) → states ≡ 2 → squares.level_of kept id ≡ 3 → length bytes ≡ 8 → ((y : ℕ) → slice_index bytes y < 256)
-    → ((x y : ℕ) → squares.cell_of kept 3 id x y ≡ row_cells bytes x y) → IsNodeOf kept states ns id (Leaf (map (row_of 8) bytes))
+    → ((x y : ℕ) → squares.cell_of kept 3 id x y ≡ row_cells bytes x y) → IsNodeOf kept states ns id (Leaf (map (row_marks 8) bytes))
 leaf_node kept states ns id bytes two level eight low shows = record {
   in_place = tt;
-  form = (two, length-map bytes (row_of 8) ∙ eight, all_short bytes, all_end_live bytes low);
+  form = (two, length-map bytes (row_marks 8) ∙ eight, all_short bytes, all_end_live bytes low);
   level = sym level;
   shows = leaf_shows bytes (kept_cells kept id) low (subst (λ l. (x y : ℕ) → squares.cell_of kept l id x y ≡ row_cells bytes x y) (sym level) shows);
 }
 
 pub cells_node : (kept : List Kept) (states : ℕ) (ns : List Node) (id nw ne sw se : ℕ) → (states ≡ 2 → ⊥) → squares.level_of kept id ≡ 1 → nw < 256 → ne < 256 → sw < 256 → se < 256
-    → ((x y : ℕ) → squares.cell_of kept 1 id x y ≡ together 1 (dot nw) (dot ne) (dot sw) (dot se) x y) → IsNodeOf kept states ns id (Cells nw ne sw se)
+    → ((x y : ℕ) → squares.cell_of kept 1 id x y ≡ joined_cells 1 (one_cell nw) (one_cell ne) (one_cell sw) (one_cell se) x y) → IsNodeOf kept states ns id (Cells nw ne sw se)
 cells_node kept states ns id nw ne sw se two level a b c d shows = record {
   in_place = (omega arith, (omega arith, (omega arith, (omega arith, tt))));
   form = two;
   level = sym level;
-  shows = four_show nw ne sw se (kept_cells kept id) (subst (λ l. (x y : ℕ) → squares.cell_of kept l id x y ≡ together 1 (dot nw) (dot ne) (dot sw) (dot se) x y) (sym level) shows);
+  shows = four_show nw ne sw se (kept_cells kept id) (subst (λ l. (x y : ℕ) → squares.cell_of kept l id x y ≡ joined_cells 1 (one_cell nw) (one_cell ne) (one_cell sw) (one_cell se) x y) (sym level) shows);
 }
 
 -- ---- parts
@@ -142,7 +142,7 @@ pub record IsFit (kept : List Kept) (states k id : ℕ) : Type 0 where
   pub level : squares.level_of kept id ≡ k
   pub low : (x y : ℕ) → kept_cells kept id x y < states
 
-low_ends : (side states : ℕ) (f : ℕ → ℕ → ℕ) → Ends side f → 0 < states → ((x y : ℕ) → x < side → y < side → f x y < states) → (x y : ℕ) → f x y < states
+low_ends : (side states : ℕ) (f : ℕ → ℕ → ℕ) → EndsWithin side f → 0 < states → ((x y : ℕ) → x < side → y < side → f x y < states) → (x y : ℕ) → f x y < states
 low_ends side states f ends some low x y =
     elim (below_or_not x side) [
       | inl h ↦ elim (below_or_not y side) [
@@ -156,7 +156,7 @@ module _ (kept : List Kept) (id k level : ℕ) (qs : List ℕ) (next : suc k ≡
   part : ℕ → ℕ → ℕ → ℕ
   part i = squares.cell_of kept k (slice_index qs i)
 
-  whole : (x y : ℕ) → kept_cells kept id x y ≡ together (2 ^ k) (part 0) (part 1) (part 2) (part 3) x y
+  whole : (x y : ℕ) → kept_cells kept id x y ≡ joined_cells (2 ^ k) (part 0) (part 1) (part 2) (part 3) x y
   unfolding part
   whole x y = ap (λ l. squares.cell_of kept l id x y) (is_level ∙ sym next) ∙ q.has_cells x y
 
@@ -207,8 +207,8 @@ module _ (kept : List Kept) (id k level : ℕ) (qs : List ℕ) (next : suc k ≡
           form = form;
           level = sym is_level;
           shows = subst (λ l. IsPictureOfSquare (node_picture (squares_of ns) (Parts level a b c d)) (kept_cells kept id)) e
-              (picture_as (node_picture (squares_of ns) (Parts level a b c d)) (together (2 ^ k) (part 0) (part 1) (part 2) (part 3)) (kept_cells kept id) (λ x y. sym (whole x y))
-              (subst (λ l. IsPictureOfSquare (joined (2 ^ l) (numbered_square (squares_of ns) a) (numbered_square (squares_of ns) b) (numbered_square (squares_of ns) c) (numbered_square (squares_of ns) d)) (together (2 ^ k) (part 0) (part 1) (part 2) (part 3))) e all));
+              (picture_as (node_picture (squares_of ns) (Parts level a b c d)) (joined_cells (2 ^ k) (part 0) (part 1) (part 2) (part 3)) (kept_cells kept id) (λ x y. sym (whole x y))
+              (subst (λ l. IsPictureOfSquare (joined_picture (2 ^ l) (numbered_square (squares_of ns) a) (numbered_square (squares_of ns) b) (numbered_square (squares_of ns) c) (numbered_square (squares_of ns) d)) (joined_cells (2 ^ k) (part 0) (part 1) (part 2) (part 3))) e all));
         }
 
 -- a square that is no leaf is written by its four parts

@@ -6,7 +6,7 @@ use Rattle.ca_plane.specs.Bytes.{letter, is_end_or, AreDigits, value, lines_of, 
 use Rattle.ca_macro.specs.declared.fault.MacroFault.{MacroFault}
 use Rattle.ca_macro.specs.declared.fault.MacroFault.TheVariants.{NotMacro, Timeline, Syntax, Forward, Level, LeafSize, Range, GenTooLarge, Memory}
 use Rattle.ca_macro.specs.Nodes.{Node, IsLeaf, NamesPart, IsLevel, MayFollow}
-use Rattle.ca_macro.specs.File.{MacrocellLine, Adds, AreNumbers, MacrocellWordsSay, added, MacrocellLinesSay, MacrocellFile, begins_macro, IsMacrocellFile}
+use Rattle.ca_macro.specs.File.{MacrocellLine, Adds, AreNumbers, MacrocellWordsSay, added_nodes, MacrocellLinesSay, MacrocellFile, begins_macro, IsMacrocellFile}
 use Rattle.ca_plane.specs.Limits.{generation_limit}
 use Rattle.ca_macro.specs.Limits.{IsMacrocellOutOfRange}
 
@@ -20,7 +20,7 @@ pub record HasMacrocellLine (bytes : List ℕ) (P : List Node → List (List ℕ
   pub begins : begins_macro bytes ≡ true
   pub lines_are : lines_of bytes ≡ first ∷ (good ++ line ∷ later)
   pub say : MacrocellLinesSay [] good said
-  pub holds : P (flat_map added said) (words_of line)
+  pub holds : P (flat_map added_nodes said) (words_of line)
 
 -- the first word begins a plane of a timeline
 abbrev pub AreTimeline : List (List ℕ) → Type 0

@@ -42,11 +42,11 @@ MacrocellWordsSay words (Adds (Cells nw ne sw se)) = AreNumbers words 1 nw ne sw
 MacrocellWordsSay words (Adds (Parts level nw ne sw se)) = AreNumbers words level nw ne sw se
 
 -- the node that a line adds, if it adds one
-abbrev pub added : MacrocellLine → List Node
-added Nothing = []
-added (Rule text) = []
-added (Generation count) = []
-added (Adds node) = node ∷ []
+abbrev pub added_nodes : MacrocellLine → List Node
+added_nodes Nothing = []
+added_nodes (Rule text) = []
+added_nodes (Generation count) = []
+added_nodes (Adds node) = node ∷ []
 
 -- a node that is added may follow the earlier ones
 abbrev pub IsAllowedNode : List Node → MacrocellLine → Type 0
@@ -60,7 +60,7 @@ abbrev pub MacrocellLinesSay : List Node → List (List ℕ) → List MacrocellL
 MacrocellLinesSay earlier [] [] = Unit {0}
 MacrocellLinesSay earlier [] (s ∷ said) = ⊥
 MacrocellLinesSay earlier (l ∷ ls) [] = ⊥
-MacrocellLinesSay earlier (l ∷ ls) (s ∷ said) = MacrocellWordsSay (words_of l) s × IsAllowedNode earlier s × MacrocellLinesSay (earlier ++ added s) ls said
+MacrocellLinesSay earlier (l ∷ ls) (s ∷ said) = MacrocellWordsSay (words_of l) s × IsAllowedNode earlier s × MacrocellLinesSay (earlier ++ added_nodes s) ls said
 
 -- the rule text is the last that is said, or else this one
 abbrev pub last_rule : List ℕ → List MacrocellLine → List ℕ
@@ -97,6 +97,6 @@ pub record IsMacrocellFile (bytes : List ℕ) (file : MacrocellFile) : Type 0 wh
   pub begins : begins_macro bytes ≡ true
   pub lines_are : lines_of bytes ≡ first ∷ lines
   pub say : MacrocellLinesSay [] lines said
-  pub nodes : file.nodes ≡ flat_map added said
+  pub nodes : file.nodes ≡ flat_map added_nodes said
   pub rule_text : file.rule_text ≡ last_rule default_rule said
   pub generation : file.generation ≡ last_line_generation 0 said

@@ -21,8 +21,8 @@ abbrev pub leaf_state : Bool → ℕ
 leaf_state live = if live then 1 else 0
 
 -- four pictures, each moved to its corner of a square whose half side is this
-abbrev pub joined : ℕ → (nw ne sw se : Picture) → Picture
-joined half nw ne sw se =
+abbrev pub joined_picture : ℕ → (nw ne sw se : Picture) → Picture
+joined_picture half nw ne sw se =
     nw ++ (shifted ne (pos half) (pos 0) ++ (shifted sw (pos 0) (pos half) ++ shifted se (pos half) (pos half)))
 
 -- the list of the square with a number, among the lists of the nodes: 0 is the empty square, and nodes are numbered from 1
@@ -35,7 +35,7 @@ abbrev pub node_picture : List Picture → Node → Picture
 node_picture earlier (Leaf rows) = rows_from (pos 0) (map (map leaf_state) rows)
 node_picture earlier (Cells nw ne sw se) = rows_from (pos 0) ((nw ∷ ne ∷ []) ∷ (sw ∷ se ∷ []) ∷ [])
 node_picture earlier (Parts level nw ne sw se) =
-    joined (2 ^ (level - 1)) (numbered_square earlier nw) (numbered_square earlier ne) (numbered_square earlier sw) (numbered_square earlier se)
+    joined_picture (2 ^ (level - 1)) (numbered_square earlier nw) (numbered_square earlier ne) (numbered_square earlier sw) (numbered_square earlier se)
 
 -- the pictures of earlier nodes and of those that follow them
 abbrev pub squares_after : List Picture → List Node → List Picture
@@ -47,14 +47,14 @@ abbrev pub squares_of : List Node → List Picture
 squares_of nodes = squares_after [] nodes
 
 -- the picture of a square of this level, moved so that the corner between (-1, -1) and (0, 0) is its centre
-abbrev pub centred : ℕ → Picture → Picture
-centred level square = shifted square (neg_ℤ (pos (2 ^ (level - 1)))) (neg_ℤ (pos (2 ^ (level - 1))))
+abbrev pub centred_picture : ℕ → Picture → Picture
+centred_picture level square = shifted square (neg_ℤ (pos (2 ^ (level - 1)))) (neg_ℤ (pos (2 ^ (level - 1))))
 
 -- the picture of nodes is that of the last one, the root
-abbrev pub rooted : Option Node → Picture → Picture
-rooted None square = []
-rooted (Some root) square = centred (node_level root) square
+abbrev pub root_picture : Option Node → Picture → Picture
+root_picture None square = []
+root_picture (Some root) square = centred_picture (node_level root) square
 
 -- without a node it is empty (our own)
 abbrev pub picture_of_nodes : List Node → Picture
-picture_of_nodes nodes = rooted (last_or None nodes) (numbered_square (squares_of nodes) (length nodes))
+picture_of_nodes nodes = root_picture (last_or None nodes) (numbered_square (squares_of nodes) (length nodes))

@@ -1,9 +1,10 @@
 -- The front of bytes that pass a test, and the rest after it: for readers, whose code splits bytes and whose contracts join them.
-use Rattle.std.proofs.Common.{◌≡◌, ℕ, ◌+◌, Bool, true, not, List, [], ◌∷◌, ◌++◌, length, refl, ap, sym, ◌∙◌, inl, inr, length-append}
+use Rattle.std.proofs.Common.{◌≡◌, ℕ, ◌+◌, Bool, true, not, List, [], ◌∷◌, ◌++◌, length, refl, ap, sym, ◌∙◌, inl, inr, length-append, arith}
 use Rattle.std.specs.List.{list_all}
 use Rattle.std.proofs.lemmas.Bool.{and_parts, and_from, cases_Bool, not-true}
 use Rattle.std.proofs.lemmas.List.Folds.{list_all-append}
 use Rattle.std.proofs.lemmas.List.{append-nil}
+use Rattle.std.proofs.lemmas.Bool.Decides.{nat_tests}
 use Rattle.ca_plane.specs.Bytes.{Every, front, rest, is_end_or, is_digit, is_word_byte, AreDigits, IsWord}
 
 -- the front and then the rest are the bytes
@@ -95,3 +96,7 @@ every_digit (d ∷ ds) h = h
 pub every_word_byte : (word : List ℕ) → IsWord word → Every is_word_byte word
 every_word_byte [] h = refl
 every_word_byte (b ∷ bs) h = h
+
+-- digits are bytes of a word
+pub digits_in_word : (digits : List ℕ) → AreDigits digits → Every is_word_byte digits
+digits_in_word digits h = every_wider is_digit is_word_byte (λ b t. grind (arith, nat_tests)) digits (every_digit digits h)

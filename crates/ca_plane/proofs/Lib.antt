@@ -1,9 +1,10 @@
 pub mod BitPlanes
 pub mod Boxes
 pub mod FirstWords
-pub mod Compared
+pub mod CommonCells
 pub mod Decimals
-pub mod Gathered
+pub mod CellOrders
+pub mod Elements
 pub mod Fronts
 pub mod Lengths
 pub mod Lines
@@ -14,4 +15,4 @@ pub mod Populations
 pub mod Same
 pub mod Sends
 pub mod Shifts
-pub mod Trimmed
+pub mod TrimmedBytes

@@ -16,10 +16,10 @@ use Rattle.ca_plane.specs.Sparse.{point_cmp, IsSparse}
 use Rattle.ca_plane.proofs.Pictures.{point_cmp_total, point_cmp_exact, cell-listed, Contains-cell}
 
 -- whether two points are the same
-is_point : Point → Point → Bool
+unfoldable pub is_point : Point → Point → Bool
 is_point = eq_by_cmp point_cmp
 
-Decides-is_point : (p q : Point) → Decides (is_point p q) (p ≡ q)
+pub Decides-is_point : (p q : Point) → Decides (is_point p q) (p ≡ q)
 unfolding is_point
 Decides-is_point p q = (tells_apart point_cmp_exact p q, λ e. subst (λ (r : Point). eq_by_cmp point_cmp p r ≡ true) e ((eq_by_cmp_equiv point_cmp_total).refl p))
 

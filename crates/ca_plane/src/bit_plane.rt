@@ -3,7 +3,7 @@
 ghost use Rattle.std.specs.Prelude.{◌≡◌, ℕ, ◌+◌, ◌<◌, ◌≤◌, ◌/◌, ◌^◌, pos, neg_ℤ};
 ghost use Rattle.std.specs.Prelude.{◌+ℤ◌, ◌≤ℤ◌, [], IsTrue, IfSome, OnOk};
 ghost use Rattle.ca_plane.specs.BitPlane.{AddsRun, AreNearWords, IsNearWord, plane_side};
-ghost use Rattle.ca_plane.specs.Sparse.{reach};
+ghost use Rattle.ca_plane.specs.Limits.{reach};
 ghost use Rattle.ca_plane.specs.inner.BitRuns.{AddsWord, AreBitsOf, HaveSameCells, IsPlaceOf, IsWordOfRun};
 
 use crate::limits::REACH;

@@ -164,7 +164,8 @@ pub fn number(digits: &[u8]) -> u64
     number
 }
 
-fn all_digits(bytes: &[u8]) -> bool
+/// Whether each byte is a digit.
+pub fn all_digits(bytes: &[u8]) -> bool
     ensures { result ≡ list_all is_digit bytes.now }
 {
     bytes.iter().all(|byte| byte.is_ascii_digit())

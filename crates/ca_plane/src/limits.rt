@@ -18,5 +18,11 @@ pub const GENERATION_LIMIT: u64 = 1 << 63;
 /// The most generations by which a leaper goes on at once, and that a claim may name.
 pub const MOST_GENERATIONS: u64 = 1 << 60;
 
+/// The greatest shift of a claim in one direction.
+pub const GREATEST_SHIFT: i64 = 1 << 60;
+
+/// The most entries of a memo.
+pub const MOST_MEMO: usize = 16777216;
+
 /// The longest period of a claim.
 pub const LONGEST_PERIOD: u64 = (1 << 32) - 1;

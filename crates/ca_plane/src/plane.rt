@@ -180,7 +180,7 @@ impl Plane {
         let (first, _) = cells.next()?;
         let mut bounds = Bounds::of(first);
         'cells: for (point, _) in cells {
-            bounds = bounds.grown(point);
+            bounds = bounds.with_point(point);
         }
         Some(bounds)
     }

@@ -11,15 +11,15 @@ use Rattle.std.proofs.Math.Nat.{pow-le-pow_right}
 use Rattle.ca_plane.specs.declared.point.Bounds.{Bounds}
 use Rattle.ca_plane.specs.declared.bit_plane.CellWord.{CellWord}
 use Rattle.ca_plane.specs.BitPlane.{state_of_words, state_from_corner, bit_cell}
-use Rattle.ca_plane.specs.Sparse.{reach}
+use Rattle.ca_plane.specs.Limits.{reach}
 use Rattle.ca_plane.proofs.BitPlanes.{AddsWord-at_end}
 use Rattle.ca_quad.specs.declared.tree.Spot.{Spot}
 use Rattle.ca_quad.specs.declared.node.Node.{Node}
 use Rattle.ca_quad.specs.Trees.{ShowsSquare, row_cells, HoldsAll}
-use Rattle.ca_quad.specs.inner.BitParts.{cells_of_word, HaveCells, HasNoCell, IsBoxOfWord, AreApart, AddsCells, AreMoved}
-use Rattle.ca_quad.specs.inner.Filled.{counted, HoldsBox}
+use Rattle.ca_quad.specs.inner.BitParts.{cells_of_word, HaveCells, HasNoCell, IsBoxOfWord, AreApart, AddsCells, AreShiftedBits}
+use Rattle.ca_quad.specs.inner.Filled.{cells_from, HoldsBox}
 use Rattle.ca_quad.specs.inner.Window.{ShowsFrom}
-use Rattle.ca_quad.proofs.Filled.{place_on}
+use Rattle.ca_quad.proofs.FilledSquares.{place_on}
 
 -- a word at the end adds its cells
 end_from_corner : (words : List CellWord) (word : CellWord) (column row : ℤ) → state_from_corner (words ++ (word ∷ [])) column row ≡ max (state_from_corner (word ∷ []) column row) (state_from_corner words column row)
@@ -83,7 +83,7 @@ pub HaveCells-more : (words part : List CellWord) (word : CellWord) (at : Spot) 
 HaveCells-more words part word at side have = record { same = λ x y i j. bit_cell-at_end part word (at.x +ℤ pos x) (at.y +ℤ pos y) ∙ ap (λ n. max (cells_of_word word at x y) n) (have.same x y i j) ∙ sym (bit_cell-at_end words word (at.x +ℤ pos x) (at.y +ℤ pos y)) }
 
 pub HaveCells-less : (words part : List CellWord) (word : CellWord) (at : Spot) (side : ℕ) → HasNoCell word at side → HaveCells words part at side → HaveCells (words ++ (word ∷ [])) part at side
-HaveCells-less words part word at side misses have = record { same = λ x y i j. have.same x y i j ∙ sym (bit_cell-at_end words word (at.x +ℤ pos x) (at.y +ℤ pos y) ∙ ap (λ n. max n (counted (bit_cell words) at x y)) (misses.dead x y i j) ∙ omega arith) }
+HaveCells-less words part word at side misses have = record { same = λ x y i j. have.same x y i j ∙ sym (bit_cell-at_end words word (at.x +ℤ pos x) (at.y +ℤ pos y) ∙ ap (λ n. max n (cells_from (bit_cell words) at x y)) (misses.dead x y i j) ∙ omega arith) }
 
 -- a word apart from a square has no cell there
 pub HasNoCell-x : (word : CellWord) (at : Spot) (side : ℕ) → AreApart (64 * word.column) 64 at.x side → HasNoCell word at side
@@ -112,7 +112,7 @@ holds_one_more words word level next low old new x y live =
     ]
 
 -- rows without a live cell
-pub no_rows_live : (at : Spot) (x y : ℕ) → x < 64 → y < 64 → row_cells (replicate 64 0) x y ≡ counted (bit_cell []) at x y
+pub no_rows_live : (at : Spot) (x y : ℕ) → x < 64 → y < 64 → row_cells (replicate 64 0) x y ≡ cells_from (bit_cell []) at x y
 no_rows_live at x y i j = ap (λ n. bit_at n x) (get_or-replicate 64 y 0 0 j) ∙ bit_at-zero x ∙ sym (bit_cell-none (at.x +ℤ pos x) (at.y +ℤ pos y))
 
 -- the cells of one more word are in a row
@@ -120,7 +120,7 @@ module _ (word : CellWord) (at : Spot) (rows : List ℕ) (south : ℤ) (is_south
   pub no_row_here : ((n : ℕ) → n < 64 → south ≡ pos n → ⊥) → AddsCells word at rows rows
   no_row_here apart = record { adds = λ x y i j. sym (ap (λ n. max n (row_cells rows x y)) (bit_cell-other word (at.x +ℤ pos x) (at.y +ℤ pos y) (λ c low is_x is_y. apart y j (omega (arith, ints, is_south, is_y)))) ∙ omega arith) }
 
-  module _ (row : ℕ) (is_row : south ≡ pos row) (below : row < length rows) (east : ℤ) (is_east : (east +ℤ at.x) +ℤ reach ≡ pos (64 * word.column)) (moved : ℕ) (are : AreMoved word.bits east moved) where
+  module _ (row : ℕ) (is_row : south ≡ pos row) (below : row < length rows) (east : ℤ) (is_east : (east +ℤ at.x) +ℤ reach ≡ pos (64 * word.column)) (moved : ℕ) (are : AreShiftedBits word.bits east moved) where
     -- the moved bits are the cells of the word in its row
     moved_bits : (x : ℕ) → x < 64 → bit_at moved x ≡ cells_of_word word at x row
     moved_bits x i = elim (place_on (pos x -ℤ east) 64) [
@@ -139,8 +139,8 @@ module _ (word : CellWord) (at : Spot) (rows : List ℕ) (south : ℤ) (is_south
     }
 
 -- bits after 64 zeros
-pub AreMoved-bits : (bits first : ℕ) (way : ℤ) (moved : ℕ) → bits < 2 ^ 64 → (pos first) +ℤ way ≡ pos 64 → ((i : ℕ) → i < 64 → bit_at moved i ≡ bit_at (bits * 2 ^ 64) (first + i)) → AreMoved bits way moved
-AreMoved-bits bits first way moved fits is_way is = record {
+pub AreShiftedBits-bits : (bits first : ℕ) (way : ℤ) (moved : ℕ) → bits < 2 ^ 64 → (pos first) +ℤ way ≡ pos 64 → ((i : ℕ) → i < 64 → bit_at moved i ≡ bit_at (bits * 2 ^ 64) (first + i)) → AreShiftedBits bits way moved
+AreShiftedBits-bits bits first way moved fits is_way is = record {
   here = λ i k low below e.
       let place : first + i ≡ 64 + k = omega (arith, ints, is_way, e) in
       is i low ∙ ap (λ n. bit_at (bits * 2 ^ 64) n) place ∙ after_zeros bits k;
@@ -187,7 +187,7 @@ eight_shown nodes (Ok id) cells rows x y same shows = record { is_square = shows
 eight_shown nodes (Err e) cells rows x y same shows = tt
 
 -- a square that shows a part of words shows the words
-pub window_of_part : (nodes : List Node) (id k : ℕ) (words part : List CellWord) (at : Spot) (side : ℕ) → side ≡ 2 ^ k → HaveCells words part at side → ShowsFrom nodes id k (counted (bit_cell part) at) 0 0 → ShowsFrom nodes id k (counted (bit_cell words) at) 0 0
+pub window_of_part : (nodes : List Node) (id k : ℕ) (words part : List CellWord) (at : Spot) (side : ℕ) → side ≡ 2 ^ k → HaveCells words part at side → ShowsFrom nodes id k (cells_from (bit_cell part) at) 0 0 → ShowsFrom nodes id k (cells_from (bit_cell words) at) 0 0
 window_of_part nodes id k words part at side is have shows = record {
   is_square = shows.is_square;
   has_cells = λ x y i j. shows.has_cells x y i j ∙ have.same (0 + x) (0 + y) (omega (arith, is, i)) (omega (arith, is, j));
@@ -209,7 +209,7 @@ pub holds_taken : (words : List CellWord) (k level next : ℕ) (d : CellWord) �
 holds_taken words k level next d low least old new = subst (λ l. HoldsAll next (bit_cell l)) (sym (taken words k d low)) (holds_one_more (take k words) (get_or words k d) level next least old new)
 
 pub cells_taken : (words : List CellWord) (k : ℕ) (d : CellWord) (at : Spot) (old new : List ℕ) → k < length words → AddsCells (get_or words k d) at old new
-    → ((x y : ℕ) → x < 64 → y < 64 → row_cells old x y ≡ counted (bit_cell (take k words)) at x y) → (x y : ℕ) → x < 64 → y < 64 → row_cells new x y ≡ counted (bit_cell (take (k + 1) words)) at x y
+    → ((x y : ℕ) → x < 64 → y < 64 → row_cells old x y ≡ cells_from (bit_cell (take k words)) at x y) → (x y : ℕ) → x < 64 → y < 64 → row_cells new x y ≡ cells_from (bit_cell (take (k + 1) words)) at x y
 cells_taken words k d at old new low adds shows x y i j =
     let word = get_or words k d in
-    adds.adds x y i j ∙ ap (λ n. max (cells_of_word word at x y) n) (shows x y i j) ∙ sym (ap (λ l. counted (bit_cell l) at x y) (taken words k d low) ∙ bit_cell-at_end (take k words) word (at.x +ℤ pos x) (at.y +ℤ pos y))
+    adds.adds x y i j ∙ ap (λ n. max (cells_of_word word at x y) n) (shows x y i j) ∙ sym (ap (λ l. cells_from (bit_cell l) at x y) (taken words k d low) ∙ bit_cell-at_end (take k words) word (at.x +ℤ pos x) (at.y +ℤ pos y))

@@ -6,7 +6,7 @@ use Rattle.std.proofs.lemmas.Bool.{cases_eq, cases_lt, eqb-true, eq-eqb, ne_eqb,
 use Rattle.std.proofs.lemmas.Nat.{pow_pos, and_le_r, shr-shr}
 use Rattle.std.proofs.lemmas.Nat.Bits.{bit_at-zero, bit_at-lt, bit_at_and, bit_at_xor, bit_at_cat_low, bit_at_cat_high}
 use Rattle.std.proofs.Math.Nat.{mul-le-mul}
-use Rattle.ca_quad.specs.inner.Bits.{place, exchanged}
+use Rattle.ca_quad.specs.inner.Bits.{place, exchanged_bit}
 
 no_more : (n k : ℕ) → n * 2 ^ k ≡ n * 2 ^ k + 0
 no_more n k = omega arith
@@ -49,7 +49,7 @@ module _ (n low way i : ℕ) (apart : bit_and low (low * 2 ^ way) ≡ 0) where
             ∙ rw (back, above_shift low way i h) refl
       ]
 
-  exchange_at : bit_at (bit_xor (bit_xor n (changed n low way)) (changed n low way * 2 ^ way)) i ≡ bit_at n (exchanged low way i)
+  exchange_at : bit_at (bit_xor (bit_xor n (changed n low way)) (changed n low way * 2 ^ way)) i ≡ bit_at n (exchanged_bit low way i)
   exchange_at =
       let all = xor_three n (changed n low way) (changed n low way * 2 ^ way) i in
       let here = bit_at-lt n i in
@@ -60,7 +60,7 @@ module _ (n low way i : ℕ) (apart : bit_and low (low * 2 ^ way) ≡ 0) where
             rw test (omega (arith, all, e, changed_at n low way i, up_at, not_both))
         | inr f ↦
             let test = ne_eqb (bit_at low i) 1 f in
-            let none = bit_at-lt low i in
+            let no_cells = bit_at-lt low i in
             elim (cases_eq (bit_at (low * 2 ^ way) i) 1) [
               | inl e ↦
                   let test_up : (bit_at (low * 2 ^ way) i == 1) ≡ true = eq-eqb (bit_at (low * 2 ^ way) i) 1 e in
@@ -80,19 +80,19 @@ up_fits n low way fits =
     omega (arith, least, fits)
 
 pub exchange_bits : (n low way : ℕ) → low * 2 ^ way < 2 ^ 64 → bit_and low (low * 2 ^ way) ≡ 0
-    → (i : ℕ) → bit_at (bit_xor (bit_xor n (changed n low way)) (changed n low way * 2 ^ way % 2 ^ 64)) i ≡ bit_at n (exchanged low way i)
+    → (i : ℕ) → bit_at (bit_xor (bit_xor n (changed n low way)) (changed n low way * 2 ^ way % 2 ^ 64)) i ≡ bit_at n (exchanged_bit low way i)
 exchange_bits n low way fits apart i = rw (up_fits n low way fits) (exchange_at n low way i apart)
 
 -- ---- the two orders
 
 abbrev wide : ℕ → ℕ
-wide i = exchanged 280375465148160 8 i
+wide i = exchanged_bit 280375465148160 8 i
 
 abbrev half : ℕ → ℕ
-half i = exchanged 57421771435671756 6 i
+half i = exchanged_bit 57421771435671756 6 i
 
 abbrev small : ℕ → ℕ
-small i = exchanged 868082074056920076 2 i
+small i = exchanged_bit 868082074056920076 2 i
 
 by_rows : (i : ℕ) → i < 64 → wide (half (small i)) ≡ place 3 (i % 8) (i / 8)
 by_rows i h = eqb-true _ _ (agree_below_at (λ i. wide (half (small i)) == place 3 (i % 8) (i / 8)) (λ i. true) 64 i refl h)

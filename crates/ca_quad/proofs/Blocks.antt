@@ -9,10 +9,10 @@ use Rattle.ca_plane.specs.Sparse.{IsSparse}
 use Rattle.ca_plane.proofs.Pictures.{cell-listed}
 use Rattle.ca_quad.specs.declared.tree.Spot.{Spot}
 use Rattle.ca_quad.specs.inner.Block.{block_cells, IsCell, IsPut, IsRight}
-use Rattle.ca_quad.specs.inner.Filled.{counted}
+use Rattle.ca_quad.specs.inner.Filled.{cells_from}
 
 -- a block of zeros is right where no cell is live
-pub zeros_right : (p : Picture) (at : Spot) (x y : ℕ) → x < 32 → y < 32 → counted (cell p) at x y ≡ 0 → IsRight p at (replicate 1024 0) x y
+pub zeros_right : (p : Picture) (at : Spot) (x y : ℕ) → x < 32 → y < 32 → cells_from (cell p) at x y ≡ 0 → IsRight p at (replicate 1024 0) x y
 zeros_right p at x y i j z = get_or-replicate 1024 (32 * y + x) 0 0 (omega arith) ∙ sym z
 
 -- a point is one cell of a block at most
@@ -44,4 +44,4 @@ module _ (p : Picture) (sparse : IsSparse p) (at : Spot) (i : ℕ) (low : i < le
 
   pub put_keeps : (x y : ℕ) → x < 32 → y < 32 → IsRight p at old x y → IsRight p at new x y
   put_keeps x y a b h =
-      elim (cases_eq (block_cells new x y) (counted (cell p) at x y)) [ inl e ↦ e | inr differs ↦ put.other x y a b (λ c. differs (put_right x y c)) ∙ h ]
+      elim (cases_eq (block_cells new x y) (cells_from (cell p) at x y)) [ inl e ↦ e | inr differs ↦ put.other x y a b (λ c. differs (put_right x y c)) ∙ h ]

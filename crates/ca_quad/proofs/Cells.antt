@@ -6,34 +6,34 @@ use Rattle.std.proofs.Math.Nat.{two-pow-succ}
 use Rattle.ca_quad.specs.declared.node.Node.{Node}
 use Rattle.ca_quad.specs.declared.square.Square.{Square}
 use Rattle.ca_quad.specs.declared.square.Square.TheVariants.{Four, Parts}
-use Rattle.ca_quad.specs.Squares.{square_of, level, IsOf, dot, together, cells_in, cell_of}
+use Rattle.ca_quad.specs.Squares.{square_of, level, IsOf, one_cell, joined_cells, cells_in, cell_of}
 use Rattle.ca_quad.specs.Sound.{IsSoundStore, Grows}
-use Rattle.ca_quad.specs.inner.Measure.{Ends}
+use Rattle.ca_quad.specs.inner.Measure.{EndsWithin}
 use Rattle.ca_quad.specs.inner.Whole.{IsWhole}
 use Rattle.ca_quad.proofs.Growth.{below_or_not, square_stays}
 use Rattle.ca_quad.proofs.Views.{square_whole, known_by_square}
 
 -- the quarter in which a cell lies
 module _ (side : ℕ) (nw ne sw se : ℕ → ℕ → ℕ) (x y : ℕ) where
-  pub in_nw : x < side → y < side → together side nw ne sw se x y ≡ nw x y
+  pub in_nw : x < side → y < side → joined_cells side nw ne sw se x y ≡ nw x y
   in_nw h k =
       let e : nat_lt x side ≡ true = grind (arith, nat_tests) in
       let f : nat_lt y side ≡ true = grind (arith, nat_tests) in
       rw (e, f) refl
 
-  pub in_ne : side ≤ x → y < side → together side nw ne sw se x y ≡ ne (x - side) y
+  pub in_ne : side ≤ x → y < side → joined_cells side nw ne sw se x y ≡ ne (x - side) y
   in_ne h k =
       let e : nat_lt x side ≡ false = grind (arith, nat_tests) in
       let f : nat_lt y side ≡ true = grind (arith, nat_tests) in
       rw (e, f) refl
 
-  pub in_sw : x < side → side ≤ y → together side nw ne sw se x y ≡ sw x (y - side)
+  pub in_sw : x < side → side ≤ y → joined_cells side nw ne sw se x y ≡ sw x (y - side)
   in_sw h k =
       let e : nat_lt x side ≡ true = grind (arith, nat_tests) in
       let f : nat_lt y side ≡ false = grind (arith, nat_tests) in
       rw (e, f) refl
 
-  pub in_se : side ≤ x → side ≤ y → together side nw ne sw se x y ≡ se (x - side) (y - side)
+  pub in_se : side ≤ x → side ≤ y → joined_cells side nw ne sw se x y ≡ se (x - side) (y - side)
   in_se h k =
       let e : nat_lt x side ≡ false = grind (arith, nat_tests) in
       let f : nat_lt y side ≡ false = grind (arith, nat_tests) in
@@ -41,22 +41,22 @@ module _ (side : ℕ) (nw ne sw se : ℕ → ℕ → ℕ) (x y : ℕ) where
 
 -- and where it is counted from the corner of its quarter
 module _ (side : ℕ) (nw ne sw se : ℕ → ℕ → ℕ) (x y : ℕ) where
-  pub at_nw : x < side → y < side → together side nw ne sw se x y ≡ nw x y
+  pub at_nw : x < side → y < side → joined_cells side nw ne sw se x y ≡ nw x y
   at_nw = in_nw side nw ne sw se x y
 
   from_side : (n : ℕ) → side + n - side ≡ n
   from_side n = omega arith
 
-  pub at_ne : y < side → together side nw ne sw se (side + x) y ≡ ne x y
+  pub at_ne : y < side → joined_cells side nw ne sw se (side + x) y ≡ ne x y
   at_ne k = in_ne side nw ne sw se (side + x) y (omega arith) k ∙ ap (λ n. ne n y) (from_side x)
 
-  pub at_sw : x < side → together side nw ne sw se x (side + y) ≡ sw x y
+  pub at_sw : x < side → joined_cells side nw ne sw se x (side + y) ≡ sw x y
   at_sw h = in_sw side nw ne sw se x (side + y) h (omega arith) ∙ ap (sw x) (from_side y)
 
-  pub at_se : together side nw ne sw se (side + x) (side + y) ≡ se x y
+  pub at_se : joined_cells side nw ne sw se (side + x) (side + y) ≡ se x y
   at_se = in_se side nw ne sw se (side + x) (side + y) (omega arith) (omega arith) ∙ rw (from_side x, from_side y) refl
 
-pub dot_ends : (state side : ℕ) → 1 ≤ side → Ends side (dot state)
+pub dot_ends : (state side : ℕ) → 1 ≤ side → EndsWithin side (one_cell state)
 dot_ends state side h x y (inl p) = let e : (x == 0) ≡ false = grind (arith, nat_tests) in rw e refl
 dot_ends state side h x y (inr p) =
     let e : (y == 0) ≡ false = grind (arith, nat_tests) in
@@ -68,7 +68,7 @@ is_under a b e = grind (arith, nat_tests)
 pub is_over : (a b : ℕ) → nat_lt a b ≡ false → b ≤ a
 is_over a b e = grind (arith, nat_tests)
 
-pub together_ends : (side : ℕ) (nw ne sw se : ℕ → ℕ → ℕ) → Ends side nw → Ends side ne → Ends side sw → Ends side se → Ends (side + side) (together side nw ne sw se)
+pub together_ends : (side : ℕ) (nw ne sw se : ℕ → ℕ → ℕ) → EndsWithin side nw → EndsWithin side ne → EndsWithin side sw → EndsWithin side se → EndsWithin (side + side) (joined_cells side nw ne sw se)
 together_ends side nw ne sw se a b c d x y h =
     elim (cases_Bool (nat_lt y side)) [
       | inl e ↦
@@ -89,8 +89,8 @@ together_ends side nw ne sw se a b c d x y h =
           ]
     ]
 
-square_ends : (part : ℕ → ℕ → ℕ → ℕ) (side : ℕ) → 1 ≤ side → ((id : ℕ) → Ends side (part id)) → (s : Square) → Ends (side + side) (cells_in part s side)
-square_ends part side h ends (Four nw ne sw se) = together_ends side (dot nw) (dot ne) (dot sw) (dot se) (dot_ends nw side h) (dot_ends ne side h) (dot_ends sw side h) (dot_ends se side h)
+square_ends : (part : ℕ → ℕ → ℕ → ℕ) (side : ℕ) → 1 ≤ side → ((id : ℕ) → EndsWithin side (part id)) → (s : Square) → EndsWithin (side + side) (cells_in part s side)
+square_ends part side h ends (Four nw ne sw se) = together_ends side (one_cell nw) (one_cell ne) (one_cell sw) (one_cell se) (dot_ends nw side h) (dot_ends ne side h) (dot_ends sw side h) (dot_ends se side h)
 square_ends part side h ends (Parts k nw ne sw se) = together_ends side (part nw) (part ne) (part sw) (part se) (ends nw) (ends ne) (ends sw) (ends se)
 
 pub one_up : (k : ℕ) → 1 ≤ 2 ^ k
@@ -101,7 +101,7 @@ one_up (suc k) = omega (arith, one_up k, two-pow-succ k)
 pub twice : (k : ℕ) → 1 ≤ k → 2 ^ k ≡ 2 ^ (k - 1) + 2 ^ (k - 1)
 twice k some = let next : suc (k - 1) ≡ k = omega arith in ap (λ n. 2 ^ n) (sym next) ∙ two-pow-succ (k - 1)
 
-pub cell_ends : (nodes : List Node) (k id : ℕ) → Ends (2 ^ k) (cell_of nodes k id)
+pub cell_ends : (nodes : List Node) (k id : ℕ) → EndsWithin (2 ^ k) (cell_of nodes k id)
 cell_ends nodes zero id = λ x y h. refl
 cell_ends nodes (suc k) id =
     rw two-pow-succ (square_ends (cell_of nodes k) (2 ^ k) (one_up k) (cell_ends nodes k) (square_of nodes id))
@@ -133,8 +133,8 @@ module _ (old new : List Node) (sound : IsSoundStore old) (grows : Grows old new
   }
 
 -- squares that lie together in the same way are the same, quarter by quarter
-module _ (side : ℕ) (a b c d e f g h : ℕ → ℕ → ℕ) (same : (x y : ℕ) → together side a b c d x y ≡ together side e f g h x y) where
-  pub same_nw : Ends side a → Ends side e → (x y : ℕ) → a x y ≡ e x y
+module _ (side : ℕ) (a b c d e f g h : ℕ → ℕ → ℕ) (same : (x y : ℕ) → joined_cells side a b c d x y ≡ joined_cells side e f g h x y) where
+  pub same_nw : EndsWithin side a → EndsWithin side e → (x y : ℕ) → a x y ≡ e x y
   same_nw p q x y =
       elim (below_or_not x side) [
         | inl i ↦ elim (below_or_not y side) [
@@ -144,14 +144,14 @@ module _ (side : ℕ) (a b c d e f g h : ℕ → ℕ → ℕ) (same : (x y : ℕ
         | inr i ↦ p x y (inl i) ∙ sym (q x y (inl i))
       ]
 
-  pub same_ne : Ends side b → Ends side f → (x y : ℕ) → b x y ≡ f x y
+  pub same_ne : EndsWithin side b → EndsWithin side f → (x y : ℕ) → b x y ≡ f x y
   same_ne p q x y =
       elim (below_or_not y side) [
         | inl j ↦ sym (at_ne side a b c d x y j) ∙ (same (side + x) y ∙ at_ne side e f g h x y j)
         | inr j ↦ p x y (inr j) ∙ sym (q x y (inr j))
       ]
 
-  pub same_sw : Ends side c → Ends side g → (x y : ℕ) → c x y ≡ g x y
+  pub same_sw : EndsWithin side c → EndsWithin side g → (x y : ℕ) → c x y ≡ g x y
   same_sw p q x y =
       elim (below_or_not x side) [
         | inl i ↦ sym (at_sw side a b c d x y i) ∙ (same x (side + y) ∙ at_sw side e f g h x y i)
@@ -161,7 +161,7 @@ module _ (side : ℕ) (a b c d e f g h : ℕ → ℕ → ℕ) (same : (x y : ℕ
   pub same_se : (x y : ℕ) → d x y ≡ h x y
   same_se x y = sym (at_se side a b c d x y) ∙ (same (side + x) (side + y) ∙ at_se side e f g h x y)
 
-same_four : (a b c d e f g h : ℕ) → ((x y : ℕ) → together 1 (dot a) (dot b) (dot c) (dot d) x y ≡ together 1 (dot e) (dot f) (dot g) (dot h) x y) → Four a b c d ≡ Four e f g h
+same_four : (a b c d e f g h : ℕ) → ((x y : ℕ) → joined_cells 1 (one_cell a) (one_cell b) (one_cell c) (one_cell d) x y ≡ joined_cells 1 (one_cell e) (one_cell f) (one_cell g) (one_cell h) x y) → Four a b c d ≡ Four e f g h
 same_four a b c d e f g h same =
     let p : a ≡ e = same 0 0 in
     let q : b ≡ f = same 1 0 in
@@ -185,7 +185,7 @@ module _ (nodes : List Node) (sound : IsSoundStore nodes) where
   same_square k ids (Four nw ne sw se) (Four a b c d) i j v w same =
       let one : 2 ^ k ≡ 1 = ap (λ n. 2 ^ n) (lowest k i) in
       same_four nw ne sw se a b c d
-      (subst (λ n. (x y : ℕ) → together n (dot nw) (dot ne) (dot sw) (dot se) x y ≡ together n (dot a) (dot b) (dot c) (dot d) x y) one same)
+      (subst (λ n. (x y : ℕ) → joined_cells n (one_cell nw) (one_cell ne) (one_cell sw) (one_cell se) x y ≡ joined_cells n (one_cell a) (one_cell b) (one_cell c) (one_cell d) x y) one same)
   same_square k ids (Four nw ne sw se) (Parts m a b c d) i j v w same = absurd (omega arith)
   same_square k ids (Parts m a b c d) (Four nw ne sw se) i j v w same = absurd (omega arith)
   same_square k ids (Parts m nw ne sw se) (Parts n a b c d) i j v w same =

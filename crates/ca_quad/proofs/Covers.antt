@@ -13,12 +13,12 @@ use Rattle.ca_quad.specs.declared.store.to_plane.Corners.{Corners}
 use Rattle.ca_quad.specs.declared.tree.Spot.{Spot}
 use Rattle.ca_quad.specs.Trees.{ShowsSquare}
 use Rattle.ca_quad.specs.inner.Drawn.{ArePartCorners}
-use Rattle.ca_quad.specs.inner.Filled.{counted, LiesNear, AreRowsOf}
-use Rattle.ca_quad.specs.inner.Ring.{none}
-use Rattle.ca_quad.specs.inner.Rows.{point_at, Hold, Cover, IsPartOfRows, AreParts}
+use Rattle.ca_quad.specs.inner.Filled.{cells_from, LiesNear, AreRowsOf}
+use Rattle.ca_quad.specs.inner.Ring.{no_cells}
+use Rattle.ca_quad.specs.inner.Rows.{point_at, HaveRowAt, HoldCells, IsPartOfRows, AreParts}
 use Rattle.ca_quad.specs.inner.Window.{ShowsFrom}
 use Rattle.ca_quad.proofs.Cells.{twice}
-use Rattle.ca_quad.proofs.Filled.{near_nw, near_ne, near_sw, near_se}
+use Rattle.ca_quad.proofs.FilledSquares.{near_nw, near_ne, near_sw, near_se}
 
 -- a part of a part
 pub part_part : (p : Picture) (rows half part : List Row) (P Q : Point → Type 0) → IsPartOfRows p rows P half → IsPartOfRows p half Q part → IsPartOfRows p rows (λ q. P q × Q q) part
@@ -35,20 +35,20 @@ place_of p x y live =
     (k, low, ap (λ (q : Point). q.x) at, ap (λ (q : Point). q.y) at)
 
 -- where no row holds anything, nothing is live
-pub covered_none : (p : Picture) (rows : List Row) (side : ℕ) (at : Spot) → rows ≡ [] → Cover p rows side at → (x y : ℕ) → x < side → y < side → counted (cell p) at x y ≡ 0
+pub covered_none : (p : Picture) (rows : List Row) (side : ℕ) (at : Spot) → rows ≡ [] → HoldCells p rows side at → (x y : ℕ) → x < side → y < side → cells_from (cell p) at x y ≡ 0
 covered_none p rows side at e cover x y i j =
-    elim (cases_eq (counted (cell p) at x y) 0) [
+    elim (cases_eq (cells_from (cell p) at x y) 0) [
       | inl z ↦ z
       | inr live ↦
           let (k, low, ex, ey) = place_of p (at.x +ℤ pos x) (at.y +ℤ pos y) live in
-          absurd (subst (λ rs. Hold rs k) e (cover.held k x y low i j ex ey))
+          absurd (subst (λ rs. HaveRowAt rs k) e (cover.held k x y low i j ex ey))
     ]
 
 no_rows : (rows : List Row) → length rows ≡ 0 → rows ≡ []
 no_rows [] e = refl
 no_rows (r ∷ rs) e = absurd (omega arith)
 
-pub shows_none : (nodes : List Node) (id level : ℕ) (p : Picture) (rows : List Row) (at : Spot) → length rows ≡ 0 → Cover p rows (2 ^ level) at → ShowsSquare nodes id level none → ShowsFrom nodes id level (counted (cell p) at) 0 0
+pub shows_none : (nodes : List Node) (id level : ℕ) (p : Picture) (rows : List Row) (at : Spot) → length rows ≡ 0 → HoldCells p rows (2 ^ level) at → ShowsSquare nodes id level no_cells → ShowsFrom nodes id level (cells_from (cell p) at) 0 0
 shows_none nodes id level p rows at e cover h = record {
   is_square = h.is_square;
   has_cells = λ x y i j. h.has_cells x y ∙ sym (covered_none p rows (2 ^ level) at (no_rows rows e) cover (0 + x) (0 + y) (omega arith) (omega arith));

@@ -8,14 +8,14 @@ use Rattle.ca_quad.specs.declared.neighbours.Neighbours.{Neighbours}
 use Rattle.ca_quad.specs.declared.node.Node.{Node}
 use Rattle.ca_quad.specs.declared.store.cut.Way.{Way}
 use Rattle.ca_quad.specs.contracts.neighbours.NeighboursPartialEq.TheImpl.{eq-value}
-use Rattle.ca_quad.specs.Squares.{IsOf, level_of, dot, together, cell_of}
+use Rattle.ca_quad.specs.Squares.{IsOf, level_of, one_cell, joined_cells, cell_of}
 use Rattle.ca_quad.specs.Sound.{IsSoundStore, Grows}
 use Rattle.ca_quad.specs.Trees.{ShowsSquare, AreFour, AreQuarters, AreCorners}
-use Rattle.ca_quad.specs.inner.Cut.{AreNeighbours, cells_of_four, half_of, neighbours_at, overlapping, IsCut, AreCuts, AreSixteen, AreSixteenCells, cut_value}
+use Rattle.ca_quad.specs.inner.Cut.{AreNeighbours, cells_of_four, half_of, neighbours_at, overlapping_fours, IsCut, AreCuts, AreSixteen, AreSixteenCells, cut_value}
 use Rattle.ca_quad.specs.inner.Window.{ShowsFrom}
 use Rattle.ca_quad.proofs.Cells.{one_up, at_nw, at_ne, at_sw, at_se, cells_stay, of_stays}
 use Rattle.ca_quad.proofs.Growth.{below_or_not, grows_same, grows_on}
-use Rattle.ca_quad.proofs.Filled.{grows_three, grows_four, can_join, joined}
+use Rattle.ca_quad.proofs.FilledSquares.{grows_three, grows_four, can_join, joined}
 use Rattle.ca_quad.proofs.Windows.{FourWindows, window_stays, four_windows, together_shows}
 
 -- a window at the same place
@@ -165,7 +165,7 @@ module _ (cells : ℕ → ℕ → ℕ) (x y a b c d : ℕ) (p : a ≡ cells x y)
   y_is : y ≡ y + 0
   y_is = omega arith
 
-  at_corner : (u v : ℕ) → u < 2 → v < 2 → together 1 (dot a) (dot b) (dot c) (dot d) u v ≡ cells (x + u) (y + v)
+  at_corner : (u v : ℕ) → u < 2 → v < 2 → joined_cells 1 (one_cell a) (one_cell b) (one_cell c) (one_cell d) u v ≡ cells (x + u) (y + v)
   at_corner zero zero h i = p ∙ (ap (λ n. cells n y) x_is ∙ ap (cells (x + 0)) y_is)
   at_corner (suc zero) zero h i = q ∙ ap (cells (x + 1)) y_is
   at_corner zero (suc zero) h i = r ∙ ap (λ n. cells n (y + 1)) x_is
@@ -173,7 +173,7 @@ module _ (cells : ℕ → ℕ → ℕ) (x y a b c d : ℕ) (p : a ≡ cells x y)
   at_corner (suc (suc u)) v h i = absurd (omega arith)
   at_corner u (suc (suc v)) h i = absurd (omega arith)
 
-  pub corners_window : {E : Type 0} (new : List Node) (found : Result ℕ E) → IfOk found (λ id. ShowsSquare new id 1 (together 1 (dot a) (dot b) (dot c) (dot d))) → IfOk found (λ id. ShowsFrom new id 1 cells x y)
+  pub corners_window : {E : Type 0} (new : List Node) (found : Result ℕ E) → IfOk found (λ id. ShowsSquare new id 1 (joined_cells 1 (one_cell a) (one_cell b) (one_cell c) (one_cell d))) → IfOk found (λ id. ShowsFrom new id 1 cells x y)
   corners_window new (Ok id) h = record { is_square = h.is_square; has_cells = λ u v i j. h.has_cells u v ∙ at_corner u v i j }
   corners_window new (Err e) h = tt
 
@@ -381,7 +381,7 @@ module _ (old : List Node) (sound : IsSoundStore old) (four : Neighbours) (way p
           is_y = is_y;
         }
 
-    pub lead_to_parts : (groups : Neighbours × Neighbours × Neighbours × Neighbours) → groups ≡ overlapping ids (4 * half_of place.y half + half_of place.x half)
+    pub lead_to_parts : (groups : Neighbours × Neighbours × Neighbours × Neighbours) → groups ≡ overlapping_fours ids (4 * half_of place.y half + half_of place.x half)
         → LeadToParts old (level - 1) (cells_of_four old level four) way place.x place.y groups
     lead_to_parts groups is =
         let h = 2 ^ (level - 1) in
@@ -423,6 +423,6 @@ module _ (old s1 s2 s3 s4 : List Node) (sound : IsSoundStore old) (g1 : Grows ol
   can_join_cuts = can_join s1 s2 s3 s4 g1.sound g2 g3 g4 level h large refl nw ne sw se cells x y shows_nw shows_ne shows_sw shows_se
 
   pub cuts_joined : {E : Type 0} (new : List Node) (r : Result ℕ E)
-      → ((l : ℕ) → IsOf s4 nw l → IfOk r (λ id. ShowsSquare new id (suc l) (together (2 ^ l) (cell_of s4 l nw) (cell_of s4 l ne) (cell_of s4 l sw) (cell_of s4 l se))))
+      → ((l : ℕ) → IsOf s4 nw l → IfOk r (λ id. ShowsSquare new id (suc l) (joined_cells (2 ^ l) (cell_of s4 l nw) (cell_of s4 l ne) (cell_of s4 l sw) (cell_of s4 l se))))
       → IfOk r (λ id. ShowsFrom new id level cells x y)
   cuts_joined = joined s1 s2 s3 s4 g1.sound g2 g3 g4 level h large refl nw ne sw se cells x y shows_nw shows_ne shows_sw shows_se

@@ -6,14 +6,14 @@ use Rattle.ca_quad.specs.Squares.{IsOf, cell_of}
 use Rattle.ca_quad.specs.declared.tree.Tree.{Tree}
 use Rattle.ca_quad.specs.Trees.{from_corner, cell}
 use Rattle.ca_quad.specs.Sound.{IsSoundStore}
-use Rattle.ca_quad.specs.inner.Difference.{DifferInSquare, AreEqual, Tells, AreUnequal}
+use Rattle.ca_quad.specs.inner.Difference.{DifferInSquare, AreEqual, TellsDifference, AreUnequal}
 use Rattle.ca_quad.proofs.Cells.{same_cells}
 
 -- what is told of squares of a level is told of squares of any level that they have
-pub at_level : (nodes : List Node) (a b k : ℕ) → IsOf nodes a k → (r : Option (ℕ × ℕ)) → Tells (2 ^ k) (cell_of nodes k a) (cell_of nodes k b) r
-    → (level : ℕ) → IsOf nodes a level → Tells (2 ^ level) (cell_of nodes level a) (cell_of nodes level b) r
+pub at_level : (nodes : List Node) (a b k : ℕ) → IsOf nodes a k → (r : Option (ℕ × ℕ)) → TellsDifference (2 ^ k) (cell_of nodes k a) (cell_of nodes k b) r
+    → (level : ℕ) → IsOf nodes a level → TellsDifference (2 ^ level) (cell_of nodes level a) (cell_of nodes level b) r
 at_level nodes a b k h r told level i =
-    subst (λ l. Tells (2 ^ l) (cell_of nodes l a) (cell_of nodes l b) r) (sym h.is_level ∙ i.is_level) told
+    subst (λ l. TellsDifference (2 ^ l) (cell_of nodes l a) (cell_of nodes l b) r) (sym h.is_level ∙ i.is_level) told
 
 module _ (nodes : List Node) (k a b p q left top : ℕ) (w : AreUnequal nodes k a b p q left top) where
   -- where quarters differ, so do the squares

@@ -6,14 +6,14 @@ use Rattle.ca_quad.specs.declared.node.Node.{Node}
 use Rattle.ca_quad.specs.declared.tree.Tree.{Tree}
 use Rattle.ca_quad.specs.Squares.{cell_of}
 use Rattle.ca_quad.specs.Trees.{ShowsSquare, IsEmpty, from_corner, cell}
-use Rattle.ca_quad.specs.inner.Measure.{Ends}
+use Rattle.ca_quad.specs.inner.Measure.{EndsWithin}
 use Rattle.ca_quad.proofs.Cells.{cell_ends}
 
 -- before a square or after it
 abbrev pub IsOff : ℕ → ℤ → Type 0
 IsOff side u = (u <ℤ pos 0) ⊎ (pos side ≤ℤ u)
 
-module _ (cells : ℕ → ℕ → ℕ) (side : ℕ) (ends : Ends side cells) where
+module _ (cells : ℕ → ℕ → ℕ) (side : ℕ) (ends : EndsWithin side cells) where
   pub off_x : (u v : ℤ) → IsOff side u → from_corner cells u v ≡ 0
   off_x (pos a) (pos b) (inl h) = absurd (omega (arith, ints))
   off_x (pos a) (pos b) (inr h) = ends a b (inl (omega (arith, ints)))
@@ -22,21 +22,21 @@ module _ (cells : ℕ → ℕ → ℕ) (side : ℕ) (ends : Ends side cells) whe
   off_x (negsuc a) (negsuc b) h = refl
 
 -- where x and y change places
-turned : (cells : ℕ → ℕ → ℕ) (u v : ℤ) → from_corner cells u v ≡ from_corner (λ x y. cells y x) v u
-turned cells (pos a) (pos b) = refl
-turned cells (pos a) (negsuc b) = refl
-turned cells (negsuc a) (pos b) = refl
-turned cells (negsuc a) (negsuc b) = refl
+transposed : (cells : ℕ → ℕ → ℕ) (u v : ℤ) → from_corner cells u v ≡ from_corner (λ x y. cells y x) v u
+transposed cells (pos a) (pos b) = refl
+transposed cells (pos a) (negsuc b) = refl
+transposed cells (negsuc a) (pos b) = refl
+transposed cells (negsuc a) (negsuc b) = refl
 
-pub off_y : (cells : ℕ → ℕ → ℕ) (side : ℕ) → Ends side cells → (u v : ℤ) → IsOff side v → from_corner cells u v ≡ 0
-off_y cells side ends u v h = turned cells u v ∙ off_x (λ x y. cells y x) side (λ x y o. ends y x (elim o [ inl i ↦ inr i | inr i ↦ inl i ])) v u h
+pub off_y : (cells : ℕ → ℕ → ℕ) (side : ℕ) → EndsWithin side cells → (u v : ℤ) → IsOff side v → from_corner cells u v ≡ 0
+off_y cells side ends u v h = transposed cells u v ∙ off_x (λ x y. cells y x) side (λ x y o. ends y x (elim o [ inl i ↦ inr i | inr i ↦ inl i ])) v u h
 
 module _ (nodes : List Node) (tree : Tree) (half : ℕ) (some : 1 ≤ tree.level) (e : half ≡ 2 ^ (tree.level - 1)) where
-  tree_ends : Ends (half + half) (cell_of nodes tree.level tree.root)
+  tree_ends : EndsWithin (half + half) (cell_of nodes tree.level tree.root)
   tree_ends =
       let next : suc (tree.level - 1) ≡ tree.level = omega arith in
       let side : 2 ^ tree.level ≡ half + half = ap (λ k. 2 ^ k) (sym next) ∙ (two-pow-succ (tree.level - 1) ∙ ap (λ n. n + n) (sym e)) in
-      subst (λ n. Ends n (cell_of nodes tree.level tree.root)) side (cell_ends nodes tree.level tree.root)
+      subst (λ n. EndsWithin n (cell_of nodes tree.level tree.root)) side (cell_ends nodes tree.level tree.root)
 
   pub outside_x : (x y : ℤ) → IsOff (half + half) (x +ℤ pos half) → cell nodes tree x y ≡ 0
   outside_x x y h =

@@ -4,15 +4,15 @@ use Rattle.std.proofs.lemmas.Bool.{cases_Bool}
 use Rattle.std.proofs.lemmas.Int.{ints}
 use Rattle.ca_quad.specs.declared.node.Node.{Node}
 use Rattle.ca_quad.specs.declared.tree.Tree.{Tree}
-use Rattle.ca_quad.specs.Squares.{dot, together, cell_of}
+use Rattle.ca_quad.specs.Squares.{one_cell, joined_cells, cell_of}
 use Rattle.ca_quad.specs.Trees.{from_corner, IsTree, cell}
 use Rattle.ca_quad.specs.inner.Greatest.{IsGreatest, IsGreatestOf}
-use Rattle.ca_quad.specs.inner.Measure.{Ends, IsJoined}
+use Rattle.ca_quad.specs.inner.Measure.{EndsWithin, IsJoined}
 use Rattle.ca_quad.proofs.Cells.{at_nw, at_ne, at_sw, at_se}
 use Rattle.ca_quad.proofs.Growth.{below_or_not}
 
 -- a live cell lies within the side
-pub live_within : (side : ℕ) (cells : ℕ → ℕ → ℕ) → Ends side cells → (x y : ℕ) → cells x y ≢ 0 → (x < side) × (y < side)
+pub live_within : (side : ℕ) (cells : ℕ → ℕ → ℕ) → EndsWithin side cells → (x y : ℕ) → cells x y ≢ 0 → (x < side) × (y < side)
 live_within side cells ends x y live = (
   elim (below_or_not x side) [ inl h ↦ h | inr h ↦ absurd (live (ends x y (inl h))) ],
   elim (below_or_not y side) [ inl h ↦ h | inr h ↦ absurd (live (ends x y (inr h))) ],
@@ -30,7 +30,7 @@ one_of_max a b c d m e =
     ]
 
 module _ (side : ℕ) (nw ne sw se : ℕ → ℕ → ℕ) (a b c d : ℕ) (is_nw : IsGreatest nw a) (is_ne : IsGreatest ne b) (is_sw : IsGreatest sw c) (is_se : IsGreatest se d) where
-  no_more : (m : ℕ) → m ≡ max (max a b) (max c d) → (x y : ℕ) → together side nw ne sw se x y ≤ m
+  no_more : (m : ℕ) → m ≡ max (max a b) (max c d) → (x y : ℕ) → joined_cells side nw ne sw se x y ≤ m
   no_more m e x y =
       elim (cases_Bool (nat_lt y side)) [
         | inl f ↦ elim (cases_Bool (nat_lt x side)) [ inl g ↦ rw (f, g) (omega (arith, e, is_nw.most x y)) | inr g ↦ rw (f, g) (omega (arith, e, is_ne.most (x - side) y)) ]
@@ -40,8 +40,8 @@ module _ (side : ℕ) (nw ne sw se : ℕ → ℕ → ℕ) (a b c d : ℕ) (is_nw
         ]
       ]
 
-  module _ (end_nw : Ends side nw) (end_ne : Ends side ne) (end_sw : Ends side sw) where
-    some_has : (m : ℕ) → m ≢ 0 → (m ≡ a) ⊎ ((m ≡ b) ⊎ ((m ≡ c) ⊎ (m ≡ d))) → (x : ℕ) × (y : ℕ) × (together side nw ne sw se x y ≡ m)
+  module _ (end_nw : EndsWithin side nw) (end_ne : EndsWithin side ne) (end_sw : EndsWithin side sw) where
+    some_has : (m : ℕ) → m ≢ 0 → (m ≡ a) ⊎ ((m ≡ b) ⊎ ((m ≡ c) ⊎ (m ≡ d))) → (x : ℕ) × (y : ℕ) × (joined_cells side nw ne sw se x y ≡ m)
     some_has m live (inl e) =
         let (x, y, is) = is_nw.shown (λ z. live (e ∙ z)) in
         let (i, j) = live_within side nw end_nw x y (λ z. live (e ∙ (sym is ∙ z))) in
@@ -59,11 +59,11 @@ module _ (side : ℕ) (nw ne sw se : ℕ → ℕ → ℕ) (a b c d : ℕ) (is_nw
         (side + x, side + y, at_se side nw ne sw se x y ∙ (is ∙ sym e))
 
     -- of the four together
-    pub greatest_together : (m : ℕ) → m ≡ max (max a b) (max c d) → IsGreatest (together side nw ne sw se) m
+    pub greatest_together : (m : ℕ) → m ≡ max (max a b) (max c d) → IsGreatest (joined_cells side nw ne sw se) m
     greatest_together m e = record { most = no_more m e; shown = λ live. some_has m live (one_of_max a b c d m e) }
 
 -- one cell's greatest state is its own
-pub greatest_dot : (state : ℕ) → IsGreatest (dot state) state
+pub greatest_dot : (state : ℕ) → IsGreatest (one_cell state) state
 greatest_dot state = record {
   most = λ x y. elim (cases_Bool ((x == 0) && (y == 0))) [ inl f ↦ rw f (omega arith) | inr f ↦ rw f (omega arith) ];
   shown = λ live. (0, 0, refl);

@@ -9,8 +9,8 @@ use Rattle.std.proofs.lemmas.List.Folds.{list_any_at}
 use Rattle.std.specs.List.{slice_get}
 use Rattle.std.proofs.lemmas.Option.{get_or_from_slice_get, slice_get_within}
 use Rattle.indexmap.specs.IndexSet.{insert_key}
-use Rattle.ca_quad.specs.declared.named.Named.{Named}
-use Rattle.ca_quad.specs.declared.named.Named.TheVariants.{Cells2, Cells4, Kept}
+use Rattle.ca_quad.specs.declared.named.IdForm.{IdForm}
+use Rattle.ca_quad.specs.declared.named.IdForm.TheVariants.{Cells2, Cells4, Kept}
 use Rattle.ca_quad.specs.declared.node.Node.{Node}
 use Rattle.ca_quad.specs.declared.node.Node.TheVariants.{Leaf, Block, Join}
 use Rattle.ca_quad.specs.Squares.{meaning_of_id, place_id, node_square, square_named, square_of, level, IsAmong}
@@ -21,7 +21,7 @@ pub below_or_not : (a b : ℕ) → (a < b) ⊎ (b ≤ a)
 below_or_not a b = elim (leb_tells b a) [ inl e ↦ inr e.1 | inr e ↦ inl e.1 ]
 
 -- the number of a name by value is small, and a place is one of the first
-abbrev pub IsBelow : ℕ → Named → Type 0
+abbrev pub IsBelow : ℕ → IdForm → Type 0
 IsBelow places (Cells2 n) = n < 16
 IsBelow places (Cells4 n) = n < 65536
 IsBelow places (Kept place) = place < places
@@ -40,7 +40,7 @@ named_below places id h =
 abbrev pub SameFirst : ℕ → List Node → List Node → Type 0
 SameFirst places old new = (place : ℕ) → place < places → node_at new place ≡ node_at old place
 
-shown_stays : (places : ℕ) (old new : List Node) → SameFirst places old new → (n : Named) → IsBelow places n → square_named new n ≡ square_named old n
+shown_stays : (places : ℕ) (old new : List Node) → SameFirst places old new → (n : IdForm) → IsBelow places n → square_named new n ≡ square_named old n
 shown_stays places old new same (Cells2 n) h = refl
 shown_stays places old new same (Cells4 n) h = refl
 shown_stays places old new same (Kept place) h = rw (same place h) refl

@@ -6,23 +6,23 @@ use Rattle.ca_quad.specs.declared.node.Node.{Node}
 use Rattle.ca_quad.specs.declared.square.Square.TheVariants.{Four, Parts}
 use Rattle.ca_quad.specs.declared.store.extent.Extent.{Extent}
 use Rattle.ca_quad.specs.Boxes.{AreSquareBoxes}
-use Rattle.ca_quad.specs.Squares.{square_of, level, level_of, IsOf, dot, cell_of}
+use Rattle.ca_quad.specs.Squares.{square_of, level, level_of, IsOf, one_cell, cell_of}
 use Rattle.ca_quad.specs.Sound.{HasParts, IsSoundStore, Grows}
 use Rattle.ca_quad.specs.SquareValues.{square_value}
 use Rattle.ca_quad.specs.Trees.{IsIn}
 use Rattle.ca_quad.specs.inner.Extent.{IsSquareExtent}
-use Rattle.ca_quad.specs.inner.Measure.{Ends, IsJoined, IsMeasureOf, AreMeasures}
+use Rattle.ca_quad.specs.inner.Measure.{EndsWithin, IsJoined, IsMeasureOf, AreMeasures}
 use Rattle.ca_quad.proofs.Cells.{dot_ends, cell_ends, cells_stay, of_stays}
 use Rattle.ca_quad.proofs.Walks.{four_show, parts_show}
 
 module _ {V : Type 0} (is : (ℕ → ℕ → ℕ) → ℕ → V → Type 0) (nodes : List Node) (id : ℕ) where
   -- from four cells
-  pub measure_four : (nw ne sw se : ℕ) → Four nw ne sw se ≡ square_of nodes id → (a b c d all : V) → is (dot nw) 1 a → is (dot ne) 1 b → is (dot sw) 1 c → is (dot se) 1 d
+  pub measure_four : (nw ne sw se : ℕ) → Four nw ne sw se ≡ square_of nodes id → (a b c d all : V) → is (one_cell nw) 1 a → is (one_cell ne) 1 b → is (one_cell sw) 1 c → is (one_cell se) 1 d
       → IsJoined is 1 a b c d all → IsMeasureOf is nodes id all
   measure_four nw ne sw se e a b c d all f g h i joined k of =
       let one : k ≡ 1 = sym of.is_level ∙ ap level (sym e) in
-      let ends : (state : ℕ) → Ends 1 (dot state) = λ state. dot_ends state 1 (omega arith) in
-      rw (four_show nodes id k of nw ne sw se e, one) (joined (dot nw) (dot ne) (dot sw) (dot se) (ends nw) (ends ne) (ends sw) (ends se) f g h i)
+      let ends : (state : ℕ) → EndsWithin 1 (one_cell state) = λ state. dot_ends state 1 (omega arith) in
+      rw (four_show nodes id k of nw ne sw se e, one) (joined (one_cell nw) (one_cell ne) (one_cell sw) (one_cell se) (ends nw) (ends ne) (ends sw) (ends se) f g h i)
 
   -- from four parts
   pub measure_parts : (m nw ne sw se : ℕ) → Parts m nw ne sw se ≡ square_of nodes id → HasParts nodes (length nodes) m nw ne sw se → (side : ℕ) → side ≡ 2 ^ (m - 1)

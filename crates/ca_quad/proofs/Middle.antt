@@ -4,15 +4,15 @@ use Rattle.std.specs.List.{All}
 use Rattle.std.proofs.lemmas.List.Elements.{All-from_recursion, recursion_from_All}
 use Rattle.ca_quad.specs.declared.node.Node.{Node}
 use Rattle.ca_quad.specs.declared.square.Square.TheVariants.{Four, Parts}
-use Rattle.ca_quad.specs.Squares.{square_of, level, IsOf, dot, together, cell_of}
+use Rattle.ca_quad.specs.Squares.{square_of, level, IsOf, one_cell, joined_cells, cell_of}
 use Rattle.ca_quad.specs.Sound.{HasParts}
 use Rattle.ca_quad.specs.Trees.{IsIn, IsEmpty, ShowsSquare, AreFour}
-use Rattle.ca_quad.specs.inner.Ring.{IsEmptySquare, none, ringed, IsRinged, IsMiddleSquare}
-use Rattle.ca_quad.specs.inner.Measure.{Ends}
+use Rattle.ca_quad.specs.inner.Ring.{IsEmptySquare, no_cells, with_ring, IsRinged, IsMiddleSquare}
+use Rattle.ca_quad.specs.inner.Measure.{EndsWithin}
 use Rattle.ca_quad.proofs.Cells.{twice, dot_ends, cell_ends, together_ends, same_nw, same_ne, same_sw, same_se}
 use Rattle.ca_quad.proofs.Walks.{four_show, parts_show}
 use Rattle.ca_quad.proofs.Rings.{sixteen, inside_sixteen, is_ringed, ringed_once}
-use Rattle.ca_quad.proofs.Shown.{together_same, ringed_as}
+use Rattle.ca_quad.proofs.ShownSquares.{together_same, ringed_as}
 
 -- the twelve parts round the middle are empty
 pub record IsHollow (f : ℕ → ℕ → ℕ → ℕ) : Type 0 where
@@ -23,105 +23,105 @@ pub record IsHollow (f : ℕ → ℕ → ℕ → ℕ) : Type 0 where
 
 module _ (s : ℕ) (f : ℕ → ℕ → ℕ → ℕ) where
   nw : ℕ → ℕ → ℕ
-  nw = together s (f 0) (f 1) (f 2) (f 3)
+  nw = joined_cells s (f 0) (f 1) (f 2) (f 3)
 
   ne : ℕ → ℕ → ℕ
-  ne = together s (f 4) (f 5) (f 6) (f 7)
+  ne = joined_cells s (f 4) (f 5) (f 6) (f 7)
 
   sw : ℕ → ℕ → ℕ
-  sw = together s (f 8) (f 9) (f 10) (f 11)
+  sw = joined_cells s (f 8) (f 9) (f 10) (f 11)
 
   se : ℕ → ℕ → ℕ
-  se = together s (f 12) (f 13) (f 14) (f 15)
+  se = joined_cells s (f 12) (f 13) (f 14) (f 15)
 
   ring_nw : ℕ → ℕ → ℕ
-  ring_nw = together s none none none (f 3)
+  ring_nw = joined_cells s no_cells no_cells no_cells (f 3)
 
   ring_ne : ℕ → ℕ → ℕ
-  ring_ne = together s none none (f 6) none
+  ring_ne = joined_cells s no_cells no_cells (f 6) no_cells
 
   ring_sw : ℕ → ℕ → ℕ
-  ring_sw = together s none (f 9) none none
+  ring_sw = joined_cells s no_cells (f 9) no_cells no_cells
 
   ring_se : ℕ → ℕ → ℕ
-  ring_se = together s (f 12) none none none
+  ring_se = joined_cells s (f 12) no_cells no_cells no_cells
 
   -- then the middle has a ring round it
-  pub hollow_ringed : IsHollow f → IsRinged s (together s (f 3) (f 6) (f 9) (f 12)) (sixteen s f)
+  pub hollow_ringed : IsHollow f → IsRinged s (joined_cells s (f 3) (f 6) (f 9) (f 12)) (sixteen s f)
   unfolding nw ne sw se ring_nw ring_ne ring_sw ring_se
   hollow_ringed h =
-      ringed_as s (together s (f 3) (f 6) (f 9) (f 12)) (ringed s (f 3) (f 6) (f 9) (f 12)) (together s (f 3) (f 6) (f 9) (f 12)) (sixteen s f) (is_ringed s (f 3) (f 6) (f 9) (f 12))
+      ringed_as s (joined_cells s (f 3) (f 6) (f 9) (f 12)) (with_ring s (f 3) (f 6) (f 9) (f 12)) (joined_cells s (f 3) (f 6) (f 9) (f 12)) (sixteen s f) (is_ringed s (f 3) (f 6) (f 9) (f 12))
       (λ x y. refl)
       (together_same (s + s) nw ne sw se ring_nw ring_ne ring_sw ring_se
-      (together_same s (f 0) (f 1) (f 2) (f 3) none none none (f 3) h.nw.0 h.nw.1 h.nw.2 (λ x y. refl))
-      (together_same s (f 4) (f 5) (f 6) (f 7) none none (f 6) none h.ne.0 h.ne.1 (λ x y. refl) h.ne.2)
-      (together_same s (f 8) (f 9) (f 10) (f 11) none (f 9) none none h.sw.0 (λ x y. refl) h.sw.1 h.sw.2)
-      (together_same s (f 12) (f 13) (f 14) (f 15) (f 12) none none none (λ x y. refl) h.se.0 h.se.1 h.se.2))
+      (together_same s (f 0) (f 1) (f 2) (f 3) no_cells no_cells no_cells (f 3) h.nw.0 h.nw.1 h.nw.2 (λ x y. refl))
+      (together_same s (f 4) (f 5) (f 6) (f 7) no_cells no_cells (f 6) no_cells h.ne.0 h.ne.1 (λ x y. refl) h.ne.2)
+      (together_same s (f 8) (f 9) (f 10) (f 11) no_cells (f 9) no_cells no_cells h.sw.0 (λ x y. refl) h.sw.1 h.sw.2)
+      (together_same s (f 12) (f 13) (f 14) (f 15) (f 12) no_cells no_cells no_cells (λ x y. refl) h.se.0 h.se.1 h.se.2))
 
-  module _ (ends : (n : ℕ) → Ends s (f n)) (small : ℕ → ℕ → ℕ) (h : IsRinged s small (sixteen s f)) where
-    none_ends : Ends s none
+  module _ (ends : (n : ℕ) → EndsWithin s (f n)) (small : ℕ → ℕ → ℕ) (h : IsRinged s small (sixteen s f)) where
+    none_ends : EndsWithin s no_cells
     none_ends x y o = refl
 
     -- a ring round any cells is a ring round the middle
-    middle_ringed : IsRinged s (together s (f 3) (f 6) (f 9) (f 12)) (sixteen s f)
+    middle_ringed : IsRinged s (joined_cells s (f 3) (f 6) (f 9) (f 12)) (sixteen s f)
     middle_ringed = record { inside = inside_sixteen s f; ring = h.ring }
 
-    alike : (x y : ℕ) → sixteen s f x y ≡ ringed s (f 3) (f 6) (f 9) (f 12) x y
-    alike = ringed_once s (together s (f 3) (f 6) (f 9) (f 12)) (sixteen s f) (ringed s (f 3) (f 6) (f 9) (f 12)) middle_ringed (is_ringed s (f 3) (f 6) (f 9) (f 12))
+    alike : (x y : ℕ) → sixteen s f x y ≡ with_ring s (f 3) (f 6) (f 9) (f 12) x y
+    alike = ringed_once s (joined_cells s (f 3) (f 6) (f 9) (f 12)) (sixteen s f) (with_ring s (f 3) (f 6) (f 9) (f 12)) middle_ringed (is_ringed s (f 3) (f 6) (f 9) (f 12))
 
-    alike_nw : (x y : ℕ) → together s (f 0) (f 1) (f 2) (f 3) x y ≡ together s none none none (f 3) x y
+    alike_nw : (x y : ℕ) → joined_cells s (f 0) (f 1) (f 2) (f 3) x y ≡ joined_cells s no_cells no_cells no_cells (f 3) x y
     unfolding nw ne sw se ring_nw ring_ne ring_sw ring_se
     alike_nw = same_nw (s + s) nw ne sw se ring_nw ring_ne ring_sw ring_se alike
-        (together_ends s (f 0) (f 1) (f 2) (f 3) (ends 0) (ends 1) (ends 2) (ends 3)) (together_ends s none none none (f 3) none_ends none_ends none_ends (ends 3))
+        (together_ends s (f 0) (f 1) (f 2) (f 3) (ends 0) (ends 1) (ends 2) (ends 3)) (together_ends s no_cells no_cells no_cells (f 3) none_ends none_ends none_ends (ends 3))
 
-    alike_ne : (x y : ℕ) → together s (f 4) (f 5) (f 6) (f 7) x y ≡ together s none none (f 6) none x y
+    alike_ne : (x y : ℕ) → joined_cells s (f 4) (f 5) (f 6) (f 7) x y ≡ joined_cells s no_cells no_cells (f 6) no_cells x y
     unfolding nw ne sw se ring_nw ring_ne ring_sw ring_se
     alike_ne = same_ne (s + s) nw ne sw se ring_nw ring_ne ring_sw ring_se alike
-        (together_ends s (f 4) (f 5) (f 6) (f 7) (ends 4) (ends 5) (ends 6) (ends 7)) (together_ends s none none (f 6) none none_ends none_ends (ends 6) none_ends)
+        (together_ends s (f 4) (f 5) (f 6) (f 7) (ends 4) (ends 5) (ends 6) (ends 7)) (together_ends s no_cells no_cells (f 6) no_cells none_ends none_ends (ends 6) none_ends)
 
-    alike_sw : (x y : ℕ) → together s (f 8) (f 9) (f 10) (f 11) x y ≡ together s none (f 9) none none x y
+    alike_sw : (x y : ℕ) → joined_cells s (f 8) (f 9) (f 10) (f 11) x y ≡ joined_cells s no_cells (f 9) no_cells no_cells x y
     unfolding nw ne sw se ring_nw ring_ne ring_sw ring_se
     alike_sw = same_sw (s + s) nw ne sw se ring_nw ring_ne ring_sw ring_se alike
-        (together_ends s (f 8) (f 9) (f 10) (f 11) (ends 8) (ends 9) (ends 10) (ends 11)) (together_ends s none (f 9) none none none_ends (ends 9) none_ends none_ends)
+        (together_ends s (f 8) (f 9) (f 10) (f 11) (ends 8) (ends 9) (ends 10) (ends 11)) (together_ends s no_cells (f 9) no_cells no_cells none_ends (ends 9) none_ends none_ends)
 
-    alike_se : (x y : ℕ) → together s (f 12) (f 13) (f 14) (f 15) x y ≡ together s (f 12) none none none x y
+    alike_se : (x y : ℕ) → joined_cells s (f 12) (f 13) (f 14) (f 15) x y ≡ joined_cells s (f 12) no_cells no_cells no_cells x y
     unfolding nw ne sw se ring_nw ring_ne ring_sw ring_se
     alike_se = same_se (s + s) nw ne sw se ring_nw ring_ne ring_sw ring_se alike
 
     -- so the parts round it are empty
     pub ringed_hollow : IsHollow f
     ringed_hollow = record {
-      nw = (same_nw s (f 0) (f 1) (f 2) (f 3) none none none (f 3) alike_nw (ends 0) none_ends, same_ne s (f 0) (f 1) (f 2) (f 3) none none none (f 3) alike_nw (ends 1) none_ends, same_sw s (f 0) (f 1) (f 2) (f 3) none none none (f 3) alike_nw (ends 2) none_ends);
-      ne = (same_nw s (f 4) (f 5) (f 6) (f 7) none none (f 6) none alike_ne (ends 4) none_ends, same_ne s (f 4) (f 5) (f 6) (f 7) none none (f 6) none alike_ne (ends 5) none_ends, same_se s (f 4) (f 5) (f 6) (f 7) none none (f 6) none alike_ne);
-      sw = (same_nw s (f 8) (f 9) (f 10) (f 11) none (f 9) none none alike_sw (ends 8) none_ends, same_sw s (f 8) (f 9) (f 10) (f 11) none (f 9) none none alike_sw (ends 10) none_ends, same_se s (f 8) (f 9) (f 10) (f 11) none (f 9) none none alike_sw);
-      se = (same_ne s (f 12) (f 13) (f 14) (f 15) (f 12) none none none alike_se (ends 13) none_ends, same_sw s (f 12) (f 13) (f 14) (f 15) (f 12) none none none alike_se (ends 14) none_ends, same_se s (f 12) (f 13) (f 14) (f 15) (f 12) none none none alike_se);
+      nw = (same_nw s (f 0) (f 1) (f 2) (f 3) no_cells no_cells no_cells (f 3) alike_nw (ends 0) none_ends, same_ne s (f 0) (f 1) (f 2) (f 3) no_cells no_cells no_cells (f 3) alike_nw (ends 1) none_ends, same_sw s (f 0) (f 1) (f 2) (f 3) no_cells no_cells no_cells (f 3) alike_nw (ends 2) none_ends);
+      ne = (same_nw s (f 4) (f 5) (f 6) (f 7) no_cells no_cells (f 6) no_cells alike_ne (ends 4) none_ends, same_ne s (f 4) (f 5) (f 6) (f 7) no_cells no_cells (f 6) no_cells alike_ne (ends 5) none_ends, same_se s (f 4) (f 5) (f 6) (f 7) no_cells no_cells (f 6) no_cells alike_ne);
+      sw = (same_nw s (f 8) (f 9) (f 10) (f 11) no_cells (f 9) no_cells no_cells alike_sw (ends 8) none_ends, same_sw s (f 8) (f 9) (f 10) (f 11) no_cells (f 9) no_cells no_cells alike_sw (ends 10) none_ends, same_se s (f 8) (f 9) (f 10) (f 11) no_cells (f 9) no_cells no_cells alike_sw);
+      se = (same_ne s (f 12) (f 13) (f 14) (f 15) (f 12) no_cells no_cells no_cells alike_se (ends 13) none_ends, same_sw s (f 12) (f 13) (f 14) (f 15) (f 12) no_cells no_cells no_cells alike_se (ends 14) none_ends, same_se s (f 12) (f 13) (f 14) (f 15) (f 12) no_cells no_cells no_cells alike_se);
     }
 
-pub as_sixteen : (s : ℕ) (f : ℕ → ℕ → ℕ → ℕ) (p q r t : ℕ → ℕ → ℕ) → p ≡ together s (f 0) (f 1) (f 2) (f 3) → q ≡ together s (f 4) (f 5) (f 6) (f 7)
-    → r ≡ together s (f 8) (f 9) (f 10) (f 11) → t ≡ together s (f 12) (f 13) (f 14) (f 15) → sixteen s f ≡ together (s + s) p q r t
+pub as_sixteen : (s : ℕ) (f : ℕ → ℕ → ℕ → ℕ) (p q r t : ℕ → ℕ → ℕ) → p ≡ joined_cells s (f 0) (f 1) (f 2) (f 3) → q ≡ joined_cells s (f 4) (f 5) (f 6) (f 7)
+    → r ≡ joined_cells s (f 8) (f 9) (f 10) (f 11) → t ≡ joined_cells s (f 12) (f 13) (f 14) (f 15) → sixteen s f ≡ joined_cells (s + s) p q r t
 as_sixteen s f p q r t e g h i = rw (e, g, h, i) refl
 
 -- the sixteen cells of a square of level 2
 abbrev pub dots : List ℕ → ℕ → ℕ → ℕ → ℕ
-dots cells n = dot (slice_index cells n)
+dots cells n = one_cell (slice_index cells n)
 
-pub dots_end : (cells : List ℕ) (n : ℕ) → Ends 1 (dots cells n)
+pub dots_end : (cells : List ℕ) (n : ℕ) → EndsWithin 1 (dots cells n)
 dots_end cells n = dot_ends (slice_index cells n) 1 (omega arith)
 
 -- the sixteen parts of a larger one
 abbrev pub squares : List Node → ℕ → List ℕ → ℕ → ℕ → ℕ → ℕ
 squares nodes k ids n = cell_of nodes k (slice_index ids n)
 
-pub squares_end : (nodes : List Node) (k : ℕ) (ids : List ℕ) (n : ℕ) → Ends (2 ^ k) (squares nodes k ids n)
+pub squares_end : (nodes : List Node) (k : ℕ) (ids : List ℕ) (n : ℕ) → EndsWithin (2 ^ k) (squares nodes k ids n)
 squares_end nodes k ids n = cell_ends nodes k (slice_index ids n)
 
 -- the middle of a hollow square, made of its four inner parts
 pub middle_is : (new : List Node) (k : ℕ) (f : ℕ → ℕ → ℕ → ℕ) (big : ℕ → ℕ → ℕ) (id : ℕ) → sixteen (2 ^ (k - 1)) f ≡ big → IsHollow f
-    → ShowsSquare new id k (together (2 ^ (k - 1)) (f 3) (f 6) (f 9) (f 12)) → IsMiddleSquare new k big id
+    → ShowsSquare new id k (joined_cells (2 ^ (k - 1)) (f 3) (f 6) (f 9) (f 12)) → IsMiddleSquare new k big id
 middle_is new k f big id e hollow shows = record {
   is_square = shows.is_square;
   is_ringed = subst (IsRinged (2 ^ (k - 1)) (cell_of new k id)) e
-      (ringed_as (2 ^ (k - 1)) (together (2 ^ (k - 1)) (f 3) (f 6) (f 9) (f 12)) (sixteen (2 ^ (k - 1)) f) (cell_of new k id) (sixteen (2 ^ (k - 1)) f) (hollow_ringed (2 ^ (k - 1)) f hollow)
+      (ringed_as (2 ^ (k - 1)) (joined_cells (2 ^ (k - 1)) (f 3) (f 6) (f 9) (f 12)) (sixteen (2 ^ (k - 1)) f) (cell_of new k id) (sixteen (2 ^ (k - 1)) f) (hollow_ringed (2 ^ (k - 1)) f hollow)
       shows.has_cells (λ x y. refl));
 }
 
@@ -132,7 +132,7 @@ module _ (nodes : List Node) (nw ne sw se : ℕ) (four : AreFour nodes 1 nw ne s
   cells = a ∷ b ∷ c ∷ d ∷ e ∷ f ∷ g ∷ h ∷ i ∷ j ∷ l ∷ m ∷ n ∷ o ∷ p ∷ q ∷ []
 
   abbrev large : ℕ → ℕ → ℕ
-  large = together 2 (cell_of nodes 1 nw) (cell_of nodes 1 ne) (cell_of nodes 1 sw) (cell_of nodes 1 se)
+  large = joined_cells 2 (cell_of nodes 1 nw) (cell_of nodes 1 ne) (cell_of nodes 1 sw) (cell_of nodes 1 se)
 
   as_cells : sixteen 1 (dots cells) ≡ large
   as_cells =
@@ -144,7 +144,7 @@ module _ (nodes : List Node) (nw ne sw se : ℕ) (four : AreFour nodes 1 nw ne s
   cells_hollow small r = ringed_hollow 1 (dots cells) (dots_end cells) small (subst (IsRinged 1 small) (sym as_cells) r)
 
   -- and where those are 0, the four inner ones are the middle
-  pub inner_cells : (new : List Node) (id : ℕ) → IsHollow (dots cells) → ShowsSquare new id 1 (together 1 (dot d) (dot g) (dot j) (dot n)) → IsMiddleSquare new 1 large id
+  pub inner_cells : (new : List Node) (id : ℕ) → IsHollow (dots cells) → ShowsSquare new id 1 (joined_cells 1 (one_cell d) (one_cell g) (one_cell j) (one_cell n)) → IsMiddleSquare new 1 large id
   inner_cells new id hollow shows = middle_is new 1 (dots cells) large id as_cells hollow shows
 
 -- a square of these four parts
@@ -161,7 +161,7 @@ module _ (nodes : List Node) (id k : ℕ) (of : IsOf nodes id k) (a b c d : ℕ)
   are_parts : HasParts nodes (length nodes) k a b c d
   are_parts = subst (λ l. HasParts nodes (length nodes) l a b c d) level_is split.whole
 
-  cells_are : cell_of nodes k id ≡ together (2 ^ (k - 1)) (cell_of nodes (k - 1) a) (cell_of nodes (k - 1) b) (cell_of nodes (k - 1) c) (cell_of nodes (k - 1) d)
+  cells_are : cell_of nodes k id ≡ joined_cells (2 ^ (k - 1)) (cell_of nodes (k - 1) a) (cell_of nodes (k - 1) b) (cell_of nodes (k - 1) c) (cell_of nodes (k - 1) d)
   cells_are = parts_show nodes id k of k a b c d (omega (arith, are_parts.least)) (subst (λ l. Parts l a b c d ≡ square_of nodes id) level_is split.is)
 
 -- four squares of level k that have these sixteen parts
@@ -175,7 +175,7 @@ module _ (nodes : List Node) (nw ne sw se k : ℕ) (four : AreFour nodes k nw ne
   outer = a ∷ b ∷ c ∷ e ∷ f ∷ h ∷ i ∷ l ∷ m ∷ o ∷ p ∷ q ∷ []
 
   abbrev big : ℕ → ℕ → ℕ
-  big = together (2 ^ k) (cell_of nodes k nw) (cell_of nodes k ne) (cell_of nodes k sw) (cell_of nodes k se)
+  big = joined_cells (2 ^ k) (cell_of nodes k nw) (cell_of nodes k ne) (cell_of nodes k sw) (cell_of nodes k se)
 
   of_nw : HasParts nodes (length nodes) k a b c d
   of_nw = are_parts nodes nw k four.is_nw a b c d in_nw
@@ -257,9 +257,9 @@ module _ (nodes : List Node) (nw ne sw se k : ℕ) (four : AreFour nodes k nw ne
 
   -- and where those are empty, the four inner ones are the middle
   pub inner_middle : (new : List Node) (id : ℕ)
-      → ((level : ℕ) → IsOf nodes d level → ShowsSquare new id (suc level) (together (2 ^ level) (cell_of nodes level d) (cell_of nodes level g) (cell_of nodes level j) (cell_of nodes level n)))
+      → ((level : ℕ) → IsOf nodes d level → ShowsSquare new id (suc level) (joined_cells (2 ^ level) (cell_of nodes level d) (cell_of nodes level g) (cell_of nodes level j) (cell_of nodes level n)))
       → All (IsEmptySquare nodes) outer → IsMiddleSquare new k big id
   inner_middle new id join all =
       let next : suc (k - 1) ≡ k = omega (arith, of_nw.least) in
-      let cells = together (2 ^ (k - 1)) (cell_of nodes (k - 1) d) (cell_of nodes (k - 1) g) (cell_of nodes (k - 1) j) (cell_of nodes (k - 1) n) in
+      let cells = joined_cells (2 ^ (k - 1)) (cell_of nodes (k - 1) d) (cell_of nodes (k - 1) g) (cell_of nodes (k - 1) j) (cell_of nodes (k - 1) n) in
       middle_is new k (squares nodes (k - 1) ids) big id as_parts (hollow all) (subst (λ l. ShowsSquare new id l cells) next (join (k - 1) of_nw.is_se))

@@ -1,22 +1,22 @@
 -- Small squares that are kept and are no blocks have a state above 1.
 use Rattle.std.proofs.Common.{◌≡◌, ◌≢◌, ℕ, zero, suc, ◌+◌, ◌-◌, ◌<◌, ◌≤◌, ◌^◌, ◌⊎◌, inl, inr, false, nat_lt, max, List, length, refl, sym, ap, subst, ◌∙◌, arith}
 use Rattle.std.proofs.lemmas.Bool.Decides.{nat_tests}
-use Rattle.ca_quad.specs.declared.named.Named.TheVariants.{Kept}
+use Rattle.ca_quad.specs.declared.named.IdForm.TheVariants.{Kept}
 use Rattle.ca_quad.specs.declared.node.Node.{Node}
 use Rattle.ca_quad.specs.declared.node.Node.TheVariants.{Leaf, Block, Join}
-use Rattle.ca_quad.specs.Squares.{place_id, meaning_of_id, node_square, square_named, square_of, level, IsOf, IsAmong, dot, together, cells_in, cell_of}
+use Rattle.ca_quad.specs.Squares.{place_id, meaning_of_id, node_square, square_named, square_of, level, IsOf, IsAmong, one_cell, joined_cells, cells_in, cell_of}
 use Rattle.ca_quad.specs.Sound.{IsStorable, node_at, IsSoundStore}
 use Rattle.ca_quad.specs.Trees.{HasMoreStates}
 use Rattle.ca_quad.specs.inner.Numbered.{IsKeptOtherwise}
-use Rattle.ca_quad.specs.inner.Measure.{Ends}
+use Rattle.ca_quad.specs.inner.Measure.{EndsWithin}
 use Rattle.ca_quad.proofs.Cells.{at_nw, at_ne, at_sw, at_se, cell_ends, dot_ends, no_level}
 use Rattle.ca_quad.proofs.Greatest.{live_within}
 use Rattle.ca_quad.proofs.Growth.{below_or_not}
 use Rattle.ca_quad.proofs.Views.{square_whole}
 
 -- one of four that lie together has one
-module _ (side : ℕ) (nw ne sw se : ℕ → ℕ → ℕ) (end_nw : Ends side nw) (end_ne : Ends side ne) (end_sw : Ends side sw) where
-  more_in_four : HasMoreStates nw ⊎ (HasMoreStates ne ⊎ (HasMoreStates sw ⊎ HasMoreStates se)) → HasMoreStates (together side nw ne sw se)
+module _ (side : ℕ) (nw ne sw se : ℕ → ℕ → ℕ) (end_nw : EndsWithin side nw) (end_ne : EndsWithin side ne) (end_sw : EndsWithin side sw) where
+  more_in_four : HasMoreStates nw ⊎ (HasMoreStates ne ⊎ (HasMoreStates sw ⊎ HasMoreStates se)) → HasMoreStates (joined_cells side nw ne sw se)
   more_in_four (inl (x, y, two)) =
       let (i, j) = live_within side nw end_nw x y (λ z. omega arith) in
       (x, y, omega (arith, at_nw side nw ne sw se x y i j))
@@ -46,17 +46,17 @@ one_of p q r s (inr (inl h)) = inr (inl (q h))
 one_of p q r s (inr (inr (inl h))) = inr (inr (inl (r h)))
 one_of p q r s (inr (inr (inr h))) = inr (inr (inr (s h)))
 
-more_dot : (state : ℕ) → 2 ≤ state → HasMoreStates (dot state)
+more_dot : (state : ℕ) → 2 ≤ state → HasMoreStates (one_cell state)
 more_dot state h = (0, 0, h)
 
 -- a good node that is no block
 more_in_node : (nodes : List Node) (places k : ℕ) → places ≤ length nodes → ((id : ℕ) → IsOf nodes id k → place_id 0 ≤ id → HasMoreStates (cell_of nodes k id))
     → (node : Node) → IsStorable nodes places node → level (node_square node) ≡ suc k → ((n : ℕ) → node ≢ Block n) → HasMoreStates (cells_in (cell_of nodes k) (node_square node) (2 ^ k))
 more_in_node nodes places k fits more (Leaf a b c d) good e other =
-    let ends : (state : ℕ) → Ends 1 (dot state) = λ state. dot_ends state 1 (omega arith) in
-    let none : k ≡ 0 = omega arith in
-    subst (λ (j : ℕ). HasMoreStates (together (2 ^ j) (dot a) (dot b) (dot c) (dot d))) (sym none)
-    (more_in_four 1 (dot a) (dot b) (dot c) (dot d) (ends a) (ends b) (ends c) (one_of (more_dot a) (more_dot b) (more_dot c) (more_dot d) (one_reaches a b c d 2 good)))
+    let ends : (state : ℕ) → EndsWithin 1 (one_cell state) = λ state. dot_ends state 1 (omega arith) in
+    let no_cells : k ≡ 0 = omega arith in
+    subst (λ (j : ℕ). HasMoreStates (joined_cells (2 ^ j) (one_cell a) (one_cell b) (one_cell c) (one_cell d))) (sym no_cells)
+    (more_in_four 1 (one_cell a) (one_cell b) (one_cell c) (one_cell d) (ends a) (ends b) (ends c) (one_of (more_dot a) (more_dot b) (more_dot c) (more_dot d) (one_reaches a b c d 2 good)))
 more_in_node nodes places k fits more (Block n) good e other = absurd (other n refl)
 more_in_node nodes places k fits more (Join m a b c d) good e other =
     let part = cell_of nodes k in

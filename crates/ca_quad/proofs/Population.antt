@@ -3,7 +3,7 @@ use Rattle.std.proofs.Common.{◌≡◌, ℕ, zero, suc, ◌+◌, ◌-◌, ◌*�
 use Rattle.std.proofs.lemmas.Bool.{cases_Bool}
 use Rattle.std.proofs.Math.Nat.{pow-le-pow_right}
 use Rattle.ca_quad.specs.declared.node.Node.{Node}
-use Rattle.ca_quad.specs.Squares.{IsOf, together, cell_of}
+use Rattle.ca_quad.specs.Squares.{IsOf, joined_cells, cell_of}
 use Rattle.ca_quad.specs.inner.Measure.{IsJoined}
 use Rattle.ca_quad.specs.inner.Population.{sum_below, cell_population, population, IsPopulationIn, IsCountOf}
 use Rattle.ca_quad.proofs.Cells.{at_nw, at_ne, at_sw, at_se}
@@ -26,24 +26,24 @@ row cells side y = sum_below side (λ x. cell_population (cells x y))
 
 module _ (side : ℕ) (nw ne sw se : ℕ → ℕ → ℕ) where
   all : ℕ → ℕ → ℕ
-  all = together side nw ne sw se
+  all = joined_cells side nw ne sw se
 
   northern : (y : ℕ) → y < side → row all (side + side) y ≡ row nw side y + row ne side y
   unfolding row all
   northern y h =
-      let a : sum_below side (λ x. cell_population (together side nw ne sw se x y)) ≡ sum_below side (λ x. cell_population (nw x y)) = sum_same side _ _ (λ x i. ap cell_population (at_nw side nw ne sw se x y i h)) in
-      let b : sum_below side (λ x. cell_population (together side nw ne sw se (side + x) y)) ≡ sum_below side (λ x. cell_population (ne x y)) = sum_same side _ _ (λ x i. ap cell_population (at_ne side nw ne sw se x y h)) in
-      omega (arith, a, b, sum_split side side (λ x. cell_population (together side nw ne sw se x y)))
+      let a : sum_below side (λ x. cell_population (joined_cells side nw ne sw se x y)) ≡ sum_below side (λ x. cell_population (nw x y)) = sum_same side _ _ (λ x i. ap cell_population (at_nw side nw ne sw se x y i h)) in
+      let b : sum_below side (λ x. cell_population (joined_cells side nw ne sw se (side + x) y)) ≡ sum_below side (λ x. cell_population (ne x y)) = sum_same side _ _ (λ x i. ap cell_population (at_ne side nw ne sw se x y h)) in
+      omega (arith, a, b, sum_split side side (λ x. cell_population (joined_cells side nw ne sw se x y)))
 
   southern : (y : ℕ) → row all (side + side) (side + y) ≡ row sw side y + row se side y
   unfolding row all
   southern y =
-      let a : sum_below side (λ x. cell_population (together side nw ne sw se x (side + y))) ≡ sum_below side (λ x. cell_population (sw x y)) = sum_same side _ _ (λ x i. ap cell_population (at_sw side nw ne sw se x y i)) in
-      let b : sum_below side (λ x. cell_population (together side nw ne sw se (side + x) (side + y))) ≡ sum_below side (λ x. cell_population (se x y)) = sum_same side _ _ (λ x i. ap cell_population (at_se side nw ne sw se x y)) in
-      omega (arith, a, b, sum_split side side (λ x. cell_population (together side nw ne sw se x (side + y))))
+      let a : sum_below side (λ x. cell_population (joined_cells side nw ne sw se x (side + y))) ≡ sum_below side (λ x. cell_population (sw x y)) = sum_same side _ _ (λ x i. ap cell_population (at_sw side nw ne sw se x y i)) in
+      let b : sum_below side (λ x. cell_population (joined_cells side nw ne sw se (side + x) (side + y))) ≡ sum_below side (λ x. cell_population (se x y)) = sum_same side _ _ (λ x i. ap cell_population (at_se side nw ne sw se x y)) in
+      omega (arith, a, b, sum_split side side (λ x. cell_population (joined_cells side nw ne sw se x (side + y))))
 
   -- the four are counted apart
-  pub population_together : population (together side nw ne sw se) (side + side) ≡ population nw side + population ne side + (population sw side + population se side)
+  pub population_together : population (joined_cells side nw ne sw se) (side + side) ≡ population nw side + population ne side + (population sw side + population se side)
   unfolding row all
   population_together =
       let a = sum_same side (row all (side + side)) (λ y. row nw side y + row ne side y) northern in

@@ -2,7 +2,7 @@
 use Rattle.std.proofs.Common.{◌≡◌, ◌≢◌, ℕ, suc, zero-add, ◌+◌, ◌-◌, ◌≤◌, ◌^◌, List, length, refl, sym, ap, subst, ◌∙◌, arith}
 use Rattle.ca_quad.specs.declared.node.Node.{Node}
 use Rattle.ca_quad.specs.declared.square.Square.TheVariants.{Parts}
-use Rattle.ca_quad.specs.Squares.{square_of, level, level_of, IsOf, cell_of, together}
+use Rattle.ca_quad.specs.Squares.{square_of, level, level_of, IsOf, cell_of, joined_cells}
 use Rattle.ca_quad.specs.Sound.{HasParts}
 use Rattle.ca_quad.specs.Trees.{IsIn}
 use Rattle.ca_quad.specs.inner.Difference.{AreUnequal}
@@ -23,12 +23,12 @@ module _ (nodes : List Node) (id k : ℕ) (h : IsOf nodes id (suc k)) (m nw ne s
   pub side_of : (half : ℕ) → half ≡ 2 ^ (m - 1) → half ≡ 2 ^ k
   side_of half side = side ∙ ap (λ n. 2 ^ n) one_lower
 
-  pub parts_whole : cell_of nodes (suc k) id ≡ together (2 ^ k) (cell_of nodes k nw) (cell_of nodes k ne) (cell_of nodes k sw) (cell_of nodes k se)
+  pub parts_whole : cell_of nodes (suc k) id ≡ joined_cells (2 ^ k) (cell_of nodes k nw) (cell_of nodes k ne) (cell_of nodes k sw) (cell_of nodes k se)
   parts_whole =
-      subst (λ j. cell_of nodes (suc k) id ≡ together (2 ^ j) (cell_of nodes j nw) (cell_of nodes j ne) (cell_of nodes j sw) (cell_of nodes j se)) one_lower
+      subst (λ j. cell_of nodes (suc k) id ≡ joined_cells (2 ^ j) (cell_of nodes j nw) (cell_of nodes j ne) (cell_of nodes j sw) (cell_of nodes j se)) one_lower
       (parts_show nodes id (suc k) h m nw ne sw se (omega (arith, w.least)) e)
 
-  pub parts_cells : (x y : ℕ) → cell_of nodes (suc k) id x y ≡ together (2 ^ k) (cell_of nodes k nw) (cell_of nodes k ne) (cell_of nodes k sw) (cell_of nodes k se) x y
+  pub parts_cells : (x y : ℕ) → cell_of nodes (suc k) id x y ≡ joined_cells (2 ^ k) (cell_of nodes k nw) (cell_of nodes k ne) (cell_of nodes k sw) (cell_of nodes k se) x y
   parts_cells x y = ap (λ f. f x y) parts_whole
 
   pub quarter_nw : ShowsFrom nodes nw k (cell_of nodes (suc k) id) 0 0

@@ -10,7 +10,7 @@ use Rattle.ca_quad.specs.Boxes.{IsLeastWideBox}
 use Rattle.ca_quad.specs.Expanded.{FitsPlane, HasCellOutsidePlane}
 use Rattle.ca_quad.specs.inner.Reach.{IsBoxInReach, IsBoxOutOfReach}
 use Rattle.ca_quad.proofs.Edges.{outside_x, outside_y}
-use Rattle.ca_quad.proofs.Filled.{place_on}
+use Rattle.ca_quad.proofs.FilledSquares.{place_on}
 
 module _ (cells : ℤ → ℤ → ℕ) where
   module _ (box : WideBounds) (least : IsLeastWideBox cells box) where

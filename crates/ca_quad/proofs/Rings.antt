@@ -4,11 +4,11 @@ use Rattle.std.proofs.lemmas.Int.{ints}
 use Rattle.std.proofs.Math.Nat.{two-pow-succ}
 use Rattle.ca_quad.specs.declared.node.Node.{Node}
 use Rattle.ca_quad.specs.declared.tree.Tree.{Tree}
-use Rattle.ca_quad.specs.Squares.{together, cell_of}
+use Rattle.ca_quad.specs.Squares.{joined_cells, cell_of}
 use Rattle.ca_quad.specs.Trees.{from_corner, cell}
-use Rattle.ca_quad.specs.inner.Ring.{none, ringed, IsOut, IsRinged}
+use Rattle.ca_quad.specs.inner.Ring.{no_cells, with_ring, IsOut, IsRinged}
 use Rattle.ca_quad.proofs.Growth.{below_or_not}
-use Rattle.ca_quad.specs.inner.Measure.{Ends}
+use Rattle.ca_quad.specs.inner.Measure.{EndsWithin}
 use Rattle.ca_quad.proofs.Cells.{in_nw, in_ne, in_sw, in_se, cell_ends}
 
 -- a place inside, or out of the middle
@@ -22,15 +22,15 @@ in_or_out s n =
 -- the cells of a square of sixteen parts, row by row in each quarter
 abbrev pub sixteen : ℕ → (ℕ → ℕ → ℕ → ℕ) → ℕ → ℕ → ℕ
 sixteen s f =
-    together (s + s) (together s (f 0) (f 1) (f 2) (f 3)) (together s (f 4) (f 5) (f 6) (f 7)) (together s (f 8) (f 9) (f 10) (f 11)) (together s (f 12) (f 13) (f 14) (f 15))
+    joined_cells (s + s) (joined_cells s (f 0) (f 1) (f 2) (f 3)) (joined_cells s (f 4) (f 5) (f 6) (f 7)) (joined_cells s (f 8) (f 9) (f 10) (f 11)) (joined_cells s (f 12) (f 13) (f 14) (f 15))
 
 -- its middle is four of the parts
-pub inside_sixteen : (s : ℕ) (f : ℕ → ℕ → ℕ → ℕ) (x y : ℕ) → x < s + s → y < s + s → sixteen s f (s + x) (s + y) ≡ together s (f 3) (f 6) (f 9) (f 12) x y
+pub inside_sixteen : (s : ℕ) (f : ℕ → ℕ → ℕ → ℕ) (x y : ℕ) → x < s + s → y < s + s → sixteen s f (s + x) (s + y) ≡ joined_cells s (f 3) (f 6) (f 9) (f 12) x y
 inside_sixteen s f x y h k =
-    let nw = together s (f 0) (f 1) (f 2) (f 3) in
-    let ne = together s (f 4) (f 5) (f 6) (f 7) in
-    let sw = together s (f 8) (f 9) (f 10) (f 11) in
-    let se = together s (f 12) (f 13) (f 14) (f 15) in
+    let nw = joined_cells s (f 0) (f 1) (f 2) (f 3) in
+    let ne = joined_cells s (f 4) (f 5) (f 6) (f 7) in
+    let sw = joined_cells s (f 8) (f 9) (f 10) (f 11) in
+    let se = joined_cells s (f 12) (f 13) (f 14) (f 15) in
     elim (below_or_not y s) [
       | inl j ↦
           let v : s + y - s ≡ y = omega arith in
@@ -59,50 +59,50 @@ inside_sixteen s f x y h k =
     ]
 
 module _ (s : ℕ) (a b c d : ℕ → ℕ → ℕ) (x y : ℕ) where
-  -- the four quarters of a ringed square
-  quarter_a : x < s + s → y < s + s → ringed s a b c d x y ≡ together s none none none a x y
-  quarter_a = in_nw (s + s) (together s none none none a) (together s none none b none) (together s none c none none) (together s d none none none) x y
+  -- the four quarters of a with_ring square
+  quarter_a : x < s + s → y < s + s → with_ring s a b c d x y ≡ joined_cells s no_cells no_cells no_cells a x y
+  quarter_a = in_nw (s + s) (joined_cells s no_cells no_cells no_cells a) (joined_cells s no_cells no_cells b no_cells) (joined_cells s no_cells c no_cells no_cells) (joined_cells s d no_cells no_cells no_cells) x y
 
-  quarter_b : s + s ≤ x → y < s + s → ringed s a b c d x y ≡ together s none none b none (x - (s + s)) y
-  quarter_b = in_ne (s + s) (together s none none none a) (together s none none b none) (together s none c none none) (together s d none none none) x y
+  quarter_b : s + s ≤ x → y < s + s → with_ring s a b c d x y ≡ joined_cells s no_cells no_cells b no_cells (x - (s + s)) y
+  quarter_b = in_ne (s + s) (joined_cells s no_cells no_cells no_cells a) (joined_cells s no_cells no_cells b no_cells) (joined_cells s no_cells c no_cells no_cells) (joined_cells s d no_cells no_cells no_cells) x y
 
-  quarter_c : x < s + s → s + s ≤ y → ringed s a b c d x y ≡ together s none c none none x (y - (s + s))
-  quarter_c = in_sw (s + s) (together s none none none a) (together s none none b none) (together s none c none none) (together s d none none none) x y
+  quarter_c : x < s + s → s + s ≤ y → with_ring s a b c d x y ≡ joined_cells s no_cells c no_cells no_cells x (y - (s + s))
+  quarter_c = in_sw (s + s) (joined_cells s no_cells no_cells no_cells a) (joined_cells s no_cells no_cells b no_cells) (joined_cells s no_cells c no_cells no_cells) (joined_cells s d no_cells no_cells no_cells) x y
 
-  quarter_d : s + s ≤ x → s + s ≤ y → ringed s a b c d x y ≡ together s d none none none (x - (s + s)) (y - (s + s))
-  quarter_d = in_se (s + s) (together s none none none a) (together s none none b none) (together s none c none none) (together s d none none none) x y
+  quarter_d : s + s ≤ x → s + s ≤ y → with_ring s a b c d x y ≡ joined_cells s d no_cells no_cells no_cells (x - (s + s)) (y - (s + s))
+  quarter_d = in_se (s + s) (joined_cells s no_cells no_cells no_cells a) (joined_cells s no_cells no_cells b no_cells) (joined_cells s no_cells c no_cells no_cells) (joined_cells s d no_cells no_cells no_cells) x y
 
   -- all but one part of each quarter is empty
-  empty_a : (x < s) ⊎ (y < s) → together s none none none a x y ≡ 0
+  empty_a : (x < s) ⊎ (y < s) → joined_cells s no_cells no_cells no_cells a x y ≡ 0
   empty_a h =
       elim (below_or_not y s) [
-        | inl j ↦ elim (below_or_not x s) [ inl i ↦ in_nw s none none none a x y i j | inr i ↦ in_ne s none none none a x y i j ]
-        | inr j ↦ elim (below_or_not x s) [ inl i ↦ in_sw s none none none a x y i j | inr i ↦ absurd (elim h [ inl p ↦ omega arith | inr p ↦ omega arith ]) ]
+        | inl j ↦ elim (below_or_not x s) [ inl i ↦ in_nw s no_cells no_cells no_cells a x y i j | inr i ↦ in_ne s no_cells no_cells no_cells a x y i j ]
+        | inr j ↦ elim (below_or_not x s) [ inl i ↦ in_sw s no_cells no_cells no_cells a x y i j | inr i ↦ absurd (elim h [ inl p ↦ omega arith | inr p ↦ omega arith ]) ]
       ]
 
-  empty_b : (s ≤ x) ⊎ (y < s) → together s none none b none x y ≡ 0
+  empty_b : (s ≤ x) ⊎ (y < s) → joined_cells s no_cells no_cells b no_cells x y ≡ 0
   empty_b h =
       elim (below_or_not y s) [
-        | inl j ↦ elim (below_or_not x s) [ inl i ↦ in_nw s none none b none x y i j | inr i ↦ in_ne s none none b none x y i j ]
-        | inr j ↦ elim (below_or_not x s) [ inl i ↦ absurd (elim h [ inl p ↦ omega arith | inr p ↦ omega arith ]) | inr i ↦ in_se s none none b none x y i j ]
+        | inl j ↦ elim (below_or_not x s) [ inl i ↦ in_nw s no_cells no_cells b no_cells x y i j | inr i ↦ in_ne s no_cells no_cells b no_cells x y i j ]
+        | inr j ↦ elim (below_or_not x s) [ inl i ↦ absurd (elim h [ inl p ↦ omega arith | inr p ↦ omega arith ]) | inr i ↦ in_se s no_cells no_cells b no_cells x y i j ]
       ]
 
-  empty_c : (x < s) ⊎ (s ≤ y) → together s none c none none x y ≡ 0
+  empty_c : (x < s) ⊎ (s ≤ y) → joined_cells s no_cells c no_cells no_cells x y ≡ 0
   empty_c h =
       elim (below_or_not y s) [
-        | inl j ↦ elim (below_or_not x s) [ inl i ↦ in_nw s none c none none x y i j | inr i ↦ absurd (elim h [ inl p ↦ omega arith | inr p ↦ omega arith ]) ]
-        | inr j ↦ elim (below_or_not x s) [ inl i ↦ in_sw s none c none none x y i j | inr i ↦ in_se s none c none none x y i j ]
+        | inl j ↦ elim (below_or_not x s) [ inl i ↦ in_nw s no_cells c no_cells no_cells x y i j | inr i ↦ absurd (elim h [ inl p ↦ omega arith | inr p ↦ omega arith ]) ]
+        | inr j ↦ elim (below_or_not x s) [ inl i ↦ in_sw s no_cells c no_cells no_cells x y i j | inr i ↦ in_se s no_cells c no_cells no_cells x y i j ]
       ]
 
-  empty_d : (s ≤ x) ⊎ (s ≤ y) → together s d none none none x y ≡ 0
+  empty_d : (s ≤ x) ⊎ (s ≤ y) → joined_cells s d no_cells no_cells no_cells x y ≡ 0
   empty_d h =
       elim (below_or_not y s) [
-        | inl j ↦ elim (below_or_not x s) [ inl i ↦ absurd (elim h [ inl p ↦ omega arith | inr p ↦ omega arith ]) | inr i ↦ in_ne s d none none none x y i j ]
-        | inr j ↦ elim (below_or_not x s) [ inl i ↦ in_sw s d none none none x y i j | inr i ↦ in_se s d none none none x y i j ]
+        | inl j ↦ elim (below_or_not x s) [ inl i ↦ absurd (elim h [ inl p ↦ omega arith | inr p ↦ omega arith ]) | inr i ↦ in_ne s d no_cells no_cells no_cells x y i j ]
+        | inr j ↦ elim (below_or_not x s) [ inl i ↦ in_sw s d no_cells no_cells no_cells x y i j | inr i ↦ in_se s d no_cells no_cells no_cells x y i j ]
       ]
 
 module _ (s : ℕ) (a b c d : ℕ → ℕ → ℕ) where
-  ring_empty : (x y : ℕ) → IsOut s x ⊎ IsOut s y → ringed s a b c d x y ≡ 0
+  ring_empty : (x y : ℕ) → IsOut s x ⊎ IsOut s y → with_ring s a b c d x y ≡ 0
   ring_empty x y h =
       elim (below_or_not y (s + s)) [
         | inl j ↦ elim (below_or_not x (s + s)) [
@@ -127,9 +127,9 @@ module _ (s : ℕ) (a b c d : ℕ → ℕ → ℕ) where
         ]
       ]
 
-  -- four squares with a ring are ringed
-  pub is_ringed : IsRinged s (together s a b c d) (ringed s a b c d)
-  is_ringed = record { inside = λ x y. inside_sixteen s (λ n. if n == 3 then a else (if n == 6 then b else (if n == 9 then c else (if n == 12 then d else none)))) x y; ring = ring_empty }
+  -- four squares with a ring are with_ring
+  pub is_ringed : IsRinged s (joined_cells s a b c d) (with_ring s a b c d)
+  is_ringed = record { inside = λ x y. inside_sixteen s (λ n. if n == 3 then a else (if n == 6 then b else (if n == 9 then c else (if n == 12 then d else no_cells)))) x y; ring = ring_empty }
 
 -- two squares with a ring round the same cells are the same
 pub ringed_once : (s : ℕ) (small p q : ℕ → ℕ → ℕ) → IsRinged s small p → IsRinged s small q → (x y : ℕ) → p x y ≡ q x y
@@ -147,7 +147,7 @@ ringed_once s small p q h k x y =
       | inr o ↦ h.ring x y (inl o) ∙ sym (k.ring x y (inl o))
     ]
 
-module _ (s : ℕ) (small big : ℕ → ℕ → ℕ) (h : IsRinged s small big) (ends : Ends (s + s) small) where
+module _ (s : ℕ) (small big : ℕ → ℕ → ℕ) (h : IsRinged s small big) (ends : EndsWithin (s + s) small) where
   before_x : (u v : ℤ) → u <ℤ pos s → from_corner big u v ≡ 0
   before_x (pos x) (pos y) i = h.ring x y (inl (inl (omega (arith, ints))))
   before_x (pos x) (negsuc y) i = refl
@@ -191,7 +191,7 @@ ring_keeps p q small big some e h x y =
     let wide : 2 ^ (suc small.level - 1) ≡ s + s = ap (λ n. 2 ^ n) back ∙ side in
     let u : x +ℤ pos (s + s) ≡ (x +ℤ pos s) +ℤ pos s = omega (arith, ints) in
     let v : y +ℤ pos (s + s) ≡ (y +ℤ pos s) +ℤ pos s = omega (arith, ints) in
-    let ends : Ends (s + s) (cell_of p small.level small.root) = subst (λ n. Ends n (cell_of p small.level small.root)) side (cell_ends p small.level small.root) in
+    let ends : EndsWithin (s + s) (cell_of p small.level small.root) = subst (λ n. EndsWithin n (cell_of p small.level small.root)) side (cell_ends p small.level small.root) in
     let keeps = same_plane s (cell_of p small.level small.root) (cell_of q (suc small.level) big.root) h ends (x +ℤ pos s) (y +ℤ pos s) in
     subst (λ l. from_corner (cell_of q l big.root) (x +ℤ pos (2 ^ (l - 1))) (y +ℤ pos (2 ^ (l - 1))) ≡ cell p small x y) (sym e)
     (subst (λ n. from_corner (cell_of q (suc small.level) big.root) (x +ℤ pos n) (y +ℤ pos n) ≡ cell p small x y) (sym wide)

@@ -20,7 +20,7 @@ use Rattle.ca_quad.specs.inner.Window.{ShowsFrom}
 use Rattle.ca_quad.proofs.Cells.{one_up, twice, of_stays, no_level}
 use Rattle.ca_quad.proofs.Cuts.{window_at, same_four}
 use Rattle.ca_quad.proofs.Differ.{cell_at}
-use Rattle.ca_quad.proofs.Filled.{tree_shows}
+use Rattle.ca_quad.proofs.FilledSquares.{tree_shows}
 use Rattle.ca_quad.proofs.Growth.{below_or_not}
 use Rattle.ca_quad.proofs.Reach.{tree_holds}
 use Rattle.ca_quad.proofs.Views.{square_whole}

@@ -71,5 +71,5 @@ module _ (nodes : List Node) (tree : Tree) (k : ℕ) (e : suc k ≡ tree.level) 
   has_ring = record { inside = λ x y i j. refl; ring = quiet }
 
 pub no_ring : (nodes : List Node) (tree : Tree) (k : ℕ) → suc k ≡ tree.level → 1 ≤ k → HasNoRing k (cell_of nodes tree.level tree.root) → IsTrimmed nodes tree
-no_ring nodes tree k e some none level least low holds =
-    none (λ x y. cell_of nodes tree.level tree.root (2 ^ (k - 1) + x) (2 ^ (k - 1) + y)) (has_ring nodes tree k e some level least low holds)
+no_ring nodes tree k e some no_cells level least low holds =
+    no_cells (λ x y. cell_of nodes tree.level tree.root (2 ^ (k - 1) + x) (2 ^ (k - 1) + y)) (has_ring nodes tree k e some level least low holds)

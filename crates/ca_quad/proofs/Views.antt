@@ -2,8 +2,8 @@
 use Rattle.std.proofs.Common.{◌≡◌, ℕ, ◌+◌, ◌-◌, ◌<◌, ◌≤◌, max, inl, inr, true, false, List, length, nat_lt, refl, sym, ap, ◌∙◌, arith}
 use Rattle.std.proofs.lemmas.Bool.{cases_Bool}
 use Rattle.std.proofs.lemmas.Bool.Decides.{nat_tests}
-use Rattle.ca_quad.specs.declared.named.Named.{Named}
-use Rattle.ca_quad.specs.declared.named.Named.TheVariants.{Cells2, Cells4, Kept}
+use Rattle.ca_quad.specs.declared.named.IdForm.{IdForm}
+use Rattle.ca_quad.specs.declared.named.IdForm.TheVariants.{Cells2, Cells4, Kept}
 use Rattle.ca_quad.specs.declared.node.Node.{Node}
 use Rattle.ca_quad.specs.declared.node.Node.TheVariants.{Leaf, Block, Join}
 use Rattle.ca_quad.specs.declared.square.Square.TheVariants.{Four, Parts}
@@ -50,7 +50,7 @@ seen_whole nodes few places h (Join k nw ne sw se) good = record {
   is_se = among_more nodes few places se (k - 1) h good.0.is_se;
 }
 
-shown_whole : (nodes : List Node) → IsSoundStore nodes → (n : Named) → IsBelow (length nodes) n → IsWhole nodes (length nodes) (square_named nodes n)
+shown_whole : (nodes : List Node) → IsSoundStore nodes → (n : IdForm) → IsBelow (length nodes) n → IsWhole nodes (length nodes) (square_named nodes n)
 shown_whole nodes sound (Cells2 n) h = tt
 shown_whole nodes sound (Cells4 n) h = record {
   least = omega arith;
@@ -109,7 +109,7 @@ cells4_not_kept nodes i m (Join k a b c d) h g e =
     omega arith
 
 -- names that look alike are equal
-shown_same : (nodes : List Node) → IsSoundStore nodes → (m n : Named) → IsBelow (length nodes) m → IsBelow (length nodes) n → square_named nodes m ≡ square_named nodes n → m ≡ n
+shown_same : (nodes : List Node) → IsSoundStore nodes → (m n : IdForm) → IsBelow (length nodes) m → IsBelow (length nodes) n → square_named nodes m ≡ square_named nodes n → m ≡ n
 shown_same nodes sound (Cells2 m) (Cells2 n) g h e =
     let (p, q, r, s) = same_four e in
     ap (λ (n : ℕ). Cells2 n) (omega arith)
@@ -125,7 +125,7 @@ shown_same nodes sound (Kept i) (Cells4 n) g h e = absurd (cells4_not_kept nodes
 shown_same nodes sound (Kept i) (Kept j) g h e =
     ap (λ (n : ℕ). Kept n) (sound.once i j g h (seen_same nodes i j (node_at nodes i) (node_at nodes j) (sound.good i g) (sound.good j h) e))
 
-number_of : Named → ℕ
+number_of : IdForm → ℕ
 number_of (Cells2 n) = n
 number_of (Cells4 n) = 16 + n
 number_of (Kept place) = 65552 + place

@@ -3,31 +3,31 @@ use Rattle.std.proofs.Common.{◌≡◌, ℕ, suc, ◌-◌, ◌<◌, ◌≤◌, 
 use Rattle.std.proofs.lemmas.Bool.{cases_Bool}
 use Rattle.ca_quad.specs.declared.node.Node.{Node}
 use Rattle.ca_quad.specs.declared.square.Square.TheVariants.{Four, Parts}
-use Rattle.ca_quad.specs.Squares.{square_of, level, IsOf, dot, together, cells_in, cell_of}
+use Rattle.ca_quad.specs.Squares.{square_of, level, IsOf, one_cell, joined_cells, cells_in, cell_of}
 use Rattle.ca_quad.specs.Sound.{IsSoundStore}
 use Rattle.ca_quad.specs.Trees.{IsEmpty}
 use Rattle.ca_quad.proofs.Cells.{in_nw, in_ne, in_sw, in_se, cell_ends, same_nw, same_ne, same_sw, same_se, same_cells}
 
 module _ (nodes : List Node) (id k : ℕ) (h : IsOf nodes id k) where
   -- four cells lie together
-  pub four_show : (nw ne sw se : ℕ) → Four nw ne sw se ≡ square_of nodes id → cell_of nodes k id ≡ together 1 (dot nw) (dot ne) (dot sw) (dot se)
+  pub four_show : (nw ne sw se : ℕ) → Four nw ne sw se ≡ square_of nodes id → cell_of nodes k id ≡ joined_cells 1 (one_cell nw) (one_cell ne) (one_cell sw) (one_cell se)
   four_show nw ne sw se e =
       let one : k ≡ 1 = sym h.is_level ∙ ap level (sym e) in
-      subst (λ k. cell_of nodes k id ≡ together 1 (dot nw) (dot ne) (dot sw) (dot se)) (sym one) (ap (λ s. cells_in (cell_of nodes 0) s 1) (sym e))
+      subst (λ k. cell_of nodes k id ≡ joined_cells 1 (one_cell nw) (one_cell ne) (one_cell sw) (one_cell se)) (sym one) (ap (λ s. cells_in (cell_of nodes 0) s 1) (sym e))
 
   -- four parts lie together
   pub parts_show : (m nw ne sw se : ℕ) → 1 ≤ m → Parts m nw ne sw se ≡ square_of nodes id
-      → cell_of nodes k id ≡ together (2 ^ (m - 1)) (cell_of nodes (m - 1) nw) (cell_of nodes (m - 1) ne) (cell_of nodes (m - 1) sw) (cell_of nodes (m - 1) se)
+      → cell_of nodes k id ≡ joined_cells (2 ^ (m - 1)) (cell_of nodes (m - 1) nw) (cell_of nodes (m - 1) ne) (cell_of nodes (m - 1) sw) (cell_of nodes (m - 1) se)
   parts_show m nw ne sw se some e =
       let f : k ≡ m = sym h.is_level ∙ ap level (sym e) in
       let next : k ≡ suc (m - 1) = omega arith in
-      subst (λ k. cell_of nodes k id ≡ together (2 ^ (m - 1)) (cell_of nodes (m - 1) nw) (cell_of nodes (m - 1) ne) (cell_of nodes (m - 1) sw) (cell_of nodes (m - 1) se)) (sym next)
+      subst (λ k. cell_of nodes k id ≡ joined_cells (2 ^ (m - 1)) (cell_of nodes (m - 1) nw) (cell_of nodes (m - 1) ne) (cell_of nodes (m - 1) sw) (cell_of nodes (m - 1) se)) (sym next)
       (ap (λ s. cells_in (cell_of nodes (m - 1)) s (2 ^ (m - 1))) (sym e))
 
 -- the cell of a square is that of one of its parts
 module _ (nodes : List Node) (id k : ℕ) (h : IsOf nodes id k) (m nw ne sw se : ℕ) (some : 1 ≤ m) (e : Parts m nw ne sw se ≡ square_of nodes id)
     (half x y : ℕ) (side : half ≡ 2 ^ (m - 1)) where
-  whole : cell_of nodes k id x y ≡ together half (cell_of nodes (m - 1) nw) (cell_of nodes (m - 1) ne) (cell_of nodes (m - 1) sw) (cell_of nodes (m - 1) se) x y
+  whole : cell_of nodes k id x y ≡ joined_cells half (cell_of nodes (m - 1) nw) (cell_of nodes (m - 1) ne) (cell_of nodes (m - 1) sw) (cell_of nodes (m - 1) se) x y
   whole = ap (λ f. f x y) (parts_show nodes id k h m nw ne sw se some e) ∙ rw side refl
 
   pub cell_nw : x < half → y < half → cell_of nodes k id x y ≡ cell_of nodes (m - 1) nw x y
@@ -43,7 +43,7 @@ module _ (nodes : List Node) (id k : ℕ) (h : IsOf nodes id k) (m nw ne sw se :
   cell_se i j = whole ∙ in_se half (cell_of nodes (m - 1) nw) (cell_of nodes (m - 1) ne) (cell_of nodes (m - 1) sw) (cell_of nodes (m - 1) se) x y i j
 
 -- empty squares together are empty
-pub together_empty : (side : ℕ) (nw ne sw se : ℕ → ℕ → ℕ) → IsEmpty nw → IsEmpty ne → IsEmpty sw → IsEmpty se → IsEmpty (together side nw ne sw se)
+pub together_empty : (side : ℕ) (nw ne sw se : ℕ → ℕ → ℕ) → IsEmpty nw → IsEmpty ne → IsEmpty sw → IsEmpty se → IsEmpty (joined_cells side nw ne sw se)
 together_empty side nw ne sw se a b c d x y =
     elim (cases_Bool (nat_lt y side)) [
       | inl e ↦ elim (cases_Bool (nat_lt x side)) [ inl f ↦ rw (e, f) (a x y) | inr f ↦ rw (e, f) (b (x - side) y) ]
@@ -51,11 +51,11 @@ together_empty side nw ne sw se a b c d x y =
     ]
 
 -- the corners of an empty square are 0
-pub corners_empty : (nw ne sw se : ℕ) → IsEmpty (together 1 (dot nw) (dot ne) (dot sw) (dot se)) → (nw ≡ 0) × (ne ≡ 0) × (sw ≡ 0) × (se ≡ 0)
+pub corners_empty : (nw ne sw se : ℕ) → IsEmpty (joined_cells 1 (one_cell nw) (one_cell ne) (one_cell sw) (one_cell se)) → (nw ≡ 0) × (ne ≡ 0) × (sw ≡ 0) × (se ≡ 0)
 corners_empty nw ne sw se h = (h 0 0, h 1 0, h 0 1, h 1 1)
 
 -- a cell of state 0 is empty
-pub dot_empty : (state : ℕ) → state ≡ 0 → IsEmpty (dot state)
+pub dot_empty : (state : ℕ) → state ≡ 0 → IsEmpty (one_cell state)
 dot_empty state e x y = elim (cases_Bool ((x == 0) && (y == 0))) [ inl f ↦ rw f e | inr f ↦ rw f refl ]
 
 abbrev nothing : ℕ → ℕ → ℕ
@@ -63,8 +63,8 @@ nothing x y = 0
 
 -- the parts of an empty square are empty, and so they are one
 module _ (nodes : List Node) (sound : IsSoundStore nodes) (k nw ne sw se : ℕ) (a : IsOf nodes nw k) (b : IsOf nodes ne k) (c : IsOf nodes sw k) (d : IsOf nodes se k)
-    (empty : IsEmpty (together (2 ^ k) (cell_of nodes k nw) (cell_of nodes k ne) (cell_of nodes k sw) (cell_of nodes k se))) where
-  alike : (x y : ℕ) → together (2 ^ k) (cell_of nodes k nw) (cell_of nodes k ne) (cell_of nodes k sw) (cell_of nodes k se) x y ≡ together (2 ^ k) nothing nothing nothing nothing x y
+    (empty : IsEmpty (joined_cells (2 ^ k) (cell_of nodes k nw) (cell_of nodes k ne) (cell_of nodes k sw) (cell_of nodes k se))) where
+  alike : (x y : ℕ) → joined_cells (2 ^ k) (cell_of nodes k nw) (cell_of nodes k ne) (cell_of nodes k sw) (cell_of nodes k se) x y ≡ joined_cells (2 ^ k) nothing nothing nothing nothing x y
   alike x y = empty x y ∙ sym (together_empty (2 ^ k) nothing nothing nothing nothing (λ x y. refl) (λ x y. refl) (λ x y. refl) (λ x y. refl) x y)
 
   pub nw_empty : IsEmpty (cell_of nodes k nw)

@@ -4,12 +4,12 @@ use Rattle.std.proofs.Math.Nat.{two-pow-succ}
 use Rattle.std.proofs.lemmas.List.{get_or_past}
 use Rattle.std.proofs.lemmas.Nat.Bits.{bit_at_above, bit_at-zero}
 use Rattle.ca_quad.specs.declared.node.Node.{Node}
-use Rattle.ca_quad.specs.Squares.{cell_of, together}
+use Rattle.ca_quad.specs.Squares.{cell_of, joined_cells}
 use Rattle.ca_quad.specs.Sound.{IsSoundStore, Grows}
 use Rattle.ca_quad.specs.Trees.{ShowsSquare, AreFour, row_cells}
 use Rattle.ca_quad.specs.inner.Window.{ShowsFrom}
 use Rattle.ca_quad.proofs.Growth.{below_or_not, grows_on}
-use Rattle.ca_quad.specs.inner.Measure.{Ends}
+use Rattle.ca_quad.specs.inner.Measure.{EndsWithin}
 use Rattle.ca_quad.proofs.Cells.{in_nw, in_ne, in_sw, in_se, cells_stay, of_stays}
 
 -- a square goes on to show them
@@ -41,7 +41,7 @@ module _ (nodes : List Node) (k : ℕ) (cells : ℕ → ℕ → ℕ) (left top n
   four_windows h = record { is_low = h; is_nw = w.a.is_square; is_ne = w.b.is_square; is_sw = w.c.is_square; is_se = w.d.is_square }
 
   pub together_shows : (x y : ℕ) → x < 2 ^ suc k → y < 2 ^ suc k
-      → together (2 ^ k) (cell_of nodes k nw) (cell_of nodes k ne) (cell_of nodes k sw) (cell_of nodes k se) x y ≡ cells (left + x) (top + y)
+      → joined_cells (2 ^ k) (cell_of nodes k nw) (cell_of nodes k ne) (cell_of nodes k sw) (cell_of nodes k se) x y ≡ cells (left + x) (top + y)
   together_shows x y h i =
       let side = two-pow-succ k in
       elim (below_or_not x (2 ^ k)) [
@@ -66,13 +66,13 @@ module _ (nodes : List Node) (k : ℕ) (cells : ℕ → ℕ → ℕ) (left top n
       ]
 
   pub window_joined : {E : Type 0} (new : List Node) (r : Result ℕ E)
-      → IfOk r (λ id. ShowsSquare new id (suc k) (together (2 ^ k) (cell_of nodes k nw) (cell_of nodes k ne) (cell_of nodes k sw) (cell_of nodes k se)))
+      → IfOk r (λ id. ShowsSquare new id (suc k) (joined_cells (2 ^ k) (cell_of nodes k nw) (cell_of nodes k ne) (cell_of nodes k sw) (cell_of nodes k se)))
       → IfOk r (λ id. ShowsFrom new id (suc k) cells left top)
   window_joined new (Ok id) h = record { is_square = h.is_square; has_cells = λ x y i j. h.has_cells x y ∙ together_shows x y i j }
   window_joined new (Err e) h = tt
 
 -- eight rows of eight cells end
-pub rows_end : (rows : List ℕ) → length rows ≡ 8 → ((y : ℕ) → slice_index rows y < 256) → Ends 8 (row_cells rows)
+pub rows_end : (rows : List ℕ) → length rows ≡ 8 → ((y : ℕ) → slice_index rows y < 256) → EndsWithin 8 (row_cells rows)
 rows_end rows eight low x y (inl h) = bit_at_above (slice_index rows y) 8 x (low y) h
 rows_end rows eight low x y (inr h) = rw (get_or_past rows y 0 (omega arith)) (bit_at-zero x)
 

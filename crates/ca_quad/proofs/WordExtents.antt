@@ -8,7 +8,7 @@ use Rattle.std.proofs.lemmas.Bool.{cond_below, cond_above}
 use Rattle.std.proofs.lemmas.Nat.Bits.{bit_at-zero, bit_at-lt, bit_at_and, bit_at_or, bit_at_above, bit_at_ones, bit_at_ones_above, bit_at_cat_high, bit_at-trailing_zeros}
 use Rattle.ca_quad.specs.Trees.{word_cells, IsEmpty}
 use Rattle.ca_quad.specs.declared.store.extent.Extent.{Extent}
-use Rattle.ca_quad.specs.declared.store.word_extent.Ends.{Ends}
+use Rattle.ca_quad.specs.declared.store.word_extent.BitEnds.{BitEnds}
 use Rattle.ca_quad.specs.declared.node.Node.{Node}
 use Rattle.ca_quad.specs.Squares.{IsOf, cell_of, level_of, level}
 use Rattle.ca_quad.specs.Sound.{IsSoundStore}
@@ -27,8 +27,8 @@ high_bit : (n j : ℕ) → 2 ^ j ≤ n → n < 2 ^ suc j → bit_at n j ≡ 1
 high_bit n j low high =
     let rest : n ≡ 1 * 2 ^ j + (n - 2 ^ j) = omega (arith, low) in
     let few : n - 2 ^ j < 2 ^ j = omega (arith, low, high) in
-    let none : j - j ≡ 0 = omega arith in
-    ap (λ m. bit_at m j) rest ∙ bit_at_cat_high 1 j (n - 2 ^ j) j few (omega arith) ∙ ap (bit_at 1) none
+    let no_word_cells : j - j ≡ 0 = omega arith in
+    ap (λ m. bit_at m j) rest ∙ bit_at_cat_high 1 j (n - 2 ^ j) j few (omega arith) ∙ ap (bit_at 1) no_word_cells
 
 pub are_ends : (word : ℕ) → 0 < word → word < 2 ^ 64 → AreEnds word (record { first = trailing_zeros w64 word; last = 63 - leading_zeros w64 word })
 are_ends word some fits =
@@ -45,13 +45,13 @@ are_ends word some fits =
   where
     first_le : (i : ℕ) → bit_at word i ≡ 1 → trailing_zeros w64 word ≤ i
     first_le i one = elim (below_or_not i (trailing_zeros w64 word)) [
-      | inl h ↦ let none = (bit_at-trailing_zeros w64 word some fits).2 i h in absurd (omega (arith, none, one))
+      | inl h ↦ let no_word_cells = (bit_at-trailing_zeros w64 word some fits).2 i h in absurd (omega (arith, no_word_cells, one))
       | inr h ↦ h
     ]
 
     last_le : (j : ℕ) → 63 - leading_zeros w64 word ≡ j → word < 2 ^ suc j → (i : ℕ) → bit_at word i ≡ 1 → i ≤ 63 - leading_zeros w64 word
     last_le j last low i one = elim (below_or_not j i) [
-      | inl h ↦ let none = bit_at_above word (suc j) i low (omega arith) in absurd (omega (arith, none, one))
+      | inl h ↦ let no_word_cells = bit_at_above word (suc j) i low (omega arith) in absurd (omega (arith, no_word_cells, one))
       | inr h ↦ omega (arith, last, h)
     ]
 
@@ -121,7 +121,7 @@ live_bit : (word x y : ℕ) → word_cells word x y ≢ 0 → (x < 8) × (bit_at
 live_bit word x y live = elim (below_or_not x 8) [
   | inl h ↦ elim (below_or_not 0 (bit_at word (8 * y + x))) [
     | inl some ↦ (h, omega (arith, some, bit_at-lt word (8 * y + x)))
-    | inr none ↦ let dead : bit_at word (8 * y + x) ≡ 0 = omega arith in absurd (live (sym (cond_below x 8 (bit_at word (8 * y + x)) 0 h) ∙ dead))
+    | inr no_word_cells ↦ let dead : bit_at word (8 * y + x) ≡ 0 = omega arith in absurd (live (sym (cond_below x 8 (bit_at word (8 * y + x)) 0 h) ∙ dead))
   ]
   | inr h ↦ absurd (live (sym (cond_above x 8 (bit_at word (8 * y + x)) 0 0 h refl)))
 ]
@@ -134,7 +134,7 @@ bit_alive word i one =
     let same : 8 * (i / 8) + i % 8 ≡ i = omega arith in
     bit_live word (i % 8) (i / 8) (omega arith) (ap (bit_at word) same ∙ one)
 
-pub word_box : (word columns : ℕ) (across cells : Ends) → AreColumns word columns → AreEnds columns across → AreEnds word cells
+pub word_box : (word columns : ℕ) (across cells : BitEnds) → AreColumns word columns → AreEnds columns across → AreEnds word cells
     → IsExtent (word_cells word) 8 8 (record { left = across.first; top = cells.first / 8; right = across.last; bottom = cells.last / 8 })
 word_box word columns across cells are ends_across ends =
     let west = are.only across.first ends_across.first in
@@ -167,8 +167,8 @@ some_column word columns some fits are =
     ]
 
 -- and one with none is empty
-pub no_cells : IsEmpty (word_cells 0)
-no_cells x y = elim (below_or_not x 8) [
+pub no_word_cells : IsEmpty (word_cells 0)
+no_word_cells x y = elim (below_or_not x 8) [
   | inl h ↦ sym (cond_below x 8 (bit_at 0 (8 * y + x)) 0 h) ∙ bit_at-zero (8 * y + x)
   | inr h ↦ sym (cond_above x 8 (bit_at 0 (8 * y + x)) 0 0 h refl)
 ]
@@ -181,7 +181,7 @@ module _ (f g : ℕ → ℕ → ℕ) (same : (x y : ℕ) → f x y ≡ g x y) (c
   live_too x y live z = live (sym (same x y) ∙ z)
 
   pub extent_as : (found : Option Extent) → IsSquareExtent g columns rows found → IsSquareExtent f columns rows found
-  extent_as None none = λ x y. same x y ∙ none x y
+  extent_as None no_word_cells = λ x y. same x y ∙ no_word_cells x y
   extent_as (Some box) is = record {
     all = λ x y live. is.all x y (λ z. live (same x y ∙ z));
     left = (is.left.0, live_too box.left is.left.0 is.left.1);

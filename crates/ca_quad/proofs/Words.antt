@@ -4,19 +4,19 @@ use Rattle.std.specs.Int.{bit_at}
 use Rattle.std.proofs.Math.Nat.{two-pow-succ, pow-succ'}
 use Rattle.std.proofs.lemmas.Bool.{cases_Bool}
 use Rattle.std.proofs.lemmas.Nat.Bits.{bit_at_above, bit_at_cat_low, bit_at_cat_high}
-use Rattle.ca_quad.specs.declared.named.Named.TheVariants.{Cells2}
+use Rattle.ca_quad.specs.declared.named.IdForm.TheVariants.{Cells2}
 use Rattle.ca_quad.specs.declared.node.Node.{Node}
 use Rattle.ca_quad.specs.declared.node.Node.TheVariants.{Block}
 use Rattle.ca_quad.specs.declared.square.Square.TheVariants.{Parts}
-use Rattle.ca_quad.specs.Squares.{digit, node_square, square_named, square_of, level, IsOf, dot, together, cell_of}
+use Rattle.ca_quad.specs.Squares.{digit, node_square, square_named, square_of, level, IsOf, one_cell, joined_cells, cell_of}
 use Rattle.ca_quad.specs.Sound.{IsSoundStore, HasParts}
 use Rattle.ca_quad.specs.Trees.{IsIn, ShowsSquare, word_cells}
 use Rattle.ca_quad.specs.inner.Bits.{place}
 use Rattle.ca_quad.specs.inner.Numbered.{AreFourDigits, IsNumberOfNode}
-use Rattle.ca_quad.specs.inner.Measure.{Ends}
+use Rattle.ca_quad.specs.inner.Measure.{EndsWithin}
 use Rattle.ca_quad.proofs.Cells.{cell_ends, is_under, is_over}
 use Rattle.ca_quad.proofs.Growth.{below_or_not}
-use Rattle.ca_quad.proofs.Numbered.{of_number}
+use Rattle.ca_quad.proofs.NumberedSquares.{of_number}
 use Rattle.ca_quad.proofs.Walks.{four_show, parts_show}
 
 -- the bits of a number are those of its four digits
@@ -68,7 +68,7 @@ place_low (suc k) x y h i =
 
 -- four squares whose cells are the bits of a number's digits
 bits_together : (k n a b c d : ℕ) → AreFourDigits (4 ^ k) n a b c d → (nw ne sw se : ℕ → ℕ → ℕ) → AreBits k a nw → AreBits k b ne → AreBits k c sw → AreBits k d se
-    → AreBits (suc k) n (together (2 ^ k) nw ne sw se)
+    → AreBits (suc k) n (joined_cells (2 ^ k) nw ne sw se)
 bits_together k n a b c d are nw ne sw se p q r s x y h i =
     let side = two-pow-succ k in
     let m = 4 ^ k in
@@ -99,7 +99,7 @@ bits_together k n a b c d are nw ne sw se p q r s x y h i =
 abbrev IsBits : List Node → ℕ → ℕ → Type 0
 IsBits nodes id n = (k : ℕ) → IsOf nodes id k → AreBits k n (cell_of nodes k id)
 
-dot_bits : (n : ℕ) → n < 2 → AreBits 0 n (dot n)
+dot_bits : (n : ℕ) → n < 2 → AreBits 0 n (one_cell n)
 dot_bits n low zero zero h i = let e : n ≡ n / 1 % 2 = omega arith in e
 dot_bits n low (suc x) y h i = absurd (omega arith)
 dot_bits n low zero (suc y) h i = absurd (omega arith)
@@ -113,7 +113,7 @@ bits_of_cells nodes id n low e k h =
     let one : 1 ≡ k = sym (sym h.is_level ∙ ap level e) in
     subst (λ j. AreBits j n (cell_of nodes k id)) one
     (rw (four_show nodes id k h a b c d (sym e))
-    (bits_together 0 n a b c d (record { first = omega arith; second = omega arith; third = omega arith; is = omega arith }) (dot a) (dot b) (dot c) (dot d)
+    (bits_together 0 n a b c d (record { first = omega arith; second = omega arith; third = omega arith; is = omega arith }) (one_cell a) (one_cell b) (one_cell c) (one_cell d)
     (dot_bits a (omega arith)) (dot_bits b (omega arith)) (dot_bits c (omega arith)) (dot_bits d (omega arith))))
 
 bits_of_parts : (nodes : List Node) (id m nw ne sw se : ℕ) → Parts m nw ne sw se ≡ square_of nodes id → HasParts nodes (length nodes) m nw ne sw se
@@ -131,7 +131,7 @@ number_bits : (nodes : List Node) → IsSoundStore nodes → (id n : ℕ) → Is
 number_bits nodes sound = of_number nodes sound (IsBits nodes) (bits_of_cells nodes) (bits_of_parts nodes)
 
 -- cells that are the bits of a word in row order are the cells of the word
-pub are_word_cells : (word : ℕ) (cells : ℕ → ℕ → ℕ) → word < 2 ^ 64 → Ends 8 cells → ((x y : ℕ) → x < 8 → y < 8 → cells x y ≡ bit_at word (8 * y + x)) → (x y : ℕ) → cells x y ≡ word_cells word x y
+pub are_word_cells : (word : ℕ) (cells : ℕ → ℕ → ℕ) → word < 2 ^ 64 → EndsWithin 8 cells → ((x y : ℕ) → x < 8 → y < 8 → cells x y ≡ bit_at word (8 * y + x)) → (x y : ℕ) → cells x y ≡ word_cells word x y
 are_word_cells word cells low ends same x y =
     elim (cases_Bool (nat_lt x 8)) [
       | inr e ↦ rw e (ends x y (inl (is_over x 8 e)))

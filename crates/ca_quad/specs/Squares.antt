@@ -2,8 +2,8 @@
 -- A square of level k has 2 ^ k cells a side. Its four quarters are told in the order
 -- north-west, north-east, south-west, south-east.
 use Rattle.std.specs.Prelude.{◌≡◌, ℕ, zero, suc, ◌+◌, ◌-◌, ◌/◌, ◌%◌, ◌^◌, ◌<◌, List, length, nat_lt, ◌==◌, ◌&&◌, if◌then◌else◌, slice_index_or}
-use Rattle.ca_quad.specs.declared.named.Named.{Named}
-use Rattle.ca_quad.specs.declared.named.Named.TheVariants.{Cells2, Cells4, Kept}
+use Rattle.ca_quad.specs.declared.named.IdForm.{IdForm}
+use Rattle.ca_quad.specs.declared.named.IdForm.TheVariants.{Cells2, Cells4, Kept}
 use Rattle.ca_quad.specs.declared.node.Node.{Node}
 use Rattle.ca_quad.specs.declared.node.Node.TheVariants.{Leaf, Block, Join}
 use Rattle.ca_quad.specs.declared.square.Square.{Square}
@@ -22,7 +22,7 @@ abbrev pub place_id : ℕ → ℕ
 place_id place = 65552 + place
 
 -- what an id names
-abbrev pub meaning_of_id : ℕ → Named
+abbrev pub meaning_of_id : ℕ → IdForm
 meaning_of_id id = if nat_lt id 16 then Cells2 id else (if nat_lt id 65552 then Cells4 (id - 16) else Kept (id - 65552))
 
 -- the digit of a number at a place, the lowest at place 0
@@ -40,7 +40,7 @@ abbrev pub shown_cells4 : ℕ → Square
 shown_cells4 n = Parts 2 (cells2 (digit 16 n 0)) (cells2 (digit 16 n 1)) (cells2 (digit 16 n 2)) (cells2 (digit 16 n 3))
 
 -- what a named square shows: a 2 by 2 square's cells are its number's binary digits
-abbrev pub square_named : List Node → Named → Square
+abbrev pub square_named : List Node → IdForm → Square
 square_named nodes (Cells2 n) = Four (digit 2 n 0) (digit 2 n 1) (digit 2 n 2) (digit 2 n 3)
 square_named nodes (Cells4 n) = shown_cells4 n
 square_named nodes (Kept place) = node_square (slice_index_or nodes place (Leaf 0 0 0 0))
@@ -67,19 +67,19 @@ abbrev pub IsOf : List Node → ℕ → ℕ → Type 0
 IsOf nodes id level = IsAmong nodes (length nodes) id level
 
 -- one cell: its state at (0, 0), and 0 elsewhere
-abbrev pub dot : ℕ → ℕ → ℕ → ℕ
-dot state x y = if (x == 0) && (y == 0) then state else 0
+abbrev pub one_cell : ℕ → ℕ → ℕ → ℕ
+one_cell state x y = if (x == 0) && (y == 0) then state else 0
 
 -- four squares that lie together, each with this many cells a side
-abbrev pub together : ℕ → (ℕ → ℕ → ℕ) → (ℕ → ℕ → ℕ) → (ℕ → ℕ → ℕ) → (ℕ → ℕ → ℕ) → ℕ → ℕ → ℕ
-together side nw ne sw se x y =
+abbrev pub joined_cells : ℕ → (ℕ → ℕ → ℕ) → (ℕ → ℕ → ℕ) → (ℕ → ℕ → ℕ) → (ℕ → ℕ → ℕ) → ℕ → ℕ → ℕ
+joined_cells side nw ne sw se x y =
     if nat_lt y side then (if nat_lt x side then nw x y else ne (x - side) y)
     else (if nat_lt x side then sw x (y - side) else se (x - side) (y - side))
 
 -- the cells of a square whose quarters have this many cells a side
 abbrev pub cells_in : (ℕ → ℕ → ℕ → ℕ) → Square → ℕ → ℕ → ℕ → ℕ
-cells_in part (Four nw ne sw se) side = together side (dot nw) (dot ne) (dot sw) (dot se)
-cells_in part (Parts k nw ne sw se) side = together side (part nw) (part ne) (part sw) (part se)
+cells_in part (Four nw ne sw se) side = joined_cells side (one_cell nw) (one_cell ne) (one_cell sw) (one_cell se)
+cells_in part (Parts k nw ne sw se) side = joined_cells side (part nw) (part ne) (part sw) (part se)
 
 -- the state at (x, y) of a square of this level, counted from its upper left corner; 0 beyond its side
 abbrev pub cell_of : List Node → ℕ → ℕ → ℕ → ℕ → ℕ

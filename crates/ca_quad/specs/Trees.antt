@@ -5,7 +5,7 @@ use Rattle.ca_quad.specs.declared.node.Node.{Node}
 use Rattle.ca_quad.specs.declared.square.Square.{Square}
 use Rattle.ca_quad.specs.declared.square.Square.TheVariants.{Four, Parts}
 use Rattle.ca_quad.specs.declared.tree.Tree.{Tree}
-use Rattle.ca_quad.specs.Squares.{place_id, level_of, IsOf, dot, together, cell_of}
+use Rattle.ca_quad.specs.Squares.{place_id, level_of, IsOf, one_cell, joined_cells, cell_of}
 
 -- the id is one of these nodes' squares
 abbrev pub IsIn : List Node → ℕ → Type 0
@@ -53,7 +53,7 @@ HasMoreStates cells = (x : ℕ) × (y : ℕ) × (2 ≤ cells x y)
 -- these four cells make the square
 pub record AreCorners (nodes : List Node) (id : ℕ) (cells : List ℕ) : Type 0 where
   pub has_cells : (x y : ℕ) → cell_of nodes 1 id x y
-      ≡ together 1 (dot (slice_index cells 0)) (dot (slice_index cells 1)) (dot (slice_index cells 2)) (dot (slice_index cells 3)) x y
+      ≡ joined_cells 1 (one_cell (slice_index cells 0)) (one_cell (slice_index cells 1)) (one_cell (slice_index cells 2)) (one_cell (slice_index cells 3)) x y
 
 -- these four squares of the level below make the square
 pub record AreQuarters (nodes : List Node) (id level : ℕ) (quarters : List ℕ) : Type 0 where
@@ -62,7 +62,7 @@ pub record AreQuarters (nodes : List Node) (id level : ℕ) (quarters : List ℕ
   pub is_sw : IsOf nodes (slice_index quarters 2) level
   pub is_se : IsOf nodes (slice_index quarters 3) level
   pub has_cells : (x y : ℕ) → cell_of nodes (suc level) id x y
-      ≡ together (2 ^ level) (cell_of nodes level (slice_index quarters 0)) (cell_of nodes level (slice_index quarters 1))
+      ≡ joined_cells (2 ^ level) (cell_of nodes level (slice_index quarters 0)) (cell_of nodes level (slice_index quarters 1))
       (cell_of nodes level (slice_index quarters 2)) (cell_of nodes level (slice_index quarters 3)) x y
 
 -- the four cells of a square of level 1

@@ -1,6 +1,6 @@
 -- What only private contracts speak of.
 pub mod Whole
-pub mod Named
+pub mod IdForm
 pub mod Window
 pub mod WordExtent
 pub mod Population

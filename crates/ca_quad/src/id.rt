@@ -2,9 +2,9 @@
 
 ghost use Rattle.std.specs.Prelude.{◌≡◌, ◌+◌, ◌<◌, ◌≤◌, ◌*◌, ◌^◌, ◌⊎◌, max, min, MatchOption, IsTrue, ◌↔◌};
 ghost use Rattle.ca_quad.specs.Squares.{meaning_of_id, cells2, cells4, place_id};
-ghost use Rattle.ca_quad.specs.inner.Named.{AreCells2, AreCells4, four_numbers};
+ghost use Rattle.ca_quad.specs.inner.IdForm.{AreCells2, AreCells4, four_numbers};
 
-use crate::named::Named;
+use crate::named::IdForm;
 use std::marker::Model;
 
 /// The name of a square in a store. Two squares there have one id exactly where level and cells are the same.
@@ -65,7 +65,7 @@ impl Id {
     }
 
     // The square that is kept at this place.
-    pub(crate) fn kept(place: usize) -> Id
+    pub(crate) fn at_place(place: usize) -> Id
         requires { place ≤ 9 * 2 ^ 28 }
         ensures { result ≡ place_id place }
     {
@@ -75,16 +75,16 @@ impl Id {
     }
 
     // What the id stands for.
-    pub(crate) fn named(self) -> Named
+    pub(crate) fn form(self) -> IdForm
         ensures { result ≡ meaning_of_id self }
     {
         if self.number < 16 {
-            return Named::Cells2(self.number as u8);
+            return IdForm::Cells2(self.number as u8);
         }
         if self.number < 65552 {
-            return Named::Cells4((self.number - 16) as u16);
+            return IdForm::Cells4((self.number - 16) as u16);
         }
-        Named::Kept(self.number - 65552)
+        IdForm::Kept(self.number - 65552)
     }
 
     // The cells of four 2 by 2 squares of two states that lie together.

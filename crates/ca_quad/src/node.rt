@@ -2,7 +2,7 @@
 
 ghost use Rattle.std.proofs.Common.{rules};
 ghost use Rattle.std.specs.Cmp.Rules.{hashing};
-ghost use Rattle.ca_quad.specs.inner.Hashed.{hashed};
+ghost use Rattle.ca_quad.specs.inner.Hashed.{hash_key};
 
 use crate::id::Id;
 use std::hash::{Hash, Hasher};
@@ -19,7 +19,7 @@ pub enum Node {
 }
 
 impl Hash for Node {
-    ghost hash_input = { hashed };
+    ghost hash_input = { hash_key };
 
     ghost respects_eq = { Prim.search (hashing, rules) };
 

@@ -37,7 +37,7 @@ mod word;
 mod word_extent;
 
 use crate::id::Id;
-use crate::named::Named;
+use crate::named::IdForm;
 use crate::node::Node;
 use crate::square::Square;
 use ca_plane::Memory;
@@ -98,7 +98,7 @@ impl Store {
             return Err(Memory);
         }
         let (place, _) = self.nodes.insert_full(node)?;
-        Ok(Id::kept(place))
+        Ok(Id::at_place(place))
     }
 
     // What the square looks like.
@@ -117,10 +117,10 @@ impl Store {
         ensures shows { result ≡ square_of self.now id }
         ensures sound { IsSoundStore self.now }
     {
-        match id.named() {
-            Named::Cells2(n) => Square::Four(n % 2, n / 2 % 2, n / 4 % 2, n / 8),
-            Named::Cells4(n) => parts_of_cells4(n),
-            Named::Kept(place) => shown(self.nodes.as_slice()[place as usize]),
+        match id.form() {
+            IdForm::Cells2(n) => Square::Four(n % 2, n / 2 % 2, n / 4 % 2, n / 8),
+            IdForm::Cells4(n) => parts_of_cells4(n),
+            IdForm::Kept(place) => shown(self.nodes.as_slice()[place as usize]),
         }
     }
 }

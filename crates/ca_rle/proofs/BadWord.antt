@@ -5,7 +5,7 @@ use Rattle.std.proofs.lemmas.List.{append_cancel_left}
 use Rattle.ca_plane.specs.Bytes.{value}
 use Rattle.ca_rle.specs.declared.fault.RleFault.{RleFault}
 use Rattle.ca_rle.specs.declared.fault.RleFault.TheVariants.{Syntax, GenTooLarge}
-use Rattle.ca_rle.specs.Header.{extended_words, CxrleWord, Corner, Generation, Nothing, Says}
+use Rattle.ca_rle.specs.Header.{extended_words, CxrleWord, Corner, Generation, Nothing, WordSays}
 use Rattle.ca_rle.specs.Faults.{IsBadWord, HasBadWord}
 use Rattle.ca_rle.proofs.OneHeader.{begins_gen}
 use Rattle.ca_rle.proofs.OnePlace.{IsGood, EndsPreamble, one_place}
@@ -23,7 +23,7 @@ pub below_and_above : (a b : ℕ) → a < b → b ≤ a → ⊥
 below_and_above a b h k = omega arith
 
 -- what a word says is no fault
-pub no_bad_word : (word : List ℕ) (said : CxrleWord) (f : RleFault) → Says word said → IsBadWord word f → ⊥
+pub no_bad_word : (word : List ℕ) (said : CxrleWord) (f : RleFault) → WordSays word said → IsBadWord word f → ⊥
 no_bad_word word (Corner x y) Syntax says (inl (h, bad)) = bad x y says
 no_bad_word word (Corner x y) Syntax (a, b, e, p, q) (inr (h, bad)) = pos_is_no_gen word (a ++ 44 ∷ b) e h
 no_bad_word word (Corner x y) GenTooLarge (a, b, e, p, q) (digits, f, d, large) = pos_is_no_gen word (a ++ 44 ∷ b) e (begins_gen word digits f)
@@ -56,7 +56,7 @@ first_word [] = []
 first_word (w ∷ ws) = w
 
 -- a bad word is none of good words
-pub no_bad_among : (good : List (List ℕ)) (word : List ℕ) (later : List (List ℕ)) (said : List CxrleWord) (f : RleFault) → AllZip Says (good ++ word ∷ later) said → IsBadWord word f → ⊥
+pub no_bad_among : (good : List (List ℕ)) (word : List ℕ) (later : List (List ℕ)) (said : List CxrleWord) (f : RleFault) → AllZip WordSays (good ++ word ∷ later) said → IsBadWord word f → ⊥
 no_bad_among [] word later [] f p bad = p
 no_bad_among [] word later (s ∷ ss) f p bad = no_bad_word word s f p.0 bad
 no_bad_among (w ∷ ws) word later [] f p bad = p
@@ -64,12 +64,12 @@ no_bad_among (w ∷ ws) word later (s ∷ ss) f p bad = no_bad_among ws word lat
 
 -- the first bad word of some words is one
 pub first_bad_word : (good others : List (List ℕ)) (word other : List ℕ) (later after : List (List ℕ)) (a b : List CxrleWord) (f g : RleFault)
-    → AllZip Says good a → IsBadWord word f → AllZip Says others b → IsBadWord other g → good ++ word ∷ later ≡ others ++ other ∷ after → (good ≡ others) × (word ≡ other)
+    → AllZip WordSays good a → IsBadWord word f → AllZip WordSays others b → IsBadWord other g → good ++ word ∷ later ≡ others ++ other ∷ after → (good ≡ others) × (word ≡ other)
 first_bad_word [] [] word other later after a b f g p x q y e = (refl, ap first_word e)
 first_bad_word [] (o ∷ os) word other later after a [] f g p x q y e = absurd q
-first_bad_word [] (o ∷ os) word other later after a (s ∷ ss) f g p x q y e = absurd (no_bad_word word s f (subst (λ (w : List ℕ). Says w s) (sym (ap first_word e)) q.0) x)
+first_bad_word [] (o ∷ os) word other later after a (s ∷ ss) f g p x q y e = absurd (no_bad_word word s f (subst (λ (w : List ℕ). WordSays w s) (sym (ap first_word e)) q.0) x)
 first_bad_word (w ∷ ws) [] word other later after [] b f g p x q y e = absurd p
-first_bad_word (w ∷ ws) [] word other later after (s ∷ ss) b f g p x q y e = absurd (no_bad_word other s g (subst (λ (v : List ℕ). Says v s) (ap first_word e) p.0) y)
+first_bad_word (w ∷ ws) [] word other later after (s ∷ ss) b f g p x q y e = absurd (no_bad_word other s g (subst (λ (v : List ℕ). WordSays v s) (ap first_word e) p.0) y)
 first_bad_word (w ∷ ws) (o ∷ os) word other later after [] b f g p x q y e = absurd p
 first_bad_word (w ∷ ws) (o ∷ os) word other later after (s ∷ ss) [] f g p x q y e = absurd q
 first_bad_word (w ∷ ws) (o ∷ os) word other later after (s ∷ ss) (t ∷ ts) f g p x q y e =
@@ -80,7 +80,7 @@ first_bad_word (w ∷ ws) (o ∷ os) word other later after (s ∷ ss) (t ∷ ts
 
 -- a line with a bad word isn't good
 pub bad_line : (bytes : List ℕ) (f : RleFault) (h : HasBadWord bytes f) → IsGood h.line → ⊥
-bad_line bytes f h (comment, (said, good)) = no_bad_among h.among.good h.among.word h.among.later said f (subst (λ (l : List (List ℕ)). AllZip Says l said) h.among.words_are good) h.among.bad
+bad_line bytes f h (comment, (said, good)) = no_bad_among h.among.good h.among.word h.among.later said f (subst (λ (l : List (List ℕ)). AllZip WordSays l said) h.among.words_are good) h.among.bad
 
 -- the place of a line with a bad word
 pub bad_word_place : (bytes : List ℕ) (f : RleFault) (h : HasBadWord bytes f) → EndsPreamble bytes h.lines h.line h.more

@@ -5,14 +5,14 @@ use Rattle.ca_plane.specs.Bytes.{is_blank, is_line_end, is_end_or, IsWord}
 use Rattle.ca_rle.specs.declared.fault.RleFault.{RleFault}
 use Rattle.ca_rle.specs.declared.item.Item.{Item}
 use Rattle.ca_rle.specs.Items.{Run}
-use Rattle.ca_rle.specs.Header.{size_parts, rule_parts, is_front_line, extended_words, IsHeader, CxrleWord, Says}
-use Rattle.ca_rle.specs.File.{IsLine, ended, IsPreamble, FollowsPreamble, IsHeaded}
+use Rattle.ca_rle.specs.Header.{size_parts, rule_parts, is_front_line, extended_words, IsHeader, CxrleWord, WordSays}
+use Rattle.ca_rle.specs.File.{IsLine, line_with_lf, IsPreamble, FollowsPreamble, IsHeaded}
 use Rattle.ca_rle.specs.Faults.{item_fault, IsBadWord, HasBadWord, HasNoHeader, HasBadItem}
 use Rattle.ca_rle.specs.inner.HeaderParts.{parts_left}
 use Rattle.ca_rle.proofs.Headers.{spaced_found, header_found}
 
 -- lines before a header
-pub some_lines : (lines : List (List ℕ)) (said : List CxrleWord) → AllByRecursion IsLine lines → AllByRecursion (λ l. IsTrue (is_front_line l)) lines → AllZip Says (flat_map extended_words lines) said → IsPreamble lines said
+pub some_lines : (lines : List (List ℕ)) (said : List CxrleWord) → AllByRecursion IsLine lines → AllByRecursion (λ l. IsTrue (is_front_line l)) lines → AllZip WordSays (flat_map extended_words lines) said → IsPreamble lines said
 some_lines lines said each comments words = record { each_is_line = each; comments = comments; words = words }
 
 -- no lines before it
@@ -21,7 +21,7 @@ no_lines = some_lines [] [] tt tt tt
 
 -- a line after these lines
 pub line_follows : (lines : List (List ℕ)) (said : List CxrleWord) (line more : List ℕ) → IsPreamble lines said → IsLine line → IsTrue (is_end_or is_line_end more)
-    → FollowsPreamble (flat_map ended lines ++ (line ++ more)) lines said line more
+    → FollowsPreamble (flat_map line_with_lf lines ++ (line ++ more)) lines said line more
 line_follows lines said line more p l e = record { preamble = p; line_is = l; line_ends = e; spelled = refl }
 
 -- a header without a rule in the first line
@@ -37,7 +37,7 @@ plain_header header body line h ends = record {
 -- a header with a rule after these lines
 pub ruled_header : (lines : List (List ℕ)) (said : List CxrleWord) (header body text ignored : List ℕ) → IsPreamble lines said → IsLine header → IsTrue (is_end_or is_line_end body)
     → parts_left (size_parts rule_parts) header ≡ Some (text ++ ignored) → IsWord text → IsTrue (is_end_or is_blank ignored)
-    → IsHeaded (flat_map ended lines ++ (header ++ body)) said (Some text) body
+    → IsHeaded (flat_map line_with_lf lines ++ (header ++ body)) said (Some text) body
 ruled_header lines said header body text ignored p line ends h word i = record {
   lines = lines;
   header = header;
@@ -64,7 +64,7 @@ bad_word line word more fault l e comment words bad = record {
 
 -- after these lines the header is missing
 abbrev pub no_header_after : (lines : List (List ℕ)) (line more : List ℕ) → IsPreamble lines [] → IsLine line → IsTrue (is_end_or is_line_end more) → ((rule : Option (List ℕ)) → IsHeader line rule → ⊥)
-    → (is_front_line line ≡ false) ⊎ ((more ≡ []) × ((last : List CxrleWord) × AllZip Says (extended_words line) last)) → HasNoHeader (flat_map ended lines ++ (line ++ more))
+    → (is_front_line line ≡ false) ⊎ ((more ≡ []) × ((last : List CxrleWord) × AllZip WordSays (extended_words line) last)) → HasNoHeader (flat_map line_with_lf lines ++ (line ++ more))
 no_header_after lines line more p l e none last = record {
   lines = lines;
   said = [];

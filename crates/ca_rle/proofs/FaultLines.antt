@@ -10,7 +10,7 @@ use Rattle.ca_plane.specs.Bytes.{is_line_end, with_front, lines_of}
 use Rattle.ca_rle.specs.declared.fault.RleFault.{RleFault}
 use Rattle.ca_rle.specs.declared.fault.RleFault.TheVariants.{Syntax, Header, XlifeRule, NoEnd, BadState, GenTooLarge, Range, TooManyCells, Memory}
 use Rattle.ca_rle.specs.Items.{InLine}
-use Rattle.ca_rle.specs.File.{IsLine, ended}
+use Rattle.ca_rle.specs.File.{IsLine, line_with_lf}
 use Rattle.ca_rle.specs.Faults.{after_white, HasBadWord, HasBadItem, IsFirstRleFault, IsRleFault}
 use Rattle.ca_rle.specs.FaultyLine.{HasBadWordAt, HasBadItemAt, IsFirstFaultAt, IsFirstRleFaultOn, IsFaultyRleLine, IsRleFaultOn, line_number_of}
 use Rattle.ca_rle.proofs.OnePlace.{EndsPreamble, one_place, xlife_place, no_header_place}
@@ -108,24 +108,24 @@ count-append : (a b : List ℕ) → count_by is_line_end (a ++ b) ≡ count_by i
 count-append a b = sum_by-append (λ c. cond (is_line_end c) 1 0) a b
 
 -- whole lines hold as many LFs
-ends_of_lines : (lines : List (List ℕ)) → AllByRecursion IsLine lines → count_by is_line_end (flat_map ended lines) ≡ length lines
+ends_of_lines : (lines : List (List ℕ)) → AllByRecursion IsLine lines → count_by is_line_end (flat_map line_with_lf lines) ≡ length lines
 ends_of_lines [] h = refl
 ends_of_lines (l ∷ ls) h =
-    let first = count-append (ended l) (flat_map ended ls) in
+    let first = count-append (line_with_lf l) (flat_map line_with_lf ls) in
     let line = count-append l (10 ∷ []) in
     let none = no_ends l h.0 in
     let others = ends_of_lines ls h.1 in
     omega (arith, first, line, none, others)
 
 -- what stands after whole lines and the start of another is on this other line
-pub line_after : (lines : List (List ℕ)) (before rest : List ℕ) → AllByRecursion IsLine lines → IsLine before → 0 < length rest → line_number_of (flat_map ended lines ++ (before ++ rest)) rest ≡ length lines + 1
+pub line_after : (lines : List (List ℕ)) (before rest : List ℕ) → AllByRecursion IsLine lines → IsLine before → 0 < length rest → line_number_of (flat_map line_with_lf lines ++ (before ++ rest)) rest ≡ length lines + 1
 line_after lines before rest whole start some =
-    let all = flat_map ended lines ++ before in
-    let text = flat_map ended lines ++ (before ++ rest) in
-    let joined : text ≡ all ++ rest = sym (append_assoc (flat_map ended lines) before rest) in
+    let all = flat_map line_with_lf lines ++ before in
+    let text = flat_map line_with_lf lines ++ (before ++ rest) in
+    let joined : text ≡ all ++ rest = sym (append_assoc (flat_map line_with_lf lines) before rest) in
     let long : length text - max 1 (length rest) ≡ length all = let sum = ap length joined ∙ length-append all rest in omega (arith, sum, some) in
     let first : take (length text - max 1 (length rest)) text ≡ all = rw (long, joined) (take-append_seam all rest) in
-    let split = ap (count_by is_line_end) first ∙ count-append (flat_map ended lines) before in
+    let split = ap (count_by is_line_end) first ∙ count-append (flat_map line_with_lf lines) before in
     let ends = ends_of_lines lines whole in
     let none = no_ends before start in
     omega (arith, split, ends, none)

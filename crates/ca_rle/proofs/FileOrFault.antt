@@ -11,8 +11,8 @@ use Rattle.ca_rle.specs.declared.fault.RleFault.TheVariants.{Syntax, Header, Xli
 use Rattle.ca_rle.specs.declared.item.Item.{Item}
 use Rattle.ca_rle.specs.declared.item.Tag.{Tag}
 use Rattle.ca_rle.specs.Items.{InLine, is_letter, is_prefix, prefixed_state, tag_of, IsItem, Items}
-use Rattle.ca_rle.specs.Header.{IsHeader, is_front_line, extended_words, CxrleWord, Says}
-use Rattle.ca_rle.specs.File.{RleFile, ended, IsPreamble, FollowsPreamble, IsHeaded, IsRleFile}
+use Rattle.ca_rle.specs.Header.{IsHeader, is_front_line, extended_words, CxrleWord, WordSays}
+use Rattle.ca_rle.specs.File.{RleFile, line_with_lf, IsPreamble, FollowsPreamble, IsHeaded, IsRleFile}
 use Rattle.ca_rle.specs.Faults.{after_white, letter_fault, tag_fault, count_fault, item_fault, HasBadWord, HasBadItem, IsFirstRleFault}
 use Rattle.ca_rle.specs.inner.BodyFaults.{HasBadUnit}
 use Rattle.ca_plane.proofs.Fronts.{front_then_rest}
@@ -48,9 +48,9 @@ fault_or_unit : (bytes : List ℕ) (o : Option RleFault) → item_fault bytes �
 fault_or_unit bytes None e = inr (good_item_or_end bytes e)
 fault_or_unit bytes (Some f) e = inl (f, e)
 
-with_item : (bytes front more : List ℕ) (i : Item) → IsItem front i → bytes ≡ front ++ more → ItemsOrBad more → ItemsOrBad bytes
-with_item bytes front more i item d (inl (is, (rest, run, end))) = inl (i ∷ is, (rest, (front, more, item, run, d), end))
-with_item bytes front more i item d (inr (f, (bad, (is, run, e)))) = inr (f, (bad, (i ∷ is, (front, more, item, run, d), e)))
+with_first_item : (bytes front more : List ℕ) (i : Item) → IsItem front i → bytes ≡ front ++ more → ItemsOrBad more → ItemsOrBad bytes
+with_first_item bytes front more i item d (inl (is, (rest, run, end))) = inl (i ∷ is, (rest, (front, more, item, run, d), end))
+with_first_item bytes front more i item d (inr (f, (bad, (is, run, e)))) = inr (f, (bad, (i ∷ is, (front, more, item, run, d), e)))
 
 items_within : (n : ℕ) (bytes : List ℕ) → length bytes < n → ItemsOrBad bytes
 items_within zero bytes h = absurd (omega arith)
@@ -58,7 +58,7 @@ items_within (suc n) bytes h =
     elim (fault_or_unit bytes (item_fault bytes) refl) [
       | inl b ↦ inr (b.0, (bytes, ([], refl, b.1)))
       | inr u ↦ elim u [
-        | inl s ↦ let item = s.2 in with_item bytes item.0 item.1 s.0 item.2 item.4 (items_within n item.1 (let less = shorter_after bytes item.0 item.1 s.0 item.2 item.4 in omega arith))
+        | inl s ↦ let item = s.2 in with_first_item bytes item.0 item.1 s.0 item.2 item.4 (items_within n item.1 (let less = shorter_after bytes item.0 item.1 s.0 item.2 item.4 in omega arith))
         | inr end ↦ inl ([], (bytes, refl, end))
       ]
     ]
@@ -148,8 +148,8 @@ not_comment bytes lines said line more s c =
 
 -- ---- one good line more
 
-lines_then : (lines : List (List ℕ)) (line more : List ℕ) → flat_map ended lines ++ (line ++ 10 ∷ more) ≡ flat_map ended (lines ++ line ∷ []) ++ more
-lines_then lines line more = sym (ap (λ (l : List ℕ). l ++ more) (flat_map-append ended lines (line ∷ []) ∙ ap (λ (l : List ℕ). flat_map ended lines ++ l) (append-nil (ended line))) ∙ append_assoc (flat_map ended lines) (ended line) more ∙ ap (λ (l : List ℕ). flat_map ended lines ++ l) (append_assoc line (10 ∷ []) more))
+lines_then : (lines : List (List ℕ)) (line more : List ℕ) → flat_map line_with_lf lines ++ (line ++ 10 ∷ more) ≡ flat_map line_with_lf (lines ++ line ∷ []) ++ more
+lines_then lines line more = sym (ap (λ (l : List ℕ). l ++ more) (flat_map-append line_with_lf lines (line ∷ []) ∙ ap (λ (l : List ℕ). flat_map line_with_lf lines ++ l) (append-nil (line_with_lf line))) ∙ append_assoc (flat_map line_with_lf lines) (line_with_lf line) more ∙ ap (λ (l : List ℕ). flat_map line_with_lf lines ++ l) (append_assoc line (10 ∷ []) more))
 
 -- ---- line by line
 
@@ -158,7 +158,7 @@ abbrev in_line : ℕ → Bool
 in_line b = not (is_line_end b)
 
 -- the first line of what stands after good lines
-first_split : (bytes : List ℕ) (lines : List (List ℕ)) (said : List CxrleWord) (left more : List ℕ) → IsPreamble lines said → bytes ≡ flat_map ended lines ++ left → rest in_line left ≡ more → FollowsPreamble bytes lines said (front in_line left) more
+first_split : (bytes : List ℕ) (lines : List (List ℕ)) (said : List CxrleWord) (left more : List ℕ) → IsPreamble lines said → bytes ≡ flat_map line_with_lf lines ++ left → rest in_line left ≡ more → FollowsPreamble bytes lines said (front in_line left) more
 first_split bytes lines said left more p e r = next_line_follows bytes left (front in_line left) more lines said p e refl (sym r)
 
 rest_length : (left more : List ℕ) (b : ℕ) → rest in_line left ≡ b ∷ more → length more < length left
@@ -167,9 +167,9 @@ rest_length left more b e =
     omega arith
 
 -- a comment whose words are good is followed by a text that is judged, or is the last
-good_line : (bytes : List ℕ) (lines : List (List ℕ)) (said : List CxrleWord) (left more : List ℕ) (last : List CxrleWord) → IsPreamble lines said → bytes ≡ flat_map ended lines ++ left → rest in_line left ≡ more
-    → is_front_line (front in_line left) ≡ true → AllZip Says (extended_words (front in_line left)) last
-    → ((later : List ℕ) → length later < length left → IsPreamble (lines ++ front in_line left ∷ []) (said ++ last) → bytes ≡ flat_map ended (lines ++ front in_line left ∷ []) ++ later → FileOrFault bytes)
+good_line : (bytes : List ℕ) (lines : List (List ℕ)) (said : List CxrleWord) (left more : List ℕ) (last : List CxrleWord) → IsPreamble lines said → bytes ≡ flat_map line_with_lf lines ++ left → rest in_line left ≡ more
+    → is_front_line (front in_line left) ≡ true → AllZip WordSays (extended_words (front in_line left)) last
+    → ((later : List ℕ) → length later < length left → IsPreamble (lines ++ front in_line left ∷ []) (said ++ last) → bytes ≡ flat_map line_with_lf (lines ++ front in_line left ∷ []) ++ later → FileOrFault bytes)
     → FileOrFault bytes
 good_line bytes lines said left [] last p e r c w next =
     let s = first_split bytes lines said left [] p e r in
@@ -178,10 +178,10 @@ good_line bytes lines said left [] last p e r c w next =
 good_line bytes lines said left (b ∷ bs) last p e r c w next =
     let s = first_split bytes lines said left (b ∷ bs) p e r in
     let line = front in_line left in
-    next bs (rest_length left bs b r) (preamble_more lines line said last p s.line_is c w) (s.spelled ∙ ap (λ (d : ℕ). flat_map ended lines ++ (line ++ d ∷ bs)) (line_ends_by_lf b left bs r) ∙ lines_then lines line bs)
+    next bs (rest_length left bs b r) (preamble_more lines line said last p s.line_is c w) (s.spelled ∙ ap (λ (d : ℕ). flat_map line_with_lf lines ++ (line ++ d ∷ bs)) (line_ends_by_lf b left bs r) ∙ lines_then lines line bs)
 
-comment_or_fault : (bytes : List ℕ) (lines : List (List ℕ)) (said : List CxrleWord) (left : List ℕ) → IsPreamble lines said → bytes ≡ flat_map ended lines ++ left → is_front_line (front in_line left) ≡ true
-    → ((later : List ℕ) (last : List CxrleWord) → length later < length left → IsPreamble (lines ++ front in_line left ∷ []) (said ++ last) → bytes ≡ flat_map ended (lines ++ front in_line left ∷ []) ++ later → FileOrFault bytes)
+comment_or_fault : (bytes : List ℕ) (lines : List (List ℕ)) (said : List CxrleWord) (left : List ℕ) → IsPreamble lines said → bytes ≡ flat_map line_with_lf lines ++ left → is_front_line (front in_line left) ≡ true
+    → ((later : List ℕ) (last : List CxrleWord) → length later < length left → IsPreamble (lines ++ front in_line left ∷ []) (said ++ last) → bytes ≡ flat_map line_with_lf (lines ++ front in_line left ∷ []) ++ later → FileOrFault bytes)
     → FileOrFault bytes
 comment_or_fault bytes lines said left p e c next =
     let s = first_split bytes lines said left (rest in_line left) p e refl in
@@ -190,7 +190,7 @@ comment_or_fault bytes lines said left p e c next =
       | inr b ↦ inr (b.0, first_from_word bytes b.0 (record { lines = lines; said = said; line = front in_line left; more = rest in_line left; follows = s; comment = c; among = b.1 }))
     ]
 
-lines_within : (n : ℕ) (bytes : List ℕ) (lines : List (List ℕ)) (said : List CxrleWord) (left : List ℕ) → length left < n → IsPreamble lines said → bytes ≡ flat_map ended lines ++ left → FileOrFault bytes
+lines_within : (n : ℕ) (bytes : List ℕ) (lines : List (List ℕ)) (said : List CxrleWord) (left : List ℕ) → length left < n → IsPreamble lines said → bytes ≡ flat_map line_with_lf lines ++ left → FileOrFault bytes
 lines_within zero bytes lines said left h p e = absurd (omega arith)
 lines_within (suc n) bytes lines said left h p e =
     elim (cases_Bool (is_front_line (front in_line left))) [

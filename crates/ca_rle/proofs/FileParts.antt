@@ -4,7 +4,7 @@ use Rattle.std.specs.List.{AllZip}
 use Rattle.ca_plane.specs.Limits.{default_rule}
 use Rattle.ca_plane.specs.Bytes.{IsWord}
 use Rattle.ca_rle.specs.declared.item.Item.{Item}
-use Rattle.ca_rle.specs.Header.{IsHeader, CxrleWord, Corner, Generation, Nothing, Says}
+use Rattle.ca_rle.specs.Header.{IsHeader, CxrleWord, Corner, Generation, Nothing, WordSays}
 use Rattle.ca_rle.specs.Items.{Items}
 use Rattle.ca_rle.specs.File.{RleFile, corner_of, last_word_generation, generation_of, IsHeaded, IsRleFile}
 
@@ -17,7 +17,7 @@ pub headed_is_file : (bytes : List ℕ) (said : List CxrleWord) (rule : Option (
 headed_is_file bytes said rule body items h is = record { said = said; rule = rule; body = body; headed = h; items = is; corner = refl; generation = refl; rule_text = refl }
 
 -- the last generation that words say is below 2^63, where the one before them is
-last_is_low : (n : ℕ) (words : List (List ℕ)) (said : List CxrleWord) → n < 2 ^ 63 → AllZip Says words said → last_word_generation n said < 2 ^ 63
+last_is_low : (n : ℕ) (words : List (List ℕ)) (said : List CxrleWord) → n < 2 ^ 63 → AllZip WordSays words said → last_word_generation n said < 2 ^ 63
 last_is_low n words [] low says = low
 last_is_low n [] (s ∷ ss) low says = absurd says
 last_is_low n (w ∷ ws) (Corner x y ∷ ss) low says = last_is_low n ws ss low says.1

@@ -8,8 +8,8 @@ use Rattle.ca_plane.specs.Bytes.{is_line_end, is_end_or, front, rest}
 use Rattle.ca_plane.proofs.Fronts.{front_then_rest, every_front, rest_ends, front_length}
 use Rattle.ca_rle.specs.declared.fault.RleFault.{RleFault}
 use Rattle.ca_rle.specs.declared.fault.RleFault.TheVariants.{Syntax, GenTooLarge}
-use Rattle.ca_rle.specs.Header.{is_front_line, extended_words, CxrleWord, Says}
-use Rattle.ca_rle.specs.File.{IsLine, ended, IsPreamble, FollowsPreamble}
+use Rattle.ca_rle.specs.Header.{is_front_line, extended_words, CxrleWord, WordSays}
+use Rattle.ca_rle.specs.File.{IsLine, line_with_lf, IsPreamble, FollowsPreamble}
 use Rattle.ca_rle.specs.Faults.{HasBadWordAmong, HasBadWord, HasNoHeader}
 use Rattle.ca_rle.specs.FaultyLine.{HasNoHeaderAt, IsFirstFaultAt}
 use Rattle.ca_rle.proofs.OneHeader.{no_comment}
@@ -27,20 +27,20 @@ pub first_line_ends : (bytes after : List ℕ) → after ≡ rest (λ b. not (is
 first_line_ends bytes after e = ends after (ap (is_end_or (λ b. not (not (is_line_end b)))) e ∙ rest_ends (λ b. not (is_line_end b)) bytes)
 
 -- the bytes are the lines so far, the next line, and what stands after it
-pub split_there : (bytes more line after : List ℕ) (lines : List (List ℕ)) → bytes ≡ flat_map ended lines ++ more → line ≡ front (λ b. not (is_line_end b)) more → after ≡ rest (λ b. not (is_line_end b)) more
-    → (bytes ≡ flat_map ended lines ++ (line ++ after)) × (line ++ after ≡ more)
+pub split_there : (bytes more line after : List ℕ) (lines : List (List ℕ)) → bytes ≡ flat_map line_with_lf lines ++ more → line ≡ front (λ b. not (is_line_end b)) more → after ≡ rest (λ b. not (is_line_end b)) more
+    → (bytes ≡ flat_map line_with_lf lines ++ (line ++ after)) × (line ++ after ≡ more)
 split_there bytes more line after lines e f r =
     let whole : line ++ after ≡ more = rw (f, r) (front_then_rest (λ b. not (is_line_end b)) more) in
-    (e ∙ ap (λ (l : List ℕ). flat_map ended lines ++ l) (sym whole), whole)
+    (e ∙ ap (λ (l : List ℕ). flat_map line_with_lf lines ++ l) (sym whole), whole)
 
 -- with the next line among the lines
-pub line_passed : (bytes line after later : List ℕ) (b : ℕ) (lines : List (List ℕ)) → bytes ≡ flat_map ended lines ++ (line ++ after) → after ≡ b ∷ later → is_end_or is_line_end after ≡ true
-    → bytes ≡ flat_map ended (lines ++ line ∷ []) ++ later
+pub line_passed : (bytes line after later : List ℕ) (b : ℕ) (lines : List (List ℕ)) → bytes ≡ flat_map line_with_lf lines ++ (line ++ after) → after ≡ b ∷ later → is_end_or is_line_end after ≡ true
+    → bytes ≡ flat_map line_with_lf (lines ++ line ∷ []) ++ later
 line_passed bytes line after later b lines e f h =
     let lf : b ≡ 10 = eqb-true b 10 (ap (is_end_or is_line_end) (sym f) ∙ h) in
-    let passed : flat_map ended (lines ++ line ∷ []) ≡ flat_map ended lines ++ ended line = flat_map-append ended lines (line ∷ []) ∙ ap (λ (l : List ℕ). flat_map ended lines ++ l) (append-nil (ended line)) in
-    let last : line ++ after ≡ ended line ++ later = ap (λ (l : List ℕ). line ++ l) (f ∙ ap (λ (c : ℕ). c ∷ later) lf) ∙ sym (append_assoc line (10 ∷ []) later) in
-    e ∙ ap (λ (l : List ℕ). flat_map ended lines ++ l) last ∙ sym (append_assoc (flat_map ended lines) (ended line) later) ∙ ap (λ (l : List ℕ). l ++ later) (sym passed)
+    let passed : flat_map line_with_lf (lines ++ line ∷ []) ≡ flat_map line_with_lf lines ++ line_with_lf line = flat_map-append line_with_lf lines (line ∷ []) ∙ ap (λ (l : List ℕ). flat_map line_with_lf lines ++ l) (append-nil (line_with_lf line)) in
+    let last : line ++ after ≡ line_with_lf line ++ later = ap (λ (l : List ℕ). line ++ l) (f ∙ ap (λ (c : ℕ). c ∷ later) lf) ∙ sym (append_assoc line (10 ∷ []) later) in
+    e ∙ ap (λ (l : List ℕ). flat_map line_with_lf lines ++ l) last ∙ sym (append_assoc (flat_map line_with_lf lines) (line_with_lf line) later) ∙ ap (λ (l : List ℕ). l ++ later) (sym passed)
 
 -- the bytes after a line's LF are fewer
 pub fewer_after : (bytes after later : List ℕ) (b : ℕ) → after ≡ rest (λ b. not (is_line_end b)) bytes → after ≡ b ∷ later → length later < length bytes
@@ -54,7 +54,7 @@ pub fault_there : (bytes same rest left : List ℕ) (f : RleFault) → bytes ≡
 fault_there bytes same rest left f e r h = subst (λ (l : List ℕ). IsFirstFaultAt bytes f l) r (subst (λ (l : List ℕ). IsFirstFaultAt l f rest) (sym e) h)
 
 -- the next line follows the lines so far
-pub next_line_follows : (bytes more line after : List ℕ) (lines : List (List ℕ)) (said : List CxrleWord) → IsPreamble lines said → bytes ≡ flat_map ended lines ++ more
+pub next_line_follows : (bytes more line after : List ℕ) (lines : List (List ℕ)) (said : List CxrleWord) → IsPreamble lines said → bytes ≡ flat_map line_with_lf lines ++ more
     → line ≡ front (λ b. not (is_line_end b)) more → after ≡ rest (λ b. not (is_line_end b)) more → FollowsPreamble bytes lines said line after
 next_line_follows bytes more line after lines said p e f r = record {
   preamble = p;
@@ -74,7 +74,7 @@ module _ (bytes line after : List ℕ) (lines : List (List ℕ)) (said : List Cx
   word_fault GenTooLarge h = (bad_word GenTooLarge h, refl)
   word_fault f h = absurd h.bad
 
-  has_no_header : (last : List CxrleWord) → AllZip Says (extended_words line) last → length after ≡ 0 → HasNoHeader bytes
+  has_no_header : (last : List CxrleWord) → AllZip WordSays (extended_words line) last → length after ≡ 0 → HasNoHeader bytes
   has_no_header last z none = record {
     lines = lines;
     said = said;
@@ -86,6 +86,6 @@ module _ (bytes line after : List ℕ) (lines : List (List ℕ)) (said : List Cx
   }
 
   -- a comment with good words at the text's end is no header
-  pub no_header_there : (last : List CxrleWord) → AllZip Says (extended_words line) last → length after ≡ 0 → HasNoHeaderAt bytes (line ++ after)
+  pub no_header_there : (last : List CxrleWord) → AllZip WordSays (extended_words line) last → length after ≡ 0 → HasNoHeaderAt bytes (line ++ after)
   unfolding has_no_header
   no_header_there last z none = (has_no_header last z none, refl)

@@ -12,7 +12,7 @@ use Rattle.ca_rle.specs.declared.item.Tag.TheVariants.{Cell, RowEnd}
 use Rattle.ca_rle.specs.Shown.{tag_state, row_count, columns_of, run_of, place_after, picture_of_items}
 use Rattle.ca_rle.specs.Tidy.{AreTidy}
 use Rattle.ca_rle.specs.inner.Written.{some_of, IsItemGap}
-use Rattle.ca_rle.proofs.Pushed.{row_count-push, columns_of-push, picture_after-push}
+use Rattle.ca_rle.proofs.PushedItems.{row_count-push, columns_of-push, picture_after-push}
 
 -- so many of a tag
 abbrev pub item_of : Tag → ℕ → Item

@@ -3,7 +3,7 @@ use Rattle.std.proofs.Common.{◌≡◌, ℕ, List, Option, unwrap_or, sym, ap, 
 use Rattle.std.specs.List.{flat_map, AllZip}
 use Rattle.ca_plane.specs.Limits.{default_rule}
 use Rattle.ca_rle.specs.Items.{Items}
-use Rattle.ca_rle.specs.Header.{IsHeader, extended_words, CxrleWord, Says}
+use Rattle.ca_rle.specs.Header.{IsHeader, extended_words, CxrleWord, WordSays}
 use Rattle.ca_rle.specs.File.{RleFile, corner_of, generation_of, IsHeaded, IsRleFile}
 use Rattle.ca_rle.proofs.OneList.{one_list}
 use Rattle.ca_rle.proofs.OneHeader.{one_header, all_said}
@@ -13,7 +13,7 @@ use Rattle.ca_rle.proofs.OnePlace.{one_place, headed_place}
 pub one_headed : (bytes : List ℕ) (a b : List CxrleWord) (r s : Option (List ℕ)) (m n : List ℕ) → IsHeaded bytes a r m → IsHeaded bytes b s n → (a ≡ b) × (r ≡ s) × (m ≡ n)
 one_headed bytes a b r s m n p q =
     let f = one_place bytes p.lines q.lines p.header q.header m n (headed_place bytes a r m p) (headed_place bytes b s n q) in
-    let words = subst (λ (l : List (List ℕ)). AllZip Says (flat_map extended_words l) a) f.0 p.follows.preamble.words in
+    let words = subst (λ (l : List (List ℕ)). AllZip WordSays (flat_map extended_words l) a) f.0 p.follows.preamble.words in
     (all_said (flat_map extended_words q.lines) a b words q.follows.preamble.words, one_header q.header r s (subst (λ (l : List ℕ). IsHeader l r) f.1 p.header_is) q.header_is, f.2)
 
 same_file : (f g : RleFile) → f.corner ≡ g.corner → f.generation ≡ g.generation → f.rule_text ≡ g.rule_text → f.items ≡ g.items → f ≡ g

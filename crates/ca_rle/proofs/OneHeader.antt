@@ -5,7 +5,7 @@ use Rattle.std.proofs.lemmas.List.{append_cancel_left}
 use Rattle.std.proofs.lemmas.Bool.{and_parts}
 use Rattle.std.proofs.lemmas.Bool.Decides.{nat_tests}
 use Rattle.ca_plane.specs.Bytes.{Every, is_blank, is_digit, is_word_byte, is_end_or, front, rest, AreDigits, IsInteger, IsWord, value}
-use Rattle.ca_rle.specs.Header.{Part, IsSpaced, size_parts, rule_parts, IsHeader, is_front_line, CxrleWord, Corner, Generation, Nothing, Says}
+use Rattle.ca_rle.specs.Header.{Part, IsSpaced, size_parts, rule_parts, IsHeader, is_front_line, CxrleWord, Corner, Generation, Nothing, WordSays}
 use Rattle.ca_rle.specs.inner.HeaderParts.{part_left, parts_left}
 use Rattle.ca_plane.proofs.Fronts.{front_append, rest_append, one_split, every_wider, every_digit, every_word_byte}
 use Rattle.ca_rle.proofs.Headers.{header_none, header_some}
@@ -98,7 +98,7 @@ begins_gen word more e = rw e
 pos_or_gen : (word a b : List ℕ) → word ≡ codes "Pos=" ++ a → word ≡ codes "Gen=" ++ b → ⊥
 pos_or_gen word a b p q = true≢false (sym (begins_pos word a p) ∙ ap (λ (l : List ℕ). starts_with nat_eq l (codes "Pos=")) q)
 
-pub one_said : (word : List ℕ) (s t : CxrleWord) → Says word s → Says word t → s ≡ t
+pub one_said : (word : List ℕ) (s t : CxrleWord) → WordSays word s → WordSays word t → s ≡ t
 one_said word (Corner x y) (Corner u v) (a, b, e, p, q) (c, d, f, r, s) =
     let split = one_split no_comma a c (44 ∷ b) (44 ∷ d) (integer_has_no_comma a x p) (integer_has_no_comma c u r) refl refl (append_cancel_left (codes "Pos=") _ _ (sym e ∙ f)) in
     let second : b ≡ d = append_cancel_left (44 ∷ []) b d split.1 in
@@ -112,7 +112,7 @@ one_said word Nothing (Corner x y) (h, k) (a, b, e, p, q) = absurd (true≢false
 one_said word (Generation n) Nothing (d, f, r, m, l) (h, k) = absurd (true≢false (sym (begins_gen word d f) ∙ k))
 one_said word Nothing (Generation n) (h, k) (d, f, r, m, l) = absurd (true≢false (sym (begins_gen word d f) ∙ k))
 
-pub all_said : (words : List (List ℕ)) (a b : List CxrleWord) → AllZip Says words a → AllZip Says words b → a ≡ b
+pub all_said : (words : List (List ℕ)) (a b : List CxrleWord) → AllZip WordSays words a → AllZip WordSays words b → a ≡ b
 all_said [] [] [] p q = refl
 all_said (w ∷ ws) (s ∷ ss) (t ∷ ts) (p, ps) (q, qs) = ap₂ (λ (x : CxrleWord) (l : List CxrleWord). x ∷ l) (one_said w s t p q) (all_said ws ss ts ps qs)
 all_said [] (s ∷ ss) b p q = absurd p

@@ -3,8 +3,8 @@ use Rattle.std.proofs.Common.{◌≡◌, ℕ, true, false, not, IsTrue, List, []
 use Rattle.std.specs.List.{flat_map, AllZip}
 use Rattle.std.proofs.lemmas.List.{append_cancel_left}
 use Rattle.ca_plane.specs.Bytes.{is_line_end, is_end_or}
-use Rattle.ca_rle.specs.Header.{IsHeader, is_front_line, extended_words, CxrleWord, Says}
-use Rattle.ca_rle.specs.File.{IsLine, ended, IsPreamble, FollowsPreamble, IsHeaded}
+use Rattle.ca_rle.specs.Header.{IsHeader, is_front_line, extended_words, CxrleWord, WordSays}
+use Rattle.ca_rle.specs.File.{IsLine, line_with_lf, IsPreamble, FollowsPreamble, IsHeaded}
 use Rattle.ca_rle.specs.Faults.{HasNoHeader, HasXlifeRule}
 use Rattle.ca_plane.proofs.Fronts.{one_split}
 use Rattle.ca_rle.proofs.OneHeader.{no_comment}
@@ -20,13 +20,13 @@ pub one_line : (a b m n : List ℕ) → IsLine a → IsLine b → IsTrue (is_end
 one_line a b m n p q h k e = one_split (λ c. not (is_line_end c)) a b m n p q (line_stops m h) (line_stops n k) e
 
 -- after the first line stand its LF and the others
-pub after_first_line : (line : List ℕ) (lines : List (List ℕ)) (more : List ℕ) → flat_map ended (line ∷ lines) ++ more ≡ line ++ (10 ∷ (flat_map ended lines ++ more))
+pub after_first_line : (line : List ℕ) (lines : List (List ℕ)) (more : List ℕ) → flat_map line_with_lf (line ∷ lines) ++ more ≡ line ++ (10 ∷ (flat_map line_with_lf lines ++ more))
 after_first_line line lines more = simp append_assoc
 
 -- ---- what words say
 
 -- what the first words say, and what the others do
-pub says_split : (words others : List (List ℕ)) (said : List CxrleWord) → AllZip Says (words ++ others) said → (a : List CxrleWord) × (b : List CxrleWord) × AllZip Says words a × AllZip Says others b
+pub says_split : (words others : List (List ℕ)) (said : List CxrleWord) → AllZip WordSays (words ++ others) said → (a : List CxrleWord) × (b : List CxrleWord) × AllZip WordSays words a × AllZip WordSays others b
 says_split [] others said h = ([], said, tt, h)
 says_split (w ∷ ws) others [] h = absurd h
 says_split (w ∷ ws) others (s ∷ ss) (h, hs) = let later = says_split ws others ss hs in (s ∷ later.0, later.1, (h, later.2), later.3)
@@ -35,7 +35,7 @@ says_split (w ∷ ws) others (s ∷ ss) (h, hs) = let later = says_split ws othe
 
 -- a comment line whose words are good
 abbrev pub IsGood : List ℕ → Type 0
-IsGood line = (is_front_line line ≡ true) × ((said : List CxrleWord) × AllZip Says (extended_words line) said)
+IsGood line = (is_front_line line ≡ true) × ((said : List CxrleWord) × AllZip WordSays (extended_words line) said)
 
 -- after good lines stands a line that is none of them: it isn't good, or no LF ends it
 pub record EndsPreamble (bytes : List ℕ) (lines : List (List ℕ)) (line more : List ℕ) : Type 0 where
@@ -47,7 +47,7 @@ first_is_good : (line : List ℕ) (lines : List (List ℕ)) (said : List CxrleWo
 first_is_good line lines said p = let s = says_split (extended_words line) (flat_map extended_words lines) said p.words in (p.comments.0, (s.0, s.2))
 
 -- the place is the same after the first line
-after_first : (bytes : List ℕ) (first : List ℕ) (lines : List (List ℕ)) (line more later : List ℕ) → EndsPreamble bytes (first ∷ lines) line more → later ≡ flat_map ended lines ++ (line ++ more) → EndsPreamble later lines line more
+after_first : (bytes : List ℕ) (first : List ℕ) (lines : List (List ℕ)) (line more later : List ℕ) → EndsPreamble bytes (first ∷ lines) line more → later ≡ flat_map line_with_lf lines ++ (line ++ more) → EndsPreamble later lines line more
 after_first bytes first lines line more later p e =
     let s = says_split (extended_words first) (flat_map extended_words lines) p.said p.follows.preamble.words in
     record {
@@ -65,7 +65,7 @@ no_longer : (bytes : List ℕ) (a m k : List ℕ) (ks : List (List ℕ)) (b n : 
 no_longer bytes a m k ks b n p q =
     let f = one_line a k m _ p.follows.line_is q.follows.preamble.each_is_line.0 p.follows.line_ends refl (sym p.follows.spelled ∙ q.follows.spelled ∙ after_first_line k ks (b ++ n)) in
     let last = p.bad_or_last (subst IsGood (sym f.0) (first_is_good k ks q.said q.follows.preamble)) in
-    let none : [] ≡ 10 ∷ (flat_map ended ks ++ (b ++ n)) = sym last ∙ f.1 in cc
+    let none : [] ≡ 10 ∷ (flat_map line_with_lf ks ++ (b ++ n)) = sym last ∙ f.1 in cc
 
 -- a text's good lines end at one place
 pub one_place : (bytes : List ℕ) (ls ks : List (List ℕ)) (a b m n : List ℕ) → EndsPreamble bytes ls a m → EndsPreamble bytes ks b n → (ls ≡ ks) × (a ≡ b) × (m ≡ n)
@@ -74,7 +74,7 @@ one_place bytes [] (k ∷ ks) a b m n p q = absurd (no_longer bytes a m k ks b n
 one_place bytes (l ∷ ls) [] a b m n p q = absurd (no_longer bytes b n l ls a m q p)
 one_place bytes (l ∷ ls) (k ∷ ks) a b m n p q =
     let f = one_line l k _ _ p.follows.preamble.each_is_line.0 q.follows.preamble.each_is_line.0 refl refl (sym (after_first_line l ls (a ++ m)) ∙ sym p.follows.spelled ∙ q.follows.spelled ∙ after_first_line k ks (b ++ n)) in
-    let later = flat_map ended ls ++ (a ++ m) in
+    let later = flat_map line_with_lf ls ++ (a ++ m) in
     let others = one_place later ls ks a b m n (after_first bytes l ls a m later p refl) (after_first bytes k ks b n later q (append_cancel_left (10 ∷ []) _ _ f.1)) in
     (ap₂ (λ (x : List ℕ) (xs : List (List ℕ)). x ∷ xs) f.0 others.0, others.1, others.2)
 
@@ -91,7 +91,7 @@ headed_place bytes said rule body h = record { said = said; follows = h.follows;
 pub xlife_place : (bytes : List ℕ) (h : HasXlifeRule bytes) → EndsPreamble bytes h.lines h.header h.body
 xlife_place bytes h = record { said = h.said; follows = h.follows; bad_or_last = no_good_header h.header h.body None h.header_is }
 
-no_comment_or_last : (line more : List ℕ) → (is_front_line line ≡ false) ⊎ ((more ≡ []) × ((last : List CxrleWord) × AllZip Says (extended_words line) last)) → IsGood line → more ≡ []
+no_comment_or_last : (line more : List ℕ) → (is_front_line line ≡ false) ⊎ ((more ≡ []) × ((last : List CxrleWord) × AllZip WordSays (extended_words line) last)) → IsGood line → more ≡ []
 no_comment_or_last line more (inl e) good = absurd (true≢false (sym good.0 ∙ e))
 no_comment_or_last line more (inr e) good = e.0
 

@@ -11,7 +11,7 @@ use Rattle.ca_plane.proofs.Pictures.{point-same}
 use Rattle.ca_rle.specs.declared.item.Item.{Item}
 use Rattle.ca_rle.specs.declared.item.Tag.{Tag}
 use Rattle.ca_rle.specs.declared.item.Tag.TheVariants.{Cell, RowEnd}
-use Rattle.ca_rle.specs.File.{ended}
+use Rattle.ca_rle.specs.File.{line_with_lf}
 use Rattle.ca_rle.specs.Shown.{picture_of_items}
 use Rattle.ca_rle.specs.Tidy.{AreTidy, IsFull, AreLines, IsFrame, corner_line, header_line, IsTidyRle}
 use Rattle.ca_rle.proofs.TidyCells.{next, drawn, picture_drawn, IsAhead, tidy_counts, tidy_tail, item_out, clear, within, after, reach}
@@ -203,6 +203,6 @@ one_tidy t u cells rule_text generation states p q =
     ap (λ c. cell c x y) (sym (picture_drawn p.corner p.items)) ∙ sym (p.shown x y) ∙ shown x y ∙ ap (λ c. cell c x y) (picture_drawn p.corner q.items) in
     let items : p.items ≡ q.items = one_tidy_list p.corner.x p.corner p.items q.items p.tidy q.tidy same in
     let lines : p.lines ≡ q.lines = one_breaking p.lines q.lines p.lines_are q.lines_are (p.whole ∙ ap (tokens states) items ∙ sym q.whole) in
-    let first : ended (corner_line p.corner generation) ≡ ended (corner_line q.corner generation) = ap (λ at. ended (corner_line at generation)) frame.corner in
-    let second : ended (header_line p.width p.height rule_text) ≡ ended (header_line q.width q.height rule_text) = ap₂ (λ w h. ended (header_line w h rule_text)) frame.width frame.height in
+    let first : line_with_lf (corner_line p.corner generation) ≡ line_with_lf (corner_line q.corner generation) = ap (λ at. line_with_lf (corner_line at generation)) frame.corner in
+    let second : line_with_lf (header_line p.width p.height rule_text) ≡ line_with_lf (header_line q.width q.height rule_text) = ap₂ (λ w h. line_with_lf (header_line w h rule_text)) frame.width frame.height in
     p.spelled ∙ ap₂ (λ a b. a ++ b) first (ap₂ (λ a b. a ++ b) second (ap text_of lines)) ∙ sym q.spelled

@@ -8,12 +8,12 @@ use Rattle.std.proofs.lemmas.Option.{same_Some, none-some}
 use Rattle.ca_plane.specs.Bytes.{is_blank, front, rest, without_cr}
 use Rattle.ca_rle.specs.declared.front.words.Start.{Start}
 use Rattle.ca_rle.specs.declared.front.lines.Preamble.{Preamble}
-use Rattle.ca_rle.specs.Header.{is_front_line, extended_words, CxrleWord, Says, IsXlifeLine}
+use Rattle.ca_rle.specs.Header.{is_front_line, extended_words, CxrleWord, WordSays, IsXlifeLine}
 use Rattle.ca_rle.specs.File.{IsLine, IsPreamble}
-use Rattle.ca_rle.specs.inner.FrontParts.{IsStart, Leads, HasXlifeLine, IsPreambleOf, LeadsPreamble}
+use Rattle.ca_rle.specs.inner.FrontParts.{IsFrontStart, WordsLead, HasXlifeLine, IsPreambleOf, LeadsPreamble}
 use Rattle.ca_plane.proofs.Fronts.{every_front, front_then_rest, rest_append}
-use Rattle.ca_rle.proofs.Spans.{all_append}
 use Rattle.ca_rle.proofs.StartWords.{all_zip_append}
+use Rattle.ca_plane.proofs.Elements.{all_append}
 
 -- ---- XLife's rule lines
 
@@ -68,12 +68,12 @@ no_first after blank more f e =
 -- ---- one more line
 
 -- a good line after good lines
-pub preamble_more : (lines : List (List ℕ)) (line : List ℕ) (said more : List CxrleWord) → IsPreamble lines said → IsLine line → is_front_line line ≡ true → AllZip Says (extended_words line) more → IsPreamble (lines ++ line ∷ []) (said ++ more)
+pub preamble_more : (lines : List (List ℕ)) (line : List ℕ) (said more : List CxrleWord) → IsPreamble lines said → IsLine line → is_front_line line ≡ true → AllZip WordSays (extended_words line) more → IsPreamble (lines ++ line ∷ []) (said ++ more)
 preamble_more lines line said more p l c z =
     record {
       each_is_line = all_append IsLine lines (line ∷ []) p.each_is_line (l, tt);
       comments = all_append (λ l. IsTrue (is_front_line l)) lines (line ∷ []) p.comments (c, tt);
-      words = subst (λ (ws : List (List ℕ)). AllZip Says ws (said ++ more)) (sym words_are) (all_zip_append (flat_map extended_words lines) (extended_words line) said more p.words z);
+      words = subst (λ (ws : List (List ℕ)). AllZip WordSays ws (said ++ more)) (sym words_are) (all_zip_append (flat_map extended_words lines) (extended_words line) said more p.words z);
     }
   where
     words_are : flat_map extended_words (lines ++ line ∷ []) ≡ flat_map extended_words lines ++ extended_words line
@@ -89,7 +89,7 @@ xlife_last lines line h = (lines, line, [], h, refl)
 
 -- what lines say with one more
 pub read_more : (lines : List (List ℕ)) (line : List ℕ) (said more : List CxrleWord) (p : Preamble) (s : Start) (x : Bool)
-    → IsPreambleOf lines said p → IsLine line → is_front_line line ≡ true → AllZip Says (extended_words line) more → IsStart (said ++ more) s
+    → IsPreambleOf lines said p → IsLine line → is_front_line line ≡ true → AllZip WordSays (extended_words line) more → IsFrontStart (said ++ more) s
     → (x ≡ true → HasXlifeLine (lines ++ line ∷ [])) → (x ≡ false → (p.has_xlife_rule ≡ false) × (IsXlifeLine line → ⊥))
     → IsPreambleOf (lines ++ line ∷ []) (said ++ more) (record { start = s; has_xlife_rule = x })
 read_more lines line said more p s x r l c z h given none = record {
@@ -100,7 +100,7 @@ read_more lines line said more p s x r l c z h given none = record {
 }
 
 -- a good line leads on from what the lines before it say
-pub line_leads : (line : List ℕ) (p : Preamble) (s : Start) (x : Bool) → IsLine line → is_front_line line ≡ true → Leads (extended_words line) p.start s
+pub line_leads : (line : List ℕ) (p : Preamble) (s : Start) (x : Bool) → IsLine line → is_front_line line ≡ true → WordsLead (extended_words line) p.start s
     → ((lines : List (List ℕ)) (said : List CxrleWord) → IsPreambleOf lines said p → x ≡ true → HasXlifeLine (lines ++ line ∷ [])) → (x ≡ false → (p.has_xlife_rule ≡ false) × (IsXlifeLine line → ⊥))
     → LeadsPreamble line p (record { start = s; has_xlife_rule = x })
 line_leads line p s x l c words given none =

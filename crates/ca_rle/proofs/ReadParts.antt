@@ -14,7 +14,7 @@ use Rattle.ca_rle.specs.Shown.{greatest_state, picture_of_items}
 use Rattle.ca_rle.specs.inner.BodyFaults.{bare_file}
 use Rattle.ca_rle.specs.inner.FrontParts.{IsGoodText}
 use Rattle.ca_rle.proofs.FileParts.{generation_is_low, rule_is_word}
-use Rattle.ca_rle.proofs.Judged.{bare_of}
+use Rattle.ca_rle.proofs.TextJudgements.{bare_of}
 use Rattle.ca_rle.proofs.Prefixes.{item_state_low}
 
 -- no state of items is above 255

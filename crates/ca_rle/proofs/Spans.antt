@@ -7,6 +7,7 @@ use Rattle.ca_plane.specs.declared.point.Point.{Point}
 use Rattle.ca_rle.specs.declared.item.Item.{Item}
 use Rattle.ca_rle.specs.Shown.{ends_row, tag_state, row_count, columns_of, run_of, place_after, item_cells, picture_after}
 use Rattle.ca_plane.specs.Limits.{IsInRange}
+use Rattle.ca_plane.proofs.Elements.{all_append}
 
 -- the sum of all counts
 abbrev pub span : List Item → ℕ
@@ -31,10 +32,6 @@ all_run P f a (suc n) h = (h a (omega arith), all_run P f (a + 1) n (λ k l. h k
 pub length_run : {X : Type 0} (f : ℕ → X) (a n : ℕ) → length (map f (range_with_len a n)) ≡ n
 length_run f a zero = refl
 length_run f a (suc n) = ap suc (length_run f (a + 1) n)
-
-pub all_append : {X : Type 0} (P : X → Type 0) (xs ys : List X) → AllByRecursion P xs → AllByRecursion P ys → AllByRecursion P (xs ++ ys)
-all_append P [] ys h k = k
-all_append P (x ∷ xs) ys (h, hs) k = (h, all_append P xs ys hs k)
 
 -- ---- cells
 

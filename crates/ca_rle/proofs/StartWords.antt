@@ -13,11 +13,11 @@ use Rattle.ca_plane.specs.declared.point.Point.{Point}
 use Rattle.ca_plane.specs.Bytes.{front, rest, IsInteger, nearest_i64}
 use Rattle.ca_rle.specs.declared.front.words.Start.{Start}
 use Rattle.ca_rle.specs.declared.fault.RleFault.TheVariants.{Syntax}
-use Rattle.ca_rle.specs.Header.{CxrleWord, Corner, Generation, Nothing, Says}
+use Rattle.ca_rle.specs.Header.{CxrleWord, Corner, Generation, Nothing, WordSays}
 use Rattle.ca_rle.specs.File.{last_corner, last_word_generation}
 use Rattle.ca_rle.specs.Faults.{IsBadWord}
 use Rattle.ca_rle.specs.inner.BodyFaults.{KeepsCorner}
-use Rattle.ca_rle.specs.inner.FrontParts.{KeepsNumber, Writes, WritesPair, IsStart, Leads}
+use Rattle.ca_rle.specs.inner.FrontParts.{KeepsNumber, Writes, WritesPair, IsFrontStart, WordsLead}
 use Rattle.ca_plane.proofs.Fronts.{front_append, rest_append, front_then_rest}
 use Rattle.ca_rle.proofs.OneHeader.{integer_has_no_comma}
 
@@ -95,7 +95,7 @@ generation_append n (Generation m ∷ a) b = generation_append m a b
 generation_append n (Nothing ∷ a) b = generation_append n a b
 
 -- a word that gives the corner
-pub leads_corner : (word numbers : List ℕ) (p : Point) (old : Start) → word ≡ codes "Pos=" ++ numbers → WritesPair numbers p → Leads (word ∷ []) old (record { corner = p; generation = old.generation })
+pub leads_corner : (word numbers : List ℕ) (p : Point) (old : Start) → word ≡ codes "Pos=" ++ numbers → WritesPair numbers p → WordsLead (word ∷ []) old (record { corner = p; generation = old.generation })
 leads_corner word numbers p old e (a, b, s, (x, i, k), (y, j, l)) = (
   Corner x y ∷ [],
   ((a, b, e ∙ ap (λ (n : List ℕ). codes "Pos=" ++ n) s, i, j), tt),
@@ -106,7 +106,7 @@ leads_corner word numbers p old e (a, b, s, (x, i, k), (y, j, l)) = (
 )
 
 -- a word that gives the generation
-pub leads_generation : (word : List ℕ) (n : ℕ) (old : Start) → Says word (Generation n) → Leads (word ∷ []) old (record { corner = old.corner; generation = n })
+pub leads_generation : (word : List ℕ) (n : ℕ) (old : Start) → WordSays word (Generation n) → WordsLead (word ∷ []) old (record { corner = old.corner; generation = n })
 leads_generation word n old s = (
   Generation n ∷ [],
   (s, tt),
@@ -117,7 +117,7 @@ leads_generation word n old s = (
 )
 
 -- a word that gives neither
-pub leads_nowhere : (word : List ℕ) (old : Start) → Says word Nothing → Leads (word ∷ []) old old
+pub leads_nowhere : (word : List ℕ) (old : Start) → WordSays word Nothing → WordsLead (word ∷ []) old old
 leads_nowhere word old s = (
   Nothing ∷ [],
   (s, tt),
@@ -135,7 +135,7 @@ begins_not word text none =
     ]
 
 -- a word that begins neither as `Pos=` nor as `Gen=` says nothing
-pub says_nothing : (word : List ℕ) → ((r : List ℕ) → word ≡ codes "Pos=" ++ r → ⊥) → ((r : List ℕ) → word ≡ codes "Gen=" ++ r → ⊥) → Says word Nothing
+pub says_nothing : (word : List ℕ) → ((r : List ℕ) → word ≡ codes "Pos=" ++ r → ⊥) → ((r : List ℕ) → word ≡ codes "Gen=" ++ r → ⊥) → WordSays word Nothing
 says_nothing word p g = (begins_not word (codes "Pos=") p, begins_not word (codes "Gen=") g)
 
 -- after `Pos=` stand no two numbers
@@ -148,17 +148,17 @@ bad_place word numbers e none =
 
 -- ---- words of a line
 
-pub all_zip_append : (ws vs : List (List ℕ)) (a b : List CxrleWord) → AllZip Says ws a → AllZip Says vs b → AllZip Says (ws ++ vs) (a ++ b)
+pub all_zip_append : (ws vs : List (List ℕ)) (a b : List CxrleWord) → AllZip WordSays ws a → AllZip WordSays vs b → AllZip WordSays (ws ++ vs) (a ++ b)
 all_zip_append [] vs [] b p q = q
 all_zip_append (w ∷ ws) vs (s ∷ a) b (p, ps) q = (p, all_zip_append ws vs a b ps q)
 all_zip_append [] vs (s ∷ a) b p q = absurd p
 all_zip_append (w ∷ ws) vs [] b p q = absurd p
 
 -- no words lead nowhere
-pub leads_none : (start : Start) → Leads [] start start
-leads_none start = ([], tt, λ said h. subst (λ (l : List CxrleWord). IsStart l start) (sym (append-nil said)) h)
+pub leads_none : (start : Start) → WordsLead [] start start
+leads_none start = ([], tt, λ said h. subst (λ (l : List CxrleWord). IsFrontStart l start) (sym (append-nil said)) h)
 
 -- words after words
-pub leads_more : (ws vs : List (List ℕ)) (a b c : Start) → Leads ws a b → Leads vs b c → Leads (ws ++ vs) a c
+pub leads_more : (ws vs : List (List ℕ)) (a b c : Start) → WordsLead ws a b → WordsLead vs b c → WordsLead (ws ++ vs) a c
 leads_more ws vs a b c (m, z, f) (n, y, g) =
-    (m ++ n, all_zip_append ws vs m n z y, λ said h. subst (λ (l : List CxrleWord). IsStart l c) (append_assoc said m n) (g (said ++ m) (f said h)))
+    (m ++ n, all_zip_append ws vs m n z y, λ said h. subst (λ (l : List CxrleWord). IsFrontStart l c) (append_assoc said m n) (g (said ++ m) (f said h)))

@@ -8,7 +8,7 @@ use Rattle.ca_rle.specs.declared.item.Tag.{Tag}
 use Rattle.ca_rle.specs.declared.item.Tag.TheVariants.{Cell, RowEnd}
 use Rattle.ca_rle.specs.Items.{is_letter, is_prefix, prefixed_state, tag_of, IsWhite, IsCount, IsItem, Items}
 use Rattle.ca_rle.specs.Shown.{tag_state}
-use Rattle.ca_rle.specs.File.{ended}
+use Rattle.ca_rle.specs.File.{line_with_lf}
 use Rattle.ca_rle.specs.Tidy.{letters_of, tag_text, count_text, item_text, HaveStates}
 use Rattle.ca_rle.proofs.White.{IsWhite-append}
 use Rattle.ca_plane.proofs.Decimals.{Writes, decimal_writes}
@@ -101,7 +101,7 @@ one_more states i is white more w h (rest, run, end) =
 
 -- the lines, each with its LF
 abbrev pub text_of : List (List (List ℕ)) → List ℕ
-text_of lines = flat_map (λ line. ended (concat line)) lines
+text_of lines = flat_map (λ line. line_with_lf (concat line)) lines
 
 -- the items and then `!`, as they are written
 abbrev pub tokens : ℕ → List Item → List (List ℕ)

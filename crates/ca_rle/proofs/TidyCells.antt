@@ -14,7 +14,7 @@ use Rattle.ca_rle.specs.declared.item.Tag.{Tag}
 use Rattle.ca_rle.specs.declared.item.Tag.TheVariants.{Cell, RowEnd}
 use Rattle.ca_rle.specs.Shown.{ends_row, tag_state, row_count, columns_of, run_of, place_after, item_cells, picture_after}
 use Rattle.ca_rle.specs.Tidy.{AreTidy}
-use Rattle.ca_rle.proofs.Pushed.{row_count-push, columns_of-push}
+use Rattle.ca_rle.proofs.PushedItems.{row_count-push, columns_of-push}
 
 -- ---- a run of cells before a picture
 

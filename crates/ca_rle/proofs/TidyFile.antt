@@ -5,8 +5,8 @@ use Rattle.ca_plane.specs.Bytes.{IsWord}
 use Rattle.ca_plane.specs.Plane.{Picture, cell, IsSame}
 use Rattle.ca_plane.specs.Sparse.{IsInPlane}
 use Rattle.ca_rle.specs.declared.item.Item.{Item}
-use Rattle.ca_rle.specs.Header.{extended_words, Says}
-use Rattle.ca_rle.specs.File.{RleFile, ended, IsRleFile}
+use Rattle.ca_rle.specs.Header.{extended_words, WordSays}
+use Rattle.ca_rle.specs.File.{RleFile, line_with_lf, IsRleFile}
 use Rattle.ca_rle.specs.Shown.{picture_of_items}
 use Rattle.ca_rle.specs.Tidy.{corner_line, header_line, IsTidyRle}
 use Rattle.ca_rle.proofs.OneFile.{one_file}
@@ -22,7 +22,7 @@ fewer : (far : ℕ) (is : List Item) → far < 2 ^ 63 → AllByRecursion (λ i. 
 fewer far [] small all = tt
 fewer far (i ∷ is) small (c, cs) = ((c.0, omega (arith, c.1)), fewer far is small cs)
 
-in_parts : (a b c : List ℕ) → ended a ++ (ended b ++ c) ≡ (ended a ++ []) ++ (b ++ 10 ∷ c)
+in_parts : (a b c : List ℕ) → line_with_lf a ++ (line_with_lf b ++ c) ≡ (line_with_lf a ++ []) ++ (b ++ 10 ∷ c)
 in_parts a b c = simp (append_assoc, append-nil)
 
 -- where each live cell is near the origin, so that each number has its decimal form
@@ -45,7 +45,7 @@ tidy_is_file far text cells rule_text generation states t small near word low =
           preamble = record {
             each_is_line = (says.is_line, tt);
             comments = (says.comment, tt);
-            words = subst (λ l. AllZip Says l says.said) (sym (append-nil (extended_words (corner_line t.corner generation)))) says.words;
+            words = subst (λ l. AllZip WordSays l says.said) (sym (append-nil (extended_words (corner_line t.corner generation)))) says.words;
           };
           line_is = header_line_is_line t.width t.height rule_text wide high word;
           line_ends = refl;

@@ -7,10 +7,10 @@ use Rattle.std.proofs.lemmas.Bool.Decides.{nat_tests}
 use Rattle.ca_plane.specs.declared.point.Point.{Point}
 use Rattle.ca_plane.specs.Bytes.{is_blank, is_line_end, is_digit, is_word_byte, is_end_or, Every, words_of, IsWord, AreDigits, IsInteger}
 use Rattle.ca_plane.proofs.Lines.{words_ahead, words_next}
-use Rattle.ca_rle.specs.Header.{IsSpaced, size_parts, rule_parts, IsHeader, is_front_line, words_after_cxrle, extended_words, CxrleWord, Corner, Generation, Says}
+use Rattle.ca_rle.specs.Header.{IsSpaced, size_parts, rule_parts, IsHeader, is_front_line, words_after_cxrle, extended_words, CxrleWord, Corner, Generation, WordSays}
 use Rattle.ca_rle.specs.File.{IsLine, corner_of, generation_of}
 use Rattle.ca_rle.specs.Tidy.{generation_text, corner_line, header_line}
-use Rattle.ca_plane.proofs.Fronts.{every_append, every_wider, every_digit}
+use Rattle.ca_plane.proofs.Fronts.{every_append, every_wider, every_digit, digits_in_word}
 use Rattle.ca_rle.proofs.Headers.{spaced, digits_are_line, word_is_line}
 use Rattle.ca_plane.proofs.Decimals.{decimal_writes, IsNear, signed_writes}
 
@@ -18,9 +18,6 @@ use Rattle.ca_plane.proofs.Decimals.{decimal_writes, IsNear, signed_writes}
 
 line_from_word : (bytes : List ℕ) → Every is_word_byte bytes → IsLine bytes
 line_from_word bytes h = every_wider is_word_byte (λ b. not (is_line_end b)) (λ b t. (and_parts (not (is_blank b)) (not (is_line_end b)) t).1) bytes h
-
-digits_in_word : (digits : List ℕ) → AreDigits digits → Every is_word_byte digits
-digits_in_word digits h = every_wider is_digit is_word_byte (λ b t. grind (arith, nat_tests)) digits (every_digit digits h)
 
 integer_in_word : (bytes : List ℕ) (n : ℤ) → IsInteger bytes n → Every is_word_byte bytes
 integer_in_word bytes n (inl (d, e)) = digits_in_word bytes d
@@ -39,7 +36,7 @@ pos_is_word a b p q = every_append is_word_byte a (44 ∷ b) p q
 record SaysCount (bytes : List ℕ) (count : ℕ) : Type 0 where
   said : List CxrleWord
   blank_first : is_end_or is_blank bytes ≡ true
-  words : AllZip Says (words_of bytes) said
+  words : AllZip WordSays (words_of bytes) said
   line : IsLine bytes
   no_corner : (p : Point) → corner_of (Corner p.x p.y ∷ said) ≡ p
   generation : (x y : ℤ) → generation_of (Corner x y ∷ said) ≡ count
@@ -63,7 +60,7 @@ says_count count small =
     record {
       said = Generation count ∷ [];
       blank_first = refl;
-      words = subst (λ l. AllZip Says l (Generation count ∷ [])) (sym (gen_words (decimal count) w.0)) ((decimal count, refl, w.0, w.1, small), tt);
+      words = subst (λ l. AllZip WordSays l (Generation count ∷ [])) (sym (gen_words (decimal count) w.0)) ((decimal count, refl, w.0, w.1, small), tt);
       line = line_from_word (decimal count) (digits_in_word (decimal count) w.0);
       no_corner = λ p. refl;
       generation = λ x y. refl;
@@ -81,7 +78,7 @@ pub record SaysBoth (line : List ℕ) (corner : Point) (generation : ℕ) : Type
   pub said : List CxrleWord
   pub is_line : IsLine line
   pub comment : is_front_line line ≡ true
-  pub words : AllZip Says (extended_words line) said
+  pub words : AllZip WordSays (extended_words line) said
   pub corner_is : corner_of said ≡ corner
   pub generation_is : generation_of said ≡ generation
 
@@ -99,7 +96,7 @@ says_both a b more corner generation p q s =
       said = Corner corner.x corner.y ∷ s.said;
       is_line = every_append _ a (codes "," ++ (b ++ more)) (line_from_word a u) (every_append _ b more (line_from_word b v) s.line);
       comment = refl;
-      words = subst (λ l. AllZip Says l (Corner corner.x corner.y ∷ s.said)) (sym all) ((a, b, refl, p, q), s.words);
+      words = subst (λ l. AllZip WordSays l (Corner corner.x corner.y ∷ s.said)) (sym all) ((a, b, refl, p, q), s.words);
       corner_is = s.no_corner corner;
       generation_is = s.generation corner.x corner.y;
     }

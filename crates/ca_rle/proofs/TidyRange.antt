@@ -13,11 +13,11 @@ use Rattle.ca_rle.specs.Limits.{IsRleWithinRange, IsWithinLimits}
 use Rattle.ca_plane.specs.Limits.{IsInRange}
 use Rattle.ca_rle.specs.Shown.{picture_of_items}
 use Rattle.ca_rle.specs.Tidy.{IsFrame, IsTidyRle}
-use Rattle.ca_rle.proofs.Spans.{all_append}
 use Rattle.ca_rle.proofs.OneFile.{one_file}
 use Rattle.ca_rle.proofs.TidyCells.{live_after, cells_at, next, drawn, picture_drawn}
 use Rattle.ca_rle.proofs.TidyReach.{AreNear, IsFrameNear, frame_near, live_states, tidy_counts_near}
 use Rattle.ca_rle.proofs.TidyFile.{tidy_file, tidy_is_file}
+use Rattle.ca_plane.proofs.Elements.{all_append}
 
 -- each live cell is in range
 abbrev pub AreInRange : Picture → Type 0

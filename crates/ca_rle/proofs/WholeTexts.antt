@@ -6,11 +6,11 @@ use Rattle.ca_plane.specs.declared.point.Point.{Point}
 use Rattle.ca_plane.specs.Plane.{Picture, cell}
 use Rattle.ca_plane.specs.Puts.{Puts}
 use Rattle.ca_rle.specs.declared.item.Item.{Item}
-use Rattle.ca_rle.specs.File.{ended}
+use Rattle.ca_rle.specs.File.{line_with_lf}
 use Rattle.ca_rle.specs.Shown.{picture_of_items}
 use Rattle.ca_rle.specs.Tidy.{AreTidy, HaveStates, IsFrame, corner_line, header_line, item_text, IsTidyRle}
 use Rattle.ca_rle.specs.inner.Written.{IsPlaced, PutsLines}
-use Rattle.ca_rle.proofs.Laid.{IsLaid, laid_more, laid_end}
+use Rattle.ca_rle.proofs.LineLayouts.{IsLaid, laid_more, laid_end}
 
 -- the texts of the first items, with one more
 pub texts_more : (states : ℕ) (items : List Item) (i : ℕ) (d : Item) → i < length items → map (item_text states) (take (i + 1) items) ≡ map (item_text states) (take i items) ++ item_text states (get_or items i d) ∷ []
@@ -25,7 +25,7 @@ lines_end start text mid new filled now states i items laid all placed end =
 
 -- the two lines and those of the items are the tidy text
 abbrev pub tidy_text : (none first second text rule_text : List ℕ) (cells : Picture) (generation states : ℕ) (corner : Point) (width height : ℕ) (items given : List Item)
-    → none ≡ [] → Puts none first (ended (corner_line corner generation)) → Puts first second (ended (header_line width height rule_text))
+    → none ≡ [] → Puts none first (line_with_lf (corner_line corner generation)) → Puts first second (line_with_lf (header_line width height rule_text))
     → given ≡ items → PutsLines second text (map (item_text states) given ++ codes "!" ∷ [])
     → IsFrame cells corner width height → picture_of_items corner items ≡ cells → AreTidy items → HaveStates states items
     → IsTidyRle text cells rule_text generation states
@@ -42,8 +42,8 @@ tidy_text none first second text rule_text cells generation states corner width 
   whole = lines.whole ∙ ap (λ (l : List Item). map (item_text states) l ++ codes "!" ∷ []) same;
   lines_are = lines.lines_are;
   spelled =
-      let ends = flat_map (λ line. ended (concat line)) lines.lines in
-      let head = ended (corner_line corner generation) in
-      let header = ended (header_line width height rule_text) in
+      let ends = flat_map (λ line. line_with_lf (concat line)) lines.lines in
+      let head = line_with_lf (corner_line corner generation) in
+      let header = line_with_lf (header_line width height rule_text) in
       lines.spelled ∙ ap (λ l. l ++ ends) (two.whole ∙ ap (λ l. l ++ header) (one.whole ∙ ap (λ l. l ++ head) empty)) ∙ append_assoc head header ends;
 }

@@ -7,7 +7,7 @@ use Rattle.std.proofs.lemmas.Slice.Eq.{bytes_eq-Decides}
 use Rattle.ca_plane.specs.Bytes.{is_digit, is_end_or, front, rest, AreDigits, IsInteger, value}
 use Rattle.ca_rle.specs.declared.fault.RleFault.{RleFault}
 use Rattle.ca_rle.specs.declared.fault.RleFault.TheVariants.{Syntax, GenTooLarge}
-use Rattle.ca_rle.specs.Header.{CxrleWord, Corner, Generation, Nothing, Says}
+use Rattle.ca_rle.specs.Header.{CxrleWord, Corner, Generation, Nothing, WordSays}
 use Rattle.ca_rle.specs.Faults.{IsBadWord, HasBadWordAmong}
 use Rattle.ca_rle.proofs.OneHeader.{no_comma, integer_has_no_comma}
 use Rattle.ca_plane.proofs.Fronts.{front_append, rest_append, front_then_rest}
@@ -86,7 +86,7 @@ split_or_not bytes (c ∷ cs) e =
 
 -- what a word says, or its fault
 abbrev pub SaysOrBad : List ℕ → Type 0
-SaysOrBad word = ((s : CxrleWord) × Says word s) ⊎ ((f : RleFault) × IsBadWord word f)
+SaysOrBad word = ((s : CxrleWord) × WordSays word s) ⊎ ((f : RleFault) × IsBadWord word f)
 
 after_text : (word text : List ℕ) → starts_with nat_eq word text ≡ true → word ≡ text ++ drop (length text) word
 after_text word text h = sym (take-append-drop (length text) word) ∙ ap (λ (l : List ℕ). l ++ drop (length text) word) (sym ((bytes_eq-Decides text (take (length text) word)).0 h))
@@ -121,9 +121,9 @@ says_or_bad word =
 
 -- what words say, or the fault of the first bad one
 abbrev pub AllSayOrBad : List (List ℕ) → Type 0
-AllSayOrBad words = ((said : List CxrleWord) × AllZip Says words said) ⊎ ((f : RleFault) × HasBadWordAmong words f)
+AllSayOrBad words = ((said : List CxrleWord) × AllZip WordSays words said) ⊎ ((f : RleFault) × HasBadWordAmong words f)
 
-with_word : (w : List ℕ) (ws : List (List ℕ)) (s : CxrleWord) → Says w s → AllSayOrBad ws → AllSayOrBad (w ∷ ws)
+with_word : (w : List ℕ) (ws : List (List ℕ)) (s : CxrleWord) → WordSays w s → AllSayOrBad ws → AllSayOrBad (w ∷ ws)
 with_word w ws s h (inl (ss, hs)) = inl (s ∷ ss, (h, hs))
 with_word w ws s h (inr (f, b)) = inr (f, record { good = w ∷ b.good; good_said = s ∷ b.good_said; word = b.word; later = b.later; good_words = (h, b.good_words); bad = b.bad; words_are = ap (λ (l : List (List ℕ)). w ∷ l) b.words_are })
 

@@ -8,7 +8,7 @@ use Rattle.ca_rle.specs.declared.fault.RleFault.{RleFault}
 use Rattle.ca_rle.specs.declared.fault.RleFault.TheVariants.{Syntax, Header, XlifeRule, NoEnd, BadState, GenTooLarge, Range, TooManyCells, Memory}
 use Rattle.ca_rle.specs.declared.item.Item.{Item}
 use Rattle.ca_rle.specs.Items.{is_letter, is_prefix, prefixed_state, tag_of, Place, AtStart, InLine, InComment, Run}
-use Rattle.ca_rle.specs.Header.{IsHeader, is_front_line, extended_words, CxrleWord, Corner, Says, IsXlifeLine}
+use Rattle.ca_rle.specs.Header.{IsHeader, is_front_line, extended_words, CxrleWord, Corner, WordSays, IsXlifeLine}
 use Rattle.ca_plane.specs.Limits.{generation_limit}
 use Rattle.ca_rle.specs.File.{RleFile, FollowsPreamble, IsHeaded, IsRleFile}
 use Rattle.ca_rle.specs.Limits.{IsRleOutOfRange, HasTooManyRleCells}
@@ -16,7 +16,7 @@ use Rattle.ca_rle.specs.Limits.{IsRleOutOfRange, HasTooManyRleCells}
 -- a word of a `#CXRLE` line that begins as `Pos=` or `Gen=` and isn't of that form, or whose generation is too large
 abbrev pub IsBadWord : List ℕ → RleFault → Type 0
 IsBadWord word Syntax =
-    ((starts_with nat_eq word (codes "Pos=") ≡ true) × ((x y : ℤ) → Says word (Corner x y) → ⊥))
+    ((starts_with nat_eq word (codes "Pos=") ≡ true) × ((x y : ℤ) → WordSays word (Corner x y) → ⊥))
     ⊎ ((starts_with nat_eq word (codes "Gen=") ≡ true) × ((digits : List ℕ) → word ≡ codes "Gen=" ++ digits → AreDigits digits → ⊥))
 IsBadWord word GenTooLarge = (digits : List ℕ) × (word ≡ codes "Gen=" ++ digits) × AreDigits digits × (generation_limit ≤ value digits)
 IsBadWord word fault = ⊥
@@ -28,7 +28,7 @@ pub record HasBadWordAmong (words : List (List ℕ)) (fault : RleFault) : Type 0
   pub word : List ℕ
   pub later : List (List ℕ)
   pub words_are : words ≡ good ++ word ∷ later
-  pub good_words : AllZip Says good good_said
+  pub good_words : AllZip WordSays good good_said
   pub bad : IsBadWord word fault
 
 -- a line with a bad word stands after good lines
@@ -50,7 +50,7 @@ pub record HasNoHeader (bytes : List ℕ) : Type 0 where
   pub follows : FollowsPreamble bytes lines said line more
   pub no_header : (rule : Option (List ℕ)) → IsHeader line rule → ⊥
   -- the line is no comment, or it is one with good words and the last of the text
-  pub no_comment_or_last : (is_front_line line ≡ false) ⊎ ((more ≡ []) × ((last : List CxrleWord) × AllZip Says (extended_words line) last))
+  pub no_comment_or_last : (is_front_line line ≡ false) ⊎ ((more ≡ []) × ((last : List CxrleWord) × AllZip WordSays (extended_words line) last))
 
 -- a header without a rule stands after good lines, one of which gives XLife's rule
 pub record HasXlifeRule (bytes : List ℕ) : Type 0 where

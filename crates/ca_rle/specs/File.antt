@@ -6,7 +6,7 @@ use Rattle.ca_plane.specs.Limits.{default_rule}
 use Rattle.ca_plane.specs.Bytes.{is_line_end, is_end_or, Every}
 use Rattle.ca_rle.specs.declared.item.Item.{Item}
 use Rattle.ca_rle.specs.Items.{Items}
-use Rattle.ca_rle.specs.Header.{IsHeader, is_front_line, extended_words, CxrleWord, Corner, Generation, Nothing, Says, IsXlifeLine}
+use Rattle.ca_rle.specs.Header.{IsHeader, is_front_line, extended_words, CxrleWord, Corner, Generation, Nothing, WordSays, IsXlifeLine}
 
 -- what an RLE text holds: the corner, the generation, the rule text and the items
 pub record RleFile : Type 0 where
@@ -20,21 +20,22 @@ abbrev pub IsLine : List ℕ → Type 0
 IsLine line = Every (λ b. not (is_line_end b)) line
 
 -- a line with the LF that ends it
-abbrev pub ended : List ℕ → List ℕ
-ended line = line ++ 10 ∷ []
+abbrev pub line_with_lf : List ℕ → List ℕ
+line_with_lf line = line ++ 10 ∷ []
 
 -- lines that may stand before the header, and what the words of their `#CXRLE` lines say
 pub record IsPreamble (lines : List (List ℕ)) (said : List CxrleWord) : Type 0 where
   pub each_is_line : AllByRecursion IsLine lines
   pub comments : AllByRecursion (λ l. IsTrue (is_front_line l)) lines
-  pub words : AllZip Says (flat_map extended_words lines) said
+  pub words : AllZip WordSays (flat_map extended_words lines) said
 
 -- lines that may stand before a header, then this line, and then these bytes: none, or its LF and what stands after it
-pub record FollowsPreamble (bytes : List ℕ) (lines : List (List ℕ)) (said : List CxrleWord) (line more : List ℕ) : Type 0 where
+pub record FollowsPreamble (bytes : List ℕ) (lines : List (List ℕ)) (said : List CxrleWord)
+    (line more : List ℕ) : Type 0 where
   pub preamble : IsPreamble lines said
   pub line_is : IsLine line
   pub line_ends : IsTrue (is_end_or is_line_end more)
-  pub spelled : bytes ≡ flat_map ended lines ++ (line ++ more)
+  pub spelled : bytes ≡ flat_map line_with_lf lines ++ (line ++ more)
 
 -- the corner is that of the last `Pos`, and (0, 0) without one
 abbrev pub last_corner : Point → List CxrleWord → Point
@@ -59,7 +60,8 @@ abbrev pub generation_of : List CxrleWord → ℕ
 generation_of said = last_word_generation 0 said
 
 -- lines that may stand before a header, a header after them, and what stands after it: nothing, or its LF and the items
-pub record IsHeaded (bytes : List ℕ) (said : List CxrleWord) (rule : Option (List ℕ)) (body : List ℕ) : Type 0 where
+pub record IsHeaded (bytes : List ℕ) (said : List CxrleWord) (rule : Option (List ℕ))
+    (body : List ℕ) : Type 0 where
   pub lines : List (List ℕ)
   pub header : List ℕ
   pub follows : FollowsPreamble bytes lines said header body

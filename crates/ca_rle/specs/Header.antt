@@ -59,10 +59,10 @@ pub data CxrleWord : Type 0 where
   Nothing : CxrleWord
 
 -- `Pos=X,Y` is the corner, `Gen=G` the generation, below its limit; other words say nothing
-abbrev pub Says : List ℕ → CxrleWord → Type 0
-Says word (Corner x y) = (a : List ℕ) × (b : List ℕ) × (word ≡ codes "Pos=" ++ (a ++ letter "," ∷ b)) × IsInteger a x × IsInteger b y
-Says word (Generation count) = (digits : List ℕ) × (word ≡ codes "Gen=" ++ digits) × AreDigits digits × (count ≡ value digits) × (count < generation_limit)
-Says word Nothing = (starts_with nat_eq word (codes "Pos=") ≡ false) × (starts_with nat_eq word (codes "Gen=") ≡ false)
+abbrev pub WordSays : List ℕ → CxrleWord → Type 0
+WordSays word (Corner x y) = (a : List ℕ) × (b : List ℕ) × (word ≡ codes "Pos=" ++ (a ++ letter "," ∷ b)) × IsInteger a x × IsInteger b y
+WordSays word (Generation count) = (digits : List ℕ) × (word ≡ codes "Gen=" ++ digits) × AreDigits digits × (count ≡ value digits) × (count < generation_limit)
+WordSays word Nothing = (starts_with nat_eq word (codes "Pos=") ≡ false) × (starts_with nat_eq word (codes "Gen=") ≡ false)
 
 -- `#r` and a blank begin XLife's rule line; a CR that only ends the line is no blank
 abbrev pub IsXlifeLine : List ℕ → Type 0

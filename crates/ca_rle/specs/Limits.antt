@@ -1,17 +1,13 @@
 -- The limits of an RLE text (our own): what is out of range, and how many live cells are too many.
 use Rattle.std.specs.Prelude.{ℕ, ◌<◌, ◌≤◌, ◌^◌, length}
 use Rattle.std.specs.List.{AllByRecursion}
-use Rattle.ca_plane.specs.Limits.{most_cells, IsInRange}
+use Rattle.ca_plane.specs.Limits.{longest_count, most_cells, IsInRange}
 use Rattle.ca_rle.specs.File.{RleFile}
 use Rattle.ca_rle.specs.Shown.{picture_of_items}
 
--- the greatest count of an item
-abbrev pub most_count : ℕ
-most_count = 2 ^ 62
-
 -- each count is small enough, and the corner and each cell are in range
 pub record IsRleWithinRange (file : RleFile) : Type 0 where
-  pub counts : AllByRecursion (λ i. i.count ≤ most_count) file.items
+  pub counts : AllByRecursion (λ i. i.count ≤ longest_count) file.items
   pub corner : IsInRange file.corner
   pub cells : AllByRecursion (λ e. IsInRange e.0) (picture_of_items file.corner file.items)
 

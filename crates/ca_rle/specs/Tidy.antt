@@ -11,7 +11,7 @@ use Rattle.ca_rle.specs.declared.item.Item.{Item}
 use Rattle.ca_rle.specs.declared.item.Tag.{Tag}
 use Rattle.ca_rle.specs.declared.item.Tag.TheVariants.{Cell, RowEnd}
 use Rattle.ca_rle.specs.Shown.{tag_state, picture_of_items}
-use Rattle.ca_rle.specs.File.{ended}
+use Rattle.ca_rle.specs.File.{line_with_lf}
 
 -- the letters of a state, where there may be more than two: `.` for 0, `A` to `X` for 1 to 24, and then 24 for each prefix from `p` on
 abbrev pub letters_of : ℕ → List ℕ
@@ -78,7 +78,8 @@ abbrev pub header_line : ℕ → ℕ → List ℕ → List ℕ
 header_line width height rule_text = codes "x = " ++ (decimal width ++ (codes ", y = " ++ (decimal height ++ (codes ", rule = " ++ rule_text))))
 
 -- the one text of a plane, its rule text, its generation and its rule's number of states
-pub record IsTidyRle (text : List ℕ) (cells : Picture) (rule_text : List ℕ) (generation states : ℕ) : Type 0 where
+pub record IsTidyRle (text : List ℕ) (cells : Picture) (rule_text : List ℕ)
+    (generation states : ℕ) : Type 0 where
   pub corner : Point
   pub width : ℕ
   pub height : ℕ
@@ -91,4 +92,4 @@ pub record IsTidyRle (text : List ℕ) (cells : Picture) (rule_text : List ℕ) 
   -- the lines hold the items, one after another, and then `!`
   pub whole : flat_map (λ line. line) lines ≡ map (item_text states) items ++ codes "!" ∷ []
   pub lines_are : AreLines lines
-  pub spelled : text ≡ ended (corner_line corner generation) ++ (ended (header_line width height rule_text) ++ flat_map (λ line. ended (concat line)) lines)
+  pub spelled : text ≡ line_with_lf (corner_line corner generation) ++ (line_with_lf (header_line width height rule_text) ++ flat_map (λ line. line_with_lf (concat line)) lines)

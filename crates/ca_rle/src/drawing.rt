@@ -13,7 +13,7 @@ ghost use Rattle.ca_rle.specs.Shown.{tag_state, greatest_state, run_of, picture_
 ghost use Rattle.ca_rle.specs.Limits.{IsRleWithinRange};
 ghost use Rattle.ca_plane.specs.Limits.{IsInRange};
 ghost use Rattle.ca_rle.specs.inner.BodyFaults.{IsItemAtFront, bare_file};
-ghost use Rattle.ca_rle.specs.inner.Extent.{point_from, HasRoomRight, cells_from, over};
+ghost use Rattle.ca_rle.specs.inner.Extent.{point_from, HasRoomRight, cells_from, drawn_over};
 
 use crate::extent::Offset;
 use crate::item::Item;
@@ -41,7 +41,7 @@ pub(crate) trait Canvas: Drop {
         requires least { 1 ≤ state }
         requires most { state ≤ most }
         ensures cells { OnOk result ((x y : ℤ) → shown self.new x y
-            ≡ over (run_of state at count) (shown self.old) x y) }
+            ≡ drawn_over (run_of state at count) (shown self.old) x y) }
         ensures kept { OnOk result (is_kept self.old → is_kept self.new) };
 }
 
@@ -92,7 +92,7 @@ fn draw_item<C: Canvas>(canvas: &mut C, corner: Point, at: Offset, item: Item) -
     requires room { tag_state item.tag ≢ 0 → HasRoomRight (point_from corner at) item.count }
     requires most { tag_state item.tag ≤ C.most }
     ensures cells { OnOk result ((x y : ℤ) → C.shown canvas.new x y
-        ≡ over (cells_from (point_from corner at) item) (C.shown canvas.old) x y) }
+        ≡ drawn_over (cells_from (point_from corner at) item) (C.shown canvas.old) x y) }
     ensures kept { OnOk result (C.is_kept canvas.old → C.is_kept canvas.new) }
 {
     let state = item.tag.state();

@@ -10,20 +10,13 @@ ghost use Rattle.ca_rle.specs.Shown.{ends_row, tag_state};
 ghost use Rattle.ca_plane.specs.Limits.{IsInRange, range};
 ghost use Rattle.ca_rle.specs.inner.BodyFaults.{IsItemAtFront, HasBadUnitAt};
 ghost use Rattle.ca_plane.specs.Bytes.{nearest_u64};
-ghost use Rattle.ca_rle.specs.inner.Extent.{live_count_of_item};
+ghost use Rattle.ca_rle.specs.inner.Extent.{live_count_of_item, point_from};
 ghost use Rattle.ca_rle.specs.inner.Extent.{IsOffsetOf, IsItemsExtent, IsExtentInRange};
-ghost use Rattle.ca_rle.specs.inner.Extent.{point_from};
 
-use crate::faulty::Faulty;
+use crate::faulty::FaultPlace;
 use crate::item::{Item, Tag};
 use crate::unit::{after_white, next_item};
-use ca_plane::Point;
-
-/// The greatest count of an item that is in range.
-const LONGEST: u64 = ca_plane::limits::LONGEST_COUNT;
-
-/// Coordinates that are in range are from -2^60 on, and below 2^60.
-const RANGE_EDGE: i128 = ca_plane::limits::RANGE;
+use ca_plane::{Point, limits};
 
 /// Where an item begins: so many rows below the corner, and so many columns right of it. At 2^64 - 1 each of
 /// them stays.
@@ -102,7 +95,7 @@ impl Extent {
     }
 
     /// The extent with one more item, which begins at an offset.
-    fn grown(self, at: Offset, item: Item) -> Extent
+    fn with_item(self, at: Offset, item: Item) -> Extent
         ensures longest { result.longest ≡ max self.longest item.count }
         ensures right { result.reach.columns ≡ max self.reach.columns (if tag_state item.tag == 0 then 0
             else nearest_u64 (at.columns + item.count)) }
@@ -132,7 +125,7 @@ impl Extent {
     pub(crate) fn is_in_range(self, corner: Point) -> bool
         ensures { IsTrue result ↔ IsExtentInRange self corner }
     {
-        self.longest <= LONGEST
+        self.longest <= limits::LONGEST_COUNT
             && has_room(corner.x, self.reach.columns)
             && has_room(corner.y, self.reach.rows)
     }
@@ -145,7 +138,7 @@ fn has_room(coordinate: i64, length: u64) -> bool
 {
     let start = i128::from(coordinate);
     let end = start + i128::from(length);
-    -RANGE_EDGE <= start && start < RANGE_EDGE && end <= RANGE_EDGE
+    -limits::RANGE <= start && start < limits::RANGE && end <= limits::RANGE
 }
 
 /// The item at the front and the bytes after it, or nothing where the pattern ends there.
@@ -153,14 +146,14 @@ fn has_room(coordinate: i64, length: u64) -> bool
 /// # Errors
 ///
 /// The fault of that item, with the bytes after the white space before it.
-fn item_at(bytes: &[u8]) -> Result<Option<(Item, &[u8])>, Faulty<'_>>
+fn item_at(bytes: &[u8]) -> Result<Option<(Item, &[u8])>, FaultPlace<'_>>
     ensures { MatchResult result (λ o. MatchOption o (IsEnd bytes.now)
         (λ r. IsItemAtFront bytes.now r.0 r.1.now))
         (λ f. (item_fault bytes.now ≡ Some f.fault) × (f.rest.now ≡ after_white InLine bytes.now)) }
 {
     match next_item(bytes) {
         Ok(found) => Ok(found),
-        Err(fault) => Err(Faulty {
+        Err(fault) => Err(FaultPlace {
             fault,
             rest: after_white(bytes),
         }),
@@ -172,7 +165,7 @@ fn item_at(bytes: &[u8]) -> Result<Option<(Item, &[u8])>, Faulty<'_>>
 /// # Errors
 ///
 /// The fault of the first item that has one.
-pub(crate) fn measure(body: &[u8]) -> Result<Extent, Faulty<'_>>
+pub(crate) fn measure(body: &[u8]) -> Result<Extent, FaultPlace<'_>>
     ensures found { IfOk result (λ e. (items : List Item) × Items body.now items × IsItemsExtent items e) }
     ensures fault { IfErr result (λ f. (bad : List ℕ) × HasBadUnitAt body.now f.fault bad
         × (f.rest.now ≡ after_white InLine bad)) }
@@ -181,7 +174,7 @@ pub(crate) fn measure(body: &[u8]) -> Result<Extent, Faulty<'_>>
     let mut at = Offset::start();
     let mut rest = body;
     'items: while let Some((item, more)) = item_at(rest)? {
-        extent = extent.grown(at, item);
+        extent = extent.with_item(at, item);
         at = at.after_item(item);
         rest = more;
     }

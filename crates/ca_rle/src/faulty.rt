@@ -8,13 +8,13 @@ use crate::fault::{LineFault, RleFault};
 
 /// A fault, and the bytes that were left to read.
 #[derive(Clone, Copy)]
-pub(crate) struct Faulty<'a> {
+pub(crate) struct FaultPlace<'a> {
     pub(crate) fault: RleFault,
     /// From the faulty line or item on.
     pub(crate) rest: &'a [u8],
 }
 
-impl Faulty<'_> {
+impl FaultPlace<'_> {
     /// The fault of this text, with the line on which it stands.
     pub(crate) fn in_text(self, text: &[u8]) -> LineFault
         requires { IsFirstFaultAt text.now self.fault self.rest.now }

@@ -8,14 +8,14 @@ ghost use Rattle.std.specs.Prelude.{◌≡◌, ℕ, List, ◌++◌, true, false,
 ghost use Rattle.std.specs.List.{flat_map};
 ghost use Rattle.ca_plane.specs.Bytes.{Every, is_line_end, is_end_or};
 ghost use Rattle.ca_rle.specs.Header.{CxrleWord, is_front_line};
-ghost use Rattle.ca_rle.specs.File.{ended};
+ghost use Rattle.ca_rle.specs.File.{line_with_lf};
 ghost use Rattle.ca_rle.specs.FaultyLine.{IsFirstFaultAt};
 ghost use Rattle.ca_rle.specs.inner.FrontParts.{IsPreambleOf, IsFront};
 
 use self::header::read_header;
 use self::lines::{Preamble, is_comment};
 use crate::fault::RleFault;
-use crate::faulty::Faulty;
+use crate::faulty::FaultPlace;
 use ca_plane::Point;
 use ca_plane::bytes::split_line;
 
@@ -38,10 +38,10 @@ fn front_at<'a>(preamble: Preamble, line: &'a [u8], body: &'a [u8]) -> Result<Fr
     requires ends { is_end_or is_line_end body.now ≡ true }
     ensures found { IfOk result (λ f. (lines : List (List ℕ)) (said : List CxrleWord)
         → IsPreambleOf lines said preamble
-        → IsFront (flat_map ended lines ++ (line.now ++ body.now)) f) }
+        → IsFront (flat_map line_with_lf lines ++ (line.now ++ body.now)) f) }
     ensures fault { IfErr result (λ f. (lines : List (List ℕ)) (said : List CxrleWord)
         → IsPreambleOf lines said preamble
-        → IsFirstFaultAt (flat_map ended lines ++ (line.now ++ body.now)) f (line.now ++ body.now)) }
+        → IsFirstFaultAt (flat_map line_with_lf lines ++ (line.now ++ body.now)) f (line.now ++ body.now)) }
 {
     let Some(header) = read_header(line) else {
         return Err(RleFault::Header);
@@ -62,7 +62,7 @@ fn front_at<'a>(preamble: Preamble, line: &'a [u8], body: &'a [u8]) -> Result<Fr
 /// # Errors
 ///
 /// The fault of the first bad line, and the bytes from that line on.
-pub(crate) fn read_front(bytes: &[u8]) -> Result<Front<'_>, Faulty<'_>>
+pub(crate) fn read_front(bytes: &[u8]) -> Result<Front<'_>, FaultPlace<'_>>
     ensures found { IfOk result (IsFront bytes.now) }
     ensures fault { IfErr result (λ f. IsFirstFaultAt bytes.now f.fault f.rest.now) }
 {
@@ -73,15 +73,15 @@ pub(crate) fn read_front(bytes: &[u8]) -> Result<Front<'_>, Faulty<'_>>
         if !is_comment(line) {
             return match front_at(preamble, line, more) {
                 Ok(front) => Ok(front),
-                Err(fault) => Err(Faulty { fault, rest }),
+                Err(fault) => Err(FaultPlace { fault, rest }),
             };
         }
         preamble = match preamble.after_line(line) {
             Ok(preamble) => preamble,
-            Err(fault) => return Err(Faulty { fault, rest }),
+            Err(fault) => return Err(FaultPlace { fault, rest }),
         };
         let Some((_, later)) = more.split_first() else {
-            return Err(Faulty {
+            return Err(FaultPlace {
                 fault: RleFault::Header,
                 rest,
             });

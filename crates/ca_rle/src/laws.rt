@@ -9,7 +9,7 @@ ghost use Rattle.ca_rle.specs.declared.fault.RleFault.TheVariants.{Memory};
 ghost use Rattle.ca_rle.specs.Items.{Items, IsEnd, Run};
 ghost use Rattle.ca_rle.specs.Faults.{item_fault, IsFirstRleFault, IsRleFault};
 ghost use Rattle.ca_rle.specs.FaultyLine.{IsFirstRleFaultOn, IsFaultyRleLine, line_number_of};
-ghost use Rattle.ca_rle.specs.File.{RleFile, IsRleFile, IsLine, ended};
+ghost use Rattle.ca_rle.specs.File.{RleFile, IsRleFile, IsLine, line_with_lf};
 ghost use Rattle.ca_rle.specs.Limits.{IsWithinLimits};
 
 /// Bytes spell one list of items at most.
@@ -81,6 +81,6 @@ pub fn one_faulty_line()
 pub fn counted_lines()
     ensures rest { (lines : List (List ℕ)) (before rest : List ℕ) → AllByRecursion IsLine lines
         → IsLine before → 0 < length rest
-        → line_number_of (flat_map ended lines ++ (before ++ rest)) rest ≡ length lines + 1 }
+        → line_number_of (flat_map line_with_lf lines ++ (before ++ rest)) rest ≡ length lines + 1 }
     ensures end { (text : List ℕ) → line_number_of text [] ≡ max 1 (length (lines_of text)) }
 {}

@@ -45,7 +45,7 @@ pub fn read_rle_with_line(alloc: Global, bytes: &[u8]) -> Result<Pattern, LineFa
     let cells = draw(alloc, text.front.body, text.front.corner)?;
     Ok(Pattern {
         cells,
-        rule_text: rule_of(alloc, text)?,
+        rule_text: rule_text_of(alloc, text)?,
         generation: text.front.generation,
     })
 }
@@ -67,13 +67,13 @@ pub fn read_packed_rle(alloc: Global, bytes: &[u8]) -> Result<PackedPattern, Lin
     let text = good_text(bytes)?;
     Ok(PackedPattern {
         cells: draw_packed(alloc, text)?,
-        rule_text: rule_of(alloc, text)?,
+        rule_text: rule_text_of(alloc, text)?,
         generation: text.front.generation,
     })
 }
 
 /// The rule text that the header gives, or the default one.
-fn rule_of(alloc: Global, text: GoodText<'_>) -> Result<Vec<u8>, ca_plane::Memory>
+fn rule_text_of(alloc: Global, text: GoodText<'_>) -> Result<Vec<u8>, ca_plane::Memory>
     ensures { IfOk result (λ v. v.items ≡ unwrap_or (option_copied text.entry.front.rule) default_rule) }
 {
     Ok(rule_text(alloc, text.front.rule)?)

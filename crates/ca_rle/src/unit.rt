@@ -39,7 +39,7 @@ pub(crate) fn after_white(bytes: &[u8]) -> &[u8]
 }
 
 /// The cell that a prefix and the letter at the front stand for, and the bytes after it.
-fn prefixed(prefix: u8, bytes: &[u8]) -> Result<(Tag, &[u8]), RleFault>
+fn prefixed_cell(prefix: u8, bytes: &[u8]) -> Result<(Tag, &[u8]), RleFault>
     requires { IsTrue (is_prefix prefix) }
     ensures { MatchResult result (λ t. (letter : ℕ) × (tag_of (prefix ∷ letter ∷ []) ≡ Some t.0)
         × (bytes.now ≡ letter ∷ t.1.now))
@@ -89,7 +89,7 @@ fn next_tag(bytes: &[u8]) -> Result<Option<(Tag, &[u8])>, RleFault>
     if !matches!(*first, b'p'..=b'y') {
         return Err(RleFault::Syntax);
     }
-    let (tag, rest) = prefixed(*first, rest)?;
+    let (tag, rest) = prefixed_cell(*first, rest)?;
     Ok(Some((tag, rest)))
 }
 

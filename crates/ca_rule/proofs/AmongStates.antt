@@ -34,12 +34,12 @@ all-below p q a (suc m) n h =
     let here : q a ≡ p a = h a (omega arith) (omega arith) ∙ ap (λ b. b && p a) below in
     let more : filter q (range_with_len (a + 1) (m + n)) ≡ filter p (range_with_len (a + 1) m)
     = all-below p q (a + 1) m n (λ t low high. h t (omega arith) (omega arith) ∙ ap (λ k. nat_lt t k && p t) (omega arith)) in
-    let both : filter q (a ∷ range_with_len (a + 1) (m + n)) ≡ filter p (a ∷ range_with_len (a + 1) m)
+    let both_lists : filter q (a ∷ range_with_len (a + 1) (m + n)) ≡ filter p (a ∷ range_with_len (a + 1) m)
     = elim (cases_Bool (p a)) [
       | inl e ↦ rw (here ∙ e) (rw e (ap (λ l. a ∷ l) more))
       | inr e ↦ rw (here ∙ e) (rw e more)
     ] in
-    ap (λ k. filter q (range_with_len a k)) (suc-plus m n) ∙ both
+    ap (λ k. filter q (range_with_len a k)) (suc-plus m n) ∙ both_lists
 
 below-too : (t s : ℕ) → (t == s) ≡ false → nat_lt t (s + 1) ≡ nat_lt t s
 below-too t s v = elim (cases_Bool (nat_lt t s)) [

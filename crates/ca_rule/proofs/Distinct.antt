@@ -11,11 +11,11 @@ use Rattle.std.proofs.lemmas.List.Folds.{list_all-append}
 use Rattle.std.proofs.lemmas.Nat.Bits.{bit_at_or, bit_at-pow_same, bit_at-lt}
 use Rattle.ca_rule.specs.declared.table.slot.Slot.{Slot}
 use Rattle.ca_rule.specs.declared.table.slot.Slot.TheVariants.{Number, Variable}
-use Rattle.ca_rule.specs.TableNext.{Taken, is_variable, take_one_cell}
+use Rattle.ca_rule.specs.TableNext.{SlotCell, is_variable, take_one_cell}
 use Rattle.ca_rule.specs.inner.TableDistinct.{are_distinct}
 
 -- slots that aren't the variable take any cell beside it
-beside : (v c : ℕ) (slots : List Slot) (cells : List ℕ) → list_any (is_variable v) slots ≡ false → list_all (λ (t : Taken). not (is_variable v t.0) || (t.1 == c)) (zip slots cells) ≡ true
+beside : (v c : ℕ) (slots : List Slot) (cells : List ℕ) → list_any (is_variable v) slots ≡ false → list_all (λ (t : SlotCell). not (is_variable v t.0) || (t.1 == c)) (zip slots cells) ≡ true
 beside v c [] cells none = refl
 beside v c (s ∷ ss) [] none = refl
 beside v c (s ∷ ss) (d ∷ ds) none =
@@ -25,10 +25,10 @@ beside v c (s ∷ ss) (d ∷ ds) none =
     ]
 
 -- none of those before is the variable
-abbrev IsApart : ℕ → List Taken → Type 0
-IsApart v before = list_all (λ (t : Taken). not (is_variable v t.0)) before ≡ true
+abbrev IsApart : ℕ → List SlotCell → Type 0
+IsApart v before = list_all (λ (t : SlotCell). not (is_variable v t.0)) before ≡ true
 
-apart-any : (v c : ℕ) (before : List Taken) → IsApart v before → list_all (λ (t : Taken). not (is_variable v t.0) || (t.1 == c)) before ≡ true
+apart-any : (v c : ℕ) (before : List SlotCell) → IsApart v before → list_all (λ (t : SlotCell). not (is_variable v t.0) || (t.1 == c)) before ≡ true
 apart-any v c [] apart = refl
 apart-any v c (t ∷ ts) apart =
     elim (cases_Bool (is_variable v t.0)) [
@@ -36,26 +36,26 @@ apart-any v c (t ∷ ts) apart =
       | inr e ↦ rw e (apart-any v c ts (rw e at apart))
     ]
 
-apart-more : (v : ℕ) (before : List Taken) (t : Taken) → IsApart v before → is_variable v t.0 ≡ false → IsApart v (before ++ t ∷ [])
-apart-more v before t apart other = list_all-append (λ (x : Taken). not (is_variable v x.0)) before (t ∷ []) ∙ rw (apart, other) refl
+apart-more : (v : ℕ) (before : List SlotCell) (t : SlotCell) → IsApart v before → is_variable v t.0 ≡ false → IsApart v (before ++ t ∷ [])
+apart-more v before t apart other = list_all-append (λ (x : SlotCell). not (is_variable v x.0)) before (t ∷ []) ∙ rw (apart, other) refl
 
 same-cell : (c : ℕ) → (c == c) ≡ true
 same-cell c = eq-eqb c c refl
 
 -- a slot takes one cell, apart from those before and after it
-alone : (w d : ℕ) (before : List Taken) (ss : List Slot) (ds : List ℕ) → IsApart w before → list_any (is_variable w) ss ≡ false
+alone : (w d : ℕ) (before : List SlotCell) (ss : List Slot) (ds : List ℕ) → IsApart w before → list_any (is_variable w) ss ≡ false
     → take_one_cell (before ++ (Variable w, d) ∷ zip ss ds) (Variable w) d ≡ true
 alone w d before ss ds apart none =
-    list_all-append (λ (t : Taken). not (is_variable w t.0) || (t.1 == d)) before ((Variable w, d) ∷ zip ss ds)
+    list_all-append (λ (t : SlotCell). not (is_variable w t.0) || (t.1 == d)) before ((Variable w, d) ∷ zip ss ds)
     ∙ rw (apart-any w d before apart, same-cell d, or-true (not (w == w)), beside w d ss ds none) refl
 
-one-cell : (before : List Taken) (slots : List Slot) (cells : List ℕ) → ((v : ℕ) → list_any (is_variable v) slots ≡ true → IsApart v before) → are_distinct slots ≡ true
-    → list_all (λ (t : Taken). take_one_cell (before ++ zip slots cells) t.0 t.1) (zip slots cells) ≡ true
+one-cell : (before : List SlotCell) (slots : List Slot) (cells : List ℕ) → ((v : ℕ) → list_any (is_variable v) slots ≡ true → IsApart v before) → are_distinct slots ≡ true
+    → list_all (λ (t : SlotCell). take_one_cell (before ++ zip slots cells) t.0 t.1) (zip slots cells) ≡ true
 one-cell before [] cells apart distinct = refl
 one-cell before (s ∷ ss) [] apart distinct = refl
 one-cell before (Number n ∷ ss) (d ∷ ds) apart distinct =
     let later = one-cell (before ++ (Number n, d) ∷ []) ss ds (λ v some. apart-more v before (Number n, d) (apart v some) refl) distinct in
-    subst (λ all. list_all (λ (t : Taken). take_one_cell all t.0 t.1) (zip ss ds) ≡ true) (append_assoc before ((Number n, d) ∷ []) (zip ss ds)) later
+    subst (λ all. list_all (λ (t : SlotCell). take_one_cell all t.0 t.1) (zip ss ds) ≡ true) (append_assoc before ((Number n, d) ∷ []) (zip ss ds)) later
 one-cell before (Variable w ∷ ss) (d ∷ ds) apart distinct =
     elim (cases_Bool (list_any (is_variable w) ss)) [
       | inl e ↦ let k : false ≡ true = rw e at distinct in absurd (false≢true k)
@@ -67,12 +67,12 @@ one-cell before (Variable w ∷ ss) (d ∷ ds) apart distinct =
             | inl u ↦ let same : v ≡ w = grind (arith, nat_tests) in absurd (false≢true (sym e ∙ ap (λ x. list_any (is_variable x) ss) (sym same) ∙ some))
           ] in
           let later = one-cell (before ++ (Variable w, d) ∷ []) ss ds (λ v some. apart-more v before (Variable w, d) (apart v (rw (unlike v some) some)) (unlike v some)) others in
-          let rest = subst (λ all. list_all (λ (t : Taken). take_one_cell all t.0 t.1) (zip ss ds) ≡ true) (append_assoc before ((Variable w, d) ∷ []) (zip ss ds)) later in
+          let rest = subst (λ all. list_all (λ (t : SlotCell). take_one_cell all t.0 t.1) (zip ss ds) ≡ true) (append_assoc before ((Variable w, d) ∷ []) (zip ss ds)) later in
           rw (alone w d before ss ds (apart w first) e) rest
     ]
 
 -- so all slots of one variable take one cell
-pub distinct-take : (slots : List Slot) (cells : List ℕ) → are_distinct slots ≡ true → list_all (λ (t : Taken). take_one_cell (zip slots cells) t.0 t.1) (zip slots cells) ≡ true
+pub distinct-take : (slots : List Slot) (cells : List ℕ) → are_distinct slots ≡ true → list_all (λ (t : SlotCell). take_one_cell (zip slots cells) t.0 t.1) (zip slots cells) ≡ true
 distinct-take slots cells distinct = one-cell [] slots cells (λ v some. refl) distinct
 
 -- a bit more
@@ -81,13 +81,13 @@ set-bit seen i few =
     let power : 2 ^ i < 2 ^ 64 = pow-lt few in
     let whole : 1 * 2 ^ i ≡ 2 ^ i = omega arith in
     let one : bit_at (1 * 2 ^ i % 2 ^ 64) i ≡ 1 = ap (λ n. bit_at n i) (ap (λ n. n % 2 ^ 64) whole ∙ mod-eq_of_lt power) ∙ bit_at-pow_same i in
-    let both = bit_at_or seen (1 * 2 ^ i % 2 ^ 64) i in
+    let both_lists = bit_at_or seen (1 * 2 ^ i % 2 ^ 64) i in
     let small = bit_at-lt seen i in
     omega arith
 
 pub kept-bit : (seen more i : ℕ) → bit_at seen i ≡ 1 → bit_at (bit_or seen more) i ≡ 1
 kept-bit seen more i e =
-    let both = bit_at_or seen more i in
+    let both_lists = bit_at_or seen more i in
     let small = bit_at-lt more i in
     omega arith
 

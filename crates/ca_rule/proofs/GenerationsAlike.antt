@@ -9,7 +9,7 @@ use Rattle.ca_rule.specs.Generations.{liveness, live_count, older, generations_n
 use Rattle.ca_rule.specs.Next as bs
 use Rattle.ca_rule.specs.declared.counts.Counts.{Counts}
 use Rattle.ca_rule.specs.declared.hood.Hood.TheVariants.{Moore}
-use Rattle.ca_rule.proofs.Printed.{numbers}
+use Rattle.ca_rule.proofs.PrintedRules.{numbers}
 use Rattle.ca_rule.proofs.SameCounts.{alike_counts}
 
 -- ---- of two states

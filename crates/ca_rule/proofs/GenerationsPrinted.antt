@@ -13,7 +13,7 @@ use Rattle.ca_rule.specs.Spelling.{digits_of}
 use Rattle.ca_rule.specs.declared.counts.Counts.{Counts}
 use Rattle.ca_rule.specs.declared.gen_rule.GenRule.{GenRule}
 use Rattle.ca_rule.specs.declared.hood.Hood.TheVariants.{Moore}
-use Rattle.ca_rule.proofs.Printed.{numbers, digits-fit, digit_counts, counts-printed}
+use Rattle.ca_rule.proofs.PrintedRules.{numbers, digits-fit, digit_counts, counts-printed}
 use Rattle.ca_rule.proofs.PrintedWords.{digits_in_word}
 
 are_digits-of : (ds : List ℕ) → AreDigits ds → are_digits ds ≡ true

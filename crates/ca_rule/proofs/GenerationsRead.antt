@@ -11,13 +11,13 @@ use Rattle.ca_rule.specs.Digits.{are_digits, state_count}
 use Rattle.ca_rule.specs.GenerationsText.{SpellsGenerationsRule, SpellsNoGenerationsRule, NamesGenerationsRule, IsGenerationsRuleFault}
 use Rattle.ca_rule.specs.Spelling as bs
 use Rattle.ca_rule.specs.inner.GenerationsParts.{Parts, parts_after, parts_around, parts_in}
-use Rattle.ca_rule.specs.inner.TextParts.{lists_around_slash, lists_of, swapped}
+use Rattle.ca_rule.specs.inner.TextParts.{lists_around_slash, lists_of, swapped_lists}
 use Rattle.ca_rule.specs.declared.fault.RuleFault.{RuleFault}
 use Rattle.ca_rule.specs.declared.fault.RuleFault.TheVariants.{Unknown}
 use Rattle.ca_rule.specs.declared.gen_rule.GenRule.{GenRule}
 use Rattle.ca_rule.specs.declared.hood.Hood.TheVariants.{Moore}
 use Rattle.ca_rule.proofs.Ends.{is_plain, split, no_colon}
-use Rattle.ca_rule.proofs.Formed.{around_slash-from, first_list}
+use Rattle.ca_rule.proofs.SpelledDigits.{around_slash-from, first_list}
 use Rattle.ca_rule.proofs.Meaning.{counts-once, counts-faultless}
 use Rattle.ca_rule.proofs.OneSpelling.{then-some, map-some, if-some}
 use Rattle.ca_rule.proofs.ReadInwards.{digits-of, plain-digits, around_slash, lists-no_letter, read}
@@ -105,7 +105,7 @@ other-notation text s b n h d v hood k =
     let whole = (split text text [] Moore (sym (append-nil text)) (plain-text text s b n h) refl).body_is in
     let digits = digits-of Moore s h.survival_digits in
     let later = b ++ (47 ∷ h.number) in
-    let lists : lists_of text ≡ Some (later, s) = ap lists_of h.form ∙ lists-no_letter s later digits ∙ ap swapped (around_slash s later digits) in
+    let lists : lists_of text ≡ Some (later, s) = ap lists_of h.form ∙ lists-no_letter s later digits ∙ ap swapped_lists (around_slash s later digits) in
     let births : d ≡ later = ap first_list (sym (read text d v hood k).lists_are ∙ ap lists_of whole ∙ lists) in
     second-slash b h.number (subst (Every is_digit) births (digits-of hood d k.birth_digits))
 

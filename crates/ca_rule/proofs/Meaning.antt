@@ -7,7 +7,7 @@ use Rattle.ca_rule.specs.declared.counts.Counts.{Counts}
 use Rattle.ca_rule.specs.declared.hood.Hood.{Hood}
 use Rattle.ca_rule.specs.declared.fault.RuleFault.{RuleFault}
 use Rattle.ca_rule.specs.declared.fault.RuleFault.TheVariants.{Bounded, Wakes, Unknown}
-use Rattle.ca_rule.proofs.Formed.{first_list, second_list}
+use Rattle.ca_rule.proofs.SpelledDigits.{first_list, second_list}
 use Rattle.ca_rule.proofs.ReadInwards.{read}
 
 -- where a text spells birth digits, survival digits and one thing more in one way at most

@@ -7,8 +7,8 @@ use Rattle.ca_plane.specs.Bytes.{is_blank, is_digit, front, rest, without_last_b
 use Rattle.ca_plane.proofs.Fronts.{front_then_rest, every_right, every_wider}
 use Rattle.ca_rule.specs.Digits.{are_digits}
 use Rattle.ca_rule.specs.TableLines.{NumberedLine, tail_after, setting, setting_words, is_setting, begins_with, begins_section, begins_variable, is_name_byte, is_name, is_field, comma_parts, fields_between, fields_of, IsVariableLine, IsTransitionLine}
-use Rattle.ca_rule.specs.inner.TableFields.{opened}
-use Rattle.ca_rule.proofs.Stripped.{tail_after-whole}
+use Rattle.ca_rule.specs.inner.TableFields.{after_brace}
+use Rattle.ca_rule.proofs.TextTails.{tail_after-whole}
 use Rattle.ca_rule.proofs.VariableLines.{parts-of-line, line-of-parts, opened-braced, braced-opened}
 
 -- ---- where something is some
@@ -66,7 +66,7 @@ tail_in more = rest is_name_byte (rest is_blank more)
 
 -- what the bytes after `var` spell
 abbrev variable_in : List ℕ → Option (List ℕ × List (List ℕ))
-variable_in more = option_and_then (named_fields (name_in more)) (option_and_then before_brace (opened (tail_in more)))
+variable_in more = option_and_then (named_fields (name_in more)) (option_and_then before_brace (after_brace (tail_in more)))
 
 abbrev variable_if : Bool → List ℕ → Option (List ℕ × List (List ℕ))
 variable_if begins more = if begins then variable_in more else None
@@ -95,12 +95,12 @@ pub variable-of-is : (line : NumberedLine) (v : List ℕ × List (List ℕ)) →
 variable-of-is line v e =
     let m = then-some (variable_if (begins_variable line)) (tail_after (codes "var") line.1) v e in
     let begun = if-some (begins_variable line) (variable_in m.0) v m.2 in
-    let i = then-some (named_fields (name_in m.0)) (option_and_then before_brace (opened (tail_in m.0))) v begun.1 in
-    let o = then-some before_brace (opened (tail_in m.0)) i.0 i.1 in
+    let i = then-some (named_fields (name_in m.0)) (option_and_then before_brace (after_brace (tail_in m.0))) v begun.1 in
+    let o = then-some before_brace (after_brace (tail_in m.0)) i.0 i.1 in
     let good = some-if (is_name (name_in m.0) && list_all is_field (fields_between i.0)) (name_in m.0, fields_between i.0) v i.2 in
-    let both = and_parts (is_name (name_in m.0)) (list_all is_field (fields_between i.0)) good.0 in
+    let both_lists = and_parts (is_name (name_in m.0)) (list_all is_field (fields_between i.0)) good.0 in
     subst (λ (w : List ℕ × List (List ℕ)). IsVariableLine line w.0 w.1) good.1 (line-of-parts line (name_in m.0) i.0 begun.0
-    (record { more = m.0; is_var = m.1; name_is = refl; braces = braced-opened (tail_in m.0) i.0 o.0 o.1 (brace-before o.0 i.0 o.2) }) both.0 both.1)
+    (record { more = m.0; is_var = m.1; name_is = refl; braces = braced-opened (tail_in m.0) i.0 o.0 o.1 (brace-before o.0 i.0 o.2) }) both_lists.0 both_lists.1)
 
 -- ---- a transition
 
@@ -127,12 +127,12 @@ pub transition-of-is : (line : NumberedLine) (slots : ℕ) (fields : List (List 
 transition-of-is line slots fields e =
     let u = unless-some (begins_variable line) (so_many slots (fields_of line)) fields e in
     let s = some-if (list_all is_field (fields_of line) && (length (fields_of line) == slots)) (fields_of line) fields u.1 in
-    let both = and_parts (list_all is_field (fields_of line)) (length (fields_of line) == slots) s.0 in
-    let count : length (fields_of line) ≡ slots = let k = both.1 in grind (arith, nat_tests) in
+    let both_lists = and_parts (list_all is_field (fields_of line)) (length (fields_of line) == slots) s.0 in
+    let count : length (fields_of line) ≡ slots = let k = both_lists.1 in grind (arith, nat_tests) in
     record {
       no_variable = u.0;
       fields_are = s.1;
-      are_fields = ap (list_all is_field) (sym s.1) ∙ both.0;
+      are_fields = ap (list_all is_field) (sym s.1) ∙ both_lists.0;
       count = ap length (sym s.1) ∙ count;
     }
 

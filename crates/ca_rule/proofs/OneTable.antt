@@ -10,7 +10,7 @@ use Rattle.ca_rule.specs.declared.table.neighbourhood.Neighbourhood.{Neighbourho
 use Rattle.ca_rule.specs.declared.table.neighbourhood.Symmetry.{Symmetry}
 use Rattle.ca_rule.specs.TableNext.{TableRule}
 use Rattle.ca_rule.specs.TableLines.{NumberedLine, lines_said, last_line, rule_name, begins_table, begins_section, setting, setting_words, is_setting, value_of, states_set, neighbourhood_set, symmetry_set}
-use Rattle.ca_rule.specs.TableText.{HasTable, sets_again, are_settings, Settings, Mean, SaidStatements, nothing, Say, made, is_end_of_section, IsTable}
+use Rattle.ca_rule.specs.TableText.{HasTable, sets_again, are_settings, Settings, SettingsMean, SaidStatements, no_statements, LinesSay, table_from, is_end_of_section, IsTable}
 use Rattle.ca_rule.specs.TableFaults.{number_at, follows_settings, HasNoRuleLine, HasNoTable, SetsAgain, HasSettings, LackStates, LackNeighbourhood, LackSymmetry, HasStatement, IsMisspelled, HasBadState, HasUnknownName, HasUnbound, DoesWake, IsTableTextFault}
 use Rattle.ca_rule.proofs.OneStatement.{then_ok, step_of, step-says, says-no-setting, says-no-section, step-misspelled, step-bad-state, step-unknown-name, step-unbound}
 
@@ -18,12 +18,12 @@ use Rattle.ca_rule.proofs.OneStatement.{then_ok, step_of, step-says, says-no-set
 
 -- what statements make after what was said, or the first fault
 abbrev by_statements : List ℕ → Settings → SaidStatements → List NumberedLine → Result TableRule TableFault
-by_statements named settings said [] = Ok (made named settings said)
-by_statements named settings said (l ∷ ls) = if begins_section l then Ok (made named settings said) else then_ok (λ next. by_statements named settings next ls) (step_of settings said l)
+by_statements named settings said [] = Ok (table_from named settings said)
+by_statements named settings said (l ∷ ls) = if begins_section l then Ok (table_from named settings said) else then_ok (λ next. by_statements named settings next ls) (step_of settings said l)
 
 -- what they make after settings
 abbrev from_nothing : List ℕ → List NumberedLine → Settings → Result TableRule TableFault
-from_nothing named lines settings = by_statements named settings nothing lines
+from_nothing named lines settings = by_statements named settings no_statements lines
 
 abbrev with_symmetry : ℕ → ℕ → Neighbourhood → Option Symmetry → Result Settings TableFault
 with_symmetry n count of None = Err (Symmetries n)
@@ -138,7 +138,7 @@ module _ (bytes named : List ℕ) where
       ∙ settings-again (earlier ++ x ∷ []) xs line later parts.1 (ap (λ g. sets_again g line) (append_assoc earlier (x ∷ []) xs) ∙ again)
 
 -- what settings mean
-settings-mean : (n : ℕ) (lines : List NumberedLine) (settings : Settings) → Mean lines settings → settings_of n lines ≡ Ok settings
+settings-mean : (n : ℕ) (lines : List NumberedLine) (settings : Settings) → SettingsMean lines settings → settings_of n lines ≡ Ok settings
 settings-mean n lines settings m =
     ap (λ o. with_states n o (neighbourhood_set lines) (under_of lines)) m.states_are
     ∙ ap (λ o. with_states n (Some settings.states) o (under_of lines)) m.neighbourhood_is
@@ -161,17 +161,17 @@ lack-symmetry n lines (count, of, some, other, none) =
 -- ---- statements
 
 module _ (named : List ℕ) (settings : Settings) where
-  statements-end : (said : SaidStatements) (good later : List NumberedLine) (after : SaidStatements) → Say settings said good after → is_end_of_section later ≡ true → by_statements named settings said (good ++ later) ≡ Ok (made named settings after)
-  statements-end said [] [] after say ends = ap (λ s. Ok (made named settings s)) say
+  statements-end : (said : SaidStatements) (good later : List NumberedLine) (after : SaidStatements) → LinesSay settings said good after → is_end_of_section later ≡ true → by_statements named settings said (good ++ later) ≡ Ok (table_from named settings after)
+  statements-end said [] [] after say ends = ap (λ s. Ok (table_from named settings s)) say
   statements-end said [] (l ∷ ls) after say ends =
       cond-true _ _ _ ends
-      ∙ ap (λ s. Ok (made named settings s)) say
+      ∙ ap (λ s. Ok (table_from named settings s)) say
   statements-end said (x ∷ xs) later after (next, says, more) ends =
       cond-false _ _ _ (says-no-section settings said x next says)
       ∙ ap (then_ok (λ next. by_statements named settings next (xs ++ later))) (step-says settings said x next says)
       ∙ statements-end next xs later after more ends
 
-  statements-fault : (said : SaidStatements) (good : List NumberedLine) (line : NumberedLine) (later : List NumberedLine) (after : SaidStatements) (f : TableFault) → Say settings said good after → begins_section line ≡ false → step_of settings after line ≡ Err f
+  statements-fault : (said : SaidStatements) (good : List NumberedLine) (line : NumberedLine) (later : List NumberedLine) (after : SaidStatements) (f : TableFault) → LinesSay settings said good after → begins_section line ≡ false → step_of settings after line ≡ Err f
       → by_statements named settings said (good ++ line ∷ later) ≡ Err f
   statements-fault said [] line later after f say inside fault =
       cond-false _ _ _ inside
@@ -190,7 +190,7 @@ section-no-setting (n, b ∷ bs) e =
     ap (λ c. is_setting (n, c ∷ bs)) same
 
 -- so statements follow the settings
-pub tail_after-settings : (settings : Settings) (said : SaidStatements) (good later : List NumberedLine) (after : SaidStatements) → Say settings said good after → is_end_of_section later ≡ true → follows_settings (good ++ later) ≡ true
+pub tail_after-settings : (settings : Settings) (said : SaidStatements) (good later : List NumberedLine) (after : SaidStatements) → LinesSay settings said good after → is_end_of_section later ≡ true → follows_settings (good ++ later) ≡ true
 tail_after-settings settings said [] [] after say ends = refl
 tail_after-settings settings said [] (l ∷ ls) after say ends = ap not (section-no-setting l ends)
 tail_after-settings settings said (x ∷ xs) later after (next, says, more) ends = ap not (says-no-setting settings said x next says)
@@ -201,9 +201,9 @@ tail_after-settings settings said (x ∷ xs) later after (next, says, more) ends
 is-read : (bytes : List ℕ) (t : TableRule) → IsTable bytes t → reading bytes ≡ Ok t
 is-read bytes t h =
     has-table bytes h.name (h.setting_lines ++ (h.statements ++ h.later)) h.has_table
-    ∙ settings-end bytes h.name [] h.setting_lines (h.statements ++ h.later) h.mean.once (tail_after-settings h.settings nothing h.statements h.later h.said h.say h.ends)
+    ∙ settings-end bytes h.name [] h.setting_lines (h.statements ++ h.later) h.mean.once (tail_after-settings h.settings no_statements h.statements h.later h.said h.say h.ends)
     ∙ ap (then_ok (from_nothing h.name (h.statements ++ h.later))) (settings-mean (number_at bytes (h.statements ++ h.later)) h.setting_lines h.settings h.mean)
-    ∙ statements-end h.name h.settings nothing h.statements h.later h.said h.say h.ends
+    ∙ statements-end h.name h.settings no_statements h.statements h.later h.said h.say h.ends
     ∙ ap (λ x. Ok x) (sym h.table_is)
 
 -- a text is that of one table at most
@@ -229,7 +229,7 @@ statement-read bytes n P f h e =
     has-table bytes h.name (h.setting_lines ++ (h.good ++ h.line ∷ h.later)) h.has_table
     ∙ settings-end bytes h.name [] h.setting_lines (h.good ++ h.line ∷ h.later) h.mean.once h.ends
     ∙ ap (then_ok (from_nothing h.name (h.good ++ h.line ∷ h.later))) (settings-mean (number_at bytes (h.good ++ h.line ∷ h.later)) h.setting_lines h.settings h.mean)
-    ∙ statements-fault h.name h.settings nothing h.good h.line h.later h.said (f h.line.0) h.say h.in_table e
+    ∙ statements-fault h.name h.settings no_statements h.good h.line h.later h.said (f h.line.0) h.say h.in_table e
     ∙ ap (λ m. Err (f m)) (sym h.number)
 
 abbrev fault_or : TableFault → Result TableRule TableFault → TableFault

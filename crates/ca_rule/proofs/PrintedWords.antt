@@ -10,7 +10,7 @@ use Rattle.ca_rule.specs.Spelling.{digits_of, suffix_of, printed_bs_rule}
 use Rattle.ca_rule.specs.declared.counts.Counts.{Counts}
 use Rattle.ca_rule.specs.declared.hood.Hood.{Hood}
 use Rattle.ca_rule.specs.declared.hood.Hood.TheVariants.{Moore, VonNeumann, Hex}
-use Rattle.ca_rule.proofs.Printed.{numbers}
+use Rattle.ca_rule.proofs.PrintedRules.{numbers}
 
 -- the digits of some numbers up to 8 may be in a word
 pub digits_in_word : (p : ℕ → Bool) (ns : List ℕ) → list_all (λ n. nat_le n 8) ns ≡ true → Every is_word_byte (map (λ n. 48 + n) (filter p ns))

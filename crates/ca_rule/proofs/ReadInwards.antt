@@ -6,7 +6,7 @@ use Rattle.std.proofs.lemmas.Bool.Decides.{nat_tests}
 use Rattle.ca_plane.specs.Bytes.{Every, is_digit, is_end_or, rest}
 use Rattle.ca_plane.proofs.Fronts.{front_append, rest_append, every_append, every_wider}
 use Rattle.ca_rule.specs.Counts.{most_of, are_digits_up_to}
-use Rattle.ca_rule.specs.inner.TextParts.{is_rule_letter, hood_of, body_of, without_slash, tail_after_letter, tail_after_slash, both, swapped, lists_around, lists_around_slash, lists_of}
+use Rattle.ca_rule.specs.inner.TextParts.{is_rule_letter, hood_of, body_of, without_slash, tail_after_letter, tail_after_slash, both_lists, swapped_lists, lists_around, lists_around_slash, lists_of}
 use Rattle.ca_rule.specs.Spelling.{IsLetter, IsSuffix, IsOptionalSlash, IsLettered, IsUnlettered, SpellsBsRule, has_colon}
 use Rattle.ca_rule.specs.declared.hood.Hood.{Hood}
 use Rattle.ca_rule.specs.declared.hood.Hood.TheVariants.{Moore, VonNeumann, Hex}
@@ -44,28 +44,28 @@ around upper b digits slash later low h s l =
     let t = tail upper b slash later low s l in
     let f = front_append is_digit digits (slash ++ (b ∷ later)) h t.ends in
     let r = rest_append is_digit digits (slash ++ (b ∷ later)) h t.ends in
-    ap (λ x. both x (tail_after_letter upper (without_slash (rest is_digit (digits ++ (slash ++ (b ∷ later))))))) f
-    ∙ ap (λ x. both digits (tail_after_letter upper (without_slash x))) r ∙ ap (both digits) t.leads
+    ap (λ x. both_lists x (tail_after_letter upper (without_slash (rest is_digit (digits ++ (slash ++ (b ∷ later))))))) f
+    ∙ ap (λ x. both_lists digits (tail_after_letter upper (without_slash x))) r ∙ ap (both_lists digits) t.leads
 
 -- the lists round a `/` are read
 pub around_slash : (digits later : List ℕ) → Every is_digit digits → lists_around_slash (digits ++ (47 ∷ later)) ≡ Some (digits, later)
 around_slash digits later h =
-    ap (λ x. both x (tail_after_slash (rest is_digit (digits ++ (47 ∷ later))))) (front_append is_digit digits (47 ∷ later) h refl)
-    ∙ ap (λ x. both digits (tail_after_slash x)) (rest_append is_digit digits (47 ∷ later) h refl)
+    ap (λ x. both_lists x (tail_after_slash (rest is_digit (digits ++ (47 ∷ later))))) (front_append is_digit digits (47 ∷ later) h refl)
+    ∙ ap (λ x. both_lists digits (tail_after_slash x)) (rest_append is_digit digits (47 ∷ later) h refl)
 
 -- the reading of a text without its suffix, by its first byte
 lists-birth_first : (a : ℕ) (bs : List ℕ) → IsLetter 66 a → lists_of (a ∷ bs) ≡ lists_around 83 bs
 lists-birth_first a bs (inl e) = rw e refl
 lists-birth_first a bs (inr e) = rw e refl
 
-lists-survival_first : (a : ℕ) (bs : List ℕ) → IsLetter 83 a → lists_of (a ∷ bs) ≡ swapped (lists_around 66 bs)
+lists-survival_first : (a : ℕ) (bs : List ℕ) → IsLetter 83 a → lists_of (a ∷ bs) ≡ swapped_lists (lists_around 66 bs)
 lists-survival_first a bs (inl e) = rw e refl
 lists-survival_first a bs (inr e) = rw e refl
 
 no_letter : (upper s : ℕ) → 65 ≤ upper → is_digit s ≡ true → is_rule_letter upper s ≡ false
 no_letter upper s low h = grind (arith, nat_tests)
 
-pub lists-no_letter : (survival birth : List ℕ) → Every is_digit survival → lists_of (survival ++ (47 ∷ birth)) ≡ swapped (lists_around_slash (survival ++ (47 ∷ birth)))
+pub lists-no_letter : (survival birth : List ℕ) → Every is_digit survival → lists_of (survival ++ (47 ∷ birth)) ≡ swapped_lists (lists_around_slash (survival ++ (47 ∷ birth)))
 lists-no_letter [] birth h = refl
 lists-no_letter (s ∷ ss) birth h =
     let d = (and_parts (is_digit s) (list_all is_digit ss) h).0 in
@@ -119,13 +119,13 @@ read-birth_first text birth survival hood h k f =
 read-survival_first : (text birth survival : List ℕ) (hood : Hood) → Every is_digit birth → Every is_digit survival → IsLettered 83 66 text survival birth hood → IsRead text birth survival hood
 read-survival_first text birth survival hood h k f =
     lists-read text _ birth survival hood (split-lettered 83 66 text survival birth hood (inr refl) (inl refl) k h f)
-    (lists-survival_first f.0 (survival ++ (f.2 ++ (f.1 ∷ birth))) f.4 ∙ ap swapped (around 66 f.1 survival f.2 birth (omega arith) k f.6 f.5))
+    (lists-survival_first f.0 (survival ++ (f.2 ++ (f.1 ∷ birth))) f.4 ∙ ap swapped_lists (around 66 f.1 survival f.2 birth (omega arith) k f.6 f.5))
 
 read-unlettered : (text birth survival : List ℕ) (hood : Hood) → Every is_digit birth → Every is_digit survival → IsUnlettered text survival birth hood → IsRead text birth survival hood
 read-unlettered text birth survival hood h k f =
     let whole : text ≡ (survival ++ (47 ∷ birth)) ++ f.0 = f.2 ∙ simp append_assoc refl in
     lists-read text _ birth survival hood (take_apart text (survival ++ (47 ∷ birth)) f.0 hood whole (every_append is_plain survival _ (plain-digits survival k) (plain-digits birth h)) f.1)
-    (lists-no_letter survival birth k ∙ ap swapped (around_slash survival birth k))
+    (lists-no_letter survival birth k ∙ ap swapped_lists (around_slash survival birth k))
 
 -- a text that spells a rule is read as that rule
 pub read : (text birth survival : List ℕ) (hood : Hood) → SpellsBsRule text birth survival hood → IsRead text birth survival hood

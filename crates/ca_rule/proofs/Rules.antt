@@ -22,7 +22,7 @@ use Rattle.ca_rule.specs.declared.fault.RuleFault.TheVariants.{Bounded, Wakes, U
 use Rattle.ca_rule.proofs.GenerationsPrinted as generations_printed
 use Rattle.ca_rule.proofs.GenerationsRead as generations_read
 use Rattle.ca_rule.proofs.Meaning.{names-once, names-no_colon, names-faultless}
-use Rattle.ca_rule.proofs.Printed.{names_itself}
+use Rattle.ca_rule.proofs.PrintedRules.{names_itself}
 
 -- ---- rules that are the same
 

@@ -9,7 +9,7 @@ use Rattle.std.proofs.lemmas.Slice.Eq.{slice_eq-Decides}
 use Rattle.std.proofs.lemmas.Bool.Decides.{Decides-like}
 use Rattle.ca_rule.specs.Counts.{is_count}
 use Rattle.ca_rule.specs.declared.counts.Counts.{Counts}
-use Rattle.ca_rule.proofs.Printed.{numbers, nine_cells, map_same}
+use Rattle.ca_rule.proofs.PrintedRules.{numbers, nine_cells, map_same}
 
 -- two sets of counts are one where they hold the same at each place
 pub same_counts : (a b : Counts) (r : Bool) → r ≡ pointwise beq a.holds b.holds → Decides r (a ≡ b)

@@ -9,7 +9,7 @@ use Rattle.std.proofs.lemmas.List.{append-nil}
 use Rattle.ca_rule.specs.declared.table.settings.SettingValues.{SettingValues}
 use Rattle.ca_rule.specs.declared.table.fault.TableFault.{TableFault}
 use Rattle.ca_rule.specs.TableLines.{NumberedLine, setting, is_setting, value_of}
-use Rattle.ca_rule.specs.TableText.{HasTable, Settings, Mean, sets_again, are_settings}
+use Rattle.ca_rule.specs.TableText.{HasTable, Settings, SettingsMean, sets_again, are_settings}
 use Rattle.ca_rule.specs.TableFaults.{number_at, follows_settings, SetsAgain, HaveEnd, IsTableTextFault}
 use Rattle.ca_rule.specs.inner.TableSettings.{bytes_of, AreValuesOf, AreGivenBy, has_some, have_one, joined_settings, IsBehindSettings, IsBehindMeant}
 
@@ -122,7 +122,7 @@ passed-on r e P h holds =
     subst (λ o. IfErr o P) (sym p.1) (subst P (sym p.2) holds)
 
 -- so settings that mean something come before the lines that are left
-pub all-meant : (all left : List NumberedLine) (values : SettingValues) (settings : Settings) → IsBehindSettings all values left → ((good : List NumberedLine) → AreValuesOf good values → are_settings [] good ≡ true → Mean good settings) → IsBehindMeant all settings left
+pub all-meant : (all left : List NumberedLine) (values : SettingValues) (settings : Settings) → IsBehindSettings all values left → ((good : List NumberedLine) → AreValuesOf good values → are_settings [] good ≡ true → SettingsMean good settings) → IsBehindMeant all settings left
 all-meant all left values settings before meaning = record { good = before.good; mean = meaning before.good before.values_are before.once; whole = before.whole }
 
 -- and else the fault is that of the text

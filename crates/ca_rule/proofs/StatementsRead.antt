@@ -7,7 +7,7 @@ use Rattle.ca_rule.specs.declared.table.statement_fault.StatementFault.{Statemen
 use Rattle.ca_rule.specs.declared.table.statement_fault.StatementFault.TheVariants.{Syntax, State, Name, Unbound, Memory}
 use Rattle.ca_rule.specs.declared.table.statements.Statements.{Statements}
 use Rattle.ca_rule.specs.TableLines.{NumberedLine, begins_section, IsVariableLine, IsTransitionLine}
-use Rattle.ca_rule.specs.TableText.{HasTable, Settings, Mean, SaidStatements, nothing, StandsFor, number_of, SaysVariable, is_bound, field_count, SaysTransition, Say}
+use Rattle.ca_rule.specs.TableText.{HasTable, Settings, SettingsMean, SaidStatements, no_statements, StandsFor, number_of, SaysVariable, is_bound, field_count, SaysTransition, LinesSay}
 use Rattle.ca_rule.specs.TableFaults.{follows_settings, HasStatement, HasFields, HasBadField, IsTableTextFault}
 use Rattle.ca_rule.specs.inner.TableNames.{HasNoSlot, IsFaultAmong, IsFaultOfTransition}
 use Rattle.ca_rule.specs.inner.TableSaid.{KeepsStatements, with_variable, with_transition}
@@ -70,13 +70,13 @@ module _ (settings : Settings) (said : SaidStatements) (count : ℕ) (numbers : 
   transition-fault Name is h = no-slot Name (inr is) h
 
 -- one more line says something after the others
-say-snoc : (settings : Settings) (said mid after : SaidStatements) (ls : List NumberedLine) (l : NumberedLine) → Say settings said ls mid → SaysVariable settings mid l after ⊎ SaysTransition settings mid l after → Say settings said (ls ++ l ∷ []) after
+say-snoc : (settings : Settings) (said mid after : SaidStatements) (ls : List NumberedLine) (l : NumberedLine) → LinesSay settings said ls mid → SaysVariable settings mid l after ⊎ SaysTransition settings mid l after → LinesSay settings said (ls ++ l ∷ []) after
 say-snoc settings said mid after [] l h says = (after, subst (λ s. SaysVariable settings s l after ⊎ SaysTransition settings s l after) (sym h) says, refl)
 say-snoc settings said mid after (x ∷ xs) l h says = (h.0, h.1, say-snoc settings h.0 mid after xs l h.2 says)
 
 -- before the first line
-pub none-said : (settings : Settings) (all : List NumberedLine) (kept : Statements) → KeepsStatements nothing kept → IsBehindSaid settings all all kept
-none-said settings all kept is = record { good = []; said = nothing; whole = refl; say = refl; is_kept = is }
+pub none-said : (settings : Settings) (all : List NumberedLine) (kept : Statements) → KeepsStatements no_statements kept → IsBehindSaid settings all all kept
+none-said settings all kept is = record { good = []; said = no_statements; whole = refl; say = refl; is_kept = is }
 
 -- one more line is said
 pub one-said : (settings : Settings) (all left later : List NumberedLine) (line : NumberedLine) (old new : Statements) → IsBehindSaid settings all left old → left ≡ line ∷ later
@@ -87,7 +87,7 @@ one-said settings all left later line old new before next more =
       good = before.good ++ line ∷ [];
       said = is.0;
       whole = before.whole ∙ ap (λ l. before.good ++ l) next ∙ sym (append_assoc before.good (line ∷ []) later);
-      say = say-snoc settings nothing before.said is.0 before.good line before.say is.1;
+      say = say-snoc settings no_statements before.said is.0 before.good line before.say is.1;
       is_kept = is.2;
     }
 
@@ -99,8 +99,8 @@ pub none-behind : (settings : Settings) (all left : List NumberedLine) (kept : S
 none-behind settings all left kept before none = record { later = []; tail_after = subst (λ l. IsBehindSaid settings all l kept) none before; ends = refl }
 
 -- a line of the table comes after good settings and good statements, and this holds of it
-pub has-statement : (bytes named : List ℕ) (head before later : List NumberedLine) (settings : Settings) (said : SaidStatements) (line : NumberedLine) → Mean head settings → HasTable bytes named (head ++ (before ++ line ∷ later))
-    → follows_settings (before ++ line ∷ later) ≡ true → Say settings nothing before said → begins_section line ≡ false → (P : Settings → SaidStatements → NumberedLine → Type 0) → P settings said line → HasStatement bytes line.0 P
+pub has-statement : (bytes named : List ℕ) (head before later : List NumberedLine) (settings : Settings) (said : SaidStatements) (line : NumberedLine) → SettingsMean head settings → HasTable bytes named (head ++ (before ++ line ∷ later))
+    → follows_settings (before ++ line ∷ later) ≡ true → LinesSay settings no_statements before said → begins_section line ≡ false → (P : Settings → SaidStatements → NumberedLine → Type 0) → P settings said line → HasStatement bytes line.0 P
 has-statement bytes named head before later settings said line mean has ended say inside P holding = record {
   name = named;
   setting_lines = head;
@@ -120,7 +120,7 @@ has-statement bytes named head before later settings said line mean has ended sa
 
 -- or the next line has a fault
 module _ (settings : Settings) (all left later : List NumberedLine) (line : NumberedLine) (kept : Statements) (before : IsBehindSaid settings all left kept) (next : left ≡ line ∷ later) (in_table : begins_section line ≡ false)
-    (bytes name : List ℕ) (head : List NumberedLine) (has : HasTable bytes name (head ++ all)) (mean : Mean head settings) (ended : follows_settings all ≡ true) where
+    (bytes name : List ℕ) (head : List NumberedLine) (has : HasTable bytes name (head ++ all)) (mean : SettingsMean head settings) (ended : follows_settings all ≡ true) where
   at-line : (P : Settings → SaidStatements → NumberedLine → Type 0) → P settings before.said line → HasStatement bytes line.0 P
   at-line =
       let whole = before.whole ∙ ap (λ l. before.good ++ l) next in

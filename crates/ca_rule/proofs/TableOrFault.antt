@@ -14,7 +14,7 @@ use Rattle.ca_rule.specs.declared.table.slot.Slot.TheVariants.{Number, Variable}
 use Rattle.ca_rule.specs.TableNext.{TableRule, table_next}
 use Rattle.ca_rule.specs.Digits.{are_digits}
 use Rattle.ca_rule.specs.TableLines.{NumberedLine, lines_said, last_line, rule_name, begins_table, begins_section, is_setting, states_set, neighbourhood_set, symmetry_set, is_name, is_field, IsVariableLine, IsTransitionLine}
-use Rattle.ca_rule.specs.TableText.{HasTable, sets_again, are_settings, Settings, Mean, SaidStatements, nothing, number_of, StandsFor, is_bound, field_count, Say, made, is_end_of_section, IsTable}
+use Rattle.ca_rule.specs.TableText.{HasTable, sets_again, are_settings, Settings, SettingsMean, SaidStatements, no_statements, number_of, StandsFor, is_bound, field_count, LinesSay, table_from, is_end_of_section, IsTable}
 use Rattle.ca_rule.specs.TableFaults.{number_at, follows_settings, HasNoRuleLine, HasNoTable, HaveEnd, HasStatement, IsMisspelled, HasFields, HasBadField, HasBadState, HasUnknownName, HasUnbound, IsTableTextFault}
 use Rattle.ca_rule.specs.inner.TableSaid.{with_variable}
 use Rattle.ca_rule.proofs.OneSpelling.{some_if, variable_of, variable-is-of, variable-of-is, transition_of, transition-is-of, transition-of-is}
@@ -167,16 +167,16 @@ quiet-or-wakes bytes t is = elim (cases_eq (table_next t (replicate 9 0)) 0) [
   | inr wakes ↦ inr (Wakes (last_line bytes), other-than-memory (Wakes (last_line bytes)) refl, (t, is, wakes, refl))
 ]
 
-say-then : (settings : Settings) (said : SaidStatements) (good : List NumberedLine) (line : NumberedLine) (after next : SaidStatements) → Say settings said good after → Says settings after line next → Say settings said (good ++ line ∷ []) next
+say-then : (settings : Settings) (said : SaidStatements) (good : List NumberedLine) (line : NumberedLine) (after next : SaidStatements) → LinesSay settings said good after → Says settings after line next → LinesSay settings said (good ++ line ∷ []) next
 say-then settings said [] line after next say says = (next, subst (λ s. Says settings s line next) (sym say) says, refl)
 say-then settings said (x ∷ xs) line after next (other, one, more) says = (other, one, say-then settings other xs line after next more says)
 
-module _ (bytes named : List ℕ) (setting_lines : List NumberedLine) (settings : Settings) (mean : Mean setting_lines settings) where
+module _ (bytes named : List ℕ) (setting_lines : List NumberedLine) (settings : Settings) (mean : SettingsMean setting_lines settings) where
   -- these lines follow good statements
   record BehindStatements (good : List NumberedLine) (said : SaidStatements) (left : List NumberedLine) : Type 0 where
     has_table : HasTable bytes named (setting_lines ++ (good ++ left))
     ends : follows_settings (good ++ left) ≡ true
-    say : Say settings nothing good said
+    say : LinesSay settings no_statements good said
 
   statement-fault : (P : Settings → SaidStatements → NumberedLine → Type 0) (good : List NumberedLine) (said : SaidStatements) (line : NumberedLine) (later : List NumberedLine) → BehindStatements good said (line ∷ later) → begins_section line ≡ false → P settings said line → HasStatement bytes line.0 P
   statement-fault P good said line later b inside holds = has-statement bytes named setting_lines good later settings said line mean b.has_table b.ends b.say inside P holds
@@ -188,7 +188,7 @@ module _ (bytes named : List ℕ) (setting_lines : List NumberedLine) (settings 
   bad-line good said line later b inside (NoInput h) = inr (Unbound line.0, other-than-memory (Unbound line.0) refl, statement-fault HasUnbound good said line later b inside h)
 
   all-read : (good : List NumberedLine) (said : SaidStatements) (left : List NumberedLine) → BehindStatements good said left → is_end_of_section left ≡ true → TableOrFault bytes
-  all-read good said left b ends = quiet-or-wakes bytes (made named settings said) (record {
+  all-read good said left b ends = quiet-or-wakes bytes (table_from named settings said) (record {
     name = named;
     setting_lines = setting_lines;
     statements = good;
@@ -210,7 +210,7 @@ module _ (bytes named : List ℕ) (setting_lines : List NumberedLine) (settings 
       | inl n ↦ statements-or-fault (good ++ l ∷ []) n.0 ls (record {
         has_table = subst (λ lines. HasTable bytes named (setting_lines ++ lines)) (sym (append_assoc good (l ∷ []) ls)) b.has_table;
         ends = ap follows_settings (append_assoc good (l ∷ []) ls) ∙ b.ends;
-        say = say-then settings nothing good l said n.0 b.say n.1;
+        say = say-then settings no_statements good l said n.0 b.say n.1;
       })
       | inr h ↦ bad-line good said l ls b s h
     ]
@@ -222,7 +222,7 @@ module _ (bytes : List ℕ) where
   symmetry-or-fault : (n count : ℕ) (good : List NumberedLine) (of : Neighbourhood) (under : Option Symmetry) → HaveEnd bytes n good → states_set good ≡ Some count → neighbourhood_set good ≡ Some of → symmetry_set of good ≡ under → TableOrFault bytes
   symmetry-or-fault n count good of None h s k e = inr (Symmetries n, other-than-memory (Symmetries n) refl, (good, h, (count, of, s, k, e)))
   symmetry-or-fault n count good of (Some under) h s k e =
-      statements-or-fault bytes h.name good (record { states = count; neighbourhood = of; symmetry = under }) (record { once = h.once; states_are = s; neighbourhood_is = k; symmetry_is = e }) [] nothing h.tail_after
+      statements-or-fault bytes h.name good (record { states = count; neighbourhood = of; symmetry = under }) (record { once = h.once; states_are = s; neighbourhood_is = k; symmetry_is = e }) [] no_statements h.tail_after
       (record { has_table = h.has_table; ends = h.ends; say = refl })
 
   neighbourhood-or-fault : (n count : ℕ) (good : List NumberedLine) (of : Option Neighbourhood) → HaveEnd bytes n good → states_set good ≡ Some count → neighbourhood_set good ≡ of → TableOrFault bytes

@@ -12,10 +12,10 @@ use Rattle.ca_rule.specs.declared.table.statements.Statements.{Statements}
 use Rattle.ca_rule.specs.TableNext.{Transition}
 use Rattle.ca_rule.specs.Digits.{are_digits, state_count}
 use Rattle.ca_rule.specs.TableLines.{NumberedLine, value_of}
-use Rattle.ca_rule.specs.TableText.{HasTable, Settings, SaidStatements, nothing, StandsFor, SaysVariable, SaysTransition, Say, IsTable}
+use Rattle.ca_rule.specs.TableText.{HasTable, Settings, SaidStatements, no_statements, StandsFor, SaysVariable, SaysTransition, LinesSay, IsTable}
 use Rattle.ca_rule.specs.inner.TableSaying.{AreAllSaid}
 use Rattle.ca_rule.specs.inner.TableSettings.{IsBehindMeant}
-use Rattle.ca_rule.specs.inner.TableStored.{stored, is_below}
+use Rattle.ca_rule.specs.inner.TableStored.{stored_table, is_below}
 
 -- a number of states that is given is from 2 to 256
 count-within : (bytes : List ℕ) (n : ℕ) → state_count bytes ≡ Some n → (2 ≤ n) × (n ≤ 256)
@@ -23,9 +23,9 @@ count-within bytes n is =
     elim (cases_Bool (are_digits bytes && (nat_le 2 (value bytes) && nat_le (value bytes) 256))) [
       | inl t ↦ let k = rw t at is in
           let same = same_Some (value bytes) n k in
-          let both = and_parts (nat_le 2 (value bytes)) (nat_le (value bytes) 256) (and_parts (are_digits bytes) (nat_le 2 (value bytes) && nat_le (value bytes) 256) t).1 in
-          let low : 2 ≤ value bytes = let l = both.0 in grind (arith, nat_tests) in
-          let high : value bytes ≤ 256 = let h = both.1 in grind (arith, nat_tests) in
+          let both_lists = and_parts (nat_le 2 (value bytes)) (nat_le (value bytes) 256) (and_parts (are_digits bytes) (nat_le 2 (value bytes) && nat_le (value bytes) 256) t).1 in
+          let low : 2 ≤ value bytes = let l = both_lists.0 in grind (arith, nat_tests) in
+          let high : value bytes ≤ 256 = let h = both_lists.1 in grind (arith, nat_tests) in
           (subst (λ m. 2 ≤ m) same low, subst (λ m. m ≤ 256) same high)
       | inr t ↦ let k = rw t at is in absurd (none-some n k)
     ]
@@ -61,18 +61,18 @@ module _ (settings : Settings) where
       ∙ rw below (rw low refl)
 
   -- and those that all lines say
-  pub all-below : (said after : SaidStatements) (lines : List NumberedLine) → list_all (λ t. is_below settings.states t.result) said.transitions ≡ true → Say settings said lines after → list_all (λ t. is_below settings.states t.result) after.transitions ≡ true
+  pub all-below : (said after : SaidStatements) (lines : List NumberedLine) → list_all (λ t. is_below settings.states t.result) said.transitions ≡ true → LinesSay settings said lines after → list_all (λ t. is_below settings.states t.result) after.transitions ≡ true
   all-below said after [] below h = subst (λ (s : SaidStatements). list_all (λ t. is_below settings.states t.result) s.transitions ≡ true) h below
   all-below said after (l ∷ ls) below h = all-below h.0 after ls (line-below said h.0 l below h.1) h.2
 
   pub kept-below : (all : List NumberedLine) (kept : Statements) → AreAllSaid settings all kept → list_all (λ (t : Transition). is_below settings.states t.result) kept.transitions.items ≡ true
   kept-below all kept h =
       let said = h.tail_after.said in
-      ap (list_all (λ (t : Transition). is_below settings.states t.result)) (sym h.tail_after.is_kept.lines) ∙ all-below nothing said h.tail_after.good refl h.tail_after.say
+      ap (list_all (λ (t : Transition). is_below settings.states t.result)) (sym h.tail_after.is_kept.lines) ∙ all-below no_statements said h.tail_after.good refl h.tail_after.say
 
 -- what is stored is what the text says
 pub is-table : (bytes name : List ℕ) (all left : List NumberedLine) (settings : Settings) (kept : Statements) → HasTable bytes name all → IsBehindMeant all settings left → AreAllSaid settings left kept
-    → IsTable bytes (stored name settings.states settings.neighbourhood settings.symmetry kept.variables.items kept.transitions.items)
+    → IsTable bytes (stored_table name settings.states settings.neighbourhood settings.symmetry kept.variables.items kept.transitions.items)
 is-table bytes name all left settings kept has before h = record {
   name = name;
   setting_lines = before.good;
@@ -84,5 +84,5 @@ is-table bytes name all left settings kept has before h = record {
   mean = before.mean;
   say = h.tail_after.say;
   ends = h.ends;
-  table_is = λ i. stored name settings.states settings.neighbourhood settings.symmetry (sym h.tail_after.is_kept.sets i) (sym h.tail_after.is_kept.lines i);
+  table_is = λ i. stored_table name settings.states settings.neighbourhood settings.symmetry (sym h.tail_after.is_kept.sets i) (sym h.tail_after.is_kept.lines i);
 }

@@ -7,8 +7,8 @@ use Rattle.std.proofs.lemmas.Bool.{and_parts, cases_Bool}
 use Rattle.ca_plane.specs.Bytes.{is_blank, Every, front, rest, is_end_or}
 use Rattle.ca_plane.proofs.Fronts.{front_then_rest, every_front, front_append, rest_append}
 use Rattle.ca_rule.specs.TableLines.{NumberedLine, tail_after, begins_variable, is_name_byte, is_name, is_field, fields_between, IsVariableLine}
-use Rattle.ca_rule.specs.inner.TableFields.{opened, IsBraced}
-use Rattle.ca_rule.proofs.Stripped.{tail_after-is, tail_after-whole}
+use Rattle.ca_rule.specs.inner.TableFields.{after_brace, IsBraced}
+use Rattle.ca_rule.proofs.TextTails.{tail_after-is, tail_after-whole}
 
 -- a blank or a sign follows blanks
 blanks-end : (test : ℕ → Bool) (blanks more : List ℕ) → ((b : ℕ) → is_blank b ≡ true → test b ≡ true) → Every is_blank blanks → is_end_or test more ≡ true → is_end_or test (blanks ++ more) ≡ true
@@ -30,7 +30,7 @@ name-begins [] more e = cc
 name-begins (b ∷ bs) more e = no-blank b (and_parts (is_name_byte b) (list_all is_name_byte bs) (and_parts _ (list_all is_name_byte (b ∷ bs)) e).1).0
 
 -- what is braced is opened
-pub opened-braced : (bytes inside : List ℕ) → IsBraced bytes inside → opened bytes ≡ Some (inside ++ codes "}")
+pub opened-braced : (bytes inside : List ℕ) → IsBraced bytes inside → after_brace bytes ≡ Some (inside ++ codes "}")
 opened-braced bytes inside b =
     let one : rest is_blank bytes ≡ codes "=" ++ (b.third ++ (codes "{" ++ (inside ++ codes "}"))) = ap (rest is_blank) b.spelled ∙ rest_append is_blank b.second (codes "=" ++ (b.third ++ (codes "{" ++ (inside ++ codes "}")))) b.second_blanks refl in
     let two : tail_after (codes "=") (rest is_blank bytes) ≡ Some (b.third ++ (codes "{" ++ (inside ++ codes "}"))) = ap (tail_after (codes "=")) one ∙ tail_after-is (codes "=") (b.third ++ (codes "{" ++ (inside ++ codes "}"))) in
@@ -44,7 +44,7 @@ opened-parts None r e = cc
 opened-parts (Some more) r e = (more, refl, e)
 
 -- and what is opened and ends with a brace is braced
-pub braced-opened : (bytes inside r : List ℕ) → opened bytes ≡ Some r → r ≡ inside ++ codes "}" → IsBraced bytes inside
+pub braced-opened : (bytes inside r : List ℕ) → after_brace bytes ≡ Some r → r ≡ inside ++ codes "}" → IsBraced bytes inside
 braced-opened bytes inside r e end =
     let parts = opened-parts (tail_after (codes "=") (rest is_blank bytes)) r e in
     let one = tail_after-whole (codes "=") (rest is_blank bytes) parts.0 parts.1 in
@@ -128,13 +128,13 @@ pub no-last : (bytes : List ℕ) → length bytes ≡ 0 → (r : List ℕ) → b
 no-last bytes e r h = let k : length bytes ≡ length r + 1 = ap length h ∙ length_push r 125 in omega arith
 
 -- what comes before the last brace is braced
-pub braced-suffix : (bytes more : List ℕ) (o : Option (Bor (List ℕ))) → opened bytes ≡ Some more
+pub braced-suffix : (bytes more : List ℕ) (o : Option (Bor (List ℕ))) → after_brace bytes ≡ Some more
     → MatchOption o ((r : List ℕ) → more ≢ r ++ codes "}") (λ r. more ≡ r.now ++ codes "}") → MatchOption o ((inside : List ℕ) → IsBraced bytes inside → ⊥) (λ r. IsBraced bytes r.now)
 braced-suffix bytes more None opens none = λ inside b. none inside (ap (λ o. unwrap_or o []) (sym opens ∙ opened-braced bytes inside b))
 braced-suffix bytes more (Some r) opens some = braced-opened bytes r.now more opens some
 
 -- what doesn't open is not braced
-pub not-opened : (bytes inside : List ℕ) → opened bytes ≡ None → IsBraced bytes inside → ⊥
+pub not-opened : (bytes inside : List ℕ) → after_brace bytes ≡ None → IsBraced bytes inside → ⊥
 not-opened bytes inside e b = let k = sym e ∙ opened-braced bytes inside b in cc
 
 -- a variable's line, read from its start

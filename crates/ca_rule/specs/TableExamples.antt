@@ -54,8 +54,8 @@ abbrev pub unturned_cells : Neighbourhood → Transition → List ℕ → List �
 unturned_cells of line text = table_cells of Identity (line ∷ []) text
 
 -- one of another name, without transitions
-abbrev pub table_named : List ℕ → TableRule
-table_named other = record (table_of VonNeumann Identity []) { name = other }
+abbrev pub example_table : List ℕ → TableRule
+example_table other = record (table_of VonNeumann Identity []) { name = other }
 
 -- `a` and `b`
 abbrev pub a : Slot

@@ -9,7 +9,7 @@ use Rattle.ca_rule.specs.declared.table.slot.Slot.{Slot}
 use Rattle.ca_rule.specs.TableNext.{TableRule, table_next}
 use Rattle.ca_rule.specs.Digits.{are_digits}
 use Rattle.ca_rule.specs.TableLines.{NumberedLine, lines_said, last_line, rule_name, begins_table, begins_section, is_setting, states_set, neighbourhood_set, symmetry_set, is_name, IsVariableLine, IsTransitionLine}
-use Rattle.ca_rule.specs.TableText.{HasTable, sets_again, are_settings, Settings, Mean, SaidStatements, nothing, number_of, StandsFor, SaysVariable, is_bound, field_count, HasTransition, SaysTransition, Say, IsTable}
+use Rattle.ca_rule.specs.TableText.{HasTable, sets_again, are_settings, Settings, SettingsMean, SaidStatements, no_statements, number_of, StandsFor, SaysVariable, is_bound, field_count, HasTransition, SaysTransition, LinesSay, IsTable}
 
 -- the number of the first of the lines, or of the text's last where there is none
 abbrev pub number_at : List ℕ → List NumberedLine → ℕ
@@ -70,7 +70,8 @@ LackSymmetry lines = (n : ℕ) × (neighbourhood : Neighbourhood)
     × (states_set lines ≡ Some n) × (neighbourhood_set lines ≡ Some neighbourhood) × (symmetry_set neighbourhood lines ≡ None)
 
 -- after good settings and good statements comes a line of the table, the n-th of the text, and this holds of it
-pub record HasStatement (bytes : List ℕ) (n : ℕ) (P : Settings → SaidStatements → NumberedLine → Type 0) : Type 0 where
+pub record HasStatement (bytes : List ℕ) (n : ℕ)
+    (P : Settings → SaidStatements → NumberedLine → Type 0) : Type 0 where
   pub name : List ℕ
   pub setting_lines : List NumberedLine
   pub good : List NumberedLine
@@ -79,9 +80,9 @@ pub record HasStatement (bytes : List ℕ) (n : ℕ) (P : Settings → SaidState
   pub settings : Settings
   pub said : SaidStatements
   pub has_table : HasTable bytes name (setting_lines ++ (good ++ line ∷ later))
-  pub mean : Mean setting_lines settings
+  pub mean : SettingsMean setting_lines settings
   pub ends : follows_settings (good ++ line ∷ later) ≡ true
-  pub say : Say settings nothing good said
+  pub say : LinesSay settings no_statements good said
   pub in_table : begins_section line ≡ false
   pub number : n ≡ line.0
   pub holds : P settings said line
@@ -97,7 +98,8 @@ abbrev pub HasFields : Settings → NumberedLine → List (List ℕ) → Type 0
 HasFields settings line fields = ((name : List ℕ) × IsVariableLine line name fields) ⊎ IsTransitionLine line (field_count settings) fields
 
 -- of its fields, the first that stands for nothing is one of which this holds
-pub record HasBadField (settings : Settings) (said : SaidStatements) (line : NumberedLine) (P : List ℕ → Type 0) : Type 0 where
+pub record HasBadField (settings : Settings) (said : SaidStatements) (line : NumberedLine)
+    (P : List ℕ → Type 0) : Type 0 where
   pub good : List (List ℕ)
   pub slots : List Slot
   pub field : List ℕ

@@ -31,12 +31,12 @@ abbrev pub variable_states : List States → ℕ → States
 variable_states variables v = slice_index_or variables v []
 
 -- the cells that the slots take under an order: the centre, and then the ring's cells, each at its position
-abbrev pub arranged : Neighbourhood → List ℕ → List ℕ → List ℕ
-arranged neighbourhood nine order = slice_index nine 4 ∷ map (λ position. slice_index nine (slice_index (ring neighbourhood) position)) order
+abbrev pub cells_in_order : Neighbourhood → List ℕ → List ℕ → List ℕ
+cells_in_order neighbourhood nine order = slice_index nine 4 ∷ map (λ position. slice_index nine (slice_index (ring neighbourhood) position)) order
 
 -- a slot with the cell that it takes
-abbrev pub Taken : Type 0
-Taken = Slot × ℕ
+abbrev pub SlotCell : Type 0
+SlotCell = Slot × ℕ
 
 -- the slot is that number, or a variable that has that state
 abbrev pub admits : List States → Slot → ℕ → Bool
@@ -49,21 +49,21 @@ is_variable v (Number state) = false
 is_variable v (Variable w) = v == w
 
 -- each slot of the variable takes this cell
-abbrev pub take_one_cell : List Taken → Slot → ℕ → Bool
+abbrev pub take_one_cell : List SlotCell → Slot → ℕ → Bool
 take_one_cell all (Number state) cell = true
-take_one_cell all (Variable v) cell = list_all (λ (t : Taken). not (is_variable v t.0) || (t.1 == cell)) all
+take_one_cell all (Variable v) cell = list_all (λ (t : SlotCell). not (is_variable v t.0) || (t.1 == cell)) all
 
 -- each slot admits its cell, and all slots of one variable take one cell
-abbrev pub fits : List States → List Taken → Bool
-fits variables all = list_all (λ (t : Taken). admits variables t.0 t.1 && take_one_cell all t.0 t.1) all
+abbrev pub fits : List States → List SlotCell → Bool
+fits variables all = list_all (λ (t : SlotCell). admits variables t.0 t.1 && take_one_cell all t.0 t.1) all
 
 -- the cell that the variable takes
-abbrev pub taken_cell : ℕ → List Taken → ℕ
+abbrev pub taken_cell : ℕ → List SlotCell → ℕ
 taken_cell v [] = 0
 taken_cell v (t ∷ ts) = if is_variable v t.0 then t.1 else taken_cell v ts
 
 -- the state that a result gives: its number, or the cell of its variable
-abbrev pub result_state : Slot → List Taken → ℕ
+abbrev pub result_state : Slot → List SlotCell → ℕ
 result_state (Number state) all = state
 result_state (Variable v) all = taken_cell v all
 
@@ -71,7 +71,7 @@ result_state (Variable v) all = taken_cell v all
 abbrev pub outcome : Neighbourhood → List States → List ℕ → Transition → List (List ℕ) → Option ℕ
 outcome neighbourhood variables nine t [] = None
 outcome neighbourhood variables nine t (g ∷ gs) =
-    if fits variables (zip t.inputs (arranged neighbourhood nine g)) then Some (result_state t.result (zip t.inputs (arranged neighbourhood nine g)))
+    if fits variables (zip t.inputs (cells_in_order neighbourhood nine g)) then Some (result_state t.result (zip t.inputs (cells_in_order neighbourhood nine g)))
     else outcome neighbourhood variables nine t gs
 
 -- what the first transition gives that fits under one of these orders; where none fits, the centre stays

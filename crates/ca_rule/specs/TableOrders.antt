@@ -22,12 +22,12 @@ ring_size neighbourhood = length (ring neighbourhood)
 
 -- An order lists the ring's positions, counted from 0: the i-th slot takes the cell at the i-th of them.
 -- The order that begins at position s and goes on round a ring of n
-abbrev pub forward : ℕ → ℕ → List ℕ
-forward n s = map (λ i. (s + i) % n) (range_with_len 0 n)
+abbrev pub forward_order : ℕ → ℕ → List ℕ
+forward_order n s = map (λ i. (s + i) % n) (range_with_len 0 n)
 
 -- the order that begins at position s and goes back round it
-abbrev pub backward : ℕ → ℕ → List ℕ
-backward n s = map (λ i. (s + n - i) % n) (range_with_len 0 n)
+abbrev pub backward_order : ℕ → ℕ → List ℕ
+backward_order n s = map (λ i. (s + n - i) % n) (range_with_len 0 n)
 
 -- in lexicographic order the first list comes before the second, or they are one
 abbrev pub stands_before : List ℕ → List ℕ → Bool
@@ -46,8 +46,8 @@ in_order [] = []
 in_order (g ∷ gs) = put_among g (in_order gs)
 
 -- round a ring of n, in lexicographic order: the orders that go forward from some positions, and those that go back from some
-abbrev pub round : ℕ → List ℕ → List ℕ → List (List ℕ)
-round n from back_from = in_order (map (forward n) from ++ map (backward n) back_from)
+abbrev pub orders_round : ℕ → List ℕ → List ℕ → List (List ℕ)
+orders_round n from back_from = in_order (map (forward_order n) from ++ map (backward_order n) back_from)
 
 -- each element of a list, with the others
 abbrev pub picks : List ℕ → List (ℕ × List ℕ)
@@ -68,23 +68,23 @@ symmetries_of OneDimensional = Identity ∷ Reflect ∷ Permute ∷ []
 
 -- the orders of a symmetry that turns or mirrors the ring of a neighbourhood; one that it doesn't have has none
 abbrev pub round_orders : Neighbourhood → Symmetry → List (List ℕ)
-round_orders VonNeumann Rotate4 = round 4 (0 ∷ 1 ∷ 2 ∷ 3 ∷ []) []
-round_orders VonNeumann Rotate4Reflect = round 4 (0 ∷ 1 ∷ 2 ∷ 3 ∷ []) (0 ∷ 1 ∷ 2 ∷ 3 ∷ [])
-round_orders VonNeumann ReflectHorizontal = round 4 (0 ∷ []) (0 ∷ [])
-round_orders Moore Rotate4 = round 8 (0 ∷ 2 ∷ 4 ∷ 6 ∷ []) []
-round_orders Moore Rotate4Reflect = round 8 (0 ∷ 2 ∷ 4 ∷ 6 ∷ []) (0 ∷ 2 ∷ 4 ∷ 6 ∷ [])
-round_orders Moore ReflectHorizontal = round 8 (0 ∷ []) (0 ∷ [])
-round_orders Moore Rotate8 = round 8 (0 ∷ 1 ∷ 2 ∷ 3 ∷ 4 ∷ 5 ∷ 6 ∷ 7 ∷ []) []
-round_orders Moore Rotate8Reflect = round 8 (0 ∷ 1 ∷ 2 ∷ 3 ∷ 4 ∷ 5 ∷ 6 ∷ 7 ∷ []) (0 ∷ 1 ∷ 2 ∷ 3 ∷ 4 ∷ 5 ∷ 6 ∷ 7 ∷ [])
-round_orders Hexagonal Rotate2 = round 6 (0 ∷ 3 ∷ []) []
-round_orders Hexagonal Rotate3 = round 6 (0 ∷ 2 ∷ 4 ∷ []) []
-round_orders Hexagonal Rotate6 = round 6 (0 ∷ 1 ∷ 2 ∷ 3 ∷ 4 ∷ 5 ∷ []) []
-round_orders Hexagonal Rotate6Reflect = round 6 (0 ∷ 1 ∷ 2 ∷ 3 ∷ 4 ∷ 5 ∷ []) (0 ∷ 1 ∷ 2 ∷ 3 ∷ 4 ∷ 5 ∷ [])
-round_orders OneDimensional Reflect = round 2 (0 ∷ []) (1 ∷ [])
+round_orders VonNeumann Rotate4 = orders_round 4 (0 ∷ 1 ∷ 2 ∷ 3 ∷ []) []
+round_orders VonNeumann Rotate4Reflect = orders_round 4 (0 ∷ 1 ∷ 2 ∷ 3 ∷ []) (0 ∷ 1 ∷ 2 ∷ 3 ∷ [])
+round_orders VonNeumann ReflectHorizontal = orders_round 4 (0 ∷ []) (0 ∷ [])
+round_orders Moore Rotate4 = orders_round 8 (0 ∷ 2 ∷ 4 ∷ 6 ∷ []) []
+round_orders Moore Rotate4Reflect = orders_round 8 (0 ∷ 2 ∷ 4 ∷ 6 ∷ []) (0 ∷ 2 ∷ 4 ∷ 6 ∷ [])
+round_orders Moore ReflectHorizontal = orders_round 8 (0 ∷ []) (0 ∷ [])
+round_orders Moore Rotate8 = orders_round 8 (0 ∷ 1 ∷ 2 ∷ 3 ∷ 4 ∷ 5 ∷ 6 ∷ 7 ∷ []) []
+round_orders Moore Rotate8Reflect = orders_round 8 (0 ∷ 1 ∷ 2 ∷ 3 ∷ 4 ∷ 5 ∷ 6 ∷ 7 ∷ []) (0 ∷ 1 ∷ 2 ∷ 3 ∷ 4 ∷ 5 ∷ 6 ∷ 7 ∷ [])
+round_orders Hexagonal Rotate2 = orders_round 6 (0 ∷ 3 ∷ []) []
+round_orders Hexagonal Rotate3 = orders_round 6 (0 ∷ 2 ∷ 4 ∷ []) []
+round_orders Hexagonal Rotate6 = orders_round 6 (0 ∷ 1 ∷ 2 ∷ 3 ∷ 4 ∷ 5 ∷ []) []
+round_orders Hexagonal Rotate6Reflect = orders_round 6 (0 ∷ 1 ∷ 2 ∷ 3 ∷ 4 ∷ 5 ∷ []) (0 ∷ 1 ∷ 2 ∷ 3 ∷ 4 ∷ 5 ∷ [])
+round_orders OneDimensional Reflect = orders_round 2 (0 ∷ []) (1 ∷ [])
 round_orders neighbourhood symmetry = []
 
 -- the orders of a symmetry of a neighbourhood, in lexicographic order
 abbrev pub orders : Neighbourhood → Symmetry → List (List ℕ)
-orders neighbourhood Identity = forward (ring_size neighbourhood) 0 ∷ []
-orders neighbourhood Permute = every_order (ring_size neighbourhood) (forward (ring_size neighbourhood) 0)
+orders neighbourhood Identity = forward_order (ring_size neighbourhood) 0 ∷ []
+orders neighbourhood Permute = every_order (ring_size neighbourhood) (forward_order (ring_size neighbourhood) 0)
 orders neighbourhood symmetry = round_orders neighbourhood symmetry

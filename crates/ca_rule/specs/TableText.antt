@@ -40,7 +40,7 @@ pub record Settings : Type 0 where
   pub symmetry : Symmetry
 
 -- the lines are settings, all three of them, each once and in any order, and mean this
-pub record Mean (lines : List NumberedLine) (settings : Settings) : Type 0 where
+pub record SettingsMean (lines : List NumberedLine) (settings : Settings) : Type 0 where
   pub once : are_settings [] lines ≡ true
   pub states_are : states_set lines ≡ Some settings.states
   pub neighbourhood_is : neighbourhood_set lines ≡ Some settings.neighbourhood
@@ -52,8 +52,8 @@ pub record SaidStatements : Type 0 where
   pub transitions : List Transition
 
 -- before the first statement
-abbrev pub nothing : SaidStatements
-nothing = record { variables = []; transitions = [] }
+abbrev pub no_statements : SaidStatements
+no_statements = record { variables = []; transitions = [] }
 
 -- the states of the variables
 abbrev pub states_said : SaidStatements → List States
@@ -75,7 +75,8 @@ abbrev pub states_among : Settings → List States → List Slot → States
 states_among settings variables slots = filter (λ s. list_any (λ slot. admits variables slot s) slots) (range_with_len 0 settings.states)
 
 -- after what was said, the line says one more variable
-pub record SaysVariable (settings : Settings) (said : SaidStatements) (line : NumberedLine) (after : SaidStatements) : Type 0 where
+pub record SaysVariable (settings : Settings) (said : SaidStatements) (line : NumberedLine)
+    (after : SaidStatements) : Type 0 where
   pub name : List ℕ
   pub fields : List (List ℕ)
   pub slots : List Slot
@@ -93,7 +94,8 @@ abbrev pub field_count : Settings → ℕ
 field_count settings = ring_size settings.neighbourhood + 2
 
 -- the line is a transition, and this holds of its inputs and its result
-pub record HasTransition (settings : Settings) (said : SaidStatements) (line : NumberedLine) (P : List Slot → Slot → Type 0) : Type 0 where
+pub record HasTransition (settings : Settings) (said : SaidStatements) (line : NumberedLine)
+    (P : List Slot → Slot → Type 0) : Type 0 where
   pub fields : List (List ℕ)
   pub inputs : List Slot
   pub result : Slot
@@ -107,13 +109,13 @@ SaysTransition settings said line after = HasTransition settings said line (λ i
     × (after ≡ record said { transitions = said.transitions ++ record { inputs = inputs; result = result } ∷ [] }))
 
 -- the lines are statements, which say this, one after another, after what was said
-abbrev pub Say : Settings → SaidStatements → List NumberedLine → SaidStatements → Type 0
-Say settings said [] after = said ≡ after
-Say settings said (l ∷ ls) after = (next : SaidStatements) × (SaysVariable settings said l next ⊎ SaysTransition settings said l next) × Say settings next ls after
+abbrev pub LinesSay : Settings → SaidStatements → List NumberedLine → SaidStatements → Type 0
+LinesSay settings said [] after = said ≡ after
+LinesSay settings said (l ∷ ls) after = (next : SaidStatements) × (SaysVariable settings said l next ⊎ SaysTransition settings said l next) × LinesSay settings next ls after
 
 -- what a name, settings and statements make
-abbrev pub made : List ℕ → Settings → SaidStatements → TableRule
-made named settings said = record {
+abbrev pub table_from : List ℕ → Settings → SaidStatements → TableRule
+table_from named settings said = record {
   name = named;
   states = settings.states;
   neighbourhood = settings.neighbourhood;
@@ -137,7 +139,7 @@ pub record IsTable (bytes : List ℕ) (table : TableRule) : Type 0 where
   pub settings : Settings
   pub said : SaidStatements
   pub has_table : HasTable bytes name (setting_lines ++ (statements ++ later))
-  pub mean : Mean setting_lines settings
-  pub say : Say settings nothing statements said
+  pub mean : SettingsMean setting_lines settings
+  pub say : LinesSay settings no_statements statements said
   pub ends : is_end_of_section later ≡ true
-  pub table_is : table ≡ made name settings said
+  pub table_is : table ≡ table_from name settings said

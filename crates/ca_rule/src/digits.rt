@@ -5,14 +5,7 @@ ghost use Rattle.std.specs.List.{list_all};
 ghost use Rattle.ca_plane.specs.Bytes.{is_digit};
 ghost use Rattle.ca_rule.specs.Digits.{are_digits, state_count};
 
-use ca_plane::bytes::number;
-
-/// Whether each byte is a digit.
-fn all_digits(bytes: &[u8]) -> bool
-    ensures { result ≡ list_all is_digit bytes.now }
-{
-    bytes.iter().all(|byte| byte.is_ascii_digit())
-}
+use ca_plane::bytes::{all_digits, number};
 
 /// Whether the bytes are one or more digits.
 pub(crate) fn are_digits(bytes: &[u8]) -> bool

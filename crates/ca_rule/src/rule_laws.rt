@@ -3,7 +3,7 @@
 
 ghost use Rattle.std.specs.Prelude.{◌≡◌, ℕ, List, [], ◌∷◌, codes};
 ghost use Rattle.ca_rule.specs.TableNext.{TableRule};
-ghost use Rattle.ca_rule.specs.TableExamples.{table_of, table_named, one_neighbour, north_of_one};
+ghost use Rattle.ca_rule.specs.TableExamples.{table_of, example_table, one_neighbour, north_of_one};
 ghost use Rattle.ca_rule.specs.Counts.{counts_of};
 ghost use Rattle.ca_rule.specs.Rule.{RuleValue, Bs, Gen, Tab, next_of, IsSameRule, NamesRule, IsRuleFault};
 ghost use Rattle.ca_rule.specs.Rule.{printed_form};
@@ -48,7 +48,7 @@ pub fn worked_names()
     ensures table_is_named { NamesRule (codes "Spread") (table_of VonNeumann Rotate4 [] ∷ [])
         (Tab (table_of VonNeumann Rotate4 [])) }
     ensures other_names_are_passed_over { NamesRule (codes "Spread")
-        (table_named (codes "Spreads") ∷ table_of VonNeumann Rotate4 [] ∷ [])
+        (example_table (codes "Spreads") ∷ table_of VonNeumann Rotate4 [] ∷ [])
         (Tab (table_of VonNeumann Rotate4 [])) }
     ensures first_of_a_name_is_named { NamesRule (codes "Spread")
         (table_of VonNeumann Rotate4 (one_neighbour ∷ [])
@@ -56,19 +56,19 @@ pub fn worked_names()
         (Tab (table_of VonNeumann Rotate4 (one_neighbour ∷ []))) }
     ensures life_is_no_table { (rule : BsRule) → rule.hood ≡ Moore → rule.birth ≡ counts_of (codes "3")
         → rule.survival ≡ counts_of (codes "23")
-        → NamesRule (codes "23/3") (table_named (codes "23/3") ∷ []) (Bs rule) }
+        → NamesRule (codes "23/3") (example_table (codes "23/3") ∷ []) (Bs rule) }
     ensures brians_brain_is_no_table { (rule : GenRule) → rule.survival ≡ counts_of []
         → rule.birth ≡ counts_of (codes "2") → rule.states ≡ 3
-        → NamesRule (codes "/2/3") (table_named (codes "/2/3") ∷ []) (Gen rule) }
+        → NamesRule (codes "/2/3") (example_table (codes "/2/3") ∷ []) (Gen rule) }
     ensures lower_case_is_another_name { IsRuleFault (codes "spread")
         (table_of VonNeumann Rotate4 [] ∷ []) Unknown }
     ensures empty_text_is_no_name { IsRuleFault [] (table_of VonNeumann Rotate4 [] ∷ []) Unknown }
-    ensures waking_rule_is_no_table { IsRuleFault (codes "b03s23") (table_named (codes "b03s23") ∷ []) Wakes }
+    ensures waking_rule_is_no_table { IsRuleFault (codes "b03s23") (example_table (codes "b03s23") ∷ []) Wakes }
     ensures waking_generations_are_no_table { IsRuleFault (codes "2/0/3")
-        (table_named (codes "2/0/3") ∷ []) Wakes }
-    ensures too_many_states_may_be_a_name { NamesRule (codes "2/3/257") (table_named (codes "2/3/257") ∷ [])
-        (Tab (table_named (codes "2/3/257"))) }
+        (example_table (codes "2/0/3") ∷ []) Wakes }
+    ensures too_many_states_may_be_a_name { NamesRule (codes "2/3/257") (example_table (codes "2/3/257") ∷ [])
+        (Tab (example_table (codes "2/3/257"))) }
     ensures life_of_two_states_is_another_rule { (r : BsRule) (s : GenRule) → IsSameRule (Bs r) (Gen s) → ⊥ }
     ensures colon_is_no_table { IsRuleFault (codes "Spread:T9")
-        (table_named (codes "Spread:T9") ∷ []) Bounded }
+        (example_table (codes "Spread:T9") ∷ []) Bounded }
 {}

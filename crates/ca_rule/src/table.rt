@@ -35,7 +35,7 @@ pub(crate) use parts_fault::PartsFault;
 use placement::Orders;
 use reading::read_statements;
 use settings::read_settings;
-use sifted::{Sifted, first_outcome};
+use sifted::{SiftedTransitions, first_outcome};
 pub use slot::Slot;
 use state_set::StateSet;
 use std::alloc::Global;
@@ -51,20 +51,21 @@ pub struct Table {
     states: u16,
     neighbourhood: Neighbourhood,
     symmetry: Symmetry,
-    sifted: Sifted,
+    sifted: SiftedTransitions,
 }
 
 impl Model for Table {
     ghost use Rattle.ca_rule.specs.TableNext.{TableRule};
-    ghost use Rattle.ca_rule.specs.inner.TableStored.{stored, IsStoredTable};
+    ghost use Rattle.ca_rule.specs.inner.TableStored.{stored_table, IsStoredTable};
 
     ghost Value = { TableRule };
 
-    ghost view = { λ t. stored t.name.items t.states t.neighbourhood t.symmetry t.sifted.variables
+    ghost view = { λ t. stored_table t.name.items t.states t.neighbourhood t.symmetry t.sifted.variables
         t.sifted.transitions };
 
     ghost invariant = { λ t. IsStoredTable
-        (stored t.name.items t.states t.neighbourhood t.symmetry t.sifted.variables t.sifted.transitions) };
+        (stored_table t.name.items t.states t.neighbourhood t.symmetry
+        t.sifted.variables t.sifted.transitions) };
 }
 
 impl Table {
@@ -74,7 +75,7 @@ impl Table {
     ghost use Rattle.ca_rule.specs.TableNext.{Transition as TransitionValue, table_next};
     ghost use Rattle.ca_rule.specs.TableText.{IsTable};
     ghost use Rattle.ca_rule.specs.TableFaults.{IsTableTextFault};
-    ghost use Rattle.ca_rule.specs.inner.TableStored.{stored, is_below, IsPartsFault};
+    ghost use Rattle.ca_rule.specs.inner.TableStored.{stored_table, is_below, IsPartsFault};
 
     /// The table of a rule file's text, or what is wrong with its first faulty line. Out of memory comes only
     /// where a good statement or the whole table was read.
@@ -126,17 +127,18 @@ impl Table {
         requires results { list_all
             (λ (t : TransitionValue). is_below states t.result) transitions.items ≡ true }
         ensures parts { IfOk result
-            (λ t. t ≡ stored name.items states neighbourhood symmetry variables.items transitions.items) }
+            (λ t. t ≡ stored_table name.items states neighbourhood symmetry
+            variables.items transitions.items) }
         ensures quiet { IfOk result (λ t. table_next t (replicate 9 0) ≡ 0) }
         ensures fault { IfErr result
             (IsPartsFault
-            (stored name.items states neighbourhood symmetry variables.items transitions.items)) }
+            (stored_table name.items states neighbourhood symmetry variables.items transitions.items)) }
     {
         let orders = Orders::of(neighbourhood, symmetry);
         if first_outcome(&variables, &transitions, orders, &[0; 9]) != 0 {
             return Err(PartsFault::Wakes);
         }
-        let Ok(sifted) = Sifted::of(alloc, states, variables, transitions) else {
+        let Ok(sifted) = SiftedTransitions::of(alloc, states, variables, transitions) else {
             return Err(PartsFault::Memory);
         };
         Ok(Table {

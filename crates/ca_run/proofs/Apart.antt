@@ -5,8 +5,8 @@ use Rattle.ca_quad.specs.declared.tree.Tree.{Tree}
 use Rattle.ca_quad.specs.Sound.{Grows}
 use Rattle.ca_run.specs.Advanced.{IsAdvanced}
 use Rattle.ca_run.specs.Leaping.{LeaperView, LeaperGrows}
-use Rattle.ca_run.specs.inner.Apart.{IsMoved, KeepsOn}
-use Rattle.ca_run.proofs.Shown.{spends_again}
+use Rattle.ca_run.specs.inner.Apart.{IsCopyOfTree, KeepsOn}
+use Rattle.ca_run.proofs.ShownPlanes.{spends_again}
 
 module _ {Rule : Type 0} where
   -- one call after another
@@ -23,7 +23,7 @@ module _ {Rule : Type 0} where
 
 -- a tree that is taken from another store shows the same plane
 pub advanced_moved : {E : Type 0} (next : List ℕ → ℕ) (s0 s1 s2 : List Node) (first : Tree) (n : ℕ) (tree : Tree) (r : Result Tree E) → IsAdvanced next s0 first n s1 tree
-    → IfOk r (IsMoved s1 tree s2) → IfOk r (IsAdvanced next s0 first n s2)
+    → IfOk r (IsCopyOfTree s1 tree s2) → IfOk r (IsAdvanced next s0 first n s2)
 advanced_moved next s0 s1 s2 first n tree (Err e) advanced moved = tt
 advanced_moved next s0 s1 s2 first n tree (Ok copy) advanced moved = record {
   is_tree = moved.is_tree;

@@ -4,23 +4,23 @@ use Rattle.std.specs.Prelude.{ℤ, pos, negsuc, ◌+ℤ◌, replicate}
 use Rattle.std.proofs.lemmas.Int.{ints}
 use Rattle.ca_plane.specs.Generations.{cells_after}
 use Rattle.ca_quad.specs.declared.node.Node.{Node}
-use Rattle.ca_quad.specs.Squares.{IsOf, dot, together, cell_of}
+use Rattle.ca_quad.specs.Squares.{IsOf, one_cell, joined_cells, cell_of}
 use Rattle.ca_quad.specs.Sound.{IsSoundStore, Grows}
 use Rattle.ca_quad.specs.Trees.{ShowsSquare, AreFour, AreCorners, IsEmpty, from_corner}
 use Rattle.ca_run.specs.Centre.{IsCentre, IsLeap}
-use Rattle.ca_run.specs.inner.Shown.{Looks, ShowsAt, FourShow, sixteen}
+use Rattle.ca_run.specs.inner.Shown.{ShowsPlane, ShowsAt, FourShow, sixteen}
 use Rattle.ca_run.proofs.After.{after_same, after_none}
-use Rattle.ca_run.proofs.Looks.{looks_together, looks_centre}
-use Rattle.ca_run.proofs.Shown.{is_centre_at, four_was, four_go, four_stay, at_corner}
+use Rattle.ca_run.proofs.ShowsPlane.{looks_together, looks_centre}
+use Rattle.ca_run.proofs.ShownPlanes.{is_centre_at, four_was, four_go, four_stay, at_corner}
 
 -- the cells of four squares of four cells
 pub four_cells : (nodes : List Node) (w x y z : ℕ) (nw ne sw se : List ℕ) → AreCorners nodes w nw → AreCorners nodes x ne → AreCorners nodes y sw → AreCorners nodes z se
     → slice_index nw 0 ∷ slice_index nw 1 ∷ slice_index ne 0 ∷ slice_index ne 1
     ∷ slice_index nw 2 ∷ slice_index nw 3 ∷ slice_index ne 2 ∷ slice_index ne 3
     ∷ slice_index sw 0 ∷ slice_index sw 1 ∷ slice_index se 0 ∷ slice_index se 1
-    ∷ slice_index sw 2 ∷ slice_index sw 3 ∷ slice_index se 2 ∷ slice_index se 3 ∷ [] ≡ sixteen (together 2 (cell_of nodes 1 w) (cell_of nodes 1 x) (cell_of nodes 1 y) (cell_of nodes 1 z))
+    ∷ slice_index sw 2 ∷ slice_index sw 3 ∷ slice_index se 2 ∷ slice_index se 3 ∷ [] ≡ sixteen (joined_cells 2 (cell_of nodes 1 w) (cell_of nodes 1 x) (cell_of nodes 1 y) (cell_of nodes 1 z))
 four_cells nodes w x y z nw ne sw se a b c d =
-    let f = together 2 (cell_of nodes 1 w) (cell_of nodes 1 x) (cell_of nodes 1 y) (cell_of nodes 1 z) in
+    let f = joined_cells 2 (cell_of nodes 1 w) (cell_of nodes 1 x) (cell_of nodes 1 y) (cell_of nodes 1 z) in
     let e00 : f 0 0 ≡ slice_index nw 0 = a.has_cells 0 0 in
     let e10 : f 1 0 ≡ slice_index nw 1 = a.has_cells 1 0 in
     let e20 : f 2 0 ≡ slice_index ne 0 = b.has_cells 0 0 in
@@ -41,7 +41,7 @@ four_cells nodes w x y z nw ne sw se a b c d =
 
 -- ---- 2 by 2 squares
 
-dot_looks : (state : ℕ) (p : ℤ → ℤ → ℕ) (a b : ℤ) → state ≡ p a b → Looks 1 (dot state) p a b
+dot_looks : (state : ℕ) (p : ℤ → ℤ → ℕ) (a b : ℤ) → state ≡ p a b → ShowsPlane 1 (one_cell state) p a b
 dot_looks state p a b e zero zero i j =
     let ax : a ≡ a +ℤ pos 0 = omega (arith, ints) in
     let by : b ≡ b +ℤ pos 0 = omega (arith, ints) in
@@ -50,13 +50,13 @@ dot_looks state p a b e (suc x) y i j = absurd (omega arith)
 dot_looks state p a b e zero (suc y) i j = absurd (omega arith)
 
 dots_look : (s t u v : ℕ) (p : ℤ → ℤ → ℕ) (a b : ℤ) → s ≡ p a b → t ≡ p (a +ℤ pos 1) b → u ≡ p a (b +ℤ pos 1) → v ≡ p (a +ℤ pos 1) (b +ℤ pos 1)
-    → Looks 2 (together 1 (dot s) (dot t) (dot u) (dot v)) p a b
+    → ShowsPlane 2 (joined_cells 1 (one_cell s) (one_cell t) (one_cell u) (one_cell v)) p a b
 dots_look s t u v p a b e f g h =
-    looks_together 1 (dot s) (dot t) (dot u) (dot v) p a b (dot_looks s p a b e) (dot_looks t p (a +ℤ pos 1) b f) (dot_looks u p a (b +ℤ pos 1) g) (dot_looks v p (a +ℤ pos 1) (b +ℤ pos 1) h)
+    looks_together 1 (one_cell s) (one_cell t) (one_cell u) (one_cell v) p a b (dot_looks s p a b e) (dot_looks t p (a +ℤ pos 1) b f) (dot_looks u p a (b +ℤ pos 1) g) (dot_looks v p (a +ℤ pos 1) (b +ℤ pos 1) h)
 
 -- a square of four cells that are those of a plane shows it
 dots_at : {E : Type 0} (new : List Node) (r : Result ℕ E) (s t u v : ℕ) (p : ℤ → ℤ → ℕ) (a b : ℤ) → s ≡ p a b → t ≡ p (a +ℤ pos 1) b → u ≡ p a (b +ℤ pos 1) → v ≡ p (a +ℤ pos 1) (b +ℤ pos 1)
-    → IfOk r (λ id. ShowsSquare new id 1 (together 1 (dot s) (dot t) (dot u) (dot v))) → IfOk r (λ id. ShowsAt new id 1 p a b)
+    → IfOk r (λ id. ShowsSquare new id 1 (joined_cells 1 (one_cell s) (one_cell t) (one_cell u) (one_cell v))) → IfOk r (λ id. ShowsAt new id 1 p a b)
 dots_at new (Err e) s t u v p a b f g h i shows = tt
 dots_at new (Ok id) s t u v p a b f g h i shows = record {
   is_square = shows.is_square;
@@ -65,8 +65,8 @@ dots_at new (Ok id) s t u v p a b f g h i shows = record {
 
 -- the middle of four squares of four cells
 pub inner_cells_at : {E : Type 0} (old new : List Node) (r : Result ℕ E) (nw ne sw se : ℕ) (cells : List ℕ) (p : ℤ → ℤ → ℕ) (a b : ℤ)
-    → cells ≡ sixteen (together 2 (cell_of old 1 nw) (cell_of old 1 ne) (cell_of old 1 sw) (cell_of old 1 se)) → FourShow old 1 nw ne sw se p a b
-    → IfOk r (λ half. ShowsSquare new half 1 (together 1 (dot (slice_index cells 5)) (dot (slice_index cells 6)) (dot (slice_index cells 9)) (dot (slice_index cells 10))))
+    → cells ≡ sixteen (joined_cells 2 (cell_of old 1 nw) (cell_of old 1 ne) (cell_of old 1 sw) (cell_of old 1 se)) → FourShow old 1 nw ne sw se p a b
+    → IfOk r (λ half. ShowsSquare new half 1 (joined_cells 1 (one_cell (slice_index cells 5)) (one_cell (slice_index cells 6)) (one_cell (slice_index cells 9)) (one_cell (slice_index cells 10))))
     → IfOk r (λ half. ShowsAt new half 1 p (a +ℤ pos 1) (b +ℤ pos 1))
 inner_cells_at old new r nw ne sw se cells p a b e show made =
     let ax : a +ℤ pos 2 ≡ (a +ℤ pos 1) +ℤ pos 1 = omega (arith, ints) in
@@ -80,12 +80,12 @@ inner_cells_at old new r nw ne sw se cells p a b e show made =
 
 -- the next states of the four in the middle of four squares are what these leap to
 pub next_inner_leap : {E : Type 0} (next : List ℕ → ℕ) (old new : List Node) → IsSoundStore old → Grows old new → (r : Result ℕ E) (nw ne sw se : ℕ) (cells : List ℕ) (s t u v : ℕ) → AreFour old 1 nw ne sw se
-    → cells ≡ sixteen (together 2 (cell_of old 1 nw) (cell_of old 1 ne) (cell_of old 1 sw) (cell_of old 1 se))
+    → cells ≡ sixteen (joined_cells 2 (cell_of old 1 nw) (cell_of old 1 ne) (cell_of old 1 sw) (cell_of old 1 se))
     → s ≡ next (slice_index cells 0 ∷ slice_index cells 1 ∷ slice_index cells 2 ∷ slice_index cells 4 ∷ slice_index cells 5 ∷ slice_index cells 6 ∷ slice_index cells 8 ∷ slice_index cells 9 ∷ slice_index cells 10 ∷ [])
     → t ≡ next (slice_index cells 1 ∷ slice_index cells 2 ∷ slice_index cells 3 ∷ slice_index cells 5 ∷ slice_index cells 6 ∷ slice_index cells 7 ∷ slice_index cells 9 ∷ slice_index cells 10 ∷ slice_index cells 11 ∷ [])
     → u ≡ next (slice_index cells 4 ∷ slice_index cells 5 ∷ slice_index cells 6 ∷ slice_index cells 8 ∷ slice_index cells 9 ∷ slice_index cells 10 ∷ slice_index cells 12 ∷ slice_index cells 13 ∷ slice_index cells 14 ∷ [])
     → v ≡ next (slice_index cells 5 ∷ slice_index cells 6 ∷ slice_index cells 7 ∷ slice_index cells 9 ∷ slice_index cells 10 ∷ slice_index cells 11 ∷ slice_index cells 13 ∷ slice_index cells 14 ∷ slice_index cells 15 ∷ [])
-    → IfOk r (λ half. ShowsSquare new half 1 (together 1 (dot s) (dot t) (dot u) (dot v))) → IfOk r (IsLeap next new 0 nw ne sw se)
+    → IfOk r (λ half. ShowsSquare new half 1 (joined_cells 1 (one_cell s) (one_cell t) (one_cell u) (one_cell v))) → IfOk r (IsLeap next new 0 nw ne sw se)
 next_inner_leap next old new sound grows r nw ne sw se cells s t u v four e a b c d made = leap_of r (dots_at new r s t u v q (pos 0 +ℤ pos 1) (pos 0 +ℤ pos 1)
     (subst (λ l. s ≡ next (slice_index l 0 ∷ slice_index l 1 ∷ slice_index l 2 ∷ slice_index l 4 ∷ slice_index l 5 ∷ slice_index l 6 ∷ slice_index l 8 ∷ slice_index l 9 ∷ slice_index l 10 ∷ [])) e a)
     (subst (λ l. t ≡ next (slice_index l 1 ∷ slice_index l 2 ∷ slice_index l 3 ∷ slice_index l 5 ∷ slice_index l 6 ∷ slice_index l 7 ∷ slice_index l 9 ∷ slice_index l 10 ∷ slice_index l 11 ∷ [])) e b)
@@ -93,7 +93,7 @@ next_inner_leap next old new sound grows r nw ne sw se cells s t u v four e a b 
     (subst (λ l. v ≡ next (slice_index l 5 ∷ slice_index l 6 ∷ slice_index l 7 ∷ slice_index l 9 ∷ slice_index l 10 ∷ slice_index l 11 ∷ slice_index l 13 ∷ slice_index l 14 ∷ slice_index l 15 ∷ [])) e d) made)
   where
     f : ℕ → ℕ → ℕ
-    f = together 2 (cell_of old 1 nw) (cell_of old 1 ne) (cell_of old 1 sw) (cell_of old 1 se)
+    f = joined_cells 2 (cell_of old 1 nw) (cell_of old 1 ne) (cell_of old 1 sw) (cell_of old 1 se)
 
     q : ℤ → ℤ → ℕ
     q = cells_after next (from_corner f) 1

@@ -7,7 +7,7 @@ use Rattle.ca_quad.specs.Sound.{IsSoundStore}
 use Rattle.ca_run.specs.Leaping.{LeaperView, Costs}
 use Rattle.ca_run.specs.inner.AtCost.{GoesOnAtCost}
 use Rattle.ca_run.proofs.Leap.{goes_on_same}
-use Rattle.ca_run.proofs.Shown.{goes_on_again}
+use Rattle.ca_run.proofs.ShownPlanes.{goes_on_again}
 
 module _ {Rule : Type 0} where
   -- one call after another

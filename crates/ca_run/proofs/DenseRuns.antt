@@ -8,11 +8,11 @@ use Rattle.ca_quad.specs.Sound.{IsSoundStore, Grows}
 use Rattle.ca_quad.specs.Trees.{IsTree, cell, IsTrimmed}
 use Rattle.ca_quad.proofs.Cells.{of_stays}
 use Rattle.ca_quad.proofs.Growth.{grows_same}
-use Rattle.ca_run.specs.declared.leaper.dense.Reached.{Reached}
+use Rattle.ca_run.specs.declared.leaper.dense.ReachedTree.{ReachedTree}
 use Rattle.ca_run.specs.declared.fault.LeapFault.{LeapFault}
 use Rattle.ca_run.specs.Advanced.{IsAdvanced}
 use Rattle.ca_run.specs.Leaping.{Costs, LeaperView, Spent, Spends}
-use Rattle.ca_run.specs.inner.Apart.{IsMoved}
+use Rattle.ca_run.specs.inner.Apart.{IsCopyOfTree}
 use Rattle.ca_run.specs.inner.AtCost.{GoesOnAtCost}
 use Rattle.ca_run.specs.inner.Dense.{HasReached, IsIdle, IsDense, HasLeapt, HasParted}
 use Rattle.ca_run.proofs.After.{after_same, after_again}
@@ -21,7 +21,7 @@ use Rattle.ca_run.proofs.Levels.{low_stays, later_level, trimmed_low}
 use Rattle.ca_run.proofs.Trees.{tree_stays}
 
 -- a run of a tree is one of another with the same cells
-reached_as : (next : List ℕ → ℕ) (a b new : List Node) (first : Tree) (n : ℕ) (reached : Reached) → ((x y : ℤ) → cell a first x y ≡ cell b first x y)
+reached_as : (next : List ℕ → ℕ) (a b new : List Node) (first : Tree) (n : ℕ) (reached : ReachedTree) → ((x y : ℤ) → cell a first x y ≡ cell b first x y)
     → HasReached next a first n new reached → HasReached next b first n new reached
 reached_as next a b new first n reached same run = record {
   is_tree = run.is_tree;
@@ -31,17 +31,17 @@ reached_as next a b new first n reached same run = record {
 }
 
 -- of the first tree as it is among the squares by now
-pub reached_now : (next : List ℕ → ℕ) (old new : List Node) (first : Tree) (n : ℕ) (reached : Reached) → IsSoundStore old → Grows old new → IsTree old first
+pub reached_now : (next : List ℕ → ℕ) (old new : List Node) (first : Tree) (n : ℕ) (reached : ReachedTree) → IsSoundStore old → Grows old new → IsTree old first
     → HasReached next old first n new reached → HasReached next new first n new reached
 reached_now next old new first n reached sound grows is_tree = reached_as next old new new first n reached (λ x y. sym (tree_stays old new sound grows first is_tree x y))
 
 -- and as it was before some of them
-pub reached_before : (next : List ℕ → ℕ) (old mid new : List Node) (first : Tree) (n : ℕ) (reached : Reached) → IsSoundStore old → Grows old mid → IsTree old first
+pub reached_before : (next : List ℕ → ℕ) (old mid new : List Node) (first : Tree) (n : ℕ) (reached : ReachedTree) → IsSoundStore old → Grows old mid → IsTree old first
     → HasReached next mid first n new reached → HasReached next old first n new reached
 reached_before next old mid new first n reached sound grows is_tree = reached_as next mid old new first n reached (tree_stays old mid sound grows first is_tree)
 
 -- what is reached stays reached
-pub reached_stays : (next : List ℕ → ℕ) (old new : List Node) (first : Tree) (n : ℕ) (reached : Reached) → IsSoundStore old → Grows old new → IsTree old first
+pub reached_stays : (next : List ℕ → ℕ) (old new : List Node) (first : Tree) (n : ℕ) (reached : ReachedTree) → IsSoundStore old → Grows old new → IsTree old first
     → HasReached next old first n old reached → HasReached next new first n new reached
 reached_stays next old new first n reached sound grows is_tree run = record {
   is_tree = of_stays old new sound grows reached.tree.root reached.tree.level run.is_tree;
@@ -53,7 +53,7 @@ reached_stays next old new first n reached sound grows is_tree run = record {
 }
 
 -- and as more squares come
-pub reached_kept : (next : List ℕ → ℕ) (old mid new : List Node) (first : Tree) (n : ℕ) (reached : Reached) → IsSoundStore mid → Grows mid new
+pub reached_kept : (next : List ℕ → ℕ) (old mid new : List Node) (first : Tree) (n : ℕ) (reached : ReachedTree) → IsSoundStore mid → Grows mid new
     → HasReached next old first n mid reached → HasReached next old first n new reached
 reached_kept next old mid new first n reached sound grows run = record {
   is_tree = of_stays mid new sound grows reached.tree.root reached.tree.level run.is_tree;
@@ -62,7 +62,7 @@ reached_kept next old mid new first n reached sound grows run = record {
   cells = λ x y. tree_stays mid new sound grows reached.tree run.is_tree x y ∙ run.cells x y;
 }
 
-module _ (next : List ℕ → ℕ) (s0 s1 : List Node) (first : Tree) (n : ℕ) (reached : Reached) (run : HasReached next s0 first n s1 reached) where
+module _ (next : List ℕ → ℕ) (s0 s1 : List Node) (first : Tree) (n : ℕ) (reached : ReachedTree) (run : HasReached next s0 first n s1 reached) where
   -- what is reached has a low level
   pub reached_level : next (replicate 9 0) ≡ 0 → 1 ≤ first.level → first.level ≤ 64 → n ≤ 2 ^ 60 → reached.tree.level ≤ 123
   reached_level quiet some most time =
@@ -84,7 +84,7 @@ module _ (next : List ℕ → ℕ) (s0 s1 : List Node) (first : Tree) (n : ℕ) 
       }
 
   -- the same tree in another store
-  pub reached_moved : (s2 : List Node) (copy : Tree) → IsMoved s1 reached.tree s2 copy → HasReached next s0 first n s2 (record { tree = copy; generations = reached.generations })
+  pub reached_moved : (s2 : List Node) (copy : Tree) → IsCopyOfTree s1 reached.tree s2 copy → HasReached next s0 first n s2 (record { tree = copy; generations = reached.generations })
   reached_moved s2 copy moved = record {
     is_tree = moved.is_tree;
     low = λ level more holds. omega (arith, moved.level, run.low level more (λ x y live. holds x y (λ none. live (sym (moved.cells x y) ∙ none))));
@@ -112,14 +112,14 @@ advanced_before next old mid new first n (Ok tree) sound grows is_tree advanced 
 
 module _ {Rule : Type 0} {old mid : LeaperView Rule} (first : Tree) (n d : ℕ) (time : n < 2 ^ d) where
   -- what a run costs that ends among its steps
-  pub stepped_cost : (r : Result Reached LeapFault) → IsIdle Rule old mid r ⊎ IsDense Rule old first n mid → Costs Rule old mid (14 ^ (first.level + d + 2)) 1048576
+  pub stepped_cost : (r : Result ReachedTree LeapFault) → IsIdle Rule old mid r ⊎ IsDense Rule old first n mid → Costs Rule old mid (14 ^ (first.level + d + 2)) 1048576
   stepped_cost r (inl idle) = costs_more idle.costs (omega arith) (omega arith)
   stepped_cost r (inr dense) =
       let many = six_digits n d dense.many time in
       costs_more dense.costs (power_more (first.level + 6) (first.level + d + 2) (omega (arith, many))) (omega arith)
 
   -- and one that leaps after them
-  pub whole_cost : {new : LeaperView Rule} (reached : Reached) → IsIdle Rule old mid (Ok reached) ⊎ IsDense Rule old first n mid
+  pub whole_cost : {new : LeaperView Rule} (reached : ReachedTree) → IsIdle Rule old mid (Ok reached) ⊎ IsDense Rule old first n mid
       → HasLeapt Rule mid first reached.generations n 61 new → Costs Rule old new (14 ^ (first.level + d + 2)) 1048576
   whole_cost reached (inl idle) leapt =
       let more = power_more (first.level + min d 61 + 1) (first.level + d + 2) (omega arith) in
@@ -127,7 +127,7 @@ module _ {Rule : Type 0} {old mid : LeaperView Rule} (first : Tree) (n d : ℕ) 
   whole_cost reached (inr dense) leapt = costs_then dense.costs (leapt.later d time) (dense_cost first.level d dense.least (six_digits n d dense.many time)) (omega arith)
 
   -- and one that went on in a store of its own
-  pub parted_cost : {new : LeaperView Rule} (r : Result Reached LeapFault) → IsIdle Rule old mid r ⊎ IsDense Rule old first n mid
+  pub parted_cost : {new : LeaperView Rule} (r : Result ReachedTree LeapFault) → IsIdle Rule old mid r ⊎ IsDense Rule old first n mid
       → HasParted Rule mid first n new → Costs Rule old new (14 ^ (first.level + d + 2)) 1048576
   parted_cost r (inl idle) parted = record {
     most = omega (arith, countable_cost first.level d _ (parted.long d time) parted.used);

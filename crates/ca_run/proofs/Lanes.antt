@@ -11,7 +11,7 @@ use Rattle.ca_run.specs.inner.Centres.{HasCentre}
 use Rattle.ca_run.specs.inner.Shown.{ShowsAt, side}
 use Rattle.ca_run.specs.inner.Words.{WordShows}
 use Rattle.ca_run.specs.Masks.{GoesBy}
-use Rattle.ca_run.proofs.Shown.{is_centre_at, at_corner}
+use Rattle.ca_run.proofs.ShownPlanes.{is_centre_at, at_corner}
 
 -- the word of a square that shows a plane shows it
 pub word_at : (nodes : List Node) (id : ℕ) (found : Option ℕ) (p : ℤ → ℤ → ℕ) (a b : ℤ)

@@ -14,7 +14,7 @@ use Rattle.ca_run.specs.Centre.{IsCentre, IsLeap}
 use Rattle.ca_run.specs.Leaping.{LeaperView, LeaperGrows}
 use Rattle.ca_run.specs.inner.Shown.{ShowsAt, FourShow, AreThree, ThreeShow, TwoShow, AreNine, NineShow, side}
 use Rattle.ca_run.proofs.Overlaps.{pair_lies, trio_lies, rows_lie, four_lie}
-use Rattle.ca_run.proofs.Shown.{two_stay, spends_same, at_stays, three_stay, three_are, four_was, four_stay, four_go, centre_at, is_centre_at, at_corner}
+use Rattle.ca_run.proofs.ShownPlanes.{two_stay, spends_same, at_stays, three_stay, three_are, four_was, four_stay, four_go, centre_at, is_centre_at, at_corner}
 
 -- a leaper that does nothing goes on
 pub goes_on_same : (Rule : Type 0) (l : LeaperView Rule) → IsSoundStore l.nodes → LeaperGrows Rule l l

@@ -16,7 +16,7 @@ use Rattle.std.specs.Simd.Lanes.{zip2, digits_l, number_l}
 use Rattle.std.proofs.lemmas.List.Elements.{All-from_recursion}
 use Rattle.ca_plane.specs.Generations.{around, cells_after}
 use Rattle.ca_plane.specs.Moore.{moore_next}
-use Rattle.ca_quad.specs.Squares.{together}
+use Rattle.ca_quad.specs.Squares.{joined_cells}
 use Rattle.ca_quad.specs.Trees.{row_cells, word_cells}
 use Rattle.ca_quad.proofs.Growth.{below_or_not}
 use Rattle.ca_quad.proofs.Cells.{in_nw, in_ne, in_sw, in_se}
@@ -27,7 +27,7 @@ use Rattle.ca_run.specs.Masks.{GoesBy}
 use Rattle.ca_run.specs.Later.{IsWithin}
 use Rattle.ca_run.proofs.After.{around-same, around-nine_states}
 use Rattle.ca_run.proofs.BitRows.{bit_low}
-use Rattle.ca_run.proofs.Looks.{looks_together}
+use Rattle.ca_run.proofs.ShowsPlane.{looks_together}
 
 -- ---- bits
 
@@ -98,7 +98,7 @@ byte_low word y = mod_below (word / 2 ^ (8 * y)) 256 (omega arith)
 
 -- the rows of four words show their cells
 rows_cells : (words : Words) (rows : List ℕ) → IsRowsOf words rows → (x y : ℕ) → x < 16 → y < 16
-    → row_cells rows x y ≡ together 8 (word_cells words.nw) (word_cells words.ne) (word_cells words.sw) (word_cells words.se) x y
+    → row_cells rows x y ≡ joined_cells 8 (word_cells words.nw) (word_cells words.ne) (word_cells words.sw) (word_cells words.se) x y
 rows_cells words rows is x y i j =
     let nw = word_cells words.nw in
     let ne = word_cells words.ne in

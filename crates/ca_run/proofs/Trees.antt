@@ -19,7 +19,7 @@ use Rattle.ca_run.specs.inner.Shown.{ShowsAt, side}
 use Rattle.ca_run.specs.inner.Padded.{IsPadded}
 use Rattle.ca_run.specs.inner.Beyond.{IsBeyond, DiesBeyond}
 use Rattle.ca_run.proofs.After.{after_same, after_dead}
-use Rattle.ca_run.proofs.Shown.{at_from, centre_at}
+use Rattle.ca_run.proofs.ShownPlanes.{at_from, centre_at}
 
 -- a tree is empty beyond half its side
 pub tree_dies : (nodes : List Node) (tree : Tree) → 1 ≤ tree.level → DiesBeyond (2 ^ (tree.level - 1)) (cell nodes tree)

@@ -16,7 +16,7 @@ use Rattle.ca_run.specs.inner.Beyond.{DiesBeyond}
 use Rattle.ca_run.specs.inner.Bricks.{BrickShows, IsBlank, IsWall, WallShows, IsNearWall, LiesWithin}
 use Rattle.ca_run.proofs.Words.{word_from}
 use Rattle.ca_run.proofs.ReadWords.{word_empty, side_words}
-use Rattle.ca_run.proofs.Shown.{at_from}
+use Rattle.ca_run.proofs.ShownPlanes.{at_from}
 use Rattle.ca_run.proofs.Trees.{tree_at}
 
 -- ---- beyond the bricks

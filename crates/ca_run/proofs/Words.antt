@@ -4,7 +4,7 @@ use Rattle.std.specs.Prelude.{ℤ, pos, ◌+ℤ◌}
 use Rattle.ca_quad.specs.Trees.{word_cells}
 use Rattle.ca_run.specs.declared.leaper.words.Words.{Words}
 use Rattle.ca_run.specs.inner.Words.{WordShows, WordsShow}
-use Rattle.ca_run.proofs.Looks.{looks_from, quarters_each}
+use Rattle.ca_run.proofs.ShowsPlane.{looks_from, quarters_each}
 
 -- the same from a place by another name
 pub word_from : (word : ℕ) (p : ℤ → ℤ → ℕ) (a b c d : ℤ) → a ≡ c → b ≡ d → WordShows word p a b → WordShows word p c d

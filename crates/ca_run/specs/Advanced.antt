@@ -1,6 +1,7 @@
 -- Trees some generations on.
 use Rattle.std.specs.Prelude.{◌≡◌, ℕ, ◌+◌, ◌<◌, ◌≤◌, ◌^◌, ℤ, List, Result, Ok, IfOk}
 use Rattle.ca_plane.specs.Generations.{cells_after}
+use Rattle.ca_plane.specs.Limits.{most_generations}
 use Rattle.ca_quad.specs.declared.node.Node.{Node}
 use Rattle.ca_quad.specs.declared.tree.Tree.{Tree}
 use Rattle.ca_quad.specs.Trees.{IsTree, cell}
@@ -11,7 +12,7 @@ use Rattle.ca_run.specs.Leaping.{Costs, LeaperView, LeaperGrows, EndsAtLimit}
 pub record CanAdvance (nodes : List Node) (tree : Tree) (n : ℕ) : Type 0 where
   pub is_tree : IsTree nodes tree
   pub level : tree.level ≤ 64
-  pub time : n ≤ 2 ^ 60
+  pub time : n ≤ most_generations
 
 -- the tree shows what the plane of the first one is n generations on, and has at most 2^124 cells a side
 pub record IsAdvanced (next : List ℕ → ℕ) (old : List Node) (first : Tree) (n : ℕ)

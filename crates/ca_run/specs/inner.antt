@@ -2,7 +2,7 @@ pub mod Order
 pub mod CellsAhead
 pub mod Row
 pub mod Window
-pub mod Reached
+pub mod ReachedTree
 pub mod Written
 pub mod Shown
 pub mod Padded

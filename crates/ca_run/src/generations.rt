@@ -5,7 +5,7 @@ ghost use Rattle.std.specs.List.{All};
 ghost use Rattle.ca_plane.specs.Sparse.{IsSparse};
 ghost use Rattle.ca_run.specs.Reach.{IsInReach};
 ghost use Rattle.ca_run.specs.Stepped.{HasStates, IsStepped, Steps};
-ghost use Rattle.ca_run.specs.inner.Reached.{IsOutOfReach};
+ghost use Rattle.ca_run.specs.inner.ReachedTree.{IsOutOfReach};
 
 use crate::fault::RunFault;
 use crate::window::MovingWindow;
@@ -49,10 +49,10 @@ fn is_all_in_reach(plane: &Plane) -> bool
 fn is_in_reach(at: Point) -> bool
     ensures { IsTrue result ↔ IsInReach at.x at.y }
 {
-    is_near(at.x) && is_near(at.y)
+    is_coordinate_in_reach(at.x) && is_coordinate_in_reach(at.y)
 }
 
-fn is_near(coordinate: i64) -> bool
+fn is_coordinate_in_reach(coordinate: i64) -> bool
     ensures { IsTrue result ↔ (neg_ℤ (pos (2 ^ 62 - 2)) ≤ℤ coordinate) × (coordinate ≤ℤ pos (2 ^ 62 - 2)) }
 {
     -STEP_REACH <= coordinate && coordinate <= STEP_REACH

@@ -1,7 +1,7 @@
 //! Leaps by powers of two over shared squares (Gosper, "Exploiting regularities in large cellular spaces").
 
 ghost use Rattle.std.specs.Prelude.{◌≡◌, ℕ, suc, ◌+◌, ◌≤◌, ℤ, OnOk, IfOk, IfSome};
-ghost use Rattle.ca_quad.specs.Squares.{IsOf, dot, together};
+ghost use Rattle.ca_quad.specs.Squares.{IsOf, one_cell, joined_cells};
 ghost use Rattle.ca_quad.specs.Sound.{IsSoundStore};
 ghost use Rattle.ca_quad.specs.Trees.{AreFour, ShowsSquare};
 ghost use Rattle.ca_run.specs.Centre.{IsCentre, IsLeap};
@@ -9,6 +9,7 @@ ghost use Rattle.ca_run.specs.Leaping.{EndsAtLimit};
 ghost use Rattle.ca_run.specs.inner.AtCost.{GoesOnAtCost};
 ghost use Rattle.ca_run.specs.Masks.{GoesBy};
 ghost use Rattle.ca_run.specs.inner.Shown.{ShowsAt, FourShow};
+ghost use Rattle.ca_plane.specs.Limits.{most_memo};
 
 mod advance;
 mod apart;
@@ -91,7 +92,7 @@ impl<A: Automaton> Leaper<A> {
     where
         A: Drop,
         requires least { 1 ≤ memo }
-        requires most { memo ≤ 16777216 }
+        requires most { memo ≤ most_memo }
         ensures store { IfOk result (λ l. l.nodes ≡ store) }
         ensures rule { IfOk result (λ l. l.rule ≡ rule) }
         ensures memo { IfOk result (λ l. l.memo ≡ memo) }
@@ -259,7 +260,7 @@ impl<A: Automaton> Leaper<A> {
     // The 2 by 2 square of these cells.
     fn leaf(&mut self, nw: u8, ne: u8, sw: u8, se: u8) -> Result<Id, Memory>
         ensures shows { IfOk result (λ id. ShowsSquare self.new.nodes id 1
-            (together 1 (dot nw) (dot ne) (dot sw) (dot se))) }
+            (joined_cells 1 (one_cell nw) (one_cell ne) (one_cell sw) (one_cell se))) }
         ensures at_cost { GoesOnAtCost A self.old self.new 0 1 }
     {
         self.store.leaf(nw, ne, sw, se)

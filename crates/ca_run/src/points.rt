@@ -1,6 +1,7 @@
 //! Points and coordinates side by side.
 
-ghost use Rattle.std.specs.Prelude.{◌≡◌, pos, neg_ℤ, ◌+ℤ◌, ◌-ℤ◌, ◌≤ℤ◌, ◌^◌};
+ghost use Rattle.std.specs.Prelude.{◌≡◌, pos, neg_ℤ, ◌+ℤ◌, ◌-ℤ◌, ◌≤ℤ◌};
+ghost use Rattle.ca_plane.specs.Limits.{reach};
 ghost use Rattle.ca_run.specs.inner.Order.{IsEarlier};
 
 use ca_plane::Point;
@@ -20,7 +21,7 @@ pub(crate) fn earlier_point(a: Option<Point>, b: Option<Point>) -> Option<Point>
 
 /// The coordinate of the row above, or of the column to the west.
 pub(crate) fn one_less(coordinate: i64) -> i64
-    requires { neg_ℤ (pos (2 ^ 62)) ≤ℤ coordinate }
+    requires { neg_ℤ reach ≤ℤ coordinate }
     ensures { result ≡ coordinate -ℤ pos 1 }
 {
     coordinate - 1
@@ -28,7 +29,7 @@ pub(crate) fn one_less(coordinate: i64) -> i64
 
 /// The coordinate of the row below, or of the column to the east.
 pub(crate) fn one_more(coordinate: i64) -> i64
-    requires { coordinate ≤ℤ pos (2 ^ 62) }
+    requires { coordinate ≤ℤ reach }
     ensures { result ≡ coordinate +ℤ pos 1 }
 {
     coordinate + 1

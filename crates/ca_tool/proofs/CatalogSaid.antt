@@ -18,7 +18,8 @@ use Rattle.ca_claims.specs.declared.file.File.{File}
 use Rattle.ca_claims.specs.declared.identity.Identity.{Identity}
 use Rattle.ca_claims.specs.declared.identity.Growth.{Growth}
 use Rattle.ca_claims.specs.declared.identity.Identity.TheVariants.{Empty, StillLife, Oscillator, Spaceship, Dies, Unknown}
-use Rattle.ca_claims.specs.Text.{ClaimTextLine, Version, Rule, Load, Claims, greatest_shift, is_second, path_of, ClaimLinesSay}
+use Rattle.ca_plane.specs.Limits.{greatest_shift}
+use Rattle.ca_claims.specs.Text.{ClaimTextLine, Version, Rule, Load, Claims, is_second, path_of, ClaimLinesSay}
 use Rattle.ca_claims.specs.Identified.{IsIdentity}
 use Rattle.ca_claims.proofs.LinesSaid.{path_of-append}
 use Rattle.ca_claims.proofs.PathLists.{bytes_eq_self}

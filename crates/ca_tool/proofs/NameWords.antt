@@ -6,7 +6,7 @@ use Rattle.std.proofs.lemmas.Bool.{and_parts, and_from, cases_Bool, lt-ltb, fals
 use Rattle.std.proofs.lemmas.Bool.Decides.{nat_tests}
 use Rattle.ca_plane.specs.Bytes.{Every, is_line_end, is_word_byte, is_digit, IsWord, AreDigits, IsInteger}
 use Rattle.ca_plane.proofs.Fronts.{every_append, every_wider}
-use Rattle.ca_tool.specs.Names.{is_word, is_claim_path, name_byte, with_first_byte, without_ending, last_component, claim_name, numbered, IsFreeName}
+use Rattle.ca_tool.specs.Names.{is_word, is_claim_path, name_byte, with_first_byte, without_ending, last_component, claim_name, numbered_name, IsFreeName}
 use Rattle.ca_tool.specs.Catalog.{line_byte}
 use Rattle.ca_tool.proofs.Saying.{is_inner}
 
@@ -77,7 +77,7 @@ word_append [] more h m = absurd (false≢true h)
 word_append (b ∷ bs) more h m = every_append is_word_byte (b ∷ bs) more h m
 
 -- a name with a number after it
-numbered_word : (name : List ℕ) (place : ℕ) → IsWord name → IsWord (numbered name place)
+numbered_word : (name : List ℕ) (place : ℕ) → IsWord name → IsWord (numbered_name name place)
 numbered_word name place h = elim (cases_Bool (nat_eq place 0)) [
   | inl e ↦ rw e h
   | inr e ↦ rw e (word_append name (codes "-" ++ decimal (place + 1)) h (digits_pass is_word_byte digit_fits (place + 1)))

@@ -6,7 +6,7 @@ use Rattle.std.proofs.lemmas.List.{append-nil}
 use Rattle.ca_plane.specs.Bytes.{Every, is_line_end, is_word_byte, is_blank, IsWord, lines_of, words_of}
 use Rattle.ca_plane.proofs.Fronts.{every_append, every_wider}
 use Rattle.ca_plane.proofs.Lines.{lines_ahead, words_ahead}
-use Rattle.ca_claims.specs.Text.{ClaimTextLine, is_skipped, ClaimWordsSay, IsAllowedLine, ClaimLinesSay, spoken}
+use Rattle.ca_claims.specs.Text.{ClaimTextLine, is_skipped, ClaimWordsSay, IsAllowedLine, ClaimLinesSay, said_lines}
 use Rattle.ca_claims.proofs.LinesSaid.{spoken-append}
 
 -- a byte that ends no line
@@ -19,7 +19,7 @@ pub record TextSays (earlier : List ClaimTextLine) (text : List ℕ) (says : Lis
   pub said : List (Option ClaimTextLine)
   pub split : (more : List ℕ) → lines_of (text ++ more) ≡ lines ++ lines_of more
   pub good : ClaimLinesSay earlier lines said
-  pub all : spoken said ≡ says
+  pub all : said_lines said ≡ says
 
 -- no text says nothing
 pub says_none : (earlier : List ClaimTextLine) → TextSays earlier [] []
@@ -27,7 +27,7 @@ says_none earlier = record { lines = []; said = []; split = λ more. refl; good 
 
 -- lines, and then others
 lines_then : (earlier : List ClaimTextLine) (lines others : List (List ℕ)) (said more : List (Option ClaimTextLine)) → ClaimLinesSay earlier lines said
-    → ClaimLinesSay (earlier ++ spoken said) others more → ClaimLinesSay earlier (lines ++ others) (said ++ more)
+    → ClaimLinesSay (earlier ++ said_lines said) others more → ClaimLinesSay earlier (lines ++ others) (said ++ more)
 lines_then earlier [] others [] more first second = subst (λ l. ClaimLinesSay l others more) (append-nil earlier) second
 lines_then earlier [] others (s ∷ said) more first second = absurd first
 lines_then earlier (l ∷ ls) others [] more first second = absurd first
@@ -37,7 +37,7 @@ lines_then earlier (l ∷ ls) others (Some line ∷ said) more first second = (
   first.1,
   first.2,
   lines_then (earlier ++ line ∷ []) ls others said more first.3
-      (subst (λ k. ClaimLinesSay k others more) (sym (append_assoc earlier (line ∷ []) (spoken said))) second),
+      (subst (λ k. ClaimLinesSay k others more) (sym (append_assoc earlier (line ∷ []) (said_lines said))) second),
 )
 
 -- a text, and then another
@@ -50,7 +50,7 @@ says_then earlier text other says more first second = record {
       ∙ sym (append_assoc first.lines second.lines (lines_of rest));
   good = lines_then earlier first.lines second.lines first.said second.said first.good
       (subst (λ l. ClaimLinesSay (earlier ++ l) second.lines second.said) (sym first.all) second.good);
-  all = spoken-append first.said second.said ∙ ap (λ l. l ++ spoken second.said) first.all ∙ ap (λ l. says ++ l) second.all;
+  all = spoken-append first.said second.said ∙ ap (λ l. l ++ said_lines second.said) first.all ∙ ap (λ l. says ++ l) second.all;
 }
 
 -- words with a blank between each two of them, and LF after the last

@@ -135,13 +135,15 @@ IsOutcome tables work n limit subject outcome =
     ⊎ ((is_claim_path subject.path.now ≡ true) × IsContentOutcome tables work n limit subject.content outcome)
 
 -- an entry on a file, whose name is none of those taken
-pub record IsEntry (tables : List TableRule) (work n limit : ℕ) (taken : List (List ℕ)) (subject : Subject) (entry : Entry) : Type 0 where
+pub record IsEntry (tables : List TableRule) (work n limit : ℕ) (taken : List (List ℕ)) (subject : Subject)
+    (entry : Entry) : Type 0 where
   pub path : entry.path.now ≡ subject.path.now
   pub name : IsFreeName taken (claim_name subject.path.now) entry.name.items
   pub outcome : IsOutcome tables work n limit subject entry.outcome
 
 -- an entry on each file, in order, whose names are different, and none of those taken before
-abbrev pub AreEntries : List TableRule → (work n limit : ℕ) → (taken : List (List ℕ)) → List Subject → List Entry → Type 0
+abbrev pub AreEntries : List TableRule → (work n limit : ℕ) → (taken : List (List ℕ)) → List Subject
+    → List Entry → Type 0
 AreEntries tables work n limit taken [] [] = Unit {0}
 AreEntries tables work n limit taken [] (e ∷ es) = ⊥
 AreEntries tables work n limit taken (s ∷ ss) [] = ⊥
@@ -153,7 +155,8 @@ abbrev pub AreRuleTables : List File → List TableRule → Type 0
 AreRuleTables rules tables = AllZip (λ file table. IsQuietTable file.bytes.now table) rules tables
 
 -- the text has true entries on these files, under the tables of the rule files, and the code is their exit status
-pub record IsCatalog (subjects : List Subject) (rules : List File) (work n limit : ℕ) (text : List ℕ) (code : ℕ) : Type 0 where
+pub record IsCatalog (subjects : List Subject) (rules : List File) (work n limit : ℕ) (text : List ℕ)
+    (code : ℕ) : Type 0 where
   pub tables : List TableRule
   pub known : AreRuleTables rules tables
   pub entries : List Entry

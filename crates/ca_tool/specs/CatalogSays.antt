@@ -6,7 +6,7 @@ use Rattle.ca_claims.specs.declared.claims.line.Kind.TheVariants as kind
 use Rattle.ca_claims.specs.declared.file.File.{File}
 use Rattle.ca_claims.specs.declared.identity.Identity.{Identity}
 use Rattle.ca_claims.specs.declared.identity.Identity.TheVariants.{Empty, StillLife, Oscillator, Spaceship, Dies, Unknown}
-use Rattle.ca_claims.specs.Text.{ClaimTextLine, Version, Rule, Load, Claims, IsClaimText, spoken}
+use Rattle.ca_claims.specs.Text.{ClaimTextLine, Version, Rule, Load, Claims, IsClaimText, said_lines}
 use Rattle.ca_tool.specs.declared.entry.Outcome.{Outcome}
 use Rattle.ca_tool.specs.declared.entry.Outcome.TheVariants.{Unnameable, Identified, Refused}
 use Rattle.ca_tool.specs.declared.entry.Entry.{Entry}
@@ -52,7 +52,7 @@ catalog_says n rules entries = version_says n entries ++ (map (λ file. Rule fil
 pub record SaysOf (text : List ℕ) (lines : List ClaimTextLine) : Type 0 where
   pub said : List (Option ClaimTextLine)
   pub reads : IsClaimText text said
-  pub says : spoken said ≡ lines
+  pub says : said_lines said ≡ lines
 
 -- each rule file's path is a word
 abbrev pub AreRuleWords : List File → Type 0

@@ -7,7 +7,7 @@ use Rattle.ca_rule.specs.TableNext.{TableRule}
 use Rattle.ca_rule.specs.Rule.{RuleValue, next_of, states_of}
 use Rattle.ca_draw.specs.declared.window.Window.{Window}
 use Rattle.ca_draw.specs.Drawings.{drawing}
-use Rattle.ca_claims.specs.Ahead.{Begins, IsReachFault}
+use Rattle.ca_claims.specs.Ahead.{HoldsSmallRuledPattern, IsReachFault}
 use Rattle.ca_tool.specs.declared.drawing.DrawRequest.{DrawRequest}
 use Rattle.ca_tool.specs.declared.fault.ToolFault.{ToolFault}
 use Rattle.ca_tool.specs.declared.fault.ToolFault.TheVariants as tools
@@ -28,11 +28,12 @@ abbrev pub HasNoWindow : DrawRequest → (ℤ → ℤ → ℕ) → WindowFault �
 HasNoWindow request cells fault = (box : WideBounds) × IsBoxShown cells box × IsNoWindowFor request.view request.format box fault
 
 -- this holds of the cells that a file's pattern has so many generations on, at every x and y, and of its rule's number of states
-pub record HoldsOfLater (bytes : List ℕ) (tables : List TableRule) (n : ℕ) (Holds : ℕ → (ℤ → ℤ → ℕ) → Type 0) : Type 0 where
+pub record HoldsOfLater (bytes : List ℕ) (tables : List TableRule) (n : ℕ)
+    (Holds : ℕ → (ℤ → ℤ → ℕ) → Type 0) : Type 0 where
   pub cells : Picture
   pub rule : RuleValue
   pub generation : ℕ
-  pub begins : Begins bytes tables cells rule generation
+  pub begins : HoldsSmallRuledPattern bytes tables cells rule generation
   pub holds : Holds (states_of rule) (after (next_of rule) cells n)
 
 -- the text is what is drawn of a file with these bytes: a picture of its cells after the generations that are asked for

@@ -37,8 +37,8 @@ abbrev pub claim_name : List ℕ → List ℕ
 claim_name path = with_first_byte (map name_byte (without_ending (last_component path)))
 
 -- the name itself, then with `-2`, `-3` and so on after it
-abbrev pub numbered : List ℕ → ℕ → List ℕ
-numbered name place = if nat_eq place 0 then name else name ++ (codes "-" ++ decimal (place + 1))
+abbrev pub numbered_name : List ℕ → ℕ → List ℕ
+numbered_name name place = if nat_eq place 0 then name else name ++ (codes "-" ++ decimal (place + 1))
 
 -- the name is one of these
 abbrev pub is_taken : List (List ℕ) → List ℕ → Bool
@@ -47,6 +47,6 @@ is_taken names name = list_any (bytes_eq name) names
 -- the first of the name itself, with `-2`, `-3` and so on that is none of those taken
 pub record IsFreeName (taken : List (List ℕ)) (name free : List ℕ) : Type 0 where
   pub place : ℕ
-  pub spelled : free ≡ numbered name place
+  pub spelled : free ≡ numbered_name name place
   pub new : is_taken taken free ≡ false
-  pub earlier : (k : ℕ) → k < place → is_taken taken (numbered name k) ≡ true
+  pub earlier : (k : ℕ) → k < place → is_taken taken (numbered_name name k) ≡ true

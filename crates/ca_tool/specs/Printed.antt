@@ -29,7 +29,7 @@ use Rattle.ca_claims.specs.declared.format.Format.TheVariants.{Rle, Mc}
 use Rattle.ca_claims.specs.declared.conversion.ConvertFault.{ConvertFault}
 use Rattle.ca_claims.specs.declared.conversion.ConvertFault.TheVariants as converts
 use Rattle.ca_claims.specs.declared.pattern.Summary.{Summary}
-use Rattle.ca_claims.specs.declared.refused.Refused.{Refused as RefusedFor}
+use Rattle.ca_claims.specs.declared.detailed_fault.DetailedFault.{DetailedFault as RefusedFor}
 use Rattle.ca_tool.specs.declared.fault.Fault.{Fault}
 use Rattle.ca_tool.specs.declared.fault.Fault.TheVariants as faults
 use Rattle.ca_tool.specs.declared.fault.InputFault.{InputFault}

@@ -53,7 +53,8 @@ abbrev pub TakesAtMost : ℕ → Option (List ℕ) → Option (List ℕ) → Typ
 TakesAtMost most old new = (bytes : List ℕ) × (length bytes ≤ most) × Consumes old new bytes
 
 -- at most a byte more than a file may have was taken; a failed read is counted, and nothing else is
-pub record TakesFile {R T E : Type 0} (remaining : R → Option (List ℕ)) (old new : Counted R) (failure : E) (result : Result T E) : Type 0 where
+pub record TakesFile {R T E : Type 0} (remaining : R → Option (List ℕ)) (old new : Counted R) (failure : E)
+    (result : Result T E) : Type 0 where
   pub bounded : TakesAtMost (max_file + 1) (remaining old.inner) (remaining new.inner)
   pub failed : IsErrOf result failure → Rises old.failures new.failures
   pub kept : result ≢ Err failure → new.failures ≡ old.failures
@@ -83,7 +84,8 @@ abbrev pub answers_of : List Finding → List Answer
 answers_of findings = map (λ finding. finding.answer) findings
 
 -- one note for each answer, in order, each of them true of its verdict and of the claim's patterns
-abbrev pub AreTrueNotes : List (List ℕ × List ℕ) → List (List ℕ) → List (List (List ℕ × List ℕ)) → List Finding → Type 0
+abbrev pub AreTrueNotes : List (List ℕ × List ℕ) → List (List ℕ) → List (List (List ℕ × List ℕ))
+    → List Finding → Type 0
 AreTrueNotes files rules patterns findings = AllZip (λ its finding. IsNote files rules its finding.answer.verdict finding.note) patterns findings
 
 -- findings on these claims: true answers to them, out of work only within what each may take, and true notes on the answers, where each verdict that has a note is given with it
@@ -113,12 +115,14 @@ pub record NeedsMemory (judging : Judging) (fault : ToolFault) : Type 0 where
 
 -- a report on these claims is written, with their status; or a first part of a report on the first claims, and then a write fails; or nothing,
 -- and memory was refused for a text that makes a claim
-abbrev pub WritesReport : {W : Type 0} → (W → Option (List ℕ)) → Counted W → Counted W → Judging → ReportStyle → Result ℕ ToolFault → Type 0
+abbrev pub WritesReport : {W : Type 0} → (W → Option (List ℕ)) → Counted W → Counted W → Judging → ReportStyle
+    → Result ℕ ToolFault → Type 0
 WritesReport contents old new judging style result =
     WritesOneOf contents old new (IsReport judging style) (IsReportOnFirst judging style) (NeedsMemory judging) result
 
 -- the same of a plain report, but that the first part is one of a report on all claims
-abbrev pub WritesPlainReport : {W : Type 0} → (W → Option (List ℕ)) → Counted W → Counted W → Judging → Result ℕ ToolFault → Type 0
+abbrev pub WritesPlainReport : {W : Type 0} → (W → Option (List ℕ)) → Counted W → Counted W → Judging
+    → Result ℕ ToolFault → Type 0
 WritesPlainReport contents old new judging result =
     WritesOneOf contents old new (IsPlainReport judging) (λ text. (code : ℕ) × IsPlainReport judging text code) (NeedsMemory judging) result
 
@@ -140,7 +144,8 @@ pub record HoldsOfTables (rule : Option (List ℕ)) (Holds : List TableRule → 
   pub holds : Holds tables
 
 -- the file was read whole, the rule file is a table, and this holds of the file's bytes and the tables
-pub record HoldsOfReadFile (old new rule : Option (List ℕ)) (Holds : List ℕ → List TableRule → Type 0) : Type 0 where
+pub record HoldsOfReadFile (old new rule : Option (List ℕ))
+    (Holds : List ℕ → List TableRule → Type 0) : Type 0 where
   pub bytes : List ℕ
   pub tables : List TableRule
   pub read : ReadsAll old new bytes
@@ -183,7 +188,8 @@ IsBytesFault rule IsFault told = TellsTable (IsRuleFileFault rule) told ⊎ Hold
 
 -- a run over the bytes of a pattern file, and over the text of a rule file, if there is one: a text that IsText of them is written, with the status
 -- 0; or a first part of such a text, and then a write fails; or nothing, for a fault that holds
-abbrev pub WritesUnder : {W : Type 0} → (W → Option (List ℕ)) → Counted W → Counted W → Option (List ℕ) → (List TableRule → List ℕ → Type 0)
+abbrev pub WritesUnder : {W : Type 0} → (W → Option (List ℕ)) → Counted W → Counted W → Option (List ℕ)
+    → (List TableRule → List ℕ → Type 0)
     → (List TableRule → ToolFault → Type 0) → Result ℕ ToolFault → Type 0
 WritesUnder contents old new rule IsText IsFault result = WritesOneOf contents old new
     (λ text status. (status ≡ 0) × HoldsOfTables rule (λ tables. IsText tables text))
@@ -218,13 +224,15 @@ IsFormFaultAfter (forms.File target) bytes tables n work fault = IsConvertFaultA
 
 -- why a run wrote nothing, where IsFault says why bytes under some tables are refused: the file isn't read; or it is, and a run over its bytes writes
 -- nothing
-abbrev pub IsRunFault : Option (List ℕ) → Option (List ℕ) → Option (List ℕ) → (List ℕ → List TableRule → ConvertFault → Type 0) → ToolFault → Type 0
+abbrev pub IsRunFault : Option (List ℕ) → Option (List ℕ) → Option (List ℕ)
+    → (List ℕ → List TableRule → ConvertFault → Type 0) → ToolFault → Type 0
 IsRunFault old new rule IsFault (Input fault) = IsInputFault old new fault
 IsRunFault old new rule IsFault told = (bytes : List ℕ) × ReadsAll old new bytes × IsBytesFault rule (λ tables. TellsConvert (IsFault bytes tables)) told
 
 -- a run over a file, and over the text of a rule file, if there is one: the file is read, and a text that IsText of its bytes is written, with the
 -- status 0; or a first part of such a text, and then a write fails; or nothing, for a fault that holds
-pub record RunsOver {R W : Type 0} (remaining : R → Option (List ℕ)) (contents : W → Option (List ℕ)) (input read : Counted R) (rule : Option (List ℕ))
+pub record RunsOver {R W : Type 0} (remaining : R → Option (List ℕ)) (contents : W → Option (List ℕ))
+    (input read : Counted R) (rule : Option (List ℕ))
     (output written : Counted W) (IsText : List ℕ → List TableRule → List ℕ → Type 0) (IsFault : List ℕ → List TableRule → ConvertFault → Type 0)
     (result : Result ℕ ToolFault) : Type 0 where
   pub reads : TakesFile remaining input read (Input inputs.Read) result

@@ -6,7 +6,8 @@ use Rattle.ca_tool.specs.declared.fault.ToolFault.{ToolFault}
 use Rattle.ca_tool.specs.declared.fault.ToolFault.TheVariants.{Write}
 
 -- the whole text is written, or a first part of it and then a write fails: that failure is the only fault, and it is counted
-pub record Sends {W T E : Type 0} (contents : W → Option (List ℕ)) (old new : Counted W) (text : List ℕ) (failure : E) (result : Result T E) : Type 0 where
+pub record Sends {W T E : Type 0} (contents : W → Option (List ℕ)) (old new : Counted W) (text : List ℕ)
+    (failure : E) (result : Result T E) : Type 0 where
   -- all of it was written, and no failure was counted
   pub all : OnOk result (Appends (contents old.inner) (contents new.inner) text)
   pub kept : OnOk result (new.failures ≡ old.failures)
@@ -17,7 +18,8 @@ pub record Sends {W T E : Type 0} (contents : W → Option (List ℕ)) (old new 
 
 -- one of some texts is written whole, with its status; or a first part of one that may be begun, and then a write fails, which is counted; or
 -- nothing, for another fault, which holds
-pub record WritesOneOf {W : Type 0} (contents : W → Option (List ℕ)) (old new : Counted W) (IsText : List ℕ → ℕ → Type 0) (IsBegun : List ℕ → Type 0)
+pub record WritesOneOf {W : Type 0} (contents : W → Option (List ℕ)) (old new : Counted W)
+    (IsText : List ℕ → ℕ → Type 0) (IsBegun : List ℕ → Type 0)
     (IsFault : ToolFault → Type 0) (result : Result ℕ ToolFault) : Type 0 where
   -- all of such a text was written, and no failure was counted
   pub whole : IfOk result (λ status. (text : List ℕ) × IsText text status × Appends (contents old.inner) (contents new.inner) text)

@@ -3,16 +3,16 @@
 ghost use Rattle.std.specs.Prelude.{◌≡◌, ℕ, ◌≤◌, List, IfOk, IfErr};
 ghost use Rattle.std.specs.Option.{option_copied};
 ghost use Rattle.ca_claims.specs.Limited.{AreGoodLimits};
-ghost use Rattle.ca_claims.specs.Refused.{HasReachDetail};
-ghost use Rattle.ca_claims.specs.Text.{most_generations};
+ghost use Rattle.ca_claims.specs.DetailedFault.{HasReachDetail};
+ghost use Rattle.ca_plane.specs.Limits.{most_generations};
 ghost use Rattle.ca_tool.specs.Details.{HasRunDetail, fault_alone};
 ghost use Rattle.ca_tool.specs.Runs.{TellsReach, IsFormAfter, IsFormFaultAfter, WritesUnder};
 
 use crate::fault::ToolFault;
-use crate::pattern_run::{TextForm, convert_refusal, known_table, tables_of, write};
+use crate::pattern_run::{TextForm, convert_refusal, known_table, table_slice, write};
 use crate::summary::summary_lines;
 use ca_claims::{
-    ConvertFault, Limits, Observer, ReachFault, Refused, convert_after, summary_after,
+    ConvertFault, DetailedFault, Limits, Observer, ReachFault, convert_after, summary_after,
 };
 use ca_plane::Dev;
 use ca_rule::Table;
@@ -33,7 +33,7 @@ pub fn write_form_after<W: Write, O: Observer>(
     limits: Limits,
     observer: &mut O,
     output: &mut Dev<W>,
-) -> Result<u8, Refused<ToolFault>>
+) -> Result<u8, DetailedFault<ToolFault>>
     requires limits { AreGoodLimits limits }
     requires few { generations ≤ most_generations }
     // That text is written, or a first part of it and then a write fails, or nothing for another fault.
@@ -47,7 +47,7 @@ pub fn write_form_after<W: Write, O: Observer>(
         Ok(table) => table,
         Err(refused) => return Err(refused),
     };
-    let tables = tables_of(&table);
+    let tables = table_slice(&table);
     let text = match text_after(alloc, bytes, form, tables, generations, limits, observer) {
         Ok(text) => text,
         Err(refused) => return Err(reach_refusal(refused)),
@@ -64,7 +64,7 @@ fn text_after<O: Observer>(
     generations: u64,
     limits: Limits,
     observer: &mut O,
-) -> Result<Vec<u8>, Refused<ReachFault>>
+) -> Result<Vec<u8>, DetailedFault<ReachFault>>
     requires limits { AreGoodLimits limits }
     requires few { generations ≤ most_generations }
     ensures text { IfOk result (λ text. IsFormAfter form bytes.now tables.now generations text.items) }
@@ -76,7 +76,7 @@ fn text_after<O: Observer>(
         TextForm::Summary => {
             let summary = summary_after(alloc, bytes, tables, generations, limits, observer)?;
             let Ok(text) = summary_lines(alloc, &summary) else {
-                return Err(Refused::of(ReachFault::Convert(ConvertFault::Memory)));
+                return Err(DetailedFault::of(ReachFault::Convert(ConvertFault::Memory)));
             };
             Ok(text)
         }
@@ -87,18 +87,14 @@ fn text_after<O: Observer>(
 }
 
 /// What a run answers where a plane isn't reached or told.
-pub(crate) fn reach_refusal(refused: Refused<ReachFault>) -> Refused<ToolFault>
+pub(crate) fn reach_refusal(refused: DetailedFault<ReachFault>) -> DetailedFault<ToolFault>
     ensures tells { TellsReach (λ fault. fault ≡ refused.fault) result.fault }
     ensures detail { (bytes : List ℕ) → HasReachDetail bytes refused → HasRunDetail bytes result }
 {
     match refused.fault {
-        ReachFault::Convert(fault) => convert_refusal(Refused {
-            fault,
-            line: refused.line,
-            rule_text: refused.rule_text,
-        }),
-        ReachFault::GenTooLarge => Refused::of(ToolFault::GenTooLarge),
-        ReachFault::Work => Refused::of(ToolFault::Work),
-        ReachFault::Range => Refused::of(ToolFault::Range),
+        ReachFault::Convert(fault) => convert_refusal(refused.with_fault(fault)),
+        ReachFault::GenTooLarge => DetailedFault::of(ToolFault::GenTooLarge),
+        ReachFault::Work => DetailedFault::of(ToolFault::Work),
+        ReachFault::Range => DetailedFault::of(ToolFault::Range),
     }
 }

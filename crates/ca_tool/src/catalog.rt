@@ -7,8 +7,9 @@ ghost use Rattle.ca_rule.specs.TableNext.{TableRule};
 ghost use Rattle.ca_rule.specs.declared.table.fault.TableFault.TheVariants as table_fault;
 ghost use Rattle.ca_claims.specs.Answers.{IsQuietTable, IsTableFault, FirstBad};
 ghost use Rattle.ca_claims.specs.Limited.{AreGoodLimits};
-ghost use Rattle.ca_claims.specs.Text.{longest_period, most_generations};
-ghost use Rattle.ca_tool.specs.Catalog.{is_death, claims_death, is_refused, version_line, rule_line, entry_lines, catalog_text};
+ghost use Rattle.ca_plane.specs.Limits.{longest_period, most_generations};
+ghost use Rattle.ca_tool.specs.Catalog.{is_death, claims_death, is_refused};
+ghost use Rattle.ca_tool.specs.Catalog.{version_line, rule_line, entry_lines, catalog_text};
 ghost use Rattle.ca_tool.specs.Catalog.{catalog_status, IsOutcome, IsEntry, AreEntries};
 ghost use Rattle.ca_tool.specs.Catalog.{AreRuleTables, IsCatalog, IsCatalogFault};
 ghost use Rattle.ca_tool.specs.CatalogSays.{SaysItsClaims};
@@ -59,7 +60,7 @@ pub fn identify_run<W: Write, O: Observer>(
         × IsCatalog subjects.now rules.now limits.work generations limit text code)
         (IsCatalogFault subjects.now rules.now) result }
 {
-    let tables = match tables_of(alloc, rules) {
+    let tables = match parse_tables(alloc, rules) {
         Ok(tables) => tables,
         Err(TableFault::Memory) => return Err(ToolFault::Memory),
         Err(fault) => return Err(ToolFault::BadTable(fault)),
@@ -83,7 +84,7 @@ pub fn identify_run<W: Write, O: Observer>(
 }
 
 // The tables of the rule files, or the fault of the first that is no good table.
-fn tables_of(alloc: Global, rules: &[File<'_>]) -> Result<Vec<Table>, TableFault>
+fn parse_tables(alloc: Global, rules: &[File<'_>]) -> Result<Vec<Table>, TableFault>
     ensures known { IfOk result (λ tables. AreRuleTables rules.now tables.items) }
     ensures fault { IfErr result (λ fault. fault ≢ table_fault.Memory
         → FirstBad (λ file. (table : TableRule) × IsQuietTable file.bytes.now table)

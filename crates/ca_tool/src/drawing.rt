@@ -5,7 +5,7 @@ ghost use Rattle.std.specs.Option.{option_copied};
 ghost use Rattle.ca_quad.specs.Trees.{IsTree, cell};
 ghost use Rattle.ca_draw.specs.Windows.{IsBox};
 ghost use Rattle.ca_claims.specs.Limited.{AreGoodLimits};
-ghost use Rattle.ca_claims.specs.Text.{most_generations};
+ghost use Rattle.ca_plane.specs.Limits.{most_generations};
 ghost use Rattle.ca_tool.specs.Details.{HasRunDetail, fault_alone};
 ghost use Rattle.ca_tool.specs.Views.{IsBoxShown};
 ghost use Rattle.ca_tool.specs.Drawn.{IsPictureOf, IsDrawn, IsDrawFault};
@@ -14,9 +14,9 @@ ghost use Rattle.ca_tool.specs.inner.Refusals.{IsUndrawn};
 
 use crate::ahead_run::reach_refusal;
 use crate::fault::ToolFault;
-use crate::pattern_run::{known_table, tables_of, write};
+use crate::pattern_run::{known_table, table_slice, write};
 use crate::view::View;
-use ca_claims::{Limits, Observer, Refused, run_on};
+use ca_claims::{DetailedFault, Limits, Observer, run_on};
 use ca_draw::laws::least_boxes;
 use ca_draw::{ImageFormat, Style, draw};
 use ca_plane::{Automaton, Dev, Memory};
@@ -57,7 +57,7 @@ pub fn draw_bytes<W: Write, O: Observer>(
     table: Option<&[u8]>,
     observer: &mut O,
     output: &mut Dev<W>,
-) -> Result<u8, Refused<ToolFault>>
+) -> Result<u8, DetailedFault<ToolFault>>
     requires limits { AreGoodLimits request.limits }
     requires few { request.generations ≤ most_generations }
     // It is written, or a first part of it and then a write fails, or nothing for another fault.
@@ -70,7 +70,7 @@ pub fn draw_bytes<W: Write, O: Observer>(
         Ok(table) => table,
         Err(refused) => return Err(refused),
     };
-    let text = match picture(alloc, bytes, tables_of(&table), request, observer) {
+    let text = match picture(alloc, bytes, table_slice(&table), request, observer) {
         Ok(text) => text,
         Err(refused) => return Err(refused),
     };
@@ -84,7 +84,7 @@ fn picture<O: Observer>(
     tables: &[Table],
     request: DrawRequest,
     observer: &mut O,
-) -> Result<Vec<u8>, Refused<ToolFault>>
+) -> Result<Vec<u8>, DetailedFault<ToolFault>>
     requires limits { AreGoodLimits request.limits }
     requires few { request.generations ≤ most_generations }
     ensures drawn { IfOk result (λ text. IsDrawn bytes.now tables.now request text.items) }
@@ -100,7 +100,7 @@ fn picture<O: Observer>(
     let states = reached.rule.states();
     match picture_of(alloc, &reached.store, &reached.tree, states, request) {
         Ok(text) => Ok(text),
-        Err(fault) => Err(Refused::of(fault)),
+        Err(fault) => Err(DetailedFault::of(fault)),
     }
 }
 

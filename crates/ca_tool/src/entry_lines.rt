@@ -33,7 +33,8 @@ fn number_pieces<'a>(word: &'a [u8], name: &'a [u8], number: u64) -> [Piece<'a>;
 }
 
 fn spaceship_pieces<'a>(name: &'a [u8], period: u64, dx: i64, dy: i64) -> [Piece<'a>; 9]
-    ensures { pieces_text result ≡ codes "spaceship " ++ (name.now ++ (32 ∷ (decimal period ++ (32 ∷ (signed_decimal dx ++ (32 ∷ (signed_decimal dy ++ 10 ∷ []))))))) }
+    ensures { pieces_text result ≡ codes "spaceship " ++ (name.now ++ (32 ∷ (decimal period
+        ++ (32 ∷ (signed_decimal dx ++ (32 ∷ (signed_decimal dy ++ 10 ∷ []))))))) }
 {
     in_pieces![
         text b"spaceship ", text name, text b" ", number period,

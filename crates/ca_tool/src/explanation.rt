@@ -9,7 +9,7 @@ use crate::fault::ToolFault;
 use crate::finding::{at_pieces, file_pieces, rule_pieces};
 use crate::pieces::{NOTHING, Piece, in_pieces, send_pieces};
 use crate::texts::table_line;
-use ca_claims::Refused;
+use ca_claims::DetailedFault;
 use ca_plane::{Dev, WriteFault};
 use std::io::Write;
 
@@ -21,7 +21,7 @@ pub struct RunPaths<'a> {
 }
 
 // The line about a pattern file.
-fn pattern_pieces<'a>(path: &'a [u8], refused: &'a Refused<ToolFault>) -> [Piece<'a>; 15]
+fn pattern_pieces<'a>(path: &'a [u8], refused: &'a DetailedFault<ToolFault>) -> [Piece<'a>; 15]
     ensures { pieces_text result ≡ pattern_line path.now refused.now.line refused.now.rule_text }
 {
     let [at, number] = at_pieces(refused.line);
@@ -30,7 +30,10 @@ fn pattern_pieces<'a>(path: &'a [u8], refused: &'a Refused<ToolFault>) -> [Piece
 }
 
 // The line that explains a fault, where there is something to tell.
-fn explanation_pieces<'a>(refused: &'a Refused<ToolFault>, paths: &RunPaths<'a>) -> [Piece<'a>; 15]
+fn explanation_pieces<'a>(
+    refused: &'a DetailedFault<ToolFault>,
+    paths: &RunPaths<'a>,
+) -> [Piece<'a>; 15]
     ensures { pieces_text result ≡ explanation refused.now paths.now }
 {
     match refused.fault {
@@ -52,7 +55,7 @@ fn explanation_pieces<'a>(refused: &'a Refused<ToolFault>, paths: &RunPaths<'a>)
 ///
 /// It takes no memory. After a failure some first part of the line was written, but not all of it.
 pub fn explain<W: Write>(
-    refused: &Refused<ToolFault>,
+    refused: &DetailedFault<ToolFault>,
     paths: &RunPaths<'_>,
     device: &mut Dev<W>,
 ) -> Result<(), WriteFault>

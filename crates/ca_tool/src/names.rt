@@ -5,7 +5,7 @@ ghost use Rattle.std.specs.List.{list_all};
 ghost use Rattle.ca_plane.specs.Bytes.{is_word_byte};
 ghost use Rattle.ca_plane.specs.Puts.{Puts};
 ghost use Rattle.ca_tool.specs.Names.{is_word, is_claim_path, last_component, without_ending, name_byte};
-ghost use Rattle.ca_tool.specs.Names.{with_first_byte, claim_name, numbered, IsFreeName};
+ghost use Rattle.ca_tool.specs.Names.{with_first_byte, claim_name, numbered_name, IsFreeName};
 
 use ca_claims::WordSet;
 use ca_plane::Memory;
@@ -104,19 +104,19 @@ fn claim_name(alloc: Global, path: &[u8]) -> Result<Vec<u8>, Memory>
 }
 
 // The name itself, or with `-2`, `-3` and so on after it.
-fn numbered(alloc: Global, name: &[u8], place: u64) -> Result<Vec<u8>, Memory>
+fn numbered_name(alloc: Global, name: &[u8], place: u64) -> Result<Vec<u8>, Memory>
     requires { place < 2 ^ 64 - 1 }
-    ensures { IfOk result (λ text. text.items ≡ numbered name.now place) }
+    ensures { IfOk result (λ text. text.items ≡ numbered_name name.now place) }
 {
     let mut text = Vec::from_slice(alloc, name)?;
     if place == 0 {
         return Ok(text);
     }
-    push_place(&mut text, place + 1)?;
+    push_suffix(&mut text, place + 1)?;
     Ok(text)
 }
 
-fn push_place(out: &mut Vec<u8>, place: u64) -> Result<(), Memory>
+fn push_suffix(out: &mut Vec<u8>, place: u64) -> Result<(), Memory>
     ensures { OnOk result (Puts out.old.items out.new.items (codes "-" ++ decimal place)) }
 {
     push_text(out, b"-")?;
@@ -128,7 +128,7 @@ fn free_name(alloc: Global, names: &WordSet, name: &[u8]) -> Result<Vec<u8>, Mem
     ensures { IfOk result (λ free. IsFreeName names.now name.now free.items) }
 {
     'places: for place in 0..u64::MAX {
-        let free = numbered(alloc, name, place)?;
+        let free = numbered_name(alloc, name, place)?;
         if !names.contains(&free) {
             return Ok(free);
         }

@@ -4,7 +4,7 @@ ghost use Rattle.std.specs.Prelude.{◌≡◌, ℕ, List, IfOk, IfErr};
 ghost use Rattle.std.specs.Option.{option_copied, option_to_list};
 ghost use Rattle.ca_claims.specs.Converted.{IsConverted, IsSummaryFault, IsConvertFault};
 ghost use Rattle.ca_tool.specs.declared.fault.InputFault.TheVariants as inputs;
-ghost use Rattle.ca_claims.specs.Refused.{HasDetail};
+ghost use Rattle.ca_claims.specs.DetailedFault.{HasDetail};
 ghost use Rattle.ca_tool.specs.Details.{HasRunDetail, fault_alone};
 ghost use Rattle.ca_tool.specs.Writing.{Sends};
 ghost use Rattle.ca_tool.specs.Runs.{ReadsAll, TakesFile, AreKnownTables, IsShown, IsRuleFileFault, RunsOver};
@@ -14,7 +14,7 @@ ghost use Rattle.ca_tool.specs.inner.Refusals.{IsReadingFault};
 use crate::fault::ToolFault;
 use crate::read::read_all;
 use crate::summary::summary_lines;
-use ca_claims::{ConvertFault, Refused, Target, convert_with_detail, summary_with_detail};
+use ca_claims::{ConvertFault, DetailedFault, Target, convert_with_detail, summary_with_detail};
 use ca_plane::{Dev, send};
 use ca_rule::{Table, TableFault};
 use std::alloc::Global;
@@ -91,7 +91,7 @@ pub fn write_form<W: Write>(
     form: TextForm,
     table: Option<&[u8]>,
     output: &mut Dev<W>,
-) -> Result<u8, Refused<ToolFault>>
+) -> Result<u8, DetailedFault<ToolFault>>
     // That text is written, or a first part of it and then a write fails, or nothing for another fault.
     ensures writes { WritesUnder W.contents output.old output.new (option_copied table.entry)
         (IsFormOf form bytes.now) (λ tables. TellsConvert (IsFormFault form bytes.now tables))
@@ -102,7 +102,7 @@ pub fn write_form<W: Write>(
         Ok(table) => table,
         Err(refused) => return Err(refused),
     };
-    let text = match form_text(alloc, bytes, form, tables_of(&table)) {
+    let text = match form_text(alloc, bytes, form, table_slice(&table)) {
         Ok(text) => text,
         Err(refused) => return Err(convert_refusal(refused)),
     };
@@ -113,7 +113,8 @@ pub fn write_form<W: Write>(
 fn read<R: Read>(alloc: Global, input: &mut Dev<R>) -> Result<Vec<u8>, ToolFault>
     ensures read { IfOk result (λ v.
         ReadsAll (R.remaining input.old.inner) (R.remaining input.new.inner) v.items) }
-    ensures fault { IfErr result (IsReadingFault (R.remaining input.old.inner) (R.remaining input.new.inner)) }
+    ensures fault { IfErr result
+        (IsReadingFault (R.remaining input.old.inner) (R.remaining input.new.inner)) }
     ensures takes { TakesFile R.remaining input.old input.new (ToolFault.Input inputs.Read) result }
 {
     match read_all(alloc, input) {
@@ -126,7 +127,7 @@ fn read<R: Read>(alloc: Global, input: &mut Dev<R>) -> Result<Vec<u8>, ToolFault
 pub(crate) fn known_table(
     alloc: Global,
     rule: Option<&[u8]>,
-) -> Result<Option<Table>, Refused<ToolFault>>
+) -> Result<Option<Table>, DetailedFault<ToolFault>>
     ensures known { IfOk result (λ table. AreKnownTables (option_copied rule.entry) (option_to_list table)) }
     ensures fault { IfErr result
         (λ refused. TellsTable (IsRuleFileFault (option_copied rule.entry)) refused.fault) }
@@ -151,35 +152,31 @@ fn rule_table(alloc: Global, rule: Option<&[u8]>) -> Result<Option<Table>, Table
 }
 
 /// The table, if there is one, as a list.
-pub(crate) fn tables_of(table: &Option<Table>) -> &[Table]
+pub(crate) fn table_slice(table: &Option<Table>) -> &[Table]
     ensures { result.now ≡ option_to_list table.now }
 {
     table.as_slice()
 }
 
 // What a run answers where the rule file holds no good table.
-fn table_refusal(fault: TableFault) -> Refused<ToolFault>
+fn table_refusal(fault: TableFault) -> DetailedFault<ToolFault>
     ensures tells { TellsTable (λ f. f ≡ fault) result.fault }
     ensures detail { (bytes : List ℕ) → HasRunDetail bytes result }
 {
     match fault {
-        TableFault::Memory => Refused::of(ToolFault::Memory),
-        _ => Refused::of(ToolFault::BadTable(fault)),
+        TableFault::Memory => DetailedFault::of(ToolFault::Memory),
+        _ => DetailedFault::of(ToolFault::BadTable(fault)),
     }
 }
 
 /// What a run answers where the pattern is refused.
-pub(crate) fn convert_refusal(refused: Refused<ConvertFault>) -> Refused<ToolFault>
+pub(crate) fn convert_refusal(refused: DetailedFault<ConvertFault>) -> DetailedFault<ToolFault>
     ensures tells { TellsConvert (λ fault. fault ≡ refused.fault) result.fault }
     ensures detail { (bytes : List ℕ) → HasDetail bytes refused → HasRunDetail bytes result }
 {
     match refused.fault {
-        ConvertFault::Memory => Refused::of(ToolFault::Memory),
-        fault => Refused {
-            fault: ToolFault::Convert(fault),
-            line: refused.line,
-            rule_text: refused.rule_text,
-        },
+        ConvertFault::Memory => DetailedFault::of(ToolFault::Memory),
+        fault => refused.with_fault(ToolFault::Convert(fault)),
     }
 }
 
@@ -189,7 +186,7 @@ fn form_text(
     bytes: &[u8],
     form: TextForm,
     tables: &[Table],
-) -> Result<Vec<u8>, Refused<ConvertFault>>
+) -> Result<Vec<u8>, DetailedFault<ConvertFault>>
     ensures text { IfOk result (λ text. IsFormOf form bytes.now tables.now text.items) }
     ensures fault { IfErr result (λ refused. IsFormFault form bytes.now tables.now refused.fault) }
     ensures detail { IfErr result (HasDetail bytes.now) }
@@ -198,7 +195,7 @@ fn form_text(
         TextForm::Summary => {
             let summary = summary_with_detail(alloc, bytes, tables)?;
             let Ok(text) = summary_lines(alloc, &summary) else {
-                return Err(Refused::of(ConvertFault::Memory));
+                return Err(DetailedFault::of(ConvertFault::Memory));
             };
             Ok(text)
         }
@@ -207,19 +204,22 @@ fn form_text(
 }
 
 /// Writes the whole text, and answers the exit status.
-pub(crate) fn write<W: Write>(output: &mut Dev<W>, text: &[u8]) -> Result<u8, Refused<ToolFault>>
+pub(crate) fn write<W: Write>(
+    output: &mut Dev<W>,
+    text: &[u8],
+) -> Result<u8, DetailedFault<ToolFault>>
     ensures status { IfOk (fault_alone result) (λ status. status ≡ 0) }
     ensures sends { Sends W.contents output.old output.new text.now ToolFault.Write (fault_alone result) }
     ensures detail { (bytes : List ℕ) → IfErr result (HasRunDetail bytes) }
 {
     if send(output, text).is_err() {
-        return Err(Refused::of(ToolFault::Write));
+        return Err(DetailedFault::of(ToolFault::Write));
     }
     Ok(0)
 }
 
 // What a run answers, with the fault alone.
-fn fault_alone(answer: Result<u8, Refused<ToolFault>>) -> Result<u8, ToolFault>
+fn fault_alone(answer: Result<u8, DetailedFault<ToolFault>>) -> Result<u8, ToolFault>
     ensures { result ≡ fault_alone answer }
 {
     match answer {

@@ -5,7 +5,7 @@ use crate::files::{LoadedFile, load_rule_file, read_file, views};
 use crate::progress::{Heading, Progress};
 use crate::streams::Streams;
 use crate::words::IdentifyExtras;
-use ca_claims::{Cause, ConvertFault, File, Refused, rule_text_of, summary_with_detail};
+use ca_claims::{Cause, ConvertFault, DetailedFault, File, rule_text_of, summary_with_detail};
 use ca_plane::{Dev, Memory};
 use ca_rule::{RuleFault, Table, TableFault, resolve};
 use ca_tool::{
@@ -75,7 +75,7 @@ fn write_claims<'a, R: Files + Clock + AllocGlobal>(
     if let Some(folder) = &extras.folder {
         check_path(folder.as_str())?;
     }
-    let mut rules = given_rules(rt, &extras.rule)?;
+    let mut rules = rule_files(rt, &extras.rule)?;
     let Ok(mut contents) = load_contents(rt, paths) else {
         return Err(Failure::of(OUT_OF_MEMORY));
     };
@@ -108,7 +108,7 @@ fn check_path(path: &str) -> Result<(), Failure<'_>> {
 }
 
 // The rule file that is named, if there is one, and its table.
-fn given_rules<'a, R: Files + AllocGlobal>(
+fn rule_files<'a, R: Files + AllocGlobal>(
     rt: &R,
     rule: &'a Option<String>,
 ) -> Result<RuleFiles, Failure<'a>> {
@@ -317,7 +317,7 @@ fn explain_failure(fault: Fault, rule: &Option<String>, errors: &mut Dev<Stderr>
             pattern: b"",
             rule: rule.as_bytes(),
         };
-        let _ = explain(&Refused::of(fault), &paths, errors);
+        let _ = explain(&DetailedFault::of(fault), &paths, errors);
     }
 }
 
@@ -352,7 +352,7 @@ fn explain_content(
                 rule,
             };
             let fault = ToolFault::BadTable(*fault);
-            let _ = explain(&Refused::of(fault), &paths, errors);
+            let _ = explain(&DetailedFault::of(fault), &paths, errors);
         }
     }
 }
@@ -364,11 +364,8 @@ fn explain_bytes(alloc: Global, file: File<'_>, tables: &[Table], errors: &mut D
     if refused.fault == ConvertFault::Memory {
         return;
     }
-    let refused = Refused {
-        fault: ToolFault::Convert(refused.fault),
-        line: refused.line,
-        rule_text: refused.rule_text,
-    };
+    let fault = ToolFault::Convert(refused.fault);
+    let refused = refused.with_fault(fault);
     let paths = RunPaths {
         pattern: file.path,
         rule: b"",

@@ -5,7 +5,7 @@ use crate::files::{LoadedFile, load_rule_file, open_source, read_file};
 use crate::progress::{Heading, Progress};
 use crate::streams::Streams;
 use crate::words::{DrawWords, PatternExtras};
-use ca_claims::{ConvertFault, File, Refused};
+use ca_claims::{ConvertFault, DetailedFault, File};
 use ca_plane::limits::MOST_GENERATIONS;
 use ca_plane::{Dev, Memory};
 use ca_rule::RuleFault;
@@ -35,7 +35,7 @@ pub fn write_pattern<R: Files + Clock + AllocGlobal>(
 ) -> u8 {
     let (bytes, rule) = match load(rt, path, &extras.rule, streams.input) {
         Ok(loaded) => loaded,
-        Err(Unread { fault, path }) => {
+        Err(UnreadFile { fault, path }) => {
             let _ = complain(&Fault::Input(fault), path.as_bytes(), &mut streams.errors);
             return FAULT;
         }
@@ -54,7 +54,7 @@ pub fn write_pattern<R: Files + Clock + AllocGlobal>(
         }
         Ok(None) => exit_status(first, pattern, rule, extras, streams),
         Err(_) => {
-            let memory = Err(Refused::of(ToolFault::Memory));
+            let memory = Err(DetailedFault::of(ToolFault::Memory));
             exit_status(memory, pattern, rule, extras, streams)
         }
     }
@@ -62,7 +62,7 @@ pub fn write_pattern<R: Files + Clock + AllocGlobal>(
 
 // A file that can't be read.
 #[derive(Clone, Copy)]
-struct Unread<'a> {
+struct UnreadFile<'a> {
     fault: InputFault,
     path: &'a str,
 }
@@ -74,29 +74,29 @@ fn load<'a, R: Files + AllocGlobal>(
     path: &'a str,
     rule: &'a Option<String>,
     input: Stdin,
-) -> Result<(Vec<u8>, Option<Vec<u8>>), Unread<'a>> {
+) -> Result<(Vec<u8>, Option<Vec<u8>>), UnreadFile<'a>> {
     let mut file = match open_source(rt, path, input) {
         Ok(file) => file,
-        Err(fault) => return Err(Unread { fault, path }),
+        Err(fault) => return Err(UnreadFile { fault, path }),
     };
     let rule = load_rule(rt, rule)?;
     match read_all(rt.alloc(), &mut file) {
         Ok(bytes) => Ok((bytes, rule)),
-        Err(fault) => Err(Unread { fault, path }),
+        Err(fault) => Err(UnreadFile { fault, path }),
     }
 }
 
 fn load_rule<'a, R: Files + AllocGlobal>(
     rt: &R,
     rule: &'a Option<String>,
-) -> Result<Option<Vec<u8>>, Unread<'a>> {
+) -> Result<Option<Vec<u8>>, UnreadFile<'a>> {
     let Some(path) = rule else {
         return Ok(None);
     };
     let path = path.as_str();
     match read_file(rt, path) {
         Ok(bytes) => Ok(Some(bytes)),
-        Err(fault) => Err(Unread { fault, path }),
+        Err(fault) => Err(UnreadFile { fault, path }),
     }
 }
 
@@ -120,7 +120,7 @@ fn run<R: Clock + AllocGlobal>(
     rule: Option<File<'_>>,
     extras: &PatternExtras,
     streams: &mut Streams,
-) -> Result<u8, Refused<ToolFault>> {
+) -> Result<u8, DetailedFault<ToolFault>> {
     let table = match rule {
         Some(rule) => Some(rule.bytes),
         None => None,
@@ -166,7 +166,7 @@ fn run<R: Clock + AllocGlobal>(
 // The rule file that has the name of the pattern's rule, where a run knew no such rule.
 fn named_rule<R: Files + AllocGlobal>(
     rt: &R,
-    run: &Result<u8, Refused<ToolFault>>,
+    run: &Result<u8, DetailedFault<ToolFault>>,
     extras: &PatternExtras,
 ) -> Result<Option<LoadedFile>, Memory> {
     let (Err(refused), Some(folder)) = (run, &extras.folder) else {
@@ -182,7 +182,7 @@ fn named_rule<R: Files + AllocGlobal>(
 
 // The exit status of a run, whose fault is reported, and explained where that is asked for.
 fn exit_status(
-    run: Result<u8, Refused<ToolFault>>,
+    run: Result<u8, DetailedFault<ToolFault>>,
     pattern: File<'_>,
     rule: Option<File<'_>>,
     extras: &PatternExtras,
@@ -201,7 +201,7 @@ fn exit_status(
 }
 
 fn explain_fault(
-    refused: &Refused<ToolFault>,
+    refused: &DetailedFault<ToolFault>,
     pattern: File<'_>,
     rule: Option<File<'_>>,
     errors: &mut Dev<Stderr>,

@@ -4,7 +4,7 @@ use Rattle.ca_plane.specs.Plane.{Picture, IsLive}
 use Rattle.ca_plane.specs.Plane as plane
 use Rattle.ca_plane.specs.Box.{IsLeastBox}
 use Rattle.ca_plane.specs.Population.{HasPopulation}
-use Rattle.ca_plane.specs.Sparse.{reach}
+use Rattle.ca_plane.specs.Limits.{reach}
 use Rattle.ca_quad.specs.declared.node.Node.{Node}
 use Rattle.ca_quad.specs.declared.tree.Tree.{Tree}
 use Rattle.ca_quad.specs.declared.tree.WideBounds.{WideBounds}
@@ -30,7 +30,8 @@ pub record AreNearBounds (bounds : WideBounds) : Type 0 where
   pub y1 : IsCoordinate bounds.y1
 
 -- the summary is that of a file of this format, with these cells, this rule and this generation
-pub record IsTold (kind : Format) (cells : ℤ → ℤ → ℕ) (rule : RuleValue) (generation : ℕ) (summary : Summary) : Type 0 where
+pub record IsSummaryOf (kind : Format) (cells : ℤ → ℤ → ℕ) (rule : RuleValue) (generation : ℕ)
+    (summary : Summary) : Type 0 where
   pub kind_is : summary.kind ≡ kind
   pub printed : summary.rule_text.items ≡ printed_form rule
   pub generation_is : summary.generation ≡ generation

@@ -15,12 +15,14 @@ use Rattle.ca_claims.specs.declared.note.Note.{Note}
 use Rattle.ca_claims.specs.inner.Tables.{AreRead}
 
 -- for each path of the text the bytes of its file, and the tables of the rule lines
-pub record AreFound (files : List (List ℕ × List ℕ)) (asked : ClaimText) (found : List (Option (Bor (List ℕ)))) (tables : Tables) : Type 0 where
+pub record AreFound (files : List (List ℕ × List ℕ)) (asked : ClaimText)
+    (found : List (Option (Bor (List ℕ)))) (tables : Tables) : Type 0 where
   pub found_at : map option_copied found ≡ map (bytes_at files) asked.paths
   pub read : AreRead files asked.paths asked.rules tables
 
 -- these are kept, if the text makes a claim; the claim with this index is the next, or all are judged; and the limits are good
-pub record IsKeptOf (files : List (List ℕ × List ℕ)) (asked : ClaimText) (found : List (Option (Bor (List ℕ)))) (tables : Tables) (index : ℕ) (limits : Limits) : Type 0 where
+pub record IsKeptOf (files : List (List ℕ × List ℕ)) (asked : ClaimText)
+    (found : List (Option (Bor (List ℕ)))) (tables : Tables) (index : ℕ) (limits : Limits) : Type 0 where
   pub kept : asked.claims ≢ [] → AreFound files asked found tables
   pub within : index ≤ length asked.claims
   pub limited : AreGoodLimits limits
@@ -36,7 +38,8 @@ left_from files asked index work = record {
 }
 
 -- the answer to the claim with this index is true, and so is the note on it, which is given where the verdict has one
-pub record IsAnswerTo (files : List (List ℕ × List ℕ)) (asked : ClaimText) (index work : ℕ) (answer : Answer) (note : Note) : Type 0 where
+pub record IsAnswerTo (files : List (List ℕ × List ℕ)) (asked : ClaimText) (index work : ℕ) (answer : Answer)
+    (note : Note) : Type 0 where
   pub claim : ℕ × Claim
   pub at : slice_get asked.claims index ≡ Some claim
   pub holds : IsTrueAnswer files asked.rules claim answer

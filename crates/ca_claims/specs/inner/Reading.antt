@@ -7,7 +7,7 @@ use Rattle.std.specs.Str.{bytes_eq}
 use Rattle.ca_claims.specs.declared.claims.line.Claim.{Claim as ClaimOf}
 use Rattle.ca_claims.specs.declared.claims.line.ClaimLine.{ClaimLine}
 use Rattle.ca_claims.specs.declared.claims.line.Kind.{Kind}
-use Rattle.ca_claims.specs.declared.claims.line.Place.{Place}
+use Rattle.ca_claims.specs.declared.claims.line.NamePlace.{NamePlace}
 use Rattle.ca_claims.specs.declared.claims.reading.Reading.{Reading}
 use Rattle.ca_claims.specs.declared.claims.words.LineKind.{LineKind}
 use Rattle.ca_claims.specs.declared.claims.words.LineKind.TheVariants.{Skipped, Version, Rule, Load, Claim, OutsideLimits, Misspelled}
@@ -21,7 +21,7 @@ use Rattle.ca_claims.specs.TextFaults.{AreMisspelledClaimWords, HaveBadNumber, A
 
 -- what a line claims, of patterns that are given by their names
 abbrev pub claim_of : ClaimOf (Bor (List ℕ)) → text.Claim
-claim_of claim = text.about (λ name. name.now) claim
+claim_of claim = text.map_patterns (λ name. name.now) claim
 
 -- a number is held as an i64: as itself where either of them is a shift
 pub record IsHeldShift (n held : ℤ) : Type 0 where
@@ -67,41 +67,42 @@ IsKind earlier words OutsideLimits =
 IsKind earlier words Misspelled = AreMisspelledClaimWords earlier words
 
 -- the indices of a name and of its path
-abbrev pub place_of : {S : Type 0} → HashMap (Bor (List ℕ)) Place S → List ℕ → Option Place
+abbrev pub place_of : {S : Type 0} → HashMap (Bor (List ℕ)) NamePlace S → List ℕ → Option NamePlace
 place_of names name = get_by (λ n. bytes_eq name n.now) names
 
 -- each of a claim's names is known
-abbrev pub AreKnownNames : (List ℕ → Option Place) → text.Claim → Type 0
+abbrev pub AreKnownNames : (List ℕ → Option NamePlace) → text.Claim → Type 0
 AreKnownNames places claim = AllByRecursion (λ n. IsSome (places n)) (text.patterns_of claim)
 
 -- the place of a name that is known
-abbrev pub known_place : Option Place → Place
+abbrev pub known_place : Option NamePlace → NamePlace
 known_place place = unwrap_or place (record { name = 0; path = 0 })
 
 -- the claim about the places of its names
-abbrev pub at_places : (List ℕ → Option Place) → text.Claim → ClaimOf Place
-at_places places claim = text.about (λ name. known_place (places name)) claim
+abbrev pub at_places : (List ℕ → Option NamePlace) → text.Claim → ClaimOf NamePlace
+at_places places claim = text.map_patterns (λ name. known_place (places name)) claim
 
 -- where the name is loaded from a path, these are their indices
-abbrev pub StandsAt : List (List ℕ) → List (List ℕ) → List ℕ → Option Place → Option (List ℕ) → Type 0
+abbrev pub StandsAt : List (List ℕ) → List (List ℕ) → List ℕ → Option NamePlace → Option (List ℕ) → Type 0
 StandsAt names paths name None found = found ≡ None
 StandsAt names paths name (Some place) found =
     (path : List ℕ) × (slice_get names place.name ≡ Some name) × (slice_get paths place.path ≡ Some path) × (found ≡ Some path)
 
 -- the names and paths, the places of the rule tables, the claims, and the places of the names, which are kept once the lines have said this
-pub record KeepsClaimLines (said : List (Option text.ClaimTextLine)) (names paths : List (List ℕ)) (rules : List ℕ) (claims : List (ClaimLine Place)) (places : List ℕ → Option Place) : Type 0 where
+pub record KeepsClaimLines (said : List (Option text.ClaimTextLine)) (names paths : List (List ℕ))
+    (rules : List ℕ) (claims : List (ClaimLine NamePlace)) (places : List ℕ → Option NamePlace) : Type 0 where
   pub once : paths ≡ text.paths_once (text.file_paths said)
   pub ruled : map (path_at paths) rules ≡ text.rule_paths said
   pub placed : All (λ i. i < length paths) rules
   pub asked : map (claim_with_names names paths) claims ≡ text.claims_from 1 [] said
   pub good : All (λ l. IsNamed names paths l.claim) claims
-  pub known : (name : List ℕ) → StandsAt names paths name (places name) (text.path_of (text.spoken said) name)
+  pub known : (name : List ℕ) → StandsAt names paths name (places name) (text.path_of (text.said_lines said) name)
 
 -- what is kept once the lines have said this
 abbrev pub IsClaimReading : List (Option text.ClaimTextLine) → Reading → Type 0
 IsClaimReading said reading =
     KeepsClaimLines said (map (λ name. name.items) reading.names.items) reading.paths reading.rules.items reading.claims.items (place_of reading.places)
-    × IsVersionAfter (text.spoken said) reading.version
+    × IsVersionAfter (text.said_lines said) reading.version
 
 -- the next line says this, after what earlier lines say
 abbrev pub SaysNext : List text.ClaimTextLine → List (List ℕ) → Option text.ClaimTextLine → Type 0

@@ -11,30 +11,32 @@ use Rattle.ca_quad.specs.Trees.{IsTree, cell}
 use Rattle.ca_macro.specs.Pattern.{AreInRange}
 use Rattle.ca_rule.specs.TableNext.{TableRule}
 use Rattle.ca_rule.specs.Rule.{RuleValue, rule_value, states_of, printed_form, NamesRule}
-use Rattle.ca_claims.specs.declared.refused.Refused.{Refused}
-use Rattle.ca_claims.specs.declared.ruled.Ruled.{Ruled}
+use Rattle.ca_claims.specs.declared.detailed_fault.DetailedFault.{DetailedFault}
+use Rattle.ca_claims.specs.declared.ruled.RuledPattern.{RuledPattern}
 use Rattle.ca_claims.specs.declared.ruled.RuledPlane.{RuledPlane}
 use Rattle.ca_claims.specs.declared.format.Format.{Format}
 use Rattle.ca_claims.specs.declared.format.Format.TheVariants.{Rle}
 use Rattle.ca_claims.specs.declared.conversion.ConvertFault.{ConvertFault}
 use Rattle.ca_claims.specs.declared.conversion.ConvertFault.TheVariants.{TooManyCells, Memory}
-use Rattle.ca_claims.specs.Ahead.{Begins}
+use Rattle.ca_claims.specs.Ahead.{HoldsSmallRuledPattern}
 use Rattle.ca_claims.specs.Means.{format_of, HoldsPattern}
 use Rattle.ca_claims.specs.Answers.{HasSmallStates}
 use Rattle.ca_claims.specs.Converted.{IsTidyAs}
 use Rattle.ca_claims.specs.inner.Patterns.{IsReadFrom, rule_of}
 
 -- the bytes are a file of this pattern, whose states are small under the rule that its rule text names
-pub record IsReady (nodes : List Node) (bytes : List ℕ) (tables : List TableRule) (ruled : Ruled) : Type 0 where
+pub record IsReady (nodes : List Node) (bytes : List ℕ) (tables : List TableRule)
+    (ruled : RuledPattern) : Type 0 where
   pub read : IsReadFrom nodes bytes ruled.pattern
   pub generation : ruled.pattern.generation < generation_limit
   pub names : NamesRule ruled.pattern.rule_text.items tables (rule_of ruled)
   pub small : HasSmallStates (rule_of ruled) (cell nodes ruled.pattern.tree)
 
 -- the bytes are a file of cells whose states are small under the rule that its rule text names, at this generation
-pub record HoldsCells (bytes : List ℕ) (tables : List TableRule) (cells : ℤ → ℤ → ℕ) (rule : RuleValue) (generation : ℕ) : Type 0 where
+pub record HoldsCells (bytes : List ℕ) (tables : List TableRule) (cells : ℤ → ℤ → ℕ) (rule : RuleValue)
+    (generation : ℕ) : Type 0 where
   pub picture : Picture
-  pub begins : Begins bytes tables picture rule generation
+  pub begins : HoldsSmallRuledPattern bytes tables picture rule generation
   pub shows : (x y : ℤ) → cells x y ≡ plane.cell picture x y
 
 -- cells that may be written: in range, of small states under the rule, at a generation below the limit
@@ -60,7 +62,8 @@ pub record IsReadyPlane (bytes : List ℕ) (tables : List TableRule) (ruled : Ru
   pub writable : IsWritablePlane ruled.cells (rule_value ruled.rule) ruled.generation
 
 -- the text is the tidy one of a format with these cells, the printed form of the rule, and the generation
-pub record IsWrittenAs (target : Format) (cells : ℤ → ℤ → ℕ) (rule : RuleValue) (generation : ℕ) (text : List ℕ) : Type 0 where
+pub record IsWrittenAs (target : Format) (cells : ℤ → ℤ → ℕ) (rule : RuleValue) (generation : ℕ)
+    (text : List ℕ) : Type 0 where
   pub shown : Picture
   pub same : (x y : ℤ) → cells x y ≡ plane.cell shown x y
   pub format : format_of text ≡ target
@@ -74,6 +77,6 @@ AreUnwritten target cells Memory = Unit {0}
 AreUnwritten target cells fault = ⊥
 
 -- the same, where nothing more is known of a fault
-abbrev pub with_no_detail : {T : Type 0} → Result T ConvertFault → Result T (Refused ConvertFault)
+abbrev pub with_no_detail : {T : Type 0} → Result T ConvertFault → Result T (DetailedFault ConvertFault)
 with_no_detail (Ok made) = Ok made
 with_no_detail (Err fault) = Err (record { fault = fault; line = None; rule_text = None })

@@ -2,6 +2,7 @@
 use Rattle.std.specs.Prelude.{ℕ, ◌≤◌, ◌<◌, ◌^◌, ℤ, pos, neg_ℤ, ◌≤ℤ◌, List, []}
 use Rattle.ca_plane.specs.Plane.{Picture, shifted}
 use Rattle.ca_plane.specs.Generations.{IsAfter}
+use Rattle.ca_plane.specs.Limits.{reach}
 use Rattle.ca_claims.specs.declared.verdict.Why.{Why}
 use Rattle.ca_claims.specs.declared.verdict.Why.TheVariants.{Earlier, Died}
 use Rattle.ca_claims.specs.declared.claims.asks.Barred.{Barred}
@@ -10,7 +11,7 @@ use Rattle.ca_claims.specs.Truth.{IsLiveAfter, ShowsNothingBarred, MayReturnBy}
 
 -- a coordinate in the square of a plane
 abbrev pub IsWide : ℤ → Type 0
-IsWide n = (neg_ℤ (pos (2 ^ 62)) ≤ℤ n) × (n ≤ℤ pos (2 ^ 62))
+IsWide n = (neg_ℤ reach ≤ℤ n) × (n ≤ℤ reach)
 
 -- a coordinate at most half as far from 0
 abbrev pub IsBroad : ℤ → Type 0

@@ -2,6 +2,7 @@
 use Rattle.std.specs.Prelude.{◌≡◌, ℕ, ◌+◌, ◌*◌, ◌^◌, ◌≤◌, ◌<◌, ℤ, List}
 use Rattle.ca_plane.specs.Plane.{Picture, IsLive, shifted}
 use Rattle.ca_plane.specs.Generations.{cells_after, IsAfter}
+use Rattle.ca_plane.specs.Limits.{most_generations}
 use Rattle.ca_plane.specs.Sparse.{IsInPlane}
 use Rattle.ca_quad.specs.declared.node.Node.{Node}
 use Rattle.ca_quad.specs.declared.tree.Tree.{Tree}
@@ -20,8 +21,8 @@ use Rattle.ca_claims.specs.inner.Returns.{IsBroad, IsWide}
 use Rattle.ca_claims.specs.inner.Subjects.{ShowsTree, IsNearTree, HasLive}
 
 -- no live cell lies outside the square of a plane
-abbrev pub IsNear : (ℤ → ℤ → ℕ) → Type 0
-IsNear cells = (x y : ℤ) → (IsInPlane (record { y = y; x = x }) → ⊥) → cells x y ≡ 0
+abbrev pub IsWithinPlane : (ℤ → ℤ → ℕ) → Type 0
+IsWithinPlane cells = (x y : ℤ) → (IsInPlane (record { y = y; x = x }) → ⊥) → cells x y ≡ 0
 
 -- the tree of a plane that is looked at: a low one, no larger than it need be, whose live cells are at most 2^61 from 0
 pub record IsStart (nodes : List Node) (tree : Tree) : Type 0 where
@@ -68,7 +69,8 @@ IsStage first later (Back dx dy) = AreMoved first later dx dy
 IsStage first later Other = HasLive later × AreMovedNowhere first later
 
 -- the tree of the cells n generations after the first ones: no larger than it need be, and with no live cell outside the square of a plane
-pub record IsLaterTree (next : List ℕ → ℕ) (first : ℤ → ℤ → ℕ) (n : ℕ) (nodes : List Node) (tree : Tree) : Type 0 where
+pub record IsLaterTree (next : List ℕ → ℕ) (first : ℤ → ℤ → ℕ) (n : ℕ) (nodes : List Node)
+    (tree : Tree) : Type 0 where
   pub near : IsNearTree nodes tree
   pub low : tree.level ≤ 64
   pub trimmed : IsTrimmed nodes tree
@@ -79,8 +81,8 @@ pub record CanGoOn (next : List ℕ → ℕ) (nodes : List Node) (tree : Tree) (
   pub is_tree : IsTree nodes tree
   pub low : tree.level ≤ 64
   pub trimmed : IsTrimmed nodes tree
-  pub few : n ≤ 2 ^ 60
-  pub near : IsNear (cells_after next (cell nodes tree) n)
+  pub few : n ≤ most_generations
+  pub near : IsWithinPlane (cells_after next (cell nodes tree) n)
 
 -- the growth is that of the tree's plane
 abbrev pub IsGrowthOf : List Node → Tree → Growth → Type 0

@@ -13,11 +13,11 @@ use Rattle.ca_macro.specs.Pattern.{AreInRange}
 use Rattle.ca_claims.specs.declared.claims.asks.Asks.{Asks}
 use Rattle.ca_claims.specs.declared.claims.asks.Barred.{Barred}
 use Rattle.ca_claims.specs.declared.claims.asks.Barred.TheVariants.{EmptyPlane}
-use Rattle.ca_claims.specs.declared.decide.Subject.{Subject}
+use Rattle.ca_claims.specs.declared.decide.ClaimTrees.{ClaimTrees}
 use Rattle.ca_claims.specs.declared.decide.Case.{Case}
 use Rattle.ca_claims.specs.declared.verdict.Why.{Why}
 use Rattle.ca_claims.specs.declared.verdict.Why.TheVariants.{Differs}
-use Rattle.ca_claims.specs.Text.{most_generations}
+use Rattle.ca_plane.specs.Limits.{most_generations}
 use Rattle.ca_claims.specs.Truth.{MayReturnBy, IsLiveAfter, ShowsNothingBarred}
 use Rattle.ca_claims.specs.inner.Decided.{BarsReturns, IsBounded}
 use Rattle.ca_claims.specs.inner.Divisors.{AreDivisors}
@@ -45,7 +45,7 @@ pub record IsNearTree (nodes : List Node) (tree : Tree) : Type 0 where
   pub near : (x y : ℤ) → (IsInPlane (record { y = y; x = x }) → ⊥) → cell nodes tree x y ≡ 0
 
 -- what a claim that asks this is judged on, as a store's squares show it
-pub record IsSubject (nodes : List Node) (asks : Asks) (subject : Subject) : Type 0 where
+pub record IsSubject (nodes : List Node) (asks : Asks) (subject : ClaimTrees) : Type 0 where
   pub pattern : IsPattern nodes subject.pattern
   pub other : IsPattern nodes subject.other
   pub bounded : IsBounded asks
@@ -55,7 +55,7 @@ abbrev pub IsCase : List Node → Case → Type 0
 IsCase nodes case = IsSubject nodes case.asks case.subject
 
 -- the pictures show the cells of a claim's trees
-pub record AreShown (nodes : List Node) (subject : Subject) (cells other : Picture) : Type 0 where
+pub record AreShown (nodes : List Node) (subject : ClaimTrees) (cells other : Picture) : Type 0 where
   pub one : ShowsTree nodes subject.pattern cells
   pub two : ShowsTree nodes subject.other other
 
@@ -88,12 +88,14 @@ abbrev pub IsOnlyMove : List Node → (tree other : Tree) → ℤ × ℤ → Typ
 IsOnlyMove nodes tree other v = (dx dy : ℤ) → IsMove nodes tree other dx dy → (dx ≡ v.0) × (dy ≡ v.1)
 
 -- the tree shows the plane n generations after another tree's
-pub record IsEndTree (next : List ℕ → ℕ) (old : List Node) (pattern : Tree) (n : ℕ) (nodes : List Node) (end : Tree) : Type 0 where
+pub record IsEndTree (next : List ℕ → ℕ) (old : List Node) (pattern : Tree) (n : ℕ) (nodes : List Node)
+    (end : Tree) : Type 0 where
   pub near : IsNearTree nodes end
   pub shows : (x y : ℤ) → cell nodes end x y ≡ cells_after next (cell old pattern) n x y
 
 -- the tree shows another's cells, moved by (dx, dy)
-pub record IsMoved (old : List Node) (other : Tree) (dx dy : ℤ) (nodes : List Node) (tree : Tree) : Type 0 where
+pub record IsMoved (old : List Node) (other : Tree) (dx dy : ℤ) (nodes : List Node)
+    (tree : Tree) : Type 0 where
   pub near : IsNearTree nodes tree
   pub shows : (x y : ℤ) → cell nodes tree x y ≡ shifted_cells (cell old other) dx dy x y
 

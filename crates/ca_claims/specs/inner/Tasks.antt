@@ -15,6 +15,7 @@ pub record CanBeJudged (task : Task) : Type 0 where
   pub numbers : HasGoodNumbers task.claim.now.kind
 
 -- it is judged on these files of a text with these paths, of which those of rule lines are given too
-pub record IsOnFiles (files : List (List ℕ × List ℕ)) (paths rules : List (List ℕ)) (task : Task) : Type 0 where
+pub record IsOnFiles (files : List (List ℕ × List ℕ)) (paths rules : List (List ℕ))
+    (task : Task) : Type 0 where
   pub found : map option_copied task.needed.now.found.items ≡ map (bytes_at files) paths
   pub read : AreRead files paths rules task.needed.now.tables

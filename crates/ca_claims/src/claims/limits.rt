@@ -1,16 +1,11 @@
 //! The limits of a claim's numbers.
 
 ghost use Rattle.std.specs.Prelude.{◌≡◌, ◌≤◌, ◌<◌, pos, IsTrue, ◌↔◌};
-ghost use Rattle.ca_claims.specs.Text.{longest_period, HasGoodNumbers, IsShift};
+ghost use Rattle.ca_plane.specs.Limits.{longest_period};
+ghost use Rattle.ca_claims.specs.Text.{HasGoodNumbers, IsShift};
 
 use super::line::Kind;
-
-// The longest period.
-const LONGEST_PERIOD: u64 = ca_plane::limits::LONGEST_PERIOD;
-// The most generations.
-const MOST_GENERATIONS: u64 = ca_plane::limits::MOST_GENERATIONS;
-// The greatest shift in one direction.
-const GREATEST_SHIFT: i64 = 1 << 60;
+use ca_plane::limits::{GREATEST_SHIFT, LONGEST_PERIOD, MOST_GENERATIONS};
 
 impl Kind {
     /// Whether the numbers of a claim of this kind are within their limits.

@@ -1,7 +1,7 @@
 //! A claim of a text, with the number of its line.
 
 ghost use Rattle.std.specs.Prelude.{◌≡◌};
-ghost use Rattle.ca_claims.specs.Text.{patterns_of, about};
+ghost use Rattle.ca_claims.specs.Text.{patterns_of, map_patterns};
 ghost use Rattle.ca_claims.specs.inner.Patterns.{items};
 
 use crate::verifier::OneOrTwo;
@@ -36,14 +36,14 @@ pub(crate) enum Kind {
 
 /// The index of a pattern's name among the text's names, and that of its path among the paths.
 #[derive(Clone, Copy)]
-pub(crate) struct Place {
+pub(crate) struct NamePlace {
     pub(crate) name: usize,
     pub(crate) path: usize,
 }
 
 /// A pattern's name, and the index of its path among the text's paths.
 #[derive(Clone, Copy)]
-pub(crate) struct Named<'a> {
+pub(crate) struct NamedPath<'a> {
     pub(crate) name: &'a [u8],
     pub(crate) path: usize,
 }
@@ -60,10 +60,10 @@ impl<P: Copy> Claim<P> {
     }
 }
 
-impl Claim<Place> {
+impl Claim<NamePlace> {
     /// The claim about the paths alone.
     pub(crate) fn by_path(&self) -> Claim<usize>
-        ensures { result ≡ about (λ p. p.path) self.now }
+        ensures { result ≡ map_patterns (λ p. p.path) self.now }
     {
         let other = match self.other {
             None => None,

@@ -3,14 +3,14 @@
 ghost use Rattle.std.specs.Prelude.{◌≡◌, ◌<◌, map, length, All};
 ghost use Rattle.std.specs.List.{AllByRecursion};
 ghost use Rattle.ca_claims.specs.Text.{patterns_of};
-ghost use Rattle.ca_claims.specs.inner.Marks.{marked, claims_marked};
+ghost use Rattle.ca_claims.specs.inner.Marks.{with_marks, claims_marked};
 
-use super::line::{Claim, ClaimLine, Place};
+use super::line::{Claim, ClaimLine, NamePlace};
 
 /// Sets the marks at these indices.
 pub(crate) fn mark_each(marks: &mut [bool], indices: &[usize])
     requires { All (λ i. i < length marks.old) indices.now }
-    ensures { marks.new ≡ marked marks.old indices.now }
+    ensures { marks.new ≡ with_marks marks.old indices.now }
 {
     'indices: for index in indices {
         marks[*index] = true;
@@ -18,7 +18,7 @@ pub(crate) fn mark_each(marks: &mut [bool], indices: &[usize])
 }
 
 /// Sets the marks of the paths of the claims' patterns.
-pub(crate) fn mark_claims(marks: &mut [bool], claims: &[ClaimLine<Place>])
+pub(crate) fn mark_claims(marks: &mut [bool], claims: &[ClaimLine<NamePlace>])
     requires { All (λ l. AllByRecursion (λ p. p.path < length marks.old) (patterns_of l.claim)) claims.now }
     ensures { marks.new ≡ claims_marked marks.old claims.now }
 {
@@ -28,9 +28,9 @@ pub(crate) fn mark_claims(marks: &mut [bool], claims: &[ClaimLine<Place>])
 }
 
 /// Sets the marks of the paths of the claim's patterns.
-fn mark_patterns(marks: &mut [bool], claim: &Claim<Place>)
+fn mark_patterns(marks: &mut [bool], claim: &Claim<NamePlace>)
     requires { AllByRecursion (λ p. p.path < length marks.old) (patterns_of claim.now) }
-    ensures { marks.new ≡ marked marks.old (map (λ p. p.path) (patterns_of claim.now)) }
+    ensures { marks.new ≡ with_marks marks.old (map (λ p. p.path) (patterns_of claim.now)) }
 {
     marks[claim.pattern.path] = true;
     if let Some(other) = claim.other {

@@ -5,7 +5,7 @@ ghost use Rattle.std.specs.Prelude.{is_some, OnOk, IfOk, IfErr, MatchOption};
 ghost use Rattle.ca_plane.specs.Bytes.{Every, is_line_end, words_of};
 ghost use Rattle.ca_claims.specs.Text.{ClaimTextLine, Rule, Load};
 ghost use Rattle.ca_claims.specs.Text.{Claims as Claiming, HasGoodNumbers, IsAllowedLine};
-ghost use Rattle.ca_claims.specs.Text.{IsClaimText, spoken, asked_by};
+ghost use Rattle.ca_claims.specs.Text.{IsClaimText, said_lines, asked_by};
 ghost use Rattle.ca_claims.specs.TextFaults.{IsFirstClaimFault};
 ghost use Rattle.ca_claims.specs.declared.claims.words.LineKind.TheVariants as kind;
 ghost use Rattle.ca_claims.specs.inner.Reading.{IsKind, IsClaimReading, SaysNext};
@@ -13,7 +13,7 @@ ghost use Rattle.ca_claims.specs.inner.Reading.{HasClaimFault, place_of, claim_o
 ghost use Rattle.ca_claims.specs.inner.Reading.{AreKnownNames, at_places};
 
 use super::Claims;
-use super::line::{Claim, ClaimLine, Place};
+use super::line::{Claim, ClaimLine, NamePlace};
 use super::version::TextVersion;
 use super::words::{LineKind, line_kind};
 use crate::ClaimFault;
@@ -28,9 +28,9 @@ use std::collections::HashMap;
 struct Reading<'a> {
     paths: WordSet,
     names: Vec<Vec<u8>>,
-    places: HashMap<&'a [u8], Place>,
+    places: HashMap<&'a [u8], NamePlace>,
     rules: Vec<usize>,
-    claims: Vec<ClaimLine<Place>>,
+    claims: Vec<ClaimLine<NamePlace>>,
     version: TextVersion,
 }
 
@@ -83,10 +83,10 @@ impl<'a> Reading<'a> {
         path: &[u8],
     ) -> Result<(), ClaimFault>
         ensures loaded { OnOk result ((said : List (Option ClaimTextLine)) → IsClaimReading said self.old
-            → IsAllowedLine (spoken said) (Load name.now path.now)
+            → IsAllowedLine (said_lines said) (Load name.now path.now)
             × IsClaimReading (said ++ Some (Load name.now path.now) ∷ []) self.new) }
         ensures fault { IfErr result (λ f. (said : List (Option ClaimTextLine)) → IsClaimReading said self.old
-            → HasClaimFault line (spoken said) (codes "load" ∷ name.now ∷ path.now ∷ []) f) }
+            → HasClaimFault line (said_lines said) (codes "load" ∷ name.now ∷ path.now ∷ []) f) }
     {
         if self.is_loaded(name) {
             return Err(ClaimFault::NameTaken { line });
@@ -104,7 +104,7 @@ impl<'a> Reading<'a> {
             → IsClaimReading (said ++ Some (Load name.now path.now) ∷ []) self.new) }
     {
         let kept = Vec::from_slice(alloc, name)?;
-        let place = Place {
+        let place = NamePlace {
             name: self.names.len(),
             path: self.paths.put(alloc, path)?,
         };
@@ -115,14 +115,14 @@ impl<'a> Reading<'a> {
     }
 
     /// The place of a name that a line has loaded.
-    fn place(&self, name: &[u8]) -> Option<Place>
+    fn place(&self, name: &[u8]) -> Option<NamePlace>
         ensures { result ≡ place_of self.now.places name.now }
     {
         self.places.get(name).copied()
     }
 
     /// The claim about the places of its names, where each is loaded.
-    fn claim_at_places(&self, claim: &Claim<&'a [u8]>) -> Option<Claim<Place>>
+    fn claim_at_places(&self, claim: &Claim<&'a [u8]>) -> Option<Claim<NamePlace>>
         ensures { MatchOption result (AreKnownNames (place_of self.now.places) (claim_of claim.now) → ⊥)
             (λ c. AreKnownNames (place_of self.now.places) (claim_of claim.now)
             × (c ≡ at_places (place_of self.now.places) (claim_of claim.now))) }
@@ -144,11 +144,11 @@ impl<'a> Reading<'a> {
         requires { HasGoodNumbers claim.now.kind }
         ensures claimed { OnOk result
             ((said : List (Option ClaimTextLine)) → IsClaimReading said self.old → line ≡ length said + 1
-            → IsAllowedLine (spoken said) (Claiming (claim_of claim.now))
+            → IsAllowedLine (said_lines said) (Claiming (claim_of claim.now))
             × IsClaimReading (said ++ Some (Claiming (claim_of claim.now)) ∷ []) self.new) }
         ensures fault { IfErr result (λ f. (said : List (Option ClaimTextLine)) → IsClaimReading said self.old
-            → (words : List (List ℕ)) → IsKind (spoken said) words (kind.Claim claim.now)
-            → HasClaimFault line (spoken said) words f) }
+            → (words : List (List ℕ)) → IsKind (said_lines said) words (kind.Claim claim.now)
+            → HasClaimFault line (said_lines said) words f) }
     {
         let Some(claim) = self.claim_at_places(claim) else {
             return Err(ClaimFault::UnknownName { line });
@@ -165,10 +165,10 @@ impl<'a> Reading<'a> {
         requires { Every (λ b. not (is_line_end b)) line.now }
         ensures said { OnOk result
             ((said : List (Option ClaimTextLine)) → IsClaimReading said self.old → number ≡ length said + 1
-            → (s : Option ClaimTextLine) × SaysNext (spoken said) (words_of line.now) s
+            → (s : Option ClaimTextLine) × SaysNext (said_lines said) (words_of line.now) s
             × IsClaimReading (said ++ s ∷ []) self.new) }
         ensures fault { IfErr result (λ f. (said : List (Option ClaimTextLine)) → IsClaimReading said self.old
-            → HasClaimFault number (spoken said) (words_of line.now) f) }
+            → HasClaimFault number (said_lines said) (words_of line.now) f) }
     {
         match line_kind(line, self.version) {
             LineKind::Skipped => Ok(()),

@@ -1,8 +1,9 @@
 //! When a pattern is there again before a claim's generations are over.
 
-ghost use Rattle.std.specs.Prelude.{◌≡◌, ◌-◌, ◌≤◌, ◌^◌, ℤ, ◌-ℤ◌, IfOk, MatchOption};
+ghost use Rattle.std.specs.Prelude.{◌≡◌, ◌-◌, ◌≤◌, ℤ, ◌-ℤ◌, IfOk, MatchOption};
 ghost use Rattle.ca_plane.specs.Plane.{Picture, shifted};
 ghost use Rattle.ca_plane.specs.Generations.{IsAfter};
+ghost use Rattle.ca_plane.specs.Limits.{most_generations};
 ghost use Rattle.ca_quad.specs.Trees.{cell};
 ghost use Rattle.ca_run.specs.Leaping.{LeaperGrows, EndsAtLimit};
 ghost use Rattle.ca_claims.specs.inner.Spending.{Takes};
@@ -62,7 +63,7 @@ fn return_at<A: Automaton, O: Observer>(
     observer: &mut O,
 ) -> Result<Option<(i64, i64)>, LeapFault>
     requires case { BarsReturn leaper.old.nodes case.now }
-    requires few { m ≤ 2 ^ 60 }
+    requires few { m ≤ most_generations }
     ensures back { (cells : Picture) → ShowsTree leaper.old.nodes case.now.subject.pattern cells
         → IfOk result (λ back. MatchOption back
         (ShowsNothingBarred (A.next_of leaper.old.rule) cells case.now.asks.barred m)

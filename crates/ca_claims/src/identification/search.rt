@@ -7,9 +7,9 @@ ghost use Rattle.ca_quad.specs.Boxes.{AreSquareBoxes};
 ghost use Rattle.ca_quad.specs.Trees.{IsTree, cell};
 ghost use Rattle.ca_run.specs.Leaping.{LeaperGrows, EndsAtLimit};
 ghost use Rattle.ca_claims.specs.Identified.{IsIdentity};
-ghost use Rattle.ca_claims.specs.Text.{longest_period};
+ghost use Rattle.ca_plane.specs.Limits.{longest_period};
 ghost use Rattle.ca_claims.specs.inner.Subjects.{ShowsTree};
-ghost use Rattle.ca_claims.specs.inner.Stages.{IsNear, IsFirst, IsStage, IsLaterTree, IsReturn};
+ghost use Rattle.ca_claims.specs.inner.Stages.{IsWithinPlane, IsFirst, IsStage, IsLaterTree, IsReturn};
 ghost use Rattle.ca_claims.specs.inner.Stages.{TakesSteps};
 
 use super::growth::growth_of;
@@ -52,7 +52,7 @@ pub(super) fn search<A: Automaton, O: Observer>(
         generations += 1;
         match later.stage {
             Stage::Empty => return Ok(Identity::Dies { generations }),
-            Stage::Back { dx, dy } => return Ok(returning(generations, dx, dy)),
+            Stage::Back { dx, dy } => return Ok(identity_of_return(generations, dx, dy)),
             Stage::Other => {}
         }
     }
@@ -62,7 +62,7 @@ pub(super) fn search<A: Automaton, O: Observer>(
 
 // A tree, and what it shows of the pattern.
 #[derive(Drop)]
-struct Later {
+struct LaterStage {
     tree: Tree,
     stage: Stage,
 }
@@ -75,7 +75,7 @@ fn step<A: Automaton>(
     now: Tree,
     generations: u64,
     boxes: &mut SquareBoxes,
-) -> Result<Later, LeapFault>
+) -> Result<LaterStage, LeapFault>
     requires first { IsFirst leaper.old.nodes first.now }
     requires few { generations < longest_period }
     requires now { IsLaterTree (A.next_of leaper.old.rule) (cell leaper.old.nodes first.now.tree) generations
@@ -97,11 +97,11 @@ fn step<A: Automaton>(
     let _ = generations;
     let tree = later_tree(leaper, now, 1, &mut Unwatched)?;
     let stage = stage_of(alloc, leaper, first, &tree, boxes)?;
-    Ok(Later { tree, stage })
+    Ok(LaterStage { tree, stage })
 }
 
 // What a pattern is that is back for the first time after so many generations, by this vector.
-fn returning(generations: u64, dx: i64, dy: i64) -> Identity
+fn identity_of_return(generations: u64, dx: i64, dy: i64) -> Identity
     ensures { (next : List ℕ → ℕ) (cells : Picture) (limit : ℕ) → generations ≤ limit → limit ≤ longest_period
         → IsReturn next cells generations dx dy → IsIdentity next cells limit result }
 {

@@ -9,8 +9,8 @@ ghost use Rattle.ca_claims.specs.inner.Patterns.{AreMixed, Disagree};
 
 use super::one_or_two::OneOrTwo;
 use crate::cells::has_large_state;
-use crate::refusal::Part;
-use crate::ruled::Ruled;
+use crate::refusal::WhichPattern;
+use crate::ruled::RuledPattern;
 use ca_plane::Memory;
 use ca_quad::Store;
 use ca_rule::Rule;
@@ -20,7 +20,7 @@ use std::alloc::Global;
 #[derive(Clone, Copy)]
 pub(crate) enum Disagreement {
     /// This is the first that has a state which its rule doesn't have.
-    Large(Part),
+    Large(WhichPattern),
     /// Their rules differ.
     Mixed,
     /// A growth was refused.
@@ -31,7 +31,7 @@ pub(crate) enum Disagreement {
 pub(crate) fn agreed_rule<'t>(
     alloc: Global,
     store: &Store,
-    patterns: &OneOrTwo<Ruled<'t>>,
+    patterns: &OneOrTwo<RuledPattern<'t>>,
 ) -> Result<Rule<'t>, Disagreement>
     requires { AllByRecursion (λ r. IsTree store.now r.pattern.tree) (items patterns.now) }
     ensures small { IfOk result (λ rule. AllByRecursion (ShowsSmall store.now) (items patterns.now)) }
@@ -44,7 +44,7 @@ pub(crate) fn agreed_rule<'t>(
     if let Some(part) = large {
         return Err(Disagreement::Large(part));
     }
-    match one_rule(patterns) {
+    match common_rule(patterns) {
         Some(rule) => Ok(rule),
         None => Err(Disagreement::Mixed),
     }
@@ -54,8 +54,8 @@ pub(crate) fn agreed_rule<'t>(
 fn large_part(
     alloc: Global,
     store: &Store,
-    patterns: &OneOrTwo<Ruled<'_>>,
-) -> Result<Option<Part>, Memory>
+    patterns: &OneOrTwo<RuledPattern<'_>>,
+) -> Result<Option<WhichPattern>, Memory>
     requires { AllByRecursion (λ r. IsTree store.now r.pattern.tree) (items patterns.now) }
     ensures { IfOk result
         (λ large. MatchOption large (AllByRecursion (ShowsSmall store.now) (items patterns.now))
@@ -64,15 +64,15 @@ fn large_part(
     match patterns {
         OneOrTwo::One(only) => {
             if has_large_state(alloc, store, only)? {
-                return Ok(Some(Part::First));
+                return Ok(Some(WhichPattern::First));
             }
         }
         OneOrTwo::Two(first, second) => {
             if has_large_state(alloc, store, first)? {
-                return Ok(Some(Part::First));
+                return Ok(Some(WhichPattern::First));
             }
             if has_large_state(alloc, store, second)? {
-                return Ok(Some(Part::Second));
+                return Ok(Some(WhichPattern::Second));
             }
         }
     }
@@ -80,7 +80,7 @@ fn large_part(
 }
 
 /// The rule of the patterns, or that of the first where the second's is the same.
-fn one_rule<'t>(patterns: &OneOrTwo<Ruled<'t>>) -> Option<Rule<'t>>
+fn common_rule<'t>(patterns: &OneOrTwo<RuledPattern<'t>>) -> Option<Rule<'t>>
     ensures { MatchOption result (AreMixed (items patterns.now))
         (λ rule. AreOfOneRule (items patterns.now) (rule_value rule)) }
 {

@@ -4,16 +4,16 @@ ghost use Rattle.std.specs.Prelude.{◌≡◌, OnOk, IfErr, Some};
 ghost use Rattle.ca_claims.specs.declared.refusal.About.TheVariants as abouts;
 ghost use Rattle.ca_claims.specs.declared.verdict.Cause.TheVariants as causes;
 ghost use Rattle.ca_claims.specs.inner.Patterns.{items, AreBoth};
-ghost use Rattle.ca_claims.specs.inner.Prepared.{AreFewCounted, IsCountRefused, last_part, wanted_part};
-ghost use Rattle.ca_claims.specs.inner.Prepared.{wanted_tree, refusal_for_count};
+ghost use Rattle.ca_claims.specs.inner.PreparedClaim.{AreFewCounted, IsCountRefused, last_part, wanted_part};
+ghost use Rattle.ca_claims.specs.inner.PreparedClaim.{wanted_tree, refusal_for_count};
 ghost use Rattle.ca_claims.specs.inner.Subjects.{IsPattern};
 
 use super::one_or_two::OneOrTwo;
 use crate::cells::has_too_many_cells;
 use crate::claims::{Asks, Wanted};
-use crate::decide::Subject;
-use crate::refusal::{About, Part, Refusal};
-use crate::ruled::Ruled;
+use crate::decide::ClaimTrees;
+use crate::refusal::{About, Refusal, WhichPattern};
+use crate::ruled::RuledPattern;
 use crate::verdict::Cause;
 use ca_quad::{Store, Tree};
 use std::alloc::Global;
@@ -25,15 +25,15 @@ pub(crate) const OUT_OF_MEMORY: Refusal = Refusal {
 };
 
 /// The trees of a claim's pattern and of the other one, which is the same where there is one.
-pub(crate) fn subject_of(patterns: &OneOrTwo<Ruled<'_>>) -> Subject
+pub(crate) fn subject_of(patterns: &OneOrTwo<RuledPattern<'_>>) -> ClaimTrees
     ensures { AreBoth (items patterns.now) result }
 {
     match patterns {
-        OneOrTwo::One(only) => Subject {
+        OneOrTwo::One(only) => ClaimTrees {
             pattern: only.pattern.tree,
             other: only.pattern.tree,
         },
-        OneOrTwo::Two(first, second) => Subject {
+        OneOrTwo::Two(first, second) => ClaimTrees {
             pattern: first.pattern.tree,
             other: second.pattern.tree,
         },
@@ -41,12 +41,12 @@ pub(crate) fn subject_of(patterns: &OneOrTwo<Ruled<'_>>) -> Subject
 }
 
 /// Which of a claim's patterns is the other one.
-pub(crate) fn last_part(patterns: &OneOrTwo<Ruled<'_>>) -> Part
+pub(crate) fn last_part(patterns: &OneOrTwo<RuledPattern<'_>>) -> WhichPattern
     ensures { result ≡ last_part (items patterns.now) }
 {
     match patterns {
-        OneOrTwo::One(_) => Part::First,
-        OneOrTwo::Two(_, _) => Part::Second,
+        OneOrTwo::One(_) => WhichPattern::First,
+        OneOrTwo::Two(_, _) => WhichPattern::Second,
     }
 }
 
@@ -55,9 +55,9 @@ pub(crate) fn last_part(patterns: &OneOrTwo<Ruled<'_>>) -> Part
 pub(crate) fn check_count(
     alloc: Global,
     store: &Store,
-    subject: &Subject,
+    subject: &ClaimTrees,
     asks: Asks,
-    other: Part,
+    other: WhichPattern,
 ) -> Result<(), Refusal>
     requires pattern { IsPattern store.now subject.now.pattern }
     requires other { IsPattern store.now subject.now.other }
@@ -78,7 +78,7 @@ pub(crate) fn check_count(
 }
 
 /// The tree of the pattern whose cells are wanted, where some are.
-fn wanted_tree(wanted: Wanted, subject: &Subject) -> Option<Tree>
+fn wanted_tree(wanted: Wanted, subject: &ClaimTrees) -> Option<Tree>
     ensures { result ≡ wanted_tree wanted subject.now }
 {
     match wanted {
@@ -95,17 +95,17 @@ fn wanted_tree(wanted: Wanted, subject: &Subject) -> Option<Tree>
 }
 
 /// Which of a claim's patterns that is; the other one is this of them.
-fn wanted_part(wanted: Wanted, other: Part) -> Part
+fn wanted_part(wanted: Wanted, other: WhichPattern) -> WhichPattern
     ensures { result ≡ wanted_part wanted other }
 {
     match wanted {
-        Wanted::Own | Wanted::NoCells => Part::First,
+        Wanted::Own | Wanted::NoCells => WhichPattern::First,
         Wanted::Other => other,
     }
 }
 
 /// This pattern of a claim has too many cells.
-fn refusal_for_count(part: Part) -> Refusal
+fn refusal_for_count(part: WhichPattern) -> Refusal
     ensures { result ≡ refusal_for_count part }
 {
     Refusal {

@@ -17,18 +17,18 @@ const ROOM: usize = 2;
 #[derive(Drop)]
 pub(crate) struct Library<'a> {
     is_open: bool,
-    kept: Vec<Kept<'a>>,
+    kept: Vec<KeptPattern<'a>>,
 }
 
 /// The bytes of a file, and the pattern that was read from them, in a store of its own.
 #[derive(Drop)]
-struct Kept<'a> {
+struct KeptPattern<'a> {
     bytes: &'a [u8],
     store: Store,
     pattern: Loaded,
 }
 
-impl<'a> Model for Kept<'a> {
+impl<'a> Model for KeptPattern<'a> {
     ghost use Rattle.std.specs.Prelude.{ℕ, List};
     ghost use Rattle.ca_claims.specs.inner.Patterns.{IsReadFrom};
 
@@ -91,20 +91,20 @@ impl<'a> Library<'a> {
 
     /// The pattern of a file's bytes: taken out where it is kept, and else read. For a new one the longest
     /// unused one goes first, so that there are never more than are kept.
-    fn take(&mut self, alloc: Global, bytes: &'a [u8]) -> Result<Kept<'a>, BadPattern>
+    fn take(&mut self, alloc: Global, bytes: &'a [u8]) -> Result<KeptPattern<'a>, BadPattern>
         ensures { MatchResult result (λ kept. kept ≡ bytes.now) (IsUnread bytes.now) }
     {
-        if let Some(place) = self.place_of(bytes) {
+        if let Some(place) = self.index_of(bytes) {
             return Ok(self.kept.remove(place));
         }
         if self.kept.len() == ROOM {
             let _ = self.kept.remove(0);
         }
-        Kept::read(alloc, bytes)
+        KeptPattern::read(alloc, bytes)
     }
 
     /// Where the pattern of a file with these bytes is kept.
-    fn place_of(&self, bytes: &[u8]) -> Option<usize>
+    fn index_of(&self, bytes: &[u8]) -> Option<usize>
         ensures { IfSome result (λ place. slice_get self.now.kept.items place ≡ Some bytes.now) }
     {
         'places: for (place, kept) in self.kept.iter().enumerate() {
@@ -116,7 +116,7 @@ impl<'a> Library<'a> {
     }
 }
 
-impl<'a> Kept<'a> {
+impl<'a> KeptPattern<'a> {
     /// Whether the file has these bytes.
     fn is_of(&self, bytes: &[u8]) -> bool
         ensures { IsTrue result ↔ (self.now ≡ bytes.now) }
@@ -125,12 +125,12 @@ impl<'a> Kept<'a> {
     }
 
     /// The pattern of a file's bytes, or what is wrong with them.
-    fn read(alloc: Global, bytes: &'a [u8]) -> Result<Kept<'a>, BadPattern>
+    fn read(alloc: Global, bytes: &'a [u8]) -> Result<KeptPattern<'a>, BadPattern>
         ensures { MatchResult result (λ kept. kept ≡ bytes.now) (IsUnread bytes.now) }
     {
         let mut store = Store::new(alloc);
         let pattern = read_with_line(alloc, &mut store, bytes)?;
-        Ok(Kept {
+        Ok(KeptPattern {
             bytes,
             store,
             pattern,

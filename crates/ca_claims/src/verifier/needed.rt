@@ -4,7 +4,7 @@ use super::tables::Tables;
 
 /// The bytes of each path of a text, and its rule tables.
 #[derive(Drop)]
-pub(crate) struct Needed<'a> {
+pub(crate) struct NeededFiles<'a> {
     pub(crate) found: Vec<Option<&'a [u8]>>,
     pub(crate) tables: Tables,
 }

@@ -1,6 +1,6 @@
 //! The patterns of a claim's files, and the rules of their texts.
 
-ghost use Rattle.std.specs.Prelude.{IfOk, IfErr};
+ghost use Rattle.std.specs.Prelude.{◌≡◌, IfOk, IfErr, MatchResult, Ok, Err};
 ghost use Rattle.std.specs.List.{AllZip};
 ghost use Rattle.ca_claims.specs.Means.{IsReadable};
 ghost use Rattle.ca_claims.specs.inner.Patterns.{items, FirstBadAt, IsReadFrom, IsUnread, HasName};
@@ -10,8 +10,8 @@ use super::library::Library;
 use super::one_or_two::OneOrTwo;
 use crate::pattern::Loaded;
 use crate::read::BadPattern;
-use crate::refusal::Part;
-use crate::ruled::{Ruled, Unnamed, with_rule};
+use crate::refusal::WhichPattern;
+use crate::ruled::{RuledPattern, UnnamedRule, with_rule};
 use ca_quad::Store;
 use ca_rule::Table;
 use std::alloc::Global;
@@ -19,7 +19,7 @@ use std::alloc::Global;
 /// Which of a claim's patterns is bad, and why.
 #[derive(Drop)]
 pub(crate) struct BadPart<W> {
-    pub(crate) part: Part,
+    pub(crate) part: WhichPattern,
     pub(crate) why: W,
 }
 
@@ -36,30 +36,14 @@ pub(crate) fn read_each<'a>(
         (λ b. IsReadable b.now) (λ b. IsUnread b.now bad.why)) }
 {
     match *files {
-        OneOrTwo::One(only) => match library.pattern(alloc, store, only) {
-            Ok(only) => Ok(OneOrTwo::One(only)),
-            Err(why) => Err(BadPart {
-                part: Part::First,
-                why,
-            }),
-        },
+        OneOrTwo::One(only) => {
+            let only = at_part(WhichPattern::First, library.pattern(alloc, store, only))?;
+            Ok(OneOrTwo::One(only))
+        }
         OneOrTwo::Two(first, second) => {
-            let first = match library.pattern(alloc, store, first) {
-                Ok(first) => first,
-                Err(why) => {
-                    return Err(BadPart {
-                        part: Part::First,
-                        why,
-                    });
-                }
-            };
-            match library.pattern(alloc, store, second) {
-                Ok(second) => Ok(OneOrTwo::Two(first, second)),
-                Err(why) => Err(BadPart {
-                    part: Part::Second,
-                    why,
-                }),
-            }
+            let first = at_part(WhichPattern::First, library.pattern(alloc, store, first))?;
+            let second = at_part(WhichPattern::Second, library.pattern(alloc, store, second))?;
+            Ok(OneOrTwo::Two(first, second))
         }
     }
 }
@@ -69,37 +53,32 @@ pub(crate) fn read_each<'a>(
 pub(crate) fn with_rules<'t>(
     patterns: OneOrTwo<Loaded>,
     tables: &'t [Table],
-) -> Result<OneOrTwo<Ruled<'t>>, BadPart<Unnamed>>
+) -> Result<OneOrTwo<RuledPattern<'t>>, BadPart<UnnamedRule>>
     ensures named { IfOk result (λ ruled. AllZip (IsRuledAs tables.now) (items patterns) (items ruled)) }
     ensures unnamed { IfErr result
         (λ bad. FirstBadAt bad.part (items patterns) (HasName tables.now)
         (λ p. IsUnnamedFor tables.now p bad.why)) }
 {
     match patterns {
-        OneOrTwo::One(only) => match with_rule(only, tables) {
-            Ok(only) => Ok(OneOrTwo::One(only)),
-            Err(why) => Err(BadPart {
-                part: Part::First,
-                why,
-            }),
-        },
-        OneOrTwo::Two(first, second) => {
-            let first = match with_rule(first, tables) {
-                Ok(first) => first,
-                Err(why) => {
-                    return Err(BadPart {
-                        part: Part::First,
-                        why,
-                    });
-                }
-            };
-            match with_rule(second, tables) {
-                Ok(second) => Ok(OneOrTwo::Two(first, second)),
-                Err(why) => Err(BadPart {
-                    part: Part::Second,
-                    why,
-                }),
-            }
+        OneOrTwo::One(only) => {
+            let only = at_part(WhichPattern::First, with_rule(only, tables))?;
+            Ok(OneOrTwo::One(only))
         }
+        OneOrTwo::Two(first, second) => {
+            let first = at_part(WhichPattern::First, with_rule(first, tables))?;
+            let second = at_part(WhichPattern::Second, with_rule(second, tables))?;
+            Ok(OneOrTwo::Two(first, second))
+        }
+    }
+}
+
+// What came of one of the patterns: where it is bad, which it is.
+fn at_part<P, W>(part: WhichPattern, found: Result<P, W>) -> Result<P, BadPart<W>>
+    ensures { MatchResult result (λ good. found ≡ Ok good)
+        (λ bad. (bad.part ≡ part) × (found ≡ Err bad.why)) }
+{
+    match found {
+        Ok(good) => Ok(good),
+        Err(why) => Err(BadPart { part, why }),
     }
 }

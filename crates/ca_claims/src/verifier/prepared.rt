@@ -12,8 +12,8 @@ ghost use Rattle.ca_claims.specs.declared.refusal.About.TheVariants as abouts;
 ghost use Rattle.ca_claims.specs.declared.verdict.Cause.TheVariants as causes;
 ghost use Rattle.ca_claims.specs.inner.Found.{IsFound};
 ghost use Rattle.ca_claims.specs.inner.Patterns.{items, FirstBadAt};
-ghost use Rattle.ca_claims.specs.inner.Prepared.{IsPrepared, IsFit, reading_refusal};
-ghost use Rattle.ca_claims.specs.inner.Prepared.{disagreement_refusal};
+ghost use Rattle.ca_claims.specs.inner.PreparedClaim.{IsPrepared, IsFit, reading_refusal};
+ghost use Rattle.ca_claims.specs.inner.PreparedClaim.{disagreement_refusal};
 ghost use Rattle.ca_claims.specs.inner.Refusals.{IsRefusal};
 ghost use Rattle.ca_claims.specs.inner.Tables.{AreRead};
 
@@ -24,11 +24,11 @@ use super::one_or_two::OneOrTwo;
 use super::patterns::{BadPart, read_each, with_rules};
 use super::tables::Tables;
 use crate::claims::Asks;
-use crate::decide::Subject;
+use crate::decide::ClaimTrees;
 use crate::limits::Limits;
 use crate::read::BadPattern;
-use crate::refusal::{About, Part, Refusal};
-use crate::ruled::Unnamed;
+use crate::refusal::{About, Refusal, WhichPattern};
+use crate::ruled::UnnamedRule;
 use crate::verdict::{Cause, PatternFault};
 use ca_quad::Store;
 use ca_rule::{Rule, Table};
@@ -37,9 +37,9 @@ use std::alloc::Global;
 
 /// A leaper over the squares of a claim's patterns, under their one rule, and their trees.
 #[derive(Drop)]
-pub(crate) struct Prepared<'t> {
+pub(crate) struct PreparedClaim<'t> {
     pub(crate) leaper: Leaper<Rule<'t>>,
-    pub(crate) subject: Subject,
+    pub(crate) subject: ClaimTrees,
 }
 
 /// What a claim that asks this of the patterns at these places is judged on, or why it isn't judged.
@@ -51,7 +51,7 @@ pub(crate) fn prepare<'a, 't>(
     found: &[Option<&'a [u8]>],
     tables: &'t Tables,
     limits: Limits,
-) -> Result<Prepared<'t>, Refusal>
+) -> Result<PreparedClaim<'t>, Refusal>
     requires limits { AreGoodLimits limits }
     requires within { AllByRecursion (λ i. i < length found.now) (items places.now) }
     ensures prepared { (files : List (List ℕ × List ℕ)) (paths rules : List (List ℕ))
@@ -77,7 +77,7 @@ fn prepare_by<'a, 't>(
     asks: Asks,
     tables: &'t [Table],
     limits: Limits,
-) -> Result<Prepared<'t>, Refusal>
+) -> Result<PreparedClaim<'t>, Refusal>
     requires limits { AreGoodLimits limits }
     ensures prepared { (files : List (List ℕ × List ℕ)) (paths rules each : List (List ℕ))
         → AllZip (λ path b. bytes_at files path ≡ Some b.now) each (items there.now)
@@ -103,11 +103,11 @@ fn prepare_by<'a, 't>(
     let Ok(leaper) = Leaper::new(alloc, store, rule, limits.memo, limits.work) else {
         return Err(OUT_OF_MEMORY);
     };
-    Ok(Prepared { leaper, subject })
+    Ok(PreparedClaim { leaper, subject })
 }
 
 /// A refusal for one of the claim's patterns.
-fn of_pattern(cause: Cause, part: Part, line: Option<u64>) -> Refusal
+fn of_pattern(cause: Cause, part: WhichPattern, line: Option<u64>) -> Refusal
     ensures { result ≡ record { cause = cause; about = abouts.Pattern part line None } }
 {
     Refusal {
@@ -121,7 +121,7 @@ fn of_pattern(cause: Cause, part: Part, line: Option<u64>) -> Refusal
 }
 
 /// The refusal of a claim with a pattern whose rule text names no rule.
-fn naming_refusal(unnamed: BadPart<Unnamed>) -> Refusal
+fn naming_refusal(unnamed: BadPart<UnnamedRule>) -> Refusal
     ensures { result ≡ record {
       cause = causes.BadRule unnamed.why.fault;
       about = abouts.Pattern unnamed.part None (Some unnamed.why.rule_text);
@@ -165,7 +165,7 @@ fn disagreement_refusal(disagreement: Disagreement) -> Refusal
 fn files_at<'a>(
     places: &OneOrTwo<usize>,
     found: &[Option<&'a [u8]>],
-) -> Result<OneOrTwo<&'a [u8]>, Part>
+) -> Result<OneOrTwo<&'a [u8]>, WhichPattern>
     requires { AllByRecursion (λ i. i < length found.now) (items places.now) }
     ensures { MatchResult result
         (λ files. AllZip (λ i b. get_or found.now i None ≡ Some b) (items places.now) (items files))
@@ -175,12 +175,12 @@ fn files_at<'a>(
     match *places {
         OneOrTwo::One(only) => match found[only] {
             Some(only) => Ok(OneOrTwo::One(only)),
-            None => Err(Part::First),
+            None => Err(WhichPattern::First),
         },
         OneOrTwo::Two(first, second) => match (found[first], found[second]) {
             (Some(first), Some(second)) => Ok(OneOrTwo::Two(first, second)),
-            (None, _) => Err(Part::First),
-            (Some(_), None) => Err(Part::Second),
+            (None, _) => Err(WhichPattern::First),
+            (Some(_), None) => Err(WhichPattern::Second),
         },
     }
 }

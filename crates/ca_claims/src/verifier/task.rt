@@ -1,6 +1,6 @@
 //! What is to be judged.
 
-use super::needed::Needed;
+use super::needed::NeededFiles;
 use crate::claims::Claim;
 use crate::limits::Limits;
 
@@ -8,6 +8,6 @@ use crate::limits::Limits;
 #[derive(Clone, Copy)]
 pub(crate) struct Task<'c, 'a> {
     pub(crate) claim: &'c Claim<usize>,
-    pub(crate) needed: &'c Needed<'a>,
+    pub(crate) needed: &'c NeededFiles<'a>,
     pub(crate) limits: Limits,
 }

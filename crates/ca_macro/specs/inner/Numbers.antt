@@ -6,8 +6,8 @@ use Rattle.ca_macro.specs.declared.line.numbers.Numbers.{Numbers}
 use Rattle.ca_macro.specs.File.{IsNumber, AreNumbers}
 
 -- a word is a number of any count of digits, of which this is kept
-abbrev pub Keeps : List ℕ → ℕ → Type 0
-Keeps word kept = AreDigits word × (kept ≡ nearest_u64 (value word))
+abbrev pub KeepsNumberOf : List ℕ → ℕ → Type 0
+KeepsNumberOf word kept = AreDigits word × (kept ≡ nearest_u64 (value word))
 
 -- the words aren't so many numbers
 abbrev pub AreNoNumbers : ℕ → List (List ℕ) → Type 0

@@ -16,7 +16,7 @@ use Rattle.ca_macro.specs.declared.line.numbers.Numbers.{Numbers}
 use Rattle.ca_macro.specs.declared.read.reading.Reading.{Reading}
 use Rattle.ca_macro.specs.declared.read.squares.Squares.{Squares}
 use Rattle.ca_macro.specs.Nodes.{Node, Parts, node_level, NamesPart, MayFollow}
-use Rattle.ca_macro.specs.File.{MacrocellLine, MacrocellFile, IsMacrocellFile, added, last_rule, last_line_generation}
+use Rattle.ca_macro.specs.File.{MacrocellLine, MacrocellFile, IsMacrocellFile, added_nodes, last_rule, last_line_generation}
 use Rattle.ca_macro.specs.Shown.{numbered_square, squares_of}
 use Rattle.ca_macro.specs.Faults.{AreFaulty, HasBadPart, AddNode, HasNodeLine, IsFirstMacrocellFaultOn}
 
@@ -85,8 +85,9 @@ IsMacrocellReadingFault bytes fault line =
     MatchOption line ((fault ≡ Memory) × HasNodeLine bytes) (IsFirstMacrocellFaultOn bytes fault)
 
 -- what is kept once lines have said this
-pub record IsMacrocellReading (store : List Kept) (said : List MacrocellLine) (reading : Reading) : Type 0 where
-  pub squares : AreSquares store (flat_map added said) reading.squares
+pub record IsMacrocellReading (store : List Kept) (said : List MacrocellLine)
+    (reading : Reading) : Type 0 where
+  pub squares : AreSquares store (flat_map added_nodes said) reading.squares
   pub rule : (text : List ℕ) → last_rule text said ≡ unwrap_or (option_copied reading.rule) text
   pub word : IfSome reading.rule (λ r. IsWord r.now)
   pub generation : last_line_generation 0 said ≡ reading.generation
@@ -94,7 +95,7 @@ pub record IsMacrocellReading (store : List Kept) (said : List MacrocellLine) (r
 
 -- the file of lines that say this
 abbrev pub file_of_lines : List MacrocellLine → MacrocellFile
-file_of_lines said = record { nodes = flat_map added said; rule_text = last_rule default_rule said; generation = last_line_generation 0 said }
+file_of_lines said = record { nodes = flat_map added_nodes said; rule_text = last_rule default_rule said; generation = last_line_generation 0 said }
 
 -- the text is a file, and this is what is kept of its lines
 abbrev pub HoldsReading : List Kept → List ℕ → Reading → Type 0

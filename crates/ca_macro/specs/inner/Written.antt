@@ -6,21 +6,21 @@ use Rattle.ca_quad.specs.declared.node.Node.{Node as Kept}
 use Rattle.ca_quad.specs.Squares as squares
 use Rattle.ca_quad.specs.SquareValues.{square_value}
 use Rattle.ca_quad.specs.Trees.{AreQuarters, from_corner}
-use Rattle.ca_macro.specs.declared.write.written.Written.{Written}
-use Rattle.ca_macro.specs.declared.write.written.Written.TheVariants.{Leaf, Cells, Parts}
+use Rattle.ca_macro.specs.declared.write.written.WrittenNode.{WrittenNode}
+use Rattle.ca_macro.specs.declared.write.written.WrittenNode.TheVariants.{Leaf, Cells, Parts}
 use Rattle.ca_macro.specs.Nodes.{Node, node_level, NamesPart, MayFollow}
 use Rattle.ca_macro.specs.Nodes as nodes
 use Rattle.ca_macro.specs.Shown.{numbered_square, node_picture, squares_of}
 use Rattle.ca_macro.specs.Tidy.{AreInPlace, HasForm, is_empty, walks_after, numbers_once}
 
 -- a row's cells by its bits, without the dead cells at its end
-abbrev pub row_of : ℕ → ℕ → List Bool
-row_of zero bits = []
-row_of (suc width) bits = if bits == 0 then [] else (bits % 2 == 1) ∷ row_of width (bits / 2)
+abbrev pub row_marks : ℕ → ℕ → List Bool
+row_marks zero bits = []
+row_marks (suc width) bits = if bits == 0 then [] else (bits % 2 == 1) ∷ row_marks width (bits / 2)
 
 -- the node that is written
-abbrev pub node_of : Written → Node
-node_of (Leaf rows) = nodes.Leaf (map (row_of 8) rows)
+abbrev pub node_of : WrittenNode → Node
+node_of (Leaf rows) = nodes.Leaf (map (row_marks 8) rows)
 node_of (Cells states) = nodes.Cells (slice_index states 0) (slice_index states 1) (slice_index states 2) (slice_index states 3)
 node_of (Parts level numbers) = nodes.Parts level (slice_index numbers 0) (slice_index numbers 1) (slice_index numbers 2) (slice_index numbers 3)
 

@@ -4,7 +4,7 @@ ghost use Rattle.std.specs.Prelude.{◌≡◌, not, ℕ, true, false, length, Ma
 ghost use Rattle.std.specs.List.{AllZip};
 ghost use Rattle.ca_plane.specs.Bytes.{is_line_end, Every, words_of};
 ghost use Rattle.ca_macro.specs.File.{IsNumber, AreNumbers};
-ghost use Rattle.ca_macro.specs.inner.Numbers.{Keeps, AreKept, AreNoNumbers};
+ghost use Rattle.ca_macro.specs.inner.Numbers.{KeepsNumberOf, AreKept, AreNoNumbers};
 
 use ca_plane::bytes::{next_word, whole_number};
 
@@ -12,7 +12,7 @@ use ca_plane::bytes::{next_word, whole_number};
 /// where the line isn't just as many numbers.
 fn set_numbers(numbers: &mut [u64], line: &[u8]) -> bool
     requires { Every (λ b. not (is_line_end b)) line.now }
-    ensures kept { result ≡ true → AllZip Keeps (words_of line.now) numbers.new }
+    ensures kept { result ≡ true → AllZip KeepsNumberOf (words_of line.now) numbers.new }
     ensures none { result ≡ false → AreNoNumbers (length numbers.old) (words_of line.now) }
 {
     let word = next_word(line);

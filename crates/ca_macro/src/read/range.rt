@@ -8,11 +8,9 @@ ghost use Rattle.ca_macro.specs.declared.fault.MacroFault.TheVariants.{Range, Me
 ghost use Rattle.ca_macro.specs.Pattern.{AreInRange};
 
 use crate::fault::MacroFault;
+use ca_plane::limits::RANGE;
 use ca_quad::{Store, Tree, WideBounds};
 use std::alloc::Global;
-
-/// Coordinates of live cells are from -2^60 to 2^60 - 1.
-const RANGE: i128 = ca_plane::limits::RANGE;
 
 /// The level of the largest tree that reaches no further.
 const LEVEL_OF_RANGE: u8 = 61;

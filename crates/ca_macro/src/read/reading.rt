@@ -5,7 +5,7 @@ ghost use Rattle.std.specs.List.{flat_map};
 ghost use Rattle.ca_plane.specs.Bytes.{Every, is_line_end, words_of};
 ghost use Rattle.ca_quad.specs.declared.node.Node.{Node as Kept};
 ghost use Rattle.ca_quad.specs.Sound.{IsSoundStore, Grows};
-ghost use Rattle.ca_macro.specs.File.{MacrocellLine, MacrocellWordsSay, IsAllowedNode, added};
+ghost use Rattle.ca_macro.specs.File.{MacrocellLine, MacrocellWordsSay, IsAllowedNode, added_nodes};
 ghost use Rattle.ca_macro.specs.inner.Comments.{said_of};
 ghost use Rattle.ca_macro.specs.inner.Reading.{IsMacrocellReading, HasNodeFault};
 
@@ -60,11 +60,11 @@ impl<'a> Reading<'a> {
         requires reading { (said : List MacrocellLine) × IsMacrocellReading store.old said self.old }
         ensures said { OnOk result ((said : List MacrocellLine) → IsMacrocellReading store.old said self.old
             → (s : MacrocellLine) × MacrocellWordsSay (words_of line.now) s
-            × IsAllowedNode (flat_map added said) s
+            × IsAllowedNode (flat_map added_nodes said) s
             × IsMacrocellReading store.new (said ++ s ∷ []) self.new) }
         ensures fault { IfErr result (λ f. (said : List MacrocellLine)
             → IsMacrocellReading store.old said self.old
-            → HasNodeFault f (flat_map added said) (words_of line.now)) }
+            → HasNodeFault f (flat_map added_nodes said) (words_of line.now)) }
         ensures grows { Grows store.old store.new }
     {
         match read_line(line)? {

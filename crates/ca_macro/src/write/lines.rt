@@ -5,9 +5,9 @@ ghost use Rattle.std.specs.List.{flat_map};
 ghost use Rattle.ca_plane.specs.Puts.{Puts};
 ghost use Rattle.ca_macro.specs.Nodes.{leaf_mark};
 ghost use Rattle.ca_macro.specs.Tidy.{numbers_text, node_text, generation_lines, tidy_lines};
-ghost use Rattle.ca_macro.specs.inner.Written.{row_of, node_of};
+ghost use Rattle.ca_macro.specs.inner.Written.{row_marks, node_of};
 
-use super::written::Written;
+use super::written::WrittenNode;
 use ca_plane::Memory;
 use ca_plane::text::{push_number, push_text};
 
@@ -22,22 +22,23 @@ fn mark(live: bool) -> u8
 }
 
 /// Puts the cells of a row after what `out` holds, and `$`.
-fn push_row(out: &mut Vec<u8>, row: u8, width: u8) -> Result<(), Memory>
-    ensures { OnOk result (Puts out.old.items out.new.items (map leaf_mark (row_of width row) ++ codes "$")) }
+fn push_leaf_row(out: &mut Vec<u8>, row: u8, width: u8) -> Result<(), Memory>
+    ensures { OnOk result (Puts out.old.items out.new.items
+        (map leaf_mark (row_marks width row) ++ codes "$")) }
 {
     if width == 0 || row == 0 {
         return push_text(out, b"$");
     }
     push_text(out, &[mark(row % 2 == 1)])?;
-    push_row(out, row / 2, width - 1)
+    push_leaf_row(out, row / 2, width - 1)
 }
 
 fn push_rows(out: &mut Vec<u8>, rows: &[u8; 8]) -> Result<(), Memory>
     ensures { OnOk result (Puts out.old.items out.new.items
-        (flat_map (λ row. map leaf_mark row ++ codes "$") (map (row_of 8) rows.now))) }
+        (flat_map (λ row. map leaf_mark row ++ codes "$") (map (row_marks 8) rows.now))) }
 {
     'rows: for row in rows {
-        push_row(out, *row, 8)?;
+        push_leaf_row(out, *row, 8)?;
     }
     Ok(())
 }
@@ -66,12 +67,12 @@ fn push_numbers(
     push_next(out, se)
 }
 
-fn push_node(out: &mut Vec<u8>, node: &Written) -> Result<(), Memory>
+fn push_node(out: &mut Vec<u8>, node: &WrittenNode) -> Result<(), Memory>
     ensures { OnOk result (Puts out.old.items out.new.items (node_text (node_of node.now))) }
 {
     match node {
-        Written::Leaf(rows) => push_rows(out, rows),
-        Written::Cells(states) => push_numbers(
+        WrittenNode::Leaf(rows) => push_rows(out, rows),
+        WrittenNode::Cells(states) => push_numbers(
             out,
             1,
             states[0] as u64,
@@ -79,20 +80,20 @@ fn push_node(out: &mut Vec<u8>, node: &Written) -> Result<(), Memory>
             states[2] as u64,
             states[3] as u64,
         ),
-        Written::Parts(level, numbers) => push_numbers(
+        WrittenNode::Parts(level, numbers) => push_numbers(
             out, *level, numbers[0], numbers[1], numbers[2], numbers[3],
         ),
     }
 }
 
-fn push_line(out: &mut Vec<u8>, node: &Written) -> Result<(), Memory>
+fn push_line(out: &mut Vec<u8>, node: &WrittenNode) -> Result<(), Memory>
     ensures { OnOk result (Puts out.old.items out.new.items (node_text (node_of node.now) ++ 10 ∷ [])) }
 {
     push_node(out, node)?;
     push_text(out, b"\n")
 }
 
-fn push_nodes(out: &mut Vec<u8>, nodes: &[Written]) -> Result<(), Memory>
+fn push_nodes(out: &mut Vec<u8>, nodes: &[WrittenNode]) -> Result<(), Memory>
     ensures { OnOk result (Puts out.old.items out.new.items
         (flat_map (λ line. line ++ 10 ∷ []) (map node_text (map node_of nodes.now)))) }
 {
@@ -119,7 +120,7 @@ pub(super) fn push_lines(
     out: &mut Vec<u8>,
     rule_text: &[u8],
     generation: u64,
-    nodes: &[Written],
+    nodes: &[WrittenNode],
 ) -> Result<(), Memory>
     ensures { OnOk result (Puts out.old.items out.new.items
         (flat_map (λ line. line ++ 10 ∷ []) (tidy_lines rule_text.now generation (map node_of nodes.now)))) }

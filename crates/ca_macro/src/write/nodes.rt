@@ -7,25 +7,25 @@ ghost use Rattle.ca_quad.specs.SquareValues.{square_value};
 ghost use Rattle.ca_quad.specs.Trees.{IsIn, IsTree, IsEmpty, cell};
 ghost use Rattle.ca_macro.specs.Nodes.{Node, Leaf, Cells};
 ghost use Rattle.ca_macro.specs.Tidy.{IsLeastLevel, AreTidyNodes, node_parts};
-ghost use Rattle.ca_macro.specs.inner.Written.{row_of, node_of, kept_cells, leaf_level, empty_root};
+ghost use Rattle.ca_macro.specs.inner.Written.{row_marks, node_of, kept_cells, leaf_level, empty_root};
 ghost use Rattle.ca_macro.specs.inner.Written.{HasFitParts, IsWrittenNumber, IsNodeOf, IsGathered};
 ghost use Rattle.ca_macro.specs.inner.Written.{Extends, KeepsFirstOrder};
 
-use super::written::Written;
+use super::written::WrittenNode;
 use ca_plane::Memory;
 use ca_quad::{Id, SquareMap, Store, Tree};
 use std::alloc::Global;
 
 /// What has been gathered so far: the nodes, and the number of each square that has one.
 #[derive(Drop)]
-struct Gathered {
-    nodes: Vec<Written>,
+struct GatheredNodes {
+    nodes: Vec<WrittenNode>,
     numbers: SquareMap<u64>,
 }
 
-impl Gathered {
+impl GatheredNodes {
     /// Puts the node of a square after the others, and gives the square its number.
-    fn push(&mut self, store: &Store, states: u16, id: Id, node: Written) -> Result<u64, Memory>
+    fn push(&mut self, store: &Store, states: u16, id: Id, node: WrittenNode) -> Result<u64, Memory>
         requires known { IsIn store.now id }
         requires gathered { IsGathered store.now states (map node_of self.old.nodes.items) self.old.numbers }
         requires node { IsNodeOf store.now states (map node_of self.old.nodes.items) id (node_of node) }
@@ -59,25 +59,25 @@ fn leaf_level(states: u16) -> u8
 }
 
 /// The node of these rows.
-fn rows_node(rows: [u8; 8]) -> Written
-    ensures node { node_of result ≡ Leaf (map (row_of 8) rows) }
+fn rows_node(rows: [u8; 8]) -> WrittenNode
+    ensures node { node_of result ≡ Leaf (map (row_marks 8) rows) }
     ensures height { length rows ≡ 8 }
     ensures low { (y : ℕ) → slice_index rows y < 256 }
 {
-    Written::Leaf(rows)
+    WrittenNode::Leaf(rows)
 }
 
 /// The node of these four states.
-fn states_node(states: [u8; 4]) -> Written
+fn states_node(states: [u8; 4]) -> WrittenNode
     ensures node { node_of result
         ≡ Cells (slice_index states 0) (slice_index states 1) (slice_index states 2) (slice_index states 3) }
     ensures low { (i : ℕ) → slice_index states i < 256 }
 {
-    Written::Cells(states)
+    WrittenNode::Cells(states)
 }
 
 /// The node of a square that is written without parts.
-fn leaf(store: &Store, states: u16, id: Id) -> Written
+fn leaf(store: &Store, states: u16, id: Id) -> WrittenNode
     requires known { IsIn store.now id }
     requires level { level_of store.now id ≡ leaf_level states }
     requires states { (x y : ℕ) → kept_cells store.now id x y < states }
@@ -116,7 +116,7 @@ fn part(parts: &[Id; 4], place: usize) -> Id
 
 /// The number of a square, which is 0 where it is empty. Its node is put after the others where it isn't
 /// there yet.
-fn number(store: &Store, states: u16, id: Id, gathered: &mut Gathered) -> Result<u64, Memory>
+fn number(store: &Store, states: u16, id: Id, gathered: &mut GatheredNodes) -> Result<u64, Memory>
     requires known { IsIn store.now id }
     requires least { leaf_level states ≤ level_of store.now id }
     requires most { level_of store.now id ≤ 120 }
@@ -151,17 +151,22 @@ fn number(store: &Store, states: u16, id: Id, gathered: &mut Gathered) -> Result
     let ne = number(store, states, part(&parts, 1), gathered)?;
     let sw = number(store, states, part(&parts, 2), gathered)?;
     let se = number(store, states, part(&parts, 3), gathered)?;
-    gathered.push(store, states, id, Written::Parts(level, [nw, ne, sw, se]))
+    gathered.push(
+        store,
+        states,
+        id,
+        WrittenNode::Parts(level, [nw, ne, sw, se]),
+    )
 }
 
 /// The root of the empty plane.
-fn empty_root(states: u16) -> Written
+fn empty_root(states: u16) -> WrittenNode
     ensures { node_of result ≡ empty_root states }
 {
     if states == 2 {
-        return Written::Parts(4, [0, 0, 0, 0]);
+        return WrittenNode::Parts(4, [0, 0, 0, 0]);
     }
-    Written::Cells([0, 0, 0, 0])
+    WrittenNode::Cells([0, 0, 0, 0])
 }
 
 /// The nodes of a tidy text of a tree.
@@ -170,14 +175,14 @@ pub(super) fn nodes_of(
     store: &Store,
     tree: Tree,
     states: u16,
-) -> Result<Vec<Written>, Memory>
+) -> Result<Vec<WrittenNode>, Memory>
     requires tree { IsTree store.now tree }
     requires level { IsLeastLevel states (cell store.now tree) tree.level }
     requires most { tree.level ≤ 120 }
     requires states { (x y : ℤ) → cell store.now tree x y < states }
     ensures { IfOk result (λ ns. AreTidyNodes states (cell store.now tree) (map node_of ns.items)) }
 {
-    let mut gathered = Gathered {
+    let mut gathered = GatheredNodes {
         nodes: Vec::new(alloc),
         numbers: SquareMap::new(alloc),
     };

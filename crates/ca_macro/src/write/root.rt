@@ -19,7 +19,7 @@ fn lowest_level(states: u16) -> u8
 }
 
 /// The tree, of this level or more.
-fn padded(store: &mut Store, tree: Tree, least: u8) -> Result<Tree, Memory>
+fn pad_to(store: &mut Store, tree: Tree, least: u8) -> Result<Tree, Memory>
     requires tree { IsTree store.old tree }
     requires least { least ≤ 4 }
     ensures tree { IfOk result (IsTree store.new) }
@@ -33,7 +33,7 @@ fn padded(store: &mut Store, tree: Tree, least: u8) -> Result<Tree, Memory>
         return Ok(tree);
     }
     let larger = store.pad(tree)?;
-    padded(store, larger, least)
+    pad_to(store, larger, least)
 }
 
 /// The tree of the smallest level that the root of a tidy text may have.
@@ -45,5 +45,5 @@ pub(super) fn root_of(store: &mut Store, tree: Tree, states: u16) -> Result<Tree
     ensures grows { Grows store.old store.new }
 {
     let least = store.trim(tree)?;
-    padded(store, least, lowest_level(states))
+    pad_to(store, least, lowest_level(states))
 }

@@ -4,23 +4,24 @@ use Rattle.std.specs.Int.{bit_at}
 use Rattle.ca_plane.specs.declared.bit_plane.CellWord.{CellWord}
 use Rattle.ca_plane.specs.declared.point.Bounds.{Bounds}
 use Rattle.ca_plane.specs.BitPlane.{bit_cell}
-use Rattle.ca_plane.specs.Sparse.{reach}
+use Rattle.ca_plane.specs.Limits.{reach}
 use Rattle.ca_quad.specs.declared.store.quarters.Quarters.{Quarters}
 use Rattle.ca_quad.specs.declared.store.to_plane.Corners.{Corners}
 use Rattle.ca_quad.specs.declared.tree.Spot.{Spot}
 use Rattle.ca_quad.specs.Trees.{row_cells}
-use Rattle.ca_quad.specs.inner.Filled.{counted}
+use Rattle.ca_quad.specs.inner.Filled.{cells_from}
 
 -- the cells of one word
 abbrev pub cells_of_word : CellWord → Spot → ℕ → ℕ → ℕ
-cells_of_word word at = counted (bit_cell (word ∷ [])) at
+cells_of_word word at = cells_from (bit_cell (word ∷ [])) at
 
 -- the part has the cells that the words have in the square of this side
 pub record HaveCells (words part : List CellWord) (at : Spot) (side : ℕ) : Type 0 where
-  pub same : (x y : ℕ) → x < side → y < side → counted (bit_cell part) at x y ≡ counted (bit_cell words) at x y
+  pub same : (x y : ℕ) → x < side → y < side → cells_from (bit_cell part) at x y ≡ cells_from (bit_cell words) at x y
 
 -- the same for the four parts of a square
-pub record AreWordQuarters (words : List CellWord) (at : Spot) (corners : Corners) (side : ℕ) (parts : Quarters CellWord) : Type 0 where
+pub record AreWordQuarters (words : List CellWord) (at : Spot) (corners : Corners) (side : ℕ)
+    (parts : Quarters CellWord) : Type 0 where
   pub nw : HaveCells words parts.nw.items at side
   pub ne : HaveCells words parts.ne.items corners.ne side
   pub sw : HaveCells words parts.sw.items corners.sw side
@@ -46,6 +47,6 @@ pub record AddsCells (word : CellWord) (at : Spot) (old new : List ℕ) : Type 0
   pub adds : (x y : ℕ) → x < 64 → y < 64 → row_cells new x y ≡ max (cells_of_word word at x y) (row_cells old x y)
 
 -- bits that are moved so far to the east: those that leave the word are lost
-pub record AreMoved (bits : ℕ) (way : ℤ) (moved : ℕ) : Type 0 where
+pub record AreShiftedBits (bits : ℕ) (way : ℤ) (moved : ℕ) : Type 0 where
   pub here : (i k : ℕ) → i < 64 → k < 64 → pos i ≡ way +ℤ pos k → bit_at moved i ≡ bit_at bits k
   pub empty : (i : ℕ) → i < 64 → ((k : ℕ) → k < 64 → pos i ≡ way +ℤ pos k → ⊥) → bit_at moved i ≡ 0

@@ -3,7 +3,7 @@ use Rattle.std.specs.Prelude.{◌≡◌, ℕ, ◌+◌, ◌*◌, ◌<◌, pos, �
 use Rattle.ca_plane.specs.declared.point.Point.{Point}
 use Rattle.ca_plane.specs.Plane.{Picture, cell}
 use Rattle.ca_quad.specs.declared.tree.Spot.{Spot}
-use Rattle.ca_quad.specs.inner.Filled.{counted}
+use Rattle.ca_quad.specs.inner.Filled.{cells_from}
 
 -- the state of a cell
 abbrev pub block_cells : List ℕ → ℕ → ℕ → ℕ
@@ -27,4 +27,4 @@ pub record IsPut (at : Spot) (point : Point) (state : ℕ) (old new : List ℕ) 
 
 -- the block shows the picture's cell
 abbrev pub IsRight : Picture → Spot → List ℕ → ℕ → ℕ → Type 0
-IsRight p at states x y = block_cells states x y ≡ counted (cell p) at x y
+IsRight p at states x y = block_cells states x y ≡ cells_from (cell p) at x y

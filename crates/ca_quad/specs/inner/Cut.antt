@@ -5,7 +5,7 @@ use Rattle.ca_quad.specs.declared.neighbours.Neighbours.{Neighbours}
 use Rattle.ca_quad.specs.declared.node.Node.{Node}
 use Rattle.ca_quad.specs.declared.store.cut.Way.{Way}
 use Rattle.ca_quad.specs.contracts.neighbours.NeighboursPartialEq.TheImpl.{eq-value}
-use Rattle.ca_quad.specs.Squares.{together, cell_of}
+use Rattle.ca_quad.specs.Squares.{joined_cells, cell_of}
 use Rattle.ca_quad.specs.Trees.{AreFour, word_cells}
 use Rattle.ca_quad.specs.inner.Window.{ShowsFrom}
 
@@ -15,7 +15,7 @@ AreNeighbours nodes level four = AreFour nodes level four.nw four.ne four.sw fou
 
 -- the cells of four squares of this level
 abbrev pub cells_of_four : List Node → ℕ → Neighbours → ℕ → ℕ → ℕ
-cells_of_four nodes level four = together (2 ^ level) (cell_of nodes level four.nw) (cell_of nodes level four.ne) (cell_of nodes level four.sw) (cell_of nodes level four.se)
+cells_of_four nodes level four = joined_cells (2 ^ level) (cell_of nodes level four.nw) (cell_of nodes level four.ne) (cell_of nodes level four.sw) (cell_of nodes level four.se)
 
 -- the square is as large as each of the four, and shows their cells from where the way's remainders by its side lead
 pub record IsCut (nodes : List Node) (way : Way) (squares : Neighbours) (id : ℕ) : Type 0 where
@@ -53,10 +53,11 @@ abbrev pub half_of : ℕ → ℕ → ℕ
 half_of place half = if nat_lt place half then 0 else 1
 
 -- four overlapping fours of sixteen squares, the north-western of which begins with this one
-abbrev pub overlapping : List ℕ → ℕ → Neighbours × Neighbours × Neighbours × Neighbours
-overlapping ids first = (neighbours_at ids first, neighbours_at ids (first + 1), neighbours_at ids (first + 4), neighbours_at ids (first + 5))
+abbrev pub overlapping_fours : List ℕ → ℕ → Neighbours × Neighbours × Neighbours × Neighbours
+overlapping_fours ids first = (neighbours_at ids first, neighbours_at ids (first + 1), neighbours_at ids (first + 4), neighbours_at ids (first + 5))
 
 -- the word has the cells of four squares of level 3 from this place on
-pub record IsCutWord (nodes : List Node) (level : ℕ) (four : Neighbours) (place : Way) (word : ℕ) : Type 0 where
+pub record IsCutWord (nodes : List Node) (level : ℕ) (four : Neighbours) (place : Way)
+    (word : ℕ) : Type 0 where
   pub is_level : level ≡ 3
   pub has_cells : (x y : ℕ) → x < 8 → y < 8 → word_cells word x y ≡ cells_of_four nodes 3 four (place.x + x) (place.y + y)

@@ -1,7 +1,7 @@
 -- Where two squares differ.
 use Rattle.std.specs.Prelude.{◌≡◌, ◌≢◌, ℕ, suc, ◌<◌, ◌≤◌, ◌^◌, List, slice_index, Option, MatchOption}
 use Rattle.ca_quad.specs.declared.node.Node.{Node}
-use Rattle.ca_quad.specs.Squares.{dot, together, cell_of}
+use Rattle.ca_quad.specs.Squares.{one_cell, joined_cells, cell_of}
 use Rattle.ca_quad.specs.inner.Window.{ShowsFrom}
 
 -- the cells differ at this place of the square, counted from its upper left corner
@@ -15,12 +15,12 @@ abbrev pub AreEqual : (ℕ → ℕ → ℕ) → (ℕ → ℕ → ℕ) → Type 0
 AreEqual p q = (x y : ℕ) → p x y ≡ q x y
 
 -- it tells a place where they differ, and none where they are equal
-abbrev pub Tells : ℕ → (ℕ → ℕ → ℕ) → (ℕ → ℕ → ℕ) → Option (ℕ × ℕ) → Type 0
-Tells side p q answer = MatchOption answer (AreEqual p q) (DifferInSquare side p q)
+abbrev pub TellsDifference : ℕ → (ℕ → ℕ → ℕ) → (ℕ → ℕ → ℕ) → Option (ℕ × ℕ) → Type 0
+TellsDifference side p q answer = MatchOption answer (AreEqual p q) (DifferInSquare side p q)
 
 -- the cells of a 2 by 2 square, from its four states
 abbrev pub four_cells : List ℕ → ℕ → ℕ → ℕ
-four_cells cells = together 1 (dot (slice_index cells 0)) (dot (slice_index cells 1)) (dot (slice_index cells 2)) (dot (slice_index cells 3))
+four_cells cells = joined_cells 1 (one_cell (slice_index cells 0)) (one_cell (slice_index cells 1)) (one_cell (slice_index cells 2)) (one_cell (slice_index cells 3))
 
 -- two quarters of the squares a and b that aren't one, and their place in these
 pub record AreUnequal (nodes : List Node) (level a b p q left top : ℕ) : Type 0 where

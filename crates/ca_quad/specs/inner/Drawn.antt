@@ -4,7 +4,7 @@ use Rattle.std.specs.List.{All}
 use Rattle.ca_plane.specs.Plane.{Picture, cell}
 use Rattle.ca_quad.specs.declared.node.Node.{Node}
 use Rattle.ca_quad.specs.declared.store.draw.Halves.{Halves}
-use Rattle.ca_quad.specs.declared.store.draw.Placed.{Placed}
+use Rattle.ca_quad.specs.declared.store.draw.PlacedSquare.{PlacedSquare}
 use Rattle.ca_quad.specs.declared.store.to_plane.Corners.{Corners}
 use Rattle.ca_quad.specs.declared.tree.Spot.{Spot}
 use Rattle.ca_quad.specs.Squares.{level_of, IsOf, cell_of}
@@ -20,8 +20,8 @@ abbrev pub side_of : List Node → ℕ → ℕ
 side_of nodes id = 2 ^ level_of nodes id
 
 -- the cells of a square whose corner lies there
-abbrev pub placed : (ℕ → ℕ → ℕ) → Spot → ℤ → ℤ → ℕ
-placed cells at x y = from_corner cells (x -ℤ at.x) (y -ℤ at.y)
+abbrev pub cells_at_corner : (ℕ → ℕ → ℕ) → Spot → ℤ → ℤ → ℕ
+cells_at_corner cells at x y = from_corner cells (x -ℤ at.x) (y -ℤ at.y)
 
 -- no sum of the place's coordinates with a side leaves an i128
 abbrev pub IsNearSpot : Spot → Type 0
@@ -33,7 +33,7 @@ pub record CanDraw (cells : ℕ → ℕ → ℕ) (side : ℕ) (at : Spot) : Type
   pub right : (at.x +ℤ pos side) ≤ℤ pos (2 ^ 124)
   pub top : neg_ℤ (pos (2 ^ 124)) ≤ℤ at.y
   pub bottom : (at.y +ℤ pos side) ≤ℤ pos (2 ^ 124)
-  pub fits : FitsPlane (placed cells at)
+  pub fits : FitsPlane (cells_at_corner cells at)
 
 -- the corners of the parts of a square, where the parts have this side
 pub record ArePartCorners (at : Spot) (side : ℕ) (corners : Corners) : Type 0 where
@@ -49,17 +49,18 @@ abbrev pub Agrees : (ℤ → ℤ → ℕ) → (ℤ → ℤ → ℕ) → Type 0
 Agrees all cells = (x y : ℤ) → cells x y ≢ 0 → cells x y ≡ all x y
 
 -- the cells of a square, at its place
-abbrev pub placed_cells : List Node → Placed → ℤ → ℤ → ℕ
-placed_cells nodes square = placed (square_cells nodes square.id) square.at
+abbrev pub placed_cells : List Node → PlacedSquare → ℤ → ℤ → ℕ
+placed_cells nodes square = cells_at_corner (square_cells nodes square.id) square.at
 
 -- a square of this level may be drawn, and shows some of these cells
-pub record IsReadyToDraw (nodes : List Node) (all : ℤ → ℤ → ℕ) (level : ℕ) (square : Placed) : Type 0 where
+pub record IsReadyToDraw (nodes : List Node) (all : ℤ → ℤ → ℕ) (level : ℕ)
+    (square : PlacedSquare) : Type 0 where
   pub is_square : IsOf nodes square.id level
   pub can : CanDraw (square_cells nodes square.id) (side_of nodes square.id) square.at
   pub agrees : Agrees all (placed_cells nodes square)
 
 -- each of the squares is
-abbrev pub AreReady : List Node → (ℤ → ℤ → ℕ) → ℕ → List Placed → Type 0
+abbrev pub AreReady : List Node → (ℤ → ℤ → ℕ) → ℕ → List PlacedSquare → Type 0
 AreReady nodes all level squares = All (IsReadyToDraw nodes all level) squares
 
 -- the cell is live
@@ -67,12 +68,12 @@ abbrev pub IsLiveAt : (ℤ → ℤ → ℕ) → ℤ → ℤ → Type 0
 IsLiveAt cells x y = cells x y ≢ 0
 
 -- one of the squares has a live cell there
-abbrev pub IsLiveIn : List Node → List Placed → ℤ → ℤ → Type 0
+abbrev pub IsLiveIn : List Node → List PlacedSquare → ℤ → ℤ → Type 0
 IsLiveIn nodes [] x y = ⊥
 IsLiveIn nodes (s ∷ ss) x y = IsLiveAt (placed_cells nodes s) x y ⊎ IsLiveIn nodes ss x y
 
 -- the same of the upper row of each square, or of the next one
-abbrev pub IsLiveInRow : List Node → ℕ → List Placed → ℤ → ℤ → Type 0
+abbrev pub IsLiveInRow : List Node → ℕ → List PlacedSquare → ℤ → ℤ → Type 0
 IsLiveInRow nodes row [] x y = ⊥
 IsLiveInRow nodes row (s ∷ ss) x y = (IsLiveAt (placed_cells nodes s) x y × (y ≡ s.at.y +ℤ pos row)) ⊎ IsLiveInRow nodes row ss x y
 
@@ -82,17 +83,18 @@ pub record Paints (all : ℤ → ℤ → ℕ) (old new : Picture) (live : ℤ �
   pub put : (x y : ℤ) → live x y → cell new x y ≡ all x y
 
 -- a square came to the others, unless it has no live cell
-pub record IsAdded (nodes : List Node) (square : Placed) (old new : List Placed) : Type 0 where
+pub record IsAdded (nodes : List Node) (square : PlacedSquare) (old new : List PlacedSquare) : Type 0 where
   pub live : (x y : ℤ) → IsLiveIn nodes old x y ⊎ IsLiveAt (placed_cells nodes square) x y → IsLiveIn nodes new x y
   pub ready : (all : ℤ → ℤ → ℕ) (level : ℕ) → AreReady nodes all level old → IsReadyToDraw nodes all level square → AreReady nodes all level new
 
 -- the parts of a square of this level came to the halves
-pub record ArePushed (nodes : List Node) (level : ℕ) (square : Placed) (old new : Halves) : Type 0 where
+pub record ArePushed (nodes : List Node) (level : ℕ) (square : PlacedSquare) (old new : Halves) : Type 0 where
   pub live : (x y : ℤ) → (IsLiveIn nodes old.north.items x y ⊎ IsLiveIn nodes old.south.items x y) ⊎ IsLiveAt (placed_cells nodes square) x y → IsLiveIn nodes new.north.items x y ⊎ IsLiveIn nodes new.south.items x y
   pub ready : (all : ℤ → ℤ → ℕ) → IsReadyToDraw nodes all level square → AreReady nodes all (level - 1) old.north.items × AreReady nodes all (level - 1) old.south.items
       → AreReady nodes all (level - 1) new.north.items × AreReady nodes all (level - 1) new.south.items
 
 -- the halves have all live cells of the squares
-pub record AreHalves (nodes : List Node) (level : ℕ) (squares : List Placed) (halves : Halves) : Type 0 where
+pub record AreHalves (nodes : List Node) (level : ℕ) (squares : List PlacedSquare)
+    (halves : Halves) : Type 0 where
   pub live : (x y : ℤ) → IsLiveIn nodes squares x y → IsLiveIn nodes halves.north.items x y ⊎ IsLiveIn nodes halves.south.items x y
   pub ready : (all : ℤ → ℤ → ℕ) → AreReady nodes all level squares → AreReady nodes all (level - 1) halves.north.items × AreReady nodes all (level - 1) halves.south.items

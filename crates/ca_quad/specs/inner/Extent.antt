@@ -4,12 +4,12 @@ use Rattle.ca_quad.specs.declared.store.extent.Extent.{Extent}
 use Rattle.ca_quad.specs.Trees.{IsEmpty}
 
 -- two squares that lie side by side, of which the western one has this many columns
-abbrev pub beside : ℕ → (ℕ → ℕ → ℕ) → (ℕ → ℕ → ℕ) → ℕ → ℕ → ℕ
-beside side west east x y = if nat_lt x side then west x y else east (x - side) y
+abbrev pub box_of_two : ℕ → (ℕ → ℕ → ℕ) → (ℕ → ℕ → ℕ) → ℕ → ℕ → ℕ
+box_of_two side west east x y = if nat_lt x side then west x y else east (x - side) y
 
 -- x and y change places
-abbrev pub turned : (ℕ → ℕ → ℕ) → ℕ → ℕ → ℕ
-turned cells x y = cells y x
+abbrev pub transposed : (ℕ → ℕ → ℕ) → ℕ → ℕ → ℕ
+transposed cells x y = cells y x
 
 -- the least box round the live cells, which lie in so many columns and rows: one lies on each of its sides
 pub record IsExtent (cells : ℕ → ℕ → ℕ) (columns rows : ℕ) (box : Extent) : Type 0 where

@@ -7,18 +7,18 @@ use Rattle.ca_quad.specs.declared.node.Node.{Node}
 use Rattle.ca_quad.specs.declared.store.rows.Row.{Row}
 use Rattle.ca_quad.specs.declared.tree.Spot.{Spot}
 use Rattle.ca_quad.specs.Trees.{ShowsSquare}
-use Rattle.ca_quad.specs.inner.Ring.{none}
-use Rattle.ca_quad.specs.inner.Rows.{AreRows, Cover}
+use Rattle.ca_quad.specs.inner.Ring.{no_cells}
+use Rattle.ca_quad.specs.inner.Rows.{AreRows, HoldCells}
 
 -- the cells of a plane, counted from this place
-abbrev pub counted : (ℤ → ℤ → ℕ) → Spot → ℕ → ℕ → ℕ
-counted cells at x y = cells (at.x +ℤ pos x) (at.y +ℤ pos y)
+abbrev pub cells_from : (ℤ → ℤ → ℕ) → Spot → ℕ → ℕ → ℕ
+cells_from cells at x y = cells (at.x +ℤ pos x) (at.y +ℤ pos y)
 
 -- this is the empty square of the level, which is from the least one to 65
 pub record IsEmptyOf (nodes : List Node) (least level id : ℕ) : Type 0 where
   pub low : least ≤ level
   pub high : level ≤ 65
-  pub shows : ShowsSquare nodes id level none
+  pub shows : ShowsSquare nodes id level no_cells
 
 -- a square of this side that lies there is far from the ends of an i128
 pub record LiesNear (side : ℕ) (at : Spot) : Type 0 where
@@ -32,7 +32,7 @@ pub record AreRowsOf (level : ℕ) (p : Picture) (rows : List Row) (at : Spot) :
   pub near : LiesNear (2 ^ level) at
   pub sparse : IsSparse p
   pub are_rows : AreRows p rows
-  pub cover : Cover p rows (2 ^ level) at
+  pub cover : HoldCells p rows (2 ^ level) at
 
 -- a tree with this half of a side holds the box
 abbrev pub HoldsBox : ℕ → Bounds → Type 0

@@ -3,9 +3,9 @@ use Rattle.std.specs.Prelude.{ℕ, List, [], ◌∷◌}
 use Rattle.std.specs.Hash as fed
 use Rattle.ca_quad.specs.declared.node.Node.{Node}
 use Rattle.ca_quad.specs.declared.node.Node.TheVariants.{Leaf, Block, Join}
-use Rattle.ca_quad.specs.inner.Named.{four_numbers}
+use Rattle.ca_quad.specs.inner.IdForm.{four_numbers}
 
-abbrev pub hashed : Node → List (List ℕ)
-hashed (Leaf nw ne sw se) = (nw ∷ ne ∷ sw ∷ se ∷ []) ∷ []
-hashed (Block n) = fed.u64 n
-hashed (Join level nw ne sw se) = fed.u128 (four_numbers nw ne sw se)
+abbrev pub hash_key : Node → List (List ℕ)
+hash_key (Leaf nw ne sw se) = (nw ∷ ne ∷ sw ∷ se ∷ []) ∷ []
+hash_key (Block n) = fed.u64 n
+hash_key (Join level nw ne sw se) = fed.u128 (four_numbers nw ne sw se)

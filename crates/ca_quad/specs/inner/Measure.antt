@@ -1,19 +1,19 @@
 -- What a walk over a square finds out of it from the same of its parts.
 use Rattle.std.specs.Prelude.{◌≡◌, ℕ, ◌+◌, ◌≤◌, ◌^◌, ◌⊎◌, List, Some}
 use Rattle.ca_quad.specs.declared.node.Node.{Node}
-use Rattle.ca_quad.specs.Squares.{IsOf, together, cell_of}
+use Rattle.ca_quad.specs.Squares.{IsOf, joined_cells, cell_of}
 use Rattle.ca_quad.specs.SquareValues.{square_value}
 use Rattle.ca_quad.specs.Trees.{IsIn}
 
 -- beyond this side every cell is 0
-abbrev pub Ends : ℕ → (ℕ → ℕ → ℕ) → Type 0
-Ends side cells = (x y : ℕ) → (side ≤ x) ⊎ (side ≤ y) → cells x y ≡ 0
+abbrev pub EndsWithin : ℕ → (ℕ → ℕ → ℕ) → Type 0
+EndsWithin side cells = (x y : ℕ) → (side ≤ x) ⊎ (side ≤ y) → cells x y ≡ 0
 
 -- the value is the measure of four squares of this side together, which have these
 abbrev pub IsJoined : {V : Type 0} → ((ℕ → ℕ → ℕ) → ℕ → V → Type 0) → ℕ → V → V → V → V → V → Type 0
 IsJoined is side a b c d all =
-    (nw ne sw se : ℕ → ℕ → ℕ) → Ends side nw → Ends side ne → Ends side sw → Ends side se → is nw side a → is ne side b → is sw side c → is se side d
-    → is (together side nw ne sw se) (side + side) all
+    (nw ne sw se : ℕ → ℕ → ℕ) → EndsWithin side nw → EndsWithin side ne → EndsWithin side sw → EndsWithin side se → is nw side a → is ne side b → is sw side c → is se side d
+    → is (joined_cells side nw ne sw se) (side + side) all
 
 -- the value is the measure of a square
 abbrev pub IsMeasureOf : {V : Type 0} → ((ℕ → ℕ → ℕ) → ℕ → V → Type 0) → List Node → ℕ → V → Type 0

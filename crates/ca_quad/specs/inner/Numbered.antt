@@ -1,6 +1,6 @@
 -- Squares of two states whose cells are the binary digits of one number.
 use Rattle.std.specs.Prelude.{◌≡◌, ◌≢◌, ℕ, ◌+◌, ◌*◌, ◌<◌, ◌^◌, ◌⊎◌, List, length}
-use Rattle.ca_quad.specs.declared.named.Named.TheVariants.{Cells2, Kept}
+use Rattle.ca_quad.specs.declared.named.IdForm.TheVariants.{Cells2, Kept}
 use Rattle.ca_quad.specs.declared.node.Node.{Node}
 use Rattle.ca_quad.specs.declared.node.Node.TheVariants.{Block}
 use Rattle.ca_quad.specs.Squares.{meaning_of_id, node_square, shown_cells4, square_named, square_of}

@@ -1,7 +1,7 @@
 -- Squares with a ring of empty cells round them, a quarter of the larger side wide.
 use Rattle.std.specs.Prelude.{◌≡◌, ℕ, suc, ◌+◌, ◌-◌, ◌<◌, ◌≤◌, ◌^◌, ◌⊎◌, List, Option, MatchOption}
 use Rattle.ca_quad.specs.declared.node.Node.{Node}
-use Rattle.ca_quad.specs.Squares.{IsOf, together, cell_of}
+use Rattle.ca_quad.specs.Squares.{IsOf, joined_cells, cell_of}
 use Rattle.ca_quad.specs.Trees.{IsEmpty}
 
 -- every cell of the square is 0
@@ -9,13 +9,13 @@ abbrev pub IsEmptySquare : List Node → ℕ → Type 0
 IsEmptySquare nodes id = (level : ℕ) → IsOf nodes id level → IsEmpty (cell_of nodes level id)
 
 -- no live cell
-abbrev pub none : ℕ → ℕ → ℕ
-none x y = 0
+abbrev pub no_cells : ℕ → ℕ → ℕ
+no_cells x y = 0
 
 -- four squares of this side, and a ring round them that is as wide
-abbrev pub ringed : ℕ → (ℕ → ℕ → ℕ) → (ℕ → ℕ → ℕ) → (ℕ → ℕ → ℕ) → (ℕ → ℕ → ℕ) → ℕ → ℕ → ℕ
-ringed side nw ne sw se =
-    together (side + side) (together side none none none nw) (together side none none ne none) (together side none sw none none) (together side se none none none)
+abbrev pub with_ring : ℕ → (ℕ → ℕ → ℕ) → (ℕ → ℕ → ℕ) → (ℕ → ℕ → ℕ) → (ℕ → ℕ → ℕ) → ℕ → ℕ → ℕ
+with_ring side nw ne sw se =
+    joined_cells (side + side) (joined_cells side no_cells no_cells no_cells nw) (joined_cells side no_cells no_cells ne no_cells) (joined_cells side no_cells sw no_cells no_cells) (joined_cells side se no_cells no_cells no_cells)
 
 -- it is before the middle, or after it
 abbrev pub IsOut : ℕ → ℕ → Type 0

@@ -34,18 +34,19 @@ abbrev pub AreRows : Picture → List Row → Type 0
 AreRows p rows = All (IsPictureRow p) rows
 
 -- one of the rows has this place
-abbrev pub Hold : List Row → ℕ → Type 0
-Hold [] place = ⊥
-Hold (row ∷ rows) place = IsInRow row place ⊎ Hold rows place
+abbrev pub HaveRowAt : List Row → ℕ → Type 0
+HaveRowAt [] place = ⊥
+HaveRowAt (row ∷ rows) place = IsInRow row place ⊎ HaveRowAt rows place
 
 -- the rows have each cell of the picture that lies in the square of this side
-pub record Cover (p : Picture) (rows : List Row) (side : ℕ) (at : Spot) : Type 0 where
-  pub held : (i x y : ℕ) → i < length p → x < side → y < side → (point_at p i).x ≡ at.x +ℤ pos x → (point_at p i).y ≡ at.y +ℤ pos y → Hold rows i
+pub record HoldCells (p : Picture) (rows : List Row) (side : ℕ) (at : Spot) : Type 0 where
+  pub held : (i x y : ℕ) → i < length p → x < side → y < side → (point_at p i).x ≡ at.x +ℤ pos x → (point_at p i).y ≡ at.y +ℤ pos y → HaveRowAt rows i
 
 -- the part has those cells of the rows for which this holds
-pub record IsPartOfRows (p : Picture) (rows : List Row) (passes : Point → Type 0) (part : List Row) : Type 0 where
+pub record IsPartOfRows (p : Picture) (rows : List Row) (passes : Point → Type 0)
+    (part : List Row) : Type 0 where
   pub are : AreRows p part
-  pub held : (i : ℕ) → Hold rows i → passes (point_at p i) → Hold part i
+  pub held : (i : ℕ) → HaveRowAt rows i → passes (point_at p i) → HaveRowAt part i
 
 -- x is less, or not; y is less, or not
 abbrev pub IsWest : ℤ → Point → Type 0

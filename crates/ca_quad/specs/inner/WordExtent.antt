@@ -1,10 +1,10 @@
 -- The ends of a word, and the columns of its cells that have a live one.
 use Rattle.std.specs.Prelude.{◌≡◌, ℕ, ◌+◌, ◌*◌, ◌<◌, ◌≤◌}
 use Rattle.std.specs.Int.{bit_at}
-use Rattle.ca_quad.specs.declared.store.word_extent.Ends.{Ends}
+use Rattle.ca_quad.specs.declared.store.word_extent.BitEnds.{BitEnds}
 
 -- the lowest and the highest bit of a word that are 1
-pub record AreEnds (word : ℕ) (ends : Ends) : Type 0 where
+pub record AreEnds (word : ℕ) (ends : BitEnds) : Type 0 where
   pub first : bit_at word ends.first ≡ 1
   pub last : bit_at word ends.last ≡ 1
   pub within : (i : ℕ) → bit_at word i ≡ 1 → (ends.first ≤ i) × (i ≤ ends.last)

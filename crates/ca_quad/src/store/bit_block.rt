@@ -5,11 +5,11 @@ ghost use Rattle.std.specs.Prelude.{neg_ℤ, ◌+ℤ◌, ◌<ℤ◌, IfOk, Match
 ghost use Rattle.std.proofs.Common.{arith};
 ghost use Rattle.std.specs.Int.{bit_at};
 ghost use Rattle.ca_plane.specs.BitPlane.{bit_cell};
-ghost use Rattle.ca_plane.specs.Sparse.{reach};
+ghost use Rattle.ca_plane.specs.Limits.{reach};
 ghost use Rattle.ca_quad.specs.Sound.{Grows};
 ghost use Rattle.ca_quad.specs.Trees.{row_cells};
-ghost use Rattle.ca_quad.specs.inner.BitParts.{AddsCells, AreMoved};
-ghost use Rattle.ca_quad.specs.inner.Filled.{counted, LiesNear};
+ghost use Rattle.ca_quad.specs.inner.BitParts.{AddsCells, AreShiftedBits};
+ghost use Rattle.ca_quad.specs.inner.Filled.{cells_from, LiesNear};
 ghost use Rattle.ca_quad.specs.inner.Window.{ShowsFrom};
 
 use super::Store;
@@ -23,7 +23,7 @@ impl Store {
     // The square of level 6 whose corner lies there and which shows the cells of the words.
     pub(super) fn fill_rows(&mut self, words: &[CellWord], at: Spot) -> Result<Id, Memory>
         requires near { LiesNear 0 at }
-        ensures shows { IfOk result (λ id. ShowsFrom self.new id 6 (counted (bit_cell words.now) at) 0 0) }
+        ensures shows { IfOk result (λ id. ShowsFrom self.new id 6 (cells_from (bit_cell words.now) at) 0 0) }
         ensures grows { Grows self.old self.new }
     {
         let rows = rows_of(words, at);
@@ -70,7 +70,7 @@ fn eight_cells(rows: &[u64; 64], x: usize, y: usize) -> u8
 // The rows of the square whose corner lies there, with the cells of the words.
 fn rows_of(words: &[CellWord], at: Spot) -> [u64; 64]
     requires near { LiesNear 0 at }
-    ensures { (x y : ℕ) → x < 64 → y < 64 → row_cells result x y ≡ counted (bit_cell words.now) at x y }
+    ensures { (x y : ℕ) → x < 64 → y < 64 → row_cells result x y ≡ cells_from (bit_cell words.now) at x y }
 {
     let mut rows = [0; 64];
     'words: for &word in words {
@@ -104,7 +104,7 @@ fn row_at(way: i128) -> Option<usize>
 
 // Bits that are moved so far to the east, as far as they stay in the word.
 fn moved(bits: u64, way: i128) -> u64
-    ensures { AreMoved bits way result }
+    ensures { AreShiftedBits bits way result }
 {
     if way <= -64 {
         return 0;

@@ -2,7 +2,7 @@
 
 ghost use Rattle.std.specs.Prelude.{◌≡◌, ℕ, ◌+◌, ◌*◌, ◌<◌, ◌^◌, bit_and};
 ghost use Rattle.std.specs.Int.{bit_at};
-ghost use Rattle.ca_quad.specs.inner.Bits.{place, exchanged};
+ghost use Rattle.ca_quad.specs.inner.Bits.{place, exchanged_bit};
 
 // The cells of a block, row by row.
 pub(super) fn rows(block: u64) -> u64
@@ -27,7 +27,7 @@ fn exchange(bits: u64, low: u64, way: u32) -> u64
     requires way { way < 64 }
     requires fits { low * 2 ^ way < 2 ^ 64 }
     requires apart { bit_and low (low * 2 ^ way) ≡ 0 }
-    ensures { (i : ℕ) → bit_at result i ≡ bit_at bits (exchanged low way i) }
+    ensures { (i : ℕ) → bit_at result i ≡ bit_at bits (exchanged_bit low way i) }
 {
     let changed = (bits ^ (bits >> way)) & low;
     bits ^ changed ^ (changed << way)

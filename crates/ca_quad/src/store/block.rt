@@ -6,8 +6,8 @@ ghost use Rattle.ca_plane.specs.Plane.{cell};
 ghost use Rattle.ca_plane.specs.Sparse.{IsSparse};
 ghost use Rattle.ca_quad.specs.Sound.{Grows};
 ghost use Rattle.ca_quad.specs.inner.Block.{block_cells, IsCell, TellsPlace, IsPut, IsRight};
-ghost use Rattle.ca_quad.specs.inner.Filled.{counted, LiesNear, AreRowsOf};
-ghost use Rattle.ca_quad.specs.inner.Rows.{point_at, IsInRow, IsPictureRow, AreRows, Cover};
+ghost use Rattle.ca_quad.specs.inner.Filled.{cells_from, LiesNear, AreRowsOf};
+ghost use Rattle.ca_quad.specs.inner.Rows.{point_at, IsInRow, IsPictureRow, AreRows, HoldCells};
 ghost use Rattle.ca_quad.specs.inner.Window.{ShowsFrom};
 
 use super::Store;
@@ -30,10 +30,10 @@ impl Store {
         requires least { 1 ≤ level }
         requires most { level ≤ 5 }
         requires rows { AreRowsOf level cells.now rows.now at }
-        ensures shows { IfOk result (λ id. ShowsFrom self.new id level (counted (cell cells.now) at) 0 0) }
+        ensures shows { IfOk result (λ id. ShowsFrom self.new id level (cells_from (cell cells.now) at) 0 0) }
         ensures grows { Grows self.old self.new }
     {
-        let states = states_of(cells, rows, at);
+        let states = block_states(cells, rows, at);
         self.gather(&states, level, 0, 0)
     }
 }
@@ -71,11 +71,11 @@ fn block_cell(states: &[u8; 1024], x: usize, y: usize) -> u8
 }
 
 // The states of the block whose corner lies there, as far as the rows hold all cells that lie there.
-fn states_of(cells: &[(Point, u8)], rows: &[Row], at: Spot) -> [u8; 1024]
+fn block_states(cells: &[(Point, u8)], rows: &[Row], at: Spot) -> [u8; 1024]
     requires near { LiesNear 0 at }
     requires sparse { IsSparse cells.now }
     requires rows { AreRows cells.now rows.now }
-    ensures { (side : ℕ) → side ≤ 32 → Cover cells.now rows.now side at → (x y : ℕ) → x < side → y < side
+    ensures { (side : ℕ) → side ≤ 32 → HoldCells cells.now rows.now side at → (x y : ℕ) → x < side → y < side
         → IsRight cells.now at result x y }
 {
     let mut states = [0; 1024];

@@ -53,12 +53,12 @@ impl Store {
         let Some(extent) = extent else {
             return Ok(None);
         };
-        Ok(Some(from_middle(half, extent)))
+        Ok(Some(bounds_from_middle(half, extent)))
     }
 }
 
 // The box of a tree's root, counted from the middle of the tree.
-fn from_middle(half: u128, extent: Extent) -> WideBounds
+fn bounds_from_middle(half: u128, extent: Extent) -> WideBounds
     requires half { half ≤ 2 ^ 124 }
     requires within { FitsSide (half + half) extent }
     ensures x0 { result.x0 ≡ pos extent.left -ℤ pos half }

@@ -2,7 +2,8 @@
 
 ghost use Rattle.std.specs.Prelude.{◌≡◌, ℕ, suc, ◌+◌, ◌*◌, ◌<◌, ◌≤◌, ◌^◌, ◌%◌, IfOk, OnOk};
 ghost use Rattle.ca_quad.specs.Sound.{Grows};
-ghost use Rattle.ca_quad.specs.inner.Cut.{AreNeighbours, cells_of_four, half_of, overlapping, neighbours_at};
+ghost use Rattle.ca_quad.specs.inner.Cut.{AreNeighbours, cells_of_four, half_of, overlapping_fours};
+ghost use Rattle.ca_quad.specs.inner.Cut.{neighbours_at};
 ghost use Rattle.ca_quad.specs.inner.Cut.{IsCut, AreCuts, AreSixteen, AreSixteenCells};
 ghost use Rattle.ca_quad.specs.inner.Window.{ShowsFrom};
 
@@ -38,7 +39,7 @@ impl Store {
         let _ = &self.nodes;
         let corner = four.nw;
         let level = self.level(corner);
-        let place = rest(way, level);
+        let place = remainders(way, level);
         if place.x == 0 && place.y == 0 {
             return Ok(corner);
         }
@@ -53,7 +54,9 @@ impl Store {
         }
         let half = half_side(level);
         let parts = self.sixteen_parts(four);
-        let (north_west, north_east, south_west, south_east) = overlapping(&parts, place, half);
+        let (north_west, north_east, south_west, south_east) = overlapping_fours(
+            &parts, place, half,
+        );
         let nw = self.cut_out(north_west, way, cuts)?;
         let ne = self.cut_out(north_east, way, cuts)?;
         let sw = self.cut_out(south_west, way, cuts)?;
@@ -109,7 +112,7 @@ impl Store {
 }
 
 // The remainders of a way by the side of squares of this level.
-fn rest(way: Way, level: u8) -> Way
+fn remainders(way: Way, level: u8) -> Way
     requires least { 1 ≤ level }
     requires most { level ≤ 125 }
     ensures x { result.x ≡ way.x % 2 ^ level }
@@ -133,12 +136,12 @@ fn half_of(place: u128, half: u128) -> usize
 }
 
 // The fours of sixteen parts of which the cut ones make what is cut out of all, that far from their corner.
-fn overlapping(
+fn overlapping_fours(
     parts: &[Id; 16],
     place: Way,
     half: u128,
 ) -> (Neighbours, Neighbours, Neighbours, Neighbours)
-    ensures { result ≡ overlapping parts.now (4 * half_of place.y half + half_of place.x half) }
+    ensures { result ≡ overlapping_fours parts.now (4 * half_of place.y half + half_of place.x half) }
 {
     let first = 4 * half_of(place.y, half) + half_of(place.x, half);
     (

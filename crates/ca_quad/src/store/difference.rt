@@ -4,7 +4,7 @@ ghost use Rattle.std.specs.Prelude.{◌≡◌, ◌≢◌, ℕ, suc, ◌≤◌, �
 ghost use Rattle.ca_quad.specs.Squares.{level_of, IsOf, cell_of};
 ghost use Rattle.ca_quad.specs.Sound.{IsSoundStore};
 ghost use Rattle.ca_quad.specs.Trees.{IsIn, IsTree, cell};
-ghost use Rattle.ca_quad.specs.inner.Difference.{Tells, TellsQuarters, four_cells};
+ghost use Rattle.ca_quad.specs.inner.Difference.{TellsDifference, TellsQuarters, four_cells};
 
 use super::Store;
 use super::read::{from_middle, half_side};
@@ -35,7 +35,7 @@ impl Store {
         requires b { IsIn self.now b }
         requires level { level_of self.now a ≡ level_of self.now b }
         ensures { (level : ℕ) → IsOf self.now a level
-            → Tells (2 ^ level) (cell_of self.now level a) (cell_of self.now level b) result }
+            → TellsDifference (2 ^ level) (cell_of self.now level a) (cell_of self.now level b) result }
     {
         if self.level(a) == 1 {
             return corner_difference(self.cells4(a), self.cells4(b));
@@ -79,7 +79,7 @@ impl Store {
 
 // A place where two squares of these four cells differ.
 fn corner_difference(p: [u8; 4], q: [u8; 4]) -> Option<(u128, u128)>
-    ensures { Tells 2 (four_cells p) (four_cells q) result }
+    ensures { TellsDifference 2 (four_cells p) (four_cells q) result }
 {
     if p[0] != q[0] {
         return Some((0, 0));

@@ -1,12 +1,12 @@
 //! Live cells of squares, written to a plane row by row.
 
 ghost use Rattle.std.specs.Prelude.{◌≡◌, ℕ, ◌-◌, ◌≤◌, ℤ, pos, ◌+ℤ◌, OnOk, IfOk};
-ghost use Rattle.ca_quad.specs.Squares.{dot};
+ghost use Rattle.ca_quad.specs.Squares.{one_cell};
 ghost use Rattle.ca_quad.specs.Trees.{IsIn, IsTree, cell};
 ghost use Rattle.ca_quad.specs.Expanded.{FitsPlane};
 ghost use Rattle.ca_plane.specs.Plane.{cell as plane_cell};
 ghost use Rattle.ca_plane.specs.Sparse.{IsSparse};
-ghost use Rattle.ca_quad.specs.inner.Drawn.{placed, CanDraw, Agrees, IsLiveAt};
+ghost use Rattle.ca_quad.specs.inner.Drawn.{cells_at_corner, CanDraw, Agrees, IsLiveAt};
 ghost use Rattle.ca_quad.specs.inner.Drawn.{IsReadyToDraw, AreReady, placed_cells};
 ghost use Rattle.ca_quad.specs.inner.Drawn.{IsLiveIn, IsLiveInRow, Paints, IsAdded, ArePushed, AreHalves};
 
@@ -21,7 +21,7 @@ use std::alloc::Global;
 
 // A square and its corner.
 #[derive(Clone, Copy, Drop)]
-pub(crate) struct Placed {
+pub(crate) struct PlacedSquare {
     pub id: Id,
     pub at: Spot,
 }
@@ -29,20 +29,20 @@ pub(crate) struct Placed {
 // The upper and the lower halves of squares.
 #[derive(Drop)]
 pub(crate) struct Halves {
-    pub north: Vec<Placed>,
-    pub south: Vec<Placed>,
+    pub north: Vec<PlacedSquare>,
+    pub south: Vec<PlacedSquare>,
 }
 
 impl Store {
     // The plane with the cells of a tree, which all lie in its square.
-    pub(super) fn drawn(&self, alloc: Global, tree: Tree) -> Result<Plane, Memory>
+    pub(super) fn draw_plane(&self, alloc: Global, tree: Tree) -> Result<Plane, Memory>
         requires tree { IsTree self.now tree }
         requires fits { FitsPlane (cell self.now tree) }
         ensures shows { IfOk result (λ p. (x y : ℤ) → plane_cell p x y ≡ cell self.now tree x y) }
         ensures sparse { IfOk result IsSparse }
     {
         let level = self.level(tree.root);
-        let root = Placed {
+        let root = PlacedSquare {
             id: tree.root,
             at: first_corner(half_side(level)),
         };
@@ -58,7 +58,7 @@ impl Store {
     pub(super) fn draw_band(
         &self,
         alloc: Global,
-        squares: &[Placed],
+        squares: &[PlacedSquare],
         level: u8,
         plane: &mut Plane,
     ) -> Result<(), Memory>
@@ -81,7 +81,12 @@ impl Store {
     }
 
     // The parts of squares that have live cells.
-    fn halves_of(&self, alloc: Global, squares: &[Placed], level: u8) -> Result<Halves, Memory>
+    fn halves_of(
+        &self,
+        alloc: Global,
+        squares: &[PlacedSquare],
+        level: u8,
+    ) -> Result<Halves, Memory>
         requires least { 2 ≤ level }
         requires most { level ≤ 125 }
         requires ready { (all : ℤ → ℤ → ℕ) × AreReady self.now all level squares.now }
@@ -98,7 +103,7 @@ impl Store {
     }
 
     // Adds the parts of a square that have live cells.
-    fn push_parts(&self, square: Placed, level: u8, halves: &mut Halves) -> Result<(), Memory>
+    fn push_parts(&self, square: PlacedSquare, level: u8, halves: &mut Halves) -> Result<(), Memory>
         requires least { 2 ≤ level }
         requires most { level ≤ 125 }
         requires ready { (all : ℤ → ℤ → ℕ) × IsReadyToDraw self.now all level square }
@@ -109,23 +114,23 @@ impl Store {
             Square::Parts(_, nw, ne, sw, se) => {
                 let at = square.at;
                 let corners = part_corners(at, half_side(level));
-                self.push_live(Placed { id: nw, at }, &mut halves.north)?;
+                self.push_live(PlacedSquare { id: nw, at }, &mut halves.north)?;
                 self.push_live(
-                    Placed {
+                    PlacedSquare {
                         id: ne,
                         at: corners.ne,
                     },
                     &mut halves.north,
                 )?;
                 self.push_live(
-                    Placed {
+                    PlacedSquare {
                         id: sw,
                         at: corners.sw,
                     },
                     &mut halves.south,
                 )?;
                 self.push_live(
-                    Placed {
+                    PlacedSquare {
                         id: se,
                         at: corners.se,
                     },
@@ -137,7 +142,7 @@ impl Store {
     }
 
     // Adds a square, where it has live cells.
-    fn push_live(&self, square: Placed, squares: &mut Vec<Placed>) -> Result<(), Memory>
+    fn push_live(&self, square: PlacedSquare, squares: &mut Vec<PlacedSquare>) -> Result<(), Memory>
         requires { IsIn self.now square.id }
         ensures { OnOk result (IsAdded self.now square squares.old.items squares.new.items) }
     {
@@ -149,7 +154,7 @@ impl Store {
     }
 
     // Writes the live cells of one row of 2 by 2 squares.
-    fn draw_row(&self, squares: &[Placed], row: u8, plane: &mut Plane) -> Result<(), Memory>
+    fn draw_row(&self, squares: &[PlacedSquare], row: u8, plane: &mut Plane) -> Result<(), Memory>
         requires row { row ≤ 1 }
         requires ready { (all : ℤ → ℤ → ℕ) × AreReady self.now all 1 squares.now }
         ensures { (all : ℤ → ℤ → ℕ) → AreReady self.now all 1 squares.now
@@ -162,7 +167,7 @@ impl Store {
     }
 
     // Writes the live cells of one row of a 2 by 2 square.
-    fn draw_two(&self, square: Placed, row: u8, plane: &mut Plane) -> Result<(), Memory>
+    fn draw_two(&self, square: PlacedSquare, row: u8, plane: &mut Plane) -> Result<(), Memory>
         requires row { row ≤ 1 }
         requires ready { (all : ℤ → ℤ → ℕ) × IsReadyToDraw self.now all 1 square }
         ensures { (all : ℤ → ℤ → ℕ) → IsReadyToDraw self.now all 1 square
@@ -186,9 +191,9 @@ impl Store {
 
 // Writes a cell, where it is live.
 fn draw_cell(state: u8, at: Spot, plane: &mut Plane) -> Result<(), Memory>
-    requires near { CanDraw (dot state) 1 at }
-    ensures { (all : ℤ → ℤ → ℕ) → Agrees all (placed (dot state) at)
-        → OnOk result (Paints all plane.old plane.new (IsLiveAt (placed (dot state) at))) }
+    requires near { CanDraw (one_cell state) 1 at }
+    ensures { (all : ℤ → ℤ → ℕ) → Agrees all (cells_at_corner (one_cell state) at)
+        → OnOk result (Paints all plane.old plane.new (IsLiveAt (cells_at_corner (one_cell state) at))) }
 {
     if state == 0 {
         return Ok(());

@@ -1,7 +1,7 @@
 //! The least box round the live cells of a square.
 
 ghost use Rattle.std.specs.Prelude.{◌≡◌, ℕ, ◌+◌, ◌-◌, ◌≤◌, ◌^◌, min};
-ghost use Rattle.ca_quad.specs.inner.Extent.{beside, turned, IsSquareExtent};
+ghost use Rattle.ca_quad.specs.inner.Extent.{box_of_two, transposed, IsSquareExtent};
 
 use super::bits::rows;
 use super::measure::Measure;
@@ -41,9 +41,9 @@ impl Measure for Option<Extent> {
         sw: Option<Extent>,
         se: Option<Extent>,
     ) -> Option<Extent> {
-        let north = beside(side, nw, ne);
-        let south = beside(side, sw, se);
-        turned(beside(side, turned(north), turned(south)))
+        let north = box_of_two(side, nw, ne);
+        let south = box_of_two(side, sw, se);
+        transposed(box_of_two(side, transposed(north), transposed(south)))
     }
 
     fn of_number(cells: u64) -> Option<Option<Extent>> {
@@ -55,10 +55,10 @@ impl Measure for Option<Extent> {
 }
 
 // The box of two squares that lie side by side, where the western one has this many columns.
-fn beside(side: u128, west: Option<Extent>, east: Option<Extent>) -> Option<Extent>
+fn box_of_two(side: u128, west: Option<Extent>, east: Option<Extent>) -> Option<Extent>
     requires { side ≤ 2 ^ 124 }
     ensures { (w e : ℕ → ℕ → ℕ) (rows : ℕ) → IsSquareExtent w side rows west → IsSquareExtent e side rows east
-        → IsSquareExtent (beside side w e) (side + side) rows result }
+        → IsSquareExtent (box_of_two side w e) (side + side) rows result }
 {
     let Some(east) = east else {
         return west;
@@ -83,9 +83,9 @@ fn beside(side: u128, west: Option<Extent>, east: Option<Extent>) -> Option<Exte
 }
 
 // The box of the cells whose x and y change places.
-fn turned(found: Option<Extent>) -> Option<Extent>
+fn transposed(found: Option<Extent>) -> Option<Extent>
     ensures { (cells : ℕ → ℕ → ℕ) (columns rows : ℕ) → IsSquareExtent cells columns rows found
-        → IsSquareExtent (turned cells) rows columns result }
+        → IsSquareExtent (transposed cells) rows columns result }
 {
     let Some(box_found) = found else {
         return None;

@@ -5,7 +5,7 @@ ghost use Rattle.ca_plane.specs.BitPlane.{bit_cell, AreNearWords, IsNearWord};
 ghost use Rattle.ca_quad.specs.Sound.{Grows};
 ghost use Rattle.ca_quad.specs.Trees.{IsTree, cell, HoldsAll, IsTrimmed};
 ghost use Rattle.ca_quad.specs.inner.BitParts.{AreApart, AreWordQuarters, HasNoCell, HaveCells, IsBoxOfWord};
-ghost use Rattle.ca_quad.specs.inner.Filled.{counted, IsEmptyOf, LiesNear};
+ghost use Rattle.ca_quad.specs.inner.Filled.{cells_from, IsEmptyOf, LiesNear};
 ghost use Rattle.ca_quad.specs.inner.Window.{ShowsFrom};
 
 use super::Store;
@@ -48,7 +48,7 @@ impl Store {
 
     // The square of this level, from 6 to 65, whose corner lies there and which shows the cells of the words,
     // given the empty one.
-    #[tactic(auto, using(crate::proofs::Filled::grows_five))]
+    #[tactic(auto, using(crate::proofs::FilledSquares::grows_five))]
     fn fill_words(
         &mut self,
         alloc: Global,
@@ -60,7 +60,7 @@ impl Store {
         requires empty { IsEmptyOf self.old 6 level empty }
         requires near { LiesNear (2 ^ level) at }
         ensures shows { IfOk result (λ id. ShowsFrom self.new id level
-            (counted (bit_cell words.items) at) 0 0) }
+            (cells_from (bit_cell words.items) at) 0 0) }
         ensures grows { Grows self.old self.new }
     {
         let _ = &self.nodes;

@@ -4,7 +4,7 @@ ghost use Rattle.std.specs.Prelude.{◌≡◌, ℕ, ◌-◌, ◌≤◌, ◌^◌,
 ghost use Rattle.ca_plane.specs.Plane.{cell as plane_cell};
 ghost use Rattle.ca_quad.specs.Sound.{Grows};
 ghost use Rattle.ca_quad.specs.Trees.{IsTree, cell, HoldsAll, IsTrimmed};
-ghost use Rattle.ca_quad.specs.inner.Filled.{counted, AreRowsOf, HoldsBox, IsEmptyOf};
+ghost use Rattle.ca_quad.specs.inner.Filled.{cells_from, AreRowsOf, HoldsBox, IsEmptyOf};
 ghost use Rattle.ca_quad.specs.inner.Window.{ShowsFrom};
 
 use super::Store;
@@ -48,7 +48,7 @@ impl Store {
 
     // The square of this level, from 4 to 65, whose corner lies there and which shows the cells, given the
     // empty one. The rows hold all cells that lie there.
-    #[tactic(auto, using(crate::proofs::Filled::grows_five))]
+    #[tactic(auto, using(crate::proofs::FilledSquares::grows_five))]
     fn fill(
         &mut self,
         alloc: Global,
@@ -61,7 +61,7 @@ impl Store {
         requires empty { IsEmptyOf self.old 4 level empty }
         requires rows { AreRowsOf level cells.now rows.now at }
         ensures shows { IfOk result (λ id. ShowsFrom self.new id level
-            (counted (plane_cell cells.now) at) 0 0) }
+            (cells_from (plane_cell cells.now) at) 0 0) }
         ensures grows { Grows self.old self.new }
     {
         let _ = &self.nodes;

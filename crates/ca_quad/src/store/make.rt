@@ -1,7 +1,7 @@
 //! Squares that are made of cells, and of smaller squares.
 
 ghost use Rattle.std.specs.Prelude.{◌≡◌, ℕ, suc, ◌+◌, ◌≤◌, ◌^◌, length, IfOk, OnErr};
-ghost use Rattle.ca_quad.specs.Squares.{dot, together, cell_of, IsOf};
+ghost use Rattle.ca_quad.specs.Squares.{one_cell, joined_cells, cell_of, IsOf};
 ghost use Rattle.ca_quad.specs.Sound.{Grows, AddsOnly};
 ghost use Rattle.ca_quad.specs.Trees.{ShowsSquare, AreFour};
 
@@ -18,7 +18,7 @@ impl Store {
     /// Fails where there is no memory for one more square, and then leaves the store as it was.
     pub fn leaf(&mut self, nw: u8, ne: u8, sw: u8, se: u8) -> Result<Id, Memory>
         ensures shows { IfOk result (λ id. ShowsSquare self.new id 1
-            (together 1 (dot nw) (dot ne) (dot sw) (dot se))) }
+            (joined_cells 1 (one_cell nw) (one_cell ne) (one_cell sw) (one_cell se))) }
         ensures grows { Grows self.old self.new }
         ensures added { IfOk result (AddsOnly self.old self.new) }
         ensures count { length self.new ≤ length self.old + 1 }
@@ -40,7 +40,7 @@ impl Store {
         requires { (level : ℕ) × AreFour self.old level nw ne sw se }
         ensures shows { (level : ℕ) → IsOf self.old nw level
             → IfOk result (λ id. ShowsSquare self.new id (suc level)
-            (together (2 ^ level) (cell_of self.old level nw) (cell_of self.old level ne)
+            (joined_cells (2 ^ level) (cell_of self.old level nw) (cell_of self.old level ne)
             (cell_of self.old level sw) (cell_of self.old level se))) }
         ensures grows { Grows self.old self.new }
         ensures added { IfOk result (AddsOnly self.old self.new) }

@@ -3,7 +3,7 @@
 ghost use Rattle.std.specs.Prelude.{◌≡◌, ℕ, ◌≤◌, ◌^◌, List, IfSome, IfOk, OnOk};
 ghost use Rattle.ca_quad.specs.declared.node.Node.{Node as Kept};
 ghost use Rattle.ca_quad.specs.declared.square.Square.TheVariants.{Four};
-ghost use Rattle.ca_quad.specs.Squares.{dot, square_of};
+ghost use Rattle.ca_quad.specs.Squares.{one_cell, square_of};
 ghost use Rattle.ca_quad.specs.Sound.{IsSoundStore};
 ghost use Rattle.ca_quad.specs.Trees.{IsIn};
 ghost use Rattle.ca_quad.specs.inner.Measure.{IsJoined, IsMeasureOf, AreMeasures};
@@ -23,7 +23,7 @@ pub(crate) trait Measure: Copy {
 
     // That of one cell.
     fn of_cell(state: u8) -> Self
-        ensures { is (dot state) 1 result };
+        ensures { is (one_cell state) 1 result };
 
     // That of four squares of this side that lie together.
     fn of_four(side: u128, nw: Self, ne: Self, sw: Self, se: Self) -> Self

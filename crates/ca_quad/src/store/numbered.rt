@@ -8,7 +8,7 @@ ghost use Rattle.ca_quad.specs.inner.Numbered.{IsNumberOfNode, IsKeptOtherwise};
 
 use super::Store;
 use crate::id::Id;
-use crate::named::Named;
+use crate::named::IdForm;
 use crate::node::Node;
 
 impl Store {
@@ -18,10 +18,10 @@ impl Store {
         ensures number { MatchOption result (IsKeptOtherwise self.now id) (IsNumberOfNode self.now id) }
         ensures sound { IsSoundStore self.now }
     {
-        match id.named() {
-            Named::Cells2(n) => Some(n as u64),
-            Named::Cells4(n) => Some(n as u64),
-            Named::Kept(place) => block_number(self.nodes.as_slice()[place as usize]),
+        match id.form() {
+            IdForm::Cells2(n) => Some(n as u64),
+            IdForm::Cells4(n) => Some(n as u64),
+            IdForm::Kept(place) => block_number(self.nodes.as_slice()[place as usize]),
         }
     }
 }

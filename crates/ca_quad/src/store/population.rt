@@ -75,7 +75,7 @@ impl Measure for Population {
         se: Population,
     ) -> Population {
         Population {
-            cells: in_all(nw.cells, ne.cells, sw.cells, se.cells),
+            cells: sum_of_four(nw.cells, ne.cells, sw.cells, se.cells),
         }
     }
 
@@ -97,7 +97,7 @@ fn live(state: u8) -> u128
 }
 
 // The sum of four counts, or the greatest u128 where it is larger.
-fn in_all(nw: u128, ne: u128, sw: u128, se: u128) -> u128
+fn sum_of_four(nw: u128, ne: u128, sw: u128, se: u128) -> u128
     ensures { result ≡ min (nw + ne + (sw + se)) (2 ^ 128 - 1) }
 {
     nw.saturating_add(ne).saturating_add(sw.saturating_add(se))

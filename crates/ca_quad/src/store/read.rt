@@ -1,7 +1,7 @@
 //! What squares hold.
 
 ghost use Rattle.std.specs.Prelude.{◌≡◌, ℕ, suc, ◌-◌, ◌<◌, ◌≤◌, ◌^◌, ◌↔◌, pos, ◌+ℤ◌, IsTrue};
-ghost use Rattle.ca_quad.specs.Squares.{level_of, square_of, IsOf, dot, together, cell_of};
+ghost use Rattle.ca_quad.specs.Squares.{level_of, square_of, IsOf, one_cell, joined_cells, cell_of};
 ghost use Rattle.ca_quad.specs.Trees.{IsIn, IsEmpty, IsTree, AreCorners, AreQuarters, corners, parts, cell};
 
 use super::Store;
@@ -129,7 +129,7 @@ pub(super) fn from_middle(half: u128, way: u128) -> i128
 fn corner(x: u128, y: u128, nw: u8, ne: u8, sw: u8, se: u8) -> u8
     requires x { x < 2 }
     requires y { y < 2 }
-    ensures { result ≡ together 1 (dot nw) (dot ne) (dot sw) (dot se) x y }
+    ensures { result ≡ joined_cells 1 (one_cell nw) (one_cell ne) (one_cell sw) (one_cell se) x y }
 {
     match (x, y) {
         (0, 0) => nw,

@@ -2,10 +2,10 @@
 
 ghost use Rattle.std.specs.Prelude.{◌≡◌, ℕ, suc, ◌+◌, ◌≤◌, ◌^◌, ◌↔◌, ℤ, length, IfOk, IsTrue};
 ghost use Rattle.std.specs.List.{All};
-ghost use Rattle.ca_quad.specs.Squares.{level_of, dot, together, cell_of, IsOf};
+ghost use Rattle.ca_quad.specs.Squares.{level_of, one_cell, joined_cells, cell_of, IsOf};
 ghost use Rattle.ca_quad.specs.Sound.{Grows};
 ghost use Rattle.ca_quad.specs.Trees.{IsIn, IsTree, ShowsSquare, AreFour, cell, IsTrimmed};
-ghost use Rattle.ca_quad.specs.inner.Ring.{IsEmptySquare, Rings, TellsMiddle, ringed};
+ghost use Rattle.ca_quad.specs.inner.Ring.{IsEmptySquare, Rings, TellsMiddle, with_ring};
 
 use super::Store;
 use crate::id::Id;
@@ -28,7 +28,7 @@ impl Store {
         ensures grows { Grows self.old self.new }
         ensures count { length self.new ≤ length self.old + 130 }
     {
-        let root = self.ringed(tree.root)?;
+        let root = self.with_ring(tree.root)?;
         Ok(Tree {
             root,
             level: tree.level + 1,
@@ -36,7 +36,7 @@ impl Store {
     }
 
     // The square with a ring of empty cells round it, half its side wide.
-    fn ringed(&mut self, id: Id) -> Result<Id, Memory>
+    fn with_ring(&mut self, id: Id) -> Result<Id, Memory>
         requires known { IsIn self.old id }
         requires low { level_of self.old id ≤ 124 }
         ensures shows { (level : ℕ) → IsOf self.old id level
@@ -54,7 +54,7 @@ impl Store {
     // These four cells with a ring of empty ones.
     fn ringed_cells(&mut self, nw: u8, ne: u8, sw: u8, se: u8) -> Result<Id, Memory>
         ensures shows { IfOk result (λ id. ShowsSquare self.new id 2
-            (ringed 1 (dot nw) (dot ne) (dot sw) (dot se))) }
+            (with_ring 1 (one_cell nw) (one_cell ne) (one_cell sw) (one_cell se))) }
         ensures grows { Grows self.old self.new }
         ensures count { length self.new ≤ length self.old + 5 }
     {
@@ -71,7 +71,7 @@ impl Store {
         requires low { level ≤ 123 }
         requires four { AreFour self.old level nw ne sw se }
         ensures shows { IfOk result (λ id. ShowsSquare self.new id (suc (suc level))
-            (ringed (2 ^ level) (cell_of self.old level nw) (cell_of self.old level ne)
+            (with_ring (2 ^ level) (cell_of self.old level nw) (cell_of self.old level ne)
             (cell_of self.old level sw) (cell_of self.old level se))) }
         ensures grows { Grows self.old self.new }
         ensures count { length self.new ≤ length self.old + 130 }
@@ -134,7 +134,7 @@ impl Store {
     fn middle_cells(&mut self, nw: Id, ne: Id, sw: Id, se: Id) -> Result<Option<Id>, Memory>
         requires four { AreFour self.old 1 nw ne sw se }
         ensures tells { IfOk result (TellsMiddle self.new 1
-            (together 2 (cell_of self.old 1 nw) (cell_of self.old 1 ne) (cell_of self.old 1 sw)
+            (joined_cells 2 (cell_of self.old 1 nw) (cell_of self.old 1 ne) (cell_of self.old 1 sw)
             (cell_of self.old 1 se))) }
         ensures grows { Grows self.old self.new }
         ensures count { length self.new ≤ length self.old + 1 }
@@ -165,7 +165,7 @@ impl Store {
         requires large { 2 ≤ level_of self.old nw }
         requires four { AreFour self.old (level_of self.old nw) nw ne sw se }
         ensures tells { (level : ℕ) → IsOf self.old nw level → IfOk result (TellsMiddle self.new level
-            (together (2 ^ level) (cell_of self.old level nw) (cell_of self.old level ne)
+            (joined_cells (2 ^ level) (cell_of self.old level nw) (cell_of self.old level ne)
             (cell_of self.old level sw) (cell_of self.old level se))) }
         ensures grows { Grows self.old self.new }
         ensures count { length self.new ≤ length self.old + 1 }

@@ -5,7 +5,7 @@ ghost use Rattle.std.specs.Prelude.{IfOk, OnOk};
 ghost use Rattle.ca_plane.specs.Plane.{Picture};
 ghost use Rattle.ca_plane.specs.Sparse.{IsSparse};
 ghost use Rattle.ca_quad.specs.inner.Rows.{point_at, ComesBefore, IsInRow};
-ghost use Rattle.ca_quad.specs.inner.Rows.{IsPictureRow, AreRows, Hold, IsPartOfRows};
+ghost use Rattle.ca_quad.specs.inner.Rows.{IsPictureRow, AreRows, HaveRowAt, IsPartOfRows};
 ghost use Rattle.ca_quad.specs.inner.Rows.{AreParts, IsWest, IsEast, IsNorth, IsSouth};
 
 use super::quarters::Quarters;
@@ -32,7 +32,7 @@ pub(crate) struct Row {
 pub(super) fn rows_of(alloc: Global, cells: &[(Point, u8)]) -> Result<Vec<Row>, Memory>
     requires sparse { IsSparse cells.now }
     ensures rows { IfOk result (λ v. AreRows cells.now v.items) }
-    ensures all { IfOk result (λ v. (i : ℕ) → i < length cells.now → Hold v.items i) }
+    ensures all { IfOk result (λ v. (i : ℕ) → i < length cells.now → HaveRowAt v.items i) }
 {
     let mut rows = Vec::new(alloc);
     let mut next = 0;
@@ -215,7 +215,8 @@ fn is_north(row: Row, at: Spot) -> bool
 
 // Adds a row, where it has a cell.
 fn push_row(row: Row, rows: &mut Vec<Row>) -> Result<(), Memory>
-    ensures holds { OnOk result ((i : ℕ) → Hold rows.old.items i ⊎ IsInRow row i → Hold rows.new.items i) }
+    ensures holds { OnOk result ((i : ℕ) → HaveRowAt rows.old.items i ⊎ IsInRow row i
+        → HaveRowAt rows.new.items i) }
     ensures rows { OnOk result ((p : Picture) → AreRows p rows.old.items → IsPictureRow p row
         → AreRows p rows.new.items) }
 {

@@ -47,7 +47,7 @@ impl Store {
         ensures fault { IfErr result (IsRefused self.now tree) }
     {
         self.check_limits(alloc, tree)?;
-        Ok(self.drawn(alloc, tree)?)
+        Ok(self.draw_plane(alloc, tree)?)
     }
 
     // Looks whether the live cells of a tree lie in the square of a plane and aren't too many.
@@ -76,7 +76,7 @@ impl Store {
         let Some(bounds) = self.bounds(alloc, tree)? else {
             return Ok(());
         };
-        if !is_in_reach(bounds) {
+        if !are_in_reach(bounds) {
             return Err(QuadFault::Range);
         }
         Ok(())
@@ -121,7 +121,7 @@ pub(super) fn point(at: Spot) -> Point
 }
 
 // Whether the box lies in the square in which a plane keeps its cells.
-fn is_in_reach(bounds: WideBounds) -> bool
+fn are_in_reach(bounds: WideBounds) -> bool
     ensures yes { IsTrue result → IsBoxInReach bounds }
     ensures no { IsFalse result → IsBoxOutOfReach bounds }
 {

@@ -9,7 +9,7 @@ use super::extent::Extent;
 
 // The lowest and the highest bit of a word that are 1.
 #[derive(Clone, Copy)]
-pub(super) struct Ends {
+pub(super) struct BitEnds {
     pub(super) first: u32,
     pub(super) last: u32,
 }
@@ -32,11 +32,11 @@ pub(super) fn word_extent(word: u64) -> Option<Extent>
 }
 
 // The ends of a word that isn't 0.
-fn ends_of(word: u64) -> Ends
+fn ends_of(word: u64) -> BitEnds
     requires { 0 < word }
     ensures { AreEnds word result }
 {
-    Ends {
+    BitEnds {
         first: word.trailing_zeros(),
         last: 63 - word.leading_zeros(),
     }

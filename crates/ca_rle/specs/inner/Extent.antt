@@ -9,8 +9,7 @@ use Rattle.ca_rle.specs.declared.item.Item.{Item}
 use Rattle.ca_rle.specs.declared.extent.Extent.{Extent}
 use Rattle.ca_rle.specs.declared.extent.Offset.{Offset}
 use Rattle.ca_rle.specs.Shown.{tag_state, greatest_state, row_count, columns_of, run_of}
-use Rattle.ca_rle.specs.Limits.{most_count}
-use Rattle.ca_plane.specs.Limits.{IsInRange, range}
+use Rattle.ca_plane.specs.Limits.{longest_count, IsInRange, range}
 
 -- ---- what items show
 
@@ -65,7 +64,7 @@ pub record IsItemsExtent (items : List Item) (extent : Extent) : Type 0 where
 
 -- items of this extent are in range from this corner
 pub record IsExtentInRange (extent : Extent) (corner : Point) : Type 0 where
-  pub counts : extent.longest ≤ most_count
+  pub counts : extent.longest ≤ longest_count
   pub start : IsInRange corner
   pub right : (corner.x +ℤ pos extent.reach.columns) ≤ℤ pos range
   pub bottom : (corner.y +ℤ pos extent.reach.rows) ≤ℤ pos range
@@ -85,6 +84,6 @@ abbrev pub cells_from : Point → Item → Picture
 cells_from at i = if tag_state i.tag == 0 then [] else run_of (tag_state i.tag) at i.count
 
 -- the states of a plane over which the cells of a picture were drawn
-abbrev pub over : Picture → (ℤ → ℤ → ℕ) → ℤ → ℤ → ℕ
-over [] below x y = below x y
-over (e ∷ es) below x y = if int_eq y e.0.y && int_eq x e.0.x then e.1 else over es below x y
+abbrev pub drawn_over : Picture → (ℤ → ℤ → ℕ) → ℤ → ℤ → ℕ
+drawn_over [] below x y = below x y
+drawn_over (e ∷ es) below x y = if int_eq y e.0.y && int_eq x e.0.x then e.1 else drawn_over es below x y

@@ -4,17 +4,16 @@ use Rattle.std.specs.Option.{option_copied}
 use Rattle.std.specs.List.{AllZip, AllByRecursion}
 use Rattle.ca_plane.specs.declared.point.Point.{Point}
 use Rattle.ca_plane.specs.Bytes.{IsInteger}
-use Rattle.ca_plane.specs.Sparse.{reach}
+use Rattle.ca_plane.specs.Limits.{reach, range, default_rule}
 use Rattle.ca_rle.specs.declared.front.words.Start.{Start}
 use Rattle.ca_rle.specs.declared.front.lines.Preamble.{Preamble}
 use Rattle.ca_rle.specs.declared.front.Front.{Front}
 use Rattle.ca_rle.specs.declared.fault_line.GoodText.{GoodText}
-use Rattle.ca_rle.specs.Header.{CxrleWord, Says, extended_words, IsXlifeLine}
+use Rattle.ca_rle.specs.Header.{CxrleWord, WordSays, extended_words, IsXlifeLine}
 use Rattle.ca_rle.specs.File.{RleFile, IsRleFile, IsPreamble, IsHeaded, corner_of, generation_of}
 use Rattle.ca_rle.specs.Items.{Items}
 use Rattle.ca_rle.specs.Limits.{IsWithinLimits}
 use Rattle.ca_rle.specs.Shown.{greatest_state}
-use Rattle.ca_plane.specs.Limits.{range, default_rule}
 use Rattle.ca_rle.specs.inner.BodyFaults.{KeepsCorner}
 
 -- a coordinate in range
@@ -36,13 +35,13 @@ abbrev pub WritesPair : List ℕ → Point → Type 0
 WritesPair bytes place = (a : List ℕ) × (b : List ℕ) × (bytes ≡ a ++ 44 ∷ b) × Writes a place.x × Writes b place.y
 
 -- the start that words say
-pub record IsStart (said : List CxrleWord) (start : Start) : Type 0 where
+pub record IsFrontStart (said : List CxrleWord) (start : Start) : Type 0 where
   pub corner : KeepsCorner (corner_of said) start.corner
   pub generation : start.generation ≡ generation_of said
 
 -- after what was said, these words lead from one start to another
-abbrev pub Leads : List (List ℕ) → Start → Start → Type 0
-Leads words old new = (more : List CxrleWord) × AllZip Says words more × ((said : List CxrleWord) → IsStart said old → IsStart (said ++ more) new)
+abbrev pub WordsLead : List (List ℕ) → Start → Start → Type 0
+WordsLead words old new = (more : List CxrleWord) × AllZip WordSays words more × ((said : List CxrleWord) → IsFrontStart said old → IsFrontStart (said ++ more) new)
 
 -- one of the lines gives XLife's rule
 abbrev pub HasXlifeLine : List (List ℕ) → Type 0
@@ -51,13 +50,13 @@ HasXlifeLine lines = (earlier : List (List ℕ)) × (line : List ℕ) × (later 
 -- what lines before a header say
 pub record IsPreambleOf (lines : List (List ℕ)) (said : List CxrleWord) (preamble : Preamble) : Type 0 where
   pub good : IsPreamble lines said
-  pub start : IsStart said preamble.start
+  pub start : IsFrontStart said preamble.start
   pub xlife : preamble.has_xlife_rule ≡ true → HasXlifeLine lines
   pub no_xlife : preamble.has_xlife_rule ≡ false → AllByRecursion (λ l. IsXlifeLine l → ⊥) lines
 
 -- after what lines before a header said, this line leads from one state of the reader to another
 abbrev pub LeadsPreamble : List ℕ → Preamble → Preamble → Type 0
-LeadsPreamble line old new = (more : List CxrleWord) × AllZip Says (extended_words line) more
+LeadsPreamble line old new = (more : List CxrleWord) × AllZip WordSays (extended_words line) more
     × ((lines : List (List ℕ)) (said : List CxrleWord) → IsPreambleOf lines said old → IsPreambleOf (lines ++ line ∷ []) (said ++ more) new)
 
 -- the bytes have this front

@@ -5,7 +5,7 @@ use Rattle.ca_plane.specs.declared.point.Point.{Point}
 use Rattle.ca_rle.specs.declared.item.Item.{Item}
 use Rattle.ca_rle.specs.declared.item.Tag.{Tag}
 use Rattle.ca_rle.specs.declared.item.Tag.TheVariants.{Cell, RowEnd}
-use Rattle.ca_rle.specs.File.{ended}
+use Rattle.ca_rle.specs.File.{line_with_lf}
 use Rattle.ca_rle.specs.Tidy.{AreLines}
 
 -- so many of a tag, as items; none where there are 0
@@ -31,4 +31,4 @@ pub record PutsLines (old new : List ℕ) (pieces : List (List ℕ)) : Type 0 wh
   pub lines : List (List (List ℕ))
   pub whole : flat_map (λ line. line) lines ≡ pieces
   pub lines_are : AreLines lines
-  pub spelled : new ≡ old ++ flat_map (λ line. ended (concat line)) lines
+  pub spelled : new ≡ old ++ flat_map (λ line. line_with_lf (concat line)) lines

@@ -4,7 +4,7 @@ ghost use Rattle.std.specs.Prelude.{◌≡◌, [], true, not, IsTrue, IsFalse, M
 ghost use Rattle.ca_plane.specs.Bytes.{Every, is_line_end, words_of, without_cr};
 ghost use Rattle.ca_rle.specs.Header.{is_front_line, extended_words, IsXlifeLine};
 ghost use Rattle.ca_rle.specs.Faults.{HasBadWordAmong};
-ghost use Rattle.ca_rle.specs.inner.FrontParts.{Leads, IsPreambleOf, LeadsPreamble};
+ghost use Rattle.ca_rle.specs.inner.FrontParts.{WordsLead, IsPreambleOf, LeadsPreamble};
 
 use super::words::Start;
 use crate::fault::RleFault;
@@ -89,7 +89,7 @@ impl Preamble {
     /// The start where the words of this line stand after those before.
     fn start_after(self, line: &[u8]) -> Result<Start, RleFault>
         requires { Every (λ b. not (is_line_end b)) line.now }
-        ensures found { IfOk result (λ t. Leads (extended_words line.now) self.start t) }
+        ensures found { IfOk result (λ t. WordsLead (extended_words line.now) self.start t) }
         ensures fault { IfErr result (λ f. HasBadWordAmong (extended_words line.now) f) }
     {
         match after_cxrle(line) {

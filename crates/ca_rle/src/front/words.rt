@@ -2,9 +2,9 @@
 
 ghost use Rattle.std.specs.Prelude.{◌≡◌, ℕ, List, [], ◌∷◌, ◌++◌, not, codes, MatchOption, IfOk, IfErr, ℤ};
 ghost use Rattle.ca_plane.specs.Bytes.{Every, is_line_end, IsInteger, words_of};
-ghost use Rattle.ca_rle.specs.Header.{Says, Generation as SaidGeneration};
+ghost use Rattle.ca_rle.specs.Header.{WordSays, Generation as SaidGeneration};
 ghost use Rattle.ca_rle.specs.Faults.{IsBadWord, HasBadWordAmong};
-ghost use Rattle.ca_rle.specs.inner.FrontParts.{Writes, WritesPair, Leads};
+ghost use Rattle.ca_rle.specs.inner.FrontParts.{Writes, WritesPair, WordsLead};
 
 use crate::fault::RleFault;
 use ca_plane::Point;
@@ -42,7 +42,7 @@ fn place(bytes: &[u8]) -> Option<Point>
 
 /// The generation that the digits write.
 fn generation(digits: &[u8]) -> Result<u64, RleFault>
-    ensures found { IfOk result (λ n. Says (codes "Gen=" ++ digits.now) (SaidGeneration n)) }
+    ensures found { IfOk result (λ n. WordSays (codes "Gen=" ++ digits.now) (SaidGeneration n)) }
     ensures fault { IfErr result (λ f. IsBadWord (codes "Gen=" ++ digits.now) f) }
 {
     let Some(generation) = whole_number(digits) else {
@@ -57,7 +57,7 @@ fn generation(digits: &[u8]) -> Result<u64, RleFault>
 impl Start {
     /// The start where this word stands after those before.
     fn after_word(self, word: &[u8]) -> Result<Start, RleFault>
-        ensures found { IfOk result (λ t. Leads (word.now ∷ []) self t) }
+        ensures found { IfOk result (λ t. WordsLead (word.now ∷ []) self t) }
         ensures fault { IfErr result (λ f. IsBadWord word.now f) }
     {
         if let Some(numbers) = strip(word, b"Pos=") {
@@ -76,7 +76,7 @@ impl Start {
     /// The start where these words stand after those before.
     pub(crate) fn after_words(self, words: &[u8]) -> Result<Start, RleFault>
         requires { Every (λ b. not (is_line_end b)) words.now }
-        ensures found { IfOk result (λ t. Leads (words_of words.now) self t) }
+        ensures found { IfOk result (λ t. WordsLead (words_of words.now) self t) }
         ensures fault { IfErr result (λ f. HasBadWordAmong (words_of words.now) f) }
     {
         let mut start = self;

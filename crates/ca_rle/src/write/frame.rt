@@ -9,7 +9,7 @@ use ca_plane::{Plane, Point};
 
 /// The upper left corner of the smallest box round the live cells, and the box's size.
 #[derive(Clone, Copy)]
-pub(super) struct Frame {
+pub(super) struct SizedBox {
     pub(super) corner: Point,
     pub(super) width: u64,
     pub(super) height: u64,
@@ -24,18 +24,18 @@ pub(super) fn distance(from: i64, to: i64) -> u64
 }
 
 /// The frame of the live cells: (0, 0) and 0 by 0 where there are none.
-pub(super) fn of(cells: &Plane) -> Frame
+pub(super) fn of(cells: &Plane) -> SizedBox
     requires { All (λ e. IsInRange e.0) cells.now }
     ensures { IsFrame cells.now result.corner result.width result.height }
 {
     let Some(bounds) = cells.bounds() else {
-        return Frame {
+        return SizedBox {
             corner: Point { y: 0, x: 0 },
             width: 0,
             height: 0,
         };
     };
-    Frame {
+    SizedBox {
         corner: Point {
             y: bounds.y0,
             x: bounds.x0,

@@ -3,7 +3,7 @@
 ghost use Rattle.std.specs.Prelude.{◌++◌, codes, OnOk};
 ghost use Rattle.std.specs.Fmt.{signed_decimal};
 ghost use Rattle.ca_plane.specs.Puts.{Puts};
-ghost use Rattle.ca_rle.specs.File.{ended};
+ghost use Rattle.ca_rle.specs.File.{line_with_lf};
 ghost use Rattle.ca_rle.specs.Tidy.{generation_text, corner_line, header_line};
 
 use ca_plane::text::{push_integer, push_number, push_text};
@@ -19,7 +19,7 @@ fn push_generation(out: &mut Vec<u8>, generation: u64) -> Result<(), Memory>
     push_number(out, generation)
 }
 
-fn push_place(out: &mut Vec<u8>, at: Point) -> Result<(), Memory>
+fn push_position(out: &mut Vec<u8>, at: Point) -> Result<(), Memory>
     ensures { OnOk result (Puts out.old.items out.new.items
         (signed_decimal at.x ++ (codes "," ++ signed_decimal at.y))) }
 {
@@ -34,10 +34,10 @@ pub(super) fn push_corner_line(
     corner: Point,
     generation: u64,
 ) -> Result<(), Memory>
-    ensures { OnOk result (Puts out.old.items out.new.items (ended (corner_line corner generation))) }
+    ensures { OnOk result (Puts out.old.items out.new.items (line_with_lf (corner_line corner generation))) }
 {
     push_text(out, b"#CXRLE Pos=")?;
-    push_place(out, corner)?;
+    push_position(out, corner)?;
     push_generation(out, generation)?;
     push_text(out, b"\n")
 }
@@ -50,7 +50,7 @@ pub(super) fn push_header_line(
     rule_text: &[u8],
 ) -> Result<(), Memory>
     ensures { OnOk result (Puts out.old.items out.new.items
-        (ended (header_line width height rule_text.now))) }
+        (line_with_lf (header_line width height rule_text.now))) }
 {
     push_text(out, b"x = ")?;
     push_number(out, width)?;

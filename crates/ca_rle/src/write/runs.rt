@@ -9,7 +9,7 @@ ghost use Rattle.ca_rle.specs.Shown.{picture_of_items};
 ghost use Rattle.ca_rle.specs.Tidy.{AreTidy, HaveStates};
 ghost use Rattle.ca_rle.specs.inner.Written.{some_of, IsItemGap};
 ghost use Rattle.ca_plane.specs.Plane.{cell};
-ghost use Rattle.ca_plane.specs.Sparse.{reach};
+ghost use Rattle.ca_plane.specs.Limits.{reach};
 
 use super::frame::distance;
 use crate::item::{Item, Tag};

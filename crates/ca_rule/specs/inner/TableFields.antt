@@ -18,8 +18,8 @@ pub record AreTransitionFields (fields : List (List ℕ)) : Type 0 where
   pub spelled : list_all is_field fields ≡ true
 
 -- what follows `=` and `{`, with blanks before either
-abbrev pub opened : List ℕ → Option (List ℕ)
-opened bytes = option_and_then (λ more. tail_after (codes "{") (rest is_blank more)) (tail_after (codes "=") (rest is_blank bytes))
+abbrev pub after_brace : List ℕ → Option (List ℕ)
+after_brace bytes = option_and_then (λ more. tail_after (codes "{") (rest is_blank more)) (tail_after (codes "=") (rest is_blank bytes))
 
 -- `=`, and then this in braces; blanks may be before `=` and `{`
 pub record IsBraced (bytes inside : List ℕ) : Type 0 where

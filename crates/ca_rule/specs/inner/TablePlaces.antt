@@ -4,7 +4,7 @@ use Rattle.ca_rule.specs.declared.table.neighbourhood.Neighbourhood.{Neighbourho
 use Rattle.ca_rule.specs.declared.table.neighbourhood.Symmetry.{Symmetry}
 use Rattle.ca_rule.specs.declared.table.slot.Slot.{Slot}
 use Rattle.ca_rule.specs.TableOrders.{ring, orders}
-use Rattle.ca_rule.specs.TableNext.{States, Transition, Taken, admits, fits, result_state}
+use Rattle.ca_rule.specs.TableNext.{States, Transition, SlotCell, admits, fits, result_state}
 
 -- the places among nine cells of the cells that the slots take under an order, the centre's first
 abbrev pub places : Neighbourhood → List ℕ → List ℕ
@@ -15,7 +15,7 @@ abbrev pub ArePlacesOf : Neighbourhood → Symmetry → List (List ℕ) → Type
 ArePlacesOf neighbourhood symmetry lists = lists ≡ map (places neighbourhood) (orders neighbourhood symmetry)
 
 -- the slots of a transition with the cells at those places
-abbrev pub taken_at : List ℕ → Transition → List ℕ → List Taken
+abbrev pub taken_at : List ℕ → Transition → List ℕ → List SlotCell
 taken_at nine t placement = zip t.inputs (map (slice_index nine) placement)
 
 -- what a transition gives at the first of these placements at which it fits

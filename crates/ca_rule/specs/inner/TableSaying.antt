@@ -6,7 +6,7 @@ use Rattle.ca_rule.specs.declared.table.statement_fault.StatementFault.{Statemen
 use Rattle.ca_rule.specs.declared.table.statement_fault.StatementFault.TheVariants.{Syntax, State, Name, Unbound, Memory}
 use Rattle.ca_rule.specs.declared.table.statements.Statements.{Statements}
 use Rattle.ca_rule.specs.TableLines.{NumberedLine}
-use Rattle.ca_rule.specs.TableText.{Settings, SaidStatements, nothing, SaysVariable, SaysTransition, Say, is_end_of_section}
+use Rattle.ca_rule.specs.TableText.{Settings, SaidStatements, no_statements, SaysVariable, SaysTransition, LinesSay, is_end_of_section}
 use Rattle.ca_rule.specs.TableFaults.{IsMisspelled, HasBadState, HasUnknownName, HasUnbound, SaysMore}
 use Rattle.ca_rule.specs.inner.TableSaid.{KeepsStatements}
 
@@ -31,11 +31,12 @@ abbrev pub IsKeptBehind : Settings → SaidStatements → NumberedLine → State
 IsKeptBehind settings said line kept = (after : SaidStatements) × (SaysVariable settings said line after ⊎ SaysTransition settings said line after) × KeepsStatements after kept
 
 -- the first of the lines are statements, which say what is kept, and these are left
-pub record IsBehindSaid (settings : Settings) (all left : List NumberedLine) (kept : Statements) : Type 0 where
+pub record IsBehindSaid (settings : Settings) (all left : List NumberedLine)
+    (kept : Statements) : Type 0 where
   pub good : List NumberedLine
   pub said : SaidStatements
   pub whole : all ≡ good ++ left
-  pub say : Say settings nothing good said
+  pub say : LinesSay settings no_statements good said
   pub is_kept : KeepsStatements said kept
 
 -- they are all statements of the section

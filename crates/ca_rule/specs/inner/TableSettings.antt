@@ -5,7 +5,7 @@ use Rattle.std.specs.Borrow.{Bor}
 use Rattle.ca_rule.specs.declared.table.settings.SettingValues.{SettingValues}
 use Rattle.ca_rule.specs.declared.table.settings.TableSettings.{TableSettings}
 use Rattle.ca_rule.specs.TableLines.{NumberedLine, setting, value_of}
-use Rattle.ca_rule.specs.TableText.{Settings, Mean, are_settings}
+use Rattle.ca_rule.specs.TableText.{Settings, SettingsMean, are_settings}
 
 -- the bytes, where there are some
 abbrev pub bytes_of : Option (Bor (List ℕ)) → Option (List ℕ)
@@ -28,7 +28,8 @@ abbrev pub meaning_of : TableSettings → Settings
 meaning_of settings = record { states = settings.states; neighbourhood = settings.neighbourhood; symmetry = settings.symmetry }
 
 -- these lines follow settings of which none is set again, and which give these values
-pub record IsBehindSettings (all : List NumberedLine) (values : SettingValues) (lines : List NumberedLine) : Type 0 where
+pub record IsBehindSettings (all : List NumberedLine) (values : SettingValues)
+    (lines : List NumberedLine) : Type 0 where
   pub good : List NumberedLine
   pub once : are_settings [] good ≡ true
   pub values_are : AreValuesOf good values
@@ -51,7 +52,8 @@ joined_settings v w = record {
 }
 
 -- these lines follow settings that mean this
-pub record IsBehindMeant (all : List NumberedLine) (settings : Settings) (lines : List NumberedLine) : Type 0 where
+pub record IsBehindMeant (all : List NumberedLine) (settings : Settings)
+    (lines : List NumberedLine) : Type 0 where
   pub good : List NumberedLine
-  pub mean : Mean good settings
+  pub mean : SettingsMean good settings
   pub whole : all ≡ good ++ lines

@@ -11,8 +11,8 @@ use Rattle.ca_rule.specs.TableNext.{States, Transition, TableRule, table_next, I
 use Rattle.ca_rule.specs.TableFaults.{DoesWake}
 
 -- the table of these parts
-abbrev pub stored : List ℕ → ℕ → Neighbourhood → Symmetry → List States → List Transition → TableRule
-stored named count of under sets lines = record {
+abbrev pub stored_table : List ℕ → ℕ → Neighbourhood → Symmetry → List States → List Transition → TableRule
+stored_table named count of under sets lines = record {
   name = named;
   states = count;
   neighbourhood = of;

@@ -40,26 +40,26 @@ tail_after_slash [] = None
 tail_after_slash (b ∷ bs) = if b == 47 then Some bs else None
 
 -- two lists of digits, where there is a second
-abbrev pub both : List ℕ → Option (List ℕ) → Option (List ℕ × List ℕ)
-both first None = None
-both first (Some second) = Some (first, second)
+abbrev pub both_lists : List ℕ → Option (List ℕ) → Option (List ℕ × List ℕ)
+both_lists first None = None
+both_lists first (Some second) = Some (first, second)
 
 -- the two in the other order
-abbrev pub swapped : Option (List ℕ × List ℕ) → Option (List ℕ × List ℕ)
-swapped None = None
-swapped (Some lists) = Some (lists.1, lists.0)
+abbrev pub swapped_lists : Option (List ℕ × List ℕ) → Option (List ℕ × List ℕ)
+swapped_lists None = None
+swapped_lists (Some lists) = Some (lists.1, lists.0)
 
 -- digits, an optional `/`, the letter, and what follows it
 abbrev pub lists_around : ℕ → List ℕ → Option (List ℕ × List ℕ)
-lists_around upper bytes = both (front is_digit bytes) (tail_after_letter upper (without_slash (rest is_digit bytes)))
+lists_around upper bytes = both_lists (front is_digit bytes) (tail_after_letter upper (without_slash (rest is_digit bytes)))
 
 -- digits, a `/`, and what follows it
 abbrev pub lists_around_slash : List ℕ → Option (List ℕ × List ℕ)
-lists_around_slash bytes = both (front is_digit bytes) (tail_after_slash (rest is_digit bytes))
+lists_around_slash bytes = both_lists (front is_digit bytes) (tail_after_slash (rest is_digit bytes))
 
 -- the birth and the survival digits of a text without its suffix
 abbrev pub lists_of : List ℕ → Option (List ℕ × List ℕ)
 lists_of [] = None
 lists_of (b ∷ bs) =
     if is_rule_letter 66 b then lists_around 83 bs
-    else (if is_rule_letter 83 b then swapped (lists_around 66 bs) else swapped (lists_around_slash (b ∷ bs)))
+    else (if is_rule_letter 83 b then swapped_lists (lists_around 66 bs) else swapped_lists (lists_around_slash (b ∷ bs)))

@@ -43,14 +43,14 @@ impl Choice {
     }
 
     /// The places that are taken, in the order of the slots.
-    pub(crate) fn taken(&self) -> &[u8]
+    pub(crate) fn taken_places(&self) -> &[u8]
         ensures { result.now ≡ taken_of self.now }
     {
         &self.taken[..self.taken_count]
     }
 
     /// The places that are free, in the order of the ring.
-    pub(crate) fn free(&self) -> &[u8]
+    pub(crate) fn free_places(&self) -> &[u8]
         ensures { result.now ≡ free_of self.now }
     {
         &self.free[..self.free_count]

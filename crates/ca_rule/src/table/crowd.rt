@@ -13,7 +13,7 @@ use ca_plane::Nine;
 
 /// A transition whose first slots have taken places.
 #[derive(Clone, Copy)]
-struct Begun<'t> {
+struct BegunTransition<'t> {
     variables: &'t [StateSet],
     nine: &'t Nine,
     /// All slots, and the places of the first of them.
@@ -24,7 +24,7 @@ struct Begun<'t> {
     free: &'t [u8],
 }
 
-impl Begun<'_> {
+impl BegunTransition<'_> {
     ghost use Rattle.std.specs.Prelude.{◌≡◌, ◌≤◌, length, map, zip, slice_index};
     ghost use Rattle.std.specs.List.{count_by};
     ghost use Rattle.ca_rule.specs.inner.TableCrowd.{has_slot_room, may_take, one_takes, are_crowded};
@@ -145,7 +145,7 @@ pub(crate) fn has_crowd(
     if free.len() < left.len() {
         return false;
     }
-    let begun = Begun {
+    let begun = BegunTransition {
         variables,
         nine,
         slots,

@@ -26,7 +26,7 @@ impl Orders {
     ghost use Rattle.ca_rule.specs.inner.TableSearch.{placements_of};
 
     /// The orders of a symmetry of the neighbourhood.
-    #[tactic(auto, using(crate::proofs::Permuted::every_order_placed))]
+    #[tactic(auto, using(crate::proofs::RingOrders::every_order_placed))]
     pub(crate) fn of(neighbourhood: Neighbourhood, symmetry: Symmetry) -> Orders
         ensures placements { ArePlacesOf neighbourhood symmetry (placements_of result) }
         ensures centred { list_all begins_at_centre (placements_of result) ≡ true }

@@ -2,7 +2,7 @@
 
 ghost use Rattle.std.specs.Prelude.{◌≡◌, ◌≤◌, ◌++◌, ℕ, List, true, IfOk, IfErr};
 ghost use Rattle.ca_rule.specs.TableLines.{NumberedLine};
-ghost use Rattle.ca_rule.specs.TableText.{HasTable, Mean};
+ghost use Rattle.ca_rule.specs.TableText.{HasTable, SettingsMean};
 ghost use Rattle.ca_rule.specs.TableFaults.{follows_settings, IsTableTextFault};
 ghost use Rattle.ca_rule.specs.inner.TableReading.{left_of};
 ghost use Rattle.ca_rule.specs.inner.TableSettings.{meaning_of};
@@ -24,7 +24,7 @@ pub(crate) fn read_statements<'a>(
     requires low { settings.now.states ≤ 256 }
     ensures found { IfOk result (AreAllSaid (meaning_of settings.now) (left_of lines.now)) }
     ensures fault { IfErr result (λ f. (bytes name : List ℕ) (head : List NumberedLine)
-        → HasTable bytes name (head ++ left_of lines.now) → Mean head (meaning_of settings.now)
+        → HasTable bytes name (head ++ left_of lines.now) → SettingsMean head (meaning_of settings.now)
         → follows_settings (left_of lines.now) ≡ true → IsTableTextFault bytes f) }
 {
     let mut statements = Statements::new(alloc);

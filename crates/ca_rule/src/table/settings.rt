@@ -8,7 +8,7 @@ ghost use Rattle.ca_rule.specs.TableLines.{NumberedLine, neighbourhood_name};
 ghost use Rattle.ca_rule.specs.TableLines.{neighbourhood_named, symmetry_name};
 ghost use Rattle.ca_rule.specs.TableLines.{symmetry_named};
 ghost use Rattle.ca_rule.specs.TableOrders.{symmetries_of};
-ghost use Rattle.ca_rule.specs.TableText.{HasTable, Mean, are_settings};
+ghost use Rattle.ca_rule.specs.TableText.{HasTable, SettingsMean, are_settings};
 ghost use Rattle.ca_rule.specs.TableFaults.{follows_settings, HaveEnd, IsTableTextFault};
 
 use crate::digits::state_count;
@@ -111,7 +111,7 @@ impl<'a> SettingValues<'a> {
     /// What the values mean, where the settings end at the line with this number.
     fn meaning(&self, line: u64) -> Result<TableSettings, TableFault>
         ensures mean { IfOk result (λ s. (good : List NumberedLine) → AreValuesOf good self.now
-            → are_settings [] good ≡ true → Mean good (meaning_of s)) }
+            → are_settings [] good ≡ true → SettingsMean good (meaning_of s)) }
         ensures fault { IfErr result (λ f. (bytes : List ℕ) (good : List NumberedLine)
             → AreValuesOf good self.now
             → HaveEnd bytes line good → IsTableTextFault bytes f) }

@@ -3,7 +3,7 @@
 ghost use Rattle.std.specs.Prelude.{◌≡◌, ◌<◌, ◌≤◌, ℕ, List, length, false, IfOk, map, zip, slice_index};
 ghost use Rattle.std.specs.List.{list_all};
 ghost use Rattle.std.specs.Int.{bit_at};
-ghost use Rattle.ca_rule.specs.TableNext.{States, Taken, Transition as TransitionValue, admits};
+ghost use Rattle.ca_rule.specs.TableNext.{States, SlotCell, Transition as TransitionValue, admits};
 ghost use Rattle.ca_rule.specs.inner.TablePlaces.{slots_admit};
 ghost use Rattle.ca_rule.specs.inner.TableSieve.{IsSieveRow, TellsSlot};
 
@@ -36,7 +36,7 @@ impl Sieve {
     ghost use Rattle.std.specs.Prelude.{IfOk};
     ghost use Rattle.std.specs.List.{list_all};
     ghost use Rattle.std.specs.Int.{bit_at};
-    ghost use Rattle.ca_rule.specs.TableNext.{States, Taken, Transition as TransitionValue, admits};
+    ghost use Rattle.ca_rule.specs.TableNext.{States, SlotCell, Transition as TransitionValue, admits};
     ghost use Rattle.ca_rule.specs.inner.TablePlaces.{begins_at_centre};
     ghost use Rattle.ca_rule.specs.inner.TableSearch.{placements_of};
     ghost use Rattle.ca_rule.specs.inner.TableSieve.{inputs_at, takable, IsSieve, HasIdle, FitNowhere};
@@ -62,34 +62,34 @@ impl Sieve {
         };
         let mut rows = Vec::new(alloc);
         'slots: for slot in 0..count {
-            rows.push(row_of(states, variables, transitions, slot))?;
+            rows.push(sieve_row(states, variables, transitions, slot))?;
         }
         Ok(Sieve { rows })
     }
 
     /// Bits of the first 64 transitions: those that are 0 fit in none of the orders. Under all orders the
     /// first that may fit is looked at no further where it may fit the ring as it is.
-    pub(crate) fn passed(&self, orders: Orders, nine: &Nine) -> u64
+    pub(crate) fn candidates(&self, orders: Orders, nine: &Nine) -> u64
         requires centred { list_all begins_at_centre (placements_of orders) ≡ true }
         ensures { (variables : List States) (ts : List TransitionValue) → IsSieve variables ts self.now
             → PassesOver variables nine.now (placements_of orders) ts result }
     {
         match orders {
-            Orders::Listed(placements) => self.passed_in(placements, nine),
+            Orders::Listed(placements) => self.candidates_in(placements, nine),
             Orders::Every(neighbourhood) => {
-                let bits = self.passed_at(0, &[4], nine);
-                let standing = self.passed_at(0, as_it_stands(neighbourhood), nine);
+                let bits = self.candidates_at(0, &[4], nine);
+                let standing = self.candidates_at(0, as_it_stands(neighbourhood), nine);
                 if bits == 0 || bits.trailing_zeros() == standing.trailing_zeros() {
                     return bits;
                 }
                 let ring = Choice::of_ring(neighbourhood);
-                bits & self.busy(ring.free_count(), ring.free(), nine)
+                bits & self.filled_slots(ring.free_count(), ring.free_places(), nine)
             }
         }
     }
 
     /// Those that are 0 fit at none of the placements.
-    fn passed_in(&self, placements: &[&[u8]], nine: &Nine) -> u64
+    fn candidates_in(&self, placements: &[&[u8]], nine: &Nine) -> u64
         ensures { (variables : List States) (ts : List TransitionValue) → IsSieve variables ts self.now
             → (k : ℕ) → k < 64 → k < length ts → bit_at result k ≡ 0
             → FitNowhere variables nine.now (inputs_at ts k) (map (λ p. p.now) placements.now) }
@@ -97,14 +97,14 @@ impl Sieve {
         let Some((placement, later)) = placements.split_first() else {
             return 0;
         };
-        self.passed_at(0, placement, nine) | self.passed_in(later, nine)
+        self.candidates_at(0, placement, nine) | self.candidates_in(later, nine)
     }
 
     /// Those that are 0 have one of the slots, from this one on, that doesn't admit the cell at its place.
-    fn passed_at(&self, slot: usize, places: &[u8], nine: &Nine) -> u64
+    fn candidates_at(&self, slot: usize, places: &[u8], nine: &Nine) -> u64
         ensures { (variables : List States) (ts : List TransitionValue) → IsSieve variables ts self.now
             → (k : ℕ) → k < 64 → k < length ts → bit_at result k ≡ 0
-            → list_all (λ (t : Taken). admits variables t.0 t.1)
+            → list_all (λ (t : SlotCell). admits variables t.0 t.1)
             (zip (drop slot (inputs_at ts k)) (map (slice_index nine.now) places.now)) ≡ false }
     {
         let Some((place, later)) = places.split_first() else {
@@ -117,12 +117,12 @@ impl Sieve {
         if bits == 0 {
             return 0;
         }
-        bits & self.passed_at(slot + 1, later, nine)
+        bits & self.candidates_at(slot + 1, later, nine)
     }
 
     /// Those that are 0 have a slot after the centre's, up to this one, that admits none of the cells at the
     /// places.
-    fn busy(&self, slot: usize, places: &[u8], nine: &Nine) -> u64
+    fn filled_slots(&self, slot: usize, places: &[u8], nine: &Nine) -> u64
         ensures { (variables : List States) (ts : List TransitionValue) → IsSieve variables ts self.now
             → (k : ℕ) → k < 64 → k < length ts → bit_at result k ≡ 0
             → HasIdle variables nine.now (inputs_at ts k) slot places.now }
@@ -130,15 +130,15 @@ impl Sieve {
         if slot == 0 {
             return u64::MAX;
         }
-        let bits = self.taking(slot, places, nine);
+        let bits = self.filled_slot(slot, places, nine);
         if bits == 0 {
             return 0;
         }
-        bits & self.busy(slot - 1, places, nine)
+        bits & self.filled_slots(slot - 1, places, nine)
     }
 
     /// Those that are 0 have a slot there that admits none of the cells at the places.
-    fn taking(&self, slot: usize, places: &[u8], nine: &Nine) -> u64
+    fn filled_slot(&self, slot: usize, places: &[u8], nine: &Nine) -> u64
         ensures { (variables : List States) (ts : List TransitionValue) → IsSieve variables ts self.now
             → (k : ℕ) → k < 64 → k < length ts → bit_at result k ≡ 0
             → takable variables nine.now (drop slot (inputs_at ts k)) places.now ≡ 0 }
@@ -149,12 +149,12 @@ impl Sieve {
         let Some(row) = self.rows.get(slot) else {
             return u64::MAX;
         };
-        row[usize::from(cell_at(nine, *place))] | self.taking(slot, later, nine)
+        row[usize::from(cell_at(nine, *place))] | self.filled_slot(slot, later, nine)
     }
 }
 
 /// For each state: bits of the first 64 transitions, of which those are 0 whose slot doesn't admit the state.
-fn row_of(
+fn sieve_row(
     states: u16,
     variables: &[StateSet],
     transitions: &[Transition],

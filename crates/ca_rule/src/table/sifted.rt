@@ -16,13 +16,13 @@ use std::marker::Model;
 
 /// The variables of a table, its transitions, and a sieve of each 64 of them.
 #[derive(Drop)]
-pub(crate) struct Sifted {
+pub(crate) struct SiftedTransitions {
     variables: Vec<StateSet>,
     transitions: Vec<Transition>,
     sieves: Vec<Sieve>,
 }
 
-impl Model for Sifted {
+impl Model for SiftedTransitions {
     ghost use Rattle.ca_rule.specs.inner.TableSieve.{Lines, AreSieves};
 
     ghost Value = { Lines };
@@ -32,7 +32,7 @@ impl Model for Sifted {
     ghost invariant = { λ s. AreSieves s.variables.items s.transitions.items s.sieves.items };
 }
 
-impl Sifted {
+impl SiftedTransitions {
     ghost use Rattle.std.specs.Prelude.{◌≡◌, ◌≤◌, true, IfOk};
     ghost use Rattle.std.specs.List.{list_all};
     ghost use Rattle.ca_rule.specs.inner.TableSearch.{placements_of};
@@ -49,13 +49,13 @@ impl Sifted {
         states: u16,
         variables: Vec<StateSet>,
         transitions: Vec<Transition>,
-    ) -> Result<Sifted, Memory>
+    ) -> Result<SiftedTransitions, Memory>
         requires { states ≤ 256 }
         ensures variables { IfOk result (λ sifted. sifted.variables ≡ variables.items) }
         ensures transitions { IfOk result (λ sifted. sifted.transitions ≡ transitions.items) }
     {
         let sieves = sieves_of(alloc, states, &variables, &transitions)?;
-        Ok(Sifted {
+        Ok(SiftedTransitions {
             variables,
             transitions,
             sieves,
@@ -122,7 +122,7 @@ fn sifted_outcome(
     ensures { next_at variables.now (placements_of orders) nine.now transitions.now
         ≡ unwrap_or result (next_at variables.now (placements_of orders) nine.now (drop 64 transitions.now)) }
 {
-    let mut bits = sieve.passed(orders, nine);
+    let mut bits = sieve.candidates(orders, nine);
     'candidates: while bits != 0 {
         let at = bits.trailing_zeros();
         let Some(transition) = transitions.get(at as usize) else {

@@ -30,13 +30,13 @@ pub(crate) struct Statements<'a> {
 }
 
 impl<'a> Statements<'a> {
-    ghost use Rattle.ca_rule.specs.TableText.{nothing};
+    ghost use Rattle.ca_rule.specs.TableText.{no_statements};
     ghost use Rattle.ca_rule.specs.inner.TableSaid.{KeepsStatements, with_variable, with_transition};
     ghost use Rattle.ca_rule.specs.inner.TableSaying.{IsKeptBehind, IsFaultOfLine};
 
     /// Before the first statement.
     pub(crate) fn new(alloc: Global) -> Statements<'a>
-        ensures { KeepsStatements nothing result }
+        ensures { KeepsStatements no_statements result }
     {
         Statements {
             names: Names::new(alloc),

@@ -6,7 +6,7 @@ ghost use Rattle.std.specs.Prelude.{IfSome, MatchOption};
 ghost use Rattle.std.specs.Int.{bit_at};
 ghost use Rattle.std.specs.List.{list_all, list_any};
 ghost use Rattle.ca_rule.specs.inner.TableDistinct.{are_distinct};
-ghost use Rattle.ca_rule.specs.TableNext.{Taken, is_variable, admits};
+ghost use Rattle.ca_rule.specs.TableNext.{SlotCell, is_variable, admits};
 ghost use Rattle.ca_rule.specs.TableNext.{take_one_cell, taken_cell, fits, result_state};
 
 use crate::table::choice::{Choice, cell_at};
@@ -52,7 +52,7 @@ impl Transition {
     }
 
     /// The state that the transition gives in the first of the orders in which it fits, if it fits in one.
-    #[tactic(auto, using(crate::proofs::Permuted::outcome_of_ring))]
+    #[tactic(auto, using(crate::proofs::RingOrders::outcome_of_ring))]
     pub(crate) fn outcome(&self, variables: &[StateSet], orders: Orders, nine: &Nine) -> Option<u8>
         requires centred { list_all begins_at_centre (placements_of orders) ≡ true }
         ensures { result ≡ outcome_at variables.now nine.now self.now (placements_of orders) }
@@ -134,7 +134,7 @@ impl Transition {
     {
         let count = choice.free_count();
         if count == 0 {
-            return Some(result_state(self.result, &self.inputs, choice.taken(), nine));
+            return Some(result_state(self.result, &self.inputs, choice.taken_places(), nine));
         }
         let mut is_first = true;
         'places: for at in 0..count {
@@ -160,7 +160,7 @@ impl Transition {
     fn fits_at(&self, variables: &[StateSet], choice: &Choice, nine: &Nine) -> bool
         ensures { result ≡ fits variables.now (taken_at nine.now self.now (taken_of choice.now)) }
     {
-        fits(variables, &self.inputs, choice.taken(), nine)
+        fits(variables, &self.inputs, choice.taken_places(), nine)
     }
 
     /// Whether some of the slots left are more than the free cells that one of them may take, as far as is
@@ -170,7 +170,13 @@ impl Transition {
             least_outcome variables.now nine.now self.now (taken_of choice.now) (length (free_of choice.now))
             (free_of choice.now) ≡ None }
     {
-        has_crowd(variables, &self.inputs, choice.taken(), nine, choice.free())
+        has_crowd(
+            variables,
+            &self.inputs,
+            choice.taken_places(),
+            nine,
+            choice.free_places(),
+        )
     }
 }
 
@@ -222,7 +228,7 @@ pub(crate) fn takes_one_cell(
     nine: &Nine,
 ) -> bool
     ensures { result
-        ≡ list_all (λ (t : Taken). not (is_variable number t.0) || (t.1 == cell))
+        ≡ list_all (λ (t : SlotCell). not (is_variable number t.0) || (t.1 == cell))
         (zip slots.now (map (slice_index nine.now) places.now)) }
 {
     match first_taken(slots, places, nine) {
@@ -251,7 +257,7 @@ fn cell_of(number: usize, slots: &[Slot], places: &[u8], nine: &Nine) -> u8
 }
 
 /// Whether each slot admits the cell at its place, and all slots of one variable take one cell.
-#[tactic(auto, using(crate::proofs::Halved::fits_halved))]
+#[tactic(auto, using(crate::proofs::SlotFits::fits_halved))]
 fn fits(variables: &[StateSet], slots: &[Slot], places: &[u8], nine: &Nine) -> bool
     ensures { result ≡ fits variables.now (zip slots.now (map (slice_index nine.now) places.now)) }
 {
@@ -280,7 +286,7 @@ fn are_distinct(slots: &[Slot], seen: u64) -> bool
 /// Whether each slot admits the cell at its place.
 fn each_admits(variables: &[StateSet], slots: &[Slot], places: &[u8], nine: &Nine) -> bool
     ensures { result
-        ≡ list_all (λ (t : Taken). admits variables.now t.0 t.1)
+        ≡ list_all (λ (t : SlotCell). admits variables.now t.0 t.1)
         (zip slots.now (map (slice_index nine.now) places.now)) }
 {
     match first_taken(slots, places, nine) {
@@ -294,7 +300,7 @@ fn each_admits(variables: &[StateSet], slots: &[Slot], places: &[u8], nine: &Nin
 /// Whether all slots of one variable take one cell.
 fn each_takes_one_cell(slots: &[Slot], places: &[u8], nine: &Nine) -> bool
     ensures { let all = zip slots.now (map (slice_index nine.now) places.now) in
-        result ≡ list_all (λ (t : Taken). take_one_cell all t.0 t.1) all }
+        result ≡ list_all (λ (t : SlotCell). take_one_cell all t.0 t.1) all }
 {
     if are_distinct(slots, 0) {
         return true;

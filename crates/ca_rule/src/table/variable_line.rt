@@ -4,7 +4,7 @@ ghost use Rattle.std.specs.Prelude.{◌≡◌, ◌≢◌, ℕ, List, ◌++◌, c
 ghost use Rattle.std.specs.List.{prefix_len};
 ghost use Rattle.ca_plane.specs.Bytes.{front, rest};
 ghost use Rattle.ca_rule.specs.TableLines.{is_name_byte, fields_between, IsVariableLine};
-ghost use Rattle.ca_rule.specs.inner.TableFields.{opened, IsBraced};
+ghost use Rattle.ca_rule.specs.inner.TableFields.{after_brace, IsBraced};
 
 use crate::table::fields::FieldsLeft;
 use crate::table::lines::{begins_variable, is_name, is_name_byte, tail_after};
@@ -19,8 +19,8 @@ pub(crate) struct VariableLine<'a> {
 }
 
 /// What follows `=` and `{`, with blanks before either.
-fn opened(bytes: &[u8]) -> Option<&[u8]>
-    ensures { MatchOption result (opened bytes.now ≡ None) (λ r. opened bytes.now ≡ Some r.now) }
+fn after_brace(bytes: &[u8]) -> Option<&[u8]>
+    ensures { MatchOption result (after_brace bytes.now ≡ None) (λ r. after_brace bytes.now ≡ Some r.now) }
 {
     let (_, equals) = split_blanks(bytes);
     let (_, brace) = split_blanks(tail_after(b"=", equals)?);
@@ -43,11 +43,11 @@ fn before_brace(bytes: &[u8]) -> Option<&[u8]>
 }
 
 /// What is in braces after `=`.
-fn braced(bytes: &[u8]) -> Option<&[u8]>
+fn text_in_braces(bytes: &[u8]) -> Option<&[u8]>
     ensures { MatchOption result ((inside : List ℕ) → IsBraced bytes.now inside → ⊥)
         (λ r. IsBraced bytes.now r.now) }
 {
-    before_brace(opened(bytes)?)
+    before_brace(after_brace(bytes)?)
 }
 
 /// How many bytes of a name come first.
@@ -78,7 +78,7 @@ pub(crate) fn variable_line(content: &[u8]) -> Option<VariableLine<'_>>
     }
     let (_, named) = split_blanks(tail_after(b"var", content)?);
     let (name, later) = split_name(named);
-    let inside = braced(later)?;
+    let inside = text_in_braces(later)?;
     if !is_name(name) {
         return None;
     }

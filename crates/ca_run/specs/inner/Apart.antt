@@ -7,7 +7,7 @@ use Rattle.ca_quad.specs.Trees.{IsTree, cell}
 use Rattle.ca_run.specs.Leaping.{LeaperView, Spends}
 
 -- the tree has the level and the cells of a tree of another store
-pub record IsMoved (old : List Node) (tree : Tree) (new : List Node) (copy : Tree) : Type 0 where
+pub record IsCopyOfTree (old : List Node) (tree : Tree) (new : List Node) (copy : Tree) : Type 0 where
   pub is_tree : IsTree new copy
   pub level : copy.level ≡ tree.level
   pub cells : (x y : ℤ) → cell new copy x y ≡ cell old tree x y

@@ -60,7 +60,8 @@ pub record IsInPlace (before later : Wall) : Type 0 where
 
 -- a wall shows what came of the first cells after so many generations, under a rule that goes by the masks, and has a
 -- margin for n more
-pub record CanGoOn (next : List ℕ → ℕ) (masks : ℕ × ℕ) (first : ℤ → ℤ → ℕ) (reached n : ℕ) (wall : Wall) : Type 0 where
+pub record CanStepFor (next : List ℕ → ℕ) (masks : ℕ × ℕ) (first : ℤ → ℤ → ℕ) (reached n : ℕ)
+    (wall : Wall) : Type 0 where
   pub by_masks : GoesBy next masks
   pub quiet : next (replicate 9 0) ≡ 0
   pub shows : WallShows wall n (cells_after next first reached)
@@ -210,8 +211,8 @@ pub record HasMarks (marks : List ℕ) (mark : ℕ) (list : List ℕ) : Type 0 w
   pub most : (t : ℕ) → slice_index marks t ≤ mark
 
 -- the bricks that aren't in the list rest: what they were before is what they will be next
-abbrev pub Rest : ℕ × ℕ → ℕ → (now before : List (List ℕ)) → List ℕ → Type 0
-Rest masks across now before list = (t : ℕ) → HasNeighbours across (length now) t → IsNotIn list t → IsNextBrick masks across now before t
+abbrev pub BricksRest : ℕ × ℕ → ℕ → (now before : List (List ℕ)) → List ℕ → Type 0
+BricksRest masks across now before list = (t : ℕ) → HasNeighbours across (length now) t → IsNotIn list t → IsNextBrick masks across now before t
 
 -- ---- a generation of bricks
 
@@ -220,11 +221,12 @@ pub record CanStep (masks : ℕ × ℕ) (across : ℕ) (now before : List (List 
   pub room : across + length now < 2 ^ 63
   pub size : length before ≡ length now
   pub inside : AllHaveNeighbours across (length now) awake
-  pub rest : Rest masks across now before awake
+  pub rest : BricksRest masks across now before awake
 
 -- each brick with others on all sides is one generation on, the others are as before, and the queue has those that see other cells
 -- than two generations before
-pub record AreStepped (masks : ℕ × ℕ) (across : ℕ) (now before later : List (List ℕ)) (old new : List ℕ) : Type 0 where
+pub record AreStepped (masks : ℕ × ℕ) (across : ℕ) (now before later : List (List ℕ))
+    (old new : List ℕ) : Type 0 where
   pub next : (t : ℕ) → HasNeighbours across (length now) t → IsNextBrick masks across now later t
   pub same : (t : ℕ) → HasNeighbours across (length now) t → IsNotIn new t → IsSameRound across before later t
   pub grows : QueueGrows across (length now) old new

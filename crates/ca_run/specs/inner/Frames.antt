@@ -55,7 +55,7 @@ pub record IsFramed (m : ℕ) (frame : Frame) (p : ℤ → ℤ → ℕ) : Type 0
   pub margin : HasMargin m frame.columns.count (4 * frame.rows.count) p (piece_start frame.columns.first) (piece_start frame.rows.first)
 
 -- the tree can be read brick by brick
-pub record IsReadable (nodes : List Node) (tree : Tree) : Type 0 where
+pub record IsReadByBricks (nodes : List Node) (tree : Tree) : Type 0 where
   pub is_tree : IsTree nodes tree
   pub least : 7 ≤ tree.level
   pub greatest : tree.level ≤ 62

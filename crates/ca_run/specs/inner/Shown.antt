@@ -6,20 +6,21 @@ use Rattle.ca_run.specs.declared.leaper.trio.Trio.{Trio}
 use Rattle.ca_run.specs.declared.leaper.trio.Rows.{Rows}
 
 -- as far as the side reaches, the cells are those of the plane from (a, b) on
-abbrev pub Looks : ℕ → (ℕ → ℕ → ℕ) → (ℤ → ℤ → ℕ) → ℤ → ℤ → Type 0
-Looks side cells p a b = (x y : ℕ) → x < side → y < side → cells x y ≡ p (a +ℤ pos x) (b +ℤ pos y)
+abbrev pub ShowsPlane : ℕ → (ℕ → ℕ → ℕ) → (ℤ → ℤ → ℕ) → ℤ → ℤ → Type 0
+ShowsPlane side cells p a b = (x y : ℕ) → x < side → y < side → cells x y ≡ p (a +ℤ pos x) (b +ℤ pos y)
 
 -- the id names a square of this level, which shows the plane from (a, b) on
 pub record ShowsAt (nodes : List Node) (id level : ℕ) (p : ℤ → ℤ → ℕ) (a b : ℤ) : Type 0 where
   pub is_square : IsOf nodes id level
-  pub looks : Looks (2 ^ level) (cell_of nodes level id) p a b
+  pub looks : ShowsPlane (2 ^ level) (cell_of nodes level id) p a b
 
 -- the side of a square of this level
 abbrev pub side : ℕ → ℤ
 side level = pos (2 ^ level)
 
 -- four of a kind show the plane, as the quarters of a square, each so wide: together they show it from (a, b) on
-pub record QuartersShow {T : Type 0} (Shows : T → (ℤ → ℤ → ℕ) → ℤ → ℤ → Type 0) (wide : ℤ) (nw ne sw se : T) (p : ℤ → ℤ → ℕ) (a b : ℤ) : Type 0 where
+pub record QuartersShow {T : Type 0} (Shows : T → (ℤ → ℤ → ℕ) → ℤ → ℤ → Type 0) (wide : ℤ) (nw ne sw se : T)
+    (p : ℤ → ℤ → ℕ) (a b : ℤ) : Type 0 where
   pub at_nw : Shows nw p a b
   pub at_ne : Shows ne p (a +ℤ wide) b
   pub at_sw : Shows sw p a (b +ℤ wide)
@@ -36,7 +37,8 @@ pub record AreThree (nodes : List Node) (level : ℕ) (three : Trio ℕ) : Type 
   pub east : IsOf nodes three.east level
 
 -- three of a kind, side by side and each so wide, show the plane from (a, b) on
-pub record TrioShows {T : Type 0} (Shows : T → (ℤ → ℤ → ℕ) → ℤ → ℤ → Type 0) (wide : ℤ) (three : Trio T) (p : ℤ → ℤ → ℕ) (a b : ℤ) : Type 0 where
+pub record TrioShows {T : Type 0} (Shows : T → (ℤ → ℤ → ℕ) → ℤ → ℤ → Type 0) (wide : ℤ) (three : Trio T)
+    (p : ℤ → ℤ → ℕ) (a b : ℤ) : Type 0 where
   pub at_west : Shows three.west p a b
   pub at_middle : Shows three.middle p (a +ℤ wide) b
   pub at_east : Shows three.east p (a +ℤ wide +ℤ wide) b
@@ -52,7 +54,8 @@ pub record AreNine (nodes : List Node) (level : ℕ) (rows : Rows ℕ) : Type 0 
   pub south : AreThree nodes level rows.south
 
 -- nine of a kind, in three rows, show the plane: together they show it from (a, b) on
-pub record RowsShow {T : Type 0} (Shows : T → (ℤ → ℤ → ℕ) → ℤ → ℤ → Type 0) (wide : ℤ) (rows : Rows T) (p : ℤ → ℤ → ℕ) (a b : ℤ) : Type 0 where
+pub record RowsShow {T : Type 0} (Shows : T → (ℤ → ℤ → ℕ) → ℤ → ℤ → Type 0) (wide : ℤ) (rows : Rows T)
+    (p : ℤ → ℤ → ℕ) (a b : ℤ) : Type 0 where
   pub at_north : TrioShows Shows wide rows.north p a b
   pub at_middle : TrioShows Shows wide rows.middle p a (b +ℤ wide)
   pub at_south : TrioShows Shows wide rows.south p a (b +ℤ wide +ℤ wide)
@@ -62,7 +65,8 @@ abbrev pub NineShow : List Node → (level : ℕ) → Rows ℕ → (ℤ → ℤ 
 NineShow nodes level rows p a b = RowsShow (λ id. ShowsAt nodes id level) (side level) rows p a b
 
 -- two of a kind, side by side and each so wide, show the plane from (a, b) on
-pub record PairShows {T : Type 0} (Shows : T → (ℤ → ℤ → ℕ) → ℤ → ℤ → Type 0) (wide : ℤ) (west east : T) (p : ℤ → ℤ → ℕ) (a b : ℤ) : Type 0 where
+pub record PairShows {T : Type 0} (Shows : T → (ℤ → ℤ → ℕ) → ℤ → ℤ → Type 0) (wide : ℤ) (west east : T)
+    (p : ℤ → ℤ → ℕ) (a b : ℤ) : Type 0 where
   pub at_west : Shows west p a b
   pub at_east : Shows east p (a +ℤ wide) b
 

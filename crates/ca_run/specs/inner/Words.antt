@@ -5,11 +5,11 @@ use Rattle.std.specs.Prelude.{nat_lt, if◌then◌else◌, slice_index}
 use Rattle.ca_quad.specs.Trees.{row_cells, word_cells}
 use Rattle.ca_run.specs.declared.leaper.words.Words.{Words}
 use Rattle.ca_run.specs.declared.leaper.wide_square.WideSquare.{WideSquare}
-use Rattle.ca_run.specs.inner.Shown.{Looks, QuartersShow}
+use Rattle.ca_run.specs.inner.Shown.{ShowsPlane, QuartersShow}
 
 -- the word shows the plane from (a, b) on
 pub record WordShows (word : ℕ) (p : ℤ → ℤ → ℕ) (a b : ℤ) : Type 0 where
-  pub looks : Looks 8 (word_cells word) p a b
+  pub looks : ShowsPlane 8 (word_cells word) p a b
 
 -- the four words of a square of 16 by 16 cells show it
 abbrev pub WordsShow : Words → (ℤ → ℤ → ℕ) → ℤ → ℤ → Type 0

@@ -15,14 +15,14 @@ pub(crate) fn brick_of(north: &[u64; 8], south: &[u64; 8]) -> [u64; 16]
 {
     let mut rows = [0; 16];
     'rows: for y in 0..8 {
-        rows[y] = row_of(north, y);
-        rows[8 + y] = row_of(south, y);
+        rows[y] = row_at(north, y);
+        rows[8 + y] = row_at(south, y);
     }
     rows
 }
 
 // A row of the cells of eight words side by side.
-fn row_of(words: &[u64; 8], y: usize) -> u64
+fn row_at(words: &[u64; 8], y: usize) -> u64
     requires { y < 8 }
     ensures { (i x : ℕ) → i < 8 → x < 8
         → bit_at result (8 * i + x) ≡ word_cells (slice_index words.now i) x y }
@@ -40,7 +40,7 @@ fn row_of(words: &[u64; 8], y: usize) -> u64
 }
 
 // The 8 by 8 cells of a brick that begin 8 * i columns and 8 * j rows in.
-pub(super) fn word_of(rows: &[u64; 16], i: usize, j: usize) -> u64
+pub(super) fn brick_word(rows: &[u64; 16], i: usize, j: usize) -> u64
     requires column { i < 8 }
     requires row { j < 2 }
     ensures { (p : ℤ → ℤ → ℕ) (a b : ℤ) → BrickShows rows.now p a b

@@ -1,6 +1,7 @@
 //! Where the bricks of a box lie on the plane.
 
 ghost use Rattle.std.specs.Prelude.{◌≡◌, ◌+◌, ◌≤◌, ◌^◌, pos, ◌-ℤ◌, false, IfSome};
+ghost use Rattle.ca_plane.specs.Limits.{most_generations};
 ghost use Rattle.ca_run.specs.inner.Frames.{IsSpan, IsWallFrame, IsNearBox, Spans, piece_start};
 
 use ca_quad::WideBounds;
@@ -53,7 +54,7 @@ fn span_of(low: usize, high: usize, margin: usize) -> Option<Span>
     requires least { 2 ^ 61 ≤ low }
     requires order { low ≤ high }
     requires most { high ≤ 2 ^ 62 + 2 ^ 61 }
-    requires margin { margin ≤ 2 ^ 60 }
+    requires margin { margin ≤ most_generations }
     ensures span { IfSome result IsSpan }
     ensures spans { IfSome result (Spans (pos low -ℤ pos (2 ^ 62)) (pos high -ℤ pos (2 ^ 62)) margin) }
 {
@@ -74,7 +75,7 @@ fn span_of(low: usize, high: usize, margin: usize) -> Option<Span>
 /// where they are too many.
 pub(crate) fn frame_of(bounds: WideBounds, margin: usize) -> Option<Frame>
     requires near { IsNearBox bounds }
-    requires margin { margin ≤ 2 ^ 60 }
+    requires margin { margin ≤ most_generations }
     ensures frame { IfSome result IsWallFrame }
     ensures columns { IfSome result (λ frame. Spans bounds.x0 bounds.x1 margin frame.columns) }
     ensures rows { IfSome result (λ frame. Spans bounds.y0 bounds.y1 margin frame.rows) }

@@ -3,10 +3,11 @@
 ghost use Rattle.std.specs.Prelude.{◌≡◌, ℕ, ◌+◌, ◌*◌, ◌<◌, ◌≤◌, ◌^◌, List, []};
 ghost use Rattle.std.specs.Prelude.{length, if◌then◌else◌, OnOk, IfOk};
 ghost use Rattle.ca_plane.specs.Generations.{cells_after};
+ghost use Rattle.ca_plane.specs.Limits.{most_generations};
 ghost use Rattle.ca_quad.specs.Trees.{cell};
 ghost use Rattle.ca_run.specs.Leaping.{Spends, EndsAtLimit};
 ghost use Rattle.ca_run.specs.inner.Bricks.{WallShows, HasNeighbours, IsNotIn};
-ghost use Rattle.ca_run.specs.inner.Bricks.{AllHaveNeighbours, CanGoOn, IsInPlace, HasBlankEdge};
+ghost use Rattle.ca_run.specs.inner.Bricks.{AllHaveNeighbours, CanStepFor, IsInPlace, HasBlankEdge};
 
 use super::queue::Queue;
 use super::step::generation;
@@ -67,9 +68,9 @@ impl Wall {
         work: &mut Work,
         watch: &mut W,
     ) -> Result<Wall, LeapFault>
-        requires begins { CanGoOn (A.next_of leaper.now.rule) masks
+        requires begins { CanStepFor (A.next_of leaper.now.rule) masks
             (cell leaper.now.nodes first.now) reached n self }
-        requires time { reached + n ≤ 2 ^ 60 }
+        requires time { reached + n ≤ most_generations }
         ensures shows { IfOk result (λ later. WallShows later 0
             (cells_after (A.next_of leaper.now.rule) (cell leaper.now.nodes first.now) (reached + n))) }
         ensures place { IfOk result (IsInPlace self) }

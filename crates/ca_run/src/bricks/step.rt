@@ -4,7 +4,7 @@ ghost use Rattle.std.specs.Prelude.{◌≡◌, ◌+◌, ◌<◌, ◌≤◌, ◌^
 ghost use Rattle.std.specs.Int.{bit_at};
 ghost use Rattle.ca_run.specs.inner.Bricks.{CanStep, AreStepped, HasNeighbours, AllHaveNeighbours};
 ghost use Rattle.ca_run.specs.inner.Bricks.{HasBlankEdge, IsNotIn, IsNextBrick, IsSameRound, IsUnseen};
-ghost use Rattle.ca_run.specs.inner.Bricks.{QueueGrows, Rest, column_at, round_at, round_cells};
+ghost use Rattle.ca_run.specs.inner.Bricks.{QueueGrows, BricksRest, column_at, round_at, round_cells};
 
 use super::queue::Queue;
 use super::round::Round;
@@ -23,14 +23,14 @@ pub(super) fn generation(
     requires room { across + length now.old.items < 2 ^ 63 }
     requires size { length before.old.items ≡ length now.old.items }
     requires inside { AllHaveNeighbours across (length now.old.items) awake.now }
-    requires rest { Rest masks across now.old.items before.old.items awake.now }
+    requires rest { BricksRest masks across now.old.items before.old.items awake.now }
     ensures before { OnOk result (before.new.items ≡ now.old.items) }
     ensures size { OnOk result (length now.new.items ≡ length now.old.items) }
     ensures next { OnOk result ((t : ℕ) → HasNeighbours across (length now.old.items) t
         → IsNextBrick masks across now.old.items now.new.items t) }
     ensures rest { ((t : ℕ) → HasNeighbours across (length now.old.items) t
         → IsNextBrick masks across before.old.items now.old.items t)
-        → OnOk result (Rest masks across now.new.items now.old.items queue.new) }
+        → OnOk result (BricksRest masks across now.new.items now.old.items queue.new) }
     ensures grows { OnOk result (QueueGrows across (length now.old.items) queue.old queue.new) }
     ensures edge { HasBlankEdge across before.old.items → OnOk result (HasBlankEdge across now.new.items) }
 {

@@ -4,7 +4,7 @@ ghost use Rattle.std.specs.Prelude.{◌≡◌, true, ℕ, ◌+◌, ◌*◌, ◌<
 ghost use Rattle.ca_run.specs.inner.Bricks.{BrickShows, IsBlank, IsWall, WallShows};
 ghost use Rattle.ca_run.specs.inner.Words.{WordShows, eight};
 
-use super::cut::word_of;
+use super::cut::brick_word;
 
 /// Rows of bricks from the north, of each row so many from the west. Beyond them all is dead.
 #[derive(Drop)]
@@ -44,7 +44,7 @@ impl Wall {
         if i / 8 >= self.across || j / 2 >= self.down {
             return 0;
         }
-        word_of(self.brick(i / 8, j / 2), i % 8, j % 2)
+        brick_word(self.brick(i / 8, j / 2), i % 8, j % 2)
     }
 
     /// Whether all bricks are blank in which some word lies from one place to before another.
@@ -73,7 +73,7 @@ impl Wall {
             → p (self.now.x +ℤ pos x) (self.now.y +ℤ pos y) ≡ 0 }
     {
         'bricks: for column in columns.0..columns.1 {
-            if !is_blank(self.brick(column, row)) {
+            if !is_blank_brick(self.brick(column, row)) {
                 return false;
             }
         }
@@ -93,7 +93,7 @@ impl Wall {
 }
 
 // Whether no cell of a brick is live.
-fn is_blank(rows: &[u64; 16]) -> bool
+fn is_blank_brick(rows: &[u64; 16]) -> bool
     ensures { result ≡ true → IsBlank rows.now }
 {
     *rows == [0; 16]

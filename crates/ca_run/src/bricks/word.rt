@@ -119,7 +119,7 @@ fn all_bits(set: bool) -> u64
 
 // At each place the bit of `there` where `which` has one, else that of `elsewhere`.
 #[inline(always)]
-fn chosen(which: u64, there: u64, elsewhere: u64) -> u64
+fn select_bits(which: u64, there: u64, elsewhere: u64) -> u64
     ensures { (x : ℕ) → bit_at result x
         ≡ (if bit_at which x == 0 then bit_at elsewhere x else bit_at there x) }
 {
@@ -140,8 +140,8 @@ impl WordMasks {
         ensures { AreWords result masks }
     {
         WordMasks {
-            born: words_of(masks.0),
-            stays: words_of(masks.1),
+            born: mask_words(masks.0),
+            stays: mask_words(masks.1),
         }
     }
 
@@ -152,7 +152,7 @@ impl WordMasks {
         ensures { (masks : ℕ × ℕ) (x : ℕ) → AreWords self.now masks → x < 64
             → bit_at result x ≡ next_by_count masks.0 masks.1 (bit_at alive x) n }
     {
-        chosen(alive, self.stays[n], self.born[n])
+        select_bits(alive, self.stays[n], self.born[n])
     }
 
     // The next states of cells that have so many live cells round them, or one more where `ones` tells it.
@@ -162,7 +162,7 @@ impl WordMasks {
         ensures { (masks : ℕ × ℕ) (x : ℕ) → AreWords self.now masks → x < 64
             → bit_at result x ≡ next_by_count masks.0 masks.1 (bit_at alive x) (n + bit_at ones x) }
     {
-        chosen(ones, self.next(alive, n + 1), self.next(alive, n))
+        select_bits(ones, self.next(alive, n + 1), self.next(alive, n))
     }
 
     // The next states of cells that have so many live cells round them, and as many more as the two lowest
@@ -174,7 +174,7 @@ impl WordMasks {
             → bit_at result x ≡ next_by_count masks.0 masks.1 (bit_at alive x)
             (n + bit_at count.ones x + 2 * bit_at count.twos x) }
     {
-        chosen(
+        select_bits(
             count.twos,
             self.next_of_two(alive, count.ones, n + 2),
             self.next_of_two(alive, count.ones, n),
@@ -183,7 +183,7 @@ impl WordMasks {
 }
 
 // For each number a word of ones where the mask has it, else of zeros.
-fn words_of(mask: u16) -> [u64; 9]
+fn mask_words(mask: u16) -> [u64; 9]
     ensures { IsWordOfEach mask result }
 {
     let mut words = [0; 9];
@@ -255,8 +255,8 @@ impl NextCells for ByAll {
     fn next_word(&self, alive: u64, count: Count<u64>) -> u64 {
         let below = self.words.next_of_four(alive, count, 0);
         let above = self.words.next_of_four(alive, count, 4);
-        let low = chosen(count.fours, above, below);
-        chosen(count.eights, self.words.next(alive, 8), low)
+        let low = select_bits(count.fours, above, below);
+        select_bits(count.eights, self.words.next(alive, 8), low)
     }
 }
 

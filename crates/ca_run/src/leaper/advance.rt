@@ -9,7 +9,7 @@ ghost use Rattle.ca_run.specs.inner.AtCost.{GoesOnAtCost};
 ghost use Rattle.ca_run.specs.inner.Dense.{HasReached, HasLeapt, HasParted};
 ghost use Rattle.ca_run.specs.inner.Padded.{IsPadded};
 
-use super::dense::Reached;
+use super::dense::ReachedTree;
 use super::pace::{self, is_long};
 use super::{Leaper, Milestone};
 use crate::fault::LeapFault;
@@ -57,7 +57,7 @@ impl<A: Automaton> Leaper<A> {
     fn go_on<W: Watch>(
         &mut self,
         first: &Tree,
-        reached: Reached,
+        reached: ReachedTree,
         n: u64,
         watch: &mut W,
     ) -> Result<Tree, LeapFault>
@@ -95,7 +95,7 @@ impl<A: Automaton> Leaper<A> {
     fn leap_on<W: Watch>(
         &mut self,
         first: &Tree,
-        reached: &mut Reached,
+        reached: &mut ReachedTree,
         n: u64,
         watch: &mut W,
     ) -> Result<(), LeapFault>
@@ -118,7 +118,7 @@ impl<A: Automaton> Leaper<A> {
                 let tree = self.leap(reached.tree, j, watch)?;
                 let generations = begun + left % (2 << j);
                 watch.reached(Milestone::with_tree(self, &self.store, first, &tree, generations));
-                *reached = Reached { tree, generations };
+                *reached = ReachedTree { tree, generations };
             }
         }
         Ok(())

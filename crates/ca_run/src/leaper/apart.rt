@@ -6,10 +6,10 @@ ghost use Rattle.ca_quad.specs.Sound.{Grows};
 ghost use Rattle.ca_quad.specs.Trees.{IsTree, cell};
 ghost use Rattle.ca_run.specs.Advanced.{CanAdvance, IsAdvanced};
 ghost use Rattle.ca_run.specs.Leaping.{LeaperGrows, Spends, EndsAtLimit};
-ghost use Rattle.ca_run.specs.inner.Apart.{IsMoved, KeepsOn};
+ghost use Rattle.ca_run.specs.inner.Apart.{IsCopyOfTree, KeepsOn};
 ghost use Rattle.ca_run.specs.inner.Dense.{HasReached, HasParted};
 
-use super::dense::Reached;
+use super::dense::ReachedTree;
 use super::pace::Pace;
 use super::{Leaper, Milestone};
 use crate::fault::LeapFault;
@@ -30,7 +30,7 @@ impl<A: Automaton> Leaper<A> {
     pub(super) fn leap_apart<W: Watch>(
         &mut self,
         first: &Tree,
-        reached: Reached,
+        reached: ReachedTree,
         squares: usize,
         n: u64,
         watch: &mut W,
@@ -49,7 +49,7 @@ impl<A: Automaton> Leaper<A> {
         let _ = &self.store;
         let (tree, origin) = self.part(reached.tree, squares)?;
         let generations = reached.generations;
-        let end = self.leap_until(&origin, first, Reached { tree, generations }, n, watch);
+        let end = self.leap_until(&origin, first, ReachedTree { tree, generations }, n, watch);
         let apart = self.exchange(origin);
         self.take(&apart, end?)
     }
@@ -58,7 +58,7 @@ impl<A: Automaton> Leaper<A> {
     // one.
     fn part(&mut self, tree: Tree, squares: usize) -> Result<(Tree, Store), Memory>
         requires { IsTree self.old.nodes tree }
-        ensures moved { IfOk result (λ both. IsMoved self.old.nodes tree self.new.nodes both.0) }
+        ensures moved { IfOk result (λ both. IsCopyOfTree self.old.nodes tree self.new.nodes both.0) }
         ensures before { IfOk result (λ both. both.1 ≡ take squares self.old.nodes) }
         ensures keeps { KeepsOn A self.old self.new }
         ensures spent { self.new.spent ≡ self.old.spent }
@@ -89,7 +89,7 @@ impl<A: Automaton> Leaper<A> {
     // The tree of another store, whose squares are counted before they are copied.
     fn take(&mut self, from: &Store, tree: Tree) -> Result<Tree, LeapFault>
         requires { IsTree from.now tree }
-        ensures moved { IfOk result (IsMoved from.now tree self.new.nodes) }
+        ensures moved { IfOk result (IsCopyOfTree from.now tree self.new.nodes) }
         ensures goes_on { LeaperGrows A self.old self.new }
         ensures made { length self.new.nodes + 4096 * self.old.spent.used
             ≤ length self.old.nodes + 4096 * self.new.spent.used }
@@ -104,7 +104,7 @@ impl<A: Automaton> Leaper<A> {
         &mut self,
         origin: &Store,
         first: &Tree,
-        reached: Reached,
+        reached: ReachedTree,
         n: u64,
         watch: &mut W,
     ) -> Result<Tree, LeapFault>
@@ -137,11 +137,11 @@ impl<A: Automaton> Leaper<A> {
         &mut self,
         origin: &Store,
         first: &Tree,
-        reached: Reached,
+        reached: ReachedTree,
         n: u64,
         pace: &mut Pace,
         watch: &mut W,
-    ) -> Result<Reached, LeapFault>
+    ) -> Result<ReachedTree, LeapFault>
         requires first { CanAdvance origin.now first.now n }
         requires reached { HasReached (A.next_of self.old.rule)
             origin.now first.now n self.old.nodes reached }
@@ -159,13 +159,13 @@ impl<A: Automaton> Leaper<A> {
             Ok(tree) => {
                 let generations = reached.generations + (1 << digit);
                 watch.reached(Milestone::with_tree(self, origin, first, &tree, generations));
-                pace.went(digit, self.store.count() - before);
-                Ok(Reached { tree, generations })
+                pace.note_leap(digit, self.store.count() - before);
+                Ok(ReachedTree { tree, generations })
             }
             Err(LeapFault::Memory) if self.is_full() => {
-                pace.gave_up();
+                pace.note_abandoned_leap();
                 let tree = self.leave_squares(reached.tree, pace)?;
-                Ok(Reached {
+                Ok(ReachedTree {
                     tree,
                     generations: reached.generations,
                 })
@@ -177,12 +177,12 @@ impl<A: Automaton> Leaper<A> {
     // The same tree in a new store: all other squares are left behind.
     fn leave_squares(&mut self, tree: Tree, pace: &mut Pace) -> Result<Tree, Memory>
         requires { IsTree self.old.nodes tree }
-        ensures moved { IfOk result (IsMoved self.old.nodes tree self.new.nodes) }
+        ensures moved { IfOk result (IsCopyOfTree self.old.nodes tree self.new.nodes) }
         ensures keeps { KeepsOn A self.old self.new }
         ensures spent { self.new.spent ≡ self.old.spent }
     {
         let (copy, _none) = self.part(tree, 0)?;
-        pace.left(self.store.count());
+        pace.note_copy(self.store.count());
         Ok(copy)
     }
 }

@@ -1,7 +1,7 @@
 //! Four squares of 2 by 2 cells, and squares of 4 by 4.
 
 ghost use Rattle.std.specs.Prelude.{◌≡◌, IfOk};
-ghost use Rattle.ca_quad.specs.Squares.{IsOf, cell_of, together};
+ghost use Rattle.ca_quad.specs.Squares.{IsOf, cell_of, joined_cells};
 ghost use Rattle.ca_quad.specs.Trees.{AreFour};
 ghost use Rattle.ca_run.specs.Centre.{IsCentre, IsLeap};
 ghost use Rattle.ca_run.specs.inner.AtCost.{GoesOnAtCost};
@@ -15,7 +15,7 @@ impl<A: Automaton> Leaper<A> {
     // The sixteen cells of four squares of 2 by 2, row by row.
     pub(super) fn cells16(&self, nw: Id, ne: Id, sw: Id, se: Id) -> [u8; 16]
         requires { AreFour self.now.nodes 1 nw ne sw se }
-        ensures { result ≡ sixteen (together 2 (cell_of self.now.nodes 1 nw) (cell_of self.now.nodes 1 ne)
+        ensures { result ≡ sixteen (joined_cells 2 (cell_of self.now.nodes 1 nw) (cell_of self.now.nodes 1 ne)
             (cell_of self.now.nodes 1 sw) (cell_of self.now.nodes 1 se)) }
     {
         let [a, b, e, f] = self.store.cells4(nw);

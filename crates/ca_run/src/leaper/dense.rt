@@ -3,6 +3,7 @@
 ghost use Rattle.std.specs.Prelude.{◌≡◌, ℕ, ◌+◌, ◌*◌, ◌<◌, ◌≤◌, ◌^◌, ◌⊎◌};
 ghost use Rattle.std.specs.Prelude.{length, Ok, None, IfOk, IsOk, IfSome};
 ghost use Rattle.ca_plane.specs.Generations.{cells_after};
+ghost use Rattle.ca_plane.specs.Limits.{most_generations};
 ghost use Rattle.ca_quad.specs.Trees.{IsTree, cell};
 ghost use Rattle.ca_run.specs.Leaping.{LeaperGrows, EndsAtLimit};
 ghost use Rattle.ca_run.specs.inner.AtCost.{GoesOnAtCost};
@@ -43,7 +44,7 @@ const MOST_RESTING: u64 = 128;
 
 /// A tree that a run has reached, and after how many generations.
 #[derive(Clone, Copy)]
-pub(super) struct Reached {
+pub(super) struct ReachedTree {
     pub(super) tree: Tree,
     pub(super) generations: u64,
 }
@@ -51,7 +52,7 @@ pub(super) struct Reached {
 // What is reached by one wall, how many bricks it has, and how many of them were stepped in a generation.
 #[derive(Clone, Copy)]
 struct Stretch {
-    reached: Reached,
+    reached: ReachedTree,
     bricks: u64,
     work: u64,
 }
@@ -64,10 +65,10 @@ impl<A: Automaton> Leaper<A> {
         tree: &Tree,
         n: u64,
         watch: &mut W,
-    ) -> Result<Reached, LeapFault>
+    ) -> Result<ReachedTree, LeapFault>
         requires tree { IsTree self.old.nodes tree.now }
         requires level { tree.now.level ≤ 64 }
-        requires time { n ≤ 2 ^ 60 }
+        requires time { n ≤ most_generations }
         ensures reached { IfOk result (HasReached (A.next_of self.old.rule)
             self.old.nodes tree.now n self.new.nodes) }
         ensures none { n ≡ 0 → IfOk result (λ reached. reached.tree ≡ tree.now) }
@@ -77,7 +78,7 @@ impl<A: Automaton> Leaper<A> {
         ensures work { EndsAtLimit self.new.spent result }
     {
         let _ = &self.store;
-        let reached = Reached {
+        let reached = ReachedTree {
             tree: *tree,
             generations: 0,
         };
@@ -98,14 +99,14 @@ impl<A: Automaton> Leaper<A> {
         &mut self,
         masks: (u16, u16),
         first: &Tree,
-        mut reached: Reached,
+        mut reached: ReachedTree,
         n: u64,
         watch: &mut W,
-    ) -> Result<Reached, LeapFault>
+    ) -> Result<ReachedTree, LeapFault>
         requires first { IsTree self.old.nodes first.now }
         requires least { 7 ≤ first.now.level }
         requires many { 32 ≤ n }
-        requires time { n ≤ 2 ^ 60 }
+        requires time { n ≤ most_generations }
         requires masks { GoesBy (A.next_of self.old.rule) masks }
         requires reached { HasReached (A.next_of self.old.rule)
             self.old.nodes first.now n self.old.nodes reached }
@@ -158,13 +159,13 @@ impl<A: Automaton> Leaper<A> {
         &mut self,
         masks: (u16, u16),
         first: &Tree,
-        reached: &Reached,
+        reached: &ReachedTree,
         n: u64,
         watch: &mut W,
     ) -> Result<Option<Stretch>, LeapFault>
         requires first { IsTree self.old.nodes first.now }
         requires least { 7 ≤ first.now.level }
-        requires time { n ≤ 2 ^ 60 }
+        requires time { n ≤ most_generations }
         requires masks { GoesBy (A.next_of self.old.rule) masks }
         requires reached { HasReached (A.next_of self.old.rule)
             self.old.nodes first.now n self.old.nodes reached.now }
@@ -187,7 +188,7 @@ impl<A: Automaton> Leaper<A> {
         let tree = self.tree_of(&later, reach)?;
         let tree = self.trim(tree)?;
         Ok(Some(Stretch {
-            reached: Reached {
+            reached: ReachedTree {
                 tree,
                 generations: reached.generations + left,
             },
@@ -214,7 +215,7 @@ impl<A: Automaton> Leaper<A> {
         requires few { length wall.bricks.items ≤ 2 ^ 18 }
         requires least { 7 ≤ first.now.level }
         requires margin { generations ≤ 1024 }
-        requires time { reached + generations ≤ 2 ^ 60 }
+        requires time { reached + generations ≤ most_generations }
         ensures shows { IfOk result (λ later. WallShows later 0 (cells_after (A.next_of self.old.rule)
             (cell self.old.nodes first.now) (reached + generations))) }
         ensures place { IfOk result (IsInPlace wall) }
@@ -241,7 +242,7 @@ impl<A: Automaton> Leaper<A> {
     // The wall of a tree with a margin of so many cells, where it is not too large.
     fn dense_wall(&self, alloc: Global, tree: &Tree, margin: u64) -> Result<Option<Wall>, Memory>
         requires tree { IsTree self.now.nodes tree.now }
-        requires margin { margin ≤ 2 ^ 60 }
+        requires margin { margin ≤ most_generations }
         ensures shows { IfOk result (λ found. IfSome found
             (λ wall. WallShows wall margin (cell self.now.nodes tree.now))) }
         ensures near { IfOk result (λ found. IfSome found LiesNearOrigin) }

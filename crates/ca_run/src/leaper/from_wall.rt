@@ -45,7 +45,7 @@ fn naturals(from: i64, count: u64) -> (usize, usize)
 
 // The places of three quarters of a square.
 #[derive(Clone, Copy)]
-struct Quarters {
+struct QuarterPlaces {
     ne: WordPlace,
     sw: WordPlace,
     se: WordPlace,
@@ -65,7 +65,7 @@ impl WordPlace {
     }
 
     // The places of the quarters of a square that begins here, each so many words wide.
-    fn quarters(self, half: u64) -> Quarters
+    fn quarters(self, half: u64) -> QuarterPlaces
         requires { IsNearWall (half + half) self }
         ensures ne { (result.ne.i ≡ self.i +ℤ pos half) × (result.ne.j ≡ self.j) }
         ensures sw { (result.sw.i ≡ self.i) × (result.sw.j ≡ self.j +ℤ pos half) }
@@ -74,7 +74,7 @@ impl WordPlace {
         let WordPlace { i, j } = self;
         let east = i + half as i64;
         let south = j + half as i64;
-        Quarters {
+        QuarterPlaces {
             ne: WordPlace { i: east, j },
             sw: WordPlace { i, j: south },
             se: WordPlace { i: east, j: south },

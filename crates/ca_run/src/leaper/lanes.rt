@@ -33,7 +33,7 @@ impl<A: Automaton> Leaper<A> {
             }
             3 => {
                 let wide = self.wide_square(id)?;
-                let (first, more) = halves(j);
+                let (first, more) = split_leap(j);
                 Some(CentreWords::Four(wide.centre(masks, first, more)))
             }
             _ => None,
@@ -63,7 +63,7 @@ impl<A: Automaton> Leaper<A> {
 }
 
 // How many generations a leap of 2^j goes at first, and then: all at once where 4 are enough.
-fn halves(j: u8) -> (u8, u8)
+fn split_leap(j: u8) -> (u8, u8)
     requires { j ≤ 3 }
     ensures sum { result.0 + result.1 ≡ 2 ^ j }
     ensures first { result.0 ≤ 4 }

@@ -98,7 +98,7 @@ impl Memo {
             → HasSingle self.old other j centre }
         ensures capacity { self.new.order.cap ≡ self.old.order.cap }
     {
-        self.open(id)?;
+        self.ensure_page(id)?;
         self.write(id, half);
         Ok(())
     }
@@ -115,7 +115,7 @@ impl Memo {
     }
 
     // Sees that the page of a square stands.
-    fn open(&mut self, id: Id) -> Result<(), Memory>
+    fn ensure_page(&mut self, id: Id) -> Result<(), Memory>
         ensures { RemembersNoMore self.old self.new }
     {
         let number = id.number() / 16;
@@ -196,7 +196,7 @@ impl Memo {
         self.spare_used();
         let gone = self.order.push(key, half)?;
         let _keys = self.order.len();
-        close(&mut self.pages, gone);
+        drop_page(&mut self.pages, gone);
         Ok(())
     }
 
@@ -221,7 +221,7 @@ impl Memo {
 }
 
 // Where a page goes from the order, its results go.
-fn close(pages: &mut Vec<Option<Page>>, gone: Option<(Key, Option<Id>)>)
+fn drop_page(pages: &mut Vec<Option<Page>>, gone: Option<(Key, Option<Id>)>)
     ensures room { length pages.new.items ≡ length pages.old.items }
     ensures rest { (n : ℕ) (page : Page) → slice_get pages.new.items n ≡ Some (Some page)
         → (slice_get pages.old.items n ≡ Some (Some page))

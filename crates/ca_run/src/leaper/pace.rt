@@ -47,19 +47,19 @@ impl Pace {
         ensures fits { 2 ^ result ≤ left }
         ensures low { result ≤ 60 }
     {
-        fitting(self.digit.min(60), left)
+        power_within(self.digit.min(60), left)
     }
 
     /// After a leap that made so many squares, by so many generations as a power of two: twice as long where
     /// they are few.
-    pub(super) fn went(&mut self, digit: u8, made: usize) {
+    pub(super) fn note_leap(&mut self, digit: u8, made: usize) {
         if digit == self.digit && digit < 60 && made < self.room / 8 {
             self.digit += 1;
         }
     }
 
     /// After a leap that was given up: half as long, or with twice as many squares.
-    pub(super) fn gave_up(&mut self) {
+    pub(super) fn note_abandoned_leap(&mut self) {
         if self.digit == 0 {
             self.room = self.room.saturating_mul(2);
         } else {
@@ -73,7 +73,7 @@ impl Pace {
     }
 
     /// After squares were left behind, so that there are so many.
-    pub(super) fn left(&mut self, squares: usize) {
+    pub(super) fn note_copy(&mut self, squares: usize) {
         self.room = self.room.max(room_after(squares));
     }
 }
@@ -84,7 +84,7 @@ fn room_after(squares: usize) -> usize {
 }
 
 // The greatest power of two among the first ones that isn't more than a number.
-fn fitting(digit: u8, left: u64) -> u8
+fn power_within(digit: u8, left: u64) -> u8
     requires some { 1 ≤ left }
     requires low { digit ≤ 60 }
     ensures fits { 2 ^ result ≤ left }
@@ -96,5 +96,5 @@ fn fitting(digit: u8, left: u64) -> u8
     if left >> digit > 0 {
         return digit;
     }
-    fitting(digit - 1, left)
+    power_within(digit - 1, left)
 }

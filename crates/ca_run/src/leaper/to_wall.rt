@@ -7,7 +7,7 @@ ghost use Rattle.ca_quad.specs.Trees.{cell};
 ghost use Rattle.ca_run.specs.inner.Shown.{ShowsAt};
 ghost use Rattle.ca_run.specs.inner.Words.{WordShows, eight};
 ghost use Rattle.ca_run.specs.inner.Bricks.{BrickShows, WallShows, LiesNearOrigin, IsAligned};
-ghost use Rattle.ca_run.specs.inner.Frames.{IsReadable, IsWallFrame, IsFramed, piece_start, row_start};
+ghost use Rattle.ca_run.specs.inner.Frames.{IsReadByBricks, IsWallFrame, IsFramed, piece_start, row_start};
 
 use super::Leaper;
 use crate::bricks::{Frame, Wall, brick_of};
@@ -78,7 +78,7 @@ impl<A: Automaton> Leaper<A> {
 
     // The brick of these numbers of a column and of a row, where the tree has no state above 1 there.
     fn brick_at(&self, tree: &Tree, column: usize, row: usize) -> Option<[u64; 16]>
-        requires tree { IsReadable self.now.nodes tree.now }
+        requires tree { IsReadByBricks self.now.nodes tree.now }
         ensures { IfSome result (λ rows. BrickShows rows (cell self.now.nodes tree.now)
             (piece_start column) (row_start row)) }
     {
@@ -98,7 +98,7 @@ impl<A: Automaton> Leaper<A> {
     // The brick of a place of a wall, counted from the wall's first: none but those that hold a part of the
     // box is looked at.
     fn brick_in(&self, tree: &Tree, frame: &Frame, i: usize, j: usize) -> Option<[u64; 16]>
-        requires tree { IsReadable self.now.nodes tree.now }
+        requires tree { IsReadByBricks self.now.nodes tree.now }
         requires frame { IsWallFrame frame.now }
         requires column { i < frame.now.columns.count }
         requires row { j < 4 * frame.now.rows.count }
@@ -124,7 +124,7 @@ impl<A: Automaton> Leaper<A> {
         tree: &Tree,
         frame: &Frame,
     ) -> Result<Option<Wall>, Memory>
-        requires tree { IsReadable self.now.nodes tree.now }
+        requires tree { IsReadByBricks self.now.nodes tree.now }
         requires frame { IsWallFrame frame.now }
         ensures shows { (m : ℕ) → IsFramed m frame.now (cell self.now.nodes tree.now)
             → IfOk result (λ found. IfSome found (λ wall. WallShows wall m (cell self.now.nodes tree.now))) }

@@ -1,7 +1,7 @@
 -- What is looked for in files that are to be identified.
 use Rattle.std.specs.Prelude.{◌≤◌}
 use Rattle.ca_claims.specs.Limited.{AreGoodLimits}
-use Rattle.ca_claims.specs.Text.{longest_period, most_generations}
+use Rattle.ca_plane.specs.Limits.{longest_period, most_generations}
 use Rattle.ca_tool.specs.declared.catalog.Search.{Search}
 
 -- it is within what may be asked for

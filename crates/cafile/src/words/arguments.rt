@@ -1,5 +1,6 @@
 //! The words that several commands have.
 
+use ca_plane::limits::MOST_MEMO;
 use clap::{Arg, ArgAction, Command, value_parser};
 use std::alloc::{AllocError, Global};
 
@@ -47,7 +48,9 @@ pub fn folder_word<'a>(alloc: Global) -> Arg<'a> {
 
 /// How many entries a memo may have.
 pub fn memo_word<'a>(alloc: Global, help: &'a str) -> Arg<'a> {
-    value_word(alloc, "memo", "N", help).value_parser(value_parser!(u64).range(1..=16777216))
+    value_word(alloc, "memo", "N", help).value_parser(value_parser!(u64).range(
+        1..=MOST_MEMO as i64,
+    ))
 }
 
 /// How much work may be done.
@@ -56,7 +59,7 @@ pub fn work_word<'a>(alloc: Global, help: &'a str) -> Arg<'a> {
 }
 
 /// The command with the words of a run on pattern files for their rules, and for why one is refused.
-pub fn with_rules<'a>(alloc: Global, command: Command<'a>) -> Result<Command<'a>, AllocError> {
+pub fn with_rule_words<'a>(alloc: Global, command: Command<'a>) -> Result<Command<'a>, AllocError> {
     command.args(vec![in alloc;
         value_word(
             alloc,

@@ -3,9 +3,9 @@
 ghost use Rattle.std.specs.Prelude.{◌≡◌};
 
 use crate::texts;
-use crate::words::arguments::{file_word, value_word, with_rules};
+use crate::words::arguments::{file_word, value_word, with_rule_words};
 use crate::words::pattern::{after_word, pattern_extras, with_limits};
-use crate::words::values::word_of;
+use crate::words::values::value_of;
 use crate::words::{Request, WordsFault};
 use ca_claims::Limits;
 use ca_draw::{ImageFormat, MOST_SIDE};
@@ -51,7 +51,7 @@ pub fn draw_command<'a>(alloc: Global) -> Result<Command<'a>, AllocError> {
             format_word(alloc),
             after_word(alloc),
         ]?)?;
-    let draw = with_rules(alloc, draw)?;
+    let draw = with_rule_words(alloc, draw)?;
     with_limits(alloc, draw)
 }
 
@@ -96,7 +96,7 @@ fn format_word<'a>(alloc: Global) -> Arg<'a> {
 
 /// What the words of `draw` ask for.
 pub fn draw_request(alloc: Global, words: &ArgMatches<'_>) -> Result<Request, WordsFault> {
-    let path = word_of(alloc, words, "FILE")?;
+    let path = value_of(alloc, words, "FILE")?;
     let extras = pattern_extras(alloc, words)?;
     let words = draw_words(alloc, words)?;
     Ok(Request::Draw {
@@ -109,7 +109,7 @@ pub fn draw_request(alloc: Global, words: &ArgMatches<'_>) -> Result<Request, Wo
 fn draw_words(alloc: Global, words: &ArgMatches<'_>) -> Result<DrawWords, WordsFault> {
     let scale: Option<u8> = words.get_one("scale");
     let view = View {
-        corner: corner_of(alloc, words)?,
+        corner: corner_value(alloc, words)?,
         size: size_of(alloc, words)?,
         scale,
     };
@@ -121,7 +121,7 @@ fn draw_words(alloc: Global, words: &ArgMatches<'_>) -> Result<DrawWords, WordsF
 }
 
 // The cell of `--at X,Y`, where that stands there.
-fn corner_of(alloc: Global, words: &ArgMatches<'_>) -> Result<Option<Spot>, WordsFault> {
+fn corner_value(alloc: Global, words: &ArgMatches<'_>) -> Result<Option<Spot>, WordsFault> {
     let Some(word) = words.get_str("at") else {
         return Ok(None);
     };

@@ -3,7 +3,8 @@
 ghost use Rattle.ca_claims.specs.Limited.{AreGoodLimits};
 
 use crate::words::arguments::{flag_word, memo_word, work_word};
-use ca_claims::{Limits, MOST_MEMO};
+use ca_claims::Limits;
+use ca_plane::limits::MOST_MEMO;
 use clap::{ArgMatches, Command};
 use std::alloc::{AllocError, Global};
 

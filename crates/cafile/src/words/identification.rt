@@ -1,22 +1,20 @@
 //! The words of `identify`.
 
 ghost use Rattle.std.specs.Prelude.{◌≤◌};
-ghost use Rattle.ca_claims.specs.Text.{longest_period, most_generations};
+ghost use Rattle.ca_plane.specs.Limits.{longest_period, most_generations};
 
 use crate::texts;
-use crate::words::arguments::{path_words, value_word, with_rules};
+use crate::words::arguments::{path_words, value_word, with_rule_words};
 use crate::words::extras::{Extras, extras_of, with_extras};
 use crate::words::pattern::after_word;
-use crate::words::values::{path_of, words_of};
+use crate::words::values::{path_value, values_of};
 use crate::words::{Request, WordsFault};
-use ca_plane::limits::MOST_GENERATIONS;
+use ca_plane::limits::{LONGEST_PERIOD, MOST_GENERATIONS};
 use clap::{Arg, ArgMatches, Command, value_parser};
 use std::alloc::{AllocError, Global};
 
-/// How many generations of a pattern are looked at, unless that is set, and at most.
+/// How many generations of a pattern are looked at, unless that is set.
 const USUAL_LIMIT: u64 = 65536;
-
-const MOST_LIMIT: u64 = 4294967295;
 
 /// What a run of `identify` is given and asked for besides its pattern files.
 #[derive(Drop)]
@@ -40,7 +38,7 @@ impl IdentifyExtras {
         ensures some { 1 ≤ result }
         ensures most { result ≤ longest_period }
     {
-        self.limit.unwrap_or(USUAL_LIMIT).clamp(1, MOST_LIMIT)
+        self.limit.unwrap_or(USUAL_LIMIT).clamp(1, LONGEST_PERIOD)
     }
 
     /// How many generations on that begins. The words keep them within their limit, and more are brought within.
@@ -63,7 +61,7 @@ pub fn identify_command<'a>(alloc: Global) -> Result<Command<'a>, AllocError> {
         ))?
         .arg(limit_word(alloc))?
         .arg(after_word(alloc))?;
-    let identify = with_rules(alloc, identify)?;
+    let identify = with_rule_words(alloc, identify)?;
     with_extras(alloc, identify)
 }
 
@@ -74,12 +72,12 @@ fn limit_word<'a>(alloc: Global) -> Arg<'a> {
         "N",
         "How many generations to look at: 1 to 4294967295; unless set, 65536",
     )
-    .value_parser(value_parser!(u64).range(1..=4294967295))
+    .value_parser(value_parser!(u64).range(1..=LONGEST_PERIOD as i64))
 }
 
 /// What the words of `identify` ask for.
 pub fn identify_request(alloc: Global, words: &ArgMatches<'_>) -> Result<Request, WordsFault> {
-    let paths = words_of(alloc, words, "FILE")?;
+    let paths = values_of(alloc, words, "FILE")?;
     let extras = identify_extras(alloc, words)?;
     Ok(Request::Identify { paths, extras })
 }
@@ -88,8 +86,8 @@ fn identify_extras(alloc: Global, words: &ArgMatches<'_>) -> Result<IdentifyExtr
     Ok(IdentifyExtras {
         limit: words.get_one("limit"),
         after: words.get_one("after"),
-        rule: path_of(alloc, words, "rule")?,
-        folder: path_of(alloc, words, "rules")?,
+        rule: path_value(alloc, words, "rule")?,
+        folder: path_value(alloc, words, "rules")?,
         extras: extras_of(words),
     })
 }

@@ -3,9 +3,11 @@
 ghost use Rattle.ca_claims.specs.Limited.{AreGoodLimits};
 
 use crate::texts;
-use crate::words::arguments::{file_word, flag_word, memo_word, value_word, with_rules, work_word};
+use crate::words::arguments::{
+    file_word, flag_word, memo_word, value_word, with_rule_words, work_word,
+};
 use crate::words::extras::limits_of;
-use crate::words::values::{path_of, word_of};
+use crate::words::values::{path_value, value_of};
 use crate::words::{Request, WordsFault};
 use ca_claims::{Limits, Target};
 use clap::{Arg, ArgMatches, Command, value_parser};
@@ -47,7 +49,7 @@ pub fn show_command<'a>(alloc: Global) -> Result<Command<'a>, AllocError> {
         )
         .after_help(texts::SHOW)
         .arg(file_word(alloc))?;
-    let show = with_rules(alloc, show)?.arg(after_word(alloc))?;
+    let show = with_rule_words(alloc, show)?.arg(after_word(alloc))?;
     with_limits(alloc, show)
 }
 
@@ -58,7 +60,7 @@ pub fn convert_command<'a>(alloc: Global) -> Result<Command<'a>, AllocError> {
         .after_help(texts::CONVERT)
         .arg(file_word(alloc))?
         .arg(target_word(alloc))?;
-    let convert = with_rules(alloc, convert)?.arg(after_word(alloc))?;
+    let convert = with_rule_words(alloc, convert)?.arg(after_word(alloc))?;
     with_limits(alloc, convert)
 }
 
@@ -105,14 +107,14 @@ pub fn with_limits<'a>(alloc: Global, command: Command<'a>) -> Result<Command<'a
 
 /// What the words of `show` ask for.
 pub fn show_request(alloc: Global, words: &ArgMatches<'_>) -> Result<Request, WordsFault> {
-    let path = word_of(alloc, words, "FILE")?;
+    let path = value_of(alloc, words, "FILE")?;
     let extras = pattern_extras(alloc, words)?;
     Ok(Request::Show { path, extras })
 }
 
 /// What the words of `convert` ask for.
 pub fn convert_request(alloc: Global, words: &ArgMatches<'_>) -> Result<Request, WordsFault> {
-    let path = word_of(alloc, words, "FILE")?;
+    let path = value_of(alloc, words, "FILE")?;
     let target = target_of(words)?;
     let extras = pattern_extras(alloc, words)?;
     Ok(Request::Convert {
@@ -133,8 +135,8 @@ fn target_of(words: &ArgMatches<'_>) -> Result<Target, WordsFault> {
 /// What the words say of a pattern's rule, its generation, and what that may take.
 pub fn pattern_extras(alloc: Global, words: &ArgMatches<'_>) -> Result<PatternExtras, WordsFault> {
     Ok(PatternExtras {
-        rule: path_of(alloc, words, "rule")?,
-        folder: path_of(alloc, words, "rules")?,
+        rule: path_value(alloc, words, "rule")?,
+        folder: path_value(alloc, words, "rules")?,
         explained: words.get_flag("explain"),
         after: words.get_one("after"),
         progress: words.get_flag("progress"),

@@ -5,7 +5,7 @@ use clap::ArgMatches;
 use std::alloc::Global;
 
 /// The value of a word that is required.
-pub fn word_of(alloc: Global, words: &ArgMatches<'_>, name: &str) -> Result<String, WordsFault> {
+pub fn value_of(alloc: Global, words: &ArgMatches<'_>, name: &str) -> Result<String, WordsFault> {
     let Some(word) = words.get_str(name) else {
         return Err(WordsFault::Usage);
     };
@@ -13,7 +13,7 @@ pub fn word_of(alloc: Global, words: &ArgMatches<'_>, name: &str) -> Result<Stri
 }
 
 /// The values of a word that is required.
-pub fn words_of(
+pub fn values_of(
     alloc: Global,
     words: &ArgMatches<'_>,
     name: &str,
@@ -38,7 +38,7 @@ fn copy_word(alloc: Global, word: &str) -> Result<String, WordsFault> {
 }
 
 /// The path that is given after a word, where that stands there.
-pub fn path_of(
+pub fn path_value(
     alloc: Global,
     words: &ArgMatches<'_>,
     name: &str,
@@ -46,6 +46,6 @@ pub fn path_of(
     if !words.contains_id(name) {
         return Ok(None);
     }
-    let path = word_of(alloc, words, name)?;
+    let path = value_of(alloc, words, name)?;
     Ok(Some(path))
 }

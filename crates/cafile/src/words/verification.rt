@@ -3,7 +3,7 @@
 use crate::texts;
 use crate::words::arguments::{flag_word, folder_word, path_words};
 use crate::words::extras::{extras_of, with_extras};
-use crate::words::values::{path_of, words_of};
+use crate::words::values::{path_value, values_of};
 use crate::words::{Request, WordsFault};
 use clap::{ArgMatches, Command};
 use std::alloc::{AllocError, Global};
@@ -31,8 +31,8 @@ pub fn verify_command<'a>(alloc: Global) -> Result<Command<'a>, AllocError> {
 
 /// What the words of `verify` ask for.
 pub fn verify_request(alloc: Global, words: &ArgMatches<'_>) -> Result<Request, WordsFault> {
-    let paths = words_of(alloc, words, "CLAIMS")?;
-    let folder = path_of(alloc, words, "rules")?;
+    let paths = values_of(alloc, words, "CLAIMS")?;
+    let folder = path_value(alloc, words, "rules")?;
     let extras = extras_of(words);
     Ok(Request::Verify {
         paths,

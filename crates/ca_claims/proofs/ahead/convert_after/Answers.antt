@@ -1,15 +1,15 @@
 use Rattle.std.proofs.Common.{sym, subst}
 use Rattle.ca_claims.specs.declared.reached.ReachFault.{ReachFault}
-use Rattle.ca_claims.specs.declared.refused.Refused.{Refused}
+use Rattle.ca_claims.specs.declared.detailed_fault.DetailedFault.{DetailedFault}
 use Rattle.ca_claims.specs.Ahead.{IsConvertFaultAfter}
-use Rattle.ca_claims.specs.Refused.{HasReachDetail}
+use Rattle.ca_claims.specs.DetailedFault.{HasReachDetail}
 use Rattle.ca_claims.proofs.ReachedFiles.{reached_unwritten}
-use Rattle.ca_claims.proofs.Told.{undetailed}
+use Rattle.ca_claims.proofs.WrittenForms.{undetailed}
 use Rattle.ca_claims.proofs.ahead.convert_after.Goals as goal
 
 pub returns-clause-fault : goal.returns-clause-fault
 returns-clause-fault g c =
-    subst (λ (r : Refused ReachFault). IsConvertFaultAfter c.args.bytes.now c.args.tables.now c.args.generations c.args.limits.work c.args.target r.fault) (sym c.of-in-Err-text_of_tree.ensures)
+    subst (λ (r : DetailedFault ReachFault). IsConvertFaultAfter c.args.bytes.now c.args.tables.now c.args.generations c.args.limits.work c.args.target r.fault) (sym c.of-in-Err-text_of_tree.ensures)
     (reached_unwritten c.args.bytes.now c.args.tables.now c.args.generations c.in_ok-store.field-0 c.in_ok-store.ensures.reached c.args.limits.work c.args.target
     (c.in-Ok-true.ensures.within c.in-Ok-true.field-0-test) c.in-Err-text_of_tree.fault c.in-Err-text_of_tree.ensures.fault)
 

@@ -3,13 +3,13 @@ use Rattle.ca_plane.specs.Limits.{generation_limit}
 use Rattle.ca_quad.specs.Trees.{cell}
 use Rattle.ca_rule.specs.Rule.{rule_value, next_of}
 use Rattle.ca_claims.specs.declared.reached.ReachFault.{ReachFault}
-use Rattle.ca_claims.specs.declared.refused.Refused.{Refused}
+use Rattle.ca_claims.specs.declared.detailed_fault.DetailedFault.{DetailedFault}
 use Rattle.ca_claims.specs.Ahead.{IsReachFault}
 use Rattle.ca_claims.specs.Answers.{HasSmallStates}
 use Rattle.ca_claims.specs.inner.Stages.{IsLaterTree}
 use Rattle.ca_claims.specs.inner.Subjects.{IsPattern}
 use Rattle.ca_claims.proofs.ReachedFiles.{file_reaches, file_needs_run, file_wants_work, file_wants_memory}
-use Rattle.ca_claims.proofs.Told.{read_pattern}
+use Rattle.ca_claims.proofs.WrittenForms.{read_pattern}
 use Rattle.ca_claims.proofs.ahead.run_on.Goals as goal
 
 pub end_of-requires : goal.end_of-requires
@@ -39,7 +39,7 @@ returns-in-Ok-end_of-clause-reached g c =
 
 pub returns-in-Err-Memory-clause-fault : goal.returns-in-Err-Memory-clause-fault
 returns-in-Err-Memory-clause-fault g c =
-    subst (λ (r : Refused ReachFault). IsReachFault c.args.bytes.now c.args.tables.now c.args.generations c.args.limits.work r.fault) (sym c.of-in-Err-Memory.ensures)
+    subst (λ (r : DetailedFault ReachFault). IsReachFault c.args.bytes.now c.args.tables.now c.args.generations c.args.limits.work r.fault) (sym c.of-in-Err-Memory.ensures)
     (file_wants_memory c.read_ruled.new.store c.args.bytes.now c.args.tables.now c.in-Ok.ruled c.in-Ok.ensures.ready)
 
 pub returns-clause-fault : goal.returns-clause-fault
@@ -53,5 +53,5 @@ returns-clause-fault g c =
     let low = subst (λ g. g < generation_limit) c.in-Some.ensures.0 c.in-Some.ensures.1 in
     let need = file_needs_run store c.args.bytes.now c.args.tables.now ruled ready n leaper.spent.used c.end_of.new.leaper.spent.used c.args.limits.work
     c.in-Ok-new.ensures.used (told.work c.in-Err-Work.field-0-is ∙ told.goes_on.spends.limit ∙ c.in-Ok-new.ensures.limit) told.takes in
-    subst (λ (r : Refused ReachFault). IsReachFault c.args.bytes.now c.args.tables.now n c.args.limits.work r.fault) (sym c.of-in-Err-Work.ensures)
+    subst (λ (r : DetailedFault ReachFault). IsReachFault c.args.bytes.now c.args.tables.now n c.args.limits.work r.fault) (sym c.of-in-Err-Work.ensures)
     (file_wants_work store c.args.bytes.now c.args.tables.now ruled ready n low c.args.limits.work need)

@@ -2,20 +2,20 @@ use Rattle.std.proofs.Common.{subst, sym}
 use Rattle.std.specs.Result.{IfErr}
 use Rattle.ca_claims.specs.declared.format.Format.TheVariants.{Rle}
 use Rattle.ca_claims.specs.Converted.{IsConvertFault}
-use Rattle.ca_claims.proofs.Told.{ready_file, converted_ok, refused}
+use Rattle.ca_claims.proofs.WrittenForms.{ready_file, converted_ok, refused}
 use Rattle.ca_claims.proofs.conversion.convert_with_detail.Goals as goal
 
 pub returns-in_ok-ruled-in-Rle-Rle-clause-fault : goal.returns-in_ok-ruled-in-Rle-Rle-clause-fault
 returns-in_ok-ruled-in-Rle-Rle-clause-fault c =
-    subst (λ t. IfErr c.written.result (λ k. IsConvertFault c.args.bytes.now c.args.tables.now t k.fault)) (sym c.in-Rle-Rle.is-1)
-    (refused c.args.bytes.now c.args.tables.now _ _ _ c.in_ok-ruled-in-Rle-Rle.ensures.ready.file _ Rle c.rle_of_plane.result _ c.written.ensures c.rle_of_plane.ensures.fault)
+    subst (λ t. IfErr c.without_detail.result (λ k. IsConvertFault c.args.bytes.now c.args.tables.now t k.fault)) (sym c.in-Rle-Rle.is-1)
+    (refused c.args.bytes.now c.args.tables.now _ _ _ c.in_ok-ruled-in-Rle-Rle.ensures.ready.file _ Rle c.rle_of_plane.result _ c.without_detail.ensures c.rle_of_plane.ensures.fault)
 
 pub returns-in_ok-ruled-in_default-clause-converted : goal.returns-in_ok-ruled-in_default-clause-converted
 returns-in_ok-ruled-in_default-clause-converted c =
     let file = ready_file c.read_ruled.new.store c.args.bytes.now c.args.tables.now _ c.in_ok-ruled-in_default.ensures.ready in
-    converted_ok c.args.bytes.now c.args.tables.now _ _ _ file (λ v. v.items) c.args.target c.text_of_tree.result _ c.written-in_default.ensures c.text_of_tree.ensures.written
+    converted_ok c.args.bytes.now c.args.tables.now _ _ _ file (λ v. v.items) c.args.target c.text_of_tree.result _ c.without_detail-in_default.ensures c.text_of_tree.ensures.written
 
 pub returns-in_ok-ruled-in_default-clause-fault : goal.returns-in_ok-ruled-in_default-clause-fault
 returns-in_ok-ruled-in_default-clause-fault c =
     let file = ready_file c.read_ruled.new.store c.args.bytes.now c.args.tables.now _ c.in_ok-ruled-in_default.ensures.ready in
-    refused c.args.bytes.now c.args.tables.now _ _ _ file _ c.args.target c.text_of_tree.result _ c.written-in_default.ensures c.text_of_tree.ensures.fault
+    refused c.args.bytes.now c.args.tables.now _ _ _ file _ c.args.target c.text_of_tree.result _ c.without_detail-in_default.ensures c.text_of_tree.ensures.fault

@@ -4,7 +4,7 @@ use Rattle.ca_plane.specs.Bytes.{IsWord}
 use Rattle.ca_rle.specs.Tidy.{IsTidyRle}
 use Rattle.ca_rule.specs.Rule.{rule_value}
 use Rattle.ca_claims.proofs.PatternsRead.{listed_in_range, listed_small}
-use Rattle.ca_claims.proofs.Written.{written_rle}
+use Rattle.ca_claims.proofs.WrittenMeanings.{written_rle}
 use Rattle.ca_claims.proofs.conversion.rle_of_plane.Goals as goal
 
 pub write_rle-requires : goal.write_rle-requires

@@ -4,7 +4,7 @@ use Rattle.ca_macro.specs.Tidy.{IsTidyMacrocell}
 use Rattle.ca_quad.specs.Trees.{cell}
 use Rattle.ca_rule.specs.Rule.{rule_value}
 use Rattle.ca_claims.specs.inner.Ready.{IsWrittenAs, AreUnwritten}
-use Rattle.ca_claims.proofs.Written.{plane_is, plane_is_writable, written_ok, unwritten_err, written_macro}
+use Rattle.ca_claims.proofs.WrittenMeanings.{plane_is, plane_is_writable, written_ok, unwritten_err, written_macro}
 use Rattle.ca_claims.proofs.conversion.text_of_tree.Goals as goal
 
 pub rle_of_plane-requires : goal.rle_of_plane-requires

@@ -4,7 +4,7 @@ use Rattle.ca_quad.specs.Trees.{cell}
 use Rattle.ca_quad.proofs.Trims.{trees_stay}
 use Rattle.ca_run.proofs.Trees.{some_as}
 use Rattle.ca_claims.specs.inner.Subjects.{IsNearTree}
-use Rattle.ca_claims.proofs.Leapt.{near_stays, difference_told}
+use Rattle.ca_claims.proofs.LeaptTrees.{near_stays, difference_told}
 use Rattle.ca_claims.proofs.decide.find_difference.Goals as goal
 
 pub difference_of-requires-clause-end : goal.difference_of-requires-clause-end

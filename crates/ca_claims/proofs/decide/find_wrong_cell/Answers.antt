@@ -1,5 +1,5 @@
-use Rattle.ca_run.proofs.Shown.{goes_on_again}
-use Rattle.ca_claims.proofs.Leapt.{near_stays, case_stays, shown_stays, wrong_cell, ok_as}
+use Rattle.ca_run.proofs.ShownPlanes.{goes_on_again}
+use Rattle.ca_claims.proofs.LeaptTrees.{near_stays, case_stays, shown_stays, wrong_cell, ok_as}
 use Rattle.ca_claims.proofs.decide.find_wrong_cell.Goals as goal
 
 pub tree_after-requires : goal.tree_after-requires

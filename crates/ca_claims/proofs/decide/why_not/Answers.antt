@@ -1,6 +1,6 @@
 use Rattle.std.proofs.Common.{◌-◌, refl}
-use Rattle.ca_claims.proofs.Leapt.{bars_stays, death_stays}
-use Rattle.ca_claims.proofs.Reasoned.{live_case, death_is_some, bars_returns, difference_reason, true_at_once, by_death, by_return}
+use Rattle.ca_claims.proofs.LeaptTrees.{bars_stays, death_stays}
+use Rattle.ca_claims.proofs.Reasons.{live_case, death_is_some, bars_returns, difference_reason, true_at_once, by_death, by_return}
 use Rattle.ca_claims.proofs.Spending.{takes_fewer, takes_then, some_runs, all_runs}
 use Rattle.ca_claims.proofs.decide.why_not.Goals as goal
 

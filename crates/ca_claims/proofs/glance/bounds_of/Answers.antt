@@ -5,8 +5,8 @@ use Rattle.ca_quad.specs.Trees.{cell}
 use Rattle.ca_claims.proofs.LaterPlanes.{near_bounds}
 use Rattle.ca_claims.proofs.glance.bounds_of.Goals as goal
 
-pub narrowed-requires : goal.narrowed-requires
-narrowed-requires c =
+pub bounds_of_wide-requires : goal.bounds_of_wide-requires
+bounds_of_wide-requires c =
     let cells = cell c.args.store.now c.args.tree in
     near_bounds c.args.store.now c.count.ensures.sound c.args.tree c.requires c.in-Some.bounds
     (subst (λ found. MatchOption found (IsDead cells) (IsLeastWideBox cells)) c.in-Some.is c.in_ok-bounds.ensures)

@@ -1,9 +1,9 @@
 use Rattle.std.proofs.Common.{refl, sym, subst, ◌∙◌}
 use Rattle.ca_quad.specs.Trees.{cell}
-use Rattle.ca_claims.specs.inner.Glance.{IsTold}
+use Rattle.ca_claims.specs.inner.Glance.{IsSummaryOf}
 use Rattle.ca_claims.specs.inner.Patterns.{rule_of}
 use Rattle.ca_claims.proofs.OneText.{bounds_shown}
-use Rattle.ca_claims.proofs.Told.{read_pattern, ready_file, summed_up}
+use Rattle.ca_claims.proofs.WrittenForms.{read_pattern, ready_file, summed_up}
 use Rattle.ca_claims.proofs.glance.summary_with_detail.Goals as goal
 
 pub returns-in-Rle-clause-summary : goal.returns-in-Rle-clause-summary
@@ -27,4 +27,4 @@ returns-in-Ok-sum_up-clause-summary c =
     let ruled = c.in_ok-ruled-in-Mc.ruled in
     let ready = c.in_ok-ruled-in-Mc.ensures.ready in
     summed_up c.args.bytes.now c.args.tables.now _ _ _ (ready_file nodes c.args.bytes.now c.args.tables.now ruled ready) c.in-Ok-sum_up.summary
-    (subst (λ k. IsTold k (cell nodes ruled.pattern.tree) (rule_of ruled) ruled.pattern.generation c.in-Ok-sum_up.summary) ready.read.loaded.kind c.in-Ok-sum_up.ensures.told)
+    (subst (λ k. IsSummaryOf k (cell nodes ruled.pattern.tree) (rule_of ruled) ruled.pattern.generation c.in-Ok-sum_up.summary) ready.read.loaded.kind c.in-Ok-sum_up.ensures.told)

@@ -6,7 +6,7 @@ use Rattle.ca_claims.specs.Identified.{IsIdentityAfter, IsUnidentifiedAfterFor, 
 use Rattle.ca_claims.specs.inner.Stages.{TakesRunAndSteps}
 use Rattle.ca_claims.specs.inner.Subjects.{ShowsTree, IsPattern}
 use Rattle.ca_claims.proofs.IdentifiedFiles.{file_shows, file_holds, file_needs}
-use Rattle.ca_claims.proofs.Told.{read_pattern}
+use Rattle.ca_claims.proofs.WrittenForms.{read_pattern}
 use Rattle.ca_claims.proofs.identification.identify_after.Goals as goal
 
 pub identity_after-requires-clause-pattern : goal.identity_after-requires-clause-pattern

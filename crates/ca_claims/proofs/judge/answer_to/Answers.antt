@@ -1,6 +1,6 @@
 use Rattle.std.proofs.Common.{◌<◌, map, refl, sym, subst}
 use Rattle.std.specs.List.{AllByRecursion}
-use Rattle.ca_claims.specs.Text.{patterns_of, about}
+use Rattle.ca_claims.specs.Text.{patterns_of, map_patterns}
 use Rattle.ca_claims.specs.Places.{path_at, named_path}
 use Rattle.ca_claims.specs.inner.Patterns.{items}
 use Rattle.ca_claims.specs.inner.Refusals.{IsOnVerdict}
@@ -17,7 +17,7 @@ pub returns : goal.returns
 returns g c = λ files e read.
     let paths = c.args.claims.now.paths in
     let rules = c.args.claims.now.rules in
-    let claim = about (path_at paths) c.claim-asked.result.claim in
+    let claim = map_patterns (path_at paths) c.claim-asked.result.claim in
     let judged = c.verdict_on-judged.ensures files paths rules (record { found = e; read = read }) in
     let same = c.patterns.ensures.claim (c.claim-asked.result.line, claim) c.claim-asked.ensures.claim in
     let noted = c.note_on.ensures files

@@ -3,11 +3,11 @@ use Rattle.std.specs.Prelude.{pos, neg_ℤ}
 use Rattle.std.specs.Str.{bytes_eq}
 use Rattle.std.proofs.lemmas.Bool.{false≢true}
 use Rattle.std.proofs.lemmas.Int.{ints}
-use Rattle.ca_plane.specs.Bytes.{AreDigits, lines_of, words_of}
+use Rattle.ca_plane.specs.Bytes.{AreDigits, lines_of, words_of, text_of}
 use Rattle.ca_claims.specs.declared.claims.line.Kind.{Kind}
 use Rattle.ca_claims.specs.declared.claims.line.Kind.TheVariants.{Still, Oscillator, Spaceship, Becomes, BecomesShifted, Dies}
-use Rattle.ca_claims.specs.Examples.{of_one, still_of, becomes_of, text_of}
-use Rattle.ca_claims.specs.Text.{ClaimTextLine, Version, Rule, Load, Claims, is_second, IsKindAfter, WordsClaim, ClaimWordsSay, HasGoodNumbers, ClaimLinesSay, spoken}
+use Rattle.ca_claims.specs.Examples.{of_one, still_of, becomes_of}
+use Rattle.ca_claims.specs.Text.{ClaimTextLine, Version, Rule, Load, Claims, is_second, IsKindAfter, WordsClaim, ClaimWordsSay, HasGoodNumbers, ClaimLinesSay, said_lines}
 use Rattle.ca_claims.specs.TextFaults.{HasClaimLine, AreMisspelledClaimWords, HaveBadNumber, AskUnknown, LoadTaken}
 use Rattle.ca_claims.proofs.OneMeaning.{claim_begins, not_version}
 use Rattle.ca_claims.proofs.laws.worked_examples.Goals as goal
@@ -82,7 +82,7 @@ returns-clause-none_needed c = λ path h. h.0 refl
 
 -- a line is faulty after lines that say this
 faulty : (bytes : List ℕ) (P : List ClaimTextLine → List (List ℕ) → Type 0) (before : List (List ℕ)) (said : List (Option ClaimTextLine)) (line : List ℕ) → ClaimLinesSay [] before said
-    → lines_of bytes ≡ before ++ line ∷ [] → P (spoken said) (words_of line) → HasClaimLine bytes (length before + 1) P
+    → lines_of bytes ≡ before ++ line ∷ [] → P (said_lines said) (words_of line) → HasClaimLine bytes (length before + 1) P
 faulty bytes P before said line good among holds =
     record { before = before; line = line; later = []; said = said; good = good; among = among; number = refl; holds = holds }
 

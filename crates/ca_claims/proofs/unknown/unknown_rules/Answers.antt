@@ -3,7 +3,7 @@ use Rattle.std.specs.List.{AllZip}
 use Rattle.std.specs.Option.{MatchOption, option_copied}
 use Rattle.ca_rule.specs.TableNext.{TableRule}
 use Rattle.ca_claims.specs.Means.{contents, bytes_at}
-use Rattle.ca_claims.specs.Needed.{IsNeeded}
+use Rattle.ca_claims.specs.NeededFiles.{IsNeeded}
 use Rattle.ca_claims.specs.Text.{ClaimText}
 use Rattle.ca_claims.specs.Answers.{AreTables}
 use Rattle.ca_claims.specs.inner.Kept.{AreFound}
@@ -26,8 +26,8 @@ module _ (c : After-deref-2) where
   same : map option_copied c.deref-2.result.now ≡ map (bytes_at files) asked.paths
   same = subst (λ l. map option_copied l ≡ map (bytes_at files) asked.paths) (sym c.deref-2.ensures.value) are.found_at
 
-  marked : AllZip (λ path mark. IsTrue mark ↔ IsNeeded asked path) asked.paths c.deref.result.now
-  marked = subst (AllZip (λ path mark. IsTrue mark ↔ IsNeeded asked path) asked.paths) (sym c.deref.ensures.value) c.in_ok-marks.ensures.needed
+  with_marks : AllZip (λ path mark. IsTrue mark ↔ IsNeeded asked path) asked.paths c.deref.result.now
+  with_marks = subst (AllZip (λ path mark. IsTrue mark ↔ IsNeeded asked path) asked.paths) (sym c.deref.ensures.value) c.in_ok-marks.ensures.needed
 
   known : AreTables files asked.rules c.in-Some.tables.now
   known =
@@ -37,13 +37,13 @@ module _ (c : After-deref-2) where
 pub names_of-requires : goal.names_of-requires
 names_of-requires c =
     let a = (goal.at.names_of-requires c).After-deref-2 in
-    as_many_marks (files a) (asked a) c.deref.result.now c.deref-2.result.now c.in-Some.tables.now (same a) (marked a) (known a)
+    as_many_marks (files a) (asked a) c.deref.result.now c.deref-2.result.now c.in-Some.tables.now (same a) (with_marks a) (known a)
 
 pub returns-clause-names : goal.returns-clause-names
 returns-clause-names c =
     let a = (goal.at.returns-clause-names c).After-deref-2 in
     if_ok_as c.names_of.result _ (AreUnknownRules (files a) (asked a))
-    (asked_are_unknown (files a) (asked a) c.deref.result.now c.deref-2.result.now c.in-Some.tables.now (same a) (marked a) (known a)) c.names_of.ensures
+    (asked_are_unknown (files a) (asked a) c.deref.result.now c.deref-2.result.now c.in-Some.tables.now (same a) (with_marks a) (known a)) c.names_of.ensures
 
 pub returns-in_default-clause-names : goal.returns-in_default-clause-names
 returns-in_default-clause-names c =

@@ -2,7 +2,7 @@ use Rattle.std.proofs.Common.{◌≡◌, ◌<◌, length, map, sym, subst}
 use Rattle.std.specs.List.{AllByRecursion}
 use Rattle.std.specs.Option.{option_copied}
 use Rattle.ca_rule.specs.Rule.{rule_value, next_of}
-use Rattle.ca_claims.specs.Text.{patterns_of, about}
+use Rattle.ca_claims.specs.Text.{patterns_of, map_patterns}
 use Rattle.ca_claims.specs.Places.{path_at}
 use Rattle.ca_claims.specs.Means.{bytes_at}
 use Rattle.ca_claims.specs.declared.refusal.About.TheVariants.{Claim}
@@ -13,7 +13,7 @@ use Rattle.ca_claims.specs.Answers.{HasCause}
 use Rattle.ca_claims.specs.inner.Refusals.{IsJudgedOn}
 use Rattle.ca_claims.specs.inner.Patterns.{items}
 use Rattle.ca_claims.specs.inner.Decided.{IsDecided}
-use Rattle.ca_claims.specs.inner.Prepared.{IsPrepared}
+use Rattle.ca_claims.specs.inner.PreparedClaim.{IsPrepared}
 use Rattle.ca_claims.proofs.Causes.{once_paths, once_all, cause_of_all, passed_on, is_subject, true_verdict}
 use Rattle.ca_claims.proofs.Parts.{on_all}
 use Rattle.ca_claims.proofs.verifier.judge.Goals as goal
@@ -25,7 +25,7 @@ prepare-requires-clause-within g c =
 
 pub returns-in_err-prepared : goal.returns-in_err-prepared
 returns-in_err-prepared g c = λ files paths rules on.
-    let claim = about (path_at paths) c.args.task.now.claim.now in
+    let claim = map_patterns (path_at paths) c.args.task.now.claim.now in
     let each = map (path_at paths) (items c.places_of-places.result) in
     let once = once_paths paths c.args.task.now.claim.now (items c.places_of-places.result) c.places_of-places.ensures in
     let refusal = c.in_err-prepared.field-0.0 in

@@ -1,6 +1,6 @@
 use Rattle.std.proofs.Common.{◌≢◌, [], subst, sym}
 use Rattle.ca_claims.specs.Means.{contents}
-use Rattle.ca_claims.proofs.Answered.{IsAnswered, one_more, some_claims, on_error}
+use Rattle.ca_claims.proofs.JudgedInTurn.{IsAnswered, one_more, some_claims, on_error}
 use Rattle.ca_claims.proofs.verifier.verify.Goals as goal
 
 pub claims-preserved : goal.claims-preserved

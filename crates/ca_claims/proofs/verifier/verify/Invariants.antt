@@ -1,6 +1,6 @@
 use Rattle.std.proofs.Common.{length}
 use Rattle.ca_claims.specs.Means.{contents}
-use Rattle.ca_claims.proofs.Answered.{IsAnswered}
+use Rattle.ca_claims.proofs.JudgedInTurn.{IsAnswered}
 use Rattle.ca_claims.proofs.verifier.verify.Given as goal
 
 -- the claims that are judged have true answers, and the others are left

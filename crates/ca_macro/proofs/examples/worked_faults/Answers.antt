@@ -6,7 +6,7 @@ use Rattle.ca_plane.specs.Bytes.{text_of}
 use Rattle.ca_macro.specs.Examples.{after_first, cut_numbers_text}
 use Rattle.ca_macro.specs.inner.Leaves.{leaf_cells}
 use Rattle.ca_macro.proofs.Leaves.{leaf_found}
-use Rattle.ca_macro.proofs.Worked.{numbers_found, faulty, faulty_after_leaf, own_number, four_numbers, bad_byte}
+use Rattle.ca_macro.proofs.WorkedExamples.{numbers_found, faulty, faulty_after_leaf, own_number, four_numbers, bad_byte}
 use Rattle.ca_macro.proofs.examples.worked_faults.Goals as goal
 
 -- a leaf's level isn't 4

@@ -4,7 +4,7 @@ use Rattle.ca_macro.specs.File.{Nothing, Rule, Generation, Adds}
 use Rattle.ca_macro.specs.Examples.{glider_leaf, cut_leaf, golly_leaf, mixed_leaf}
 use Rattle.ca_macro.proofs.FileOrFault.{said_file}
 use Rattle.ca_macro.proofs.Leaves.{leaf_found}
-use Rattle.ca_macro.proofs.Worked.{numbers_found}
+use Rattle.ca_macro.proofs.WorkedExamples.{numbers_found}
 use Rattle.ca_macro.proofs.examples.worked_files.Goals as goal
 
 pub returns-clause-glider : goal.returns-clause-glider

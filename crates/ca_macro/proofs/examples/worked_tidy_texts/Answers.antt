@@ -6,7 +6,7 @@ use Rattle.ca_quad.specs.Trees.{IsWithinLevel}
 use Rattle.ca_macro.specs.Nodes.{Cells, Parts}
 use Rattle.ca_macro.specs.Tidy.{Fits}
 use Rattle.ca_macro.specs.Examples.{glider_file, glider, cross_file, cross}
-use Rattle.ca_macro.proofs.Worked.{fits_found, spelled_by, tidy_found}
+use Rattle.ca_macro.proofs.WorkedExamples.{fits_found, spelled_by, tidy_found}
 use Rattle.ca_macro.proofs.examples.worked_tidy_texts.Goals as goal
 
 -- the places of the glider, and those of the cross

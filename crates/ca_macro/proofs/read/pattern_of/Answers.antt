@@ -3,7 +3,7 @@ use Rattle.std.specs.List.{flat_map}
 use Rattle.ca_plane.specs.Limits.{default_rule}
 use Rattle.ca_plane.specs.Plane.{cell}
 use Rattle.ca_quad.specs.Trees.{cell as tree_cell}
-use Rattle.ca_macro.specs.File.{added}
+use Rattle.ca_macro.specs.File.{added_nodes}
 use Rattle.ca_macro.specs.Shown.{picture_of_nodes}
 use Rattle.ca_macro.proofs.KeptSquares.{picture_states}
 use Rattle.ca_macro.proofs.Ranges.{entries_in_range, cells_in_range, range_as}
@@ -13,16 +13,16 @@ use Rattle.ca_macro.proofs.read.pattern_of.Goals as goal
 pub returns-in_err-tree-clause-fault : goal.returns-in_err-tree-clause-fault
 returns-in_err-tree-clause-fault c =
     passed_on _ c.in_err-tree.field-0.0 _ c.from_residual-in_err-tree.ensures.1 (λ said read.
-    let picture = picture_of_nodes (flat_map added said) in
+    let picture = picture_of_nodes (flat_map added_nodes said) in
     let root = tree_cell c.root.new.store c.in_ok-root.root in
     elim c.in_err-tree.ensures.fault [
       | inl memory ↦ inl memory
-      | inr range ↦ inr (range.0, λ within. range.1 (range_as (cell picture) root (λ x y. sym (c.in_ok-root.ensures.cells (flat_map added said) read.squares x y)) (cells_in_range picture within)))
+      | inr range ↦ inr (range.0, λ within. range.1 (range_as (cell picture) root (λ x y. sym (c.in_ok-root.ensures.cells (flat_map added_nodes said) read.squares x y)) (cells_in_range picture within)))
     ])
 
 pub returns-clause-found : goal.returns-clause-found
 returns-clause-found c = λ said read.
-    let nodes = flat_map added said in
+    let nodes = flat_map added_nodes said in
     let picture = picture_of_nodes nodes in
     let root = tree_cell c.root.new.store c.in_ok-root.root in
     let shown = c.in_ok-root.ensures.cells nodes read.squares in

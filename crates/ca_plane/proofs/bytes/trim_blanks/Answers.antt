@@ -1,5 +1,5 @@
 use Rattle.std.proofs.Common.{sym, ◌∙◌}
-use Rattle.ca_plane.proofs.Trimmed.{behind_blank, behind_other}
+use Rattle.ca_plane.proofs.TrimmedBytes.{behind_blank, behind_other}
 use Rattle.ca_plane.proofs.bytes.trim_blanks.Goals as goal
 
 pub returns-then-not-is_blank : goal.returns-then-not-is_blank

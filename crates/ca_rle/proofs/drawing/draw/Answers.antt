@@ -1,6 +1,6 @@
 use Rattle.std.proofs.Common.{[], ◌∷◌, ◌++◌}
 use Rattle.ca_rle.proofs.NoFault.{no_bad_item}
-use Rattle.ca_rle.proofs.Pictured.{next_is, drawn_more, drawn_all}
+use Rattle.ca_rle.proofs.DrawnItems.{next_is, drawn_more, drawn_all}
 use Rattle.ca_rle.proofs.drawing.draw.Goals as goal
 
 pub good_item-requires : goal.good_item-requires

@@ -1,6 +1,6 @@
 use Rattle.std.proofs.Common.{List, length}
 use Rattle.ca_rle.specs.declared.item.Item.{Item}
-use Rattle.ca_rle.proofs.Pictured.{IsDrawn}
+use Rattle.ca_rle.proofs.DrawnItems.{IsDrawn}
 use Rattle.ca_rle.proofs.drawing.draw.Given as goal
 
 -- the items so far were drawn

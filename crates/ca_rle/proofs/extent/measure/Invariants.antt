@@ -1,6 +1,6 @@
 use Rattle.std.proofs.Common.{List, length}
 use Rattle.ca_rle.specs.declared.item.Item.{Item}
-use Rattle.ca_rle.proofs.Measured.{IsMeasured}
+use Rattle.ca_rle.proofs.MeasuredItems.{IsMeasured}
 use Rattle.ca_rle.proofs.extent.measure.Given as goal
 
 -- the items so far were measured

@@ -1,7 +1,7 @@
 use Rattle.std.proofs.Common.{ap, unwrap_or}
 use Rattle.ca_plane.specs.Limits.{default_rule}
 use Rattle.ca_rle.proofs.FaultAt.{body_fault_at}
-use Rattle.ca_rle.proofs.Judged.{file, is_file, too_far, same_corner, too_many, within_limits}
+use Rattle.ca_rle.proofs.TextJudgements.{file, is_file, too_far, same_corner, too_many, within_limits}
 use Rattle.ca_rle.proofs.fault_line.good_text.Goals as goal
 
 pub in_text-requires-in-Err-measure : goal.in_text-requires-in-Err-measure

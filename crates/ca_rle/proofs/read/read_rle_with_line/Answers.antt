@@ -11,4 +11,4 @@ pub returns-clause-found : goal.returns-clause-found
 returns-clause-found c =
     let text = c.in_ok-text.ensures.found in
     let cells = shown _ text.0 _ text.1 _ c.in_ok-cells.ensures.shown in
-    (text.0, text.1.is_file, text.1.within, (parts _ text.0 _ text.1 _ _ _ cells c.in_ok-rule_of.ensures refl, c.in_ok-cells.ensures.kept))
+    (text.0, text.1.is_file, text.1.within, (parts _ text.0 _ text.1 _ _ _ cells c.in_ok-rule_text_of.ensures refl, c.in_ok-cells.ensures.kept))

@@ -1,7 +1,7 @@
 use Rattle.std.proofs.Common.{sym, ap, ◌∙◌, not, length, arith}
 use Rattle.ca_plane.specs.Bytes.{is_blank, is_line_end, is_end_or}
 use Rattle.ca_plane.proofs.Fronts.{rest_ends}
-use Rattle.ca_rle.proofs.Skipped.{line_start, comment_start, no_blank_at_end, rest_length}
+use Rattle.ca_rle.proofs.SkippedSpace.{line_start, comment_start, no_blank_at_end, rest_length}
 use Rattle.ca_rle.proofs.unit.after_line_start.Goals as goal
 
 pub returns-then-not-starts_with-clause-white : goal.returns-then-not-starts_with-clause-white

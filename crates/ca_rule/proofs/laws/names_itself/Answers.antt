@@ -1,5 +1,5 @@
 use Rattle.std.proofs.Common.{◌∙◌}
-use Rattle.ca_rule.proofs.Printed.{names_itself}
+use Rattle.ca_rule.proofs.PrintedRules.{names_itself}
 use Rattle.ca_rule.proofs.laws.names_itself.Goals as goal
 
 pub returns : goal.returns

@@ -1,6 +1,6 @@
 use Rattle.std.proofs.Common.{codes, refl, inl, inr, []}
 use Rattle.ca_rule.specs.declared.hood.Hood.TheVariants.{Moore, VonNeumann, Hex}
-use Rattle.ca_rule.proofs.Formed.{spells-no_lists, spells-birth, spells-survival}
+use Rattle.ca_rule.proofs.SpelledDigits.{spells-no_lists, spells-birth, spells-survival}
 use Rattle.ca_rule.proofs.laws.worked_faults.Goals as goal
 
 pub returns-clause-wakes : goal.returns-clause-wakes

@@ -1,7 +1,7 @@
 use Rattle.std.proofs.Common.{codes, refl, inl, inr, []}
 use Rattle.ca_rule.specs.Spelling.{SpellsNoBsRule}
 use Rattle.ca_rule.specs.declared.hood.Hood.TheVariants.{Moore}
-use Rattle.ca_rule.proofs.Formed.{spells-no_lists, spells-birth}
+use Rattle.ca_rule.proofs.SpelledDigits.{spells-no_lists, spells-birth}
 use Rattle.ca_rule.proofs.GenerationsRead.{read-spelled, read-named, none-spelled as generations-none}
 use Rattle.ca_rule.proofs.rule_laws.worked_names.Goals as goal
 

@@ -4,7 +4,7 @@ use Rattle.ca_plane.specs.Plane.{Picture}
 use Rattle.std.proofs.lemmas.List.Elements.{All-push}
 use Rattle.ca_plane.proofs.Pictures.{IsListed-turn, cells_end}
 use Rattle.ca_run.specs.Reach.{IsInReach}
-use Rattle.ca_run.proofs.Reached.{IsOutOfReach-listed}
+use Rattle.ca_run.proofs.ReachedTree.{IsOutOfReach-listed}
 use Rattle.ca_run.proofs.generations.is_all_in_reach.Goals as goal
 
 pub cells-preserved : goal.cells-preserved

@@ -1,8 +1,8 @@
 use Rattle.std.proofs.Common.{◌<◌, refl, arith}
 use Rattle.ca_plane.proofs.Pictures.{IsSparse-none}
-use Rattle.ca_run.proofs.Reached.{states_after}
+use Rattle.ca_run.proofs.ReachedTree.{states_after}
 use Rattle.ca_run.proofs.Windows.{IsReady-next, ShowsWindow-next}
-use Rattle.ca_run.proofs.Written.{IsWritten-corner, IsWritten-set, IsWritten-skip, IsWritten-end, moves_left-fall}
+use Rattle.ca_run.proofs.WrittenGenerations.{IsWritten-corner, IsWritten-set, IsWritten-skip, IsWritten-end, moves_left-fall}
 use Rattle.ca_run.proofs.generations.next_plane.Goals as goal
 
 pub places-init : goal.places-init

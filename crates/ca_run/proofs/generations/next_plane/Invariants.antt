@@ -1,7 +1,7 @@
 use Rattle.ca_plane.specs.Sparse.{IsSparse}
 use Rattle.ca_run.specs.inner.Window.{ShowsWindow}
 use Rattle.ca_run.specs.inner.Written.{IsWritten}
-use Rattle.ca_run.proofs.Written.{moves_left}
+use Rattle.ca_run.proofs.WrittenGenerations.{moves_left}
 use Rattle.ca_run.proofs.generations.next_plane.Given as goal
 
 -- the window shows the cells round its place, and up to there the next generation is written

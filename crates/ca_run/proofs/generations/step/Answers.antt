@@ -1,7 +1,7 @@
 use Rattle.std.proofs.Common.{refl, subst}
 use Rattle.ca_run.specs.declared.fault.RunFault.TheVariants.{Memory}
 use Rattle.ca_run.specs.Stepped.{IsStepped}
-use Rattle.ca_run.proofs.Reached.{not_IsOutOfReach, leaves_at_once, Steps-ok, Steps-err}
+use Rattle.ca_run.proofs.ReachedTree.{not_IsOutOfReach, leaves_at_once, Steps-ok, Steps-err}
 use Rattle.ca_run.proofs.generations.step.Goals as goal
 
 pub returns-in_err-next_plane : goal.returns-in_err-next_plane

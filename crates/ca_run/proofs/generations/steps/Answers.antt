@@ -2,7 +2,7 @@ use Rattle.std.proofs.Common.{◌≡◌, ◌<◌, ap, subst, arith}
 use Rattle.std.specs.Prelude.{Err}
 use Rattle.ca_run.specs.Reach.{LeavesReachBefore}
 use Rattle.ca_run.specs.Stepped.{IsStepped}
-use Rattle.ca_run.proofs.Reached.{after_one_more, LeavesReach-from_after, within_one_more, LeavesReachBefore-after, Steps-ok, Steps-err}
+use Rattle.ca_run.proofs.ReachedTree.{after_one_more, LeavesReach-from_after, within_one_more, LeavesReachBefore-after, Steps-ok, Steps-err}
 use Rattle.ca_run.proofs.generations.steps.Goals as goal
 
 pub generations-init : goal.generations-init

@@ -13,10 +13,10 @@ pub returns-in-Err-text_after : goal.returns-in-Err-text_after
 returns-in-Err-text_after g c =
     let fault = c.in-Err-text_after.refused.fault in
     let told = c.reach_refusal.result.fault in
-    let tables = c.tables_of-tables.result.now in
+    let tables = c.table_slice-tables.result.now in
     let IsFault = IsFormFaultAfter c.args.form c.args.bytes.now tables c.args.generations c.args.limits.work in record {
       writes = told_only g.W.Write.contents _ _ _ _ told (reach_not_write (λ f. f ≡ fault) told c.reach_refusal.ensures.tells)
-          (inr (of_tables _ _ _ _ c.in-Ok.ensures.known c.tables_of-tables.ensures
+          (inr (of_tables _ _ _ _ c.in-Ok.ensures.known c.table_slice-tables.ensures
           (reach_told IsFault fault told c.reach_refusal.ensures.tells c.in-Err-text_after.ensures.fault)));
       detail = c.reach_refusal.ensures.detail c.args.bytes.now c.in-Err-text_after.ensures.detail;
     }
@@ -25,6 +25,6 @@ returns-in-Err-text_after g c =
 pub returns : goal.returns
 returns g c = record {
   writes = text_written g.W.Write.contents c.args.output.now c.write.new.output _ _ _ _ _ (fault_alone c.write.result)
-      (of_tables _ _ _ _ c.in-Ok.ensures.known c.tables_of-tables.ensures c.in-Ok-text_after.ensures.text) c.deref.ensures.value c.write.ensures.status c.write.ensures.sends;
+      (of_tables _ _ _ _ c.in-Ok.ensures.known c.table_slice-tables.ensures c.in-Ok-text_after.ensures.text) c.deref.ensures.value c.write.ensures.status c.write.ensures.sends;
   detail = c.write.ensures.detail c.args.bytes.now;
 }

@@ -1,9 +1,9 @@
 use Rattle.std.proofs.Common.{subst, sym}
-use Rattle.ca_claims.specs.declared.refused.Refused.{Refused}
+use Rattle.ca_claims.specs.declared.detailed_fault.DetailedFault.{DetailedFault}
 use Rattle.ca_tool.specs.declared.fault.ToolFault.{ToolFault}
 use Rattle.ca_tool.specs.Details.{HasRunDetail}
 use Rattle.ca_tool.specs.Drawn.{IsDrawFault}
-use Rattle.ca_tool.proofs.Drawn.{drawn_of, undrawn_of, undrawn_plainly}
+use Rattle.ca_tool.proofs.DrawnFiles.{drawn_of, undrawn_of, undrawn_plainly}
 use Rattle.ca_tool.proofs.drawing.picture.Goals as goal
 
 -- the picture of the tree is that of the plane
@@ -14,7 +14,7 @@ returns-in-Ok-picture_of-clause-drawn g c =
 -- and so is why there is none
 pub returns-clause-fault : goal.returns-clause-fault
 returns-clause-fault g c =
-    subst (λ (r : Refused ToolFault). IsDrawFault c.args.bytes.now c.args.tables.now c.args.request r.fault) (sym c.of.ensures)
+    subst (λ (r : DetailedFault ToolFault). IsDrawFault c.args.bytes.now c.args.tables.now c.args.request r.fault) (sym c.of.ensures)
     (undrawn_of c.args.bytes.now c.args.tables.now c.args.request c.in-Ok.reached c.in-Err-picture_of.fault c.in-Ok.ensures.reached c.in-Err-picture_of.ensures.fault)
 
 pub returns-clause-detail : goal.returns-clause-detail

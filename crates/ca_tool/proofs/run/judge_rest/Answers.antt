@@ -1,5 +1,5 @@
 use Rattle.std.proofs.Common.{[]}
-use Rattle.ca_tool.proofs.Judged.{judged_none, judged_more}
+use Rattle.ca_tool.proofs.ReportedClaims.{judged_none, judged_more}
 use Rattle.ca_tool.proofs.run.judge_rest.Goals as goal
 
 pub claims-init : goal.claims-init

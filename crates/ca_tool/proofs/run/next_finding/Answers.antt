@@ -1,4 +1,4 @@
-use Rattle.ca_tool.proofs.Judged.{judged_one}
+use Rattle.ca_tool.proofs.ReportedClaims.{judged_one}
 use Rattle.ca_tool.proofs.run.next_finding.Goals as goal
 
 pub returns : goal.returns

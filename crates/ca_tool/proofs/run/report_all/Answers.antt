@@ -1,6 +1,6 @@
 use Rattle.std.proofs.Common.{rules, [], refl}
 use Rattle.std.proofs.KnownBytes.{Appends-nil}
-use Rattle.ca_tool.proofs.Judged.{judged_none, report_whole, report_in_part}
+use Rattle.ca_tool.proofs.ReportedClaims.{judged_none, report_whole, report_in_part}
 use Rattle.ca_tool.proofs.run.report_all.Goals as goal
 
 pub claims-init : goal.claims-init

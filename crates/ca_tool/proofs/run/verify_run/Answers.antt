@@ -1,8 +1,8 @@
 use Rattle.std.proofs.Common.{refl, subst}
 use Rattle.ca_claims.specs.Judging.{Judging}
 use Rattle.ca_tool.specs.Runs.{WritesPlainReport}
-use Rattle.ca_tool.proofs.Judged.{plain_report, plain_part}
-use Rattle.ca_tool.proofs.Written.{writes_weaker}
+use Rattle.ca_tool.proofs.ReportedClaims.{plain_report, plain_part}
+use Rattle.ca_tool.proofs.WrittenTexts.{writes_weaker}
 use Rattle.ca_tool.proofs.run.verify_run.Goals as goal
 
 -- the judge had all claims of the text, and those that aren't reported have answers too

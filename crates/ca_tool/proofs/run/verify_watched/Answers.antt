@@ -1,8 +1,8 @@
 use Rattle.std.proofs.Common.{subst}
 use Rattle.ca_claims.specs.Judging.{Judging}
 use Rattle.ca_tool.specs.Runs.{WritesReport}
-use Rattle.ca_tool.proofs.Judged.{report_on_first}
-use Rattle.ca_tool.proofs.Written.{writes_weaker}
+use Rattle.ca_tool.proofs.ReportedClaims.{report_on_first}
+use Rattle.ca_tool.proofs.WrittenTexts.{writes_weaker}
 use Rattle.ca_tool.proofs.run.verify_watched.Goals as goal
 
 -- the judge had all claims of the text, and those that were judged are the first ones

@@ -1,6 +1,6 @@
 use Rattle.std.proofs.Common.{◌-◌, refl, arith}
-use Rattle.ca_run.proofs.Shown.{goes_on_again}
-use Rattle.ca_claims.proofs.Leapt.{pattern_stays}
+use Rattle.ca_run.proofs.ShownPlanes.{goes_on_again}
+use Rattle.ca_claims.proofs.LeaptTrees.{pattern_stays}
 use Rattle.ca_claims.proofs.Spending.{takes_one_more, takes_fewer}
 use Rattle.ca_claims.proofs.LifeSpans.{dead_by_middle, lives_at_middle, span_found}
 use Rattle.ca_claims.proofs.decide.deaths.life_span.Goals as goal

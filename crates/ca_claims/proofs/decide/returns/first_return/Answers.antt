@@ -2,12 +2,12 @@ use Rattle.std.proofs.Common.{◌-◌, rules, arith, refl, sym, subst, w64, SFit
 use Rattle.std.specs.Prelude.{ℤ}
 use Rattle.std.proofs.lemmas.Int.{to_z-of_z}
 use Rattle.ca_run.proofs.Leap.{goes_on_same}
-use Rattle.ca_run.proofs.Shown.{goes_on_again}
+use Rattle.ca_run.proofs.ShownPlanes.{goes_on_again}
 use Rattle.ca_plane.specs.Plane.{Picture}
 use Rattle.ca_claims.specs.Truth.{ShowsNothingBarred}
 use Rattle.ca_claims.specs.inner.Divisors.{AreDivisors}
 use Rattle.ca_claims.specs.inner.Subjects.{ShowsTree, AreLeft, IsBackBy}
-use Rattle.ca_claims.proofs.Leapt.{bars_stays, shows_stays}
+use Rattle.ca_claims.proofs.LeaptTrees.{bars_stays, shows_stays}
 use Rattle.ca_claims.proofs.DividedReturns.{all_left, all_left_from, one_fewer, one_fewer_from, none_left, found_first}
 use Rattle.ca_claims.proofs.Spending.{takes_none, takes_one_more, takes_fewer}
 use Rattle.ca_claims.proofs.decide.returns.first_return.Goals as goal

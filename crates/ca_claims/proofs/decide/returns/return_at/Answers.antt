@@ -1,7 +1,7 @@
 use Rattle.std.proofs.Common.{refl}
 use Rattle.std.specs.Prelude.{pos, Some, None}
-use Rattle.ca_run.proofs.Shown.{goes_on_again}
-use Rattle.ca_claims.proofs.Leapt.{bars_stays, shows_stays, pattern_stays, ok_as}
+use Rattle.ca_run.proofs.ShownPlanes.{goes_on_again}
+use Rattle.ca_claims.proofs.LeaptTrees.{bars_stays, shows_stays, pattern_stays, ok_as}
 use Rattle.ca_claims.proofs.DividedReturns.{back_here, back_there}
 use Rattle.ca_claims.proofs.Spending.{takes_before}
 use Rattle.ca_claims.proofs.decide.returns.return_at.Goals as goal

@@ -2,7 +2,7 @@ use Rattle.std.proofs.Common.{sym, ◌∙◌}
 use Rattle.ca_plane.specs.Plane as plane
 use Rattle.ca_quad.specs.Trees.{cell}
 use Rattle.ca_claims.proofs.LaterPlanes.{tree_picture}
-use Rattle.ca_claims.proofs.Shown.{population_shown}
+use Rattle.ca_claims.proofs.EqualCells.{population_shown}
 use Rattle.ca_claims.proofs.identification.growth.growth_of.Goals as goal
 
 pub unreachable-requires : goal.unreachable-requires

@@ -3,7 +3,7 @@ use Rattle.std.specs.Prelude.{pos}
 use Rattle.ca_quad.specs.Shifted.{shifted_cells, IsShiftRefused}
 use Rattle.ca_plane.specs.Generations.{cells_after}
 use Rattle.ca_quad.specs.Trees.{cell}
-use Rattle.ca_claims.specs.inner.Stages.{IsNear, IsLaterTree}
+use Rattle.ca_claims.specs.inner.Stages.{IsWithinPlane, IsLaterTree}
 use Rattle.ca_claims.proofs.Corners.{fits_near}
 use Rattle.ca_claims.proofs.Spending.{takes_one, takes_before}
 use Rattle.ca_claims.proofs.Stages.{some_run}
@@ -17,7 +17,7 @@ returns-then-generations-eq0-clause-later g c =
     let cells = cell c.args.leaper.now.nodes c.args.tree in
     subst (λ n. IsLaterTree next cells n c.args.leaper.now.nodes c.args.tree) (sym c.if-generations-eq0.true)
     (record {
-      near = record { is_tree = is.is_tree; low = let low = is.low in omega (arith, low); near = subst (λ n. IsNear (cells_after next cells n)) c.if-generations-eq0.true is.near };
+      near = record { is_tree = is.is_tree; low = let low = is.low in omega (arith, low); near = subst (λ n. IsWithinPlane (cells_after next cells n)) c.if-generations-eq0.true is.near };
       low = is.low;
       trimmed = is.trimmed;
       shows = λ x y. refl;

@@ -4,7 +4,7 @@ use Rattle.std.proofs.lemmas.Int.{to_z-of_z}
 use Rattle.ca_plane.specs.Generations.{cells_after}
 use Rattle.ca_quad.specs.Trees.{cell}
 use Rattle.ca_run.proofs.Leap.{goes_on_same}
-use Rattle.ca_run.proofs.Shown.{goes_on_again}
+use Rattle.ca_run.proofs.ShownPlanes.{goes_on_again}
 use Rattle.ca_claims.specs.inner.Glance.{IsLowTree}
 use Rattle.ca_claims.specs.inner.Stages.{IsStage, IsReturn, IsLaterTree, AreOtherUpTo, IsGrowthOf, TakesSteps}
 use Rattle.ca_claims.specs.inner.Subjects.{HasLive}
@@ -90,7 +90,7 @@ returns-in-Back g c =
           let back = found_return next (g.met.A.Automaton.quiet c.args.leaper.now.rule c.store.ensures.rule) c.args.leaper.now.nodes c.args.first c.requires.first
           cells shows n c.generations.invariant.others c.args.limit (omega (arith, c.generations-test.true)) c.requires.most dx dy
           (subst (IsStage (first g a) (stages g a (n + 1))) c.in-Back.is (told g a)) in
-          c.returning.ensures next cells c.args.limit (omega (arith, c.generations-test.true)) c.requires.most
+          c.identity_of_return.ensures next cells c.args.limit (omega (arith, c.generations-test.true)) c.requires.most
           (subst (λ a. IsReturn next cells (n + 1) a (to_z w64 (of_z w64 dy))) (sym (to_z-of_z w64 dx fits_x))
           (subst (λ b. IsReturn next cells (n + 1) dx b) (sym (to_z-of_z w64 dy fits_y)) back));
       goes_on = goes_on_again _ c.args.leaper.now c.generations.leaper c.step.new.leaper c.generations.invariant.goes_on c.in_ok-later.ensures.goes_on;

@@ -4,7 +4,7 @@ use Rattle.ca_quad.specs.Trees.{cell}
 use Rattle.ca_quad.proofs.Measures.{boxes_stay}
 use Rattle.ca_quad.proofs.Trims.{trees_stay}
 use Rattle.ca_run.specs.Leaping.{Spent}
-use Rattle.ca_run.proofs.Shown.{goes_on_again}
+use Rattle.ca_run.proofs.ShownPlanes.{goes_on_again}
 use Rattle.ca_claims.proofs.Stages.{one_step, near_next, later_next, later_stays, first_stays, stage_as}
 use Rattle.ca_claims.proofs.identification.search.step.Goals as goal
 

@@ -2,7 +2,7 @@ use Rattle.std.proofs.Common.{◌≡◌, ◌≢◌, ◌+◌, [], length, arith, 
 use Rattle.ca_claims.specs.Means.{contents}
 use Rattle.ca_claims.specs.Judging.{JudgesAndNotes}
 use Rattle.ca_claims.specs.inner.Kept.{left_from}
-use Rattle.ca_claims.proofs.Answered.{judged_and_noted}
+use Rattle.ca_claims.proofs.JudgedInTurn.{judged_and_noted}
 use Rattle.ca_claims.proofs.judge.Judge.next_noted_watched.Goals as goal
 
 pub returns : goal.returns

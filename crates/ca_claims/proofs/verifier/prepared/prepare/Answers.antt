@@ -1,7 +1,7 @@
 use Rattle.std.proofs.Common.{map, subst, sym}
 use Rattle.ca_claims.specs.Places.{path_at}
 use Rattle.ca_claims.specs.inner.Patterns.{items}
-use Rattle.ca_claims.specs.inner.Prepared.{IsPrepared}
+use Rattle.ca_claims.specs.inner.PreparedClaim.{IsPrepared}
 use Rattle.ca_claims.specs.inner.Refusals.{IsRefusal}
 use Rattle.ca_claims.proofs.Causes.{found_there, found_missing, all_there, passed_on}
 use Rattle.ca_claims.proofs.verifier.prepared.prepare.Goals as goal

@@ -1,8 +1,8 @@
 use Rattle.std.proofs.Common.{sym, ap, subst}
 use Rattle.ca_rule.specs.Rule.{rule_value}
 use Rattle.ca_claims.specs.inner.Patterns.{items}
-use Rattle.ca_claims.specs.declared.verifier.prepared.Prepared.{Prepared}
-use Rattle.ca_claims.specs.inner.Prepared.{IsPrepared, IsFit, IsCountRefused}
+use Rattle.ca_claims.specs.declared.verifier.prepared.PreparedClaim.{PreparedClaim}
+use Rattle.ca_claims.specs.inner.PreparedClaim.{IsPrepared, IsFit, IsCountRefused}
 use Rattle.ca_claims.specs.inner.Refusals.{IsRefusal}
 use Rattle.ca_claims.proofs.Causes.{read_at, ruled_each, are_trees, are_patterns, both_are_patterns, unread_for, unnamed, disagreed, crowded, no_memory, passed_on, all_prepared, all_fit}
 use Rattle.ca_claims.proofs.verifier.prepared.prepare_by.Goals as goal
@@ -80,6 +80,6 @@ pub returns-clause-fit : goal.returns-clause-fit
 returns-clause-fit c =
     let nodes = c.read_each.new.store in
     let trees = are_patterns nodes (items c.args.there.now) c.args.tables.now (items c.in-Ok.patterns) (items c.in-Ok-with_rules.patterns) c.in-Ok.ensures.read c.in-Ok-with_rules.ensures.named in
-    let prepared : Prepared = record { leaper = c.in-Ok-new.leaper; subject = c.subject_of-subject.result } in
+    let prepared : PreparedClaim = record { leaper = c.in-Ok-new.leaper; subject = c.subject_of-subject.result } in
     subst (λ work. IsFit work prepared) c.in-Ok-new.ensures.limit
     (all_fit nodes (items c.in-Ok-with_rules.patterns) prepared (sym c.in-Ok-new.ensures.store) trees c.subject_of-subject.ensures c.in-Ok-new.ensures.used)

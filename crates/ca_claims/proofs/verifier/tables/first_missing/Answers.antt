@@ -2,7 +2,7 @@ use Rattle.std.proofs.Common.{◌≡◌, get_or, None, refl}
 use Rattle.std.proofs.lemmas.Option.{slice_get-get_or}
 use Rattle.ca_claims.proofs.FoundFiles.{is_nothing}
 use Rattle.ca_claims.specs.inner.Found.{IsFound}
-use Rattle.ca_claims.proofs.Zipped.{first_after}
+use Rattle.ca_claims.proofs.PairedLists.{first_after}
 use Rattle.ca_claims.proofs.verifier.tables.first_missing.Goals as goal
 
 pub returns-then-is_none : goal.returns-then-is_none

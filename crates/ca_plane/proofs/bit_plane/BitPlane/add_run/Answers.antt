@@ -1,6 +1,6 @@
 use Rattle.std.proofs.Common.{◌≡◌, ◌+◌, pos, ◌+ℤ◌, FitsSigned, w64, ap, sym, ◌∙◌, arith}
 use Rattle.std.proofs.lemmas.Int.{ints, to_z-of_z}
-use Rattle.ca_plane.specs.Sparse.{reach}
+use Rattle.ca_plane.specs.Limits.{reach}
 use Rattle.ca_plane.proofs.BitPlanes.{AddsColumns-word, AddsRun-columns}
 use Rattle.ca_plane.proofs.bit_plane.BitPlane.add_run.Goals as goal
 

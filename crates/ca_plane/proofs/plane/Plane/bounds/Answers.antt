@@ -10,5 +10,5 @@ cells-init c =
 
 pub cells-preserved : goal.cells-preserved
 cells-preserved c =
-    IsBoxBefore-turn c.args.self.now _ _ _ (c.in-Some.point, c.in-Some.field-0-1) c.cells.bounds c.grown-bounds.result c.cells-cells.ensures.sparse c.cells.invariant c.in-Some.is c.next-in-cells.ensures.steps
-    (record { x0 = c.grown-bounds.ensures.x0; y0 = c.grown-bounds.ensures.y0; x1 = c.grown-bounds.ensures.x1; y1 = c.grown-bounds.ensures.y1 })
+    IsBoxBefore-turn c.args.self.now _ _ _ (c.in-Some.point, c.in-Some.field-0-1) c.cells.bounds c.with_point-bounds.result c.cells-cells.ensures.sparse c.cells.invariant c.in-Some.is c.next-in-cells.ensures.steps
+    (record { x0 = c.with_point-bounds.ensures.x0; y0 = c.with_point-bounds.ensures.y0; x1 = c.with_point-bounds.ensures.x1; y1 = c.with_point-bounds.ensures.y1 })

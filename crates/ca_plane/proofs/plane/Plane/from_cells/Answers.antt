@@ -8,7 +8,7 @@ use Rattle.ca_plane.specs.declared.point.Point.{Point}
 use Rattle.ca_plane.specs.Plane.{Picture, cell}
 use Rattle.ca_plane.specs.Sparse.{IsInPlane, point_cmp}
 use Rattle.ca_plane.proofs.Pictures.{IsSparse-none, IsSame-Sets, point_cmp_total}
-use Rattle.ca_plane.proofs.Gathered.{IsSame-stable, emptied}
+use Rattle.ca_plane.proofs.CellOrders.{IsSame-stable, emptied}
 use Rattle.ca_plane.proofs.plane.Plane.from_cells.Goals as goal
 
 pub invariant_of-plane : goal.invariant_of-plane

@@ -1,9 +1,9 @@
 use Rattle.std.proofs.Common.{ℕ, inl, refl, rules, sym, subst}
 use Rattle.ca_quad.specs.Sound.{IsSoundStore, Grows}
 use Rattle.ca_quad.specs.Added.{IsPartOf, IsCopy, AddsCopies}
-use Rattle.ca_quad.proofs.Copied.{copies_stay, still_copies, parts_four, parts_copied}
-use Rattle.ca_quad.proofs.Added.{none_added, added_on, added_in_part, ok_added, one_added, added_two, added_three, added_four}
-use Rattle.ca_quad.proofs.Filled.{grows_five}
+use Rattle.ca_quad.proofs.CopiedSquares.{copies_stay, still_copies, parts_four, parts_copied}
+use Rattle.ca_quad.proofs.AddedSquares.{none_added, added_on, added_in_part, ok_added, one_added, added_two, added_three, added_four}
+use Rattle.ca_quad.proofs.FilledSquares.{grows_five}
 use Rattle.ca_quad.proofs.Measures.{one_more}
 use Rattle.ca_quad.proofs.store.Store.+copy_of.Goals as goal
 use Rattle.ca_quad.proofs.store.Store.+copy_of.Goals.{After-copy_of-in-Parts-3, In_ok-copy-in-Parts}

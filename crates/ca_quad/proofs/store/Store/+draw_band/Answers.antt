@@ -1,7 +1,7 @@
 use Rattle.std.proofs.Common.{◌≡◌, ◌-◌, inl, inr, sym, subst, arith}
 use Rattle.std.proofs.lemmas.Bool.Decides.{nat_tests}
 use Rattle.ca_quad.specs.inner.Drawn.{AreReady, IsLiveIn}
-use Rattle.ca_quad.proofs.Painted.{paints_last, rows_live}
+use Rattle.ca_quad.proofs.PaintedCells.{paints_last, rows_live}
 use Rattle.ca_quad.proofs.store.Store.+draw_band.Goals as goal
 
 pub returns-then-level-eq1 : goal.returns-then-level-eq1

@@ -5,9 +5,9 @@ use Rattle.ca_quad.specs.declared.node.Node.{Node}
 use Rattle.ca_quad.specs.declared.store.rows.Row.{Row}
 use Rattle.ca_quad.specs.declared.tree.Spot.{Spot}
 use Rattle.ca_quad.specs.Sound.{IsSoundStore, Grows}
-use Rattle.ca_quad.specs.inner.Filled.{counted, IsEmptyOf, AreRowsOf}
+use Rattle.ca_quad.specs.inner.Filled.{cells_from, IsEmptyOf, AreRowsOf}
 use Rattle.ca_quad.proofs.Covers.{shows_none, rows_four}
-use Rattle.ca_quad.proofs.Filled.{part_empty, grows_three, four_filled, can_join_four, four_joined}
+use Rattle.ca_quad.proofs.FilledSquares.{part_empty, grows_three, four_filled, can_join_four, four_joined}
 use Rattle.ca_quad.proofs.Growth.{grows_same, grows_on}
 use Rattle.ca_quad.proofs.Windows.{FourWindows}
 use Rattle.ca_quad.proofs.store.Store.+fill.Goals as goal
@@ -57,7 +57,7 @@ fill-requires-4 t c =
 
 -- the four parts show the cells
 module _ (t : ℕ) (c : In_ok-se t) where
-  four : FourWindows c.fill-4.new.self (c.args.level - 1) (counted (cell c.args.cells.now) c.args.at) 0 0 c.in_ok-nw.nw c.in_ok-ne.ne c.in_ok-sw.sw c.in_ok-se.se
+  four : FourWindows c.fill-4.new.self (c.args.level - 1) (cells_from (cell c.args.cells.now) c.args.at) 0 0 c.in_ok-nw.nw c.in_ok-ne.ne c.in_ok-sw.sw c.in_ok-se.se
   four =
       four_filled c.fill.new.self c.fill-2.new.self c.fill-3.new.self c.fill-4.new.self c.fill.ensures.grows.sound c.fill-2.ensures.grows c.fill-3.ensures.grows c.fill-4.ensures.grows
       c.args.level c.half_side.result (omega (arith, c.requires.empty.low)) c.half_side.ensures.half c.in_ok-nw.nw c.in_ok-ne.ne c.in_ok-sw.sw c.in_ok-se.se c.args.at c.part_corners-corners.result c.part_corners-corners.ensures (cell c.args.cells.now)

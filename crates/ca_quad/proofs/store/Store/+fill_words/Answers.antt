@@ -4,9 +4,9 @@ use Rattle.ca_plane.specs.BitPlane.{bit_cell}
 use Rattle.ca_quad.specs.declared.node.Node.{Node}
 use Rattle.ca_quad.specs.declared.tree.Spot.{Spot}
 use Rattle.ca_quad.specs.Sound.{IsSoundStore, Grows}
-use Rattle.ca_quad.specs.inner.Filled.{counted, IsEmptyOf, LiesNear}
+use Rattle.ca_quad.specs.inner.Filled.{cells_from, IsEmptyOf, LiesNear}
 use Rattle.ca_quad.proofs.BitWords.{window_of_part}
-use Rattle.ca_quad.proofs.Filled.{part_empty, grows_three, near_nw, near_ne, near_sw, near_se, four_filled, can_join_four, four_joined}
+use Rattle.ca_quad.proofs.FilledSquares.{part_empty, grows_three, near_nw, near_ne, near_sw, near_se, four_filled, can_join_four, four_joined}
 use Rattle.ca_quad.proofs.Growth.{grows_same, grows_on}
 use Rattle.ca_quad.proofs.Windows.{FourWindows}
 use Rattle.ca_quad.proofs.store.Store.+fill_words.Goals as goal
@@ -47,7 +47,7 @@ fill_words-requires-4 t c =
 
 -- the four parts show the cells of the words
 module _ (t : ℕ) (c : In_ok-se t) where
-  four : FourWindows c.fill_words-4.new.self (c.args.level - 1) (counted (bit_cell c.args.words.items) c.args.at) 0 0 c.in_ok-nw.nw c.in_ok-ne.ne c.in_ok-sw.sw c.in_ok-se.se
+  four : FourWindows c.fill_words-4.new.self (c.args.level - 1) (cells_from (bit_cell c.args.words.items) c.args.at) 0 0 c.in_ok-nw.nw c.in_ok-ne.ne c.in_ok-sw.sw c.in_ok-se.se
   four =
       let words = c.args.words.items in
       let parts = c.in_ok-parts.parts in

@@ -1,6 +1,6 @@
 use Rattle.std.proofs.Common.{◌≤◌, arith}
 use Rattle.std.proofs.lemmas.Bool.Decides.{nat_tests}
-use Rattle.ca_quad.proofs.Filled.{grows_five, can_join, joined}
+use Rattle.ca_quad.proofs.FilledSquares.{grows_five, can_join, joined}
 use Rattle.ca_quad.proofs.store.Store.+gather.Goals as goal
 
 pub join-requires : goal.join-requires

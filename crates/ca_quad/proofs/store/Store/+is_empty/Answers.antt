@@ -1,7 +1,7 @@
 use Rattle.std.proofs.Common.{◌≡◌, ◌-◌, ◌^◌, sym, subst, arith}
 use Rattle.std.proofs.lemmas.Bool.{eqb-true}
 use Rattle.std.proofs.lemmas.Bool.Decides.{nat_tests}
-use Rattle.ca_quad.specs.Squares.{cell_of, dot}
+use Rattle.ca_quad.specs.Squares.{cell_of, one_cell}
 use Rattle.ca_quad.specs.Trees.{IsEmpty}
 use Rattle.ca_quad.proofs.Walks.{four_show, parts_show, together_empty, corners_empty, dot_empty, nw_empty, parts_one}
 use Rattle.ca_quad.proofs.store.Store.+is_empty.Goals as goal
@@ -15,7 +15,7 @@ returns-in-Four t c = λ k h.
     let e = four_show c.args.self.now c.args.id k h nw ne sw se c.in-Four.ensures.shows in (
       λ i.
           let z : c.max-in-Four-2.result ≡ 0 = eqb-true _ _ i in
-          subst IsEmpty (sym e) (together_empty 1 (dot nw) (dot ne) (dot sw) (dot se) (dot_empty nw (omega arith)) (dot_empty ne (omega arith)) (dot_empty sw (omega arith)) (dot_empty se (omega arith))),
+          subst IsEmpty (sym e) (together_empty 1 (one_cell nw) (one_cell ne) (one_cell sw) (one_cell se) (dot_empty nw (omega arith)) (dot_empty ne (omega arith)) (dot_empty sw (omega arith)) (dot_empty se (omega arith))),
       λ i. let z = corners_empty nw ne sw se (subst IsEmpty e i) in grind (arith, nat_tests),
     )
 

@@ -27,9 +27,9 @@ returns-in_default-clause-trimmed t c =
     let old = c.args.self.now in
     let k = tree.level - 1 in
     let (e, some, h) = lower t (goal.at.returns-in_default-clause-trimmed t c).After-middle in
-    let none : HasNoRing k (cell_of old (suc k) tree.root) = subst (TellsMiddle c.middle.new.self k (cell_of old (suc k) tree.root)) c.in_default.is (c.in_ok-root.ensures.tells k h) in
+    let no_cells : HasNoRing k (cell_of old (suc k) tree.root) = subst (TellsMiddle c.middle.new.self k (cell_of old (suc k) tree.root)) c.in_default.is (c.in_ok-root.ensures.tells k h) in
     trimmed_as old c.middle.new.self tree (trees_stay old c.middle.new.self (subst IsSoundStore c.self.view_is c.self.invariant) c.middle.ensures.grows tree c.requires.tree)
-    (no_ring old tree k e some (subst (λ l. HasNoRing k (cell_of old l tree.root)) e none))
+    (no_ring old tree k e some (subst (λ l. HasNoRing k (cell_of old l tree.root)) e no_cells))
 
 -- the root's middle
 middle : (t : ℕ) (c : In-Some t) → IsOf c.args.self.now c.args.tree.root (suc (c.args.tree.level - 1))

@@ -1,6 +1,6 @@
 use Rattle.std.proofs.Common.{arith}
 use Rattle.std.proofs.lemmas.Bool.Decides.{nat_tests}
-use Rattle.ca_quad.proofs.Listed.{few_counted, many_counted}
+use Rattle.ca_quad.proofs.LiveCells.{few_counted, many_counted}
 use Rattle.ca_quad.proofs.store.Store.check_limits.Goals as goal
 
 pub returns-then-branch-gt-MAX_CELLS-clause-fault : goal.returns-then-branch-gt-MAX_CELLS-clause-fault

@@ -1,7 +1,7 @@
 use Rattle.std.proofs.Common.{◌≡◌, pos, ◌+ℤ◌, ap, ◌∙◌, arith}
 use Rattle.std.proofs.lemmas.Bool.Decides.{nat_tests}
-use Rattle.ca_quad.proofs.Drawn.{cells_can, cells_agree, upper_live, lower_live}
-use Rattle.ca_quad.proofs.Painted.{paints_last}
+use Rattle.ca_quad.proofs.DrawnSquares.{cells_can, cells_agree, upper_live, lower_live}
+use Rattle.ca_quad.proofs.PaintedCells.{paints_last}
 use Rattle.ca_quad.proofs.store.Store.draw_two.Goals as goal
 
 pub draw_cell-requires : goal.draw_cell-requires

@@ -2,7 +2,7 @@ use Rattle.std.proofs.Common.{ℕ, ◌≤◌, ◌^◌, arith}
 use Rattle.std.proofs.Math.Nat.{pow-le-pow_right}
 use Rattle.ca_plane.specs.Plane.{cell}
 use Rattle.ca_quad.specs.inner.Block.{block_cells}
-use Rattle.ca_quad.specs.inner.Filled.{counted}
+use Rattle.ca_quad.specs.inner.Filled.{cells_from}
 use Rattle.ca_quad.proofs.Windows.{window_as}
 use Rattle.ca_quad.proofs.store.Store.fill_block.Goals as goal
 
@@ -19,5 +19,5 @@ gather-requires-clause-y c = omega (arith, low c.args.level c.requires.most)
 pub returns-clause-shows : goal.returns-clause-shows
 returns-clause-shows c =
     let level = c.args.level in
-    window_as c.gather.new.self c.gather.result level (block_cells c.states_of-states.result) (counted (cell c.args.cells.now) c.args.at)
-    (c.states_of-states.ensures (2 ^ level) (low level c.requires.most) c.requires.rows.cover) c.gather.ensures.shows
+    window_as c.gather.new.self c.gather.result level (block_cells c.block_states-states.result) (cells_from (cell c.args.cells.now) c.args.at)
+    (c.block_states-states.ensures (2 ^ level) (low level c.requires.most) c.requires.rows.cover) c.gather.ensures.shows

@@ -3,9 +3,9 @@ use Rattle.std.proofs.lemmas.Grind.{common_steps}
 use Rattle.ca_plane.specs.Plane.{Picture, cell as plane_cell}
 use Rattle.ca_quad.specs.declared.tree.Tree.{Tree}
 use Rattle.ca_quad.specs.Trees.{cell}
-use Rattle.ca_quad.specs.inner.Filled.{counted}
+use Rattle.ca_quad.specs.inner.Filled.{cells_from}
 use Rattle.ca_quad.specs.inner.Window.{ShowsFrom}
-use Rattle.ca_quad.proofs.Filled.{near_first, tree_filled}
+use Rattle.ca_quad.proofs.FilledSquares.{near_first, tree_filled}
 use Rattle.ca_quad.proofs.Trims.{cells_as}
 use Rattle.ca_quad.proofs.store.Store.from_plane.Goals as goal
 
@@ -20,5 +20,5 @@ returns-clause-cells c =
     let at = c.first_corner-corner.result in
     cells_as c.trim.new.self c.trim.result (cell c.fill.new.self tree) (plane_cell plane)
     (tree_filled c.fill.new.self tree (plane_cell plane) c.half_side.result c.half_side.ensures.half (omega (arith, c.level_for-level.ensures.least)) at c.first_corner-corner.ensures.x c.first_corner-corner.ensures.y
-    (subst (λ (p : Picture). ShowsFrom c.fill.new.self tree.root tree.level (counted (plane_cell p) at) 0 0) c.as_slice-cells.ensures.all c.in_ok-root.ensures.shows) c.level_for-level.ensures.holds)
+    (subst (λ (p : Picture). ShowsFrom c.fill.new.self tree.root tree.level (cells_from (plane_cell p) at) 0 0) c.as_slice-cells.ensures.all c.in_ok-root.ensures.shows) c.level_for-level.ensures.holds)
     c.trim.ensures.cells

@@ -2,7 +2,7 @@ use Rattle.std.proofs.Common.{◌≡◌, Some, length, refl, inl, inr, subst}
 use Rattle.std.specs.List.{slice_get}
 use Rattle.std.proofs.lemmas.Option.{slice_get_read}
 use Rattle.ca_quad.specs.inner.Drawn.{IsReadyToDraw, IsLiveIn}
-use Rattle.ca_quad.proofs.Held.{rest_at, all_at}
+use Rattle.ca_quad.proofs.RowPlaces.{rest_at, all_at}
 use Rattle.ca_quad.proofs.store.Store.halves_of.Goals as goal
 
 pub squares-preserved : goal.squares-preserved

@@ -1,5 +1,5 @@
-use Rattle.ca_quad.proofs.Copied.{still_trimmed}
-use Rattle.ca_quad.proofs.Counted.{few_added}
+use Rattle.ca_quad.proofs.CopiedSquares.{still_trimmed}
+use Rattle.ca_quad.proofs.CopyCounts.{few_added}
 use Rattle.ca_quad.proofs.store.Store.import.Goals as goal
 
 pub returns-clause-trimmed : goal.returns-clause-trimmed

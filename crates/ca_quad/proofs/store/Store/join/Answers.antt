@@ -3,7 +3,7 @@ use Rattle.ca_quad.specs.declared.square.Square.TheVariants.{Parts}
 use Rattle.ca_quad.specs.Squares.{square_of}
 use Rattle.ca_quad.specs.Sound.{IsSoundStore}
 use Rattle.ca_quad.proofs.Growth.{grows_same}
-use Rattle.ca_quad.proofs.Joined.{four_at, joined, joined_ok, sixteen, sixty_four}
+use Rattle.ca_quad.proofs.JoinedSquares.{four_at, joined, joined_ok, sixteen, sixty_four}
 use Rattle.ca_quad.proofs.store.Store.join.Goals as goal
 
 pub returns-in-Some-clause-shows : goal.returns-in-Some-clause-shows

@@ -1,4 +1,4 @@
-use Rattle.ca_quad.proofs.Joined.{four_at}
+use Rattle.ca_quad.proofs.JoinedSquares.{four_at}
 use Rattle.ca_quad.proofs.Middle.{outer_known, outer_empty, inner_middle}
 use Rattle.ca_quad.proofs.store.Store.middle_parts.Goals as goal
 

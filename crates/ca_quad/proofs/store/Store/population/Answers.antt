@@ -1,4 +1,4 @@
-use Rattle.ca_quad.proofs.Listed.{counts_all}
+use Rattle.ca_quad.proofs.LiveCells.{counts_all}
 use Rattle.ca_quad.proofs.store.Store.population.Goals as goal
 
 pub returns : goal.returns

@@ -1,4 +1,4 @@
-use Rattle.ca_quad.proofs.Shown.{leaves_four, leaves_ring}
+use Rattle.ca_quad.proofs.ShownSquares.{leaves_four, leaves_ring}
 use Rattle.ca_quad.proofs.store.Store.ringed_cells.Goals as goal
 
 pub join-requires : goal.join-requires

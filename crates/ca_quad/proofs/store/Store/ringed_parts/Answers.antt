@@ -1,7 +1,7 @@
 use Rattle.std.proofs.Common.{suc, subst, arith}
 use Rattle.ca_quad.specs.Sound.{IsSoundStore}
 use Rattle.ca_quad.proofs.Growth.{grows_same, grows_on}
-use Rattle.ca_quad.proofs.Shown.{last_four, ring_four, ring_shows}
+use Rattle.ca_quad.proofs.ShownSquares.{last_four, ring_four, ring_shows}
 use Rattle.ca_quad.proofs.store.Store.ringed_parts.Goals as goal
 
 pub join-requires-4 : goal.join-requires-4

@@ -1,11 +1,11 @@
 use Rattle.std.proofs.Common.{◌≡◌, ◌≢◌, sym, ◌∙◌, arith}
 use Rattle.std.proofs.lemmas.Bool.Decides.{nat_tests}
-use Rattle.ca_quad.proofs.Drawn.{dot_at}
-use Rattle.ca_quad.proofs.Painted.{paints_dot_none, paints_dot}
+use Rattle.ca_quad.proofs.DrawnSquares.{dot_at}
+use Rattle.ca_quad.proofs.PaintedCells.{paints_dot_none, paints_dot}
 use Rattle.ca_quad.proofs.store.draw.draw_cell.Goals as goal
 
 pub returns-then-state-eq0 : goal.returns-then-state-eq0
-returns-then-state-eq0 c = λ all h. let none : c.args.state ≡ 0 = grind (arith, nat_tests) in paints_dot_none all c.args.plane.now c.args.state c.args.at none
+returns-then-state-eq0 c = λ all h. let no_cells : c.args.state ≡ 0 = grind (arith, nat_tests) in paints_dot_none all c.args.plane.now c.args.state c.args.at no_cells
 
 pub point-requires : goal.point-requires
 point-requires c =

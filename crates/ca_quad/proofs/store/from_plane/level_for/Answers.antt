@@ -1,4 +1,4 @@
-use Rattle.ca_quad.proofs.Filled.{holds_all}
+use Rattle.ca_quad.proofs.FilledSquares.{holds_all}
 use Rattle.ca_quad.proofs.store.from_plane.level_for.Goals as goal
 
 pub returns-clause-holds : goal.returns-clause-holds

@@ -1,6 +1,6 @@
 use Rattle.std.proofs.Common.{◌+◌, inl, inr, arith}
 use Rattle.ca_quad.proofs.Growth.{below_or_not}
-use Rattle.ca_quad.proofs.Held.{comes_earlier}
+use Rattle.ca_quad.proofs.RowPlaces.{comes_earlier}
 use Rattle.ca_quad.proofs.store.rows.+search.Goals as goal
 
 pub returns-then-comes_before-clause-before : goal.returns-then-comes_before-clause-before

@@ -1,7 +1,7 @@
 use Rattle.std.proofs.Common.{ap, arith}
 use Rattle.std.proofs.lemmas.Option.{slice_get-get_or}
 use Rattle.ca_quad.specs.inner.Rows.{IsNorth, IsSouth}
-use Rattle.ca_quad.proofs.Held.{part_last, north_next, south_next}
+use Rattle.ca_quad.proofs.RowPlaces.{part_last, north_next, south_next}
 use Rattle.ca_quad.proofs.store.rows.bands.Goals as goal
 use Rattle.ca_quad.proofs.store.rows.bands.Goals.{then-is_north+in_ok-push, else-is_north+in_ok-push-2}
 

@@ -1,7 +1,7 @@
 use Rattle.std.proofs.Common.{inl, inr, refl, arith}
 use Rattle.std.proofs.lemmas.Option.{slice_get-get_or}
 use Rattle.ca_quad.specs.inner.Rows.{IsPictureRow, IsWest, IsEast}
-use Rattle.ca_quad.proofs.Held.{all_at, row_cut, part_last, part_next}
+use Rattle.ca_quad.proofs.RowPlaces.{all_at, row_cut, part_last, part_next}
 use Rattle.ca_quad.proofs.store.rows.halves.Goals as goal
 
 pub rows-preserved : goal.rows-preserved

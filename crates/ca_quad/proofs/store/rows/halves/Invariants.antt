@@ -1,5 +1,5 @@
 use Rattle.ca_quad.specs.inner.Rows.{IsWest, IsEast}
-use Rattle.ca_quad.proofs.Held.{IsSoFar}
+use Rattle.ca_quad.proofs.RowPlaces.{IsSoFar}
 use Rattle.ca_quad.proofs.store.rows.halves.Given as goal
 
 abbrev pub invariant-rows : goal.invariant-rows

@@ -1,5 +1,5 @@
 use Rattle.std.proofs.Common.{arith}
-use Rattle.ca_quad.proofs.Held.{row_made}
+use Rattle.ca_quad.proofs.RowPlaces.{row_made}
 use Rattle.ca_quad.proofs.store.rows.row_from.Goals as goal
 
 pub returns-clause-row : goal.returns-clause-row

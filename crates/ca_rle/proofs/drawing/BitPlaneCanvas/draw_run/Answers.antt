@@ -1,5 +1,5 @@
 use Rattle.std.proofs.Common.{arith}
-use Rattle.ca_rle.proofs.Drawn.{run_over}
+use Rattle.ca_rle.proofs.DrawnCells.{run_over}
 use Rattle.ca_rle.proofs.drawing.BitPlaneCanvas.draw_run.Goals as goal
 
 pub returns-clause-cells : goal.returns-clause-cells

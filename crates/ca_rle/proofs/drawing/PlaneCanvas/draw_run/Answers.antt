@@ -1,6 +1,6 @@
 use Rattle.std.proofs.Common.{arith}
 use Rattle.std.proofs.lemmas.Int.{ints}
-use Rattle.ca_rle.proofs.Drawn.{run_drawn}
+use Rattle.ca_rle.proofs.DrawnCells.{run_drawn}
 use Rattle.ca_rle.proofs.Runs.{run_more}
 use Rattle.ca_rle.proofs.drawing.PlaneCanvas.draw_run.Goals as goal
 

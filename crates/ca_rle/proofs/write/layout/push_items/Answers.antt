@@ -5,7 +5,7 @@ use Rattle.ca_plane.specs.Puts.{Puts}
 use Rattle.ca_rle.specs.declared.item.Tag.TheVariants.{Cell}
 use Rattle.ca_rle.specs.Tidy.{item_text}
 use Rattle.ca_rle.specs.inner.Written.{PutsLines}
-use Rattle.ca_rle.proofs.Laid.{IsLaid, laid_more}
+use Rattle.ca_rle.proofs.LineLayouts.{IsLaid, laid_more}
 use Rattle.ca_rle.proofs.WholeTexts.{texts_more, lines_end}
 use Rattle.ca_rle.proofs.write.layout.push_items.Goals as goal
 

@@ -1,4 +1,4 @@
-use Rattle.ca_rule.proofs.Masked.{goes_by_masks}
+use Rattle.ca_rule.proofs.RuleMasks.{goes_by_masks}
 use Rattle.ca_rule.proofs.bs_rule.BsRuleAutomaton.masks.Goals as goal
 
 pub returns-in-Moore-clause-moore : goal.returns-in-Moore-clause-moore

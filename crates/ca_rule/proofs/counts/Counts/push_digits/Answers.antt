@@ -1,6 +1,6 @@
 use Rattle.std.proofs.Common.{arith}
 use Rattle.std.proofs.lemmas.Grind.{common_steps}
-use Rattle.ca_rule.proofs.Printed.{push_counted, digits_from-other}
+use Rattle.ca_rule.proofs.PrintedRules.{push_counted, digits_from-other}
 use Rattle.ca_rule.proofs.counts.Counts.push_digits.Goals as goal
 use Rattle.ca_rule.proofs.counts.Counts.push_digits.Goals.{then-contains+in_ok-push, else-contains}
 

@@ -1,6 +1,6 @@
 use Rattle.std.proofs.Common.{◌≡◌, ◌++◌}
 use Rattle.ca_rule.specs.Spelling.{digits_of}
-use Rattle.ca_rule.proofs.Printed.{digits_from}
+use Rattle.ca_rule.proofs.PrintedRules.{digits_from}
 use Rattle.ca_rule.proofs.counts.Counts.push_digits.Given as goal
 
 abbrev pub invariant-counts : goal.invariant-counts

@@ -1,5 +1,5 @@
 use Rattle.std.proofs.Common.{sym}
-use Rattle.ca_rule.proofs.Formed.{IfNone-from, spells-no_lists, spells-found, spells-birth, spells-survival}
+use Rattle.ca_rule.proofs.SpelledDigits.{IfNone-from, spells-no_lists, spells-found, spells-birth, spells-survival}
 use Rattle.ca_rule.proofs.spelling.BsRuleNotation.spelling_of.Goals as goal
 use Rattle.ca_rule.proofs.spelling.BsRuleNotation.spelling_of.Goals.{then-not-are_digits_up_to-via-then-not-are_digits_up_to, then-not-are_digits_up_to-via-else-not-are_digits_up_to+then-not-are_digits_up_to-2}
 

@@ -3,9 +3,9 @@ use Rattle.std.proofs.lemmas.Bool.Decides.{nat_tests}
 use Rattle.ca_rule.specs.TableNext.{IsSoundTable, table_next}
 use Rattle.ca_rule.specs.inner.TableSearch.{placements_of}
 use Rattle.ca_rule.specs.inner.TablePlaces.{next_at}
-use Rattle.ca_rule.specs.inner.TableStored.{stored, IsStoredTable}
-use Rattle.ca_rule.proofs.Closed.{closed}
-use Rattle.ca_rule.proofs.Placed.{stored-next}
+use Rattle.ca_rule.specs.inner.TableStored.{stored_table, IsStoredTable}
+use Rattle.ca_rule.proofs.TableStates.{closed}
+use Rattle.ca_rule.proofs.SymmetryPlaces.{stored-next}
 use Rattle.ca_rule.proofs.table.Table.of_parts.Goals as goal
 
 pub returns-then-first_outcome-ne0-clause-fault : goal.returns-then-first_outcome-ne0-clause-fault
@@ -32,23 +32,23 @@ returns-clause-quiet c =
     let same = stored-next c.args.name.items c.args.states c.args.neighbourhood c.args.symmetry c.args.variables.items c.args.transitions.items
     (replicate 9 0) (placements_of c.of-orders.result) c.of-orders.ensures.placements in
     let zero : c.first_outcome.result ≡ 0 = grind (arith, nat_tests) in
-    let kept : stored c.args.name.items c.args.states c.args.neighbourhood c.args.symmetry c.in-Ok.sifted.variables c.in-Ok.sifted.transitions
-    ≡ stored c.args.name.items c.args.states c.args.neighbourhood c.args.symmetry c.args.variables.items c.args.transitions.items
-    = ap (λ v. stored c.args.name.items c.args.states c.args.neighbourhood c.args.symmetry v c.in-Ok.sifted.transitions) c.in-Ok.ensures.variables
-    ∙ ap (λ t. stored c.args.name.items c.args.states c.args.neighbourhood c.args.symmetry c.args.variables.items t) c.in-Ok.ensures.transitions in
+    let kept : stored_table c.args.name.items c.args.states c.args.neighbourhood c.args.symmetry c.in-Ok.sifted.variables c.in-Ok.sifted.transitions
+    ≡ stored_table c.args.name.items c.args.states c.args.neighbourhood c.args.symmetry c.args.variables.items c.args.transitions.items
+    = ap (λ v. stored_table c.args.name.items c.args.states c.args.neighbourhood c.args.symmetry v c.in-Ok.sifted.transitions) c.in-Ok.ensures.variables
+    ∙ ap (λ t. stored_table c.args.name.items c.args.states c.args.neighbourhood c.args.symmetry c.args.variables.items t) c.in-Ok.ensures.transitions in
     ap (λ t. table_next t (replicate 9 0)) kept ∙ sym same ∙ sym found ∙ zero
 
 pub invariant_of-result : goal.invariant_of-result
 invariant_of-result c =
     let some : 0 < c.args.states = omega arith in
-    let kept : stored c.args.name.items c.args.states c.args.neighbourhood c.args.symmetry c.in-Ok.sifted.variables c.in-Ok.sifted.transitions
-    ≡ stored c.args.name.items c.args.states c.args.neighbourhood c.args.symmetry c.args.variables.items c.args.transitions.items
-    = ap (λ v. stored c.args.name.items c.args.states c.args.neighbourhood c.args.symmetry v c.in-Ok.sifted.transitions) c.in-Ok.ensures.variables
-    ∙ ap (λ t. stored c.args.name.items c.args.states c.args.neighbourhood c.args.symmetry c.args.variables.items t) c.in-Ok.ensures.transitions in
-    let sound : IsSoundTable (stored c.args.name.items c.args.states c.args.neighbourhood c.args.symmetry c.args.variables.items c.args.transitions.items) = record {
+    let kept : stored_table c.args.name.items c.args.states c.args.neighbourhood c.args.symmetry c.in-Ok.sifted.variables c.in-Ok.sifted.transitions
+    ≡ stored_table c.args.name.items c.args.states c.args.neighbourhood c.args.symmetry c.args.variables.items c.args.transitions.items
+    = ap (λ v. stored_table c.args.name.items c.args.states c.args.neighbourhood c.args.symmetry v c.in-Ok.sifted.transitions) c.in-Ok.ensures.variables
+    ∙ ap (λ t. stored_table c.args.name.items c.args.states c.args.neighbourhood c.args.symmetry c.args.variables.items t) c.in-Ok.ensures.transitions in
+    let sound : IsSoundTable (stored_table c.args.name.items c.args.states c.args.neighbourhood c.args.symmetry c.args.variables.items c.args.transitions.items) = record {
       low = c.requires.low;
       high = c.requires.high;
-      closed = closed (stored c.args.name.items c.args.states c.args.neighbourhood c.args.symmetry c.args.variables.items c.args.transitions.items) some c.requires.results;
+      closed = closed (stored_table c.args.name.items c.args.states c.args.neighbourhood c.args.symmetry c.args.variables.items c.args.transitions.items) some c.requires.results;
       quiet = ap (λ t. table_next t (replicate 9 0)) (sym kept) ∙ returns-clause-quiet c;
     } in
     subst IsStoredTable (sym kept) (record { named = c.requires.named; sound = sound })

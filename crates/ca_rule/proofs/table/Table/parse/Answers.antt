@@ -4,7 +4,7 @@ use Rattle.ca_rule.specs.TableNext.{Transition}
 use Rattle.ca_rule.specs.TableLines.{last_line}
 use Rattle.ca_rule.specs.inner.TableReading.{left_of}
 use Rattle.ca_rule.specs.inner.TableSettings.{meaning_of}
-use Rattle.ca_rule.specs.inner.TableStored.{stored, is_below, IsPartsFault}
+use Rattle.ca_rule.specs.inner.TableStored.{stored_table, is_below, IsPartsFault}
 use Rattle.ca_rule.proofs.TableParsed.{kept-below, is-table}
 use Rattle.ca_rule.proofs.table.Table.parse.Goals as goal
 
@@ -29,4 +29,4 @@ returns-in-Err-clause-fault c =
     c.in_ok-name.ensures.found c.in_ok-settings.ensures.found c.in_ok-statements.ensures.found in
     let named = c.in-Ok.ensures.items_if_clones_equal (λ x y e. e) in
     c.at.ensures c.args.text.now _ table (c.last_line.ensures ∙ ap last_line c.in_ok-name.ensures.text)
-    (subst (λ t. IsPartsFault t c.in-Err.fault) (λ i. stored (named i) settings.states settings.neighbourhood settings.symmetry (c.into_parts-variables.ensures.variables i) (c.into_parts-variables.ensures.transitions i)) c.in-Err.ensures.fault)
+    (subst (λ t. IsPartsFault t c.in-Err.fault) (λ i. stored_table (named i) settings.states settings.neighbourhood settings.symmetry (c.into_parts-variables.ensures.variables i) (c.into_parts-variables.ensures.transitions i)) c.in-Err.ensures.fault)

@@ -6,7 +6,7 @@ use Rattle.ca_rule.specs.declared.table.neighbourhood.Symmetry.TheVariants.{Rota
 use Rattle.ca_rule.specs.declared.table.slot.Slot.TheVariants.{Number}
 use Rattle.ca_rule.specs.TableLines.{NumberedLine, lines_said, begins_variable, is_field, fields_between, IsVariableLine, IsTransitionLine}
 use Rattle.ca_rule.specs.TableNext.{TableRule}
-use Rattle.ca_rule.specs.TableText.{HasTable, are_settings, Settings, SaidStatements, nothing, SaysVariable, SaysTransition, made, IsTable}
+use Rattle.ca_rule.specs.TableText.{HasTable, are_settings, Settings, SaidStatements, no_statements, SaysVariable, SaysTransition, table_from, IsTable}
 use Rattle.ca_rule.specs.TableFaults.{HaveEnd}
 use Rattle.ca_rule.specs.TableExamples.{file_with, file_of, one_neighbour, a}
 use Rattle.ca_rule.proofs.table.laws.worked_texts.Goals as goal
@@ -37,7 +37,7 @@ settings_with states neighbourhood symmetry = (3, codes "n_states:" ++ states) �
 abbrev statements_with : List ℕ → List NumberedLine
 statements_with last = (6, codes "var a={1,2}") ∷ (7, last) ∷ []
 
-says_one : SaysVariable of_four nothing (6, codes "var a={1,2}") one_said
+says_one : SaysVariable of_four no_statements (6, codes "var a={1,2}") one_said
 says_one = record {
   name = codes "a";
   fields = codes "1" ∷ codes "2" ∷ [];
@@ -68,7 +68,7 @@ good = settings_with (codes "3") (codes "vonNeumann") (codes "rotate4")
 is_read : (last : List ℕ) → HasTable (file_of last) (codes "Spread") (good ++ (statements_with last ++ [])) → IsTransitionLine (7, last) 6 (codes "0" ∷ codes "a" ∷ codes "0" ∷ codes "0" ∷ codes "0" ∷ codes "a" ∷ [])
     → (table : TableRule) × IsTable (file_of last) table × (table.transitions ≡ one_neighbour ∷ [])
 is_read last has is_spelled = (
-  made (codes "Spread") of_four both_said,
+  table_from (codes "Spread") of_four both_said,
   record {
     name = codes "Spread";
     setting_lines = good;

@@ -1,4 +1,4 @@
-use Rattle.ca_rule.proofs.Stripped.{behind_stripped}
+use Rattle.ca_rule.proofs.TextTails.{behind_stripped}
 use Rattle.ca_rule.proofs.table.lines.tail_after.Goals as goal
 
 pub returns : goal.returns

@@ -1,6 +1,6 @@
 use Rattle.std.proofs.Common.{◌<◌, ◌+◌, refl, sym, subst, ◌∙◌, arith}
 use Rattle.ca_rule.specs.inner.TableSieve.{TellsBefore}
-use Rattle.ca_rule.proofs.Sieved.{next-left, bit-set, bit-left, none-more, tells-all}
+use Rattle.ca_rule.proofs.SievedSlots.{next-left, bit-set, bit-left, none-more, tells-all}
 use Rattle.ca_rule.proofs.table.sieve.bits_of.Goals as goal
 use Rattle.ca_rule.proofs.table.sieve.bits_of.Goals.{then-slot_admits, else-slot_admits}
 

@@ -2,7 +2,7 @@ use Rattle.std.proofs.Common.{◌≡◌, ◌+◌, ◌-◌, ◌<◌, ◌++◌, �
 use Rattle.std.proofs.lemmas.Bool.Decides.{nat_tests}
 use Rattle.std.proofs.lemmas.List.{length-drop}
 use Rattle.ca_rule.specs.inner.TableSieve.{IsSieve, AreSieves}
-use Rattle.ca_rule.proofs.Passed.{sieves-push, next-64, one-longer}
+use Rattle.ca_rule.proofs.PassedTransitions.{sieves-push, next-64, one-longer}
 use Rattle.ca_rule.proofs.table.sifted.sieves_of.Goals as goal
 
 pub sieves-preserved : goal.sieves-preserved

@@ -3,11 +3,11 @@ use Rattle.std.specs.Int.{trailing_zeros}
 use Rattle.std.proofs.lemmas.Bool.Decides.{nat_tests}
 use Rattle.std.proofs.lemmas.Nat.Bits.{bit_at-trailing_zeros}
 use Rattle.ca_rule.specs.inner.TableSearch.{placements_of}
-use Rattle.ca_rule.proofs.Passed.{none-left, next-lowest, past-end, decides, cleared-over, cleared-less}
+use Rattle.ca_rule.proofs.PassedTransitions.{none-left, next-lowest, past-end, decides, cleared-over, cleared-less}
 use Rattle.ca_rule.proofs.table.sifted.sifted_outcome.Goals as goal
 
 pub candidates-init : goal.candidates-init
-candidates-init c = c.passed-bits.ensures c.args.variables.now c.args.transitions.now c.requires.sieve
+candidates-init c = c.candidates-bits.ensures c.args.variables.now c.args.transitions.now c.requires.sieve
 
 pub returns-in_default : goal.returns-in_default
 returns-in_default c =

@@ -4,7 +4,7 @@ use Rattle.ca_run.proofs.BrickWords.{HasRowsOf, brick_made, rows_more}
 use Rattle.ca_run.proofs.bricks.cut.brick_of.Goals as goal
 
 pub rows-preserved : goal.rows-preserved
-rows-preserved c = rows_more c.rows.rows c.args.north.now c.args.south.now c.rows.y c.row_of.result c.row_of-in-rows.result c.rows.invariant (omega arith) c.row_of.ensures c.row_of-in-rows.ensures
+rows-preserved c = rows_more c.rows.rows c.args.north.now c.args.south.now c.rows.y c.row_at.result c.row_at-in-rows.result c.rows.invariant (omega arith) c.row_at.ensures c.row_at-in-rows.ensures
 
 pub returns : goal.returns
 returns c =

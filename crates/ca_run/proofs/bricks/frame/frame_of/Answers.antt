@@ -1,6 +1,6 @@
 use Rattle.std.proofs.Common.{arith}
 use Rattle.std.proofs.lemmas.Int.{ints}
-use Rattle.ca_run.proofs.Framed.{spans_counted}
+use Rattle.ca_run.proofs.LiveFrames.{spans_counted}
 use Rattle.ca_run.proofs.bricks.frame.frame_of.Goals as goal
 
 pub returns-clause-columns : goal.returns-clause-columns

@@ -5,7 +5,7 @@ use Rattle.std.proofs.Math.Nat.{two-pow-succ}
 use Rattle.ca_quad.specs.Trees.{AreFour}
 use Rattle.ca_run.specs.inner.Shown.{ShowsAt, FourShow, side}
 use Rattle.ca_run.specs.inner.Words.{eight}
-use Rattle.ca_run.proofs.Shown.{four_made, four_are, at_from}
+use Rattle.ca_run.proofs.ShownPlanes.{four_made, four_are, at_from}
 use Rattle.ca_run.proofs.ReadWords.{side_words}
 use Rattle.ca_run.proofs.Walls.{near_wall_at, near_wall_as, blank_square}
 use Rattle.ca_run.proofs.Costs.{at_cost_more, at_both_costs, at_paid_cost, four_and_four}

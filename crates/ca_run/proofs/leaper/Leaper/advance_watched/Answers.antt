@@ -6,7 +6,7 @@ use Rattle.ca_run.specs.Advanced.{IsAdvanced}
 use Rattle.ca_run.specs.Leaping.{EndsAtLimit}
 use Rattle.ca_run.specs.inner.Dense.{HasReached}
 use Rattle.ca_run.proofs.DenseRuns.{reached_now, advanced_before, stepped_cost, whole_cost, parted_cost}
-use Rattle.ca_run.proofs.Shown.{goes_on_again}
+use Rattle.ca_run.proofs.ShownPlanes.{goes_on_again}
 use Rattle.ca_run.proofs.leaper.Leaper.advance_watched.Goals as goal
 
 pub go_on-requires-clause-first : goal.go_on-requires-clause-first

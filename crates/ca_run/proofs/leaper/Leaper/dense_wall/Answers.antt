@@ -4,7 +4,7 @@ use Rattle.std.proofs.lemmas.Option.{MatchOption-at_some}
 use Rattle.std.proofs.Math.Pow.{pow_mono}
 use Rattle.ca_quad.specs.Boxes.{IsDead, IsLeastWideBox}
 use Rattle.ca_quad.specs.Trees.{cell}
-use Rattle.ca_run.proofs.Framed.{framed, near_box}
+use Rattle.ca_run.proofs.LiveFrames.{framed, near_box}
 use Rattle.ca_run.proofs.Trees.{tree_dies}
 use Rattle.ca_run.proofs.leaper.Leaper.dense_wall.Goals as goal
 

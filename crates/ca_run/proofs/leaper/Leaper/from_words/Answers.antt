@@ -1,6 +1,6 @@
 use Rattle.std.proofs.Common.{arith}
 use Rattle.ca_run.proofs.Costs.{at_cost_more, at_both_costs}
-use Rattle.ca_run.proofs.Shown.{four_made}
+use Rattle.ca_run.proofs.ShownPlanes.{four_made}
 use Rattle.ca_run.proofs.leaper.Leaper.from_words.Goals as goal
 
 pub returns-clause-shows : goal.returns-clause-shows

@@ -1,7 +1,7 @@
 use Rattle.std.proofs.Common.{suc, sym, subst}
 use Rattle.ca_quad.specs.Squares.{IsOf}
 use Rattle.ca_run.specs.inner.Shown.{FourShow}
-use Rattle.ca_run.proofs.Shown.{leaper_stays, joined_at, joined_of}
+use Rattle.ca_run.proofs.ShownPlanes.{leaper_stays, joined_at, joined_of}
 use Rattle.ca_run.proofs.leaper.Leaper.join.Goals as goal
 
 pub invariant_of-self : goal.invariant_of-self

@@ -3,7 +3,7 @@ use Rattle.ca_quad.specs.Sound.{IsSoundStore, Grows}
 use Rattle.ca_quad.proofs.Firsts.{firsts_sound}
 use Rattle.ca_quad.proofs.Growth.{grows_same}
 use Rattle.ca_run.specs.Advanced.{IsAdvanced}
-use Rattle.ca_run.specs.inner.Apart.{IsMoved}
+use Rattle.ca_run.specs.inner.Apart.{IsCopyOfTree}
 use Rattle.ca_run.specs.inner.Dense.{HasReached}
 use Rattle.ca_run.proofs.Apart.{advanced_moved}
 use Rattle.ca_run.proofs.DenseRuns.{reached_moved}
@@ -39,5 +39,5 @@ returns-clause-advanced g c =
     let end = c.in_ok-end.field-0 in
     let there = subst (λ o. IsAdvanced (next c.part.new.self.rule) o first c.args.n s2 end) c.in_ok-tree.ensures.before c.in_ok-end.ensures.advanced in
     let advanced = subst (λ r. IsAdvanced (next r) s0 first c.args.n s2 end) c.in_ok-tree.ensures.keeps.rule there in
-    let moved = subst (λ s. IfOk c.take.result (IsMoved s end s3)) c.exchange-apart.ensures.before c.take.ensures.moved in
+    let moved = subst (λ s. IfOk c.take.result (IsCopyOfTree s end s3)) c.exchange-apart.ensures.before c.take.ensures.moved in
     advanced_moved (next c.args.self.now.rule) s0 s2 s3 first c.args.n end c.take.result advanced moved

@@ -6,14 +6,14 @@ use Rattle.ca_quad.specs.Trees.{IsTree, cell, IsTrimmed}
 use Rattle.ca_quad.specs.declared.node.Node.{Node}
 use Rattle.ca_quad.specs.declared.tree.Tree.{Tree}
 use Rattle.ca_quad.proofs.Shifts.{some_level}
-use Rattle.ca_run.specs.declared.leaper.dense.Reached.{Reached}
+use Rattle.ca_run.specs.declared.leaper.dense.ReachedTree.{ReachedTree}
 use Rattle.ca_run.specs.inner.Dense.{HasReached}
 use Rattle.ca_run.proofs.DenseRuns.{reached_kept, reached_level, reached_moved, leapt_on}
 use Rattle.ca_run.proofs.Trees.{shifted_one}
 use Rattle.ca_run.proofs.leaper.Leaper.leap_once.Goals as goal
 
 -- what is reached by a leap more, of 2 ^ j generations
-with_leap : (next : List ℕ → ℕ) (s0 s1 s2 : List Node) (first : Tree) (n : ℕ) (reached : Reached) → HasReached next s0 first n s1 reached → 1 ≤ first.level → (more : Tree) (j : ℕ) → j ≤ 60 → 2 ^ j ≤ n - reached.generations
+with_leap : (next : List ℕ → ℕ) (s0 s1 s2 : List Node) (first : Tree) (n : ℕ) (reached : ReachedTree) → HasReached next s0 first n s1 reached → 1 ≤ first.level → (more : Tree) (j : ℕ) → j ≤ 60 → 2 ^ j ≤ n - reached.generations
     → reached.generations < n → IsTree s2 more → IsTrimmed s2 more → ((x y : ℤ) → cell s2 more x y ≡ cells_after next (cell s1 reached.tree) (2 ^ j) x y)
     → HasReached next s0 first n s2 (record { tree = more; generations = reached.generations + 1 * 2 ^ j % 18446744073709551616 })
 with_leap next s0 s1 s2 first n reached run some more j low fits left is_tree trimmed leapt =

@@ -1,5 +1,5 @@
-use Rattle.ca_run.proofs.Loaded.{loaded_low}
-use Rattle.ca_run.proofs.Shown.{leaper_stays}
+use Rattle.ca_run.proofs.PlaneLevels.{loaded_low}
+use Rattle.ca_run.proofs.ShownPlanes.{leaper_stays}
 use Rattle.ca_run.proofs.leaper.Leaper.load_plane.Goals as goal
 
 pub invariant_of-self : goal.invariant_of-self

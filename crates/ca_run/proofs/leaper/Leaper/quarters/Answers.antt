@@ -1,6 +1,6 @@
 use Rattle.std.proofs.Common.{◌≡◌, suc, length, sym, ap, subst, arith}
 use Rattle.ca_quad.specs.Squares.{IsOf}
-use Rattle.ca_run.proofs.Shown.{quarters_at}
+use Rattle.ca_run.proofs.ShownPlanes.{quarters_at}
 use Rattle.ca_run.proofs.leaper.Leaper.quarters.Goals as goal
 
 pub returns-clause-shows : goal.returns-clause-shows

@@ -2,7 +2,7 @@ use Rattle.std.proofs.Common.{arith, suc, sym, subst, IfSome}
 use Rattle.std.proofs.lemmas.Bool.Decides.{nat_tests}
 use Rattle.ca_quad.specs.Squares.{IsOf}
 use Rattle.ca_run.specs.Centre.{IsCentre}
-use Rattle.ca_run.proofs.Shown.{recalled, kept_recalled, full_leap_recalled, leaper_looked}
+use Rattle.ca_run.proofs.ShownPlanes.{recalled, kept_recalled, full_leap_recalled, leaper_looked}
 use Rattle.ca_run.proofs.leaper.Leaper.recall.Goals as goal
 
 pub invariant_of-self : goal.invariant_of-self

@@ -1,7 +1,7 @@
 use Rattle.std.proofs.Common.{suc, sym, subst, IfSome}
 use Rattle.ca_quad.specs.Trees.{AreFour}
 use Rattle.ca_run.specs.Centre.{IsLeap}
-use Rattle.ca_run.proofs.Shown.{leap_recalled}
+use Rattle.ca_run.proofs.ShownPlanes.{leap_recalled}
 use Rattle.ca_run.proofs.leaper.Leaper.recall_leap.Goals as goal
 
 pub returns : goal.returns

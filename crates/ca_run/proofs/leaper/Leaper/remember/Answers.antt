@@ -1,7 +1,7 @@
 use Rattle.std.proofs.Common.{arith, sym, subst}
 use Rattle.std.proofs.lemmas.Bool.Decides.{nat_tests}
 use Rattle.ca_run.specs.Centre.{IsCentre}
-use Rattle.ca_run.proofs.Shown.{kept_more, full_leaps_more, singles_more}
+use Rattle.ca_run.proofs.ShownPlanes.{kept_more, full_leaps_more, singles_more}
 use Rattle.ca_run.proofs.leaper.Leaper.remember.Goals as goal
 
 pub invariant_of-self : goal.invariant_of-self

@@ -1,6 +1,6 @@
 use Rattle.std.proofs.Common.{sym, subst, arith}
 use Rattle.ca_run.specs.Centre.{IsLeap}
-use Rattle.ca_run.proofs.Shown.{leaps_more}
+use Rattle.ca_run.proofs.ShownPlanes.{leaps_more}
 use Rattle.ca_run.proofs.leaper.Leaper.remember_leap.Goals as goal
 
 pub invariant_of-self : goal.invariant_of-self

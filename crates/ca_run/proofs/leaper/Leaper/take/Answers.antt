@@ -1,4 +1,4 @@
-use Rattle.ca_run.proofs.Shown.{leaper_stays}
+use Rattle.ca_run.proofs.ShownPlanes.{leaper_stays}
 use Rattle.ca_run.proofs.leaper.Leaper.take.Goals as goal
 
 pub invariant_of-self : goal.invariant_of-self

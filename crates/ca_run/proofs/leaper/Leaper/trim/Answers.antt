@@ -2,7 +2,7 @@ use Rattle.std.proofs.Common.{sym, subst}
 use Rattle.ca_quad.specs.Trees.{IsTree}
 use Rattle.ca_quad.proofs.Shifts.{some_level}
 use Rattle.ca_run.proofs.Levels.{trim_level}
-use Rattle.ca_run.proofs.Shown.{leaper_stays}
+use Rattle.ca_run.proofs.ShownPlanes.{leaper_stays}
 use Rattle.ca_run.proofs.leaper.Leaper.trim.Goals as goal
 
 pub invariant_of-self : goal.invariant_of-self

@@ -1,5 +1,5 @@
 use Rattle.std.proofs.Common.{refl}
-use Rattle.ca_run.proofs.Written.{ShowsWindow-corner}
+use Rattle.ca_run.proofs.WrittenGenerations.{ShowsWindow-corner}
 use Rattle.ca_run.proofs.window.MovingWindow.new.Goals as goal
 
 pub returns-clause-shows : goal.returns-clause-shows

@@ -1,7 +1,7 @@
 use Rattle.std.proofs.Common.{map, [], ◌∷◌, ◌++◌, Some, if◌then◌else◌, refl, sym, ap, subst, ◌∙◌}
-use Rattle.ca_claims.specs.Text.{Claims, spoken}
+use Rattle.ca_claims.specs.Text.{Claims, said_lines}
 use Rattle.ca_claims.specs.inner.Reading.{claim_of, KeepsClaimLines, place_of}
-use Rattle.ca_claims.proofs.ReadOn.{names_loaded, names_known, read_claim, version_after}
+use Rattle.ca_claims.proofs.NextLines.{names_loaded, names_known, read_claim, version_after}
 use Rattle.ca_claims.proofs.claims.reading.Reading.claim.Goals as goal
 
 pub returns-clause-claimed : goal.returns-clause-claimed
@@ -16,7 +16,7 @@ returns-clause-claimed c = λ said read number.
       claimed.0,
       (
         subst (λ l. KeepsClaimLines (said ++ Some (Claims claim) ∷ []) (map (λ n. n.items) old.names.items) old.paths old.rules.items l (place_of old.places)) (sym items) claimed.1,
-        version_after said (Claims claim) c.after_line-self.result (c.after_line-self.ensures (spoken said) (Claims claim) read.1 refl),
+        version_after said (Claims claim) c.after_line-self.result (c.after_line-self.ensures (said_lines said) (Claims claim) read.1 refl),
       ),
     )
 

@@ -3,9 +3,9 @@ use Rattle.std.specs.Map.{update}
 use Rattle.std.specs.Str.{bytes_eq}
 use Rattle.std.proofs.lemmas.List.{map-append, length-map}
 use Rattle.std.proofs.lemmas.Map.Text.{hash_map_updates_str}
-use Rattle.ca_claims.specs.Text.{Load, spoken}
+use Rattle.ca_claims.specs.Text.{Load, said_lines}
 use Rattle.ca_claims.specs.inner.Reading.{KeepsClaimLines, place_of}
-use Rattle.ca_claims.proofs.ReadOn.{read_load, version_after}
+use Rattle.ca_claims.proofs.NextLines.{read_load, version_after}
 use Rattle.ca_claims.proofs.claims.reading.Reading.keep.Goals as goal
 
 pub returns : goal.returns
@@ -24,5 +24,5 @@ returns c = λ said read.
     (λ q. updated q ∙ ap (λ k. update bytes_eq (place_of old.places) name (Some (record { name = k; path = c.in_ok-put.field-0 })) q) last) in (
       subst (λ l. KeepsClaimLines (said ++ Some (Load name path) ∷ []) l c.put.new.self old.rules.items old.claims.items after) (sym more)
           (subst (λ l. KeepsClaimLines (said ++ Some (Load name path) ∷ []) (names ++ name ∷ []) l old.rules.items old.claims.items after) (sym c.in_ok-put.ensures.words) loaded),
-      version_after said (Load name path) c.after_line-self.result (c.after_line-self.ensures (spoken said) (Load name path) read.1 refl),
+      version_after said (Load name path) c.after_line-self.result (c.after_line-self.ensures (said_lines said) (Load name path) read.1 refl),
     )

@@ -1,7 +1,7 @@
 use Rattle.std.proofs.Common.{map, refl, sym}
 use Rattle.ca_claims.specs.Text.{Load}
 use Rattle.ca_claims.specs.inner.Reading.{place_of}
-use Rattle.ca_claims.proofs.ReadOn.{none_from, on_ok_holds, not_loaded}
+use Rattle.ca_claims.proofs.NextLines.{none_from, on_ok_holds, not_loaded}
 use Rattle.ca_claims.proofs.claims.reading.Reading.load.Goals as goal
 
 pub keep-requires : goal.keep-requires

@@ -1,8 +1,8 @@
 use Rattle.std.proofs.Common.{ℕ, List, [], ◌∷◌, ◌++◌, map, Some, slice_get, if◌then◌else◌, refl, sym, ap, subst, ◌∙◌}
-use Rattle.ca_claims.specs.Text.{Rule, spoken}
+use Rattle.ca_claims.specs.Text.{Rule, said_lines}
 use Rattle.ca_claims.specs.Words.{with_word}
 use Rattle.ca_claims.specs.inner.Reading.{KeepsClaimLines, place_of}
-use Rattle.ca_claims.proofs.ReadOn.{read_rule, version_after}
+use Rattle.ca_claims.proofs.NextLines.{read_rule, version_after}
 use Rattle.ca_claims.proofs.claims.reading.Reading.rule.Goals as goal
 
 pub returns-clause-ruled : goal.returns-clause-ruled
@@ -15,7 +15,7 @@ returns-clause-ruled c = λ said read.
     let ruled = read_rule said (map (λ n. n.items) old.names.items) old.paths old.rules.items old.claims.items (place_of old.places) read.0 path place at in (
       subst (λ l. KeepsClaimLines (said ++ Some (Rule path) ∷ []) (map (λ n. n.items) old.names.items) l c.push.new.self.items old.claims.items (place_of old.places)) (sym c.in-Ok.ensures.words)
           (subst (λ l. KeepsClaimLines (said ++ Some (Rule path) ∷ []) (map (λ n. n.items) old.names.items) (with_word old.paths path) l old.claims.items (place_of old.places)) (sym items) ruled),
-      version_after said (Rule path) c.after_line-self.result (c.after_line-self.ensures (spoken said) (Rule path) read.1 refl),
+      version_after said (Rule path) c.after_line-self.result (c.after_line-self.ensures (said_lines said) (Rule path) read.1 refl),
     )
 
 -- out of memory at a line that is allowed anywhere

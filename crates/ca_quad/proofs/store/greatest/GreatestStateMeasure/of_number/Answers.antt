@@ -1,6 +1,6 @@
 use Rattle.std.proofs.Common.{sym, subst}
 use Rattle.ca_quad.specs.inner.Greatest.{IsGreatestOf}
-use Rattle.ca_quad.proofs.Numbered.{greatest_of_number}
+use Rattle.ca_quad.proofs.NumberedSquares.{greatest_of_number}
 use Rattle.ca_quad.proofs.store.greatest.GreatestStateMeasure.of_number.Goals as goal
 
 pub returns : goal.returns

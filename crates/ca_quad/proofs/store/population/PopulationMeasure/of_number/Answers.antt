@@ -1,4 +1,4 @@
-use Rattle.ca_quad.proofs.Numbered.{count_of_number}
+use Rattle.ca_quad.proofs.NumberedSquares.{count_of_number}
 use Rattle.ca_quad.proofs.store.population.PopulationMeasure.of_number.Goals as goal
 
 pub returns : goal.returns

@@ -1,4 +1,4 @@
-use Rattle.ca_rule.proofs.Formed.{IfNone-from}
+use Rattle.ca_rule.proofs.SpelledDigits.{IfNone-from}
 use Rattle.ca_rule.proofs.GenerationsRead.{read-spelled, none-spelled}
 use Rattle.ca_rule.proofs.gen_rule.spelling.GenRuleNotation.spelling_of.Goals as goal
 

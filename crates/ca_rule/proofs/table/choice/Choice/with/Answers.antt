@@ -2,7 +2,7 @@ use Rattle.std.proofs.Common.{◌≡◌, ◌-◌, ◌≤◌, suc, length, take, 
 use Rattle.std.specs.Prelude.{remove}
 use Rattle.std.proofs.lemmas.List.{length-drop}
 use Rattle.std.proofs.Math.Seq.{take_all}
-use Rattle.ca_rule.proofs.Rotated.{take-rotated}
+use Rattle.ca_rule.proofs.RotatedLists.{take-rotated}
 use Rattle.ca_rule.proofs.table.choice.Choice.with.Goals as goal
 
 pub returns-clause-free : goal.returns-clause-free

@@ -1,7 +1,7 @@
 use Rattle.std.proofs.Common.{refl, subst, arith}
 use Rattle.std.proofs.lemmas.Result.{on_ok_weaker, IfErr-weaker}
 use Rattle.ca_rule.specs.TableLines.{fields_between, IsTransitionLine}
-use Rattle.ca_rule.specs.TableText.{nothing}
+use Rattle.ca_rule.specs.TableText.{no_statements}
 use Rattle.ca_rule.specs.inner.TableFields.{fields_left}
 use Rattle.ca_rule.specs.inner.TableNames.{number_in}
 use Rattle.ca_rule.specs.inner.TableSettings.{meaning_of}
@@ -11,12 +11,12 @@ use Rattle.ca_rule.proofs.table.statements.Statements.add.Goals as goal
 
 pub add_variable-requires-clause-fields : goal.add_variable-requires-clause-fields
 add_variable-requires-clause-fields c =
-    let is = c.in-Some.ensures 0 (meaning_of c.args.settings.now) nothing c.field_count-count.ensures.count in
+    let is = c.in-Some.ensures 0 (meaning_of c.args.settings.now) no_statements c.field_count-count.ensures.count in
     let k = subst (IsStatement (0, c.args.content.now) c.field_count-count.result) c.in-Variable.is is in k.are_fields
 
 pub add_transition-requires-clause-fields : goal.add_transition-requires-clause-fields
 add_transition-requires-clause-fields c =
-    let is = c.in-Some.ensures 0 (meaning_of c.args.settings.now) nothing c.field_count-count.ensures.count in
+    let is = c.in-Some.ensures 0 (meaning_of c.args.settings.now) no_statements c.field_count-count.ensures.count in
     let k = subst (IsStatement (0, c.args.content.now) c.field_count-count.result) c.in-Transition.is is in
     let count = k.count in
     let some = c.field_count-count.ensures.some in

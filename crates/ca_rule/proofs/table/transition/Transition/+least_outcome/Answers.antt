@@ -4,8 +4,8 @@ use Rattle.std.proofs.lemmas.Bool.Decides.{nat_tests}
 use Rattle.ca_rule.specs.TableOrders.{picks, every_order}
 use Rattle.ca_rule.specs.inner.TableSearch.{picked_outcome}
 use Rattle.ca_rule.specs.inner.TableChoice.{taken_of, free_of}
-use Rattle.ca_rule.proofs.Searched.{test-unfit, all-picks, one-pick, no-pick}
-use Rattle.ca_rule.proofs.Repeated.{repeated, led_to_none, none_here}
+use Rattle.ca_rule.proofs.OrderSearches.{test-unfit, all-picks, one-pick, no-pick}
+use Rattle.ca_rule.proofs.EqualPlaces.{repeated, led_to_none, none_here}
 use Rattle.ca_rule.proofs.table.transition.Transition.+least_outcome.Goals as goal
 
 pub returns-in-Some : goal.returns-in-Some

@@ -4,10 +4,10 @@ use Rattle.std.proofs.Math.Nat.{mul-le-mul_right}
 use Rattle.std.proofs.lemmas.Bool.Decides.{nat_tests}
 use Rattle.ca_plane.specs.Generations.{cells_after}
 use Rattle.ca_quad.specs.Trees.{cell}
-use Rattle.ca_run.specs.inner.Bricks.{WallShows, HasNeighbours, AllHaveNeighbours, IsNotIn, IsNextBrick, Rest, HasBlankEdge}
+use Rattle.ca_run.specs.inner.Bricks.{WallShows, HasNeighbours, AllHaveNeighbours, IsNotIn, IsNextBrick, BricksRest, HasBlankEdge}
 use Rattle.ca_run.proofs.BrickMargins.{wall_less}
 use Rattle.ca_run.proofs.Costs.{one_more}
-use Rattle.ca_run.proofs.Shown.{spends_same, spends_again}
+use Rattle.ca_run.proofs.ShownPlanes.{spends_same, spends_again}
 use Rattle.ca_run.proofs.LaterWalls.{edge_blank, wall_later, wall_seen, by_first, queue_inside}
 use Rattle.ca_run.proofs.bricks.wall.Wall.later.Goals as goal
 
@@ -66,9 +66,9 @@ generations-preserved g c =
           (λ _. subst (λ n. AllHaveNeighbours across n c.generations.awake.items) (sym made.size) inv.inside)
           (λ _. subst (λ n. AllHaveNeighbours across n c.generation.new.queue) (sym made.size) (queue_inside across (length old) c.generations.queue c.generation.new.queue inv.empty made.grows));
       empty = c.wake_next.ensures.empty;
-      rest = by_first (Rest c.args.masks across new before) (nat_eq k 0) _ _ _ c.wake_next.ensures.awake
+      rest = by_first (BricksRest c.args.masks across new before) (nat_eq k 0) _ _ _ c.wake_next.ensures.awake
           (λ e t has not_in. absurd (inv.all (grind (arith, nat_tests, e)) t (has_old t has) not_in))
-          (λ e. subst (λ l. Rest c.args.masks across new l c.generation.new.queue) (sym made.before) (made.rest (inv.next (grind (arith, nat_tests, e)))));
+          (λ e. subst (λ l. BricksRest c.args.masks across new l c.generation.new.queue) (sym made.before) (made.rest (inv.next (grind (arith, nat_tests, e)))));
       next = λ _ t has. subst (λ l. IsNextBrick c.args.masks across l new t) (sym made.before) (made.next t (has_old t has));
       edge = made.edge inv.edge_before;
       edge_before = subst (λ l. HasBlankEdge across l) (sym made.before) inv.edge;

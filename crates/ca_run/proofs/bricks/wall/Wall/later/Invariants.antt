@@ -2,7 +2,7 @@ use Rattle.std.proofs.Common.{◌≡◌, ℕ, ◌+◌, ◌-◌, ◌*◌, ◌≤�
 use Rattle.ca_plane.specs.Generations.{cells_after}
 use Rattle.ca_quad.specs.Trees.{cell}
 use Rattle.ca_run.specs.Leaping.{Spends}
-use Rattle.ca_run.specs.inner.Bricks.{WallShows, IsInPlace, AllHaveNeighbours, HasNeighbours, IsNotIn, IsNextBrick, Rest, HasBlankEdge}
+use Rattle.ca_run.specs.inner.Bricks.{WallShows, IsInPlace, AllHaveNeighbours, HasNeighbours, IsNotIn, IsNextBrick, BricksRest, HasBlankEdge}
 use Rattle.ca_run.proofs.bricks.wall.Wall.later.Given as goal
 
 -- the wall so many generations on, and which of its bricks are awake: all of them before the first generation and after it
@@ -14,7 +14,7 @@ invariant-generations g l = record {
   size : length l.before.items ≡ length l.self.bricks.items;
   inside : AllHaveNeighbours l.self.across (length l.self.bricks.items) l.awake.items;
   empty : l.queue ≡ [];
-  rest : Rest l.fn.masks l.self.across l.self.bricks.items l.before.items l.awake.items;
+  rest : BricksRest l.fn.masks l.self.across l.self.bricks.items l.before.items l.awake.items;
   next : 1 ≤ l.k → (t : ℕ) → HasNeighbours l.self.across (length l.self.bricks.items) t → IsNextBrick l.fn.masks l.self.across l.before.items l.self.bricks.items t;
   edge : HasBlankEdge l.self.across l.self.bricks.items;
   edge_before : HasBlankEdge l.self.across l.before.items;

@@ -21,5 +21,5 @@ returns c = λ m p shows.
     let y = c.args.self.now.y in
     let e : pos i ≡ c.args.at.i = omega (arith, ints, c.if-at-lt0.false) in
     let f : pos j ≡ c.args.at.j = omega (arith, ints, c.if-at-lt0-2.false) in
-    subst (λ v. WordShows c.word_of.result p (x +ℤ eight c.args.at.i) (y +ℤ eight v)) f
-    (subst (λ u. WordShows c.word_of.result p (x +ℤ eight u) (y +ℤ eight (pos j))) e (word_there c.word_of.result i j p x y (c.word_of.ensures p _ _ (c.brick.ensures m p shows))))
+    subst (λ v. WordShows c.brick_word.result p (x +ℤ eight c.args.at.i) (y +ℤ eight v)) f
+    (subst (λ u. WordShows c.brick_word.result p (x +ℤ eight u) (y +ℤ eight (pos j))) e (word_there c.brick_word.result i j p x y (c.brick_word.ensures p _ _ (c.brick.ensures m p shows))))

@@ -13,7 +13,7 @@ returns c = λ masks x by h most.
     let one = bit_at count.ones x in
     let two = bit_at count.twos x in
     let four = bit_at count.fours x in
-    let below = told_by_bit told four (0 + one + 2 * two) (4 + one + 2 * two) (one + 2 * two + 4 * four) _ _ _ (bit_at-lt count.fours x) (c.chosen-low.ensures x)
+    let below = told_by_bit told four (0 + one + 2 * two) (4 + one + 2 * two) (one + 2 * two + 4 * four) _ _ _ (bit_at-lt count.fours x) (c.select_bits-low.ensures x)
     (c.next_of_four-below.ensures masks x by h) (c.next_of_four-above.ensures masks x by h) (λ e. omega (arith, e)) (λ e. omega (arith, e)) in
-    told_by_bit told (bit_at count.eights x) (one + 2 * two + 4 * four) 8 (count_at count x) _ _ _ (bit_at-lt count.eights x) (c.chosen.ensures x) below (c.next.ensures masks x by h)
+    told_by_bit told (bit_at count.eights x) (one + 2 * two + 4 * four) 8 (count_at count x) _ _ _ (bit_at-lt count.eights x) (c.select_bits.ensures x) below (c.next.ensures masks x by h)
     (λ e. omega (arith, e)) (λ e. omega (arith, e, most))

@@ -10,5 +10,5 @@ returns c = λ masks x are h.
     let n = c.args.n in
     let one = bit_at c.args.count.ones x in
     let two = bit_at c.args.count.twos x in
-    told_by_bit (next_by_count masks.0 masks.1 (bit_at c.args.alive x)) two (n + one) (n + 2 + one) (n + one + 2 * two) _ _ _ (bit_at-lt c.args.count.twos x) (c.chosen.ensures x)
+    told_by_bit (next_by_count masks.0 masks.1 (bit_at c.args.alive x)) two (n + one) (n + 2 + one) (n + one + 2 * two) _ _ _ (bit_at-lt c.args.count.twos x) (c.select_bits.ensures x)
     (c.next_of_two-2.ensures masks x are h) (c.next_of_two.ensures masks x are h) (λ e. omega (arith, e)) (λ e. omega (arith, e))

@@ -5,8 +5,8 @@ use Rattle.ca_run.proofs.leaper.memo.Memo.admit.Goals as goal
 
 pub invariant_of-self-2 : goal.invariant_of-self-2
 invariant_of-self-2 c = record {
-  held = rw c.in_ok-gone.ensures.entries (put-held c.self.inside.order c.args.key c.args.half c.self.inside.pages.items c.close.new.pages.items c.self.invariant.most c.self.invariant.held
-      (λ n page e. let r = c.close.ensures.rest n page e in (r.0, λ w d. r.1 w (c.in_ok-gone.ensures.old ∙ d))));
+  held = rw c.in_ok-gone.ensures.entries (put-held c.self.inside.order c.args.key c.args.half c.self.inside.pages.items c.drop_page.new.pages.items c.self.invariant.most c.self.invariant.held
+      (λ n page e. let r = c.drop_page.ensures.rest n page e in (r.0, λ w d. r.1 w (c.in_ok-gone.ensures.old ∙ d))));
   most = c.len-keys.ensures.valid.1;
 }
 

@@ -1,0 +1,121 @@
+-- Trees as a leaper goes on: what was known of them stays, and what the pictures that they show have after some generations.
+use Rattle.std.proofs.Common.{◌≡◌, ℕ, List, Option, Some, None, Result, Ok, Err, MatchOption, refl, sym, subst, ◌∙◌}
+use Rattle.std.specs.Prelude.{ℤ, ◌-ℤ◌, IfOk, IsNone}
+use Rattle.ca_plane.specs.Plane.{Picture, shifted}
+use Rattle.ca_plane.specs.Plane as plane
+use Rattle.ca_plane.proofs.Shifts.{cell-shifted}
+use Rattle.ca_plane.specs.Generations.{after, IsAfter}
+use Rattle.ca_quad.specs.declared.node.Node.{Node}
+use Rattle.ca_quad.specs.declared.tree.Tree.{Tree}
+use Rattle.ca_quad.specs.declared.tree.Spot.{Spot}
+use Rattle.ca_quad.specs.Sound.{IsSoundStore, Grows}
+use Rattle.ca_quad.specs.Trees.{IsTree, cell}
+use Rattle.ca_quad.specs.Shifted.{shifted_cells}
+use Rattle.ca_quad.proofs.Cells.{of_stays}
+use Rattle.ca_quad.proofs.Trims.{trees_stay}
+use Rattle.ca_run.proofs.After.{after_same}
+use Rattle.ca_claims.specs.declared.claims.asks.Asks.{Asks}
+use Rattle.ca_claims.specs.declared.claims.asks.Wanted.{Wanted}
+use Rattle.ca_claims.specs.declared.decide.ClaimTrees.{ClaimTrees}
+use Rattle.ca_claims.specs.declared.decide.Case.{Case}
+use Rattle.ca_claims.specs.declared.verdict.Why.{Why}
+use Rattle.ca_claims.specs.declared.verdict.Why.TheVariants.{Empty, Differs, Earlier, Died}
+use Rattle.ca_claims.specs.Truth.{wanted_cells, claimed_cells}
+use Rattle.ca_claims.specs.inner.Subjects.{ShowsTree, HasLive, IsPattern, IsNearTree, IsCase, BarsReturn, BarsDeath, AreShown, IsEndTree, IsDifference}
+
+-- ---- the store grows
+
+module _ (old new : List Node) (sound : IsSoundStore old) (grows : Grows old new) where
+  pub shows_stays : (tree : Tree) (p : Picture) → IsTree old tree → ShowsTree old tree p → ShowsTree new tree p
+  shows_stays tree p is shows = λ x y. shows x y ∙ sym (trees_stay old new sound grows tree is x y)
+
+  pub near_stays : (tree : Tree) → IsNearTree old tree → IsNearTree new tree
+  near_stays tree h = record {
+    is_tree = of_stays old new sound grows tree.root tree.level h.is_tree;
+    low = h.low;
+    near = λ x y out. trees_stay old new sound grows tree h.is_tree x y ∙ h.near x y out;
+  }
+
+  pub pattern_stays : (tree : Tree) → IsPattern old tree → IsPattern new tree
+  pattern_stays tree h = record {
+    is_tree = of_stays old new sound grows tree.root tree.level h.is_tree;
+    low = h.low;
+    trimmed = λ level some less holds. h.trimmed level some less (λ x y live. holds x y (λ z. live (sym (trees_stay old new sound grows tree h.is_tree x y) ∙ z)));
+    range = λ x y live. h.range x y (λ z. live (trees_stay old new sound grows tree h.is_tree x y ∙ z));
+  }
+
+  pub case_stays : (case : Case) → IsCase old case → IsCase new case
+  case_stays case h = record {
+    pattern = pattern_stays case.subject.pattern h.pattern;
+    other = pattern_stays case.subject.other h.other;
+    bounded = h.bounded;
+  }
+
+  live_stays : (tree : Tree) → IsTree old tree → HasLive (cell old tree) → HasLive (cell new tree)
+  live_stays tree is live = (live.0, live.1, λ z. live.2 (sym (trees_stay old new sound grows tree is live.0 live.1) ∙ z))
+
+  pub bars_stays : (case : Case) → BarsReturn old case → BarsReturn new case
+  bars_stays case h = record {
+    subject = case_stays case h.subject;
+    barred = h.barred;
+    live = live_stays case.subject.pattern h.subject.pattern.is_tree h.live;
+  }
+
+  pub death_stays : (case : Case) → BarsDeath old case → BarsDeath new case
+  death_stays case h = record {
+    subject = case_stays case h.subject;
+    barred = h.barred;
+    live = live_stays case.subject.pattern h.subject.pattern.is_tree h.live;
+  }
+
+  pub shown_stays : (subject : ClaimTrees) → IsTree old subject.pattern → IsTree old subject.other → (cells other : Picture) → AreShown old subject cells other → AreShown new subject cells other
+  shown_stays subject one two cells other shown = record {
+    one = shows_stays subject.pattern cells one shown.one;
+    two = shows_stays subject.other other two shown.two;
+  }
+
+-- ---- pictures that are shown
+
+-- what follows of an `Ok`
+pub ok_as : {T E : Type 0} (r : Result T E) (P Q : T → Type 0) → ((t : T) → P t → Q t) → IfOk r P → IfOk r Q
+ok_as (Ok t) P Q turn h = turn t h
+ok_as (Err e) P Q turn h = tt
+
+-- a tree that shows another one's cells, moved, shows a picture of that one, moved
+pub moved_shown : (old new : List Node) (other tree : Tree) (p : Picture) (dx dy : ℤ) → ShowsTree old other p → ((x y : ℤ) → cell new tree x y ≡ shifted_cells (cell old other) dx dy x y)
+    → ShowsTree new tree (shifted p dx dy)
+moved_shown old new other tree p dx dy shows is = λ x y. cell-shifted p dx dy x y ∙ shows (x -ℤ dx) (y -ℤ dy) ∙ sym (is x y)
+
+-- the claimed cells are those that are wanted, moved
+pub claimed_shown : (nodes : List Node) (tree : Tree) (asks : Asks) (wanted : Wanted) (cells other : Picture) → asks.wanted ≡ wanted
+    → ShowsTree nodes tree (shifted (wanted_cells wanted cells other) asks.dx asks.dy) → ShowsTree nodes tree (claimed_cells asks cells other)
+claimed_shown nodes tree asks wanted cells other is shows = subst (λ w. ShowsTree nodes tree (shifted (wanted_cells w cells other) asks.dx asks.dy)) (sym is) shows
+
+-- the tree some generations on shows what the picture has then
+pub shows_after : (next : List ℕ → ℕ) (old new : List Node) (pattern end : Tree) (n : ℕ) (cells : Picture) → IsEndTree next old pattern n new end → ShowsTree old pattern cells
+    → (x y : ℤ) → after next cells n x y ≡ cell new end x y
+shows_after next old new pattern end n cells is shows x y =
+    after_same next (plane.cell cells) (cell old pattern) n shows x y ∙ sym (is.shows x y)
+
+-- what differs there differs from the claimed cells
+pub difference_as : (p q r s : ℤ → ℤ → ℕ) (n : ℕ) (why : Option Why) → ((x y : ℤ) → r x y ≡ p x y) → ((x y : ℤ) → s x y ≡ q x y)
+    → MatchOption why ((x y : ℤ) → p x y ≡ q x y) (IsDifference p q n) → MatchOption why ((x y : ℤ) → r x y ≡ s x y) (IsDifference r s n)
+difference_as p q r s n None e f same = λ x y. e x y ∙ same x y ∙ sym (f x y)
+difference_as p q r s n (Some Empty) e f other = absurd other
+difference_as p q r s n (Some (Differs x y found claimed generations)) e f other = (other.0, e x y ∙ other.1, f x y ∙ other.2, other.3)
+difference_as p q r s n (Some (Earlier m dx dy)) e f other = absurd other
+difference_as p q r s n (Some (Died m)) e f other = absurd other
+
+-- what is found of the tree some generations on and of the claimed one is found of their pictures
+pub wrong_cell : (next : List ℕ → ℕ) (s0 s1 s2 : List Node) (pattern end wanted : Tree) (n : ℕ) → IsEndTree next s0 pattern n s1 end → Grows s0 s1 → Grows s1 s2 → (cells claimed_cells : Picture)
+    → ShowsTree s0 pattern cells → ShowsTree s2 wanted claimed_cells → (why : Option Why) → MatchOption why ((x y : ℤ) → cell s2 end x y ≡ cell s2 wanted x y) (IsDifference (cell s2 end) (cell s2 wanted) n)
+    → MatchOption why (IsAfter next cells n claimed_cells) (IsDifference (after next cells n) (plane.cell claimed_cells) n)
+wrong_cell next s0 s1 s2 pattern end wanted n is grows grows_on cells claimed_cells shows stands why told =
+    difference_as (cell s2 end) (cell s2 wanted) (after next cells n) (plane.cell claimed_cells) n why
+    (λ x y. shows_after next s0 s1 pattern end n cells is shows x y ∙ sym (trees_stay s1 s2 grows.sound grows_on end is.near.is_tree x y)) stands told
+
+-- what is told of a place that was found is told of the trees as they were before
+pub difference_told : (p q r s : ℤ → ℤ → ℕ) (n : ℕ) (why : Option Why) (found : Option Spot) → ((x y : ℤ) → r x y ≡ p x y) → ((x y : ℤ) → s x y ≡ q x y)
+    → (IsNone found → (x y : ℤ) → r x y ≡ s x y) → MatchOption why (found ≡ None) (IsDifference p q n) → MatchOption why ((x y : ℤ) → r x y ≡ s x y) (IsDifference r s n)
+difference_told p q r s n None found e f same none = same (subst IsNone (sym none) refl)
+difference_told p q r s n (Some why) found e f same told = difference_as p q r s n (Some why) e f told

@@ -1,0 +1,7 @@
+use Rattle.std.proofs.Common.{take}
+use Rattle.ca_tool.specs.Catalog.{AreRuleTables}
+use Rattle.ca_tool.proofs.catalog.parse_tables.Given as goal
+
+-- the rule files so far hold these tables
+abbrev pub invariant-rules : goal.invariant-rules
+invariant-rules l = AreRuleTables (take l.file-index l.rules) l.tables.items
