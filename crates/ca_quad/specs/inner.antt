@@ -1,4 +1,4 @@
--- What only private contracts speak of.
+-- What private contracts speak of; `Boxes`, which public ones cite, rests on some of it.
 pub mod Whole
 pub mod IdForm
 pub mod Window

@@ -121,8 +121,8 @@ impl<A: Automaton> Leaper<A> {
 
     /// How many results were worked out so far: no more than may be. A result is the centre of a square that
     /// isn't empty, after some generations, that wasn't remembered; or a brick of a plane that is stepped,
-    /// one generation on. As one result counts what is copied of up to 4096 squares, where a run needed a
-    /// store of its own.
+    /// one generation on; or a square that is made of such bricks again. As one result counts what is copied
+    /// of up to 4096 squares, where a run needed a store of its own.
     pub fn used(&self) -> u64
         ensures value { result ≡ self.now.spent.used }
         ensures most { result ≤ self.now.spent.limit }

@@ -165,7 +165,8 @@ smaller memo takes less memory, and a claim may take longer, and more work.
 
 --work N refuses a claim that needs more than N units of work: `line 2: refused, work`. A unit is the centre of
 one square after some generations that wasn't remembered, or one brick of 64 by 16 cells of a dense plane, one
-generation on. Each claim has its own count and its own memo.
+generation on. Squares that are made of bricks again, or copied in a long run, count too. Each claim has its own
+count and its own memo.
 
 The status is 0 where every verdict is yes, 1 where some are no, and 2 where some are refused or there is a
 fault. A text that can't be read or is faulty is told on standard error, and the others are judged.
