@@ -1,19 +1,15 @@
 -- A picture has no more live cells than it lists.
-use Rattle.std.proofs.Common.{◌≡◌, ◌≢◌, ℕ, ◌≤◌, length, Bool, true, map, ap, subst, ◌∙◌, arith}
+use Rattle.std.proofs.Common.{◌≡◌, ◌≢◌, ℕ, ◌≤◌, length, map, ap, ◌∙◌, arith}
 use Rattle.std.specs.Prelude.{ℤ}
-use Rattle.std.specs.Bool.{Decides}
 use Rattle.std.specs.List.{Contains}
-use Rattle.std.specs.Ordering.{eq_by_cmp}
 use Rattle.std.proofs.lemmas.Cmp.{eq_by_cmp_equiv}
 use Rattle.std.proofs.lemmas.List.{get_or-map, length-map}
 use Rattle.std.proofs.lemmas.List.Elements.{All-contains, All-from_recursion}
 use Rattle.std.proofs.lemmas.Map.Made.{is_member-Decides, length-le_from_is_member, IsDistinct-from_AllPairs}
-use Rattle.std.proofs.lemmas.Map.Views.{tells_apart}
 use Rattle.ca_plane.specs.declared.point.Point.{Point}
 use Rattle.ca_plane.specs.Plane.{Picture, cell}
 use Rattle.ca_plane.specs.Population.{HasPopulation}
-use Rattle.ca_plane.specs.Sparse.{point_cmp}
-use Rattle.ca_plane.proofs.Pictures.{point_cmp_total, point_cmp_exact, Contains-cell}
+use Rattle.ca_plane.proofs.Pictures.{point_cmp_total, Contains-cell}
 use Rattle.ca_plane.proofs.Populations.{is_point, Decides-is_point}
 
 -- the place of a live cell is listed

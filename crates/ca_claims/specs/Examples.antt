@@ -1,5 +1,5 @@
 -- Small claim texts and patterns, for which the definitions are worked out.
-use Rattle.std.specs.Prelude.{ℕ, pos, neg_ℤ, List, [], ◌∷◌, ◌++◌, Option, None, Some, codes}
+use Rattle.std.specs.Prelude.{ℕ, pos, neg_ℤ, List, [], ◌∷◌, Option, None, Some, codes}
 use Rattle.ca_plane.specs.Bytes.{text_of}
 use Rattle.ca_plane.specs.Plane.{Picture}
 use Rattle.ca_rule.specs.Counts.{counts_of}
