@@ -353,7 +353,9 @@ def try_refused(tally, files):
     long = files.path("long.rle", BLOCK.encode().ljust(67108865))
     tally.expect("a file that is too long", run(["identify", long]), Outcome(f"# long: {long}: no file\n".encode(), b"", 2))
     path = "examples/r_pentomino.rle"
-    tally.expect("no work", run(["identify", "--work", "0", path, good]), Outcome(f"# r_pentomino: {path}: work\n# good: {good}: work\n".encode(), b"", 2))
+    no_work = Outcome(f"# r_pentomino: {path}: work\n# good: {good}: work\n".encode(), b"", 2)
+    tally.expect("no work", run(["identify", "--work", "0", path, good]), no_work)
+    tally.expect("no work, explained", run(["identify", "--explain", "--work", "0", path, good]), no_work)
     empty = files.path("empty.rle", EMPTY)
     tally.expect("no live cell", run(["identify", "--work", "0", empty]), ample(entry("empty", empty, "# no cell is live").encode()))
     for memo in (1, 1000, 16777216):

@@ -234,10 +234,11 @@ def try_words(tally, refusing):
         tell_words(tally, refusing, example_words(f"{name}.words"), ample, f"examples/{name}.words", less)
 
 
-def with_version(lines):
-    """The text of `identify` with these lines on its files, and the outcome of a run that prints it."""
+def with_version(lines, is_explained=False):
+    """The text of `identify` with these lines on its files, and the outcome of a run that prints it, and the line of a fault where that is explained."""
     text = "".join(("claims 2\n" * any("\ndies " in it for it in lines), *lines))
-    return Outcome(text.encode(), b"", 2 if any(re.search("^# .*: .*: ", it, re.M) for it in lines) else 0)
+    notes = [f"  {path}, line {line}\n" for it in lines for path, line in re.findall(r"^# \S+: (\S+): .*, line (\d+)$", it, re.M)]
+    return Outcome(text.encode(), "".join(notes * is_explained).encode(), 2 if any(re.search("^# .*: .*: ", it, re.M) for it in lines) else 0)
 
 
 def try_identify(tally, refusing):
@@ -249,14 +250,15 @@ def try_identify(tally, refusing):
     paths = [*(path for path, _ in files.values()), "examples/bad/syntax.rle"]
     clock = "examples/tables/wireworld_clock.rle"
     rule = "rule examples/tables/wireworld.rule\n"
-    for words, names, wanted in ((["identify", *paths], [*files, "syntax"], lines),
+    for words, names, wanted in ((["identify", *paths], [*files, "syntax"], lines), (["identify", "--explain", *paths], [*files, "syntax"], lines),
                                  (["identify", "--rule", "examples/tables/wireworld.rule", clock], ["wireworld_clock"], [f"{rule}load wireworld_clock {clock}\noscillator wireworld_clock 6\n"])):
         memory = [f"{rule * ('--rule' in words)}# {name}: {path}: memory\n" for name, path in zip(names, [it for it in words if it.endswith((".rle", ".mc"))])]
-        refused = [with_version([*wanted[:at], memory[at], *wanted[at + 1:]]) for at in range(len(wanted))]
+        explained = "--explain" in words
+        refused = [with_version([*wanted[:at], memory[at], *wanted[at + 1:]], explained) for at in range(len(wanted))]
         outcomes = refusing.sweep(words, itertools.count(1))
-        complaints = [f"allocation {number}: {it}" for number, it in outcomes.items() if it not in (with_version(wanted), NO_MEMORY, *refused)]
+        complaints = [f"allocation {number}: {it}" for number, it in outcomes.items() if it not in (with_version(wanted, explained), NO_MEMORY, *refused)]
         complaints += [f"never met: {it}" for it in (NO_MEMORY, *refused) if it not in outcomes.values()]
-        tally.tell(f"refused memory, identify {' '.join(names)}: {len(outcomes)} allocations refused", complaints)
+        tally.tell(f"refused memory, identify {'--explain ' * explained}{' '.join(names)}: {len(outcomes)} allocations refused", complaints)
 
 
 def try_larger(tally, refusing):

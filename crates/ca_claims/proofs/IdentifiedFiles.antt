@@ -19,7 +19,7 @@ use Rattle.ca_claims.specs.declared.claims.asks.Barred.TheVariants.{Nothing, InP
 use Rattle.ca_claims.specs.declared.claims.line.Kind.{Kind}
 use Rattle.ca_claims.specs.declared.identity.Identity.{Identity}
 use Rattle.ca_claims.specs.declared.identity.Identity.TheVariants.{Empty, StillLife, Oscillator, Spaceship, Dies, Unknown}
-use Rattle.ca_claims.specs.declared.identity.Unidentified.{Unidentified}
+use Rattle.ca_claims.specs.declared.detailed_fault.DetailedFault.{DetailedFault}
 use Rattle.ca_claims.specs.declared.ruled.RuledPattern.{RuledPattern}
 use Rattle.ca_claims.specs.declared.verdict.Cause.{Cause}
 use Rattle.ca_claims.specs.declared.verdict.Cause.TheVariants.{NoFile, BadTable, BadPattern, BadRule, StateTooLarge, MixedRules, TooManyCells, Work, Memory}
@@ -108,7 +108,7 @@ module _ (next : List ℕ → ℕ) (p q : Picture) (same : (x y : ℤ) → plane
   )
 
 -- so what is found of a file's pattern after no generations is found of it
-pub identified_now : (bytes : List ℕ) (tables : List TableRule) (limit : ℕ) (result : Result Identity Unidentified) → IfOk result (IsIdentifiedAfter bytes tables 0 limit) → IfOk result (IsIdentified bytes tables limit)
+pub identified_now : (bytes : List ℕ) (tables : List TableRule) (limit : ℕ) (result : Result Identity (DetailedFault Cause)) → IfOk result (IsIdentifiedAfter bytes tables 0 limit) → IfOk result (IsIdentified bytes tables limit)
 identified_now bytes tables limit (Ok identity) (cells, rule, holds, (later, stands, is)) = (cells, rule, holds, same_identity (next_of rule) later cells (λ x y. sym (stands x y)) limit identity is)
 identified_now bytes tables limit (Err why) none = tt
 
@@ -132,7 +132,7 @@ reason_now bytes tables work limit more TooManyCells line h = h
 reason_now bytes tables work limit more Work line (none, cells, rule, holds, need) = (none, cells, rule, holds, needs_now work (after (next_of rule) cells) limit more need)
 reason_now bytes tables work limit more Memory line h = h
 
-pub unidentified_now : (bytes : List ℕ) (tables : List TableRule) (work limit : ℕ) → 1 ≤ limit → (result : Result Identity Unidentified) → IfErr result (IsUnidentifiedAfter bytes tables work 0 limit)
+pub unidentified_now : (bytes : List ℕ) (tables : List TableRule) (work limit : ℕ) → 1 ≤ limit → (result : Result Identity (DetailedFault Cause)) → IfErr result (IsUnidentifiedAfter bytes tables work 0 limit)
     → IfErr result (IsUnidentified bytes tables work limit)
 unidentified_now bytes tables work limit more (Ok identity) none = tt
-unidentified_now bytes tables work limit more (Err why) (reason, text) = (reason_now bytes tables work limit more why.cause why.line reason, text)
+unidentified_now bytes tables work limit more (Err why) (reason, text) = (reason_now bytes tables work limit more why.fault why.line reason, text)

@@ -13,7 +13,7 @@ use Rattle.ca_claims.specs.declared.claims.line.Kind.TheVariants as kind
 use Rattle.ca_claims.specs.declared.identity.Identity.{Identity}
 use Rattle.ca_claims.specs.declared.identity.Identity.TheVariants.{Empty, StillLife, Oscillator, Spaceship, Dies, Unknown}
 use Rattle.ca_claims.specs.declared.identity.Growth.{Growth}
-use Rattle.ca_claims.specs.declared.identity.Unidentified.{Unidentified}
+use Rattle.ca_claims.specs.declared.detailed_fault.DetailedFault.{DetailedFault}
 use Rattle.ca_claims.specs.declared.verdict.Cause.{Cause}
 use Rattle.ca_claims.specs.declared.verdict.Cause.TheVariants.{BadPattern, BadRule, StateTooLarge, Work, Memory}
 use Rattle.ca_claims.specs.Text.{HasGoodNumbers}
@@ -110,9 +110,9 @@ IsTextOf bytes (BadRule fault) None = ⊥
 IsTextOf bytes (BadRule fault) (Some text) = HoldsRuleText text.items bytes
 IsTextOf bytes cause text = text ≡ None
 
-abbrev pub IsUnidentified : List ℕ → List TableRule → (work limit : ℕ) → Unidentified → Type 0
-IsUnidentified bytes tables work limit unidentified =
-    IsUnidentifiedFor bytes tables work limit unidentified.cause unidentified.line × IsTextOf bytes unidentified.cause unidentified.rule_text
+abbrev pub IsUnidentified : List ℕ → List TableRule → (work limit : ℕ) → DetailedFault Cause → Type 0
+IsUnidentified bytes tables work limit refused =
+    IsUnidentifiedFor bytes tables work limit refused.fault refused.line × IsTextOf bytes refused.fault refused.rule_text
 
 -- the first reason for which it isn't found out what the plane of a pattern is n generations on: the same, but that the run to there takes work too
 abbrev pub IsUnidentifiedAfterFor : List ℕ → List TableRule → (work n limit : ℕ) → Cause → Option ℕ → Type 0
@@ -120,6 +120,6 @@ IsUnidentifiedAfterFor bytes tables work n limit Work line = (line ≡ None) × 
     × HoldsSmallPattern bytes tables cells rule × MayNeedWorkAfter work n (after (next_of rule) cells) limit
 IsUnidentifiedAfterFor bytes tables work n limit cause line = IsUnidentifiedFor bytes tables work limit cause line
 
-abbrev pub IsUnidentifiedAfter : List ℕ → List TableRule → (work n limit : ℕ) → Unidentified → Type 0
-IsUnidentifiedAfter bytes tables work n limit unidentified =
-    IsUnidentifiedAfterFor bytes tables work n limit unidentified.cause unidentified.line × IsTextOf bytes unidentified.cause unidentified.rule_text
+abbrev pub IsUnidentifiedAfter : List ℕ → List TableRule → (work n limit : ℕ) → DetailedFault Cause → Type 0
+IsUnidentifiedAfter bytes tables work n limit refused =
+    IsUnidentifiedAfterFor bytes tables work n limit refused.fault refused.line × IsTextOf bytes refused.fault refused.rule_text

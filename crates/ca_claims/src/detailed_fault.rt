@@ -1,8 +1,8 @@
-//! Why a pattern file isn't taken up.
+//! Why a pattern file isn't taken up or identified.
 
 ghost use Rattle.std.specs.Prelude.{◌≡◌, None};
 
-/// Why a pattern file isn't taken up, with what is known of the fault where it is found.
+/// Why a pattern file isn't taken up or identified, with what is known of the fault where it is found.
 #[derive(Debug, Drop)]
 pub struct DetailedFault<F> {
     /// The fault.

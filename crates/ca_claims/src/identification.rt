@@ -1,19 +1,15 @@
 //! What a pattern is: its plane is looked at after one generation after the other.
 
-ghost use Rattle.std.specs.Prelude.{◌≡◌, ℕ, ◌≤◌, List, None, IfOk, IfErr};
+ghost use Rattle.std.specs.Prelude.{◌≡◌, ℕ, ◌≤◌, IfOk, IfErr};
 ghost use Rattle.ca_plane.specs.Plane.{Picture};
 ghost use Rattle.ca_plane.specs.Generations.{cells_after};
 ghost use Rattle.ca_quad.specs.Trees.{cell};
-ghost use Rattle.ca_rule.specs.TableNext.{TableRule};
 ghost use Rattle.ca_run.specs.Leaping.{LeaperGrows, EndsAtLimit};
 ghost use Rattle.ca_claims.specs.Identified.{IsIdentified, IsUnidentified};
 ghost use Rattle.ca_claims.specs.Identified.{IsIdentityAfter, IsIdentifiedAfter, IsUnidentifiedAfter};
 ghost use Rattle.ca_claims.specs.Limited.{AreGoodLimits};
-ghost use Rattle.ca_claims.specs.Converted.{IsSummaryFault};
-ghost use Rattle.ca_claims.specs.DetailedFault.{HasDetail};
 ghost use Rattle.ca_plane.specs.Limits.{longest_period, most_generations};
 ghost use Rattle.ca_claims.specs.inner.Patterns.{cause_of};
-ghost use Rattle.ca_claims.specs.inner.Ready.{IsReady};
 ghost use Rattle.ca_claims.specs.inner.Stages.{TakesRunAndSteps};
 ghost use Rattle.ca_claims.specs.inner.Subjects.{ShowsTree, IsPattern};
 
@@ -24,7 +20,7 @@ mod stage;
 
 use crate::conversion::ConvertFault;
 use crate::detailed_fault::DetailedFault;
-use crate::identity::{Identity, Unidentified};
+use crate::identity::Identity;
 use crate::limits::Limits;
 use crate::observer::Observer;
 use crate::ruled::{RuledPattern, read_ruled};
@@ -39,8 +35,8 @@ use stage::First;
 use std::alloc::Global;
 
 /// No memory to find out what a pattern is.
-const OUT_OF_MEMORY: Unidentified = Unidentified {
-    cause: Cause::Memory,
+const OUT_OF_MEMORY: DetailedFault<Cause> = DetailedFault {
+    fault: Cause::Memory,
     line: None,
     rule_text: None,
 };
@@ -63,7 +59,7 @@ pub fn identify<O: Observer>(
     limits: Limits,
     limit: u64,
     observer: &mut O,
-) -> Result<Identity, Unidentified>
+) -> Result<Identity, DetailedFault<Cause>>
     requires limits { AreGoodLimits limits }
     requires some { 1 ≤ limit }
     requires most { limit ≤ longest_period }
@@ -88,7 +84,7 @@ pub fn identify_after<O: Observer>(
     limits: Limits,
     limit: u64,
     observer: &mut O,
-) -> Result<Identity, Unidentified>
+) -> Result<Identity, DetailedFault<Cause>>
     requires limits { AreGoodLimits limits }
     requires few { generations ≤ most_generations }
     requires some { 1 ≤ limit }
@@ -98,7 +94,13 @@ pub fn identify_after<O: Observer>(
         (IsUnidentifiedAfter bytes.now tables.now limits.work generations limit) }
 {
     let mut store = Store::new(alloc);
-    let RuledPattern { pattern, rule } = read_small(alloc, &mut store, bytes, tables)?;
+    let RuledPattern { pattern, rule } = match read_ruled(alloc, &mut store, bytes, tables) {
+        Ok(ruled) => ruled,
+        Err(refused) => {
+            let cause = cause_of(refused.fault);
+            return Err(refused.with_fault(cause));
+        }
+    };
     let Ok(mut leaper) = Leaper::new(alloc, store, rule, limits.memo, limits.work) else {
         return Err(OUT_OF_MEMORY);
     };
@@ -112,51 +114,7 @@ pub fn identify_after<O: Observer>(
     ) {
         Ok(identity) => Ok(identity),
         Err(LeapFault::Memory) => Err(OUT_OF_MEMORY),
-        Err(LeapFault::Work) => Err(of_file(Cause::Work)),
-    }
-}
-
-/// A cause without a line or a rule text.
-fn of_file(cause: Cause) -> Unidentified
-    ensures cause { result.cause ≡ cause }
-    ensures line { result.line ≡ None }
-    ensures rule_text { result.rule_text ≡ None }
-{
-    Unidentified {
-        cause,
-        line: None,
-        rule_text: None,
-    }
-}
-
-/// Reads a pattern file into the store: a pattern of small states under a rule that its rule text names among
-/// the tables.
-fn read_small<'t>(
-    alloc: Global,
-    store: &mut Store,
-    bytes: &[u8],
-    tables: &'t [Table],
-) -> Result<RuledPattern<'t>, Unidentified>
-    ensures ready { IfOk result (IsReady store.new bytes.now tables.now) }
-    ensures unidentified { (work n limit : ℕ)
-        → IfErr result (IsUnidentifiedAfter bytes.now tables.now work n limit) }
-{
-    match read_ruled(alloc, store, bytes, tables) {
-        Ok(ruled) => Ok(ruled),
-        Err(refused) => Err(identification_refusal(refused)),
-    }
-}
-
-/// Why the pattern of a file that isn't taken up isn't identified.
-fn identification_refusal(refused: DetailedFault<ConvertFault>) -> Unidentified
-    ensures { (bytes : List ℕ) (tables : List TableRule) (work n limit : ℕ)
-        → IsSummaryFault bytes tables refused.fault → HasDetail bytes refused
-        → IsUnidentifiedAfter bytes tables work n limit result }
-{
-    Unidentified {
-        cause: cause_of(refused.fault),
-        line: refused.line,
-        rule_text: refused.rule_text,
+        Err(LeapFault::Work) => Err(DetailedFault::of(Cause::Work)),
     }
 }
 

@@ -1,6 +1,5 @@
 //! What a pattern is.
 
-use crate::verdict::Cause;
 use ca_plane::Bounds;
 
 /// What a pattern is found to be, by what its plane shows after one generation after the other, up to a
@@ -29,17 +28,4 @@ pub enum Identity {
 pub struct Growth {
     pub cells: u128,
     pub bounds: Bounds,
-}
-
-/// Why it isn't found out what a pattern is.
-#[derive(Debug, PartialEq, Eq, Drop)]
-pub struct Unidentified {
-    /// The cause: that the file doesn't read, that its rule text names no rule, that a state is too large, or
-    /// that work or memory is out.
-    pub cause: Cause,
-    /// Where the cause is a fault that stands on a line of the file, this is the line. Lines are counted from
-    /// 1.
-    pub line: Option<u64>,
-    /// Where the file's rule text names no rule, this is the text.
-    pub rule_text: Option<Vec<u8>>,
 }

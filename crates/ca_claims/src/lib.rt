@@ -42,7 +42,7 @@ pub use file::File;
 pub use format::{Format, Format as Target};
 pub use glance::{summary, summary_with_detail};
 pub use identification::{identify, identify_after};
-pub use identity::{Growth, Identity, Unidentified};
+pub use identity::{Growth, Identity};
 pub use judge::Judge;
 pub use laws::{no_fault_in_claim_text, one_fault, one_meaning, worked_examples};
 pub use limits::{Limits, USUAL_MEMO};

@@ -1,5 +1,5 @@
 -- What the text of entries says.
-use Rattle.std.proofs.Common.{◌≡◌, ℕ, ◌+◌, true, false, List, [], ◌∷◌, ◌++◌, map, None, Some, codes, decimal, nat_eq, refl, ap, sym, ◌∙◌, inl, inr, subst, arith}
+use Rattle.std.proofs.Common.{◌≡◌, ℕ, ◌+◌, true, false, List, [], ◌∷◌, ◌++◌, map, Option, None, Some, codes, decimal, nat_eq, refl, ap, sym, ◌∙◌, inl, inr, subst, arith}
 use Rattle.std.specs.Prelude.{IsSome}
 use Rattle.std.specs.Fmt.{signed_decimal}
 use Rattle.std.specs.List.{flat_map, list_any}
@@ -17,6 +17,8 @@ use Rattle.ca_claims.specs.declared.claims.line.Kind.TheVariants as kind
 use Rattle.ca_claims.specs.declared.file.File.{File}
 use Rattle.ca_claims.specs.declared.identity.Identity.{Identity}
 use Rattle.ca_claims.specs.declared.identity.Growth.{Growth}
+use Rattle.ca_claims.specs.declared.verdict.Cause.{Cause}
+use Rattle.ca_claims.specs.declared.verdict.Cause.TheVariants as causes
 use Rattle.ca_claims.specs.declared.identity.Identity.TheVariants.{Empty, StillLife, Oscillator, Spaceship, Dies, Unknown}
 use Rattle.ca_plane.specs.Limits.{greatest_shift}
 use Rattle.ca_claims.specs.Text.{ClaimTextLine, Version, Rule, Load, Claims, is_second, path_of, ClaimLinesSay}
@@ -24,14 +26,15 @@ use Rattle.ca_claims.specs.Identified.{IsIdentity}
 use Rattle.ca_claims.proofs.LinesSaid.{path_of-append}
 use Rattle.ca_claims.proofs.PathLists.{bytes_eq_self}
 use Rattle.ca_tool.specs.declared.entry.Content.{Content}
-use Rattle.ca_tool.specs.declared.entry.Content.TheVariants.{Bytes, Missing}
+use Rattle.ca_tool.specs.declared.entry.Content.TheVariants.{Bytes, Missing, FaultyRule}
 use Rattle.ca_tool.specs.declared.entry.Subject.{Subject}
 use Rattle.ca_tool.specs.declared.entry.Outcome.{Outcome}
+use Rattle.ca_tool.specs.declared.entry.Outcome.TheVariants as outcomes
 use Rattle.ca_tool.specs.declared.entry.Outcome.TheVariants.{Unnameable, Identified, Refused}
 use Rattle.ca_tool.specs.declared.entry.Entry.{Entry}
 use Rattle.ca_tool.specs.Printed.{cause_text, at_line, generations_word, side_length}
 use Rattle.ca_tool.specs.Names.{is_claim_path, is_taken}
-use Rattle.ca_tool.specs.Catalog.{cells_word, growth_text, none_text, later_text, later_line, found_line, claims_death, identity_line, line_byte, entry_lines, outcome_lines, rule_line, version_line, catalog_text, is_death, IsContentOutcome, IsEntry, AreEntries}
+use Rattle.ca_tool.specs.Catalog.{cells_word, growth_text, none_text, later_text, later_line, found_line, refused_line, claims_death, identity_line, line_byte, entry_lines, outcome_lines, rule_line, version_line, catalog_text, is_death, IsContentOutcome, IsEntry, AreEntries}
 use Rattle.ca_tool.specs.CatalogSays.{claim_line, identity_says, found_says, outcome_says, entry_says, version_says, AreRuleWords, SaysItsClaims}
 use Rattle.ca_tool.proofs.Saying.{is_inner, TextSays, says_none, says_then, says_words, says_comment, inner_word, line_end, line_more}
 use Rattle.ca_tool.proofs.NameWords.{word_by_test, path_word, free_word, digits_word, integer_word, decimal_inner, signed_inner, line_bytes_inner}
@@ -137,15 +140,21 @@ second_stays (Rule path ∷ ls) more h = absurd (false≢true h)
 second_stays (Load name path ∷ ls) more h = absurd (false≢true h)
 second_stays (Claims claim ∷ ls) more h = absurd (false≢true h)
 
+-- the comment on a file that is refused says nothing
+refused_said : (earlier : List ClaimTextLine) (name path : List ℕ) (cause : Cause) (line : Option ℕ) → IsWord name → is_claim_path path ≡ true → TextSays earlier (refused_line name path cause line) []
+refused_said earlier name path cause line word fits =
+    says_comment earlier _ (line_more name _ (inner_word name word) (line_more (codes ": ") _ refl (line_more path _ (inner_word path (path_word path fits)) (line_more (codes ": ") _ refl
+    (line_more (cause_text cause) _ (cause_inner cause) (line_more (at_line line) _ (at_inner line) line_end))))))
+
 -- the lines on a file say its name and its claim, after lines that don't load the name
 outcome_said : (tables : List TableRule) (work n limit : ℕ) (earlier : List ClaimTextLine) (name path : List ℕ) (content : Content) (outcome : Outcome)
     → is_claim_path path ≡ true → IsContentOutcome tables work n limit content outcome → IsWord name → path_of earlier name ≡ None → (nat_eq n 0 ≡ true → is_death outcome ≡ true → is_second earlier ≡ true)
     → TextSays earlier (outcome_lines n limit name path outcome) (outcome_says n name path outcome)
 outcome_said tables work n limit earlier name path content Unnameable fits is word free second = absurd is
-outcome_said tables work n limit earlier name path content (Refused why) fits is word free second =
-    says_comment earlier _ (line_more name _ (inner_word name word) (line_more (codes ": ") _ refl (line_more path _ (inner_word path (path_word path fits)) (line_more (codes ": ") _ refl
-    (line_more (cause_text why.cause) _ (cause_inner why.cause) (line_more (at_line why.line) _ (at_inner why.line) line_end))))))
+outcome_said tables work n limit earlier name path content (Refused why) fits is word free second = refused_said earlier name path why.fault why.line word fits
+outcome_said tables work n limit earlier name path content (outcomes.FaultyRule rule) fits is word free second = refused_said earlier name path (causes.BadTable rule.fault) None word fits
 outcome_said tables work n limit earlier name path (Missing cause) (Identified identity) fits is word free second = absurd is
+outcome_said tables work n limit earlier name path (FaultyRule rule) (Identified identity) fits is word free second = absurd is
 outcome_said tables work n limit earlier name path (Bytes bytes) (Identified identity) fits (cells, rule, holds, (later, stands, is)) word free second =
     says_then earlier _ _ (Load name path ∷ []) (found_says n name identity)
     (says_words earlier (codes "load" ∷ name ∷ path ∷ []) (Load name path) (refl, (word, (path_word path fits, tt))) refl refl free)
@@ -191,6 +200,7 @@ found_loads n name other identity = elim (cases_Bool (nat_eq n 0)) [ inl e ↦ r
 no_other : (n : ℕ) (name path other : List ℕ) (outcome : Outcome) → bytes_eq name other ≡ false → path_of (outcome_says n name path outcome) other ≡ None
 no_other n name path other Unnameable h = refl
 no_other n name path other (Refused why) h = refl
+no_other n name path other (outcomes.FaultyRule rule) h = refl
 no_other n name path other (Identified identity) h = rw h (found_loads n name other identity)
 
 -- a name that is none of those taken and of one more
@@ -243,8 +253,7 @@ version_loads n entries name = elim (cases_Bool (claims_death n entries)) [ inl 
 
 -- the whole text says all that
 pub catalog_said : SaysItsClaims
-catalog_said subjects rules work n limit text code words catalog =
-    let entries = catalog.entries in
+catalog_said subjects rules work n limit text entries words catalog =
     let version = version_says n entries in
     let before = version ++ rules_say rules in
     let all = says_then [] (version_line n entries) (flat_map rule_line rules ++ flat_map (entry_lines n limit) entries) version (rules_say rules ++ flat_map (entry_says n) entries) (version_said n entries)

@@ -1,25 +1,27 @@
--- What `identify` prints: a claim text with the claims that are true of files (our own; docs/CLAIMS.md).
-use Rattle.std.specs.Prelude.{◌≡◌, ◌≢◌, ℕ, List, [], ◌∷◌, ◌++◌, ◌+◌, map, Bool, true, false, ◌&&◌, codes, decimal, nat_eq, if◌then◌else◌, None, ◌⊎◌}
+-- What `identify` prints: a claim text with the claims that are true of files, and the lines of `--explain` (our own; docs/CLAIMS.md).
+use Rattle.std.specs.Prelude.{◌≡◌, ◌≢◌, ℕ, List, [], ◌∷◌, ◌++◌, ◌+◌, map, Bool, true, false, ◌&&◌, codes, decimal, nat_eq, if◌then◌else◌, Option, None, ◌⊎◌}
 use Rattle.std.specs.Fmt.{signed_decimal}
-use Rattle.std.specs.List.{flat_map, list_any, AllZip}
+use Rattle.std.specs.List.{flat_map, list_any, list_all, AllZip}
 use Rattle.ca_plane.specs.Bytes.{is_line_end}
 use Rattle.ca_rule.specs.TableNext.{TableRule}
 use Rattle.ca_claims.specs.declared.file.File.{File}
 use Rattle.ca_claims.specs.declared.identity.Identity.{Identity}
 use Rattle.ca_claims.specs.declared.identity.Identity.TheVariants.{Empty, StillLife, Oscillator, Spaceship, Dies, Unknown}
 use Rattle.ca_claims.specs.declared.identity.Growth.{Growth}
-use Rattle.ca_claims.specs.declared.identity.Unidentified.{Unidentified}
+use Rattle.ca_claims.specs.declared.verdict.Cause.{Cause}
+use Rattle.ca_claims.specs.declared.verdict.Cause.TheVariants as causes
 use Rattle.ca_claims.specs.Answers.{IsQuietTable, IsTableFault, FirstBad}
 use Rattle.ca_claims.specs.Identified.{IsIdentifiedAfter, IsUnidentifiedAfter}
 use Rattle.ca_tool.specs.declared.entry.Content.{Content}
-use Rattle.ca_tool.specs.declared.entry.Content.TheVariants.{Bytes, Missing}
+use Rattle.ca_tool.specs.declared.entry.Content.TheVariants.{Bytes, Missing, FaultyRule}
 use Rattle.ca_tool.specs.declared.entry.Subject.{Subject}
 use Rattle.ca_tool.specs.declared.entry.Outcome.{Outcome}
+use Rattle.ca_tool.specs.declared.entry.Outcome.TheVariants as outcomes
 use Rattle.ca_tool.specs.declared.entry.Outcome.TheVariants.{Unnameable, Identified, Refused}
 use Rattle.ca_tool.specs.declared.entry.Entry.{Entry}
 use Rattle.ca_tool.specs.declared.fault.ToolFault.{ToolFault}
 use Rattle.ca_tool.specs.declared.fault.ToolFault.TheVariants as tools
-use Rattle.ca_tool.specs.Printed.{cause_text, at_line, generations_word, side_length}
+use Rattle.ca_tool.specs.Printed.{cause_text, at_line, generations_word, side_length, rule_file_line, cause_explanation}
 use Rattle.ca_tool.specs.Names.{is_claim_path, claim_name, IsFreeName}
 
 -- the line that gives a name to a file
@@ -68,8 +70,8 @@ abbrev pub found_line : (n limit : ℕ) → List ℕ → Identity → List ℕ
 found_line n limit name identity = if nat_eq n 0 then identity_line limit name identity else later_line n limit name identity
 
 -- the comment on a file that is refused: why, and on which line of the file, where it has such a line
-abbrev pub refused_line : List ℕ → List ℕ → Unidentified → List ℕ
-refused_line name path why = codes "# " ++ (name ++ (codes ": " ++ (path ++ (codes ": " ++ (cause_text why.cause ++ (at_line why.line ++ 10 ∷ []))))))
+abbrev pub refused_line : List ℕ → List ℕ → Cause → Option ℕ → List ℕ
+refused_line name path cause line = codes "# " ++ (name ++ (codes ": " ++ (path ++ (codes ": " ++ (cause_text cause ++ (at_line line ++ 10 ∷ []))))))
 
 -- a byte of a line, or `_` in place of LF
 abbrev pub line_byte : ℕ → ℕ
@@ -82,7 +84,8 @@ unnameable_line name path = codes "# " ++ (name ++ (codes ": " ++ (map line_byte
 -- the lines on a file by what came of it
 abbrev pub outcome_lines : (n limit : ℕ) → List ℕ → List ℕ → Outcome → List ℕ
 outcome_lines n limit name path Unnameable = unnameable_line name path
-outcome_lines n limit name path (Refused why) = refused_line name path why
+outcome_lines n limit name path (Refused why) = refused_line name path why.fault why.line
+outcome_lines n limit name path (outcomes.FaultyRule rule) = refused_line name path (causes.BadTable rule.fault) None
 outcome_lines n limit name path (Identified identity) = load_line name path ++ found_line n limit name identity
 
 abbrev pub entry_lines : (n limit : ℕ) → Entry → List ℕ
@@ -109,24 +112,37 @@ version_line n entries = if claims_death n entries then codes "claims 2" ++ 10 �
 abbrev pub catalog_text : (n limit : ℕ) → List File → List Entry → List ℕ
 catalog_text n limit rules entries = version_line n entries ++ (flat_map rule_line rules ++ flat_map (entry_lines n limit) entries)
 
--- the file isn't identified
-abbrev pub is_refused : Outcome → Bool
-is_refused Unnameable = true
-is_refused (Refused why) = true
-is_refused (Identified identity) = false
+-- the file is identified
+abbrev pub is_identified : Outcome → Bool
+is_identified (Identified identity) = true
+is_identified outcome = false
 
 -- the exit status: 2 where a file isn't identified, else 0
 abbrev pub catalog_status : List Entry → ℕ
-catalog_status entries = if list_any (λ entry. is_refused entry.outcome) entries then 2 else 0
+catalog_status entries = if list_all (λ entry. is_identified entry.outcome) entries then 0 else 2
+
+-- the line that explains what came of the file of a path, where there is something to tell: the file or its rule file, and what is known of the fault
+abbrev pub outcome_explanation : List ℕ → Outcome → List ℕ
+outcome_explanation path (Refused why) = cause_explanation path why
+outcome_explanation path (outcomes.FaultyRule rule) = rule_file_line rule.path.now rule.fault
+outcome_explanation path outcome = []
+
+abbrev pub entry_explanation : Entry → List ℕ
+entry_explanation entry = outcome_explanation entry.path.now entry.outcome
+
+-- these lines of all files, in order
+abbrev pub catalog_explanation : List Entry → List ℕ
+catalog_explanation entries = flat_map entry_explanation entries
 
 -- what came of a file that gave this is true of it: n generations on its plane is this, or that isn't found out for this reason; or there are no bytes of it,
--- for this cause
+-- for this cause; or this rule file of its isn't good
 abbrev pub IsContentOutcome : List TableRule → (work n limit : ℕ) → Content → Outcome → Type 0
 IsContentOutcome tables work n limit content Unnameable = ⊥
 IsContentOutcome tables work n limit (Bytes bytes) (Identified identity) = IsIdentifiedAfter bytes.now tables n limit identity
 IsContentOutcome tables work n limit (Bytes bytes) (Refused why) = IsUnidentifiedAfter bytes.now tables work n limit why
-IsContentOutcome tables work n limit (Missing cause) (Identified identity) = ⊥
-IsContentOutcome tables work n limit (Missing cause) (Refused why) = (why.cause ≡ cause) × (why.line ≡ None) × (why.rule_text ≡ None)
+IsContentOutcome tables work n limit (Missing cause) (Refused why) = why ≡ record { fault = cause; line = None; rule_text = None }
+IsContentOutcome tables work n limit (FaultyRule rule) (outcomes.FaultyRule told) = told ≡ rule
+IsContentOutcome tables work n limit content outcome = ⊥
 
 -- no claim text can name the file's path; or one can, and what came of the file is true of what it gave
 abbrev pub IsOutcome : List TableRule → (work n limit : ℕ) → Subject → Outcome → Type 0
@@ -154,15 +170,13 @@ AreEntries tables work n limit taken (s ∷ ss) (e ∷ es) =
 abbrev pub AreRuleTables : List File → List TableRule → Type 0
 AreRuleTables rules tables = AllZip (λ file table. IsQuietTable file.bytes.now table) rules tables
 
--- the text has true entries on these files, under the tables of the rule files, and the code is their exit status
+-- these are true entries on these files, under the tables of the rule files, and the text has their lines
 pub record IsCatalog (subjects : List Subject) (rules : List File) (work n limit : ℕ) (text : List ℕ)
-    (code : ℕ) : Type 0 where
+    (entries : List Entry) : Type 0 where
   pub tables : List TableRule
   pub known : AreRuleTables rules tables
-  pub entries : List Entry
   pub holds : AreEntries tables work n limit [] subjects entries
   pub lines : text ≡ catalog_text n limit rules entries
-  pub status : code ≡ catalog_status entries
 
 -- why no text is written: this is the fault of the first rule file that is no good table, or memory is out
 abbrev pub IsCatalogFault : List Subject → List File → ToolFault → Type 0

@@ -8,7 +8,7 @@ use Rattle.ca_claims.specs.declared.identity.Identity.{Identity}
 use Rattle.ca_claims.specs.declared.identity.Identity.TheVariants.{Empty, StillLife, Oscillator, Spaceship, Dies, Unknown}
 use Rattle.ca_claims.specs.Text.{ClaimTextLine, Version, Rule, Load, Claims, IsClaimText, said_lines}
 use Rattle.ca_tool.specs.declared.entry.Outcome.{Outcome}
-use Rattle.ca_tool.specs.declared.entry.Outcome.TheVariants.{Unnameable, Identified, Refused}
+use Rattle.ca_tool.specs.declared.entry.Outcome.TheVariants.{Identified}
 use Rattle.ca_tool.specs.declared.entry.Entry.{Entry}
 use Rattle.ca_tool.specs.declared.entry.Subject.{Subject}
 use Rattle.ca_tool.specs.Names.{is_word}
@@ -33,9 +33,8 @@ found_says n name identity = if nat_eq n 0 then identity_says name identity else
 
 -- the name of a file that is identified, and its claim; nothing of any other file
 abbrev pub outcome_says : ℕ → List ℕ → List ℕ → Outcome → List ClaimTextLine
-outcome_says n name path Unnameable = []
-outcome_says n name path (Refused why) = []
 outcome_says n name path (Identified identity) = Load name path ∷ found_says n name identity
+outcome_says n name path outcome = []
 
 abbrev pub entry_says : ℕ → Entry → List ClaimTextLine
 entry_says n entry = outcome_says n entry.name.items entry.path.now entry.outcome
@@ -60,5 +59,5 @@ AreRuleWords rules = AllByRecursion (λ file. is_word file.path.now ≡ true) ru
 
 -- the text that `identify` prints says just the claims that are true of the patterns; after some generations it makes no claim
 abbrev pub SaysItsClaims : Type 0
-SaysItsClaims = (subjects : List Subject) (rules : List File) (work n limit : ℕ) (text : List ℕ) (code : ℕ) → AreRuleWords rules
-    → (catalog : IsCatalog subjects rules work n limit text code) → SaysOf text (catalog_says n rules catalog.entries)
+SaysItsClaims = (subjects : List Subject) (rules : List File) (work n limit : ℕ) (text : List ℕ) (entries : List Entry) → AreRuleWords rules
+    → IsCatalog subjects rules work n limit text entries → SaysOf text (catalog_says n rules entries)

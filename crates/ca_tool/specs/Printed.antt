@@ -295,17 +295,32 @@ findings_text style findings = flat_map (finding_text style) findings
 abbrev pub pattern_line : List ℕ → Option ℕ → Option (Vec ℕ Global) → List ℕ
 pattern_line path line text = codes "  " ++ (path ++ (at_line line ++ (rule_words text ++ 10 ∷ [])))
 
+-- the line about a rule file that is no good table
+abbrev pub rule_file_line : List ℕ → TableFault → List ℕ
+rule_file_line path fault = file_line [] (codes "rule file") path (Some (table_line fault))
+
 -- the line that explains a fault of a run over a pattern file: it names the rule file or the pattern file, with what is known of the fault. A fault
 -- that names its file, or is about none, has no such line
 abbrev pub explanation_of : ToolFault → Option ℕ → Option (Vec ℕ Global) → RunPaths → List ℕ
 explanation_of (tools.Input fault) line text paths = []
-explanation_of (tools.BadTable fault) line text paths = file_line [] (codes "rule file") paths.rule.now (Some (table_line fault))
+explanation_of (tools.BadTable fault) line text paths = rule_file_line paths.rule.now fault
 explanation_of tools.Write line text paths = []
 explanation_of tools.Memory line text paths = []
 explanation_of fault line text paths = pattern_line paths.pattern.now line text
 
 abbrev pub explanation : RefusedFor ToolFault → RunPaths → List ℕ
 explanation refused paths = explanation_of refused.fault refused.line refused.rule_text paths
+
+-- the line that explains why the pattern of a file isn't identified: the file, with what is known of its fault. A cause that doesn't lie in the file has
+-- no such line
+abbrev pub cause_explanation_of : List ℕ → Cause → Option ℕ → Option (Vec ℕ Global) → List ℕ
+cause_explanation_of path (causes.BadPattern fault) line text = pattern_line path line text
+cause_explanation_of path (causes.BadRule fault) line text = pattern_line path line text
+cause_explanation_of path causes.StateTooLarge line text = pattern_line path line text
+cause_explanation_of path cause line text = []
+
+abbrev pub cause_explanation : List ℕ → RefusedFor Cause → List ℕ
+cause_explanation path refused = cause_explanation_of path refused.fault refused.line refused.rule_text
 
 -- the name of a format
 abbrev pub format_name : Format → List ℕ

@@ -16,13 +16,13 @@ pub record Sends {W T E : Type 0} (contents : W → Option (List ℕ)) (old new 
   pub counted : OnErr result (Rises old.failures new.failures)
   pub front : OnErr result (AppendsPrefix (contents old.inner) (contents new.inner) text)
 
--- one of some texts is written whole, with its status; or a first part of one that may be begun, and then a write fails, which is counted; or
+-- one of some texts is written whole, with what is told of it; or a first part of one that may be begun, and then a write fails, which is counted; or
 -- nothing, for another fault, which holds
-pub record WritesOneOf {W : Type 0} (contents : W → Option (List ℕ)) (old new : Counted W)
-    (IsText : List ℕ → ℕ → Type 0) (IsBegun : List ℕ → Type 0)
-    (IsFault : ToolFault → Type 0) (result : Result ℕ ToolFault) : Type 0 where
+pub record WritesOneOf {W T : Type 0} (contents : W → Option (List ℕ)) (old new : Counted W)
+    (IsText : List ℕ → T → Type 0) (IsBegun : List ℕ → Type 0)
+    (IsFault : ToolFault → Type 0) (result : Result T ToolFault) : Type 0 where
   -- all of such a text was written, and no failure was counted
-  pub whole : IfOk result (λ status. (text : List ℕ) × IsText text status × Appends (contents old.inner) (contents new.inner) text)
+  pub whole : IfOk result (λ told. (text : List ℕ) × IsText text told × Appends (contents old.inner) (contents new.inner) text)
   pub kept : OnOk result (new.failures ≡ old.failures)
   -- a write failed, after a first part of such a text, but not all of it
   pub front : IsErrOf result Write → (text : List ℕ) × IsBegun text × AppendsPrefix (contents old.inner) (contents new.inner) text

@@ -1,203 +1,85 @@
-//! Runs of `identify`: pattern files in, a claim text out with the claims that are true of them.
+//! What came of files that were to be identified: the claim text, the exit status, and the lines of `--explain`.
 
-ghost use Rattle.std.specs.Prelude.{◌≡◌, ◌≢◌, ℕ, ◌≤◌, ◌<◌, ◌+◌, ◌^◌, ◌++◌, ◌∷◌, [], IfOk, IfErr, OnOk, OnErr, ◌⊎◌};
-ghost use Rattle.std.specs.List.{list_any, flat_map};
+ghost use Rattle.std.specs.Prelude.{◌≡◌, ◌≢◌, ◌<◌, ◌+◌, ◌^◌, [], IfOk, OnOk, OnErr, ◌⊎◌};
+ghost use Rattle.std.specs.List.{list_any, list_all, flat_map};
 ghost use Rattle.ca_plane.specs.Puts.{Puts};
-ghost use Rattle.ca_rule.specs.TableNext.{TableRule};
-ghost use Rattle.ca_rule.specs.declared.table.fault.TableFault.TheVariants as table_fault;
-ghost use Rattle.ca_claims.specs.Answers.{IsQuietTable, IsTableFault, FirstBad};
-ghost use Rattle.ca_claims.specs.Limited.{AreGoodLimits};
-ghost use Rattle.ca_plane.specs.Limits.{longest_period, most_generations};
-ghost use Rattle.ca_tool.specs.Catalog.{is_death, claims_death, is_refused};
+ghost use Rattle.ca_tool.specs.Catalog.{is_death, claims_death, is_identified};
 ghost use Rattle.ca_tool.specs.Catalog.{version_line, rule_line, entry_lines, catalog_text};
-ghost use Rattle.ca_tool.specs.Catalog.{catalog_status, IsOutcome, IsEntry, AreEntries};
-ghost use Rattle.ca_tool.specs.Catalog.{AreRuleTables, IsCatalog, IsCatalogFault};
+ghost use Rattle.ca_tool.specs.Catalog.{catalog_status, entry_explanation, catalog_explanation};
 ghost use Rattle.ca_tool.specs.CatalogSays.{SaysItsClaims};
-ghost use Rattle.ca_tool.specs.Writing.{WritesOneOf};
-ghost use Rattle.ca_tool.specs.inner.Searches.{IsGoodSearch};
+ghost use Rattle.ca_tool.specs.Writing.{Sends};
 
-use crate::entry::{Content, Entry, Outcome, Subject};
+use crate::entry::{Entry, Outcome};
 use crate::entry_lines::{push_entry, push_rule};
-use crate::fault::ToolFault;
-use crate::names::{add_name, is_claim_path};
-use ca_claims::{File, Identity, Limits, Observer, Unidentified, WordSet, identify_after};
+use crate::explanation::outcome_explanation_pieces;
+use crate::pieces::send_pieces;
+use ca_claims::{File, Identity};
 use ca_plane::text::push_text;
-use ca_plane::{Dev, Memory, send};
-use ca_rule::{Table, TableFault};
+use ca_plane::{Dev, Memory, WriteFault};
 use std::alloc::Global;
 use std::io::Write;
+use std::marker::Model;
 
-/// Identifies the patterns of files, and writes a claim text: for each file, in order, a `load` line and the claim
-/// that is true of its pattern, or a comment. It answers the exit status: 2 where a file isn't identified, else 0.
-/// Where some generations are asked for, at most 1152921504606846976, the planes that the patterns have then are
-/// identified in place of them, and the text says of these in comments alone.
-///
-/// The patterns are looked at for as many generations as the limit says, from 1 to 4294967295, and each within the
-/// limits. Rules are looked for among the tables of the rule files, which the text names too. No two files have
-/// one name in the text. The observer hears of each file by its number, counted from 1, in place of a line.
-///
-/// # Errors
-///
-/// Fails for the first rule file that is no good table, and where there is no memory for the tables, the names or
-/// the text. Then nothing is written. Nothing is written before all files are identified.
-pub fn identify_run<W: Write, O: Observer>(
-    alloc: Global,
-    subjects: &[Subject<'_>],
-    rules: &[File<'_>],
-    generations: u64,
-    limits: Limits,
-    limit: u64,
+/// What came of files that were to be identified, in order.
+#[derive(Drop)]
+pub struct Catalog<'a> {
+    entries: Vec<Entry<'a>>,
+}
+
+impl<'a> Model for Catalog<'a> {
+    ghost use Rattle.std.specs.Prelude.{List};
+    ghost use Rattle.ca_tool.specs.declared.entry.Entry.{Entry};
+
+    ghost Value = { List Entry };
+
+    ghost view = { λ c. c.entries.items };
+}
+
+impl<'a> Catalog<'a> {
+    /// The catalog of these entries.
+    pub(crate) fn of(entries: Vec<Entry<'a>>) -> Catalog<'a>
+        ensures { result ≡ entries.entry.items }
+    {
+        Catalog { entries }
+    }
+
+    /// The exit status: 2 where a file isn't identified, else 0.
+    pub fn status(&self) -> u8
+        ensures { result ≡ catalog_status self.now }
+    {
+        catalog_status(&self.entries)
+    }
+
+    /// Writes a line for each file that isn't identified because it or its rule file is faulty: which file that is,
+    /// and what is known of its fault.
+    ///
+    /// It takes no memory. After a failure some first part of the lines was written, but not all of them.
+    pub fn explain<W: Write>(&self, device: &mut Dev<W>) -> Result<(), WriteFault>
+        ensures sends { Sends W.contents device.old device.new
+            (catalog_explanation self.now) WriteFault.Write result }
+    {
+        explain_entries(&self.entries, device)
+    }
+}
+
+// Writes the lines that explain what came of the files, where there is something to tell.
+fn explain_entries<'a, W: Write>(
+    entries: &'a [Entry<'a>],
     device: &mut Dev<W>,
-    observer: &mut O,
-) -> Result<u8, ToolFault>
-    requires few { generations ≤ most_generations }
-    requires limits { AreGoodLimits limits }
-    requires some { 1 ≤ limit }
-    requires most { limit ≤ longest_period }
-    ensures writes { WritesOneOf W.contents device.old device.new
-        (IsCatalog subjects.now rules.now limits.work generations limit)
-        (λ text. (code : ℕ)
-        × IsCatalog subjects.now rules.now limits.work generations limit text code)
-        (IsCatalogFault subjects.now rules.now) result }
+) -> Result<(), WriteFault>
+    ensures { Sends W.contents device.old device.new
+        (catalog_explanation entries.now) WriteFault.Write result }
 {
-    let tables = match parse_tables(alloc, rules) {
-        Ok(tables) => tables,
-        Err(TableFault::Memory) => return Err(ToolFault::Memory),
-        Err(fault) => return Err(ToolFault::BadTable(fault)),
-    };
-    let search = Search {
-        tables: &tables,
-        generations,
-        limits,
-        limit,
-    };
-    let Ok(entries) = entries_of(alloc, subjects, &search, observer) else {
-        return Err(ToolFault::Memory);
-    };
-    let Ok(text) = catalog_text(alloc, generations, limit, rules, &entries) else {
-        return Err(ToolFault::Memory);
-    };
-    if send(device, &text).is_err() {
-        return Err(ToolFault::Write);
-    }
-    Ok(catalog_status(&entries))
-}
-
-// The tables of the rule files, or the fault of the first that is no good table.
-fn parse_tables(alloc: Global, rules: &[File<'_>]) -> Result<Vec<Table>, TableFault>
-    ensures known { IfOk result (λ tables. AreRuleTables rules.now tables.items) }
-    ensures fault { IfErr result (λ fault. fault ≢ table_fault.Memory
-        → FirstBad (λ file. (table : TableRule) × IsQuietTable file.bytes.now table)
-        (λ file. IsTableFault file.bytes.now fault) rules.now) }
-    ensures memory { OnErr result (rules.now ≢ []) }
-{
-    let mut tables = Vec::new(alloc);
-    'rules: for file in rules {
-        let table = match Table::parse(alloc, file.bytes) {
-            Ok(table) => table,
-            Err(fault) => return Err(fault),
-        };
-        if tables.push(table).is_err() {
-            return Err(TableFault::Memory);
+    'entries: for entry in entries {
+        let line = outcome_explanation_pieces(entry.path, &entry.outcome);
+        if let Err(fault) = send_pieces(device, &line) {
+            return Err(fault);
         }
     }
-    Ok(tables)
+    Ok(())
 }
 
-// What is looked for in files: what their planes are some generations on, in as many more generations as the
-// limit says, under these tables and within these limits.
-#[derive(Clone, Copy)]
-struct Search<'a> {
-    tables: &'a [Table],
-    generations: u64,
-    limits: Limits,
-    limit: u64,
-}
-
-// The entries on the files, in order.
-fn entries_of<'a, O: Observer>(
-    alloc: Global,
-    subjects: &[Subject<'a>],
-    search: &Search<'_>,
-    observer: &mut O,
-) -> Result<Vec<Entry<'a>>, Memory>
-    requires { IsGoodSearch search.now }
-    ensures entries { IfOk result (λ entries. AreEntries search.now.tables.now search.now.limits.work
-        search.now.generations search.now.limit [] subjects.now entries.items) }
-    ensures memory { OnErr result (subjects.now ≢ []) }
-{
-    let mut names = WordSet::new(alloc);
-    let mut entries = Vec::new(alloc);
-    'subjects: for subject in subjects {
-        observer.begins((entries.len() as u64).saturating_add(1));
-        let entry = entry_of(alloc, &mut names, subject, search, observer)?;
-        observer.ends();
-        if entries.push(entry).is_err() {
-            return Err(Memory);
-        }
-    }
-    Ok(entries)
-}
-
-// The entry on a file, under a name that is put after the others.
-fn entry_of<'a, O: Observer>(
-    alloc: Global,
-    names: &mut WordSet,
-    subject: &Subject<'a>,
-    search: &Search<'_>,
-    observer: &mut O,
-) -> Result<Entry<'a>, Memory>
-    requires { IsGoodSearch search.now }
-    ensures entry { IfOk result (IsEntry search.now.tables.now search.now.limits.work
-        search.now.generations search.now.limit names.old subject.now) }
-    ensures names { IfOk result (λ entry. names.new ≡ names.old ++ entry.name.items ∷ []) }
-{
-    let outcome = outcome_of(alloc, subject, search, observer);
-    let name = add_name(alloc, names, subject.path)?;
-    Ok(Entry {
-        name,
-        path: subject.path,
-        outcome,
-    })
-}
-
-// What comes of a file.
-fn outcome_of<O: Observer>(
-    alloc: Global,
-    subject: &Subject<'_>,
-    search: &Search<'_>,
-    observer: &mut O,
-) -> Outcome
-    requires { IsGoodSearch search.now }
-    ensures { IsOutcome search.now.tables.now search.now.limits.work
-        search.now.generations search.now.limit subject.now result }
-{
-    if !is_claim_path(subject.path) {
-        return Outcome::Unnameable;
-    }
-    let bytes = match subject.content {
-        Content::Bytes(bytes) => bytes,
-        Content::Missing(cause) => {
-            return Outcome::Refused(Unidentified {
-                cause,
-                line: None,
-                rule_text: None,
-            });
-        }
-    };
-    let Search {
-        tables,
-        generations,
-        limits,
-        limit,
-    } = *search;
-    match identify_after(alloc, bytes, tables, generations, limits, limit, observer) {
-        Ok(identity) => Outcome::Identified(identity),
-        Err(why) => Outcome::Refused(why),
-    }
-}
-
-fn is_death(outcome: &Outcome) -> bool
+fn is_death(outcome: &Outcome<'_>) -> bool
     ensures { result ≡ is_death outcome.now }
 {
     matches!(outcome, Outcome::Identified(Identity::Dies { .. }))
@@ -209,27 +91,31 @@ fn has_death(entries: &[Entry<'_>]) -> bool
     entries.iter().any(|entry| is_death(&entry.outcome))
 }
 
-fn is_refused(outcome: &Outcome) -> bool
-    ensures { result ≡ is_refused outcome.now }
+fn is_identified(outcome: &Outcome<'_>) -> bool
+    ensures { result ≡ is_identified outcome.now }
 {
-    matches!(outcome, Outcome::Unnameable | Outcome::Refused(_))
+    matches!(outcome, Outcome::Identified(_))
 }
 
-fn has_refused(entries: &[Entry<'_>]) -> bool
-    ensures { result ≡ list_any (λ entry. is_refused entry.outcome) entries.now }
+fn are_identified(entries: &[Entry<'_>]) -> bool
+    ensures { result ≡ list_all (λ entry. is_identified entry.outcome) entries.now }
 {
-    entries.iter().any(|entry| is_refused(&entry.outcome))
+    entries.iter().all(|entry| is_identified(&entry.outcome))
 }
 
 // The exit status: 2 where a file isn't identified, else 0.
 fn catalog_status(entries: &[Entry<'_>]) -> u8
     ensures { result ≡ catalog_status entries.now }
 {
-    if has_refused(entries) { 2 } else { 0 }
+    if are_identified(entries) { 0 } else { 2 }
 }
 
-// The whole claim text.
-fn catalog_text(
+/// The whole claim text.
+///
+/// # Errors
+///
+/// Fails where there is no memory for it.
+pub(crate) fn catalog_text(
     alloc: Global,
     generations: u64,
     limit: u64,

@@ -1,15 +1,17 @@
 //! Files that are to be identified, and what came of them.
 
-use ca_claims::{Cause, Identity, Unidentified};
+use crate::finding::FaultyRule;
+use ca_claims::{Cause, DetailedFault, Identity};
 
 /// What a file that is to be identified gave.
 #[derive(Clone, Copy, Debug)]
 pub enum Content<'a> {
     /// Its bytes.
     Bytes(&'a [u8]),
-    /// Nothing that is to be identified, for this cause: it can't be read, or the rule file that its rule text
-    /// names isn't good.
+    /// No bytes, for this cause.
     Missing(Cause),
+    /// Nothing that is to be identified: its rule text is the name for which this rule file was found.
+    FaultyRule(FaultyRule<'a>),
 }
 
 /// A file that is to be identified: its path, and what it gave.
@@ -21,11 +23,13 @@ pub struct Subject<'a> {
 
 /// What came of a file that is to be identified.
 #[derive(Drop)]
-pub(crate) enum Outcome {
+pub(crate) enum Outcome<'a> {
     /// No claim text can name its path.
     Unnameable,
     /// It isn't found out what its pattern is, for this reason.
-    Refused(Unidentified),
+    Refused(DetailedFault<Cause>),
+    /// The rule file of its rule isn't good.
+    FaultyRule(FaultyRule<'a>),
     /// Its pattern is this.
     Identified(Identity),
 }
@@ -35,5 +39,5 @@ pub(crate) enum Outcome {
 pub(crate) struct Entry<'a> {
     pub(crate) name: Vec<u8>,
     pub(crate) path: &'a [u8],
-    pub(crate) outcome: Outcome,
+    pub(crate) outcome: Outcome<'a>,
 }

@@ -15,7 +15,7 @@ use crate::finding::{at_pieces, generations_word};
 use crate::growth::{push_counted, push_none};
 use crate::pieces::{Piece, in_pieces, push_pieces};
 use crate::printing::cause_pieces;
-use ca_claims::{File, Growth, Identity, Unidentified};
+use ca_claims::{Cause, File, Growth, Identity};
 use ca_plane::Memory;
 use ca_plane::text::push_text;
 
@@ -128,11 +128,16 @@ fn push_later(
 }
 
 // The comment on a file that is refused in pieces.
-fn refused_pieces<'a>(name: &'a [u8], path: &'a [u8], why: &Unidentified) -> [Piece<'a>; 10]
-    ensures { pieces_text result ≡ refused_line name.now path.now why.now }
+fn refused_pieces<'a>(
+    name: &'a [u8],
+    path: &'a [u8],
+    cause: Cause,
+    line: Option<u64>,
+) -> [Piece<'a>; 10]
+    ensures { pieces_text result ≡ refused_line name.now path.now cause line }
 {
-    let [first, second] = cause_pieces(why.cause);
-    let [at, number] = at_pieces(why.line);
+    let [first, second] = cause_pieces(cause);
+    let [at, number] = at_pieces(line);
     in_pieces![
         text b"# ", text name, text b": ", text path, text b": ",
         piece first, piece second, piece at, piece number, text b"\n",
@@ -203,7 +208,14 @@ pub(crate) fn push_entry(
 {
     match &entry.outcome {
         Outcome::Unnameable => push_unnameable(out, &entry.name, entry.path),
-        Outcome::Refused(why) => push_pieces(out, &refused_pieces(&entry.name, entry.path, why)),
+        Outcome::Refused(why) => push_pieces(
+            out,
+            &refused_pieces(&entry.name, entry.path, why.fault, why.line),
+        ),
+        Outcome::FaultyRule(rule) => push_pieces(
+            out,
+            &refused_pieces(&entry.name, entry.path, Cause::BadTable(rule.fault), None),
+        ),
         Outcome::Identified(identity) => {
             push_identified(out, generations, limit, &entry.name, entry.path, *identity)
         }

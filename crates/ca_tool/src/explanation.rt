@@ -1,15 +1,16 @@
-//! The line that explains a fault of a run over a pattern file.
+//! The lines that explain why nothing is made of a pattern file.
 
 ghost use Rattle.std.specs.Prelude.{◌≡◌};
-ghost use Rattle.ca_tool.specs.Printed.{pattern_line, explanation};
+ghost use Rattle.ca_tool.specs.Printed.{pattern_line, explanation, cause_explanation};
+ghost use Rattle.ca_tool.specs.Catalog.{outcome_explanation};
 ghost use Rattle.ca_tool.specs.Writing.{Sends};
 ghost use Rattle.ca_tool.specs.inner.Pieces.{pieces_text};
 
+use crate::entry::Outcome;
 use crate::fault::ToolFault;
-use crate::finding::{at_pieces, file_pieces, rule_pieces};
+use crate::finding::{at_pieces, rule_file_pieces, rule_pieces};
 use crate::pieces::{NOTHING, Piece, in_pieces, send_pieces};
-use crate::texts::table_line;
-use ca_claims::DetailedFault;
+use ca_claims::{Cause, DetailedFault};
 use ca_plane::{Dev, WriteFault};
 use std::io::Write;
 
@@ -20,13 +21,45 @@ pub struct RunPaths<'a> {
     pub rule: &'a [u8],
 }
 
-// The line about a pattern file.
-fn pattern_pieces<'a>(path: &'a [u8], refused: &'a DetailedFault<ToolFault>) -> [Piece<'a>; 15]
-    ensures { pieces_text result ≡ pattern_line path.now refused.now.line refused.now.rule_text }
+// The line about a pattern file, with what is known of its fault.
+fn pattern_pieces<'a>(
+    path: &'a [u8],
+    line: Option<u64>,
+    rule_text: &'a Option<Vec<u8>>,
+) -> [Piece<'a>; 15]
+    ensures { pieces_text result ≡ pattern_line path.now line rule_text.now }
 {
-    let [at, number] = at_pieces(refused.line);
-    let [word, text] = rule_pieces(&refused.rule_text);
+    let [at, number] = at_pieces(line);
+    let [word, text] = rule_pieces(rule_text);
     in_pieces![15; text b"  ", text path, piece at, piece number, piece word, piece text, text b"\n"]
+}
+
+// The line that explains why the pattern of a file isn't identified, where there is something to tell.
+fn cause_explanation_pieces<'a>(
+    path: &'a [u8],
+    refused: &'a DetailedFault<Cause>,
+) -> [Piece<'a>; 15]
+    ensures { pieces_text result ≡ cause_explanation path.now refused.now }
+{
+    let (Cause::BadPattern(_) | Cause::BadRule(_) | Cause::StateTooLarge) = refused.fault else {
+        return [NOTHING; 15];
+    };
+    pattern_pieces(path, refused.line, &refused.rule_text)
+}
+
+/// The line that explains what came of the file of a path that was to be identified, where there is something to
+/// tell.
+pub(crate) fn outcome_explanation_pieces<'a>(
+    path: &'a [u8],
+    outcome: &'a Outcome<'a>,
+) -> [Piece<'a>; 15]
+    ensures { pieces_text result ≡ outcome_explanation path.now outcome.now }
+{
+    match outcome {
+        Outcome::Refused(why) => cause_explanation_pieces(path, why),
+        Outcome::FaultyRule(rule) => rule_file_pieces(rule.path, rule.fault),
+        Outcome::Unnameable | Outcome::Identified(_) => [NOTHING; 15],
+    }
 }
 
 // The line that explains a fault, where there is something to tell.
@@ -37,14 +70,12 @@ fn explanation_pieces<'a>(
     ensures { pieces_text result ≡ explanation refused.now paths.now }
 {
     match refused.fault {
-        ToolFault::BadTable(fault) => {
-            file_pieces(b"", b"rule file", paths.rule, Some(table_line(fault)))
-        }
+        ToolFault::BadTable(fault) => rule_file_pieces(paths.rule, fault),
         ToolFault::Convert(_)
         | ToolFault::GenTooLarge
         | ToolFault::Work
         | ToolFault::Range
-        | ToolFault::Window(_) => pattern_pieces(paths.pattern, refused),
+        | ToolFault::Window(_) => pattern_pieces(paths.pattern, refused.line, &refused.rule_text),
         _ => [NOTHING; 15],
     }
 }

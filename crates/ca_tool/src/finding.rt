@@ -1,8 +1,8 @@
 //! What is printed for a claim: the line of its answer, and a second line that explains it.
 
 ghost use Rattle.std.specs.Prelude.{◌≡◌, Some, OnOk, codes};
-ghost use Rattle.ca_tool.specs.Printed.{generations_word, cell_line, at_line, file_line, rule_words};
-ghost use Rattle.ca_tool.specs.Printed.{faulty_named, faulty_words, faulty_rule_words, noted_line};
+ghost use Rattle.ca_tool.specs.Printed.{generations_word, cell_line, at_line, file_line, rule_file_line};
+ghost use Rattle.ca_tool.specs.Printed.{rule_words, faulty_named, faulty_words, faulty_rule_words, noted_line};
 ghost use Rattle.ca_tool.specs.Printed.{cause_line, note_text, second_line, finding_text};
 ghost use Rattle.ca_tool.specs.Writing.{Sends};
 ghost use Rattle.ca_tool.specs.inner.Pieces.{pieces_text};
@@ -83,8 +83,8 @@ pub(crate) fn at_pieces<'a>(line: Option<u64>) -> [Piece<'a>; 2]
     }
 }
 
-/// The line about a file, with the name of what it holds.
-pub(crate) fn file_pieces<'a>(
+// The line about a file, with the name of what it holds.
+fn file_pieces<'a>(
     before: &'a [u8],
     name: &'a [u8],
     path: &'a [u8],
@@ -96,6 +96,13 @@ pub(crate) fn file_pieces<'a>(
     in_pieces![15;
         text before, text b"  ", text name, text b": ", text path, piece at, piece number, text b"\n",
     ]
+}
+
+/// The line about a rule file, with the line of its fault.
+pub(crate) fn rule_file_pieces<'a>(path: &'a [u8], fault: TableFault) -> [Piece<'a>; 15]
+    ensures { pieces_text result ≡ rule_file_line path.now fault }
+{
+    file_pieces(b"", b"rule file", path, Some(table_line(fault)))
 }
 
 /// A rule text that names no rule.

@@ -149,6 +149,29 @@ pub struct FaultyFile {
     fault: TableFault,
 }
 
+impl FaultyFile {
+    /// The rule file at this path, with the name for which it was found, and its fault.
+    pub fn new(
+        alloc: Global,
+        name: &[u8],
+        path: &[u8],
+        fault: TableFault,
+    ) -> Result<FaultyFile, Memory> {
+        let name = Vec::from_slice(alloc, name)?;
+        let path = Vec::from_slice(alloc, path)?;
+        Ok(FaultyFile { name, path, fault })
+    }
+
+    /// The same for a run, whose bytes stay here.
+    pub fn view(&self) -> FaultyRule<'_> {
+        FaultyRule {
+            name: self.name.as_slice(),
+            path: self.path.as_slice(),
+            fault: self.fault,
+        }
+    }
+}
+
 /// The same text with the rule files of a folder that the claims' patterns name and no rule line gives: each
 /// whose table has the name that was looked for stands on a rule line at the text's end. One that is read is among
 /// the files in any case, and one that can't be read is as none.
@@ -185,9 +208,8 @@ fn with_named_rule(
         }
         NamedTable::OtherName => Ok(text),
         NamedTable::Faulty(fault) => {
-            let name = Vec::from_slice(alloc, name)?;
-            let path = Vec::from_slice(alloc, path)?;
-            text.faulty.push(FaultyFile { name, path, fault })?;
+            text.faulty
+                .push(FaultyFile::new(alloc, name, path, fault)?)?;
             Ok(text)
         }
     }
@@ -239,11 +261,7 @@ pub fn faulty_rules<'a>(
 ) -> Result<Vec<FaultyRule<'a>>, Memory> {
     let mut rules = Vec::new(alloc);
     'files: for file in faulty {
-        rules.push(FaultyRule {
-            name: file.name.as_slice(),
-            path: file.path.as_slice(),
-            fault: file.fault,
-        })?;
+        rules.push(file.view())?;
     }
     Ok(rules)
 }

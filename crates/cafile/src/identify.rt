@@ -1,16 +1,16 @@
 //! The command `identify`.
 
 use crate::FAULT;
-use crate::files::{LoadedFile, load_rule_file, read_file, views};
+use crate::files::{FaultyFile, LoadedFile, load_rule_file, read_file, views};
 use crate::progress::{Heading, Progress};
 use crate::streams::Streams;
 use crate::words::IdentifyExtras;
-use ca_claims::{Cause, ConvertFault, DetailedFault, File, rule_text_of, summary_with_detail};
+use ca_claims::{Cause, DetailedFault, rule_text_of};
 use ca_plane::{Dev, Memory};
 use ca_rule::{RuleFault, Table, TableFault, resolve};
 use ca_tool::{
-    Content, Fault, InputFault, RunPaths, Subject, ToolFault, complain, explain, identify_run,
-    is_claim_path,
+    Catalog, Content, Fault, InputFault, RunPaths, Subject, ToolFault, complain, explain,
+    identify_run, is_claim_path,
 };
 use std::alloc::Global;
 use std::rt::{Clock, Files, Stderr};
@@ -20,8 +20,8 @@ use std::rt::{Clock, Files, Stderr};
 enum FileContent {
     Bytes(Vec<u8>),
     Missing(Cause),
-    // The rule file at this path, which has the name of its rule, isn't good.
-    BadRuleFile { path: Vec<u8>, fault: TableFault },
+    // The rule file that has the name of its rule isn't good.
+    FaultyRule(FaultyFile),
 }
 
 // The rule files that the text names, and their tables.
@@ -82,20 +82,14 @@ fn write_claims<'a, R: Files + Clock + AllocGlobal>(
     if let Some(folder) = &extras.folder {
         find_rules(rt, folder.as_str(), &mut contents, &mut rules);
     }
-    let status = match run(rt, paths, &contents, &rules, extras, streams) {
-        Ok(status) => status,
+    let catalog = match run(rt, paths, &contents, &rules, extras, streams) {
+        Ok(catalog) => catalog,
         Err(fault) => return Err(Failure::of(Fault::Tool(fault))),
     };
-    if extras.extras.explained && status != 0 {
-        explain_all(
-            rt.alloc(),
-            paths,
-            &contents,
-            &rules.tables,
-            &mut streams.errors,
-        );
+    if extras.extras.explained {
+        let _ = catalog.explain(&mut streams.errors);
     }
-    Ok(status)
+    Ok(catalog.status())
 }
 
 // A path of a rule file, or of a folder of such, is one that a claim text can name.
@@ -244,8 +238,8 @@ fn add_rule<R: Files + AllocGlobal>(
         Ok(table) => table,
         Err(TableFault::Memory) => return Err(Memory),
         Err(fault) => {
-            let path = Vec::from_slice(rt.alloc(), view.path)?;
-            return Ok(Some(FileContent::BadRuleFile { path, fault }));
+            let faulty = FaultyFile::new(rt.alloc(), &text, view.path, fault)?;
+            return Ok(Some(FileContent::FaultyRule(faulty)));
         }
     };
     rules.add(file, table)?;
@@ -255,15 +249,15 @@ fn add_rule<R: Files + AllocGlobal>(
     Ok(None)
 }
 
-// Writes the claim text, and answers the exit status.
-fn run<R: Files + Clock + AllocGlobal>(
+// Writes the claim text, and answers what came of the files.
+fn run<'a, R: Files + Clock + AllocGlobal>(
     rt: &R,
-    paths: &[String],
-    contents: &[FileContent],
+    paths: &'a [String],
+    contents: &'a [FileContent],
     rules: &RuleFiles,
     extras: &IdentifyExtras,
     streams: &mut Streams,
-) -> Result<u8, ToolFault> {
+) -> Result<Catalog<'a>, ToolFault> {
     let Ok(subjects) = subjects(rt.alloc(), paths, contents) else {
         return Err(ToolFault::Memory);
     };
@@ -300,7 +294,7 @@ fn subjects<'a>(
         let content = match content {
             FileContent::Bytes(bytes) => Content::Bytes(bytes),
             FileContent::Missing(cause) => Content::Missing(*cause),
-            FileContent::BadRuleFile { fault, .. } => Content::Missing(Cause::BadTable(*fault)),
+            FileContent::FaultyRule(faulty) => Content::FaultyRule(faulty.view()),
         };
         subjects.push(Subject {
             path: path.as_bytes(),
@@ -319,56 +313,4 @@ fn explain_failure(fault: Fault, rule: &Option<String>, errors: &mut Dev<Stderr>
         };
         let _ = explain(&DetailedFault::of(fault), &paths, errors);
     }
-}
-
-// Tells of each file that is refused for what it or its rule file holds which file that is, and where it is faulty.
-fn explain_all(
-    alloc: Global,
-    paths: &[String],
-    contents: &[FileContent],
-    tables: &[Table],
-    errors: &mut Dev<Stderr>,
-) {
-    'paths: for (path, content) in paths.iter().zip(contents.iter()) {
-        explain_content(alloc, path.as_bytes(), content, tables, errors);
-    }
-}
-
-fn explain_content(
-    alloc: Global,
-    path: &[u8],
-    content: &FileContent,
-    tables: &[Table],
-    errors: &mut Dev<Stderr>,
-) {
-    match content {
-        FileContent::Bytes(bytes) => {
-            explain_bytes(alloc, File { path, bytes }, tables, errors);
-        }
-        FileContent::Missing(_) => {}
-        FileContent::BadRuleFile { path: rule, fault } => {
-            let paths = RunPaths {
-                pattern: path,
-                rule,
-            };
-            let fault = ToolFault::BadTable(*fault);
-            let _ = explain(&DetailedFault::of(fault), &paths, errors);
-        }
-    }
-}
-
-fn explain_bytes(alloc: Global, file: File<'_>, tables: &[Table], errors: &mut Dev<Stderr>) {
-    let Err(refused) = summary_with_detail(alloc, file.bytes, tables) else {
-        return;
-    };
-    if refused.fault == ConvertFault::Memory {
-        return;
-    }
-    let fault = ToolFault::Convert(refused.fault);
-    let refused = refused.with_fault(fault);
-    let paths = RunPaths {
-        pattern: file.path,
-        rule: b"",
-    };
-    let _ = explain(&refused, &paths, errors);
 }

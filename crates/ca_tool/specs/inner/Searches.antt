@@ -2,7 +2,7 @@
 use Rattle.std.specs.Prelude.{◌≤◌}
 use Rattle.ca_claims.specs.Limited.{AreGoodLimits}
 use Rattle.ca_plane.specs.Limits.{longest_period, most_generations}
-use Rattle.ca_tool.specs.declared.catalog.Search.{Search}
+use Rattle.ca_tool.specs.declared.identification_run.Search.{Search}
 
 -- it is within what may be asked for
 pub record IsGoodSearch (search : Search) : Type 0 where

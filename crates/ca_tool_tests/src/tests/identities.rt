@@ -1,7 +1,7 @@
 //! What patterns are, found out from their files. Periods and life spans are those of the field's collections.
 
 use super::devices::expect;
-use ca_claims::{Cause, Growth, Identity, Limits, Unidentified, identify};
+use ca_claims::{Cause, DetailedFault, Growth, Identity, Limits, identify};
 use ca_plane::Bounds;
 use ca_run::Unwatched;
 use std::alloc::Global;
@@ -113,24 +113,48 @@ const GROWN: &[(&[u8], u64, u128, Bounds)] = &[
     ),
 ];
 
+/// What comes of identifying a pattern.
+type Found = Result<Identity, DetailedFault<Cause>>;
+
 /// What a pattern is, where the limit is a good one.
-fn identity_of(
-    alloc: Global,
-    text: &[u8],
-    limits: Limits,
-    limit: u64,
-) -> Option<Result<Identity, Unidentified>> {
+fn identity_of(alloc: Global, text: &[u8], limits: Limits, limit: u64) -> Option<Found> {
     if limit == 0 || limit > 4294967295 || limits.memo == 0 || limits.memo > 16777216 {
         return None;
     }
     Some(identify(alloc, text, &[], limits, limit, &mut Unwatched))
 }
 
+/// Whether a pattern is found to be this.
+fn is_found(found: &Option<Found>, identity: Identity) -> bool {
+    match found {
+        Some(Ok(found)) => *found == identity,
+        _ => false,
+    }
+}
+
+/// Whether a pattern isn't identified for this cause, of which no more is known.
+fn is_refused(found: &Option<Found>, cause: Cause) -> bool {
+    match found {
+        Some(Err(refused)) => {
+            refused.fault == cause && refused.line.is_none() && refused.rule_text.is_none()
+        }
+        _ => false,
+    }
+}
+
+/// The line of the fault for which a pattern isn't identified.
+fn line_of(found: &Option<Found>) -> Option<u64> {
+    match found {
+        Some(Err(refused)) => refused.line,
+        _ => None,
+    }
+}
+
 #[test]
 fn patterns_are_identified(rt: HostRuntime) {
     'patterns: for &(text, limit, identity) in IDENTITIES {
         let found = identity_of(rt.alloc(), text, Limits::default(), limit);
-        expect(&rt, found == Some(Ok(identity)), "what a pattern is");
+        expect(&rt, is_found(&found, identity), "what a pattern is");
     }
 }
 
@@ -143,7 +167,7 @@ fn growth_is_told(rt: HostRuntime) {
         };
         expect(
             &rt,
-            found == Some(Ok(identity)),
+            is_found(&found, identity),
             "how far a pattern has grown",
         );
     }
@@ -153,24 +177,14 @@ fn growth_is_told(rt: HostRuntime) {
 fn a_refused_pattern_has_its_cause(rt: HostRuntime) {
     let large = b"x = 1, y = 1, rule = B3/S23\nB!";
     let found = identity_of(rt.alloc(), large, Limits::default(), 1);
-    let wanted = Unidentified {
-        cause: Cause::StateTooLarge,
-        line: None,
-        rule_text: None,
-    };
-    expect(&rt, found == Some(Err(wanted)), "a state that is too large");
+    expect(
+        &rt,
+        is_refused(&found, Cause::StateTooLarge),
+        "a state that is too large",
+    );
     let limits = Limits { memo: 1, work: 0 };
     let found = identity_of(rt.alloc(), GLIDER, limits, 65536);
-    let wanted = Unidentified {
-        cause: Cause::Work,
-        line: None,
-        rule_text: None,
-    };
-    expect(&rt, found == Some(Err(wanted)), "no work");
+    expect(&rt, is_refused(&found, Cause::Work), "no work");
     let found = identity_of(rt.alloc(), b"x = 1, y = 1\no\nq!", Limits::default(), 1);
-    let line = match found {
-        Some(Err(Unidentified { line, .. })) => line,
-        _ => None,
-    };
-    expect(&rt, line == Some(3), "the line of a fault");
+    expect(&rt, line_of(&found) == Some(3), "the line of a fault");
 }

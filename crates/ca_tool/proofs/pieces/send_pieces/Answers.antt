@@ -1,15 +1,11 @@
-use Rattle.std.proofs.Common.{arith, rules, subst}
-use Rattle.ca_plane.specs.Device.{AppendsPrefix}
+use Rattle.std.proofs.Common.{ℕ, refl, arith}
 use Rattle.ca_tool.specs.inner.Pieces.{piece_text}
-use Rattle.ca_tool.proofs.InPieces.{prefix_at}
+use Rattle.ca_tool.proofs.InPieces.{sends_at}
 use Rattle.ca_tool.proofs.pieces.send_pieces.Goals as goal
 
--- the pieces before were sent, and a prefix of this one
+-- the pieces before were sent, and this one in part
 pub returns-in-Err : goal.returns-in-Err
-returns-in-Err g c = record {
-  all = tt;
-  kept = tt;
-  fault = search rules;
-  counted = search rules;
-  front = prefix_at piece_text _ _ _ c.args.pieces.now c.pieces.piece-index _ (omega arith) c.pieces.invariant.sent (subst (AppendsPrefix _ _) c.piece_bytes.ensures c.in-Err.ensures.front);
-}
+returns-in-Err g c =
+    let sends = c.in-Err.ensures in
+    sends_at {T = ℕ} piece_text g.W.Write.contents _ _ _ c.args.pieces.now c.pieces.piece-index _ _ c.piece_bytes.result.now _ c.in-Err.fault (omega arith) refl c.piece_bytes.ensures
+    c.pieces.invariant.sent c.pieces.invariant.kept record { all = tt; kept = tt; fault = sends.fault; counted = sends.counted; front = sends.front }

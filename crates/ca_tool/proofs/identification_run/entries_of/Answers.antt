@@ -1,7 +1,7 @@
 use Rattle.std.proofs.Common.{[], ◌∷◌, ◌++◌, if◌then◌else◌, ap, ◌∙◌}
 use Rattle.std.proofs.lemmas.Option.{slice_get-get_or}
 use Rattle.ca_tool.proofs.Entries.{entries_next}
-use Rattle.ca_tool.proofs.catalog.entries_of.Goals as goal
+use Rattle.ca_tool.proofs.identification_run.entries_of.Goals as goal
 
 -- one file more was gone through
 pub subjects-preserved : goal.subjects-preserved

@@ -1,6 +1,6 @@
-use Rattle.std.proofs.Common.{rules, [], ap, refl, subst, ◌∙◌}
-use Rattle.ca_tool.specs.Catalog.{AreEntries, catalog_text, catalog_status}
-use Rattle.ca_tool.proofs.catalog.identify_run.Goals as goal
+use Rattle.std.proofs.Common.{rules, [], ap, subst, ◌∙◌}
+use Rattle.ca_tool.specs.Catalog.{AreEntries, catalog_text}
+use Rattle.ca_tool.proofs.identification_run.identify_run.Goals as goal
 
 -- the text was written in part
 pub returns-then-is_err : goal.returns-then-is_err
@@ -11,14 +11,12 @@ returns-then-is_err g c = record {
     front = λ is. (
       c.deref-3.result.now,
       (
-        catalog_status c.in-Ok-entries_of.entries.items,
+        c.in-Ok-entries_of.entries.items,
         record {
           tables = c.in-Ok.tables.items;
           known = c.in-Ok.ensures.known;
-          entries = c.in-Ok-entries_of.entries.items;
           holds = subst (λ tables. AreEntries tables c.args.limits.work c.args.generations c.args.limit [] c.args.subjects.now c.in-Ok-entries_of.entries.items) c.deref.ensures.value c.in-Ok-entries_of.ensures.entries;
           lines = c.deref-3.ensures.value ∙ c.in-Ok-catalog_text.ensures.text ∙ ap (catalog_text c.args.generations c.args.limit c.args.rules.now) c.deref-2.ensures.value;
-          status = refl;
         },
       ),
       search rules,

@@ -5,7 +5,7 @@ use Rattle.ca_claims.specs.declared.file.File.{File}
 use Rattle.ca_claims.specs.Answers.{IsQuietTable, IsTableFault}
 use Rattle.ca_claims.proofs.PairedLists.{first_behind, zip_more}
 use Rattle.ca_tool.specs.Catalog.{AreRuleTables}
-use Rattle.ca_tool.proofs.catalog.parse_tables.Goals as goal
+use Rattle.ca_tool.proofs.identification_run.parse_tables.Goals as goal
 
 pub returns-in-Err-clause-fault : goal.returns-in-Err-clause-fault
 returns-in-Err-clause-fault c = λ differ.

@@ -1,7 +1,7 @@
 use Rattle.std.proofs.Common.{◌≡◌, [], take}
 use Rattle.ca_tool.specs.Catalog.{AreEntries}
 use Rattle.ca_tool.proofs.Entries.{names_of}
-use Rattle.ca_tool.proofs.catalog.entries_of.Given as goal
+use Rattle.ca_tool.proofs.identification_run.entries_of.Given as goal
 
 -- there are entries on the files so far, and their names are taken
 abbrev pub invariant-subjects : goal.invariant-subjects
