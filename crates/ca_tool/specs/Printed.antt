@@ -39,7 +39,7 @@ use Rattle.ca_tool.specs.declared.view.WindowFault.TheVariants as windows
 use Rattle.ca_tool.specs.declared.fault.ToolFault.{ToolFault}
 use Rattle.ca_tool.specs.declared.fault.ToolFault.TheVariants as tools
 use Rattle.ca_tool.specs.declared.explanation.RunPaths.{RunPaths}
-use Rattle.ca_tool.specs.declared.finding.FaultyRule.{FaultyRule}
+use Rattle.ca_tool.specs.declared.rule_folder.FaultyRule.{FaultyRule}
 use Rattle.ca_tool.specs.declared.finding.ReportStyle.{ReportStyle}
 use Rattle.ca_tool.specs.declared.finding.Finding.{Finding}
 

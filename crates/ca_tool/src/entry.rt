@@ -1,6 +1,6 @@
 //! Files that are to be identified, and what came of them.
 
-use crate::finding::FaultyRule;
+use crate::rule_folder::FaultyRule;
 use ca_claims::{Cause, DetailedFault, Identity};
 
 /// What a file that is to be identified gave.

@@ -1,6 +1,6 @@
 //! What is printed for a claim: the line of its answer, and a second line that explains it.
 
-ghost use Rattle.std.specs.Prelude.{◌≡◌, Some, OnOk, codes};
+ghost use Rattle.std.specs.Prelude.{◌≡◌, Some, OnOk};
 ghost use Rattle.ca_tool.specs.Printed.{generations_word, cell_line, at_line, file_line, rule_file_line};
 ghost use Rattle.ca_tool.specs.Printed.{rule_words, faulty_named, faulty_words, faulty_rule_words, noted_line};
 ghost use Rattle.ca_tool.specs.Printed.{cause_line, note_text, second_line, finding_text};
@@ -9,6 +9,7 @@ ghost use Rattle.ca_tool.specs.inner.Pieces.{pieces_text};
 
 use crate::pieces::{NOTHING, Piece, in_pieces, push_pieces, send_pieces};
 use crate::printing::answer_pieces;
+use crate::rule_folder::FaultyRule;
 use crate::texts::{table_kind, table_line};
 use ca_claims::{Answer, Cause, Note, Verdict, Why};
 use ca_plane::{Dev, Memory, WriteFault, send};
@@ -25,16 +26,6 @@ pub struct ReportStyle<'a> {
     /// The rule files that were looked for by the names of rules, and aren't good: a second line about a
     /// pattern whose rule text is such a name tells the file too.
     pub faulty: &'a [FaultyRule<'a>],
-}
-
-/// A rule file that was looked for by the name of a rule, and isn't good.
-#[derive(Clone, Copy, Debug)]
-pub struct FaultyRule<'a> {
-    /// The name, which is the rule text of a pattern.
-    pub name: &'a [u8],
-    pub path: &'a [u8],
-    /// What is wrong with the file. It is never `Memory`.
-    pub fault: TableFault,
 }
 
 /// An answer, and the note on it.

@@ -6,7 +6,18 @@ ghost use Rattle.ca_tool.specs.RulePaths.{has_two_dots, is_file_name, rule_path}
 
 use crate::pieces::{in_pieces, push_pieces};
 use ca_plane::Memory;
+use ca_rule::TableFault;
 use std::alloc::Global;
+
+/// A rule file that was looked for by the name of a rule, and isn't good.
+#[derive(Clone, Copy, Debug)]
+pub struct FaultyRule<'a> {
+    /// The name, which is the rule text of a pattern.
+    pub name: &'a [u8],
+    pub path: &'a [u8],
+    /// What is wrong with the file. It is never `Memory`.
+    pub fault: TableFault,
+}
 
 // Whether two dots stand side by side in a name.
 fn has_two_dots(name: &[u8]) -> bool
