@@ -16,7 +16,7 @@ pub record Sends {W T E : Type 0} (contents : W → Option (List ℕ)) (old new 
   pub counted : OnErr result (Rises old.failures new.failures)
   pub front : OnErr result (AppendsPrefix (contents old.inner) (contents new.inner) text)
 
--- one of some texts is written whole, with what is told of it; or a first part of one that may be begun, and then a write fails, which is counted; or
+-- one of some texts is written whole, with what is answered of it; or a first part of one that may be begun, and then a write fails, which is counted; or
 -- nothing, for another fault, which holds
 pub record WritesOneOf {W T : Type 0} (contents : W → Option (List ℕ)) (old new : Counted W)
     (IsText : List ℕ → T → Type 0) (IsBegun : List ℕ → Type 0)

@@ -185,7 +185,8 @@ fn load_content<R: Files + AllocGlobal>(rt: &R, path: &str) -> FileContent {
 }
 
 // Looks in a folder for the rule files of those patterns whose rules aren't known. One that is found and good is
-// put after the others; where one is faulty, the file that names it gives that fault in place of its bytes.
+// put after the others; where one is faulty, the file that names it gives that rule file, with its fault, in place
+// of its bytes.
 fn find_rules<R: Files + AllocGlobal>(
     rt: &R,
     folder: &str,
