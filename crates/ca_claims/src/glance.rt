@@ -1,6 +1,6 @@
 //! What a pattern file shows at a glance.
 
-ghost use Rattle.std.specs.Prelude.{◌≡◌, ℤ, ◌≤ℤ◌, pos, negsuc, IfOk, IfErr, MatchOption};
+ghost use Rattle.std.specs.Prelude.{◌≡◌, ℤ, IfOk, IfErr, MatchOption};
 ghost use Rattle.ca_plane.specs.Bytes.{IsWord};
 ghost use Rattle.ca_plane.specs.Plane.{Picture, IsLive, cell as plane_cell};
 ghost use Rattle.ca_plane.specs.Box.{IsLeastBox};

@@ -1,6 +1,6 @@
 //! Pictures of windows.
 
-ghost use Rattle.std.specs.Prelude.{◌≡◌, ℕ, ◌<◌, ◌++◌, ◌∷◌, [], pos, ◌+ℤ◌, IfOk, OnOk};
+ghost use Rattle.std.specs.Prelude.{◌≡◌, ◌<◌, pos, ◌+ℤ◌, IfOk, OnOk};
 ghost use Rattle.ca_plane.specs.Puts.{Puts};
 ghost use Rattle.ca_quad.specs.Trees.{IsTree, cell};
 ghost use Rattle.ca_draw.specs.Windows.{IsWindow};

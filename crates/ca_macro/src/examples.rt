@@ -1,6 +1,6 @@
 //! Worked examples: what the definitions say of small texts.
 
-ghost use Rattle.std.specs.Prelude.{◌≡◌, ℕ, List, [], ◌∷◌, codes};
+ghost use Rattle.std.specs.Prelude.{◌≡◌, [], ◌∷◌, codes};
 ghost use Rattle.ca_plane.specs.Plane.{cell};
 ghost use Rattle.ca_macro.specs.declared.fault.MacroFault.TheVariants.{NotMacro, Timeline, Syntax, Forward};
 ghost use Rattle.ca_macro.specs.declared.fault.MacroFault.TheVariants.{Level, LeafSize, GenTooLarge};

@@ -1,6 +1,6 @@
 //! The lines of a macrocell text, each read by itself. Nothing here takes memory.
 
-ghost use Rattle.std.specs.Prelude.{◌≡◌, ◌<◌, ◌≤◌, not, ℕ, List, [], ◌∷◌, MatchOption, IfOk, IfErr, true};
+ghost use Rattle.std.specs.Prelude.{◌≡◌, ◌<◌, ◌≤◌, not, List, [], ◌∷◌, MatchOption, IfOk, IfErr, true};
 ghost use Rattle.std.specs.Prelude.{length};
 ghost use Rattle.std.specs.List.{AllByRecursion};
 ghost use Rattle.ca_plane.specs.Bytes.{is_end_or, is_line_end, Every, words_of};

@@ -1,7 +1,7 @@
 //! The reader of macrocell.
 
-ghost use Rattle.std.specs.Prelude.{◌≡◌, ◌⊎◌, ◌<◌, List, [], ◌∷◌, ◌++◌, true, IfOk, IfErr};
-ghost use Rattle.ca_quad.specs.Sound.{IsSoundStore, Grows};
+ghost use Rattle.std.specs.Prelude.{◌≡◌, ◌⊎◌, ◌<◌, List, IfOk, IfErr};
+ghost use Rattle.ca_quad.specs.Sound.{Grows};
 ghost use Rattle.ca_macro.specs.declared.fault.MacroFault.TheVariants.{Range, Memory};
 ghost use Rattle.ca_macro.specs.File.{MacrocellLine};
 ghost use Rattle.ca_macro.specs.Limits.{IsMacrocellWithinRange, IsMacrocellOutOfRange};

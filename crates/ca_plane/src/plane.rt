@@ -1,11 +1,10 @@
 //! The sparse plane: the cells that aren't 0, by their points.
 ghost use Rattle.std.specs.Prelude.{◌≡◌, ◌≢◌, ◌+◌, ◌≤◌, ◌↔◌, [], length, IsTrue, IsFalse, IsOk, OnOk, OnErr};
 ghost use Rattle.std.specs.Prelude.{IfOk, IfErr, IsNone, IfSome};
-ghost use Rattle.std.specs.List.{All};
 ghost use Rattle.std.specs.Iterator.{YieldsFirst, item_count};
-ghost use Rattle.ca_plane.specs.Plane.{cell, IsSame, IsLive};
+ghost use Rattle.ca_plane.specs.Plane.{cell, IsLive};
 ghost use Rattle.ca_plane.specs.Box.{IsLeastBox};
-ghost use Rattle.ca_plane.specs.Change.{Sets, DifferAt};
+ghost use Rattle.ca_plane.specs.Change.{Sets};
 ghost use Rattle.ca_plane.specs.Population.{HasPopulation};
 ghost use Rattle.ca_plane.specs.Sparse.{IsInPlane, IsSparse};
 ghost use Rattle.ca_plane.specs.inner.Places.{ComeBefore, IsAt, IsGap};

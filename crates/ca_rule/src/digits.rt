@@ -1,8 +1,6 @@
 //! Digits, and the number of states that they write.
 
 ghost use Rattle.std.specs.Prelude.{◌≡◌};
-ghost use Rattle.std.specs.List.{list_all};
-ghost use Rattle.ca_plane.specs.Bytes.{is_digit};
 ghost use Rattle.ca_rule.specs.Digits.{are_digits, state_count};
 
 use ca_plane::bytes::{all_digits, number};

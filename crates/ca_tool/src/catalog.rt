@@ -5,7 +5,7 @@ ghost use Rattle.std.specs.List.{list_any, list_all, flat_map};
 ghost use Rattle.ca_plane.specs.Puts.{Puts};
 ghost use Rattle.ca_tool.specs.Catalog.{is_death, claims_death, is_identified};
 ghost use Rattle.ca_tool.specs.Catalog.{version_line, rule_line, entry_lines, catalog_text};
-ghost use Rattle.ca_tool.specs.Catalog.{catalog_status, entry_explanation, catalog_explanation};
+ghost use Rattle.ca_tool.specs.Catalog.{catalog_status, catalog_explanation};
 ghost use Rattle.ca_tool.specs.CatalogSays.{SaysItsClaims};
 ghost use Rattle.ca_tool.specs.Writing.{Sends};
 

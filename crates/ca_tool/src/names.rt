@@ -1,6 +1,6 @@
 //! Names for the files of a claim text, of which no two are equal.
 
-ghost use Rattle.std.specs.Prelude.{◌≡◌, ℕ, ◌<◌, ◌^◌, ◌-◌, ◌++◌, ◌∷◌, [], map, codes, decimal, IfOk, OnOk, OnErr};
+ghost use Rattle.std.specs.Prelude.{◌≡◌, ◌<◌, ◌^◌, ◌-◌, ◌++◌, ◌∷◌, [], map, codes, decimal, IfOk, OnOk, OnErr};
 ghost use Rattle.std.specs.List.{list_all};
 ghost use Rattle.ca_plane.specs.Bytes.{is_word_byte};
 ghost use Rattle.ca_plane.specs.Puts.{Puts};

@@ -1,8 +1,6 @@
 //! What a claim is judged on, and whether the cells that it moves are too many.
 
 ghost use Rattle.std.specs.Prelude.{◌≡◌, OnOk, IfErr, Some};
-ghost use Rattle.ca_claims.specs.declared.refusal.About.TheVariants as abouts;
-ghost use Rattle.ca_claims.specs.declared.verdict.Cause.TheVariants as causes;
 ghost use Rattle.ca_claims.specs.inner.Patterns.{items, AreBoth};
 ghost use Rattle.ca_claims.specs.inner.PreparedClaim.{AreFewCounted, IsCountRefused, last_part, wanted_part};
 ghost use Rattle.ca_claims.specs.inner.PreparedClaim.{wanted_tree, refusal_for_count};

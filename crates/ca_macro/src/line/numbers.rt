@@ -3,7 +3,7 @@
 ghost use Rattle.std.specs.Prelude.{◌≡◌, not, ℕ, true, false, length, MatchOption};
 ghost use Rattle.std.specs.List.{AllZip};
 ghost use Rattle.ca_plane.specs.Bytes.{is_line_end, Every, words_of};
-ghost use Rattle.ca_macro.specs.File.{IsNumber, AreNumbers};
+ghost use Rattle.ca_macro.specs.File.{AreNumbers};
 ghost use Rattle.ca_macro.specs.inner.Numbers.{KeepsNumberOf, AreKept, AreNoNumbers};
 
 use ca_plane::bytes::{next_word, whole_number};

@@ -1,6 +1,6 @@
 //! A macrocell text, read a line at a time.
 
-ghost use Rattle.std.specs.Prelude.{◌≡◌, ℕ, List, [], ◌∷◌, ◌++◌, not, OnOk, IfErr};
+ghost use Rattle.std.specs.Prelude.{ℕ, List, [], ◌∷◌, ◌++◌, not, OnOk, IfErr};
 ghost use Rattle.std.specs.List.{flat_map};
 ghost use Rattle.ca_plane.specs.Bytes.{Every, is_line_end, words_of};
 ghost use Rattle.ca_quad.specs.declared.node.Node.{Node as Kept};

@@ -4,7 +4,7 @@ ghost use Rattle.std.specs.Prelude.{◌≡◌, ℕ, ℤ, List, [], ◌∷◌, �
 ghost use Rattle.std.specs.List.{AllByRecursion};
 ghost use Rattle.ca_quad.specs.declared.node.Node.{Node as Kept};
 ghost use Rattle.ca_quad.specs.Sound.{IsSoundStore, Grows};
-ghost use Rattle.ca_quad.specs.Trees.{ShowsSquare, IsTree, cell};
+ghost use Rattle.ca_quad.specs.Trees.{IsTree, cell};
 ghost use Rattle.ca_plane.specs.Plane.{cell as plane_cell};
 ghost use Rattle.ca_macro.specs.Nodes.{Node, Leaf, Cells, Parts, IsLevel, MayFollow};
 ghost use Rattle.ca_macro.specs.Shown.{picture_of_nodes};

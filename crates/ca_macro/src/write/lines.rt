@@ -1,6 +1,6 @@
 //! The lines of a tidy text.
 
-ghost use Rattle.std.specs.Prelude.{◌≡◌, ◌++◌, ◌∷◌, [], ℕ, List, map, codes, decimal, OnOk};
+ghost use Rattle.std.specs.Prelude.{◌≡◌, ◌++◌, ◌∷◌, [], map, codes, decimal, OnOk};
 ghost use Rattle.std.specs.List.{flat_map};
 ghost use Rattle.ca_plane.specs.Puts.{Puts};
 ghost use Rattle.ca_macro.specs.Nodes.{leaf_mark};

@@ -1,7 +1,7 @@
 //! The nodes of a tree, each square once, its parts before it.
 
 ghost use Rattle.std.specs.Prelude.{◌≡◌, ◌≢◌, ◌+◌, ◌<◌, ◌≤◌, ◌++◌, ◌∷◌, [], ℕ, ℤ, List, map, length};
-ghost use Rattle.std.specs.Prelude.{slice_index, OnOk, IfOk, IfSome, MatchOption, Some, None};
+ghost use Rattle.std.specs.Prelude.{slice_index, OnOk, IfOk, MatchOption, Some, None};
 ghost use Rattle.ca_quad.specs.Squares.{level_of};
 ghost use Rattle.ca_quad.specs.SquareValues.{square_value};
 ghost use Rattle.ca_quad.specs.Trees.{IsIn, IsTree, IsEmpty, cell};

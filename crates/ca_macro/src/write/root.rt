@@ -1,6 +1,6 @@
 //! The root of a tidy text.
 
-ghost use Rattle.std.specs.Prelude.{◌≡◌, ◌≢◌, ◌<◌, ◌≤◌, ℕ, ℤ, IfOk};
+ghost use Rattle.std.specs.Prelude.{◌≡◌, ◌<◌, ◌≤◌, ℤ, IfOk};
 ghost use Rattle.ca_quad.specs.Sound.{Grows};
 ghost use Rattle.ca_quad.specs.Trees.{IsTree, cell};
 ghost use Rattle.ca_macro.specs.Tidy.{lowest_level, IsLeastLevel};

@@ -1,7 +1,6 @@
 //! Planes that are moved.
 
-ghost use Rattle.std.specs.Prelude.{◌≡◌, IsTrue, IsFalse, IsOk, IfOk, IsErrOf, ◌↔◌, ◌≤ℤ◌, ◌+ℤ◌, pos, neg_ℤ};
-ghost use Rattle.std.specs.Prelude.{◌^◌};
+ghost use Rattle.std.specs.Prelude.{◌≡◌, IsTrue, IsFalse, IsOk, IfOk, IsErrOf, ◌↔◌, ◌+ℤ◌};
 ghost use Rattle.ca_plane.specs.Plane.{IsSame, shifted};
 ghost use Rattle.ca_plane.specs.Box.{LeavesPlane, moved};
 ghost use Rattle.ca_plane.specs.inner.Moves.{IsNear, StaysInPlane};

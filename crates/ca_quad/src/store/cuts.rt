@@ -1,6 +1,6 @@
 //! The squares that were cut out of others.
 
-ghost use Rattle.std.specs.Prelude.{◌≡◌, ◌==◌, None, Some, cond, OnOk};
+ghost use Rattle.std.specs.Prelude.{◌≡◌, None, Some, cond, OnOk};
 ghost use Rattle.ca_quad.specs.contracts.neighbours.NeighboursPartialEq.TheImpl.{eq-value};
 ghost use Rattle.ca_quad.specs.declared.neighbours.Neighbours.{Neighbours as Squares};
 ghost use Rattle.ca_quad.specs.inner.Cut.{cut_value};

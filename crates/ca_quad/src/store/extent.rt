@@ -1,6 +1,6 @@
 //! The least box round the live cells of a square.
 
-ghost use Rattle.std.specs.Prelude.{◌≡◌, ℕ, ◌+◌, ◌-◌, ◌≤◌, ◌^◌, min};
+ghost use Rattle.std.specs.Prelude.{ℕ, ◌+◌, ◌-◌, ◌≤◌, ◌^◌};
 ghost use Rattle.ca_quad.specs.inner.Extent.{box_of_two, transposed, IsSquareExtent};
 
 use super::bits::rows;

@@ -1,6 +1,6 @@
 //! Blocks of cells that are made squares.
 
-ghost use Rattle.std.specs.Prelude.{◌≡◌, ℕ, ◌+◌, ◌≤◌, ◌^◌, ◌*◌, IfOk};
+ghost use Rattle.std.specs.Prelude.{ℕ, ◌+◌, ◌≤◌, ◌^◌, IfOk};
 ghost use Rattle.ca_quad.specs.Sound.{Grows};
 ghost use Rattle.ca_quad.specs.inner.Window.{ShowsFrom};
 

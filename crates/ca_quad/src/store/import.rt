@@ -1,7 +1,6 @@
 //! Trees of another store, and the squares that a store had at first.
 
-ghost use Rattle.std.specs.Prelude.{◌≡◌, ◌≤◌, ◌+◌, ℕ, ℤ, length, take, IfOk, OnOk};
-ghost use Rattle.ca_quad.specs.Squares.{level_of};
+ghost use Rattle.std.specs.Prelude.{◌≡◌, ◌≤◌, ◌+◌, ℤ, length, take, IfOk, OnOk};
 ghost use Rattle.ca_quad.specs.Sound.{IsSoundStore, Grows};
 ghost use Rattle.ca_quad.specs.Trees.{IsIn, IsTree, cell, IsTrimmed};
 ghost use Rattle.ca_quad.specs.Added.{IsCopy, AddsCopies};

@@ -1,6 +1,6 @@
 //! The least box round the live cells of 8 by 8 cells of two states.
 
-ghost use Rattle.std.specs.Prelude.{ℕ, ◌<◌};
+ghost use Rattle.std.specs.Prelude.{◌<◌};
 ghost use Rattle.ca_quad.specs.Trees.{word_cells};
 ghost use Rattle.ca_quad.specs.inner.Extent.{IsSquareExtent};
 ghost use Rattle.ca_quad.specs.inner.WordExtent.{AreEnds, AreColumns};

@@ -1,7 +1,7 @@
 //! What holds of the orders of symmetries and of next cells under rule tables, said of the definitions alone.
 //! These functions are of no use to a program: each has laws for its contract.
 
-ghost use Rattle.std.specs.Prelude.{◌≡◌, [], ◌∷◌, ◌++◌, true, false, None, Some, codes};
+ghost use Rattle.std.specs.Prelude.{◌≡◌, [], ◌∷◌, ◌++◌, true, false, Some, codes};
 ghost use Rattle.ca_rule.specs.TableOrders.{orders};
 ghost use Rattle.ca_rule.specs.TableLines.{lines_said, setting, is_setting, begins_variable, is_name};
 ghost use Rattle.ca_rule.specs.TableLines.{fields_of, IsVariableLine};

@@ -4,7 +4,6 @@ ghost use Rattle.std.specs.Prelude.{◌≡◌, ◌<◌, ◌≤◌, ℕ, List, le
 ghost use Rattle.std.specs.List.{list_all};
 ghost use Rattle.std.specs.Int.{bit_at};
 ghost use Rattle.ca_rule.specs.TableNext.{States, SlotCell, Transition as TransitionValue, admits};
-ghost use Rattle.ca_rule.specs.inner.TablePlaces.{slots_admit};
 ghost use Rattle.ca_rule.specs.inner.TableSieve.{IsSieveRow, TellsSlot};
 
 use crate::table::choice::{Choice, cell_at};

@@ -1,6 +1,6 @@
 //! A brick and the cells round it.
 
-ghost use Rattle.std.specs.Prelude.{◌≡◌, ◌<◌, ℕ, suc};
+ghost use Rattle.std.specs.Prelude.{◌≡◌, ◌<◌, ℕ};
 ghost use Rattle.ca_quad.specs.Trees.{row_cells};
 ghost use Rattle.ca_run.specs.inner.Bricks.{round_cells, sum_of_three, sum_of_two, pair_at, next_cell_at};
 

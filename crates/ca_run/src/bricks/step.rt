@@ -1,9 +1,9 @@
 //! One generation of bricks, where those that rest are left as they are.
 
-ghost use Rattle.std.specs.Prelude.{◌≡◌, ◌+◌, ◌<◌, ◌≤◌, ◌^◌, ℕ, [], length, slice_index, get_or, OnOk};
+ghost use Rattle.std.specs.Prelude.{◌≡◌, ◌+◌, ◌<◌, ◌≤◌, ◌^◌, ℕ, length, slice_index, OnOk};
 ghost use Rattle.std.specs.Int.{bit_at};
 ghost use Rattle.ca_run.specs.inner.Bricks.{CanStep, AreStepped, HasNeighbours, AllHaveNeighbours};
-ghost use Rattle.ca_run.specs.inner.Bricks.{HasBlankEdge, IsNotIn, IsNextBrick, IsSameRound, IsUnseen};
+ghost use Rattle.ca_run.specs.inner.Bricks.{HasBlankEdge, IsNotIn, IsNextBrick, IsUnseen};
 ghost use Rattle.ca_run.specs.inner.Bricks.{QueueGrows, BricksRest, column_at, round_at, round_cells};
 
 use super::queue::Queue;

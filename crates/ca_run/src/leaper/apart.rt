@@ -1,13 +1,13 @@
 //! Runs that make too many squares for the leaper's store: they go on in a store of their own, whose squares
 //! are left behind from time to time but for those of the tree.
 
-ghost use Rattle.std.specs.Prelude.{◌≡◌, ℕ, ◌+◌, ◌*◌, ◌≤◌, ◌<◌, ◌^◌, ℤ, length, take, IfOk, OnErr};
+ghost use Rattle.std.specs.Prelude.{◌≡◌, ◌+◌, ◌*◌, ◌≤◌, ◌<◌, length, take, IfOk, OnErr};
 ghost use Rattle.ca_quad.specs.Sound.{Grows};
-ghost use Rattle.ca_quad.specs.Trees.{IsTree, cell};
+ghost use Rattle.ca_quad.specs.Trees.{IsTree};
 ghost use Rattle.ca_run.specs.Advanced.{CanAdvance, IsAdvanced};
-ghost use Rattle.ca_run.specs.Leaping.{LeaperGrows, Spends, EndsAtLimit};
+ghost use Rattle.ca_run.specs.Leaping.{LeaperGrows, EndsAtLimit};
 ghost use Rattle.ca_run.specs.inner.Apart.{IsCopyOfTree, KeepsOn};
-ghost use Rattle.ca_run.specs.inner.Dense.{HasReached, HasParted};
+ghost use Rattle.ca_run.specs.inner.Dense.{HasReached};
 
 use super::dense::ReachedTree;
 use super::pace::Pace;

@@ -1,6 +1,6 @@
 //! The results that a leaper remembers: a bounded number of pages and of single ones.
 
-ghost use Rattle.std.specs.Prelude.{◌≡◌, ◌⊎◌, ◌<◌, ◌^◌, ◌≤◌, ℕ, [], length};
+ghost use Rattle.std.specs.Prelude.{◌≡◌, ◌⊎◌, ◌<◌, ◌^◌, ℕ, length};
 ghost use Rattle.std.specs.Prelude.{IfSome, IfOk, OnOk, Some, Option, slice_get};
 ghost use Rattle.std.specs.NonZero.{non_zero_usize_get};
 ghost use Rattle.ca_run.specs.Pages.{HasPageKey, HasFullLeap, HasSingle, RemembersNoMore, IsBlankMemo};

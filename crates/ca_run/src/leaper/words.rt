@@ -1,6 +1,6 @@
 //! Squares of two states as words of 64 bits.
 
-ghost use Rattle.std.specs.Prelude.{◌≡◌, ◌↔◌, true, ℕ, ◌≤◌, ℤ, pos, ◌+ℤ◌, List};
+ghost use Rattle.std.specs.Prelude.{ℕ, ◌≤◌, ℤ, pos, ◌+ℤ◌, List};
 ghost use Rattle.ca_plane.specs.Generations.{cells_after};
 ghost use Rattle.ca_run.specs.inner.Words.{WordShows, WordsShow};
 ghost use Rattle.ca_run.specs.Masks.{GoesBy};

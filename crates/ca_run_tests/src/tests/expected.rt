@@ -1,6 +1,6 @@
 //! What the tests expect. All else answers yes or no, since an assertion costs more proof than a comparison.
 
-ghost use Rattle.std.specs.Prelude.{◌≡◌, IsTrue};
+ghost use Rattle.std.specs.Prelude.{IsTrue};
 ghost use Rattle.ca_plane.specs.Sparse.{IsInPlane};
 
 use ca_plane::{Memory, Plane, Point};

@@ -1,6 +1,6 @@
 //! A glider that is written by the calls of ca_rle and ca_macro, which want to know that its cells fit.
 
-ghost use Rattle.std.specs.Prelude.{◌≡◌, ◌<◌, ℤ, IfOk, IsTrue};
+ghost use Rattle.std.specs.Prelude.{◌<◌, ℤ, IfOk, IsTrue};
 ghost use Rattle.std.specs.List.{All};
 ghost use Rattle.ca_plane.specs.Limits.{IsInRange};
 ghost use Rattle.ca_quad.specs.Trees.{IsTree, cell};
