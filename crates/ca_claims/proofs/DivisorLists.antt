@@ -1,7 +1,7 @@
 -- Lists of divisors that get longer.
 use Rattle.std.proofs.Common.{◌≡◌, ℕ, ap, ◌+◌, ◌*◌, ◌/◌, ◌%◌, ◌≤◌, ◌<◌, List, [], ◌∷◌, ◌++◌, sym, subst, ◌∙◌, inl, inr, arith}
 use Rattle.std.specs.Int.{◌∣◌}
-use Rattle.std.proofs.Math.Nat.{mul-le-mul, mul-le-mul_left, le_of_mul-le-mul_left, mul-lt-mul_of_pos_right, mul_comm, div-mul_cancel, mul-div_cancel, dvd-mul_right, dvd-mul_left, dvd_of_mod-eq-zero, dvd_iff_mod-eq-zero}
+use Rattle.std.proofs.Math.Nat.{mul-le-mul_left, le_of_mul-le-mul_left, mul-lt-mul_of_pos_right, mul_comm, div-mul_cancel, mul-div_cancel, dvd-mul_right, dvd-mul_left, dvd_of_mod-eq-zero, dvd_iff_mod-eq-zero}
 use Rattle.std.proofs.lemmas.Bool.{cases_eq, cases_lt}
 use Rattle.ca_claims.specs.inner.Divisors.{NoneDivides, AreDivisors, AreKnownBelow}
 
@@ -22,14 +22,6 @@ module _ (n : ℕ) where
       (from, omega arith, divides, divisors_on low high d [] are more none, λ m above below _. omega (arith, above, below))
   divisors_more low high d (e ∷ ds) are from more none divides =
       (are.0, omega (arith, are.1, more), are.2, are.3, divisors_more (e + 1) high d ds are.4 (omega (arith, are.1, more)) more none divides)
-
--- a number below another one's square, and the number that makes it with a larger one
-pub smaller_factor : (n low m k : ℕ) → n < low * low → low ≤ m → m * k ≡ n → k < low
-smaller_factor n low m k square large product =
-    elim (cases_lt k low) [
-      | inl below ↦ below
-      | inr above ↦ let most : low * low ≤ m * k = mul-le-mul large above in absurd (omega (arith, square, product, most))
-    ]
 
 -- of two products that are one number, a smaller factor goes with a larger one
 larger_factor : (a b c d : ℕ) → a * b ≡ c * d → a < c → 0 < d → d < b
@@ -74,17 +66,6 @@ small_on n low ds are rest = divisors_on n 1 low (low + 1) ds are (omega arith) 
     rest ((dvd_iff_mod-eq-zero low).0 (subst (λ j. j ∣ n) here divides)))
 
 -- ---- the large divisors
-
--- the small ones are known, and each other one makes n with one of them
-pub known_first : (n low : ℕ) (ds : List ℕ) → AreDivisors n 1 low ds → low ≤ n → n < low * low → AreKnownBelow n low low ds
-known_first n low ds are within square = record {
-  high = low;
-  from = omega arith;
-  within = within;
-  are = are;
-  before = λ m k above below _. absurd (omega (arith, above, below));
-  beyond = λ m k above product. smaller_factor n low m k square above product;
-}
 
 module _ (n low d : ℕ) (ds : List ℕ) (known : AreKnownBelow n low (d + 1) ds) (some : 2 ≤ n) (enough : 2 ≤ d) where
   -- n isn't made by d and a large number

@@ -38,9 +38,6 @@ module _ (next : List ℕ → ℕ) (p : ℤ → ℤ → ℕ) (cells : Picture) (
   pub picture_live : HasLive p → IsLive cells
   picture_live live = (live.0, live.1, λ none. live.2 (sym (shows live.0 live.1) ∙ none))
 
-  pub picture_dead : IsDead p → IsLive cells → ⊥
-  picture_dead dead live = live.2 (shows live.0 live.1 ∙ dead live.0 live.1)
-
   pub picture_moved : (m : ℕ) (dx dy : ℤ) → AreMoved p (cells_after next p m) dx dy → IsAfter next cells m (shifted cells dx dy)
   picture_moved m dx dy moved = λ x y. later m x y ∙ moved x y ∙ sym (shows (x -ℤ dx) (y -ℤ dy)) ∙ sym (cell-shifted cells dx dy x y)
 
@@ -87,29 +84,11 @@ module _ (next : List ℕ → ℕ) (cells : Picture) (limit n : ℕ) (dx dy : �
   in_place : dx ≡ pos 0 → dy ≡ pos 0 → IsAfter next cells n (shifted cells (pos 0) (pos 0))
   in_place right down = subst (λ d. IsAfter next cells n (shifted cells (pos 0) d)) down (subst (λ d. IsAfter next cells n (shifted cells d dy)) right is.stands)
 
-  pub still_true : dx ≡ pos 0 → dy ≡ pos 0 → n ≡ 1 → IsTrueWithin next cells limit kind.Still
-  still_true right down one = record {
-    numbers = tt;
-    within = let some = is.some in omega (arith, within, some);
-    holds = record {
-      live = λ _. is.live;
-      stands = subst (λ m. IsAfter next cells m (shifted cells (pos 0) (pos 0))) one (in_place right down);
-      least = λ _ _ _. tt;
-    };
-  }
-
   pub oscillator_true : dx ≡ pos 0 → dy ≡ pos 0 → n ≢ 1 → IsTrueWithin next cells limit (kind.Oscillator n)
   oscillator_true right down more = record {
     numbers = let some = is.some in (omega (arith, some, more), omega (arith, within, short));
     within = within;
     holds = record { live = λ _. is.live; stands = in_place right down; least = is.changed };
-  }
-
-  pub spaceship_true : (dx ≡ pos 0 → dy ≡ pos 0 → ⊥) → IsTrueWithin next cells limit (kind.Spaceship n dx dy)
-  spaceship_true moved = record {
-    numbers = (is.some, omega (arith, within, short), is.right, is.down, moved);
-    within = within;
-    holds = record { live = λ _. is.live; stands = is.stands; least = is.nowhere };
   }
 
 -- where none of some generations is dead, the tree of the last one is live

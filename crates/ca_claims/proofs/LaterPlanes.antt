@@ -16,7 +16,7 @@ use Rattle.ca_plane.proofs.Pictures.{place-from_true}
 use Rattle.ca_quad.specs.declared.node.Node.{Node}
 use Rattle.ca_quad.specs.declared.tree.Tree.{Tree}
 use Rattle.ca_quad.specs.declared.tree.WideBounds.{WideBounds}
-use Rattle.ca_quad.specs.Boxes.{IsDead, IsLeastWideBox}
+use Rattle.ca_quad.specs.Boxes.{IsLeastWideBox}
 use Rattle.ca_quad.specs.Trees as trees
 use Rattle.ca_quad.specs.Trees.{IsTrimmed, HoldsAll}
 use Rattle.ca_quad.specs.Sound.{IsSoundStore}
@@ -25,7 +25,7 @@ use Rattle.ca_quad.proofs.Reach.{low_fits}
 use Rattle.ca_quad.proofs.Shifts.{some_level}
 use Rattle.ca_macro.specs.Pattern.{AreInRange}
 use Rattle.ca_claims.specs.Ahead.{HasCellOutOfRange}
-use Rattle.ca_claims.specs.inner.Cells.{IsBoxInRange, IsBoxOutOfRange}
+use Rattle.ca_claims.specs.inner.Cells.{IsBoxOutOfRange}
 use Rattle.ca_claims.specs.inner.Glance.{AreNearBounds, IsLowTree}
 use Rattle.ca_claims.proofs.FilesRead.{All-each}
 use Rattle.ca_claims.proofs.CellsNearMiddle.{range_held, later_held, trimmed_low}
@@ -55,14 +55,6 @@ later_small next p k closed small (suc n) x y =
 -- ---- boxes
 
 module _ (cells : ℤ → ℤ → ℕ) where
-  pub box_in_range : (box : WideBounds) → IsLeastWideBox cells box → IsBoxInRange box → AreInRange cells
-  box_in_range box least within x y live =
-      let k = least.all x y live in
-      (omega (arith, ints, k, within), omega (arith, ints, k, within), omega (arith, ints, k, within), omega (arith, ints, k, within))
-
-  pub dead_in_range : IsDead cells → AreInRange cells
-  dead_in_range dead x y live = absurd (live (dead x y))
-
   pub box_out_of_range : (box : WideBounds) → IsLeastWideBox cells box → IsBoxOutOfRange box → HasCellOutOfRange cells
   box_out_of_range box least (inl h) = (box.x0, least.left.0, least.left.1, λ i. absurd (omega (arith, ints, h, i.0)))
   box_out_of_range box least (inr (inl h)) = (box.x1, least.right.0, least.right.1, λ i. absurd (omega (arith, ints, h, i.1)))
@@ -72,9 +64,6 @@ module _ (cells : ℤ → ℤ → ℕ) where
 module _ (f g : ℤ → ℤ → ℕ) (same : (x y : ℤ) → f x y ≡ g x y) where
   pub range_shown : AreInRange f → AreInRange g
   range_shown range x y live = range x y (λ dead. live (sym (same x y) ∙ dead))
-
-  pub out_shown : HasCellOutOfRange f → HasCellOutOfRange g
-  out_shown (x, y, live, out) = (x, y, (λ dead. live (same x y ∙ dead)), out)
 
 -- ---- pictures of cells
 

@@ -13,17 +13,8 @@ use Rattle.ca_claims.specs.inner.Returns.{IsLifeSpan}
 use Rattle.ca_claims.specs.inner.Subjects.{ShowsTree, HasLive, BarsDeath, IsEndTree, AreLifeBounds}
 use Rattle.ca_claims.proofs.Deaths.{live_at_all}
 use Rattle.ca_claims.proofs.LeaptTrees.{shows_after, shows_stays}
-use Rattle.ca_claims.proofs.Reasons.{live_shown, death_is_some}
 
 module _ (next : List ℕ → ℕ) (nodes : List Node) (case : Case) where
-  -- it lives at first, and is dead at last
-  pub whole_life : BarsDeath nodes case → AreLifeBounds next nodes case 0 case.asks.generations
-  whole_life bars = record {
-    order = let some = bars.subject.bounded.some (death_is_some case.asks.barred bars.barred) in omega (arith, some);
-    within = omega arith;
-    holds = λ cells shows empty. (live_shown nodes case.subject.pattern cells bars.live shows, empty);
-  }
-
   -- where no time is between, that is the life span
   pub span_found : next (replicate 9 0) ≡ 0 → (low high : ℕ) → AreLifeBounds next nodes case low high → high - low ≤ 1 → (cells : Picture) → ShowsTree nodes case.subject.pattern cells
       → IsAfter next cells case.asks.generations [] → IsLifeSpan next cells high

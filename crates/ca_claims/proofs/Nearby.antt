@@ -3,11 +3,8 @@ use Rattle.std.proofs.Common.{◌≡◌, ℕ, ◌≤◌, ◌^◌, List, ◌∙�
 use Rattle.std.specs.Prelude.{ℤ, replicate}
 use Rattle.std.proofs.lemmas.Bool.{cases_eq}
 use Rattle.std.proofs.lemmas.Int.{ints}
-use Rattle.std.proofs.lemmas.List.Elements.{All-contains}
-use Rattle.ca_plane.specs.Plane.{Picture, cell}
-use Rattle.ca_plane.specs.Sparse.{IsInPlane, IsSparse}
+use Rattle.ca_plane.specs.Sparse.{IsInPlane}
 use Rattle.ca_plane.specs.Generations.{cells_after}
-use Rattle.ca_plane.proofs.Pictures.{Contains-cell}
 use Rattle.ca_run.proofs.After.{after_dead}
 use Rattle.ca_macro.specs.Pattern.{AreInRange}
 
@@ -27,11 +24,3 @@ later_outside next p n quiet range few x y out =
 pub end_outside : (next : List ℕ → ℕ) (p q : ℤ → ℤ → ℕ) (n : ℕ) → ((x y : ℤ) → q x y ≡ cells_after next p n x y) → next (replicate 9 0) ≡ 0 → AreInRange p → n ≤ 2 ^ 60
     → (x y : ℤ) → (IsInPlane (record { y = y; x = x }) → ⊥) → q x y ≡ 0
 end_outside next p q n shows quiet range few x y out = shows x y ∙ later_outside next p n quiet range few x y out
-
--- in a sparse plane
-pub sparse_outside : (p : Picture) → IsSparse p → (x y : ℤ) → (IsInPlane (record { y = y; x = x }) → ⊥) → cell p x y ≡ 0
-sparse_outside p sparse x y out =
-    elim (cases_eq (cell p x y) 0) [
-      | inl none ↦ none
-      | inr live ↦ absurd (out (All-contains (λ e. IsInPlane e.0) p _ sparse.places (Contains-cell p x y live)))
-    ]

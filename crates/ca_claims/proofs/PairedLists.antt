@@ -21,14 +21,6 @@ module _ {X Y : Type 0} (R : X → Y → Type 0) where
   zip_beside Q (x ∷ xs) [] all right = absurd all
   zip_beside Q (x ∷ xs) (y ∷ ys) all right = ((all.0, right.0), zip_beside Q xs ys all.1 right.1)
 
-  -- of some
-  pub zip_some : (P : X → Type 0) (Q : Y → Type 0) → ((x : X) (y : Y) → R x y → Q y → P x) → (xs : List X) (ys : List Y) → AllZip R xs ys → SomeOf Q ys → SomeOf P xs
-  zip_some P Q f [] [] all some = absurd some
-  zip_some P Q f [] (y ∷ ys) all some = absurd all
-  zip_some P Q f (x ∷ xs) [] all some = absurd all
-  zip_some P Q f (x ∷ xs) (y ∷ ys) all (inl here) = inl (f x y all.0 here)
-  zip_some P Q f (x ∷ xs) (y ∷ ys) all (inr later) = inr (zip_some P Q f xs ys all.1 later)
-
   -- of the first bad one and those before it
   pub zip_first : (Good Bad : X → Type 0) (Right Wrong : Y → Type 0) → ((x : X) (y : Y) → R x y → Right y → Good x) → ((x : X) (y : Y) → R x y → Wrong y → Bad x)
       → (xs : List X) (ys : List Y) → AllZip R xs ys → FirstBad Right Wrong ys → FirstBad Good Bad xs

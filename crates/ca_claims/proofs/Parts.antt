@@ -1,17 +1,15 @@
 -- One of a claim's one or two patterns, which is bad, after one that is good.
-use Rattle.std.proofs.Common.{◌≡◌, ℕ, List, [], ◌∷◌, map, Option, Vec, Global, inl, inr, refl, ap, sym, subst}
+use Rattle.std.proofs.Common.{ℕ, List, [], ◌∷◌, Option, Vec, Global, inl, inr, sym, subst}
 use Rattle.std.specs.List.{AllByRecursion, AllZip}
-use Rattle.ca_claims.specs.declared.claims.line.NamedPath.{NamedPath}
 use Rattle.ca_claims.specs.declared.refusal.About.{About}
 use Rattle.ca_claims.specs.declared.refusal.About.TheVariants as about
 use Rattle.ca_claims.specs.declared.refusal.WhichPattern.{WhichPattern}
 use Rattle.ca_claims.specs.declared.refusal.WhichPattern.TheVariants.{First, Second}
 use Rattle.ca_claims.specs.declared.verdict.Cause.{Cause}
 use Rattle.ca_claims.specs.declared.verdict.Cause.TheVariants.{NoFile, BadPattern, BadRule, StateTooLarge, TooManyCells}
-use Rattle.ca_claims.specs.Places.{path_at, named_path}
+use Rattle.ca_claims.specs.Places.{path_at}
 use Rattle.ca_claims.specs.Answers.{IsThere, FirstBad, IsOfPattern, IsOfRuleFile}
-use Rattle.ca_claims.specs.Notes.{IsFirstBad}
-use Rattle.ca_claims.specs.inner.Patterns.{IsEachOnce, FirstBadAt, IsListPart}
+use Rattle.ca_claims.specs.inner.Patterns.{IsEachOnce, FirstBadAt}
 use Rattle.ca_claims.specs.inner.Refusals.{IsCauseAbout}
 
 -- the first bad one
@@ -46,15 +44,6 @@ once_part {X} Good Bad part each all (inr (x, e, d)) bad =
     twice First b = b
     twice Second b = absurd b
 
--- by its name and path
-named_part : (paths : List (List ℕ)) (Good Bad : List ℕ → Type 0) (part : WhichPattern) (patterns : List NamedPath) (pattern : NamedPath) → IsListPart part patterns pattern
-    → FirstBadAt part (map (λ n. path_at paths n.path) patterns) Good Bad → IsFirstBad (map (named_path paths) patterns) pattern.name.now (path_at paths pattern.path) Good Bad
-named_part paths Good Bad First [] pattern is bad = absurd bad
-named_part paths Good Bad First (n ∷ ns) pattern is bad = inl (ap (named_path paths) (sym is), bad)
-named_part paths Good Bad Second [] pattern is bad = absurd bad
-named_part paths Good Bad Second (n ∷ []) pattern is bad = absurd bad
-named_part paths Good Bad Second (n ∷ m ∷ ns) pattern is bad = inr (bad.0, inl (ap (named_path paths) (sym is), bad.1))
-
 module _ (files : List (List ℕ × List ℕ)) (rules : List (List ℕ)) where
   -- what is said of a pattern is said of it in other words
   of_pattern : (F H : (Good Bad : List ℕ → Type 0) → Type 0) → ((Good Bad : List ℕ → Type 0) → F Good Bad → H Good Bad) → (cause : Cause) (line : Option ℕ) (text : Option (Vec ℕ Global))
@@ -65,13 +54,6 @@ module _ (files : List (List ℕ × List ℕ)) (rules : List (List ℕ)) where
   of_pattern F H f StateTooLarge line text is = (is.0, is.1, is.2, is.3, f _ _ is.4)
   of_pattern F H f TooManyCells line text is = (is.0, is.1, is.2, is.3, f _ _ is.4)
   of_pattern F H f cause line text is = absurd is
-
-  -- so it is told by its name and path
-  pub told_part : (paths : List (List ℕ)) (part : WhichPattern) (patterns : List NamedPath) (pattern : NamedPath) → IsListPart part patterns pattern → (cause : Cause) (line : Option ℕ) (text : Option (Vec ℕ Global))
-      → IsOfPattern files rules cause (FirstBadAt part (map (λ n. path_at paths n.path) patterns)) line text
-      → IsOfPattern files rules cause (IsFirstBad (map (named_path paths) patterns) pattern.name.now (path_at paths pattern.path)) line text
-  told_part paths part patterns pattern is = of_pattern (FirstBadAt part (map (λ n. path_at paths n.path) patterns)) (IsFirstBad (map (named_path paths) patterns) pattern.name.now (path_at paths pattern.path))
-      (λ Good Bad bad. named_part paths Good Bad part patterns pattern is bad)
 
   -- and a cause is about the same of patterns of which two may be one
   pub on_all : (paths each all : List (List ℕ)) → IsEachOnce each all → (cause : Cause) (on : About) → IsCauseAbout files paths rules each cause on → IsCauseAbout files paths rules all cause on
@@ -90,8 +72,3 @@ module _ (files : List (List ℕ × List ℕ)) (rules : List (List ℕ)) where
       of_file : (k : Cause) (path : List ℕ) → IsOfRuleFile files rules each k path → IsOfRuleFile files rules all k path
       of_file NoFile path h = (all_there once h.0, h.1)
       of_file k path h = h
-
--- the paths of patterns that are given by their names too
-pub named_paths : (paths : List (List ℕ)) (patterns : List NamedPath) → map (λ p. p.1) (map (named_path paths) patterns) ≡ map (λ n. path_at paths n.path) patterns
-named_paths paths [] = refl
-named_paths paths (n ∷ ns) = ap (λ l. path_at paths n.path ∷ l) (named_paths paths ns)

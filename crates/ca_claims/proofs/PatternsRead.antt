@@ -1,10 +1,9 @@
 -- The patterns of files that were read into a store, and what they say of the files' paths.
-use Rattle.std.proofs.Common.{◌≡◌, ◌≢◌, ℕ, ◌≤◌, ◌<◌, List, get_or, Option, Some, Vec, Global, inr, refl, sym, subst, ◌∙◌, arith}
+use Rattle.std.proofs.Common.{◌≡◌, ℕ, ◌≤◌, ◌<◌, List, get_or, Option, Some, Vec, Global, inr, sym, subst, ◌∙◌, arith}
 use Rattle.std.specs.Prelude.{ℤ}
 use Rattle.std.specs.List.{All}
 use Rattle.ca_plane.specs.declared.point.Point.{Point}
 use Rattle.ca_plane.specs.Plane.{Picture, cell}
-use Rattle.ca_plane.specs.Population.{HasTooManyCells}
 use Rattle.ca_plane.specs.Limits.{IsInRange}
 use Rattle.ca_plane.specs.Sparse.{IsSparse}
 use Rattle.ca_plane.proofs.Pictures.{cell-listed}
@@ -27,8 +26,8 @@ use Rattle.ca_claims.specs.Means.{bytes_at, format_of, HoldsPattern, IsReadableA
 use Rattle.ca_claims.specs.declared.verdict.PatternFault.{PatternFault}
 use Rattle.ca_claims.specs.declared.verdict.PatternFault.TheVariants as pattern_fault
 use Rattle.ca_claims.specs.Answers.{IsPatternFault, IsPatternFaultOn, IsRuled, HasSmallStates, IsReadableFile, HasRule, IsSmall, IsLarge, IsUnnamed, IsUnnamedBy, IsGoodPattern}
-use Rattle.ca_claims.specs.inner.Patterns.{IsReadFrom, IsUnreadFor, HasName, IsUnnamedFor, rule_of, IsRuledAs, ShowsLarge, ShowsSmall}
-use Rattle.ca_claims.proofs.EqualCells.{small_shown, large_shown, many_shown}
+use Rattle.ca_claims.specs.inner.Patterns.{IsReadFrom, HasName, IsUnnamedFor, rule_of, IsRuledAs, ShowsLarge, ShowsSmall}
+use Rattle.ca_claims.proofs.EqualCells.{small_shown, large_shown}
 
 -- ---- files that read
 
@@ -47,12 +46,6 @@ pub fault_on : (bytes : List ℕ) (fault : PatternFault) (line : Option ℕ) →
 fault_on bytes (pattern_fault.Rle fault) line on = (on.0, on.1, on.2.0)
 fault_on bytes (pattern_fault.Macro fault) line on = (on.0, on.1, on.2.0)
 fault_on bytes pattern_fault.Memory line on = on
-
--- so what isn't read for another reason than memory has this fault, and else memory may run out for it
-pub unread_fault : (bytes : List ℕ) (fault : PatternFault) (line : Option ℕ) → IsUnreadFor bytes fault line → fault ≢ pattern_fault.Memory → IsPatternFault bytes fault
-unread_fault bytes (pattern_fault.Rle fault) line un m = fault_on bytes (pattern_fault.Rle fault) line un
-unread_fault bytes (pattern_fault.Macro fault) line un m = fault_on bytes (pattern_fault.Macro fault) line un
-unread_fault bytes pattern_fault.Memory line un m = absurd (m refl)
 
 -- ---- patterns of a store that grows
 
@@ -158,9 +151,6 @@ module _ (nodes : List Node) (files : List (List ℕ × List ℕ)) (path : List 
 
       pub ruled_is_small : ShowsSmall nodes ruled → IsSmall files tables path
       ruled_is_small small = (ruled_picture, rule_of ruled, ruled_reads, ruled_small small)
-
-      pub ruled_is_many : HasTooManyCells (trees.cell nodes ruled.pattern.tree) → HasTooManyCells (cell ruled_picture)
-      ruled_is_many = many_shown (trees.cell nodes ruled.pattern.tree) (cell ruled_picture) tree_shows
 
 -- each listed state of a plane is small where all states are
 pub listed_small : (rule : RuleValue) (p : Picture) → IsSparse p → HasSmallStates rule (cell p) → All (λ e. e.1 < states_of rule) p

@@ -18,19 +18,18 @@ use Rattle.ca_claims.specs.declared.conversion.ConvertFault.TheVariants.{BadPatt
 use Rattle.ca_claims.specs.declared.format.Format.{Format}
 use Rattle.ca_claims.specs.declared.pattern.Summary.{Summary}
 use Rattle.ca_claims.specs.declared.reached.Reached.{Reached}
-use Rattle.ca_claims.specs.declared.reached.ReachFault.{ReachFault}
-use Rattle.ca_claims.specs.declared.reached.ReachFault.TheVariants.{Convert, GenTooLarge, Work, Range}
+use Rattle.ca_claims.specs.declared.reached.ReachFault.TheVariants.{Convert, Work}
 use Rattle.ca_claims.specs.declared.ruled.RuledPattern.{RuledPattern}
-use Rattle.ca_claims.specs.Ahead.{HoldsSmallRuledPattern, IsReached, MayNeedRun, IsReachFault, IsAhead, IsSummaryAfter, IsConvertedAfter, HasCellOutOfRange, IsConvertFaultAfter}
+use Rattle.ca_claims.specs.Ahead.{HoldsSmallRuledPattern, IsReached, MayNeedRun, IsReachFault, IsAhead, IsSummaryAfter, IsConvertFaultAfter}
 use Rattle.ca_claims.specs.Answers.{HasSmallStates}
 use Rattle.ca_claims.specs.Means.{MayWantMemory}
-use Rattle.ca_claims.specs.inner.Glance.{IsLowTree, IsSummaryOf}
+use Rattle.ca_claims.specs.inner.Glance.{IsSummaryOf}
 use Rattle.ca_claims.specs.inner.Patterns.{rule_of}
-use Rattle.ca_claims.specs.inner.Ready.{IsReady, IsWritableTree, IsWrittenAs, AreUnwritten}
+use Rattle.ca_claims.specs.inner.Ready.{IsReady, AreUnwritten}
 use Rattle.ca_claims.specs.inner.Spending.{Takes}
 use Rattle.ca_claims.specs.inner.Stages.{IsLaterTree}
 use Rattle.ca_claims.proofs.CellsNearMiddle.{trimmed_low}
-use Rattle.ca_claims.proofs.LaterPlanes.{picture_of, range_shown, out_shown}
+use Rattle.ca_claims.proofs.LaterPlanes.{picture_of, range_shown}
 use Rattle.ca_claims.proofs.PatternsRead.{wanted}
 use Rattle.ca_claims.proofs.EqualCells.{many_shown, population_shown}
 use Rattle.ca_claims.proofs.WrittenForms.{file_begins}
@@ -71,25 +70,11 @@ module _ (nodes : List Node) (bytes : List ℕ) (tables : List TableRule) (ruled
         let power = power_more (tree.level + digits + 2) (level + digits + 2) (omega (arith, high)) in
         omega (arith, none, all, most, power)
 
-    pub file_is_late : generation_limit ≤ ruled.pattern.generation + n → (work : ℕ) → IsReachFault bytes tables n work GenTooLarge
-    file_is_late late work = (ready.read.cells, rule_of ruled, ruled.pattern.generation, begins, late)
-
     pub file_wants_work : ruled.pattern.generation + n < generation_limit → (work : ℕ) → MayNeedRun work n (plane.cell ready.read.cells) → IsReachFault bytes tables n work Work
     file_wants_work low work need = (ready.read.cells, rule_of ruled, ruled.pattern.generation, begins, low, need)
 
   pub file_wants_memory : MayWantMemory bytes
   file_wants_memory = wanted bytes ready.read.loaded.holds.readable
-
--- why it isn't reached is why it isn't written
-pub unreached : (bytes : List ℕ) (tables : List TableRule) (n work : ℕ) (target : Format) (fault : ReachFault) → IsReachFault bytes tables n work fault → IsConvertFaultAfter bytes tables n work target fault
-unreached bytes tables n work target (Convert (BadPattern fault)) h = h
-unreached bytes tables n work target (Convert (BadRule fault)) h = h
-unreached bytes tables n work target (Convert StateTooLarge) h = h
-unreached bytes tables n work target (Convert TooManyCells) h = absurd h
-unreached bytes tables n work target (Convert Memory) h = h
-unreached bytes tables n work target GenTooLarge h = h
-unreached bytes tables n work target Work h = h
-unreached bytes tables n work target Range h = absurd h
 
 -- ---- what is reached
 
@@ -99,14 +84,6 @@ module _ (bytes : List ℕ) (tables : List TableRule) (n : ℕ) (reached : Reach
 
   abbrev f : ℤ → ℤ → ℕ
   f = trees.cell reached.store reached.tree
-
-  -- can be told of,
-  pub reached_is_low : IsLowTree reached.store reached.tree
-  reached_is_low = record { is_tree = is.is_tree; low = let level = is.level in omega (arith, level) }
-
-  -- and written where its live cells are in range
-  pub reached_is_writable : AreInRange (trees.cell reached.store reached.tree) → IsWritableTree reached.store reached.tree (rule_value reached.rule) reached.generation
-  reached_is_writable range = record { is_tree = is.is_tree; writable = record { range = range; small = is.small; low = is.low } }
 
   is_ahead : (later : Picture) → ((x y : ℤ) → f x y ≡ plane.cell later x y) → IsAhead bytes tables n later rule reached.generation
   is_ahead later shows = record { cells = is.cells; begun = is.begun; begins = is.begins; stands = λ x y. sym (is.shows x y) ∙ shows x y; added = is.added; low = is.low }
@@ -125,27 +102,11 @@ module _ (bytes : List ℕ) (tables : List TableRule) (n : ℕ) (reached : Reach
         bounds = told.bounds later shows;
       }
 
-  -- what is written of it is its text
-  pub reached_written : (target : Format) (text : List ℕ) → IsWrittenAs target (trees.cell reached.store reached.tree) (rule_value reached.rule) reached.generation text → IsConvertedAfter bytes tables n target text
-  reached_written target text written = record {
-    later = written.shown;
-    rule = rule;
-    generation = reached.generation;
-    ahead = is_ahead written.shown written.same;
-    format = written.format;
-    text_holds = written.holds;
-    tidy = written.tidy;
-  }
-
   low : is.begun + n < generation_limit
   low = let below = is.low in let added = is.added in omega (arith, below, added)
 
   pub reached_wants_memory : MayWantMemory bytes
   reached_wants_memory = wanted bytes is.begins.holds.holds.readable
-
-  -- and why it isn't written
-  pub reached_is_out : (work : ℕ) (target : Format) → HasCellOutOfRange (trees.cell reached.store reached.tree) → IsConvertFaultAfter bytes tables n work target Range
-  reached_is_out work target out = (is.cells, rule, is.begun, is.begins, low, out_shown f (after (next_of rule) is.cells n) is.shows out)
 
   pub reached_unwritten : (work : ℕ) (target : Format) → AreInRange (trees.cell reached.store reached.tree) → (fault : ConvertFault) → AreUnwritten target (trees.cell reached.store reached.tree) fault
       → IsConvertFaultAfter bytes tables n work target (Convert fault)

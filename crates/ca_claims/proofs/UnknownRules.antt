@@ -79,11 +79,7 @@ adds_name tables needed is bytes name holds names = λ q. (
 )
 
 module _ (tables : List TableRule) (needed : List Bool) (found : List (Option (Bor (List ℕ)))) where
-  -- before the first file nothing is asked for
-  pub none_asked : AreAskedBefore tables needed found 0 []
-  none_asked = λ name. (λ h. absurd (false≢true h), λ asked. let no : ⊥ = omega (arith, asked.1) in absurd no)
-
-  -- and after one more what it asks for
+  -- after one more file it is asked for what that asks for too
   pub asked_next : (n : ℕ) (old new : List (List ℕ)) → AreAskedBefore tables needed found n old → AddsAsked tables (get_or needed n false) (get_or found n None) old new
       → AreAskedBefore tables needed found (n + 1) new
   asked_next n old new before adds = λ name. (

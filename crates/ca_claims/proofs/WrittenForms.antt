@@ -16,7 +16,7 @@ use Rattle.ca_claims.specs.declared.conversion.ConvertFault.TheVariants.{BadPatt
 use Rattle.ca_claims.specs.Means.{format_of, HoldsRuledPattern}
 use Rattle.ca_claims.specs.Ahead.{HoldsSmallRuledPattern}
 use Rattle.ca_claims.specs.declared.detailed_fault.DetailedFault.{DetailedFault}
-use Rattle.ca_claims.specs.DetailedFault.{IsDetailOf, HasDetail}
+use Rattle.ca_claims.specs.DetailedFault.{IsDetailOf}
 use Rattle.ca_claims.specs.Converted.{IsConverted, IsSummary, IsConvertFault}
 use Rattle.ca_claims.specs.inner.Glance.{IsSummaryOf}
 use Rattle.ca_claims.specs.inner.Patterns.{IsReadFrom, rule_of}
@@ -71,10 +71,6 @@ module _ (bytes : List ℕ) (tables : List TableRule) (f : ℤ → ℤ → ℕ) 
       → IfErr w (λ k. IsConvertFault bytes tables target k.fault)
   refused A target (Ok a) w e h = rw e tt
   refused A target (Err fault) w e h = rw e (unwritten target fault h)
-
-  pub refused_plainly : (A : Type 0) (target : Format) (r : Result A ConvertFault) (w : Result A (DetailedFault ConvertFault)) → w ≡ with_no_detail r → IfErr r (AreUnwritten target f) → IfErr w (HasDetail bytes)
-  refused_plainly A target (Ok a) w e h = rw e tt
-  refused_plainly A target (Err fault) w e h = rw e (undetailed bytes f target fault h)
 
   -- what is written of it is what its file is converted to
   converted : (target : Format) (text : List ℕ) → IsWrittenAs target f rule generation text → IsConverted bytes tables target text

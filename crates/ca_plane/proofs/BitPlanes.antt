@@ -1,9 +1,7 @@
 -- Words of cells, and the runs that are written into them.
-use Rattle.std.proofs.Common.{◌≡◌, ℕ, zero, suc, ◌+◌, ◌-◌, ◌*◌, ◌/◌, ◌%◌, ◌^◌, ◌<◌, ◌≤◌, max, List, [], ◌∷◌, ◌++◌, length, refl, ap₂, sym, ◌∙◌, inl, inr, ◌⊎◌, ℤ, pos, negsuc, ◌+ℤ◌, ◌==◌, ◌&&◌, slice_set, slice_index_or, bit_or, arith}
+use Rattle.std.proofs.Common.{◌≡◌, ℕ, zero, suc, ◌+◌, ◌-◌, ◌/◌, ◌%◌, ◌^◌, ◌<◌, ◌≤◌, max, List, [], ◌∷◌, ◌++◌, length, refl, ap₂, sym, ◌∙◌, inl, inr, ◌⊎◌, ℤ, pos, negsuc, ◌+ℤ◌, ◌==◌, ◌&&◌, slice_set, slice_index_or, bit_or, arith}
 use Rattle.std.proofs.lemmas.Int.{ints}
-use Rattle.std.specs.Int.{bit_at}
-use Rattle.std.proofs.lemmas.Bool.{cases_Bool, cases_lt, and_parts}
-use Rattle.std.proofs.lemmas.Bool.Decides.{nat_tests}
+use Rattle.std.proofs.lemmas.Bool.{cases_Bool, cases_lt}
 use Rattle.std.proofs.lemmas.Nat.Bits.{bit_at-lt, bit_at_or, bit_at_mask_above, bit_at_mask_below, bit_at_mask_inside}
 use Rattle.ca_plane.specs.declared.bit_plane.CellWord.{CellWord}
 use Rattle.ca_plane.specs.declared.point.Point.{Point}
@@ -52,10 +50,6 @@ pub state_below_two : (words : List CellWord) (column row : ℕ) → state_of_wo
 state_below_two [] column row = omega arith
 state_below_two (word ∷ words) column row = omega (arith, word_below_two word column row, state_below_two words column row)
 
--- no columns are added
-pub AddsColumns-none : (row first : ℕ) (words : List CellWord) → AddsColumns row first first words words
-AddsColumns-none row first words = record { within = λ column least most. elim (none_between column first least most) [ ]; outside = λ column other out. refl }
-
 -- the columns of one more word are added
 pub AddsColumns-word : (row first middle end : ℕ) (old words new : List CellWord) (word : CellWord) → first ≤ middle → middle ≤ end → AddsColumns row first middle old words → IsWordOfRun word row middle end → AddsWord word words new → AddsColumns row first end old new
 AddsColumns-word row first middle end old words new word low high before run adds = record {
@@ -80,22 +74,4 @@ AddsRun-columns at length row first old new is_row is_first adds = record {
       let column : (at.x +ℤ pos n) +ℤ reach ≡ pos (first + n) = omega (arith, ints, is_first) in
       rw (column, sym is_row) (adds.within (first + n) (omega arith) (omega (arith, below)));
   other = λ x y out. other_cell at length row first old new adds is_row is_first x y out (x +ℤ reach) (y +ℤ reach) refl refl;
-}
-
--- the word of some columns of a row, which lie in one word
-pub IsWordOfRun-bits : (row first end bits : ℕ) → first < end → ((column : ℕ) → first ≤ column → column < end → column / 64 ≡ first / 64) → AreBitsOf bits (first - 64 * (first / 64)) (end - 64 * (first / 64)) → IsWordOfRun (record { row = row; column = first / 64; bits = bits }) row first end
-IsWordOfRun-bits row first end bits some one are = record {
-  is_row = refl;
-  within = λ column least most.
-      let in_word = one column least most in
-      let live : bit_at bits (column % 64) ≡ 1 = are.within (column % 64) (omega (arith, in_word, least)) (omega (arith, in_word, most)) in
-      grind (arith, nat_tests, in_word, live);
-  outside = λ column other out. elim (cases_Bool (other == row && column / 64 == first / 64)) [
-    | inl e ↦
-        let parts = and_parts (other == row) (column / 64 == first / 64) e in
-        let in_word : column / 64 ≡ first / 64 = grind (arith, nat_tests, parts.1) in
-        let is_row : other ≡ row = grind (arith, nat_tests, parts.0) in
-        rw e (are.outside (column % 64) (λ low high. out is_row (omega (arith, in_word, low)) (omega (arith, in_word, high))))
-    | inr e ↦ rw e refl
-  ];
 }

@@ -1,11 +1,10 @@
 -- The least box round the live cells of a picture, as it grows by one cell after another.
-use Rattle.std.proofs.Common.{◌≡◌, ◌≢◌, ℕ, ◌≤◌, [], ◌∷◌, ◌++◌, Bool, Option, Some, None, true, false, sym, refl, ap, ◌∙◌, inl, inr, ◌⊎◌, arith, subst, append_assoc}
+use Rattle.std.proofs.Common.{◌≡◌, ◌≢◌, ℕ, ◌≤◌, [], ◌∷◌, ◌++◌, Bool, Option, Some, true, false, sym, refl, ap, ◌∙◌, inl, inr, ◌⊎◌, arith, subst, append_assoc}
 use Rattle.std.specs.Prelude.{ℤ, int_lt, if◌then◌else◌}
 use Rattle.std.specs.Iterator.{YieldsFirst}
 use Rattle.std.specs.Int.{int_min, int_max}
 use Rattle.std.proofs.lemmas.Bool.{cases_cond}
-use Rattle.std.proofs.lemmas.List.{append-nil}
-use Rattle.std.proofs.lemmas.Map.Iter.{rest_more, rest_all}
+use Rattle.std.proofs.lemmas.Map.Iter.{rest_more}
 use Rattle.std.proofs.lemmas.Int.{ints, clamps}
 use Rattle.ca_plane.specs.declared.point.Point.{Point}
 use Rattle.ca_plane.specs.declared.point.Bounds.{Bounds}
@@ -120,9 +119,3 @@ IsBoxBefore-turn p t u r e old new sparse before some step grown =
     let split : p ≡ xs ++ e ∷ u = before.1 ∙ ap (λ ys. xs ++ ys) (rest_more (λ e. e) t u r e some step) in
     let low : 1 ≤ e.1 = (IsListed-at p xs u e sparse split).low in
     (xs ++ e ∷ [], split ∙ sym (append_assoc xs (e ∷ []) u), IsLeastBox-grown xs (xs ++ e ∷ []) e.0 e.1 old new (Sets-push p xs u e sparse split) (omega arith) grown before.2)
-
--- after the last cell
-pub IsLeastBox-end : (p t u : Picture) (r : Option (Point × ℕ)) (box : Bounds) → IsBoxBefore p t box → r ≡ None → YieldsFirst (λ c. c) t r u → IsLeastBox p box
-IsLeastBox-end p t u r box before none step =
-    let all : p ≡ before.0 = before.1 ∙ ap (λ ys. before.0 ++ ys) (rest_all (λ e. e) t u r none step) ∙ append-nil before.0 in
-    subst (λ (q : Picture). IsLeastBox q box) (sym all) before.2

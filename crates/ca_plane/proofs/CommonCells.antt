@@ -8,7 +8,7 @@ use Rattle.ca_plane.specs.Change.{DifferAt}
 use Rattle.ca_plane.specs.Sparse.{point_cmp, IsSparse}
 use Rattle.ca_plane.specs.inner.Places.{ComeBehind}
 use Rattle.ca_plane.proofs.Pictures.{IsListed-at, point_cmp_total, point_cmp_exact}
-use Rattle.ca_plane.proofs.Same.{Rises, ComeBehind-lower, entry-same}
+use Rattle.ca_plane.proofs.Rising.{Rises, ComeBehind-lower, entry-same}
 use Rattle.ca_plane.proofs.Places.{before-of, behind-of, cell-gap}
 
 -- the next cell of one differs where all that is left of the other comes after it

@@ -3,7 +3,6 @@ use Rattle.std.proofs.Common.{◌≡◌, ℕ, ◌+◌, Bool, true, not, List, []
 use Rattle.std.specs.List.{list_all}
 use Rattle.std.proofs.lemmas.Bool.{and_parts, and_from, cases_Bool, not-true}
 use Rattle.std.proofs.lemmas.List.Folds.{list_all-append}
-use Rattle.std.proofs.lemmas.List.{append-nil}
 use Rattle.std.proofs.lemmas.Bool.Decides.{nat_tests}
 use Rattle.ca_plane.specs.Bytes.{Every, front, rest, is_end_or, is_digit, is_word_byte, AreDigits, IsWord}
 
@@ -43,14 +42,6 @@ rest_append test [] (y ∷ ys) h e = rw (not-true (test y) e) refl
 rest_append test (x ∷ xs) ys h e =
     let parts = and_parts (test x) (list_all test xs) h in
     rw parts.0 (rest_append test xs ys parts.1 e)
-
--- bytes that all pass are their own front
-pub front_every : (test : ℕ → Bool) (xs : List ℕ) → Every test xs → front test xs ≡ xs
-front_every test xs h = ap (front test) (sym (append-nil xs)) ∙ front_append test xs [] h refl
-
--- and leave no rest
-pub rest_every : (test : ℕ → Bool) (xs : List ℕ) → Every test xs → rest test xs ≡ []
-rest_every test xs h = ap (rest test) (sym (append-nil xs)) ∙ rest_append test xs [] h refl
 
 -- no byte is lost
 pub front_length : (test : ℕ → Bool) (bs : List ℕ) → length (front test bs) + length (rest test bs) ≡ length bs

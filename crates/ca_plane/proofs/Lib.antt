@@ -12,7 +12,7 @@ pub mod Numbers
 pub mod Pictures
 pub mod Places
 pub mod Populations
-pub mod Same
+pub mod Rising
 pub mod Sends
 pub mod Shifts
 pub mod TrimmedBytes

@@ -54,10 +54,6 @@ words_behind_blanks (b ∷ bs) more h =
     let parts = and_parts (is_blank b) (list_all is_blank bs) h in
     rw parts.0 (words_behind_blanks bs more parts.1)
 
--- blanks alone hold no word
-pub words_of_blanks : (blanks : List ℕ) → Every is_blank blanks → words_of blanks ≡ []
-words_of_blanks blanks h = ap words_of (sym (append-nil blanks)) ∙ words_behind_blanks blanks [] h
-
 -- the last byte of a word
 word_end : (b : ℕ) (more : List ℕ) → is_blank b ≡ false → is_end_or is_blank more ≡ true → words_of (b ∷ more) ≡ (b ∷ []) ∷ words_of more
 word_end b more h e = rw (h, e) refl

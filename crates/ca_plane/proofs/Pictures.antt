@@ -9,7 +9,7 @@ use Rattle.std.proofs.lemmas.List.{append-nil, map-id}
 use Rattle.std.specs.Ordering.{int_eq, int_cmp}
 use Rattle.std.specs.Cmp.{IsTotalOrder, tied_then}
 use Rattle.std.specs.Map.{lookup}
-use Rattle.std.specs.Option.{unwrap_or, IfSome, IsNone}
+use Rattle.std.specs.Option.{unwrap_or}
 use Rattle.std.specs.BTreeMap.{is_at}
 use Rattle.std.proofs.lemmas.Bool.{cases_eq, cond_both, cond-false, and_parts, false_from_ne_true}
 use Rattle.std.proofs.lemmas.Bool.Decides.{Decides-int_eq}
@@ -20,7 +20,7 @@ use Rattle.std.proofs.lemmas.Map.Lookups.{CmpEqualImpliesEq, exact_pairs, exact_
 use Rattle.std.proofs.lemmas.Map.Views.{All-turn, Contains-from_lookup, lookup-from_Contains, tells_apart}
 use Rattle.ca_plane.specs.declared.point.Point.{Point}
 use Rattle.ca_plane.specs.Plane.{Picture, IsPicture, cell, IsSame, IsLive}
-use Rattle.ca_plane.specs.Change.{DifferAt, Sets}
+use Rattle.ca_plane.specs.Change.{Sets}
 use Rattle.ca_plane.specs.Sparse.{point_cmp, IsInPlane, IsSparse}
 
 -- points are in one order, row by row
@@ -97,44 +97,11 @@ cell-All P [] x y none all = none
 cell-All P (e ∷ es) x y none all =
     cond_both (int_eq y e.0.y && int_eq x e.0.x) e.1 (cell es x y) P (λ _. All-head (λ (f : Point × ℕ). P f.1) e es all) (λ _. cell-All P es x y none (All-tail (λ (f : Point × ℕ). P f.1) e es all))
 
--- no cell is above 255
-pub cell-le : (p : Picture) (x y : ℤ) → IsPicture p → cell p x y ≤ 255
-cell-le p x y states = cell-All (λ s. s ≤ 255) p x y (omega arith) (λ k d l. (states k d l).1)
-
--- ---- live and the same
+-- ---- live
 
 -- a picture that isn't live shows 0 everywhere
 pub cell-from_not_live : (p : Picture) → (IsLive p → ⊥) → (x y : ℤ) → cell p x y ≡ 0
 cell-from_not_live p dead x y = elim (cases_eq (cell p x y) 0) [ inl e ↦ e | inr h ↦ absurd (dead (x, y, h)) ]
-
--- and one that shows 0 everywhere isn't live
-pub not_live_from_cell : (p : Picture) → ((x y : ℤ) → cell p x y ≡ 0) → IsLive p → ⊥
-not_live_from_cell p zero live = live.2 (zero live.0 live.1)
-
--- two pictures that show each other's listed cells are the same
-pub IsSame-from_listed : (p q : Picture) → All (λ e. cell q e.0.x e.0.y ≡ e.1) p → All (λ e. cell p e.0.x e.0.y ≡ e.1) q → IsSame p q
-IsSame-from_listed p q here there = λ x y.
-    elim (cases_eq (cell p x y) 0) [
-      | inl e ↦ elim (cases_eq (cell q x y) 0) [
-        | inl f ↦ e ∙ sym f
-        | inr h ↦ All-contains (λ e. cell p e.0.x e.0.y ≡ e.1) q _ there (Contains-cell q x y h)
-      ]
-      | inr h ↦ sym (All-contains (λ e. cell q e.0.x e.0.y ≡ e.1) p _ here (Contains-cell p x y h))
-    ]
-
-pub IsSame-refl : (p : Picture) → IsSame p p
-IsSame-refl p = λ x y. refl
-
-pub IsSame-sym : (p q : Picture) → IsSame p q → IsSame q p
-IsSame-sym p q same = λ x y. sym (same x y)
-
-pub IsSame-trans : (p q r : Picture) → IsSame p q → IsSame q r → IsSame p r
-IsSame-trans p q r one two = λ x y. one x y ∙ two x y
-
--- where a search for a point that differs finds none
-pub IsNone-from_same : (p q : Picture) (r : Option Point) → IfSome r (DifferAt p q) → IsSame p q → IsNone r
-IsNone-from_same p q None some same = refl
-IsNone-from_same p q (Some at) some same = absurd (some (same at.x at.y))
 
 -- ---- a `for` over the cells of a plane
 

@@ -15,7 +15,7 @@ use Rattle.ca_plane.specs.Change.{Sets}
 use Rattle.ca_plane.specs.Sparse.{IsInPlane, point_cmp, IsSparse}
 use Rattle.ca_plane.specs.inner.Places.{ComeBefore, ComeBehind, IsGap, IsAt}
 use Rattle.ca_plane.proofs.Pictures.{point_cmp_total, point_cmp_exact, place-from_true, apart-Less, if-swap, point-middle}
-use Rattle.ca_plane.proofs.Same.{Rises, place-itself, cell-behind, entry-same}
+use Rattle.ca_plane.proofs.Rising.{Rises, place-itself, cell-behind, entry-same}
 
 -- ---- one cell more, or one less, between two parts of a list
 

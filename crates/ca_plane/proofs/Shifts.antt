@@ -1,7 +1,6 @@
 -- Pictures that are moved, cell by cell.
-use Rattle.std.proofs.Common.{◌≡◌, ℕ, ◌≤◌, [], ◌∷◌, ◌++◌, true, false, Option, Some, Result, Ok, Err, sym, refl, ◌∙◌, subst, arith, Ordering, Less, Equal, Greater}
+use Rattle.std.proofs.Common.{◌≡◌, ℕ, ◌≤◌, [], ◌∷◌, true, false, Result, Ok, Err, sym, refl, ◌∙◌, arith, Ordering, Less, Equal, Greater}
 use Rattle.std.specs.Prelude.{ℤ, ◌+ℤ◌, ◌-ℤ◌, ◌<ℤ◌}
-use Rattle.std.specs.Iterator.{Yields, YieldsFirst}
 use Rattle.std.specs.Result.{IsErrAnd, IsErrOf}
 use Rattle.std.specs.Ordering.{int_eq, int_cmp, MatchOrdering}
 use Rattle.std.specs.List.Sorted.{IsStrictlySortedBy}
@@ -9,18 +8,16 @@ use Rattle.std.proofs.lemmas.Cmp.{int_ranked}
 use Rattle.std.proofs.lemmas.Bool.Decides.{Decides-int_eq, same_from_decides}
 use Rattle.std.proofs.lemmas.Int.{ints}
 use Rattle.std.proofs.lemmas.List.Elements.{All-contains, All-map}
-use Rattle.std.proofs.lemmas.Map.Views.{All-turn}
 use Rattle.ca_plane.specs.declared.point.Point.{Point}
 use Rattle.ca_plane.specs.declared.memory.MoveFault.{MoveFault}
 use Rattle.ca_plane.specs.declared.memory.MoveFault.TheVariants.{Memory, Range}
 use Rattle.ca_plane.specs.Plane.{Picture, cell, shifted}
-use Rattle.ca_plane.specs.Change.{Sets}
 use Rattle.ca_plane.specs.Sparse.{IsInPlane, IsSparse, point_cmp}
 use Rattle.ca_plane.specs.inner.Places.{ComeBehind}
-use Rattle.ca_plane.proofs.Same.{Rises}
+use Rattle.ca_plane.proofs.Rising.{Rises}
 use Rattle.ca_plane.specs.Box.{moved, LeavesPlane}
 use Rattle.ca_plane.specs.inner.Moves.{StaysInPlane}
-use Rattle.ca_plane.proofs.Pictures.{Contains-cell, IsListed, Sets-push}
+use Rattle.ca_plane.proofs.Pictures.{Contains-cell, IsListed}
 
 -- no test both holds and fails
 false_ne_true : false ≡ true → ⊥
@@ -39,11 +36,6 @@ pub cell-shifted : (p : Picture) (dx dy x y : ℤ) → cell (shifted p dx dy) x 
 cell-shifted [] dx dy x y = refl
 cell-shifted (e ∷ es) dx dy x y = rw (int_eq-moved y e.0.y dy, int_eq-moved x e.0.x dx, cell-shifted es dx dy x y) refl
 
--- a write, moved
-pub Sets-shifted : (p q : Picture) (at : Point) (s : ℕ) (dx dy : ℤ) → Sets p q at s → Sets (shifted p dx dy) (shifted q dx dy) (moved at dx dy) s
-Sets-shifted p q at s dx dy sets = λ x y.
-    cell-shifted q dx dy x y ∙ sets (x -ℤ dx) (y -ℤ dy) ∙ rw (int_eq-moved y at.y dy, int_eq-moved x at.x dx, cell-shifted p dx dy x y) refl
-
 -- ---- a `for` over the cells of a plane
 
 -- where a listed cell isn't tested to stay, one leaves
@@ -55,15 +47,6 @@ LeavesPlane-listed p e dx dy listed out =
 -- where all of them stay, none leaves
 pub not_LeavesPlane : (p : Picture) (dx dy : ℤ) → StaysInPlane p dx dy → LeavesPlane p dx dy → ⊥
 not_LeavesPlane p dx dy stays leaves = leaves.3 (All-contains (λ e. IsInPlane (moved e.0 dx dy)) p _ stays (Contains-cell p leaves.0 leaves.1 leaves.2))
-
--- where all stay, the cell of a turn does
-pub IsInPlane-turn : (p xs s t u : Picture) (r : Option (Point × ℕ)) (e : Point × ℕ) (dx dy : ℤ) → StaysInPlane p dx dy → s ≡ p → Yields (YieldsFirst (λ c. c)) s xs t → r ≡ Some e → YieldsFirst (λ c. c) t r u → IsInPlane (moved e.0 dx dy)
-IsInPlane-turn p xs s t u r e dx dy stays start yields some step = All-turn (λ e. e) (λ e. IsInPlane (moved e.0 dx dy)) p xs s t u r e stays start yields some step
-
--- the next cell of a sparse picture, moved, as a write to the moved cells before it
-pub Sets-push_shifted : (p xs t : Picture) (e : Point × ℕ) (at : Point) (dx dy : ℤ) → IsSparse p → p ≡ xs ++ e ∷ t → at ≡ moved e.0 dx dy → Sets (shifted xs dx dy) (shifted (xs ++ e ∷ []) dx dy) at e.1
-Sets-push_shifted p xs t e at dx dy sparse split there =
-    subst (λ (q : Point). Sets (shifted xs dx dy) (shifted (xs ++ e ∷ []) dx dy) q e.1) (sym there) (Sets-shifted xs (xs ++ e ∷ []) e.0 e.1 dx dy (Sets-push p xs t e sparse split))
 
 -- out of memory is no fault of range
 pub not_Range : {T : Type 0} (r : Result T MoveFault) → IsErrAnd r (λ f. f ≡ Memory) → IsErrOf r Range → ⊥

@@ -1,5 +1,5 @@
 -- What holds of the picture that a sparse plane keeps.
-use Rattle.std.specs.Prelude.{ℤ, ◌≤ℤ◌, pos, neg_ℤ, ◌^◌, map}
+use Rattle.std.specs.Prelude.{◌≤ℤ◌, neg_ℤ, map}
 use Rattle.std.specs.List.{All}
 use Rattle.std.specs.List.Sorted.{IsStrictlySortedBy}
 use Rattle.std.specs.Ordering.{int_cmp, ordering_then}

@@ -75,10 +75,7 @@ bit_cell-here word x y c low is_x is_y =
     here : (word : CellWord) (c : ℕ) → (64 * word.column + c) / 64 ≡ word.column → (64 * word.column + c) % 64 ≡ c → state_from_corner (word ∷ []) (pos (64 * word.column + c)) (pos word.row) ≡ bit_at word.bits c
     here word c quotient rest = rw (quotient, rest) (grind (arith, nat_tests))
 
--- parts of words: at first, with one more word, and with one less
-pub HaveCells-none : (at : Spot) (side : ℕ) → HaveCells [] [] at side
-HaveCells-none at side = record { same = λ x y i j. refl }
-
+-- parts of words: with one more word, and with one less
 pub HaveCells-more : (words part : List CellWord) (word : CellWord) (at : Spot) (side : ℕ) → HaveCells words part at side → HaveCells (words ++ (word ∷ [])) (part ++ (word ∷ [])) at side
 HaveCells-more words part word at side have = record { same = λ x y i j. bit_cell-at_end part word (at.x +ℤ pos x) (at.y +ℤ pos y) ∙ ap (λ n. max (cells_of_word word at x y) n) (have.same x y i j) ∙ sym (bit_cell-at_end words word (at.x +ℤ pos x) (at.y +ℤ pos y)) }
 
@@ -97,10 +94,6 @@ pub holds_word : (word : CellWord) (box : Bounds) (level : ℕ) → IsBoxOfWord 
 holds_word word box level is (a, b, c, d) x y live =
     let (place, low, is_x, is_y) = live_in_word word x y live in
     ((omega (arith, ints, is.x0, is.x1, a, b, is_x, low), omega (arith, ints, is.x0, is.x1, a, b, is_x, low)), (omega (arith, ints, is.y0, is.y1, c, d, is_y), omega (arith, ints, is.y0, is.y1, c, d, is_y)))
-
--- without a word there is nothing to hold
-pub holds_no_word : (level : ℕ) → HoldsAll level (bit_cell [])
-holds_no_word level x y live = absurd (live (bit_cell-none x y))
 
 -- a tree that holds words, and one as large that holds one more
 pub holds_one_more : (words : List CellWord) (word : CellWord) (level next : ℕ) → level ≤ next → HoldsAll level (bit_cell words) → HoldsAll next (bit_cell (word ∷ [])) → HoldsAll next (bit_cell (words ++ (word ∷ [])))

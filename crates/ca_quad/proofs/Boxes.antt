@@ -8,7 +8,7 @@ use Rattle.ca_quad.specs.declared.tree.WideBounds.{WideBounds}
 use Rattle.ca_quad.specs.declared.store.extent.Extent.{Extent}
 use Rattle.ca_quad.specs.Squares.{cell_of}
 use Rattle.ca_quad.specs.Trees.{IsEmpty, from_corner, cell}
-use Rattle.ca_quad.specs.Boxes.{IsDead, IsLeastWideBox}
+use Rattle.ca_quad.specs.Boxes.{IsLeastWideBox}
 use Rattle.ca_quad.specs.inner.Extent.{FitsSide, IsExtent}
 
 -- a box that is counted from the corner holds the place
@@ -32,9 +32,6 @@ dead_from cells h (negsuc a) (negsuc b) = refl
 module _ (nodes : List Node) (tree : Tree) where
   cells : ℕ → ℕ → ℕ
   cells = cell_of nodes tree.level tree.root
-
-  pub tree_dead : IsEmpty (cell_of nodes tree.level tree.root) → IsDead (cell nodes tree)
-  tree_dead h x y = dead_from (cell_of nodes tree.level tree.root) h (x +ℤ pos (2 ^ (tree.level - 1))) (y +ℤ pos (2 ^ (tree.level - 1)))
 
   module _ (half : ℕ) (e : half ≡ 2 ^ (tree.level - 1)) where
     -- a cell's state, at its place from the middle

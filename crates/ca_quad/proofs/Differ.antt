@@ -1,5 +1,5 @@
 -- Where squares and trees differ.
-use Rattle.std.proofs.Common.{◌≡◌, ℕ, suc, ◌+◌, ◌-◌, ◌<◌, ◌≤◌, ◌^◌, ℤ, pos, negsuc, ◌+ℤ◌, Option, List, refl, sym, subst, ◌∙◌, arith}
+use Rattle.std.proofs.Common.{◌≡◌, ℕ, suc, ◌+◌, ◌-◌, ◌<◌, ◌≤◌, ◌^◌, ℤ, pos, ◌+ℤ◌, Option, List, refl, sym, subst, ◌∙◌, arith}
 use Rattle.std.proofs.Math.Nat.{two-pow-succ, pow-le-pow_right}
 use Rattle.ca_quad.specs.declared.node.Node.{Node}
 use Rattle.ca_quad.specs.Squares.{IsOf, cell_of}
@@ -40,18 +40,6 @@ pub cell_at : (nodes : List Node) (tree : Tree) (half : ℕ) → half ≡ 2 ^ (t
     → cell nodes tree u v ≡ cell_of nodes tree.level tree.root x y
 cell_at nodes tree half e u v x y f g =
     subst (λ n. from_corner (cell_of nodes tree.level tree.root) (u +ℤ pos n) (v +ℤ pos n) ≡ cell_of nodes tree.level tree.root x y) e (rw (f, g) refl)
-
-corner_same : (p q : ℕ → ℕ → ℕ) → AreEqual p q → (u v : ℤ) → from_corner p u v ≡ from_corner q u v
-corner_same p q same (pos x) (pos y) = same x y
-corner_same p q same (pos x) (negsuc y) = refl
-corner_same p q same (negsuc x) (pos y) = refl
-corner_same p q same (negsuc x) (negsuc y) = refl
-
--- trees of one level and one root's cells show the same plane
-pub trees_same : (nodes : List Node) (a b : Tree) → a.level ≡ b.level → AreEqual (cell_of nodes a.level a.root) (cell_of nodes a.level b.root) → (x y : ℤ) → cell nodes a x y ≡ cell nodes b x y
-trees_same nodes a b e same x y =
-    subst (λ l. cell nodes a x y ≡ from_corner (cell_of nodes l b.root) (x +ℤ pos (2 ^ (l - 1))) (y +ℤ pos (2 ^ (l - 1)))) e
-    (corner_same (cell_of nodes a.level a.root) (cell_of nodes a.level b.root) same (x +ℤ pos (2 ^ (a.level - 1))) (y +ℤ pos (2 ^ (a.level - 1))))
 
 -- where the roots' cells differ, so do the trees
 module _ (nodes : List Node) (a b : Tree) (same : a.level ≡ b.level) (half : ℕ) (e : half ≡ 2 ^ (a.level - 1)) (u v : ℤ) (x y : ℕ) (f : u +ℤ pos half ≡ pos x) (g : v +ℤ pos half ≡ pos y)

@@ -1,5 +1,5 @@
 -- Squares that are drawn part by part.
-use Rattle.std.proofs.Common.{◌≡◌, ◌≢◌, ℕ, suc, ◌+◌, ◌-◌, ◌<◌, ◌≤◌, ◌^◌, ◌⊎◌, inl, inr, true, ◌==◌, ◌&&◌, if◌then◌else◌, ℤ, pos, negsuc, neg_ℤ, ◌+ℤ◌, ◌-ℤ◌, ◌≤ℤ◌, ◌<ℤ◌, List, length, refl, sym, ap, subst, ◌∙◌, true≢false, arith}
+use Rattle.std.proofs.Common.{◌≡◌, ◌≢◌, ℕ, suc, ◌+◌, ◌-◌, ◌≤◌, ◌^◌, ◌⊎◌, inl, inr, true, ◌==◌, ◌&&◌, if◌then◌else◌, ℤ, pos, negsuc, neg_ℤ, ◌+ℤ◌, ◌-ℤ◌, ◌≤ℤ◌, ◌<ℤ◌, List, length, refl, sym, ap, subst, ◌∙◌, true≢false, arith}
 use Rattle.std.specs.Ordering.{int_eq}
 use Rattle.std.proofs.lemmas.Bool.{cases_Bool, eqb-true, and_parts}
 use Rattle.std.proofs.lemmas.Cmp.{int_eq_equiv}
@@ -16,7 +16,7 @@ use Rattle.ca_quad.specs.Squares.{square_of, level, level_of, IsOf, one_cell, jo
 use Rattle.ca_quad.specs.Sound.{HasParts}
 use Rattle.ca_quad.specs.Trees.{IsIn, IsTree, from_corner, cell as tree_cell}
 use Rattle.ca_quad.specs.Expanded.{FitsPlane}
-use Rattle.ca_quad.specs.inner.Drawn.{square_cells, side_of, cells_at_corner, IsNearSpot, CanDraw, ArePartCorners, Agrees, IsLiveAt, IsReadyToDraw}
+use Rattle.ca_quad.specs.inner.Drawn.{square_cells, side_of, cells_at_corner, CanDraw, ArePartCorners, Agrees, IsLiveAt, IsReadyToDraw}
 use Rattle.ca_quad.proofs.Growth.{below_or_not}
 use Rattle.ca_quad.specs.inner.Measure.{EndsWithin}
 use Rattle.ca_quad.proofs.Cells.{in_nw, in_ne, in_sw, in_se, cell_ends, dot_ends}
@@ -236,9 +236,6 @@ module _ (nodes : List Node) (id k half : ℕ) (of : IsOf nodes id k) (half_is :
   pub part_can : (at : Spot) → CanDraw (square_cells nodes id) half at → CanDraw (square_cells nodes id) (side_of nodes id) at
   part_can at can = subst (λ n. CanDraw (square_cells nodes id) n at) (sym side_is) can
 
-pub near_at : (cells : ℕ → ℕ → ℕ) (side : ℕ) (at : Spot) → CanDraw cells side at → IsNearSpot at
-near_at cells side at can = (can.left, omega (arith, ints, can.right), can.top, omega (arith, ints, can.bottom))
-
 -- four cells that are drawn in turn
 module _ (nodes : List Node) (id nw ne sw se : ℕ) (before : IsIn nodes id) (e : Four nw ne sw se ≡ square_of nodes id) (at : Spot) (cs : Corners) (are : ArePartCorners at 1 cs) where
   dot_end : (state : ℕ) → EndsWithin 1 (one_cell state)
@@ -289,11 +286,6 @@ module _ (nodes : List Node) (id nw ne sw se : ℕ) (before : IsIn nodes id) (m 
     (half : ℕ) (half_is : half ≡ 2 ^ (m - 1)) (at : Spot) (cs : Corners) (are : ArePartCorners at half cs) where
   end_of : (part : ℕ) → IsOf nodes part (m - 1) → EndsWithin half (square_cells nodes part)
   end_of part of = part_ends nodes part (m - 1) half of half_is
-
-  pub part_lower : (part : ℕ) → IsOf nodes part (m - 1) → level_of nodes part < level_of nodes id
-  part_lower part of =
-      let f : level_of nodes id ≡ m = ap level (sym e) in
-      omega (arith, f, of.is_level, whole.least)
 
   pub parts_each : CanDraw (square_cells nodes id) (side_of nodes id) at
       → CanDraw (square_cells nodes nw) (side_of nodes nw) at × CanDraw (square_cells nodes ne) (side_of nodes ne) cs.ne × CanDraw (square_cells nodes sw) (side_of nodes sw) cs.sw × CanDraw (square_cells nodes se) (side_of nodes se) cs.se

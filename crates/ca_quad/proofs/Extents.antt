@@ -1,9 +1,9 @@
 -- The least boxes of squares that lie side by side.
-use Rattle.std.proofs.Common.{◌≡◌, ◌≢◌, ℕ, ◌+◌, ◌-◌, ◌<◌, ◌≤◌, ◌^◌, min, max, ◌⊎◌, inl, inr, true, false, Option, Some, None, nat_lt, refl, sym, subst, ◌∙◌, arith}
+use Rattle.std.proofs.Common.{◌≡◌, ◌≢◌, ℕ, ◌+◌, ◌-◌, ◌<◌, ◌≤◌, ◌^◌, min, max, ◌⊎◌, inl, inr, true, false, nat_lt, refl, sym, subst, ◌∙◌, arith}
 use Rattle.std.proofs.lemmas.Bool.Decides.{nat_tests}
 use Rattle.ca_quad.specs.declared.store.extent.Extent.{Extent}
 use Rattle.ca_quad.specs.Trees.{IsEmpty}
-use Rattle.ca_quad.specs.inner.Extent.{box_of_two, IsExtent, IsSquareExtent}
+use Rattle.ca_quad.specs.inner.Extent.{box_of_two, IsExtent}
 use Rattle.ca_quad.proofs.Growth.{below_or_not}
 
 live_as : (a b : ℕ) → a ≡ b → b ≢ 0 → a ≢ 0
@@ -21,32 +21,6 @@ module _ (side : ℕ) (w e : ℕ → ℕ → ℕ) (x y : ℕ) where
       let f : nat_lt (x + side) side ≡ false = grind (arith, nat_tests) in
       let g : x + side - side ≡ x = omega arith in
       rw (f, g) refl
-
--- box_of_two an empty square
-module _ (side rows : ℕ) (w e : ℕ → ℕ → ℕ) (no_cells : IsEmpty e) where
-  west_live : (x y : ℕ) → box_of_two side w e x y ≢ 0 → w x y ≢ 0
-  west_live x y h =
-      elim (below_or_not x side) [
-        | inl i ↦ live_as (w x y) (box_of_two side w e x y) (sym (in_west side w e x y i)) h
-        | inr i ↦ absurd (h (from_side side w e x y i ∙ no_cells (x - side) y))
-      ]
-
-  west_box : (box : Extent) → IsExtent w side rows box → IsExtent (box_of_two side w e) (side + side) rows box
-  west_box box h =
-      let low : (x y : ℕ) → w x y ≢ 0 → box_of_two side w e x y ≢ 0 = λ x y i. live_as (box_of_two side w e x y) (w x y) (in_west side w e x y (omega (arith, (h.all x y i).1, h.is_right))) i in
-      record {
-        all = λ x y i. h.all x y (west_live x y i);
-        left = (h.left.0, low box.left h.left.0 h.left.1);
-        right = (h.right.0, low box.right h.right.0 h.right.1);
-        top = (h.top.0, low h.top.0 box.top h.top.1);
-        bottom = (h.bottom.0, low h.bottom.0 box.bottom h.bottom.1);
-        is_right = omega (arith, h.is_right);
-        is_bottom = h.is_bottom;
-      }
-
-  pub west_only : (found : Option Extent) → IsSquareExtent w side rows found → IsSquareExtent (box_of_two side w e) (side + side) rows found
-  west_only (Some box) h = west_box box h
-  west_only None h = λ x y. elim (below_or_not x side) [ inl i ↦ in_west side w e x y i ∙ h x y | inr i ↦ from_side side w e x y i ∙ no_cells (x - side) y ]
 
 -- an eastern square that isn't empty
 module _ (side rows : ℕ) (low : side ≤ 2 ^ 124) (w e : ℕ → ℕ → ℕ) (east box : Extent) (q : IsExtent e side rows east) (right : box.right ≡ min (east.right + side) (2 ^ 128 - 1)) where

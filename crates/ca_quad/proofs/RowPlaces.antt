@@ -70,11 +70,6 @@ module _ (rs new : List Row) (r : Row) (e : new ≡ rs ++ r ∷ []) where
   pub AreRows-push : (p : Picture) → AreRows p rs → IsPictureRow p r → AreRows p new
   AreRows-push p are is = rw e (All-append (IsPictureRow p) rs (r ∷ []) are (All-cons (IsPictureRow p) r [] is (All-nil _)))
 
--- no place is in an empty row
-pub HaveRowAt-same : (rs : List Row) (r : Row) → r.first ≡ r.end → (i : ℕ) → HaveRowAt rs i ⊎ IsInRow r i → HaveRowAt rs i
-HaveRowAt-same rs r e i (inl h) = h
-HaveRowAt-same rs r e i (inr h) = absurd (omega (arith, h.from, h.below))
-
 -- the rest of a list, and its first element
 pub rest_at : {X : Type 0} (xs : List X) (k : ℕ) (x : X) → slice_get xs k ≡ Some x → drop k xs ≡ x ∷ drop (k + 1) xs
 rest_at xs k x at = drop_more xs k x (slice_get_within xs k x at) ∙ ap (λ e. e ∷ drop (k + 1) xs) (get_or_from_slice_get xs k x x at)
@@ -91,9 +86,6 @@ pub record IsSoFar (p : Picture) (rows : List Row) (passes : Point → Type 0) (
   pub held : (i : ℕ) → HaveRowAt rows i → passes (point_at p i) → HaveRowAt part i ⊎ HaveRowAt (drop k rows) i
 
 module _ (p : Picture) (rows : List Row) (passes : Point → Type 0) where
-  pub part_first : (part : List Row) → part ≡ [] → IsSoFar p rows passes part 0
-  part_first part e = record { are = rw e (All-nil _); held = λ i h t. inr h }
-
   pub part_last : (part : List Row) (k : ℕ) → length rows ≤ k → IsSoFar p rows passes part k → IsPartOfRows p rows passes part
   part_last part k past so = record {
     are = so.are;

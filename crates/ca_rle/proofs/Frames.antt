@@ -1,14 +1,12 @@
 -- The least box round cells that are in range.
-use Rattle.std.proofs.Common.{◌≢◌, ℕ, ℤ, ◌≤ℤ◌, inl, inr, subst, sym}
+use Rattle.std.proofs.Common.{◌≢◌, ℤ, ◌≤ℤ◌}
 use Rattle.std.specs.List.{All}
 use Rattle.std.proofs.lemmas.List.Elements.{All-contains}
-use Rattle.ca_plane.specs.declared.point.Point.{Point}
 use Rattle.ca_plane.specs.declared.point.Bounds.{Bounds}
 use Rattle.ca_plane.specs.Plane.{Picture, cell}
 use Rattle.ca_plane.specs.Box.{IsLeastBox}
 use Rattle.ca_plane.proofs.Pictures.{Contains-cell}
 use Rattle.ca_plane.specs.Limits.{IsInRange}
-use Rattle.ca_rle.specs.Tidy.{IsFrame}
 
 -- the corners of a box are in range, and its sides in order
 pub record IsBoxInRange (box : Bounds) : Type 0 where
@@ -33,10 +31,3 @@ box_in_range p box all least =
       wide = (least.all box.x0 least.left.0 least.left.1).1;
       high = (least.all least.top.0 box.y0 least.top.1).3;
     }
-
--- no live cell is left of the corner of a frame, or above it
-pub frame_before : (p : Picture) (corner : Point) (width height : ℕ) → IsFrame p corner width height → (x y : ℤ) → cell p x y ≢ 0 → (corner.x ≤ℤ x) × (corner.y ≤ℤ y)
-frame_before p corner width height (inl none) x y live = absurd (none.0 (x, y, live))
-frame_before p corner width height (inr (box, least, at, wide, high)) x y live =
-    let within = least.all x y live in
-    subst (λ (c : Point). (c.x ≤ℤ x) × (c.y ≤ℤ y)) (sym at) (within.0, within.2)

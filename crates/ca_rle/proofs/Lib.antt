@@ -3,7 +3,7 @@ pub mod ItemAt
 pub mod OneList
 pub mod NoFault
 pub mod ReadItems
-pub mod Spans
+pub mod CellRuns
 pub mod Headers
 pub mod ExampleHeaders
 pub mod OneHeader

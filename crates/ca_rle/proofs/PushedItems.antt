@@ -1,5 +1,5 @@
 -- Items with one more after them: where they stand in the bytes, their rows, columns and cells, and how far they reach.
-use Rattle.std.proofs.Common.{◌≡◌, ℕ, ◌+◌, ◌-◌, ◌<◌, ◌≤◌, max, Some, Bool, not, cond, List, [], ◌∷◌, ◌++◌, length, reverse, drop, inl, inr, refl, sym, ap, subst, ◌∙◌, append_assoc, length-append, arith}
+use Rattle.std.proofs.Common.{◌≡◌, ℕ, ◌+◌, ◌-◌, ◌<◌, ◌≤◌, max, Bool, not, cond, List, [], ◌∷◌, ◌++◌, length, reverse, drop, inl, inr, refl, sym, ap, subst, ◌∙◌, append_assoc, length-append, arith}
 use Rattle.std.specs.Prelude.{if◌then◌else◌}
 use Rattle.std.specs.List.{AllByRecursion, sum_by, after_last, suffix_len, prefix_len}
 use Rattle.std.proofs.lemmas.Bool.{cases_Bool}
@@ -7,7 +7,7 @@ use Rattle.std.proofs.lemmas.List.{append-nil, drop_all, drop-append-le, reverse
 use Rattle.std.proofs.lemmas.List.Sums.{sum_by_push, prefix_len-le-length}
 use Rattle.ca_plane.specs.declared.point.Point.{Point}
 use Rattle.ca_rle.specs.declared.item.Item.{Item}
-use Rattle.ca_rle.specs.Items.{tag_of, IsCount, Run}
+use Rattle.ca_rle.specs.Items.{IsCount, Run}
 use Rattle.ca_rle.specs.Shown.{ends_row, tag_state, greatest_state, row_count, columns_of, item_cells, picture_after}
 use Rattle.ca_rle.specs.inner.Extent.{longest_of, live_count_of_item, live_count_of_items, greatest_of}
 
@@ -94,11 +94,6 @@ live_count_of_items-push is i = sum_by_push live_count_of_item is i
 pub Run-push : (bytes : List ℕ) (is : List Item) (i : Item) (middle end : List ℕ) → Run bytes is middle → Run middle (i ∷ []) end → Run bytes (is ++ i ∷ []) end
 Run-push bytes [] i middle end done more = subst (λ b. Run b (i ∷ []) end) (sym done) more
 Run-push bytes (j ∷ js) i middle end (front, later, item, run, e) more = (front, later, item, Run-push later js i middle end run more, e)
-
--- a tag has a letter
-tag_length : (letters : List ℕ) (i : Item) → tag_of letters ≡ Some i.tag → 0 < length letters
-tag_length [] i e = absurd cc
-tag_length (b ∷ bs) i e = omega arith
 
 -- its count is not 0
 count_low : (digits : List ℕ) (n : ℕ) → IsCount digits n → 0 < n

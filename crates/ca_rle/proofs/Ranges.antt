@@ -13,7 +13,7 @@ use Rattle.ca_plane.specs.Limits.{IsInRange}
 use Rattle.ca_rle.specs.inner.BodyFaults.{bare_file}
 use Rattle.ca_plane.specs.Bytes.{nearest_u64}
 use Rattle.ca_rle.specs.inner.Extent.{longest_of, live_count_of_item, live_count_of_items, columns_to, rows_to, right_after, bottom_after, IsItemsExtent, IsExtentInRange, HasRoomRight}
-use Rattle.ca_rle.proofs.Spans.{all_run, length_run}
+use Rattle.ca_rle.proofs.CellRuns.{all_run, length_run}
 use Rattle.ca_plane.proofs.Elements.{all_append}
 
 -- ---- counts

@@ -8,25 +8,6 @@ use Rattle.ca_rle.specs.Faults.{item_fault}
 use Rattle.ca_rle.proofs.OneList.{one_item}
 use Rattle.ca_rle.proofs.NoFault.{no_item_fault}
 
--- a run, and then a run
-pub run_then : (bytes middle rest : List ℕ) (is js : List Item) → Run bytes is middle → Run middle js rest → Run bytes (is ++ js) rest
-run_then bytes middle rest [] js r s = subst (λ (l : List ℕ). Run l js rest) (sym r) s
-run_then bytes middle rest (i ∷ is) js (front, more, item, later, e) s = (front, more, item, run_then more middle rest is js later s, e)
-
--- after the first items of a run stand its others
-pub run_after : (bytes middle rest : List ℕ) (is js : List Item) → Run bytes is middle → Run bytes (is ++ js) rest → Run middle js rest
-run_after bytes middle rest [] js r s = subst (λ (l : List ℕ). Run l js rest) r s
-run_after bytes middle rest (i ∷ is) js (a, m, p, r, d) (b, n, q, s, e) =
-    let same = one_item a b m n i i p q (sym d ∙ e) in
-    run_after m middle rest is js r (subst (λ (l : List ℕ). Run l (is ++ js) rest) (sym same.1) s)
-
--- after the same items stands the same rest
-pub one_rest : (bytes rest last : List ℕ) (is : List Item) → Run bytes is rest → Run bytes is last → rest ≡ last
-one_rest bytes rest last [] r s = sym r ∙ s
-one_rest bytes rest last (i ∷ is) (a, m, p, r, d) (b, n, q, s, e) =
-    let same = one_item a b m n i i p q (sym d ∙ e) in
-    one_rest m rest last is r (subst (λ (l : List ℕ). Run l is last) (sym same.1) s)
-
 -- the one run goes on where the other ends
 abbrev pub GoesOn : List ℕ → List Item → List ℕ → List Item → Type 0
 GoesOn middle is rest js = (others : List Item) × (js ≡ is ++ others) × Run middle others rest

@@ -1,5 +1,5 @@
 -- White space that is skipped line by line: blanks, line ends, and the rest of a line whose first byte that is no blank is `#`.
-use Rattle.std.proofs.Common.{◌≡◌, ℕ, ◌≤◌, ◌≢◌, Bool, true, false, eqb-true, not, ◌==◌, nat_eq, List, [], ◌∷◌, length, inl, inr, refl, sym, ap, ◌∙◌, arith}
+use Rattle.std.proofs.Common.{◌≡◌, ℕ, ◌≤◌, Bool, true, false, not, ◌==◌, nat_eq, List, [], ◌∷◌, length, inl, inr, refl, sym, ap, ◌∙◌, arith}
 use Rattle.std.specs.List.{starts_with}
 use Rattle.std.proofs.lemmas.Bool.{cases_Bool}
 use Rattle.std.proofs.lemmas.Bool.Decides.{nat_tests}
@@ -84,14 +84,3 @@ no_blank_at_end bytes = at_end (rest (λ b. not (is_line_end b)) bytes) (rest_en
 -- the rest has no more bytes
 pub rest_length : (test : ℕ → Bool) (bytes : List ℕ) → length (rest test bytes) ≤ length bytes
 rest_length test bytes = omega (arith, front_length test bytes)
-
--- what begins with no blank and no line end is after the white space
-pub no_white : (bytes : List ℕ) → is_end_or (λ b. not (is_blank b)) bytes ≡ true → ((more : List ℕ) → bytes ≢ 10 ∷ more) → bytes ≡ after_white InLine bytes
-no_white [] h end = refl
-no_white (b ∷ bs) h end =
-    elim (cases_Bool (is_line_end b)) [
-      | inl e ↦ absurd (end bs (ap (λ c. c ∷ bs) (eqb-true b 10 e)))
-      | inr e ↦
-          let blank : is_blank b ≡ false = grind (arith, nat_tests) in
-          rw (e, blank) refl
-    ]

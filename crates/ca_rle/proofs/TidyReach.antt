@@ -10,7 +10,7 @@ use Rattle.ca_rle.specs.declared.item.Tag.{Tag}
 use Rattle.ca_rle.specs.declared.item.Tag.TheVariants.{Cell, RowEnd}
 use Rattle.ca_rle.specs.Shown.{tag_state, picture_of_items}
 use Rattle.ca_rle.specs.Tidy.{AreTidy, IsFrame}
-use Rattle.ca_rle.proofs.Spans.{all_run}
+use Rattle.ca_rle.proofs.CellRuns.{all_run}
 use Rattle.ca_plane.proofs.Decimals.{IsNear}
 use Rattle.ca_rle.proofs.TidyCells.{live_after, cells_at, next, drawn, picture_drawn, tidy_counts, tidy_tail, reach}
 

@@ -3,7 +3,7 @@ use Rattle.std.proofs.Common.{◌≡◌, ◌≢◌, ◌==◌, ◌<◌, ◌≤◌
 use Rattle.std.specs.Prelude.{filter, max, bit_or, slice_index}
 use Rattle.std.specs.Int.{bit_at}
 use Rattle.std.specs.List.{range_with_len}
-use Rattle.std.proofs.Math.Bool.{or-true, or-false, and-false}
+use Rattle.std.proofs.Math.Bool.{or-true, or-false}
 use Rattle.std.proofs.lemmas.Bool.{cases_Bool, false≢true}
 use Rattle.std.proofs.lemmas.Bool.Decides.{nat_tests}
 use Rattle.std.proofs.lemmas.List.{get_or-set_other}
@@ -40,32 +40,6 @@ all-below p q a (suc m) n h =
       | inr e ↦ rw (here ∙ e) (rw e more)
     ] in
     ap (λ k. filter q (range_with_len a k)) (suc-plus m n) ∙ both_lists
-
-below-too : (t s : ℕ) → (t == s) ≡ false → nat_lt t (s + 1) ≡ nat_lt t s
-below-too t s v = elim (cases_Bool (nat_lt t s)) [
-  | inl b ↦ let k : nat_lt t (s + 1) ≡ true = grind (arith, nat_tests) in k ∙ sym b
-  | inr b ↦ let k : nat_lt t (s + 1) ≡ false = grind (arith, nat_tests) in k ∙ sym b
-]
-
--- one more state that passes, and one that doesn't
-pub one-more : (p : ℕ → Bool) (t s : ℕ) → p s ≡ true → ((nat_lt t s && p t) || (t == s)) ≡ (nat_lt t (s + 1) && p t)
-one-more p t s e =
-    elim (cases_Bool (t == s)) [
-      | inl v ↦ let same : t ≡ s = grind (arith, nat_tests) in
-          let there : p t ≡ true = ap p same ∙ e in
-          let below : nat_lt t (s + 1) ≡ true = grind (arith, nat_tests) in
-          rw v (rw there (rw below (or-true (nat_lt t s && true))))
-      | inr v ↦ let same : nat_lt t (s + 1) ≡ nat_lt t s = below-too t s v in rw v (rw same (or-false (nat_lt t s && p t)))
-    ]
-
-pub one-less : (p : ℕ → Bool) (t s : ℕ) → p s ≡ false → (nat_lt t s && p t) ≡ (nat_lt t (s + 1) && p t)
-one-less p t s e =
-    elim (cases_Bool (t == s)) [
-      | inl v ↦ let same : t ≡ s = grind (arith, nat_tests) in
-          let there : p t ≡ false = ap p same ∙ e in
-          rw there (and-false (nat_lt t s) ∙ sym (and-false (nat_lt t (s + 1))))
-      | inr v ↦ ap (λ b. b && p t) (sym (below-too t s v))
-    ]
 
 one-times : (n : ℕ) → 1 * n ≡ n
 one-times n = omega arith

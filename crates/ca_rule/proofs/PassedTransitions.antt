@@ -61,9 +61,6 @@ cleared-less bits at few set =
 one-more : (n : ℕ) → 64 + 64 * n ≡ 64 * suc n
 one-more n = omega arith
 
-none-yet : (ts : List Transition) → drop (64 * 0) ts ≡ ts
-none-yet ts = refl
-
 pub sieves-push : (variables : List States) (ts : List Transition) (sieves : List (List (List ℕ))) (rows : List (List ℕ)) → AreSieves variables ts sieves
     → IsSieve variables (drop (64 * length sieves) ts) rows → AreSieves variables ts (sieves ++ rows ∷ [])
 sieves-push variables ts [] rows all one = (one, refl)

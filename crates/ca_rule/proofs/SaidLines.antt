@@ -1,12 +1,10 @@
 -- The lines of a rule file, one after another.
-use Rattle.std.proofs.Common.{◌≡◌, ◌==◌, ◌<◌, ◌≤◌, ℕ, ◌+◌, Bool, true, false, not, List, [], ◌∷◌, length, map, refl, ap, ◌∙◌, arith, inl, inr}
-use Rattle.std.specs.List.{list_all, enumerate_from}
-use Rattle.std.specs.Prelude.{filter, if◌then◌else◌}
+use Rattle.std.proofs.Common.{◌≡◌, ◌==◌, ◌≤◌, ℕ, ◌+◌, Bool, not, List, [], ◌∷◌, length, refl, ap, ◌∙◌, inl, inr}
+use Rattle.std.specs.List.{list_all}
 use Rattle.std.proofs.lemmas.Bool.{cases_Bool, and_parts, and_from}
-use Rattle.std.proofs.lemmas.Bool.Decides.{nat_tests}
-use Rattle.ca_plane.specs.Bytes.{is_blank, is_line_end, Every, front, rest, without_last_blanks, lines_of}
+use Rattle.ca_plane.specs.Bytes.{is_blank, is_line_end, Every, front, rest, without_last_blanks}
 use Rattle.ca_plane.proofs.Fronts.{front_then_rest, every_left, every_rest}
-use Rattle.ca_rule.specs.TableLines.{content_of, says_something}
+use Rattle.ca_rule.specs.TableLines.{content_of}
 use Rattle.ca_rule.specs.declared.table.said_lines.SaidLines.{SaidLines}
 use Rattle.ca_rule.specs.inner.TableReading.{said_from, left_of}
 
@@ -15,20 +13,6 @@ pub record IsAhead (lines : SaidLines) (read : ℕ) (left : List ℕ) : Type 0 w
   pub same : left_of lines ≡ said_from (read + 1) left
   pub room : read + length left ≤ lines.read + length lines.left.now
   pub shorter : length left ≤ length lines.left.now
-
--- a line that says something is the first of those that do
-pub next-said : (n : ℕ) (bytes line later : List ℕ) → lines_of bytes ≡ line ∷ lines_of later → 0 < length (content_of line) → said_from n bytes ≡ (n, content_of line) ∷ said_from (n + 1) later
-next-said n bytes line later e some =
-    let says : says_something (n, content_of line) ≡ true = grind (arith, nat_tests) in
-    ap (λ ls. filter says_something (enumerate_from n (map content_of ls))) e
-    ∙ ap (λ v. if v then (n, content_of line) ∷ said_from (n + 1) later else said_from (n + 1) later) says
-
--- another is left out
-pub next-silent : (n : ℕ) (bytes line later : List ℕ) → lines_of bytes ≡ line ∷ lines_of later → length (content_of line) ≡ 0 → said_from n bytes ≡ said_from (n + 1) later
-next-silent n bytes line later e none =
-    let says : says_something (n, content_of line) ≡ false = grind (arith, nat_tests) in
-    ap (λ ls. filter says_something (enumerate_from n (map content_of ls))) e
-    ∙ ap (λ v. if v then (n, content_of line) ∷ said_from (n + 1) later else said_from (n + 1) later) says
 
 -- bytes that all pass a test do so before the last blanks too
 ends-every : (test : ℕ → Bool) (bytes : List ℕ) → Every test bytes → Every test (without_last_blanks bytes)

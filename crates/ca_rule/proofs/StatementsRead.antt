@@ -74,10 +74,6 @@ say-snoc : (settings : Settings) (said mid after : SaidStatements) (ls : List Nu
 say-snoc settings said mid after [] l h says = (after, subst (λ s. SaysVariable settings s l after ⊎ SaysTransition settings s l after) (sym h) says, refl)
 say-snoc settings said mid after (x ∷ xs) l h says = (h.0, h.1, say-snoc settings h.0 mid after xs l h.2 says)
 
--- before the first line
-pub none-said : (settings : Settings) (all : List NumberedLine) (kept : Statements) → KeepsStatements no_statements kept → IsBehindSaid settings all all kept
-none-said settings all kept is = record { good = []; said = no_statements; whole = refl; say = refl; is_kept = is }
-
 -- one more line is said
 pub one-said : (settings : Settings) (all left later : List NumberedLine) (line : NumberedLine) (old new : Statements) → IsBehindSaid settings all left old → left ≡ line ∷ later
     → ((said : SaidStatements) → KeepsStatements said old → IsKeptBehind settings said line new) → IsBehindSaid settings all later new
@@ -91,12 +87,9 @@ one-said settings all left later line old new before next more =
       is_kept = is.2;
     }
 
--- a section begins after them, or they end
+-- where a section begins after them, all are said
 pub section-behind : (settings : Settings) (all left later : List NumberedLine) (line : NumberedLine) (kept : Statements) → IsBehindSaid settings all left kept → left ≡ line ∷ later → begins_section line ≡ true → AreAllSaid settings all kept
 section-behind settings all left later line kept before next begins = record { later = line ∷ later; tail_after = subst (λ l. IsBehindSaid settings all l kept) next before; ends = begins }
-
-pub none-behind : (settings : Settings) (all left : List NumberedLine) (kept : Statements) → IsBehindSaid settings all left kept → left ≡ [] → AreAllSaid settings all kept
-none-behind settings all left kept before none = record { later = []; tail_after = subst (λ l. IsBehindSaid settings all l kept) none before; ends = refl }
 
 -- a line of the table comes after good settings and good statements, and this holds of it
 pub has-statement : (bytes named : List ℕ) (head before later : List NumberedLine) (settings : Settings) (said : SaidStatements) (line : NumberedLine) → SettingsMean head settings → HasTable bytes named (head ++ (before ++ line ∷ later))

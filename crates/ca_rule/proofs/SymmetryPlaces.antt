@@ -38,14 +38,6 @@ pub stored-next : (named : List ℕ) (count : ℕ) (h : Neighbourhood) (s : Symm
     placed ≡ map (places h) (orders h s) → next_at sets placed nine ts ≡ table_next (stored_table named count h s sets ts) nine
 stored-next named count h s sets ts nine placed e = ap (λ ps. next_at sets ps nine ts) e ∙ next-at h sets (orders h s) nine ts
 
--- each placement begins at the centre
-pub all-centred : (h : Neighbourhood) (gs placed : List (List ℕ)) → placed ≡ map (places h) gs → list_all begins_at_centre placed ≡ true
-all-centred h gs placed e = ap (list_all begins_at_centre) e ∙ each gs
-  where
-    each : (gs : List (List ℕ)) → list_all begins_at_centre (map (places h) gs) ≡ true
-    each [] = refl
-    each (g ∷ gs) = each gs
-
 -- a transition whose first slot doesn't admit the centre fits at none of them
 pub outcome-uncentred : (variables : List States) (nine : List ℕ) (t : Transition) (ps : List (List ℕ)) → list_all begins_at_centre ps ≡ true
     → admits_centre variables nine t ≡ false → outcome_at variables nine t ps ≡ None

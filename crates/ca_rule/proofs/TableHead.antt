@@ -2,12 +2,10 @@
 use Rattle.std.proofs.Common.{◌≡◌, ℕ, Bool, true, false, List, [], ◌∷◌, ◌++◌, refl, sym, ap, subst, ◌∙◌, append_assoc, inl, inr}
 use Rattle.std.proofs.lemmas.Bool.{cases_Bool}
 use Rattle.std.specs.List.{list_any}
-use Rattle.std.proofs.lemmas.List.{append-nil}
-use Rattle.ca_rule.specs.declared.table.fault.TableFault.TheVariants.{NoRuleLine, NoTable}
-use Rattle.ca_rule.specs.TableLines.{NumberedLine, lines_said, last_line, begins_table}
-use Rattle.ca_rule.specs.TableText.{HasTable}
-use Rattle.ca_rule.specs.TableFaults.{number_at, HasNoRuleLine, HasNoTable, IsTableTextFault}
-use Rattle.ca_rule.specs.inner.TableReading.{HasRuleName, IsBehindSkipped, IsBehindTable}
+use Rattle.ca_rule.specs.declared.table.fault.TableFault.TheVariants.{NoRuleLine}
+use Rattle.ca_rule.specs.TableLines.{NumberedLine, lines_said, begins_table}
+use Rattle.ca_rule.specs.TableFaults.{number_at, HasNoRuleLine, IsTableTextFault}
+use Rattle.ca_rule.specs.inner.TableReading.{IsBehindSkipped, IsBehindTable}
 
 -- the lines that are left are all lines of the text, and the first of them is no `@RULE` with a name
 pub no-rule-line : (bytes : List ℕ) (left lines : List NumberedLine) (n : ℕ) → left ≡ lines_said bytes → left ≡ lines → HasNoRuleLine lines → n ≡ number_at bytes lines → IsTableTextFault bytes (NoRuleLine n)
@@ -24,10 +22,6 @@ any-snoc test (x ∷ xs) l none e =
       | inr t ↦ rw t (any-snoc test xs l (let k = rw t at none in k) e)
     ]
 
--- before the first line
-pub none-skipped : (all : List NumberedLine) → IsBehindSkipped all all
-none-skipped all = record { skipped = []; no_table = refl; whole = refl }
-
 -- one more line is skipped
 pub one-skipped : (all left later : List NumberedLine) (line : NumberedLine) → IsBehindSkipped all left → left ≡ line ∷ later → begins_table line ≡ false → IsBehindSkipped all later
 one-skipped all left later line before next silent = record {
@@ -35,12 +29,6 @@ one-skipped all left later line before next silent = record {
   no_table = any-snoc begins_table before.skipped line before.no_table silent;
   whole = before.whole ∙ ap (λ l. before.skipped ++ l) next ∙ sym (append_assoc before.skipped (line ∷ []) later);
 }
-
--- all lines are skipped
-pub all-skipped : (all left : List NumberedLine) → IsBehindSkipped all left → left ≡ [] → list_any begins_table all ≡ false
-all-skipped all left before none =
-    let whole = before.whole ∙ ap (λ l. before.skipped ++ l) none ∙ append-nil before.skipped in
-    ap (list_any begins_table) whole ∙ before.no_table
 
 -- the line that follows begins a table
 pub table-begins : (all left later : List NumberedLine) (line : NumberedLine) → IsBehindSkipped all left → left ≡ line ∷ later → begins_table line ≡ true → IsBehindTable all later
@@ -51,19 +39,3 @@ table-begins all left later line before next begun = record {
   begins = begun;
   whole = before.whole ∙ ap (λ l. before.skipped ++ l) next;
 }
-
--- so a table follows the name
-pub has-table : (bytes name : List ℕ) (all lines : List NumberedLine) → HasRuleName bytes name all → IsBehindTable all lines → HasTable bytes name lines
-has-table bytes name all lines named tail_after = record {
-  rule_line = named.rule_line;
-  skipped = tail_after.skipped;
-  table_line = tail_after.table_line;
-  named = named.named;
-  no_table = tail_after.no_table;
-  begins = tail_after.begins;
-  whole = named.whole ∙ ap (λ l. named.rule_line ∷ l) tail_after.whole;
-}
-
--- or none
-pub no-table : (bytes name : List ℕ) (all : List NumberedLine) (n : ℕ) → HasRuleName bytes name all → list_any begins_table all ≡ false → n ≡ last_line bytes → IsTableTextFault bytes (NoTable n)
-no-table bytes name all n named none number = (subst HasNoTable (sym named.whole) (name, named.named, none), number)

@@ -1,42 +1,17 @@
 -- The text of a rule table, read whole.
-use Rattle.std.proofs.Common.{◌≡◌, ◌≤◌, ℕ, true, codes, ◌&&◌, List, [], ◌∷◌, ◌++◌, nat_le, Option, Some, None, refl, sym, ap, subst, ◌∙◌, inl, inr, ◌⊎◌, arith, option_and_then}
+use Rattle.std.proofs.Common.{◌≡◌, ℕ, true, List, [], ◌∷◌, ◌++◌, refl, sym, ap, subst, ◌∙◌, inl, inr, ◌⊎◌, arith}
 use Rattle.std.specs.List.{list_all, AllZip}
-use Rattle.std.proofs.lemmas.Bool.{cases_Bool, and_parts}
 use Rattle.std.proofs.lemmas.Bool.Decides.{nat_tests}
 use Rattle.std.proofs.lemmas.List.Folds.{list_all-append}
-use Rattle.std.proofs.lemmas.Option.{none-some, same_Some}
-use Rattle.ca_plane.specs.Bytes.{value}
 use Rattle.ca_rule.specs.declared.table.slot.Slot.{Slot}
 use Rattle.ca_rule.specs.declared.table.slot.Slot.TheVariants.{Number, Variable}
 use Rattle.ca_rule.specs.declared.table.statements.Statements.{Statements}
 use Rattle.ca_rule.specs.TableNext.{Transition}
-use Rattle.ca_rule.specs.Digits.{are_digits, state_count}
-use Rattle.ca_rule.specs.TableLines.{NumberedLine, value_of}
+use Rattle.ca_rule.specs.TableLines.{NumberedLine}
 use Rattle.ca_rule.specs.TableText.{HasTable, Settings, SaidStatements, no_statements, StandsFor, SaysVariable, SaysTransition, LinesSay, IsTable}
 use Rattle.ca_rule.specs.inner.TableSaying.{AreAllSaid}
 use Rattle.ca_rule.specs.inner.TableSettings.{IsBehindMeant}
 use Rattle.ca_rule.specs.inner.TableStored.{stored_table, is_below}
-
--- a number of states that is given is from 2 to 256
-count-within : (bytes : List ℕ) (n : ℕ) → state_count bytes ≡ Some n → (2 ≤ n) × (n ≤ 256)
-count-within bytes n is =
-    elim (cases_Bool (are_digits bytes && (nat_le 2 (value bytes) && nat_le (value bytes) 256))) [
-      | inl t ↦ let k = rw t at is in
-          let same = same_Some (value bytes) n k in
-          let both_lists = and_parts (nat_le 2 (value bytes)) (nat_le (value bytes) 256) (and_parts (are_digits bytes) (nat_le 2 (value bytes) && nat_le (value bytes) 256) t).1 in
-          let low : 2 ≤ value bytes = let l = both_lists.0 in grind (arith, nat_tests) in
-          let high : value bytes ≤ 256 = let h = both_lists.1 in grind (arith, nat_tests) in
-          (subst (λ m. 2 ≤ m) same low, subst (λ m. m ≤ 256) same high)
-      | inr t ↦ let k = rw t at is in absurd (none-some n k)
-    ]
-
-set-within : (value : Option (List ℕ)) (n : ℕ) → option_and_then state_count value ≡ Some n → (2 ≤ n) × (n ≤ 256)
-set-within None n is = absurd (none-some n is)
-set-within (Some bytes) n is = count-within bytes n is
-
--- settings mean so many states
-pub states-within : (all left : List NumberedLine) (settings : Settings) → IsBehindMeant all settings left → (2 ≤ settings.states) × (settings.states ≤ 256)
-states-within all left settings before = set-within (value_of (codes "n_states") before.good) settings.states before.mean.states_are
 
 -- a slot that a field stands for is below the number of states
 module _ (settings : Settings) where

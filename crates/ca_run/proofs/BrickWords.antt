@@ -33,10 +33,6 @@ pub record HasRowsOf (rows north south : List ℕ) (count : ℕ) : Type 0 where
   pub in_north : (y : ℕ) → y < count → HasRowOf rows y north y
   pub in_south : (y : ℕ) → y < count → HasRowOf rows (8 + y) south y
 
--- no row yet
-pub no_rows : (rows north south : List ℕ) → length rows ≡ 16 → HasRowsOf rows north south 0
-no_rows rows north south long = record { long = long; in_north = λ y low. absurd (omega (arith, low)); in_south = λ y low. absurd (omega (arith, low)) }
-
 -- a row that is what it was in other rows, and one that was made
 row_stays : (old new words : List ℕ) (k y : ℕ) → slice_index new k ≡ slice_index old k → HasRowOf old k words y → HasRowOf new k words y
 row_stays old new words k y same has = record { cells = λ i x low_i low_x. ap (λ r. bit_at r (8 * i + x)) same ∙ has.cells i x low_i low_x }

@@ -10,7 +10,6 @@ use Rattle.ca_run.specs.Centre.{IsCentre}
 use Rattle.ca_run.specs.inner.Centres.{HasCentre}
 use Rattle.ca_run.specs.inner.Shown.{ShowsAt, side}
 use Rattle.ca_run.specs.inner.Words.{WordShows}
-use Rattle.ca_run.specs.Masks.{GoesBy}
 use Rattle.ca_run.proofs.ShownPlanes.{is_centre_at, at_corner}
 
 -- the word of a square that shows a plane shows it
@@ -19,10 +18,6 @@ pub word_at : (nodes : List Node) (id : ℕ) (found : Option ℕ) (p : ℤ → �
     → IfSome found (λ word. WordShows word p a b)
 word_at nodes id None p a b is shows = tt
 word_at nodes id (Some word) p a b is shows = record { looks = λ x y i j. sym (is x y) ∙ shows.looks x y i j }
-
--- the rule goes by the masks that are there
-pub goes_by_masks : (next : List ℕ → ℕ) (found : Option (ℕ × ℕ)) (masks : ℕ × ℕ) → IfSome found (GoesBy next) → found ≡ Some masks → GoesBy next masks
-goes_by_masks next found masks h e = subst (λ m. IfSome m (GoesBy next)) e h
 
 -- words that show the centres of squares of level l + 2 show that of a square of level k + 2, where k is l
 pub centre_shown : {X : Type 0} (Show : X → (ℤ → ℤ → ℕ) → ℤ → ℤ → Type 0) (next : List ℕ → ℕ) (nodes : List Node) (id k j l n : ℕ) (words : X) → k ≡ l → n ≡ 2 ^ j

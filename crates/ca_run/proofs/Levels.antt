@@ -13,7 +13,7 @@ use Rattle.ca_quad.proofs.Reach.{tree_holds}
 use Rattle.ca_run.specs.inner.Beyond.{IsBeyond, DiesBeyond}
 use Rattle.ca_run.specs.Leaping.{Costs, LeaperView}
 use Rattle.ca_run.specs.inner.Dense.{IsLow, HasLeapt}
-use Rattle.ca_run.proofs.Costs.{costs_none, costs_then, costs_more, power_more, digit_below, rising_cost, level_cost, first_digits, all_digits}
+use Rattle.ca_run.proofs.Costs.{costs_then, costs_more, power_more, digit_below, rising_cost, level_cost, first_digits, all_digits}
 use Rattle.ca_run.proofs.Trees.{tree_dies, later_dies, powers_fit}
 
 -- what isn't beyond half the side of a level lies within it
@@ -64,10 +64,6 @@ trim_level (Ok t) old new tree some same trimmed = elim (below_or_not tree.level
 -- ---- what leaps cost
 
 module _ {Rule : Type 0} (old : LeaperView Rule) (first : Tree) (reached n : ℕ) where
-  -- nothing, before the first
-  pub none_leapt : HasLeapt Rule old first reached n 0 old
-  none_leapt = record { rising = λ _ d less. costs_none; later = λ d less. costs_none }
-
   -- no more than for more digits
   pub leapt_more : {new : LeaperView Rule} (j i : ℕ) → j ≤ i → HasLeapt Rule old first reached n j new → HasLeapt Rule old first reached n i new
   leapt_more j i more leapt = record {

@@ -179,12 +179,6 @@ module _ (s1 s2 s3 s4 : List Node) (sound : IsSoundStore s1) (g2 : Grows s1 s2) 
 pub at_from : (nodes : List Node) (id level : ℕ) (p : ℤ → ℤ → ℕ) (a b c d : ℤ) → a ≡ c → b ≡ d → ShowsAt nodes id level p a b → ShowsAt nodes id level p c d
 at_from nodes id level p a b c d e f h = record { is_square = h.is_square; looks = looks_from (2 ^ level) (cell_of nodes level id) p a b c d e f h.looks }
 
--- twice a side is the side of the level above
-pub side_up : (k : ℕ) → side (suc k) ≡ side k +ℤ side k
-side_up k =
-    let up = two-pow-succ k in
-    omega (arith, ints, up)
-
 -- ---- joins and parts
 
 -- the square of four that show a plane shows it

@@ -10,7 +10,7 @@ use Rattle.ca_plane.proofs.Sends.{sent_both, prefix_of_first, prefix_of_second}
 use Rattle.ca_tool.specs.Writing.{Sends}
 
 -- the pieces before one, that piece, and those after it
-pub flat_map_around : {X : Type 0} (f : X → List ℕ) (xs : List X) (i : ℕ) (d : X) → i < length xs → flat_map f xs ≡ flat_map f (take i xs) ++ (f (get_or xs i d) ++ flat_map f (drop (suc i) xs))
+flat_map_around : {X : Type 0} (f : X → List ℕ) (xs : List X) (i : ℕ) (d : X) → i < length xs → flat_map f xs ≡ flat_map f (take i xs) ++ (f (get_or xs i d) ++ flat_map f (drop (suc i) xs))
 flat_map_around f xs i d below =
     ap (flat_map f) (sym (take-append-drop i xs)) ∙ flat_map-append f (take i xs) (drop i xs)
     ∙ ap (λ l. flat_map f (take i xs) ++ flat_map f l) (drop-cons xs i d below)

@@ -130,11 +130,6 @@ all_judged old new findings judged none = record {
   given = judged.holds.given;
 }
 
--- and so is the report
-pub report_on_all : (old new : Judging) (style : ReportStyle) (text : List ℕ) (code : ℕ) → IsReportUpTo old new style text code → NoneLeft new → IsReport old style text code
-report_on_all old new style text code report none =
-    record { findings = report.findings; holds = all_judged old new report.findings report.judged none; lines = report.lines; status = report.status }
-
 -- the claims that were judged are the first ones
 pub report_on_first : (old new : Judging) (style : ReportStyle) (text : List ℕ) → IsReportPart old new style text → IsReportOnFirst old style text
 report_on_first old new style text (code, report) =
