@@ -3,14 +3,13 @@
 ghost use Rattle.std.specs.Prelude.{ℕ, ◌+◌, ◌≤◌, ◌<◌, ◌^◌, List, IfOk, OnOk};
 ghost use Rattle.ca_plane.specs.Plane.{Picture};
 ghost use Rattle.ca_plane.specs.Generations.{cells_after};
+ghost use Rattle.ca_plane.specs.Limits.{longest_period};
 ghost use Rattle.ca_quad.specs.Boxes.{AreSquareBoxes};
 ghost use Rattle.ca_quad.specs.Trees.{cell};
 ghost use Rattle.ca_run.specs.Leaping.{LeaperGrows, EndsAtLimit};
 ghost use Rattle.ca_claims.specs.Identified.{IsIdentity};
-ghost use Rattle.ca_plane.specs.Limits.{longest_period};
+ghost use Rattle.ca_claims.specs.inner.Stages.{IsFirst, IsStage, IsLaterTree, IsReturn, TakesSteps};
 ghost use Rattle.ca_claims.specs.inner.Subjects.{ShowsTree};
-ghost use Rattle.ca_claims.specs.inner.Stages.{IsFirst, IsStage, IsLaterTree, IsReturn};
-ghost use Rattle.ca_claims.specs.inner.Stages.{TakesSteps};
 
 use super::growth::growth_of;
 use super::later::later_tree;
