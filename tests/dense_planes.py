@@ -1,6 +1,7 @@
 #!/usr/bin/env -S python3 -B
 """What dense planes become, beside the naive steps of lib/rows.py: soups under rules of few and of many counts, by fewer and more generations than are stepped
-at a time, at borders of bricks, in all quarters of the plane and at its far ends; planes at rest that gliders wake; soups that die; and large soups.
+at a time, at borders of bricks, in all quarters of the plane and at its far ends; planes at rest that gliders wake, and such as never rest; soups that die; and
+large soups.
 
 Each plane is claimed to become what it does, which is true, and the same with one cell changed, where the verdict has to name that cell.
 """
@@ -48,6 +49,12 @@ PLACED = (("B3/S23", 32), ("B36/S23", 65), ("B3678/S34678", 129), ("B3/S23", AT_
 GLIDER = rows.Rows(0, 0, (0b010, 0b100, 0b111))
 RESTING = tuple(rows.Rows(0, 0, it) for it in (
     (3, 3), (7,), (1, 1, 1), (6, 9, 6), (2, 5, 5, 2), (2, 5, 2), (3, 5, 2), (6, 9, 10, 4), (3, 3, 12, 12), (3, 1, 8, 12), (7, 14), (4, 9, 9, 2)))
+
+# A pulsar, which has period 3. At places so far apart it meets no other.
+PULSAR = rows.Rows(0, 0, tuple(int(row, 2) for row in (
+    "0011100011100", "0", "1000010100001", "1000010100001", "1000010100001", "0011100011100", "0",
+    "0011100011100", "1000010100001", "1000010100001", "1000010100001", "0", "0011100011100")))
+PITCH = 20
 
 # The directions of gliders.
 WAYS = ((1, 1), (-1, 1), (1, -1), (-1, -1))
@@ -162,6 +169,20 @@ def try_rest(tally, files):
         text.judge(tally, f"at rest, {x},{y}")
 
 
+def try_busy(tally, files):
+    """Pulsars in all phases, none of which ever rests: such a plane is stepped as often as one may be, and then leapt."""
+    chance, phases = random.Random(12), [PULSAR.after("B3/S23", count) for count in range(3)]
+    places = [(PITCH * x + chance.randint(0, 2), PITCH * y + chance.randint(0, 2)) for x in range(12) for y in range(12)]
+    before = rows.united([chance.choice(phases).moved(*place) for place in places])
+    text = Text(files, chance)
+    name = text.plane("B3/S23", before)
+    for count in (AT_A_TIME + 1, *(many * AT_A_TIME + more for many in range(2, 10) for more in (0, 1)), 1 << 20):
+        text.becomes(name, "B3/S23", count, before.after("B3/S23", count % 3))
+    text.claim(f"oscillator {name} {3 * AT_A_TIME}", "no, the same after 3, shifted by 0,0")
+    text.claim(f"oscillator {name} 3", "yes")
+    text.judge(tally, "never at rest")
+
+
 def try_waking(tally, files):
     """A glider comes to a corner of four bricks that sleep, in each direction and a little beside the corner, and goes on or meets what rests there."""
     chance = random.Random(9)
@@ -242,7 +263,7 @@ def try_large(tally, files):
 def main():
     tally = Tally()
     with tempfile.TemporaryDirectory() as folder:
-        for it in (try_rules, try_places, try_rest, try_waking, try_gliders, try_deaths, try_apart, try_large):
+        for it in (try_rules, try_places, try_rest, try_busy, try_waking, try_gliders, try_deaths, try_apart, try_large):
             it(tally, Folder(folder))
     tally.finish()
 
