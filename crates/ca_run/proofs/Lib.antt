@@ -14,6 +14,7 @@ pub mod PlaneLevels
 pub mod Spreading
 pub mod Vectors
 pub mod Returns
+pub mod Returning
 pub mod Reading
 pub mod ReadWords
 pub mod Heads

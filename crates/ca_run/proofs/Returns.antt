@@ -40,7 +40,7 @@ after_stands next p q m n stands x y =
     after_same next (cell q) (after next p m) n (λ u v. sym (stands u v)) x y ∙ after_again next (cell p) m n x y
 
 -- where a picture is back by a vector after m generations, m + n generations are n, moved by that vector
-after_back : (next : List ℕ → ℕ) (p : Picture) (m n : ℕ) (dx dy : ℤ) → IsAfter next p m (shifted p dx dy) → (x y : ℤ) → after next p (m + n) x y ≡ after next p n (x -ℤ dx) (y -ℤ dy)
+pub after_back : (next : List ℕ → ℕ) (p : Picture) (m n : ℕ) (dx dy : ℤ) → IsAfter next p m (shifted p dx dy) → (x y : ℤ) → after next p (m + n) x y ≡ after next p n (x -ℤ dx) (y -ℤ dy)
 after_back next p m n dx dy back x y = sym (after_stands next p (shifted p dx dy) m n back x y) ∙ after-shifted next p dx dy n x y
 
 -- ---- times at which a picture is back

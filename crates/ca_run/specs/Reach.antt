@@ -20,3 +20,8 @@ LeavesReachBefore next cells n = (m : ℕ) × (m < n) × LeavesReach next cells 
 -- the box grown by n cells on each side
 abbrev pub grown_box : Bounds → ℕ → Bounds
 grown_box box n = record { x0 = box.x0 -ℤ pos n; y0 = box.y0 -ℤ pos n; x1 = box.x1 +ℤ pos n; y1 = box.y1 +ℤ pos n }
+
+-- the other box is wider and higher than the box by n cells at most
+pub record IsWiderByAtMost (box other : Bounds) (n : ℕ) : Type 0 where
+  pub columns : (other.x1 -ℤ other.x0) ≤ℤ ((box.x1 -ℤ box.x0) +ℤ pos n)
+  pub rows : (other.y1 -ℤ other.y0) ≤ℤ ((box.y1 -ℤ box.y0) +ℤ pos n)

@@ -1,13 +1,13 @@
 //! Laws of the plane after n generations, over the definitions alone.
 
-ghost use Rattle.std.specs.Prelude.{◌≡◌, ◌≢◌, ℕ, ◌+◌, ◌*◌, ℤ, pos, ◌+ℤ◌, ◌*ℤ◌};
+ghost use Rattle.std.specs.Prelude.{◌≡◌, ◌≢◌, ℕ, ◌+◌, ◌-◌, ◌*◌, ℤ, pos, ◌+ℤ◌, ◌*ℤ◌};
 ghost use Rattle.std.specs.Int.{◌∣◌};
 ghost use Rattle.ca_plane.specs.declared.point.Bounds.{Bounds};
 ghost use Rattle.ca_plane.specs.Plane.{Picture, cell, IsSame, shifted, IsLive};
 ghost use Rattle.ca_plane.specs.Generations.{after, IsAfter};
-ghost use Rattle.ca_plane.specs.Box.{IsInBox};
+ghost use Rattle.ca_plane.specs.Box.{IsInBox, IsLeastBox};
 ghost use Rattle.ca_run.specs.Later.{AgreeWithin, IsBackInPlace, IsBackAnywhere, IsLeast};
-ghost use Rattle.ca_run.specs.Reach.{grown_box};
+ghost use Rattle.ca_run.specs.Reach.{grown_box, IsWiderByAtMost};
 
 use ca_plane::Automaton;
 
@@ -74,6 +74,30 @@ pub fn l6<A: Automaton>(rule: &A)
         → IsAfter (A.next_of rule.now) cells m (shifted cells dx dy)
         → IsAfter (A.next_of rule.now) cells (k * m) (shifted cells u v)
         → (u ≡ pos k *ℤ dx) × (v ≡ pos k *ℤ dy) }
+{
+    let _ = rule;
+}
+
+/// A picture that is back after p generations, in its place or moved, never grows far: at every time the least
+/// box round the live cells is at most 2(p - 1) cells wider and higher than that of the picture. So a larger
+/// box, at any time, rules out every period that is p at most.
+pub fn returning_pictures_stay_small<A: Automaton>(rule: &A)
+    ensures { (cells later : Picture) (p n : ℕ) (box wide : Bounds)
+        → IsBackAnywhere (A.next_of rule.now) cells p → IsAfter (A.next_of rule.now) cells n later
+        → IsLeastBox cells box → IsLeastBox later wide → IsWiderByAtMost box wide (2 * (p - 1)) }
+{
+    // A rule that tells its states is sound: where all is empty, nothing is born.
+    let _states = rule.states();
+}
+
+/// Where the plane of a picture is at some time such that it is back after q more generations, moved by a
+/// vector, the picture itself is back after q generations, moved by that vector, if it ever comes back, in
+/// its place or moved. So one comparison, after q generations, rules out every period, or finds one.
+pub fn returning_pictures_settle_as_they_are<A: Automaton>(rule: &A)
+    ensures { (cells settled : Picture) (p n q : ℕ) (dx dy : ℤ)
+        → IsBackAnywhere (A.next_of rule.now) cells p → IsAfter (A.next_of rule.now) cells n settled
+        → IsAfter (A.next_of rule.now) settled q (shifted settled dx dy)
+        → IsAfter (A.next_of rule.now) cells q (shifted cells dx dy) }
 {
     let _ = rule;
 }
