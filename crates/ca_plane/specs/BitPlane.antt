@@ -30,6 +30,10 @@ pub record AddsRun (first : Point) (length : ℕ) (old new : List CellWord) : Ty
   pub run : (n : ℕ) → n < length → bit_cell new (first.x +ℤ pos n) first.y ≡ 1
   pub other : (x y : ℤ) → ((n : ℕ) → n < length → x ≡ first.x +ℤ pos n → y ≡ first.y → ⊥) → bit_cell new x y ≡ bit_cell old x y
 
+-- so many first cells of the run are live, maybe none and never all, and every other cell is as it was
+abbrev pub AddsPartOfRun : Point → ℕ → (old new : List CellWord) → Type 0
+AddsPartOfRun first length old new = (some : ℕ) × (some < length) × AddsRun first some old new
+
 -- how many columns, and how many rows, the square has from its corner to its far edge: twice the reach
 abbrev pub plane_side : ℕ
 plane_side = 2 ^ 63

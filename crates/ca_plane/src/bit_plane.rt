@@ -1,8 +1,8 @@
 //! Planes of two states as words of 64 cells.
 
 ghost use Rattle.std.specs.Prelude.{◌≡◌, ℕ, ◌+◌, ◌<◌, ◌≤◌, ◌/◌, ◌^◌, pos, neg_ℤ};
-ghost use Rattle.std.specs.Prelude.{◌+ℤ◌, ◌≤ℤ◌, [], IsTrue, IfSome, OnOk};
-ghost use Rattle.ca_plane.specs.BitPlane.{AddsRun, AreNearWords, IsNearWord, plane_side};
+ghost use Rattle.std.specs.Prelude.{◌+ℤ◌, ◌≤ℤ◌, [], IsTrue, IfSome, OnOk, OnErr};
+ghost use Rattle.ca_plane.specs.BitPlane.{AddsRun, AddsPartOfRun, AreNearWords, IsNearWord, plane_side};
 ghost use Rattle.ca_plane.specs.Limits.{reach};
 ghost use Rattle.ca_plane.specs.inner.BitRuns.{AddsWord, AreBitsOf, HaveSameCells, IsPlaceOf, IsWordOfRun};
 
@@ -69,13 +69,15 @@ impl BitPlane {
     ///
     /// # Errors
     ///
-    /// Fails where there is no memory for it, and then some first cells of the run may be live.
+    /// Fails where there is no memory for it, and then some first cells of the run may be live, but not all of
+    /// them. Every other cell is as it was.
     pub fn add_run(&mut self, first: Point, length: u64) -> Result<(), Memory>
         requires west { neg_ℤ reach ≤ℤ first.x }
         requires east { (first.x +ℤ pos length) ≤ℤ reach }
         requires north { neg_ℤ reach ≤ℤ first.y }
         requires south { first.y ≤ℤ reach }
-        ensures { OnOk result (AddsRun first length self.old self.new) }
+        ensures ok { OnOk result (AddsRun first length self.old self.new) }
+        ensures err { OnErr result (AddsPartOfRun first length self.old self.new) }
     {
         let row = from_corner(first.y);
         let mut next = from_corner(first.x);
@@ -91,7 +93,8 @@ impl BitPlane {
     // Adds the cells of a word.
     fn add_word(&mut self, word: CellWord) -> Result<(), Memory>
         requires { IsNearWord word }
-        ensures { OnOk result (AddsWord word self.old self.new) }
+        ensures ok { OnOk result (AddsWord word self.old self.new) }
+        ensures err { OnErr result (self.new ≡ self.old) }
     {
         let Some(place) = self.place_of(word) else {
             self.words.push(word)?;

@@ -4,11 +4,11 @@ use Rattle.ca_plane.specs.inner.BitRuns.{HaveSameCells}
 use Rattle.ca_plane.proofs.BitPlanes.{AddsWord-at_end, AddsWord-over, joined-word}
 use Rattle.ca_plane.proofs.bit_plane.BitPlane.add_word.Goals as goal
 
-pub returns-in_default : goal.returns-in_default
-returns-in_default c = rw (c.in_ok-push.ensures.items, sym c.self.view_is) (AddsWord-at_end c.self.inside.words.items c.args.word)
+pub returns-in_default-clause-ok : goal.returns-in_default-clause-ok
+returns-in_default-clause-ok c = rw (c.in_ok-push.ensures.items, sym c.self.view_is) (AddsWord-at_end c.self.inside.words.items c.args.word)
 
-pub returns : goal.returns
-returns c =
+pub returns-clause-ok : goal.returns-clause-ok
+returns-clause-ok c =
     let words = c.self.inside.words.items in
     let last = c.index_mut.result.now in
     let there = c.in-Some.ensures in
