@@ -1,5 +1,5 @@
 -- What holds of the nodes of every store, and how they grow.
-use Rattle.std.specs.Prelude.{◌≡◌, ℕ, ◌-◌, ◌^◌, ◌<◌, ◌≤◌, List, length, max, slice_index_or}
+use Rattle.std.specs.Prelude.{◌≡◌, ℕ, ◌-◌, ◌*◌, ◌^◌, ◌<◌, ◌≤◌, List, length, max, slice_index_or}
 use Rattle.ca_quad.specs.declared.node.Node.{Node}
 use Rattle.ca_quad.specs.declared.node.Node.TheVariants.{Leaf, Block, Join}
 use Rattle.ca_quad.specs.Squares.{IsAmong, place_id}
@@ -37,3 +37,7 @@ pub record Grows (old new : List Node) : Type 0 where
 -- no other square is added than the one with this id
 abbrev pub AddsOnly : List Node → List Node → ℕ → Type 0
 AddsOnly old new id = (place : ℕ) → length old ≤ place → place < length new → id ≡ place_id place
+
+-- a store with so many nodes is full
+abbrev pub most_nodes : ℕ
+most_nodes = 9 * 2 ^ 28

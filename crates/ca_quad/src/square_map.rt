@@ -1,6 +1,6 @@
 //! Values that belong to squares, by the squares' names.
 
-ghost use Rattle.std.specs.Prelude.{◌≡◌, ℕ, ◌==◌, OnOk, None, Some, cond, length};
+ghost use Rattle.std.specs.Prelude.{◌≡◌, ◌≢◌, ℕ, ◌==◌, IsOk, OnOk, OnErr, None, Some, cond, length};
 ghost use Rattle.ca_quad.specs.SquareValues.{square_value};
 
 use crate::id::Id;
@@ -51,10 +51,13 @@ impl<V: Copy> SquareMap<V> {
     ///
     /// # Errors
     ///
-    /// Fails where there is no memory for one more value.
+    /// Fails where there is no memory for one more value, and then leaves each square its value. Where the
+    /// square has a value already, it never fails.
     pub fn put(&mut self, id: Id, value: V) -> Result<(), Memory>
-        ensures { OnOk result ((other : ℕ)
+        ensures ok { OnOk result ((other : ℕ)
             → square_value self.new other ≡ cond (id == other) (Some value) (square_value self.old other)) }
+        ensures over { square_value self.old id ≢ None → IsOk result }
+        ensures err { OnErr result (self.new ≡ self.old) }
     {
         self.values.insert(id, value)?;
         Ok(())

@@ -1,9 +1,9 @@
 //! The store of squares.
 
-ghost use Rattle.std.specs.Prelude.{◌≡◌, ◌+◌, ◌≤◌, ◌<◌, [], ◌∷◌, length, IfOk, OnErr};
+ghost use Rattle.std.specs.Prelude.{◌≡◌, ◌+◌, ◌≤◌, ◌<◌, [], ◌∷◌, length, IfOk, IsErr, OnErr};
 ghost use Rattle.ca_quad.specs.declared.node.Node.TheVariants.{Block};
 ghost use Rattle.ca_quad.specs.Squares.{digit, node_square, shown_cells4, square_of};
-ghost use Rattle.ca_quad.specs.Sound.{IsSoundStore, IsStorable, Grows, AddsOnly};
+ghost use Rattle.ca_quad.specs.Sound.{IsSoundStore, IsStorable, Grows, AddsOnly, most_nodes};
 ghost use Rattle.ca_quad.specs.Trees.{IsIn};
 ghost use Rattle.ca_quad.specs.inner.Whole.{IsWhole};
 
@@ -49,6 +49,9 @@ use std::marker::Model;
 const MOST: usize = 9 << 28;
 
 /// Squares of cells, each kept once. An id names one as long as the store lasts.
+///
+/// A store is full where it keeps 2415919104 of them, those that are named by their cells not counted. What
+/// would keep one then fails with `Memory`, though memory may be there, also where the square is kept.
 #[derive(Drop)]
 pub struct Store {
     nodes: IndexSet<Node>,
@@ -84,7 +87,8 @@ impl Store {
         self.nodes.len()
     }
 
-    // Keeps the node, where it isn't kept yet, and gives its name.
+    // Keeps the node, where it isn't kept yet, and gives its name. Fails where there is no memory for one more
+    // node, and where the store is full, though memory may be there then.
     fn put(&mut self, node: Node) -> Result<Id, Memory>
         requires { IsStorable self.old (length self.old) node }
         ensures known { IfOk result (IsIn self.new) }
@@ -92,6 +96,7 @@ impl Store {
         ensures grows { Grows self.old self.new }
         ensures added { IfOk result (AddsOnly self.old self.new) }
         ensures count { length self.new ≤ length self.old + 1 }
+        ensures full { most_nodes ≤ length self.old → IsErr result }
         ensures err { OnErr result (self.new ≡ self.old) }
     {
         if self.nodes.len() >= MOST {

@@ -54,7 +54,7 @@ returns-in_ok-put-in-Parts-clause-copies t c =
     let olds = c.copy_of-in-Parts-3.new.copies in
     one_more (IsCopy c.args.from.now c.join.new.self) olds c.put.new.self c.args.id c.in_ok-copy-in-Parts.copy
     (copies_stay c.args.from.now c.copy_of-in-Parts-3.new.self c.join.new.self c.copy_of-in-Parts-3.ensures.grows.sound c.join.ensures.grows olds c.in_ok-se-in-Parts.ensures.copies)
-    (copied t (goal.at.returns-in_ok-put-in-Parts-clause-copies t c).In_ok-copy-in-Parts) c.in_ok-put-in-Parts.ensures
+    (copied t (goal.at.returns-in_ok-put-in-Parts-clause-copies t c).In_ok-copy-in-Parts) c.in_ok-put-in-Parts.ensures.ok
 
 pub returns-in_ok-put-in-Parts-clause-grows : goal.returns-in_ok-put-in-Parts-clause-grows
 returns-in_ok-put-in-Parts-clause-grows t c = all_grow t (goal.at.returns-in_ok-put-in-Parts-clause-grows t c).In_ok-copy-in-Parts

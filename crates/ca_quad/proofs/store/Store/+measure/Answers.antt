@@ -15,4 +15,4 @@ returns-in_ok-put-in-Parts-clause-measure g t c =
 pub returns-in_ok-put-in-Parts-clause-measures : goal.returns-in_ok-put-in-Parts-clause-measures
 returns-in_ok-put-in-Parts-clause-measures g t c =
     one_more (λ id value. IsIn c.args.self.now id × IsMeasureOf g.M.Measure.is c.args.self.now id value) c.measure-in-Parts-3.new.measures c.put.new.self c.args.id c.of_four-measure.result c.in_ok-se-in-Parts.ensures.measures
-    (c.requires.known, returns-in_ok-put-in-Parts-clause-measure g t c) c.in_ok-put-in-Parts.ensures
+    (c.requires.known, returns-in_ok-put-in-Parts-clause-measure g t c) c.in_ok-put-in-Parts.ensures.ok

@@ -21,4 +21,4 @@ returns-clause-gathered c =
     subst (λ l. IsGathered c.args.store.now c.args.states l new) (sym more.0)
     (gathered_more c.args.store.now c.count-squares.ensures.sound c.args.states _ old new c.args.id (node_of c.args.node) c.requires.known c.requires.gathered c.requires.node c.requires.live c.requires.new
     (subst (λ n. (other : ℕ) → square_value new other
-    ≡ cond (c.args.id == other) (Some n) (square_value old other)) (sym more.1) c.in_ok-put.ensures))
+    ≡ cond (c.args.id == other) (Some n) (square_value old other)) (sym more.1) c.in_ok-put.ensures.ok))
