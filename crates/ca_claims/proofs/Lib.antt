@@ -48,3 +48,4 @@ pub mod AddedTables
 pub mod RuleLines
 pub mod ReachedFiles
 pub mod IdentifiedFiles
+pub mod OneIdentity

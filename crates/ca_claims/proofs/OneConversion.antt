@@ -52,7 +52,7 @@ module _ (bytes : List ℕ) (tables : List TableRule) where
 -- ---- conversions
 
 -- a text of a format that reads, and what it means
-few_shown : (format : Format) (text : List ℕ) (shown : Picture) (rule_text : List ℕ) (generation : ℕ) → format ≡ Rle → IsReadableAs format text → MeansAs format text shown rule_text generation
+pub few_shown : (format : Format) (text : List ℕ) (shown : Picture) (rule_text : List ℕ) (generation : ℕ) → format ≡ Rle → IsReadableAs format text → MeansAs format text shown rule_text generation
     → length shown ≤ most_cells
 few_shown Rle text shown rule_text generation e (file, is, within) (other, is_too, cells, named, timed) =
     let same = rle_file.one_file text other file is_too is in
@@ -105,7 +105,7 @@ box_within p a b one two =
     ((one.all b.x0 two.left.0 two.left.1).0, (one.all b.x1 two.right.0 two.right.1).1, (one.all two.top.0 b.y0 two.top.1).2, (one.all two.bottom.0 b.y1 two.bottom.1).3)
 
 -- a picture has one least box
-one_box : (p : Picture) (a b : Bounds) → IsLeastBox p a → IsLeastBox p b → a ≡ b
+pub one_box : (p : Picture) (a b : Bounds) → IsLeastBox p a → IsLeastBox p b → a ≡ b
 one_box p a b one two =
     let (l, r, t, u) = box_within p a b one two in
     let (k, s, v, w) = box_within p b a two one in
@@ -120,7 +120,7 @@ boxed_live : (p : Picture) (a : Bounds) → IsLeastBox p a → IsLive p
 boxed_live p a box = (a.x0, box.left.0, box.left.1)
 
 -- bounds are one box, or none where no cell is live
-one_bounds : (p : Picture) (a b : Option Bounds) → MatchOption a (IsLive p → ⊥) (IsLeastBox p) → MatchOption b (IsLive p → ⊥) (IsLeastBox p) → a ≡ b
+pub one_bounds : (p : Picture) (a b : Option Bounds) → MatchOption a (IsLive p → ⊥) (IsLeastBox p) → MatchOption b (IsLive p → ⊥) (IsLeastBox p) → a ≡ b
 one_bounds p None None one two = refl
 one_bounds p (Some a) (Some b) one two = ap Some (one_box p a b one two)
 one_bounds p None (Some b) one two = absurd (one (boxed_live p b two))

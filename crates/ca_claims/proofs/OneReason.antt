@@ -28,7 +28,7 @@ by_difference p dx dy u v same = λ x y.
     ∙ cell-shifted p u v (x +ℤ dx) (y +ℤ dy) ∙ ap₂ (cell p) bx by ∙ sym (cell-shifted p (u -ℤ dx) (v -ℤ dy) x y)
 
 -- a live pattern moved by two vectors shows the same by one vector alone
-one_vector : (p : Picture) (dx dy u v : ℤ) → IsLive p → IsSame (shifted p dx dy) (shifted p u v) → (dx ≡ u) × (dy ≡ v)
+pub one_vector : (p : Picture) (dx dy u v : ℤ) → IsLive p → IsSame (shifted p dx dy) (shifted p u v) → (dx ≡ u) × (dy ≡ v)
 one_vector p dx dy u v live same =
     let none = no_vector p (u -ℤ dx) (v -ℤ dy) live (by_difference p dx dy u v same) in
     (omega (arith, ints, none.0), omega (arith, ints, none.1))

@@ -18,7 +18,7 @@ use Rattle.ca_claims.proofs.WrittenMeanings.{tidy_shown}
 
 -- a text that is tidy for a picture is so for one that shows the same
 module _ (p q : Picture) (same : IsSame p q) where
-  box_shown : (box : Bounds) → IsLeastBox p box → IsLeastBox q box
+  pub box_shown : (box : Bounds) → IsLeastBox p box → IsLeastBox q box
   box_shown box least = record {
     all = λ x y live. least.all x y (λ e. live (sym (same x y) ∙ e));
     left = (least.left.0, λ e. least.left.1 (same box.x0 least.left.0 ∙ e));
@@ -31,7 +31,7 @@ module _ (p q : Picture) (same : IsSame p q) where
   frame_shown corner width height (inl dead) = inl (λ live. dead.0 (live.0, live.1, λ e. live.2 (sym (same live.0 live.1) ∙ e)), dead.1, dead.2, dead.3)
   frame_shown corner width height (inr (box, least, at, wide, high)) = inr (box, box_shown box least, at, wide, high)
 
-  tidy_as : (format : Format) (text rule_text : List ℕ) (generation states : ℕ) → IsTidyAs format text p rule_text generation states → IsTidyAs format text q rule_text generation states
+  pub tidy_as : (format : Format) (text rule_text : List ℕ) (generation states : ℕ) → IsTidyAs format text p rule_text generation states → IsTidyAs format text q rule_text generation states
   tidy_as Rle text rule_text generation states tidy = record {
     corner = tidy.corner;
     width = tidy.width;
@@ -54,7 +54,7 @@ bounds_shown p q same None none some = λ live. none.0 refl (live.0, live.1, λ 
 bounds_shown p q same (Some box) none some = box_shown p q same box some
 
 -- a picture has one tidy text in each format
-one_tidy_as : (format : Format) (t u : List ℕ) (p : Picture) (rule_text : List ℕ) (generation states : ℕ) → IsTidyAs format t p rule_text generation states
+pub one_tidy_as : (format : Format) (t u : List ℕ) (p : Picture) (rule_text : List ℕ) (generation states : ℕ) → IsTidyAs format t p rule_text generation states
     → IsTidyAs format u p rule_text generation states → t ≡ u
 one_tidy_as Rle t u p rule_text generation states one two = rle_tidy.one_tidy t u p rule_text generation states one two
 one_tidy_as Mc t u p rule_text generation states one two = macrocell_tidy.one_tidy t u (cell p) rule_text generation states one two

@@ -15,6 +15,7 @@ mod format;
 mod glance;
 mod identification;
 mod identity;
+pub mod identity_laws;
 mod judge;
 mod laws;
 mod limits;
