@@ -49,3 +49,4 @@ pub mod RuleLines
 pub mod ReachedFiles
 pub mod IdentifiedFiles
 pub mod OneIdentity
+pub mod OneRun

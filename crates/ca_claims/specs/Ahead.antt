@@ -103,3 +103,10 @@ IsConvertFaultAfter bytes tables n work target (Convert TooManyCells) = (target 
 IsConvertFaultAfter bytes tables n work target Range = (cells : Picture) × (rule : RuleValue) × (generation : ℕ)
     × HoldsSmallRuledPattern bytes tables cells rule generation × (generation + n < generation_limit) × HasCellOutOfRange (after (next_of rule) cells n)
 IsConvertFaultAfter bytes tables n work target fault = IsReachFault bytes tables n work fault
+
+-- two planes that are reached are the same: of one format, under one rule, of one generation, and of the same cells at every x and y
+pub record IsSameReached (one two : Reached) : Type 0 where
+  pub kind : one.kind ≡ two.kind
+  pub rule : rule_value one.rule ≡ rule_value two.rule
+  pub generation : one.generation ≡ two.generation
+  pub cells : (x y : ℤ) → trees.cell one.store one.tree x y ≡ trees.cell two.store two.tree x y

@@ -3,6 +3,7 @@
 #![tactic(auto)]
 
 mod ahead;
+pub mod ahead_laws;
 mod cells;
 mod claims;
 mod conversion;
