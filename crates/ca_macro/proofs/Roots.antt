@@ -60,6 +60,10 @@ least_as states level p q same h = record {
   least = λ other a f. h.least other a (fits_as other q p (λ x y. sym (same x y)) f);
 }
 
+pub least_as_ok : (states : ℕ) (p q : ℤ → ℤ → ℕ) → ((x y : ℤ) → p x y ≡ q x y) → {E : Type 0} (r : Result Tree E) → IfOk r (λ t. IsLeastLevel states p t.level) → IfOk r (λ t. IsLeastLevel states q t.level)
+least_as_ok states p q same (Ok t) h = least_as states t.level p q same h
+least_as_ok states p q same (Err f) h = tt
+
 lowest_some : (states : ℕ) → 1 ≤ lowest_level states
 lowest_some states = elim (cases_Bool (states == 2)) [ inl e ↦ rw e (omega arith) | inr e ↦ rw e (omega arith) ]
 

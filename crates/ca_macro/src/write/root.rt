@@ -2,7 +2,7 @@
 
 ghost use Rattle.std.specs.Prelude.{◌≡◌, ◌<◌, ◌≤◌, ℤ, IfOk};
 ghost use Rattle.ca_quad.specs.Sound.{Grows};
-ghost use Rattle.ca_quad.specs.Trees.{IsTree, cell};
+ghost use Rattle.ca_quad.specs.Trees.{IsTree, cell, IsTrimmed};
 ghost use Rattle.ca_macro.specs.Tidy.{lowest_level, IsLeastLevel};
 
 use ca_plane::Memory;
@@ -36,6 +36,18 @@ fn pad_to(store: &mut Store, tree: Tree, least: u8) -> Result<Tree, Memory>
     pad_to(store, larger, least)
 }
 
+/// The same for a tree of the smallest level that shows its cells.
+fn padded_root(store: &mut Store, least: Tree, states: u16) -> Result<Tree, Memory>
+    requires tree { IsTree store.old least }
+    requires trimmed { IsTrimmed store.old least }
+    ensures tree { IfOk result (IsTree store.new) }
+    ensures cells { IfOk result (λ t. (x y : ℤ) → cell store.new t x y ≡ cell store.old least x y) }
+    ensures level { IfOk result (λ t. IsLeastLevel states (cell store.old least) t.level) }
+    ensures grows { Grows store.old store.new }
+{
+    pad_to(store, least, lowest_level(states))
+}
+
 /// The tree of the smallest level that the root of a tidy text may have.
 pub(super) fn root_of(store: &mut Store, tree: Tree, states: u16) -> Result<Tree, Memory>
     requires tree { IsTree store.old tree }
@@ -45,5 +57,5 @@ pub(super) fn root_of(store: &mut Store, tree: Tree, states: u16) -> Result<Tree
     ensures grows { Grows store.old store.new }
 {
     let least = store.trim(tree)?;
-    pad_to(store, least, lowest_level(states))
+    padded_root(store, least, states)
 }
