@@ -1,5 +1,5 @@
 -- Bits that are 0 tell that slots don't fit.
-use Rattle.std.proofs.Common.{◌≡◌, ◌≢◌, ◌<◌, ◌≤◌, ◌+◌, ◌-◌, ◌*◌, ◌^◌, ◌%◌, ◌==◌, ℕ, zero, suc, List, [], ◌∷◌, Bool, true, false, ◌&&◌, map, zip, drop, slice_index, refl, ap, sym, ◌∙◌, None, length, get_or, subst, inl, inr, arith, bit_and, bit_or, nat_lt, eq-eqb}
+use Rattle.std.proofs.Common.{◌≡◌, ◌≢◌, ◌<◌, ◌≤◌, ◌+◌, ◌-◌, ◌*◌, ◌^◌, ◌%◌, ◌==◌, ℕ, zero, suc, List, [], ◌∷◌, Bool, true, false, ◌&&◌, map, zip, drop, slice_index, refl, ap, sym, ◌∙◌, None, length, get_or, subst, inl, inr, arith, bit_and, bit_or, nat_lt, eq-eqb, cond}
 use Rattle.std.specs.Int.{bit_at}
 use Rattle.std.specs.List.{list_all}
 use Rattle.std.proofs.Math.Pow.{pow-lt}
@@ -109,7 +109,7 @@ uncentred-first variables nine ps [] all none = refl
 uncentred-first variables nine ps (t ∷ ts) all none = outcome-uncentred variables nine t ps all (not-first variables (slice_index nine 4) t.inputs none)
 
 -- one more transition, with its bit set where its slot admits the state
-pub bit-set : (variables : List States) (ts : List Transition) (slot state bits at : ℕ) → at < 64 → TellsBefore variables ts slot state bits at
+bit-set : (variables : List States) (ts : List Transition) (slot state bits at : ℕ) → at < 64 → TellsBefore variables ts slot state bits at
     → TellsBefore variables ts slot state (bit_or bits (1 * 2 ^ at % 2 ^ 64)) (at + 1)
 bit-set variables ts slot state bits at few told = λ k small there zeros.
     elim (cases_Bool (k == at)) [
@@ -126,7 +126,7 @@ bit-set variables ts slot state bits at few told = λ k small there zeros.
     one-times n = omega arith
 
 -- and with its bit not set where it doesn't
-pub bit-left : (variables : List States) (ts left later : List Transition) (t : Transition) (slot state bits at : ℕ) → left ≡ drop at ts → left ≡ t ∷ later
+bit-left : (variables : List States) (ts left later : List Transition) (t : Transition) (slot state bits at : ℕ) → left ≡ drop at ts → left ≡ t ∷ later
     → slots_admit variables state (drop slot t.inputs) ≡ false → TellsBefore variables ts slot state bits at → TellsBefore variables ts slot state bits (at + 1)
 bit-left variables ts left later t slot state bits at from first none told = λ k small there zeros.
     elim (cases_Bool (k == at)) [
@@ -134,6 +134,15 @@ bit-left variables ts left later t slot state bits at from first none told = λ 
           ap (λ n. slots_admit variables state (drop slot (inputs_at ts n))) same ∙ ap (λ l. slots_admit variables state (drop slot (first_inputs l))) (sym from ∙ first) ∙ none
       | inr e ↦ let apart : k ≢ at = λ s. false≢true (sym e ∙ eq-eqb k at s) in told k (omega (arith, small, apart)) there zeros
     ]
+
+-- so its bit tells of it
+pub bit-told : (variables : List States) (ts left later : List Transition) (t : Transition) (slot state bits at : ℕ) (is_one : Bool) (bit : ℕ) → at < 64 → left ≡ drop at ts → left ≡ t ∷ later
+    → is_one ≡ slots_admit variables state (drop slot t.inputs) → bit ≡ cond is_one (1 * 2 ^ at % 2 ^ 64) 0
+    → TellsBefore variables ts slot state bits at → TellsBefore variables ts slot state (bit_or bits bit) (at + 1)
+bit-told variables ts left later t slot state bits at true bit few from first admits one told =
+    subst (λ b. TellsBefore variables ts slot state (bit_or bits b) (at + 1)) (sym one) (bit-set variables ts slot state bits at few told)
+bit-told variables ts left later t slot state bits at false bit few from first admits one told = λ k small there zeros.
+    bit-left variables ts left later t slot state bits at from first (sym admits) told k small there (first-bit bits bit k zeros)
 
 -- where none are left, there are no more transitions
 pub none-more : (ts left : List Transition) (at : ℕ) → left ≡ drop at ts → length left ≡ 0 → length ts ≤ at

@@ -1,6 +1,7 @@
 //! Sieves of transitions: bits that tell at once which of many transitions can't fit.
 
-ghost use Rattle.std.specs.Prelude.{◌≡◌, ◌<◌, ◌≤◌, ℕ, List, length, false, IfOk, map, zip, slice_index};
+ghost use Rattle.std.specs.Prelude.{◌≡◌, ◌<◌, ◌≤◌, ◌*◌, ◌%◌, ◌^◌, ℕ, List, length, false, cond, IfOk, map, zip};
+ghost use Rattle.std.specs.Prelude.{slice_index};
 ghost use Rattle.std.specs.List.{list_all};
 ghost use Rattle.std.specs.Int.{bit_at};
 ghost use Rattle.ca_rule.specs.TableNext.{States, SlotCell, Transition as TransitionValue, admits};
@@ -179,10 +180,16 @@ fn bits_of(variables: &[StateSet], transitions: &[Transition], slot: usize, stat
         let Some((transition, later)) = left.split_first() else {
             return bits;
         };
-        if transition.slot_admits(variables, slot, state) {
-            bits |= 1 << at;
-        }
+        bits |= bit_where(transition.slot_admits(variables, slot, state), at);
         left = later;
     }
     bits
+}
+
+/// The bit with this number where it is to be 1, and else none.
+fn bit_where(is_one: bool, at: u8) -> u64
+    requires { at < 64 }
+    ensures { result ≡ cond is_one (1 * 2 ^ at % 2 ^ 64) 0 }
+{
+    if is_one { 1 << at } else { 0 }
 }
