@@ -1,11 +1,12 @@
 -- What is drawn of a file, and why nothing is.
-use Rattle.std.proofs.Common.{◌≡◌, ◌≢◌, ℕ, ℤ, List, None, inl, inr, refl, subst, sym, ◌∙◌}
+use Rattle.std.proofs.Common.{◌≡◌, ◌≢◌, ℕ, ◌+◌, ◌<◌, ℤ, List, None, inl, inr, refl, subst, sym, ◌∙◌, arith}
 use Rattle.ca_quad.specs.declared.tree.WideBounds.{WideBounds}
 use Rattle.ca_quad.specs.Boxes.{IsLeastWideBox}
 use Rattle.ca_quad.specs.Trees.{cell}
 use Rattle.ca_rule.specs.TableNext.{TableRule}
 use Rattle.ca_rule.specs.Rule.{rule_value, states_of, next_of}
 use Rattle.ca_plane.specs.Generations.{after}
+use Rattle.ca_plane.specs.Limits.{generation_limit}
 use Rattle.ca_draw.proofs.SameCells.{same_drawing}
 use Rattle.ca_claims.specs.declared.reached.Reached.{Reached}
 use Rattle.ca_claims.specs.Ahead.{IsReached}
@@ -34,7 +35,7 @@ module _ (one other : ℤ → ℤ → ℕ) (same : (x y : ℤ) → one x y ≡ o
     bottom = (h.bottom.0, live h.bottom.0 box.y1 h.bottom.1);
   }
 
-  box_shown : (box : WideBounds) → IsBoxShown one box → IsBoxShown other box
+  pub box_shown : (box : WideBounds) → IsBoxShown one box → IsBoxShown other box
   box_shown box (inl h) = inl (least_box box h)
   box_shown box (inr h) = inr ((λ x y. sym (same x y) ∙ h.0 x y), h.1)
 
@@ -54,6 +55,10 @@ module _ (one other : ℤ → ℤ → ℕ) (same : (x y : ℤ) → one x y ≡ o
 
 -- ---- planes that are reached
 
+-- their generation is the sum of those of the file and of the run
+reached_low : (begun generation n : ℕ) → generation ≡ begun + n → generation < generation_limit → begun + n < generation_limit
+reached_low begun generation n added low = omega (arith, added, low)
+
 -- the picture of their tree is what is drawn
 pub drawn_of : (bytes : List ℕ) (tables : List TableRule) (request : DrawRequest) (reached : Reached) (states : ℕ) (text : List ℕ) → IsReached bytes tables request.generations reached
     → states ≡ states_of (rule_value reached.rule) → IsPictureOf request states (cell reached.store reached.tree) text → IsDrawn bytes tables request text
@@ -62,6 +67,7 @@ drawn_of bytes tables request reached states text h same pictured = record {
   rule = rule_value reached.rule;
   generation = h.begun;
   begins = h.begins;
+  low = reached_low h.begun reached.generation request.generations h.added h.low;
   holds = picture_too (cell reached.store reached.tree) (after (next_of (rule_value reached.rule)) h.cells request.generations) h.shows request (states_of (rule_value reached.rule)) text
       (subst (λ n. IsPictureOf request n (cell reached.store reached.tree) text) same pictured);
 }
@@ -74,6 +80,7 @@ undrawn_of bytes tables request reached (Window f) h none = record {
   rule = rule_value reached.rule;
   generation = h.begun;
   begins = h.begins;
+  low = reached_low h.begun reached.generation request.generations h.added h.low;
   holds = no_window_too (cell reached.store reached.tree) (after (next_of (rule_value reached.rule)) h.cells request.generations) h.shows request f none;
 }
 undrawn_of bytes tables request reached Memory h none = wanted bytes h.begins.holds.holds.readable

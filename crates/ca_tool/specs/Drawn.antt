@@ -1,7 +1,8 @@
 -- What is drawn of a pattern file, and why nothing is.
-use Rattle.std.specs.Prelude.{◌≡◌, ℕ, ℤ, List}
+use Rattle.std.specs.Prelude.{◌≡◌, ℕ, ◌+◌, ◌<◌, ℤ, List}
 use Rattle.ca_plane.specs.Plane.{Picture}
 use Rattle.ca_plane.specs.Generations.{after}
+use Rattle.ca_plane.specs.Limits.{generation_limit}
 use Rattle.ca_quad.specs.declared.tree.WideBounds.{WideBounds}
 use Rattle.ca_rule.specs.TableNext.{TableRule}
 use Rattle.ca_rule.specs.Rule.{RuleValue, next_of, states_of}
@@ -27,13 +28,15 @@ pub record IsPictureOf (request : DrawRequest) (states : ℕ) (cells : ℤ → �
 abbrev pub HasNoWindow : DrawRequest → (ℤ → ℤ → ℕ) → WindowFault → Type 0
 HasNoWindow request cells fault = (box : WideBounds) × IsBoxShown cells box × IsNoWindowFor request.view request.format box fault
 
--- this holds of the cells that a file's pattern has so many generations on, at every x and y, and of its rule's number of states
+-- this holds of the cells that a file's pattern has so many generations on, at every x and y, and of its rule's number of states; the generation
+-- is then below the limit
 pub record HoldsOfLater (bytes : List ℕ) (tables : List TableRule) (n : ℕ)
     (Holds : ℕ → (ℤ → ℤ → ℕ) → Type 0) : Type 0 where
   pub cells : Picture
   pub rule : RuleValue
   pub generation : ℕ
   pub begins : HoldsSmallRuledPattern bytes tables cells rule generation
+  pub low : generation + n < generation_limit
   pub holds : Holds (states_of rule) (after (next_of rule) cells n)
 
 -- the text is what is drawn of a file with these bytes: a picture of its cells after the generations that are asked for
