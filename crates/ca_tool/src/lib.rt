@@ -5,6 +5,7 @@ mod ahead_run;
 mod catalog;
 mod complaint;
 mod drawing;
+pub mod drawing_laws;
 mod entry;
 mod entry_lines;
 mod explanation;
