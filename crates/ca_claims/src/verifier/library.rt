@@ -1,6 +1,7 @@
 //! The patterns that were last read, for later claims on the same files.
 
-ghost use Rattle.std.specs.Prelude.{◌≡◌, ◌↔◌, [], Some, IsTrue, IfSome, MatchResult, slice_get};
+ghost use Rattle.std.specs.Prelude.{◌≡◌, ◌≤◌, ◌<◌, ◌↔◌, [], length, Some, IsTrue, IfSome, MatchResult};
+ghost use Rattle.std.specs.Prelude.{slice_get};
 ghost use Rattle.ca_quad.specs.Sound.{Grows};
 ghost use Rattle.ca_claims.specs.inner.Patterns.{IsReadFrom, IsUnread};
 
@@ -18,6 +19,7 @@ const ROOM: usize = 2;
 pub(crate) struct Library<'a> {
     is_open: bool,
     kept: Vec<KeptPattern<'a>>,
+    ghost few: { length kept.items ≤ 2 },
 }
 
 /// The bytes of a file, and the pattern that was read from them, in a store of its own.
@@ -92,7 +94,8 @@ impl<'a> Library<'a> {
     /// The pattern of a file's bytes: taken out where it is kept, and else read. For a new one the longest
     /// unused one goes first, so that there are never more than are kept.
     fn take(&mut self, alloc: Global, bytes: &'a [u8]) -> Result<KeptPattern<'a>, BadPattern>
-        ensures { MatchResult result (λ kept. kept ≡ bytes.now) (IsUnread bytes.now) }
+        ensures taken { MatchResult result (λ kept. kept ≡ bytes.now) (IsUnread bytes.now) }
+        ensures room { length self.new.kept.items < 2 }
     {
         if let Some(place) = self.index_of(bytes) {
             return Ok(self.kept.remove(place));
