@@ -1,5 +1,5 @@
 -- After how many generations a live pattern is dead, found between a time at which it lives and one at which it is dead.
-use Rattle.std.proofs.Common.{◌≡◌, ℕ, ◌+◌, ◌-◌, ◌/◌, ◌≤◌, ◌<◌, List, [], sym, ap, subst, ◌∙◌, arith}
+use Rattle.std.proofs.Common.{◌≡◌, ℕ, ◌-◌, ◌≤◌, ◌<◌, List, [], sym, ap, subst, ◌∙◌, arith}
 use Rattle.std.specs.Prelude.{ℤ, replicate}
 use Rattle.ca_plane.specs.Plane.{Picture}
 use Rattle.ca_plane.specs.Generations.{after, IsAfter}
@@ -23,30 +23,30 @@ module _ (next : List ℕ → ℕ) (nodes : List Node) (case : Case) where
     live = λ k less. live_at_all next cells quiet k low (let order = bounds.order in omega (arith, close, less, order)) (bounds.holds cells shows empty).0;
   }
 
--- ---- a time that is tried, half-way between
+-- ---- a time between that is tried
 
 module _ {R : Type 0} (next_of : R → List ℕ → ℕ) (rule later : R) (same : later ≡ rule) (s0 s1 s2 s : List Node) (case : Case) (sound : IsSoundStore s0) (grows : Grows s0 s1) (kept : s ≡ s2)
-    (bars : BarsDeath s0 case) (low high : ℕ) (bounds : AreLifeBounds (next_of rule) s0 case low high) (apart : 1 < high - low) (end : Tree)
-    (is : IsEndTree (next_of later) s1 case.subject.pattern (low + (high - low) / 2) s2 end) where
-  ends : (cells : Picture) → ShowsTree s0 case.subject.pattern cells → (x y : ℤ) → after (next_of rule) cells (low + (high - low) / 2) x y ≡ cell s end x y
+    (bars : BarsDeath s0 case) (low high : ℕ) (bounds : AreLifeBounds (next_of rule) s0 case low high) (middle : ℕ) (above : low < middle) (below : middle < high) (end : Tree)
+    (is : IsEndTree (next_of later) s1 case.subject.pattern middle s2 end) where
+  ends : (cells : Picture) → ShowsTree s0 case.subject.pattern cells → (x y : ℤ) → after (next_of rule) cells middle x y ≡ cell s end x y
   ends cells shows x y =
       let later_shows = shows_stays s0 s1 sound grows case.subject.pattern cells bars.subject.pattern.is_tree shows in
-      shows_after (next_of rule) s1 s2 case.subject.pattern end (low + (high - low) / 2) cells
-      (subst (λ r. IsEndTree (next_of r) s1 case.subject.pattern (low + (high - low) / 2) s2 end) same is) later_shows x y
+      shows_after (next_of rule) s1 s2 case.subject.pattern end middle cells
+      (subst (λ r. IsEndTree (next_of r) s1 case.subject.pattern middle s2 end) same is) later_shows x y
       ∙ ap (λ nodes. cell nodes end x y) (sym kept)
 
   -- it's dead by then,
-  pub dead_by_middle : IsDead (cell s end) → AreLifeBounds (next_of rule) s0 case low (low + (high - low) / 2)
+  pub dead_by_middle : IsDead (cell s end) → AreLifeBounds (next_of rule) s0 case low middle
   dead_by_middle dead = record {
-    order = omega (arith, apart);
-    within = let within = bounds.within in omega (arith, apart, within);
+    order = above;
+    within = let within = bounds.within in omega (arith, below, within);
     holds = λ cells shows empty. ((bounds.holds cells shows empty).0, λ x y. ends cells shows x y ∙ dead x y);
   }
 
   -- or lives still
-  pub lives_at_middle : HasLive (cell s end) → AreLifeBounds (next_of rule) s0 case (low + (high - low) / 2) high
+  pub lives_at_middle : HasLive (cell s end) → AreLifeBounds (next_of rule) s0 case middle high
   lives_at_middle live = record {
-    order = omega (arith, apart);
+    order = below;
     within = bounds.within;
     holds = λ cells shows empty. ((live.0, live.1, λ z. live.2 (sym (ends cells shows live.0 live.1) ∙ z)), (bounds.holds cells shows empty).1);
   }

@@ -1,6 +1,7 @@
 -- How what calls take of a leaper's work adds up.
-use Rattle.std.proofs.Common.{◌≡◌, ◌≢◌, ℕ, ◌+◌, ◌-◌, ◌*◌, ◌<◌, ◌≤◌, ◌^◌, List, refl, sym, ap, arith}
-use Rattle.std.proofs.Math.Nat.{mul-le-mul_left, mul-le-mul_right}
+use Rattle.std.proofs.Common.{◌≡◌, ◌≢◌, ℕ, zero, suc, ◌+◌, ◌-◌, ◌*◌, ◌<◌, ◌≤◌, ◌^◌, List, refl, sym, ap, arith}
+use Rattle.std.proofs.Math.Nat.{mul-le-mul_left, mul-le-mul_right, two-pow-succ}
+use Rattle.ca_plane.specs.Limits.{most_generations}
 use Rattle.ca_plane.specs.Plane.{Picture, cell}
 use Rattle.ca_quad.specs.declared.node.Node.{Node}
 use Rattle.ca_quad.specs.declared.tree.Tree.{Tree}
@@ -12,7 +13,7 @@ use Rattle.ca_claims.specs.declared.claims.asks.Barred.{Barred}
 use Rattle.ca_claims.specs.declared.claims.asks.Barred.TheVariants.{Nothing, InPlace, Anywhere, EmptyPlane}
 use Rattle.ca_claims.specs.Limited.{most_runs, IsNoMoreThan, MayBeUsedUp}
 use Rattle.ca_claims.specs.inner.Subjects.{ShowsTree}
-use Rattle.ca_claims.specs.inner.Spending.{Takes}
+use Rattle.ca_claims.specs.inner.Spending.{Takes, TakesHalves, most_halvings}
 use Rattle.ca_claims.proofs.CellsNearMiddle.{trimmed_low}
 
 -- one run
@@ -57,6 +58,28 @@ takes_before old mid new runs level n same takes d less =
     let most = takes d less in
     omega (arith, used, most)
 
+-- a death is looked for among at most 2^60 generations, and nothing is taken yet
+pub halves_none : (old left level n : ℕ) → left ≤ most_generations → TakesHalves old old left level n
+halves_none old left level n few = record { halvings = most_halvings; few = omega arith; near = few; takes = λ d less. omega arith }
+
+-- it's looked for in half of them, after a run more
+halves_on : (old mid new left half level n halvings : ℕ) → halvings ≤ most_halvings → left ≤ 2 ^ halvings → 1 < left → half + half ≤ left + 1 → Takes old mid (most_halvings - halvings) level n → Takes mid new 1 level n → TakesHalves old new half level n
+halves_on old mid new left half level n zero few near some halved before now = absurd (omega (arith, near, some))
+halves_on old mid new left half level n (suc halvings) few near some halved before now = record {
+  halvings = halvings;
+  few = omega (arith, few);
+  near = omega (arith, two-pow-succ halvings, near, halved);
+  takes = takes_then old mid new (most_halvings - halvings) level n (most_halvings - suc halvings) 1 (omega (arith, few)) before now;
+}
+
+pub takes_half : (old mid new left half level n m : ℕ) → 1 < left → half + half ≤ left + 1 → m ≤ n → TakesHalves old mid left level n → Takes mid new 1 level m → TakesHalves old new half level n
+takes_half old mid new left half level n m some halved sooner before now =
+    halves_on old mid new left half level n before.halvings before.few before.near some halved before.takes (λ d less. now d (omega (arith, sooner, less)))
+
+-- it never takes more runs than halvings
+pub halves_all : (old new left level n : ℕ) → TakesHalves old new left level n → Takes old new most_halvings level n
+halves_all old new left level n takes = takes_fewer old new (most_halvings - takes.halvings) most_halvings level n (omega arith) takes.takes
+
 -- what is no more than a tree may need is no more than a larger one may
 larger : (work : ℕ) (asks : Asks) (low level : ℕ) → low ≤ level → IsNoMoreThan work asks low → IsNoMoreThan work asks level
 larger work asks low level more most d less =
@@ -76,11 +99,11 @@ pub some_runs : (barred : Barred) (n : ℕ) → (barred ≢ Nothing → 1 ≤ n)
 some_runs Nothing n some = omega arith
 some_runs InPlace n some = some (λ e. cc)
 some_runs Anywhere n some = some (λ e. cc)
-some_runs EmptyPlane n some = some (λ e. cc)
+some_runs EmptyPlane n some = omega arith
 
--- and where something is barred, one and one for each earlier time
-pub all_runs : (barred : Barred) (n : ℕ) → barred ≢ Nothing → (barred ≢ Nothing → 1 ≤ n) → 1 + (n - 1) ≤ most_runs barred n
-all_runs Nothing n other some = absurd (other refl)
-all_runs InPlace n other some = let least = some other in omega (arith, least)
-all_runs Anywhere n other some = let least = some other in omega (arith, least)
-all_runs EmptyPlane n other some = let least = some other in omega (arith, least)
+-- and where a return is barred, one and one for each earlier time
+pub all_runs : (barred : Barred) (n : ℕ) → barred ≢ Nothing → barred ≢ EmptyPlane → (barred ≢ Nothing → 1 ≤ n) → 1 + (n - 1) ≤ most_runs barred n
+all_runs Nothing n other lives some = absurd (other refl)
+all_runs InPlace n other lives some = let least = some other in omega (arith, least)
+all_runs Anywhere n other lives some = let least = some other in omega (arith, least)
+all_runs EmptyPlane n other lives some = absurd (lives refl)

@@ -1,6 +1,17 @@
 -- What the judgement of a claim takes of a leaper's work (our own).
-use Rattle.std.specs.Prelude.{ℕ, ◌+◌, ◌*◌, ◌<◌, ◌≤◌, ◌^◌}
+use Rattle.std.specs.Prelude.{ℕ, ◌+◌, ◌-◌, ◌*◌, ◌<◌, ◌≤◌, ◌^◌}
 
 -- from the old count of work to the new one it is at most so many runs of a tree of this level, each of at most n generations
 abbrev pub Takes : (old new : ℕ) → (runs level n : ℕ) → Type 0
 Takes old new runs level n = (digits : ℕ) → n < 2 ^ digits → new ≤ old + runs * 14 ^ (level + digits + 2)
+
+-- after so many halvings nothing is between two times that are at most 2^60 generations apart
+abbrev pub most_halvings : ℕ
+most_halvings = 60
+
+-- so many generations are left in which a death is looked for, which halve so often at most; each halving before took a run
+pub record TakesHalves (old new : ℕ) (left level n : ℕ) : Type 0 where
+  pub halvings : ℕ
+  pub few : halvings ≤ most_halvings
+  pub near : left ≤ 2 ^ halvings
+  pub takes : Takes old new (most_halvings - halvings) level n

@@ -1,11 +1,11 @@
 //! When a pattern is dead before a claim's generations are over.
 
-ghost use Rattle.std.specs.Prelude.{◌-◌, ◌≤◌, [], IfOk, MatchOption};
+ghost use Rattle.std.specs.Prelude.{◌≡◌, ◌+◌, ◌/◌, ◌≤◌, [], IfOk, MatchOption};
 ghost use Rattle.ca_plane.specs.Plane.{Picture};
 ghost use Rattle.ca_plane.specs.Generations.{IsAfter};
 ghost use Rattle.ca_claims.specs.declared.claims.asks.Barred.TheVariants.{EmptyPlane};
 ghost use Rattle.ca_run.specs.Leaping.{LeaperGrows, EndsAtLimit};
-ghost use Rattle.ca_claims.specs.inner.Spending.{Takes};
+ghost use Rattle.ca_claims.specs.inner.Spending.{Takes, most_halvings};
 ghost use Rattle.ca_claims.specs.inner.Returns.{IsSparedBefore, IsFirstDeath, IsLifeSpan};
 ghost use Rattle.ca_claims.specs.inner.Subjects.{ShowsTree, BarsDeath};
 
@@ -28,8 +28,8 @@ pub(super) fn first_death<A: Automaton, O: Observer>(
         (IsSparedBefore (A.next_of leaper.old.rule) cells EmptyPlane case.now.asks.generations)
         (IsFirstDeath (A.next_of leaper.old.rule) cells case.now.asks.generations)) }
     ensures goes_on { LeaperGrows A leaper.old leaper.new }
-    ensures takes { Takes leaper.old.spent.used leaper.new.spent.used
-        (case.now.asks.generations - 1) case.now.subject.pattern.level case.now.asks.generations }
+    ensures takes { Takes leaper.old.spent.used leaper.new.spent.used most_halvings
+        case.now.subject.pattern.level case.now.asks.generations }
     ensures work { EndsAtLimit leaper.new.spent result }
 {
     let m = life_span(leaper, case, observer)?;
@@ -53,8 +53,8 @@ fn life_span<A: Automaton, O: Observer>(
         → IsAfter (A.next_of leaper.old.rule) cells case.now.asks.generations []
         → IfOk result (IsLifeSpan (A.next_of leaper.old.rule) cells) }
     ensures goes_on { LeaperGrows A leaper.old leaper.new }
-    ensures takes { Takes leaper.old.spent.used leaper.new.spent.used
-        (case.now.asks.generations - 1) case.now.subject.pattern.level case.now.asks.generations }
+    ensures takes { Takes leaper.old.spent.used leaper.new.spent.used most_halvings
+        case.now.subject.pattern.level case.now.asks.generations }
     ensures work { EndsAtLimit leaper.new.spent result }
 {
     // Says what holds of every leaper.
@@ -62,7 +62,7 @@ fn life_span<A: Automaton, O: Observer>(
     let mut low: u64 = 0;
     let mut high = case.asks.generations;
     'halves: while high - low > 1 {
-        let middle = low + (high - low) / 2;
+        let middle = half_way(low, high);
         let plane = tree_after(leaper, &case.subject.pattern, middle, observer)?;
         if is_dead(leaper.store(), &plane) {
             high = middle;
@@ -71,4 +71,12 @@ fn life_span<A: Automaton, O: Observer>(
         }
     }
     Ok(high)
+}
+
+// The time half-way between two, or half a generation before it.
+fn half_way(low: u64, high: u64) -> u64
+    requires { low ≤ high }
+    ensures { result ≡ (low + high) / 2 }
+{
+    low + (high - low) / 2
 }

@@ -51,5 +51,5 @@ returns-in-Some-clause-takes g c =
 pub returns-in_default-barred-clause-takes : goal.returns-in_default-barred-clause-takes
 returns-in_default-barred-clause-takes g c =
     let asks = c.args.case.now.asks in
-    takes_then _ _ _ _ c.args.case.now.subject.pattern.level asks.generations 1 (asks.generations - 1) (all_runs asks.barred asks.generations c.in_default-barred.not-Nothing c.requires.bounded.some)
+    takes_then _ _ _ _ c.args.case.now.subject.pattern.level asks.generations 1 (asks.generations - 1) (all_runs asks.barred asks.generations c.in_default-barred.not-Nothing c.in_default-barred.not-EmptyPlane c.requires.bounded.some)
     c.find_wrong_cell.ensures.takes c.first_return.ensures.takes

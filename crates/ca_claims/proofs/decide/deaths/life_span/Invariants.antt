@@ -1,6 +1,6 @@
 use Rattle.std.proofs.Common.{◌-◌}
 use Rattle.ca_run.specs.Leaping.{LeaperGrows}
-use Rattle.ca_claims.specs.inner.Spending.{Takes}
+use Rattle.ca_claims.specs.inner.Spending.{TakesHalves}
 use Rattle.ca_claims.specs.inner.Subjects.{AreLifeBounds}
 use Rattle.ca_claims.proofs.decide.deaths.life_span.Given as goal
 
@@ -9,7 +9,7 @@ abbrev pub invariant-halves : goal.invariant-halves
 invariant-halves g l = record {
   goes_on : LeaperGrows _ l.fn.leaper l.leaper;
   bounds : AreLifeBounds (g.A.Automaton.next_of l.fn.leaper.rule) l.fn.leaper.nodes l.fn.case l.low l.high;
-  takes : Takes l.fn.leaper.spent.used l.leaper.spent.used (l.fn.case.asks.generations - (l.high - l.low)) l.fn.case.subject.pattern.level l.fn.case.asks.generations;
+  takes : TakesHalves l.fn.leaper.spent.used l.leaper.spent.used (l.high - l.low) l.fn.case.subject.pattern.level l.fn.case.asks.generations;
 }
 
 abbrev pub decreases-halves : goal.decreases-halves
