@@ -1,6 +1,6 @@
-//! Laws of what patterns are found to be, which no call needs to run: within a limit one identity at most holds
-//! of a pattern; and of a file's, out of work and memory apart, one identity or one cause for which it isn't
-//! found out.
+//! Laws of what patterns are found to be, which no call needs to run: within a limit one identity at most
+//! holds of a pattern; and of a file's, out of work and memory apart, one identity or one cause for which it
+//! isn't found out.
 
 ghost use Rattle.std.specs.Prelude.{◌≡◌, ◌≢◌, ℕ, List};
 ghost use Rattle.ca_plane.specs.Plane.{Picture};
@@ -26,8 +26,8 @@ pub fn one_identity()
 pub fn one_kind_of_identification()
     ensures one_identity { (bytes : List ℕ) (tables : List TableRule) (limit : ℕ) (one two : Identity)
         → IsIdentified bytes tables limit one → IsIdentified bytes tables limit two → one ≡ two }
-    ensures identity_or_cause { (bytes : List ℕ) (tables : List TableRule) (work limit : ℕ) (identity : Identity)
-        (refused : DetailedFault Cause) → refused.fault ≢ Memory → refused.fault ≢ Work
+    ensures identity_or_cause { (bytes : List ℕ) (tables : List TableRule) (work limit : ℕ)
+        (identity : Identity) (refused : DetailedFault Cause) → refused.fault ≢ Memory → refused.fault ≢ Work
         → IsIdentified bytes tables limit identity → IsUnidentified bytes tables work limit refused → ⊥ }
     ensures one_cause { (bytes : List ℕ) (tables : List TableRule) (work limit : ℕ)
         (one two : DetailedFault Cause) → one.fault ≢ Memory → one.fault ≢ Work → two.fault ≢ Memory
@@ -39,7 +39,8 @@ pub fn one_kind_of_identification()
 /// The same of the plane of its pattern some generations on.
 pub fn one_kind_of_later_identification()
     ensures one_identity { (bytes : List ℕ) (tables : List TableRule) (n limit : ℕ) (one two : Identity)
-        → IsIdentifiedAfter bytes tables n limit one → IsIdentifiedAfter bytes tables n limit two → one ≡ two }
+        → IsIdentifiedAfter bytes tables n limit one
+        → IsIdentifiedAfter bytes tables n limit two → one ≡ two }
     ensures identity_or_cause { (bytes : List ℕ) (tables : List TableRule) (work n limit : ℕ)
         (identity : Identity) (refused : DetailedFault Cause) → refused.fault ≢ Memory → refused.fault ≢ Work
         → IsIdentifiedAfter bytes tables n limit identity
