@@ -36,6 +36,7 @@ use Rattle.ca_claims.specs.declared.refusal.WhichPattern.{WhichPattern}
 use Rattle.ca_claims.specs.declared.refusal.WhichPattern.TheVariants.{First, Second}
 use Rattle.ca_claims.specs.declared.refusal.Refusal.{Refusal}
 use Rattle.ca_claims.specs.declared.decide.ClaimTrees.{ClaimTrees}
+use Rattle.ca_claims.specs.declared.limits.Limits.{Limits}
 use Rattle.ca_claims.specs.declared.ruled.RuledPattern.{RuledPattern}
 use Rattle.ca_claims.specs.declared.ruled.UnnamedRule.{UnnamedRule}
 use Rattle.ca_claims.specs.Text.{Claim, patterns_of, map_patterns, HasGoodNumbers}
@@ -48,6 +49,7 @@ use Rattle.ca_claims.specs.Answers.{IsPatternFaultOn, IsBadPatternOn, AreTables,
 use Rattle.ca_claims.specs.inner.Subjects.{ShowsTree, IsPattern, AreShown, IsSubject}
 use Rattle.ca_claims.specs.inner.PreparedClaim.{IsPrepared, IsFit, AreFewCounted, IsCountRefused, wanted_tree, wanted_part, last_part, refusal_for, disagreement_refusal}
 use Rattle.ca_claims.specs.inner.Found.{IsFound}
+use Rattle.ca_claims.specs.inner.Spending.{HasLimits}
 use Rattle.ca_claims.specs.inner.Refusals.{IsRefusal, IsOnVerdict, IsJudgedOn}
 use Rattle.ca_claims.specs.inner.Patterns.{items, IsEachOnce, FirstBadAt, IsReadFrom, IsUnreadFor, HasName, IsUnnamedFor, rule_of, IsRuledAs, ShowsLarge, ShowsSmall, AreOfOneRule, AreMixed, Disagree, AreBoth}
 use Rattle.ca_claims.proofs.ClaimKinds.{asks_bounded, paths_of}
@@ -486,34 +488,34 @@ decided_on files paths rules patterns next cells other asks (No why) decided = t
 decided_on files paths rules patterns next cells other asks (Refused cause) decided = inr decided
 
 -- so it is one of a claim about paths of which each is given once
-pub true_verdict : (files : List (List ℕ × List ℕ)) (rules at : List (List ℕ)) (work : ℕ) (claim : ClaimOf ℕ) (paths : List (List ℕ)) (prepared : PreparedClaim) (verdict : Verdict)
+pub true_verdict : (files : List (List ℕ × List ℕ)) (rules at : List (List ℕ)) (limits : Limits) (claim : ClaimOf ℕ) (paths : List (List ℕ)) (prepared : PreparedClaim) (verdict : Verdict)
     → IsEachOnce paths (patterns_of (map_patterns (path_at at) claim)) → (is : IsPrepared files rules (asks_of claim.kind) paths prepared)
-    → IsFit work prepared → (verdict ≡ Refused Work → IsNoMoreThan work (asks_of claim.kind) prepared.subject.pattern.level)
-    → IsDecided (next_of (rule_value prepared.leaper.rule)) is.cells is.other (asks_of claim.kind) verdict → IsJudgedOn files at rules work (map_patterns (path_at at) claim) verdict about.Claim
-true_verdict files rules at work claim paths prepared verdict once is fit spent decided =
+    → IsFit limits prepared → (verdict ≡ Refused Work → IsNoMoreThan limits.work (asks_of claim.kind) prepared.subject.pattern.level)
+    → IsDecided (next_of (rule_value prepared.leaper.rule)) is.cells is.other (asks_of claim.kind) verdict → IsJudgedOn files at rules limits.work (map_patterns (path_at at) claim) verdict about.Claim
+true_verdict files rules at limits claim paths prepared verdict once is fit spent decided =
     let rule = rule_value prepared.leaper.rule in
     let (tables, are, good) = is.agree in
     let judged : IsJudged files rules (map_patterns (path_at at) claim) is.cells is.other rule = ((tables, are, judged_of_all files tables paths (patterns_of (map_patterns (path_at at) claim)) is.cells is.other rule once good), is.few) in
     record {
       holds = decided_true files rules (map_patterns (path_at at) claim) is.cells is.other rule verdict judged decided;
-      within = λ out. (is.cells, is.other, rule, judged, used_up prepared.leaper.nodes prepared.subject.pattern is.cells work (asks_of claim.kind) fit.pattern.trimmed is.shown.one (spent out));
+      within = λ out. (is.cells, is.other, rule, judged, used_up prepared.leaper.nodes prepared.subject.pattern is.cells limits.work (asks_of claim.kind) fit.pattern.trimmed is.shown.one (spent out));
       on = decided_on files at rules (patterns_of (map_patterns (path_at at) claim)) (next_of rule) is.cells is.other (asks_of claim.kind) verdict decided;
     }
 
 -- ---- what is judged is fit for it
 
 module _ (nodes : List Node) where
-  pub all_fit : (patterns : List RuledPattern) (prepared : PreparedClaim) → nodes ≡ prepared.leaper.nodes → AllByRecursion (λ r. IsPattern nodes r.pattern.tree) patterns → AreBoth patterns prepared.subject
-      → prepared.leaper.spent.used ≡ 0 → IsFit prepared.leaper.spent.limit prepared
-  all_fit patterns prepared same all both none =
+  pub all_fit : (patterns : List RuledPattern) (limits : Limits) (prepared : PreparedClaim) → nodes ≡ prepared.leaper.nodes → AllByRecursion (λ r. IsPattern nodes r.pattern.tree) patterns → AreBoth patterns prepared.subject
+      → prepared.leaper.spent.used ≡ 0 → HasLimits limits prepared.leaper → IsFit limits prepared
+  all_fit patterns limits prepared same all both none has =
       let each = both_are_patterns nodes patterns prepared.subject all both in
       record {
         pattern = subst (λ n. IsPattern n prepared.subject.pattern) same each.0;
         other = subst (λ n. IsPattern n prepared.subject.other) same each.1;
         fresh = none;
-        allowed = refl;
+        within = has;
       }
 
 -- so is its subject for a claim
-pub is_subject : (work : ℕ) (kind : Kind) (asks : Asks) (prepared : PreparedClaim) → asks ≡ asks_of kind → HasGoodNumbers kind → IsFit work prepared → IsSubject prepared.leaper.nodes asks prepared.subject
-is_subject work kind asks prepared same good fit = record { pattern = fit.pattern; other = fit.other; bounded = subst IsBounded (sym same) (asks_bounded kind good) }
+pub is_subject : (limits : Limits) (kind : Kind) (asks : Asks) (prepared : PreparedClaim) → asks ≡ asks_of kind → HasGoodNumbers kind → IsFit limits prepared → IsSubject prepared.leaper.nodes asks prepared.subject
+is_subject limits kind asks prepared same good fit = record { pattern = fit.pattern; other = fit.other; bounded = subst IsBounded (sym same) (asks_bounded kind good) }

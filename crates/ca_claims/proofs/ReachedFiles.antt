@@ -61,14 +61,17 @@ module _ (nodes : List Node) (bytes : List ℕ) (tables : List TableRule) (ruled
       small = small;
     }
 
-    -- where all work is used up, a run may need so much
-    pub file_needs_run : (old new work : ℕ) → old ≡ 0 → new ≡ work → Takes old new 1 ruled.pattern.tree.level n → MayNeedRun work n (plane.cell ready.read.cells)
-    file_needs_run old new work none all takes level digits some holds short =
-        let tree = ruled.pattern.tree in
-        let high = trimmed_low nodes tree (plane.cell ready.read.cells) level some ready.read.loaded.trimmed ready.read.loaded.shows holds in
-        let most = takes digits short in
-        let power = power_more (tree.level + digits + 2) (level + digits + 2) (omega (arith, high)) in
-        omega (arith, none, all, most, power)
+    -- where all work is used up, a run of some generations may need so much
+    pub file_needs_run : (old new work : ℕ) → old ≡ 0 → new ≡ work → 1 ≤ n → Takes old new 1 ruled.pattern.tree.level n → MayNeedRun work n (plane.cell ready.read.cells)
+    file_needs_run old new work none all run takes = (
+      run,
+      λ level digits some holds short.
+          let tree = ruled.pattern.tree in
+          let high = trimmed_low nodes tree (plane.cell ready.read.cells) level some ready.read.loaded.trimmed ready.read.loaded.shows holds in
+          let most = takes digits short in
+          let power = power_more (tree.level + digits + 2) (level + digits + 2) (omega (arith, high)) in
+          omega (arith, none, all, most, power),
+    )
 
     pub file_wants_work : ruled.pattern.generation + n < generation_limit → (work : ℕ) → MayNeedRun work n (plane.cell ready.read.cells) → IsReachFault bytes tables n work Work
     file_wants_work low work need = (ready.read.cells, rule_of ruled, ruled.pattern.generation, begins, low, need)

@@ -5,12 +5,13 @@ ghost use Rattle.ca_plane.specs.Bytes.{IsWord};
 ghost use Rattle.ca_plane.specs.Limits.{generation_limit, most_generations};
 ghost use Rattle.ca_quad.specs.Trees.{cell};
 ghost use Rattle.ca_run.specs.Leaping.{LeaperGrows, EndsAtLimit};
+ghost use Rattle.ca_run.specs.declared.fault.LeapFault.TheVariants.{Work};
 ghost use Rattle.ca_claims.specs.Ahead.{IsReached, IsReachFault, IsSummaryAfter, IsConvertedAfter};
 ghost use Rattle.ca_claims.specs.Ahead.{IsConvertFaultAfter};
 ghost use Rattle.ca_claims.specs.declared.reached.ReachFault.TheVariants.{Convert};
 ghost use Rattle.ca_claims.specs.Limited.{AreGoodLimits};
 ghost use Rattle.ca_claims.specs.DetailedFault.{HasReachDetail};
-ghost use Rattle.ca_claims.specs.inner.Spending.{Takes};
+ghost use Rattle.ca_claims.specs.inner.Spending.{HasLimits, Takes};
 ghost use Rattle.ca_claims.specs.inner.Stages.{IsLaterTree};
 ghost use Rattle.ca_claims.specs.inner.Subjects.{IsRun};
 
@@ -20,6 +21,7 @@ use crate::decide::tree_after;
 use crate::detailed_fault::DetailedFault;
 use crate::format::Format;
 use crate::glance::sum_up;
+use crate::leaper::leaper_of;
 use crate::limits::Limits;
 use crate::observer::Observer;
 use crate::pattern::Summary;
@@ -67,10 +69,17 @@ pub fn run_on<'t, O: Observer>(
     let Some(generation) = later_generation(pattern.generation, generations) else {
         return Err(DetailedFault::of(ReachFault::GenTooLarge));
     };
-    let Ok(mut leaper) = Leaper::new(alloc, store, ruled.rule, limits.memo, limits.work) else {
+    let Ok(mut leaper) = leaper_of(alloc, store, ruled.rule, limits) else {
         return Err(DetailedFault::of(OUT_OF_MEMORY));
     };
-    match end_of(alloc, &mut leaper, pattern.tree, generations, observer) {
+    match end_of(
+        alloc,
+        &mut leaper,
+        limits,
+        pattern.tree,
+        generations,
+        observer,
+    ) {
         Ok(End { store, tree }) => Ok(Reached {
             store,
             tree,
@@ -193,11 +202,13 @@ struct End {
 fn end_of<A: Automaton, O: Observer>(
     alloc: Global,
     leaper: &mut Leaper<A>,
+    limits: Limits,
     pattern: Tree,
     generations: u64,
     observer: &mut O,
 ) -> Result<End, LeapFault>
-    requires { IsRun leaper.old.nodes pattern generations }
+    requires run { IsRun leaper.old.nodes pattern generations }
+    requires limits { HasLimits limits leaper.old }
     ensures end { IfOk result (λ end. IsLaterTree (A.next_of leaper.old.rule)
         (cell leaper.old.nodes pattern) generations end.store end.tree × (end.tree.level ≤ 62)) }
     ensures small { ((x y : ℤ) → cell leaper.old.nodes pattern x y < A.state_count leaper.old.rule)
@@ -205,9 +216,11 @@ fn end_of<A: Automaton, O: Observer>(
     ensures goes_on { LeaperGrows A leaper.old leaper.new }
     ensures takes { Takes leaper.old.spent.used leaper.new.spent.used 1 pattern.level generations }
     ensures work { EndsAtLimit leaper.new.spent result }
+    ensures some { IfErr result (λ fault. fault ≡ Work → 1 ≤ generations) }
 {
     // Says what holds of every leaper.
     let _ = leaper.store();
+    let _ = limits;
     observer.begins(1);
     let run = tree_after(leaper, &pattern, generations, observer);
     observer.ends();

@@ -1,6 +1,6 @@
 //! Whether a claim is true of patterns that stand in a leaper's store, by leaps.
 
-ghost use Rattle.std.specs.Prelude.{◌≡◌, ◌≢◌, ◌⊎◌, ℤ, None, IfOk};
+ghost use Rattle.std.specs.Prelude.{◌≡◌, ◌≢◌, ◌⊎◌, ℤ, None, IfOk, IsOk};
 ghost use Rattle.std.specs.Prelude.{IfSome, IsTrue, IsFalse, MatchOption};
 ghost use Rattle.ca_plane.specs.Plane.{Picture, cell as plane_cell};
 ghost use Rattle.ca_plane.specs.Generations.{after, IsAfter};
@@ -248,6 +248,7 @@ pub(crate) fn tree_after<A: Automaton, O: Observer>(
     ensures goes_on { LeaperGrows A leaper.old leaper.new }
     ensures takes { Takes leaper.old.spent.used leaper.new.spent.used 1 pattern.now.level generations }
     ensures work { EndsAtLimit leaper.new.spent result }
+    ensures none { generations ≡ 0 → IsOk result }
 {
     // Says what holds of every leaper.
     let _ = leaper.store();

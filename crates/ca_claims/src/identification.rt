@@ -10,6 +10,7 @@ ghost use Rattle.ca_claims.specs.Identified.{IsIdentityAfter, IsIdentifiedAfter,
 ghost use Rattle.ca_claims.specs.Limited.{AreGoodLimits};
 ghost use Rattle.ca_plane.specs.Limits.{longest_period, most_generations};
 ghost use Rattle.ca_claims.specs.inner.Patterns.{cause_of};
+ghost use Rattle.ca_claims.specs.inner.Spending.{HasLimits};
 ghost use Rattle.ca_claims.specs.inner.Stages.{TakesRunAndSteps};
 ghost use Rattle.ca_claims.specs.inner.Subjects.{ShowsTree, IsPattern};
 
@@ -21,6 +22,7 @@ mod stage;
 use crate::conversion::ConvertFault;
 use crate::detailed_fault::DetailedFault;
 use crate::identity::Identity;
+use crate::leaper::leaper_of;
 use crate::limits::Limits;
 use crate::observer::Observer;
 use crate::ruled::{RuledPattern, read_ruled};
@@ -101,12 +103,13 @@ pub fn identify_after<O: Observer>(
             return Err(refused.with_fault(cause));
         }
     };
-    let Ok(mut leaper) = Leaper::new(alloc, store, rule, limits.memo, limits.work) else {
+    let Ok(mut leaper) = leaper_of(alloc, store, rule, limits) else {
         return Err(OUT_OF_MEMORY);
     };
     match identity_after(
         alloc,
         &mut leaper,
+        limits,
         pattern.tree,
         generations,
         limit,
@@ -135,11 +138,13 @@ fn cause_of(fault: ConvertFault) -> Cause
 fn identity_after<A: Automaton, O: Observer>(
     alloc: Global,
     leaper: &mut Leaper<A>,
+    limits: Limits,
     pattern: Tree,
     generations: u64,
     limit: u64,
     observer: &mut O,
 ) -> Result<Identity, LeapFault>
+    requires limits { HasLimits limits leaper.old }
     requires pattern { IsPattern leaper.old.nodes pattern }
     requires few { generations ≤ most_generations }
     requires some { 1 ≤ limit }
@@ -153,6 +158,7 @@ fn identity_after<A: Automaton, O: Observer>(
 {
     // Says what holds of every leaper.
     let _ = leaper.store();
+    let _ = limits;
     let start = later_tree(leaper, pattern, generations, observer)?;
     let tree = &start;
     let Some(bounds) = leaper.store().bounds(alloc, *tree)? else {

@@ -19,6 +19,7 @@ mod identity;
 pub mod identity_laws;
 mod judge;
 mod laws;
+mod leaper;
 mod limits;
 mod note;
 mod noting;

@@ -15,6 +15,7 @@ ghost use Rattle.ca_rule.specs.Rule.{rule_value, next_of};
 ghost use Rattle.ca_claims.specs.inner.Decided.{IsDecided};
 ghost use Rattle.ca_claims.specs.inner.Subjects.{IsSubject, AreShown};
 ghost use Rattle.ca_claims.specs.inner.Patterns.{items, IsEachOnce};
+ghost use Rattle.ca_claims.specs.inner.Spending.{HasLimits};
 ghost use Rattle.ca_claims.specs.inner.Refusals.{IsJudgedOn};
 ghost use Rattle.ca_claims.specs.inner.Tasks.{CanBeJudged, IsOnFiles};
 
@@ -169,7 +170,7 @@ fn judge<'a, O: Observer>(
         &task.needed.tables,
         task.limits,
     )?;
-    Ok(decide_on(alloc, prepared, asks, observer))
+    Ok(decide_on(alloc, prepared, asks, task.limits, observer))
 }
 
 // The verdict on a claim that asks this, on what was prepared for it.
@@ -177,15 +178,18 @@ fn decide_on<O: Observer>(
     alloc: Global,
     prepared: PreparedClaim<'_>,
     asks: Asks,
+    limits: Limits,
     observer: &mut O,
 ) -> Verdict
-    requires { IsSubject prepared.leaper.nodes asks prepared.subject }
+    requires subject { IsSubject prepared.leaper.nodes asks prepared.subject }
+    requires limits { HasLimits limits prepared.leaper }
     ensures decided { (cells other : Picture)
         → AreShown prepared.entry.leaper.nodes prepared.entry.subject cells other
         → IsDecided (next_of (rule_value prepared.entry.leaper.rule)) cells other asks result }
     ensures work { prepared.entry.leaper.spent.used ≡ 0 → result ≡ Refused Work
         → IsNoMoreThan prepared.entry.leaper.spent.limit asks prepared.entry.subject.pattern.level }
 {
+    let _ = limits;
     let PreparedClaim {
         mut leaper,
         subject,

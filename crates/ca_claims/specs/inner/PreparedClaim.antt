@@ -10,6 +10,7 @@ use Rattle.ca_claims.specs.declared.claims.asks.Asks.{Asks}
 use Rattle.ca_claims.specs.declared.claims.asks.Wanted.{Wanted}
 use Rattle.ca_claims.specs.declared.claims.asks.Wanted.TheVariants.{Own, Other, NoCells}
 use Rattle.ca_claims.specs.declared.decide.ClaimTrees.{ClaimTrees}
+use Rattle.ca_claims.specs.declared.limits.Limits.{Limits}
 use Rattle.ca_claims.specs.declared.refusal.About.TheVariants as about
 use Rattle.ca_claims.specs.declared.refusal.WhichPattern.{WhichPattern}
 use Rattle.ca_claims.specs.declared.refusal.WhichPattern.TheVariants.{First, Second}
@@ -26,6 +27,7 @@ use Rattle.ca_claims.specs.declared.read.BadPattern.{BadPattern as Unread}
 use Rattle.ca_claims.specs.declared.verifier.patterns.BadPart.{BadPart}
 use Rattle.ca_claims.specs.declared.verifier.prepared.PreparedClaim.{PreparedClaim}
 use Rattle.ca_claims.specs.Answers.{AgreeOn, IsCounted, HasFewCounted}
+use Rattle.ca_claims.specs.inner.Spending.{HasLimits}
 use Rattle.ca_claims.specs.inner.Subjects.{IsPattern, AreShown}
 
 -- the trees show what the files of these paths mean, under one rule, and not too many cells where they are counted; the claim asks this
@@ -84,9 +86,9 @@ disagreement_refusal (Large part) = record { cause = StateTooLarge; about = abou
 disagreement_refusal Mixed = record { cause = MixedRules; about = about.Claim }
 disagreement_refusal disagreement.Memory = record { cause = cause.Memory; about = about.Claim }
 
--- the trees are low ones in range, and no work is done of so much that may be
-pub record IsFit (work : ℕ) (prepared : PreparedClaim) : Type 0 where
+-- the trees are low ones in range, the leaper has these limits, and no work is done yet
+pub record IsFit (limits : Limits) (prepared : PreparedClaim) : Type 0 where
   pub pattern : IsPattern prepared.leaper.nodes prepared.subject.pattern
   pub other : IsPattern prepared.leaper.nodes prepared.subject.other
   pub fresh : prepared.leaper.spent.used ≡ 0
-  pub allowed : prepared.leaper.spent.limit ≡ work
+  pub within : HasLimits limits prepared.leaper

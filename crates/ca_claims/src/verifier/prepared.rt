@@ -25,6 +25,7 @@ use super::patterns::{BadPart, read_each, with_rules};
 use super::tables::Tables;
 use crate::claims::Asks;
 use crate::decide::ClaimTrees;
+use crate::leaper::leaper_of;
 use crate::limits::Limits;
 use crate::read::BadPattern;
 use crate::refusal::{About, Refusal, WhichPattern};
@@ -58,7 +59,7 @@ pub(crate) fn prepare<'a, 't>(
         → map option_copied found.now ≡ map (bytes_at files) paths → AreRead files paths rules tables.now
         → MatchResult result (IsPrepared files rules asks (map (path_at paths) (items places.now)))
         (IsRefusal files paths rules asks (map (path_at paths) (items places.now))) }
-    ensures fit { IfOk result (IsFit limits.work) }
+    ensures fit { IfOk result (IsFit limits) }
 {
     let files = match files_at(places, found) {
         Ok(files) => files,
@@ -83,7 +84,7 @@ fn prepare_by<'a, 't>(
         → AllZip (λ path b. bytes_at files path ≡ Some b.now) each (items there.now)
         → AreTables files rules tables.now
         → MatchResult result (IsPrepared files rules asks each) (IsRefusal files paths rules asks each) }
-    ensures fit { IfOk result (IsFit limits.work) }
+    ensures fit { IfOk result (IsFit limits) }
 {
     let mut store = Store::new(alloc);
     let patterns = match read_each(alloc, library, &mut store, there) {
@@ -100,7 +101,7 @@ fn prepare_by<'a, 't>(
     };
     let subject = subject_of(&patterns);
     check_count(alloc, &store, &subject, asks, last_part(&patterns))?;
-    let Ok(leaper) = Leaper::new(alloc, store, rule, limits.memo, limits.work) else {
+    let Ok(leaper) = leaper_of(alloc, store, rule, limits) else {
         return Err(OUT_OF_MEMORY);
     };
     Ok(PreparedClaim { leaper, subject })

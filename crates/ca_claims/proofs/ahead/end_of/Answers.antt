@@ -16,12 +16,12 @@ returns-clause-end g c =
     let end = c.in_ok-end.end in
     let shows : (x y : ℤ) → cell c.trim.new.self tree x y ≡ cells_after next first c.args.generations x y =
     λ x y. told.cells x y ∙ c.in_ok-copy.ensures.cells x y ∙ ap (λ s. cell s end x y) c.store-2.ensures.nodes ∙ c.in_ok-end.ensures.end.shows x y in
-    let low = later_is_low next first c.args.generations quiet c.requires.pattern.range c.requires.few c.trim.new.self tree told.trimmed shows in (
+    let low = later_is_low next first c.args.generations quiet c.requires.run.pattern.range c.requires.run.few c.trim.new.self tree told.trimmed shows in (
       record {
         near = record {
           is_tree = told.tree;
           low = omega (arith, low);
-          near = end_outside next first (cell c.trim.new.self tree) c.args.generations shows quiet c.requires.pattern.range c.requires.few;
+          near = end_outside next first (cell c.trim.new.self tree) c.args.generations shows quiet c.requires.run.pattern.range c.requires.run.few;
         };
         low = omega (arith, low);
         trimmed = told.trimmed;

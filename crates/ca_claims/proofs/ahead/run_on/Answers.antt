@@ -12,11 +12,11 @@ use Rattle.ca_claims.proofs.ReachedFiles.{file_reaches, file_needs_run, file_wan
 use Rattle.ca_claims.proofs.WrittenForms.{read_pattern}
 use Rattle.ca_claims.proofs.ahead.run_on.Goals as goal
 
-pub end_of-requires : goal.end_of-requires
-end_of-requires g c =
+pub end_of-requires-clause-run : goal.end_of-requires-clause-run
+end_of-requires-clause-run g c =
     let ruled = c.in-Ok.ruled in
     record {
-      pattern = subst (λ s. IsPattern s ruled.pattern.tree) (sym c.in-Ok-new.ensures.store) (read_pattern c.read_ruled.new.store c.args.bytes.now ruled.pattern c.in-Ok.ensures.ready.read);
+      pattern = subst (λ s. IsPattern s ruled.pattern.tree) (sym c.in-Ok-leaper_of.ensures.store) (read_pattern c.read_ruled.new.store c.args.bytes.now ruled.pattern c.in-Ok.ensures.ready.read);
       few = c.requires.few;
     }
 
@@ -26,15 +26,15 @@ returns-in-Ok-end_of-clause-reached g c =
     let ruled = c.in-Ok.ruled in
     let tree = ruled.pattern.tree in
     let ready = c.in-Ok.ensures.ready in
-    let leaper = c.in-Ok-new.leaper in
+    let leaper = c.in-Ok-leaper_of.leaper in
     let end = c.in-Ok-end_of.field-0 in
     let told = c.in-Ok-end_of.ensures in
     let n = c.args.generations in
-    let later = subst (λ r. IsLaterTree (next_of (rule_value r)) (cell store tree) n end.store end.tree) c.in-Ok-new.ensures.rule
-    (subst (λ s. IsLaterTree (next_of (rule_value leaper.rule)) (cell s tree) n end.store end.tree) c.in-Ok-new.ensures.store told.end.0) in
-    let first_small = subst (λ s. HasSmallStates (rule_value leaper.rule) (cell s tree)) (sym c.in-Ok-new.ensures.store)
-    (subst (λ r. HasSmallStates (rule_value r) (cell store tree)) (sym c.in-Ok-new.ensures.rule) ready.small) in
-    let small = subst (λ r. HasSmallStates (rule_value r) (cell end.store end.tree)) c.in-Ok-new.ensures.rule (told.small first_small) in
+    let later = subst (λ r. IsLaterTree (next_of (rule_value r)) (cell store tree) n end.store end.tree) c.in-Ok-leaper_of.ensures.rule
+    (subst (λ s. IsLaterTree (next_of (rule_value leaper.rule)) (cell s tree) n end.store end.tree) c.in-Ok-leaper_of.ensures.store told.end.0) in
+    let first_small = subst (λ s. HasSmallStates (rule_value leaper.rule) (cell s tree)) (sym c.in-Ok-leaper_of.ensures.store)
+    (subst (λ r. HasSmallStates (rule_value r) (cell store tree)) (sym c.in-Ok-leaper_of.ensures.rule) ready.small) in
+    let small = subst (λ r. HasSmallStates (rule_value r) (cell end.store end.tree)) c.in-Ok-leaper_of.ensures.rule (told.small first_small) in
     file_reaches store c.args.bytes.now c.args.tables.now ruled ready n c.in-Some.generation c.in-Some.ensures.0 c.in-Some.ensures.1 end.store end.tree told.end.1 later small
 
 pub returns-in-Err-Memory-clause-fault : goal.returns-in-Err-Memory-clause-fault
@@ -47,11 +47,11 @@ returns-clause-fault g c =
     let store = c.read_ruled.new.store in
     let ruled = c.in-Ok.ruled in
     let ready = c.in-Ok.ensures.ready in
-    let leaper = c.in-Ok-new.leaper in
+    let leaper = c.in-Ok-leaper_of.leaper in
     let told = c.in-Err-Work.ensures in
     let n = c.args.generations in
     let low = subst (λ g. g < generation_limit) c.in-Some.ensures.0 c.in-Some.ensures.1 in
     let need = file_needs_run store c.args.bytes.now c.args.tables.now ruled ready n leaper.spent.used c.end_of.new.leaper.spent.used c.args.limits.work
-    c.in-Ok-new.ensures.used (told.work c.in-Err-Work.field-0-is ∙ told.goes_on.spends.limit ∙ c.in-Ok-new.ensures.limit) told.takes in
+    c.in-Ok-leaper_of.ensures.used (told.work c.in-Err-Work.field-0-is ∙ told.goes_on.spends.limit ∙ c.in-Ok-leaper_of.ensures.limits.work) (told.some c.in-Err-Work.field-0-is) told.takes in
     subst (λ (r : DetailedFault ReachFault). IsReachFault c.args.bytes.now c.args.tables.now n c.args.limits.work r.fault) (sym c.of-in-Err-Work.ensures)
     (file_wants_work store c.args.bytes.now c.args.tables.now ruled ready n low c.args.limits.work need)

@@ -15,7 +15,7 @@ use Rattle.ca_claims.proofs.identification.identify_after.Goals as goal
 pub identity_after-requires-clause-pattern : goal.identity_after-requires-clause-pattern
 identity_after-requires-clause-pattern g c =
     let ruled = c.in-Ok.ruled in
-    subst (λ s. IsPattern s ruled.pattern.tree) (sym c.in-Ok-new.ensures.store) (read_pattern c.read_ruled.new.store c.args.bytes.now ruled.pattern c.in-Ok.ensures.ready.read)
+    subst (λ s. IsPattern s ruled.pattern.tree) (sym c.in-Ok-leaper_of.ensures.store) (read_pattern c.read_ruled.new.store c.args.bytes.now ruled.pattern c.in-Ok.ensures.ready.read)
 
 pub returns-in-Ok-identity_after-clause-identified : goal.returns-in-Ok-identity_after-clause-identified
 returns-in-Ok-identity_after-clause-identified g c =
@@ -23,11 +23,11 @@ returns-in-Ok-identity_after-clause-identified g c =
     let ruled = c.in-Ok.ruled in
     let ready = c.in-Ok.ensures.ready in
     let cells = ready.read.cells in
-    let shows = subst (λ s. ShowsTree s ruled.pattern.tree cells) (sym c.in-Ok-new.ensures.store) (file_shows store c.args.bytes.now c.args.tables.now ruled ready) in (
+    let shows = subst (λ s. ShowsTree s ruled.pattern.tree cells) (sym c.in-Ok-leaper_of.ensures.store) (file_shows store c.args.bytes.now c.args.tables.now ruled ready) in (
       cells,
       rule_value ruled.rule,
       file_holds store c.args.bytes.now c.args.tables.now ruled ready,
-      subst (λ r. IsIdentityAfter (next_of (rule_value r)) cells c.args.generations c.args.limit c.in-Ok-identity_after.identity) c.in-Ok-new.ensures.rule (c.in-Ok-identity_after.ensures.identity cells shows),
+      subst (λ r. IsIdentityAfter (next_of (rule_value r)) cells c.args.generations c.args.limit c.in-Ok-identity_after.identity) c.in-Ok-leaper_of.ensures.rule (c.in-Ok-identity_after.ensures.identity cells shows),
     )
 
 pub returns-clause-unidentified : goal.returns-clause-unidentified
@@ -39,12 +39,12 @@ returns-clause-unidentified g c =
     let work = c.args.limits.work in
     let n = c.args.generations in
     let limit = c.args.limit in
-    let leaper = c.in-Ok-new.leaper in
+    let leaper = c.in-Ok-leaper_of.leaper in
     let new = c.identity_after.new.leaper.spent.used in
     let told = c.in-Err-Work.ensures in
     let takes =
-    subst (λ r. TakesRunAndSteps leaper.spent.used new tree.level n (cells_after (next_of (rule_value r)) (cell store tree)) limit) c.in-Ok-new.ensures.rule
-    (subst (λ s. TakesRunAndSteps leaper.spent.used new tree.level n (cells_after (next_of (rule_value leaper.rule)) (cell s tree)) limit) c.in-Ok-new.ensures.store told.takes) in
+    subst (λ r. TakesRunAndSteps leaper.spent.used new tree.level n (cells_after (next_of (rule_value r)) (cell store tree)) limit) c.in-Ok-leaper_of.ensures.rule
+    (subst (λ s. TakesRunAndSteps leaper.spent.used new tree.level n (cells_after (next_of (rule_value leaper.rule)) (cell s tree)) limit) c.in-Ok-leaper_of.ensures.store told.takes) in
     subst (λ (refused : DetailedFault Cause). IsUnidentifiedAfter c.args.bytes.now c.args.tables.now work n limit refused) (sym c.of.ensures) (
       (
         refl,
@@ -52,7 +52,7 @@ returns-clause-unidentified g c =
         rule_value ruled.rule,
         file_holds store c.args.bytes.now c.args.tables.now ruled ready,
         file_needs store c.args.bytes.now c.args.tables.now ruled ready leaper.spent.used new work n limit
-            c.in-Ok-new.ensures.used (told.work c.in-Err-Work.field-0-is ∙ told.goes_on.spends.limit ∙ c.in-Ok-new.ensures.limit) takes,
+            c.in-Ok-leaper_of.ensures.used (told.work c.in-Err-Work.field-0-is ∙ told.goes_on.spends.limit ∙ c.in-Ok-leaper_of.ensures.limits.work) takes,
       ),
       refl,
     )

@@ -37,9 +37,9 @@ returns-in_err-prepared g c = λ files paths rules on.
       on = on_all files rules paths each (patterns_of claim) once refusal.cause refusal.about refused.on;
     })
 
-pub decide_on-requires : goal.decide_on-requires
-decide_on-requires g c =
-    is_subject c.args.task.now.limits.work c.args.task.now.claim.now.kind c.asks-asks.result c.in_ok-prepared.prepared c.asks-asks.ensures c.requires.numbers c.in_ok-prepared.ensures.fit
+pub decide_on-requires-clause-subject : goal.decide_on-requires-clause-subject
+decide_on-requires-clause-subject g c =
+    is_subject c.args.task.now.limits c.args.task.now.claim.now.kind c.asks-asks.result c.in_ok-prepared.prepared c.asks-asks.ensures c.requires.numbers c.in_ok-prepared.ensures.fit
 
 pub returns : goal.returns
 returns g c = λ files paths rules on.
@@ -49,7 +49,7 @@ returns g c = λ files paths rules on.
     let prepared = c.in_ok-prepared.prepared in
     let is = subst (λ asks. IsPrepared files rules asks each prepared) c.asks-asks.ensures (c.in_ok-prepared.ensures.prepared files paths rules (subst (λ l. map option_copied l ≡ map (bytes_at files) paths) (sym c.deref.ensures.value) on.found) on.read) in
     let fit = c.in_ok-prepared.ensures.fit in
-    true_verdict files rules paths c.args.task.now.limits.work claim each prepared c.decide_on.result once is fit
+    true_verdict files rules paths c.args.task.now.limits claim each prepared c.decide_on.result once is fit
     (λ out. subst (λ asks. IsNoMoreThan c.args.task.now.limits.work asks prepared.subject.pattern.level) c.asks-asks.ensures
-    (subst (λ work. IsNoMoreThan work c.asks-asks.result prepared.subject.pattern.level) fit.allowed (c.decide_on.ensures.work fit.fresh out)))
+    (subst (λ work. IsNoMoreThan work c.asks-asks.result prepared.subject.pattern.level) fit.within.work (c.decide_on.ensures.work fit.fresh out)))
     (subst (λ asks. IsDecided (next_of (rule_value prepared.leaper.rule)) is.cells is.other asks c.decide_on.result) c.asks-asks.ensures (c.decide_on.ensures.decided is.cells is.other is.shown))

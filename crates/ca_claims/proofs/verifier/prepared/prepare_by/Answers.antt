@@ -2,7 +2,7 @@ use Rattle.std.proofs.Common.{sym, ap, subst}
 use Rattle.ca_rule.specs.Rule.{rule_value}
 use Rattle.ca_claims.specs.inner.Patterns.{items}
 use Rattle.ca_claims.specs.declared.verifier.prepared.PreparedClaim.{PreparedClaim}
-use Rattle.ca_claims.specs.inner.PreparedClaim.{IsPrepared, IsFit, IsCountRefused}
+use Rattle.ca_claims.specs.inner.PreparedClaim.{IsPrepared, IsCountRefused}
 use Rattle.ca_claims.specs.inner.Refusals.{IsRefusal}
 use Rattle.ca_claims.proofs.Causes.{read_at, ruled_each, are_trees, are_patterns, both_are_patterns, unread_for, unnamed, disagreed, crowded, no_memory, passed_on, all_prepared, all_fit}
 use Rattle.ca_claims.proofs.verifier.prepared.prepare_by.Goals as goal
@@ -74,12 +74,11 @@ returns-clause-prepared c = λ files paths rules each there are.
     let patterns = items c.in-Ok.patterns in
     let read = read_at nodes files each (items c.args.there.now) patterns there c.in-Ok.ensures.read in
     let ruled = ruled_each nodes files tables each patterns (items c.in-Ok-with_rules.patterns) read c.in-Ok-with_rules.ensures.named in
-    all_prepared files paths rules c.args.asks tables are nodes each c.in-Ok-with_rules.patterns _ (sym c.in-Ok-new.ensures.store) (rule_value c.in-Ok-agreed_rule.rule) (sym (ap rule_value c.in-Ok-new.ensures.rule)) ruled c.in-Ok-agreed_rule.ensures.small c.in-Ok-agreed_rule.ensures.rule c.subject_of-subject.ensures c.in_ok-check_count.ensures.few
+    all_prepared files paths rules c.args.asks tables are nodes each c.in-Ok-with_rules.patterns _ (sym c.in-Ok-leaper_of.ensures.store) (rule_value c.in-Ok-agreed_rule.rule) (sym (ap rule_value c.in-Ok-leaper_of.ensures.rule)) ruled c.in-Ok-agreed_rule.ensures.small c.in-Ok-agreed_rule.ensures.rule c.subject_of-subject.ensures c.in_ok-check_count.ensures.few
 
 pub returns-clause-fit : goal.returns-clause-fit
 returns-clause-fit c =
     let nodes = c.read_each.new.store in
     let trees = are_patterns nodes (items c.args.there.now) c.args.tables.now (items c.in-Ok.patterns) (items c.in-Ok-with_rules.patterns) c.in-Ok.ensures.read c.in-Ok-with_rules.ensures.named in
-    let prepared : PreparedClaim = record { leaper = c.in-Ok-new.leaper; subject = c.subject_of-subject.result } in
-    subst (λ work. IsFit work prepared) c.in-Ok-new.ensures.limit
-    (all_fit nodes (items c.in-Ok-with_rules.patterns) prepared (sym c.in-Ok-new.ensures.store) trees c.subject_of-subject.ensures c.in-Ok-new.ensures.used)
+    let prepared : PreparedClaim = record { leaper = c.in-Ok-leaper_of.leaper; subject = c.subject_of-subject.result } in
+    all_fit nodes (items c.in-Ok-with_rules.patterns) c.args.limits prepared (sym c.in-Ok-leaper_of.ensures.store) trees c.subject_of-subject.ensures c.in-Ok-leaper_of.ensures.used c.in-Ok-leaper_of.ensures.limits
