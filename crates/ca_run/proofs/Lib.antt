@@ -42,3 +42,4 @@ pub mod DenseRuns
 pub mod OrdersOfUse
 pub mod Costs
 pub mod MemoKeys
+pub mod LeapResults

@@ -8,7 +8,7 @@ use Rattle.lru.proofs.Splits.{Contains-head}
 use Rattle.ca_run.specs.declared.leaper.key.Key.{Key}
 use Rattle.ca_run.specs.declared.leaper.key.Key.TheVariants.{Page as OfPage, Single}
 use Rattle.ca_run.specs.declared.leaper.page.Page.{Page}
-use Rattle.ca_run.specs.Pages.{HasPageKey, ArePagesKept, HasSlot, HasFullLeapIn, HasSingleIn}
+use Rattle.ca_run.specs.inner.Pages.{HasPageKey, ArePagesKept, HasSlot, HasFullLeapIn, HasSingleIn}
 use Rattle.ca_run.specs.contracts.leaper.key.KeyPartialEq.TheImpl as eq
 use Rattle.ca_run.proofs.OrdersOfUse.{promoted-Contains, put_entries-key, after}
 

@@ -16,9 +16,11 @@ use Rattle.ca_run.specs.declared.leaper.trio.Trio.{Trio}
 use Rattle.ca_run.specs.Centre.{centre, IsCentre, IsLeap}
 use Rattle.ca_run.specs.Leaping.{Spent, Spends, LeaperView, LeaperGrows}
 use Rattle.ca_run.specs.inner.Shown.{ShowsPlane, ShowsAt, FourShow, ThreeShow, TwoShow, AreThree, side}
-use Rattle.ca_run.specs.Pages.{MemoView, HasFullLeap, HasSingle, RemembersNoMore}
-use Rattle.ca_run.specs.Slots.{SlotsView, HasRecent}
-use Rattle.ca_run.specs.Memo.{AreFullLeaps, AreSingles, IsLeaper, AreRecentCentres, AreRecentLeaps}
+use Rattle.ca_run.specs.inner.Pages.{MemoView, HasFullLeap, HasSingle, RemembersNoMore, IsBoundedMemo}
+use Rattle.ca_run.specs.inner.Slots.{SlotsView, HasRecent}
+use Rattle.ca_run.specs.Memo.{LeapResult, FullLeap, Leap, LeapOfFour, IsTrueResult}
+use Rattle.ca_run.specs.inner.Tables.{IsLeaper}
+use Rattle.ca_run.proofs.LeapResults.{AreFullLeaps, AreSingles, AreRecentCentres, AreRecentLeaps, full_leaps_of, singles_of, centres_of, leaps_of, leaper_with}
 use Rattle.ca_run.proofs.After.{after_again}
 use Rattle.ca_run.proofs.ShowsPlane.{quarters_each, looks_from, looks_together, looks_nw, looks_ne, looks_sw, looks_se, looks_centre}
 
@@ -81,16 +83,6 @@ module _ (old new : List Node) (sound : IsSoundStore old) (grows : Grows old new
         ∙ (h.has_cells u v s t ∙ ap (λ f. centre next f (2 ^ k) (2 ^ j) u v) (sym (cells_stay old new sound grows (suc (suc k)) id h.is_square)));
   }
 
-  pub singles_stay : (next : List ℕ → ℕ) (memo : MemoView) → AreSingles next old memo → AreSingles next new memo
-  singles_stay next memo h id j half e =
-      let there = h id j half e in
-      (there.0, centre_stays next id there.0 j half there.1)
-
-  pub kept_centres_stay : (next : List ℕ → ℕ) (slots : List (Option ((ℕ × ℕ) × ℕ))) → AreRecentCentres next old slots → AreRecentCentres next new slots
-  kept_centres_stay next slots h id j half e =
-      let there = h id j half e in
-      (there.0, centre_stays next id there.0 j half there.1)
-
   -- what an old square shows now it showed before
   at_was : (id level : ℕ) (p : ℤ → ℤ → ℕ) (a b : ℤ) → IsOf old id level → ShowsAt new id level p a b → ShowsAt old id level p a b
   at_was id level p a b square h = record {
@@ -125,27 +117,19 @@ module _ (old new : List Node) (sound : IsSoundStore old) (grows : Grows old new
         at_stays half (suc k) (cells_after next p (2 ^ k)) (a +ℤ side k) (b +ℤ side k) (h.shows p a b (four_was (suc k) nw ne sw se p a b h.are_four four));
   }
 
-  pub recent_leaps_stay : (next : List ℕ → ℕ) (slots : List (Option ((ℕ × ℕ × ℕ × ℕ) × ℕ))) → AreRecentLeaps next old slots → AreRecentLeaps next new slots
-  recent_leaps_stay next slots h nw ne sw se half e =
-      let there = h nw ne sw se half e in
-      (there.0, leap_stays next there.0 nw ne sw se half there.1)
-
-  pub full_leaps_stay : (next : List ℕ → ℕ) (memo : MemoView) → AreFullLeaps next old memo → AreFullLeaps next new memo
-  full_leaps_stay next memo h id half e =
-      let there = h id half e in
-      (there.0, centre_stays next id there.0 there.0 half there.1)
+  pub result_stays : (next : List ℕ → ℕ) (result : LeapResult) → IsTrueResult next old result → IsTrueResult next new result
+  result_stays next (FullLeap square centre) h = (h.0, centre_stays next square h.0 h.0 centre h.1)
+  result_stays next (Leap square j centre) h = (h.0, centre_stays next square h.0 j centre h.1)
+  result_stays next (LeapOfFour nw ne sw se middle) h = (h.0, leap_stays next h.0 nw ne sw se middle h.1)
 
 -- a leaper stays one as its store grows
 pub leaper_stays : {old new : List Node} {next : List ℕ → ℕ} {S : Type 0} {memo : MemoView} {slots : SlotsView (ℕ × ℕ)} {leaps : SlotsView (ℕ × ℕ × ℕ × ℕ)} {capacity : ℕ} {masks : Option (ℕ × ℕ)}
     → IsLeaper next S old memo slots leaps capacity masks → Grows old new → IsLeaper next S new memo slots leaps capacity masks
-leaper_stays {memo} h grows = record {
+leaper_stays h grows = record {
   rule = h.rule;
   squares = grows.sound;
-  singles = singles_stay _ _ h.squares grows _ memo h.singles;
-  recent_centres = kept_centres_stay _ _ h.squares grows _ _ h.recent_centres;
-  recent_leaps = recent_leaps_stay _ _ h.squares grows _ _ h.recent_leaps;
-  full_leaps = full_leaps_stay _ _ h.squares grows _ memo h.full_leaps;
-  within = h.within;
+  remembers = record { true_results = λ result c. result_stays _ _ h.squares grows _ result (h.remembers.true_results result c); most = h.remembers.most };
+  bounded = h.bounded;
   by_masks = h.by_masks;
 }
 
@@ -349,17 +333,12 @@ singles_more next nodes old new id k j half all this more = centres_more next no
 
 -- what a look-up leaves
 pub leaper_looked : {next : List ℕ → ℕ} {S : Type 0} {nodes : List Node} {old new : MemoView} {slots : SlotsView (ℕ × ℕ)} {leaps : SlotsView (ℕ × ℕ × ℕ × ℕ)} {capacity : ℕ} {masks : Option (ℕ × ℕ)}
-    → RemembersNoMore old new → IsLeaper next S nodes old slots leaps capacity masks → IsLeaper next S nodes new slots leaps capacity masks
-leaper_looked {old} {new} {slots} {leaps} f h = record {
-  rule = h.rule;
-  squares = h.squares;
-  full_leaps = λ id half e. h.full_leaps id half (f.full_leaps id half e);
-  singles = λ id j half e. h.singles id j half (f.singles id j half e);
-  recent_centres = h.recent_centres;
-  recent_leaps = h.recent_leaps;
-  within = omega (arith, f.capacity, h.within);
-  by_masks = h.by_masks;
-}
+    → RemembersNoMore old new → IsBoundedMemo new.pages new.order → IsLeaper next S nodes old slots leaps capacity masks → IsLeaper next S nodes new slots leaps capacity masks
+leaper_looked {next} {nodes} {old} {new} {slots} {leaps} f bounded h =
+    let all = h.remembers.true_results in
+    leaper_with h new slots leaps (λ id half e. full_leaps_of next nodes old slots leaps all id half (f.full_leaps id half e)) (λ id j half e. singles_of next nodes old slots leaps all id j half (f.singles id j half e))
+    (centres_of next nodes old slots leaps all) (leaps_of next nodes old slots leaps all)
+    (record { within = omega (arith, f.capacity, h.bounded.within); entries = bounded; few_centres = h.bounded.few_centres; few_leaps = h.bounded.few_leaps })
 
 -- ---- parts
 

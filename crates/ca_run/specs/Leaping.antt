@@ -5,7 +5,9 @@ use Rattle.ca_quad.specs.Sound.{Grows}
 use Rattle.ca_run.specs.declared.fault.LeapFault.{LeapFault}
 use Rattle.ca_run.specs.declared.fault.LeapFault.TheVariants.{Work}
 
--- how many units of work are used up, and how many may be; a unit is a result that was worked out
+-- how many units of work are used up, and how many may be; a unit is the centre of a square, or the square in the middle of
+-- four, that wasn't remembered; a brick of a plane that is stepped, one generation on; a square that is made of such bricks; or
+-- up to 4096 squares of a store out of which a tree is copied
 pub record Spent : Type 0 where
   pub used : ℕ
   pub limit : ℕ
@@ -19,14 +21,14 @@ pub record Spends (old new : Spent) : Type 0 where
 abbrev pub EndsAtLimit : {T : Type 0} → Spent → Result T LeapFault → Type 0
 EndsAtLimit spent result = IfErr result (λ fault. fault ≡ Work → spent.used ≡ spent.limit)
 
--- a rule, the squares of a store, how many results may be remembered, and the work that was done and may be
+-- a rule, the squares of a store, how many entries the memo may have, and the work that was done and may be
 pub record LeaperView (Rule : Type 0) : Type 0 where
   pub rule : Rule
   pub nodes : List Node
   pub memo : ℕ
   pub spent : Spent
 
--- the rule is the same, each old square stays what it was, as much may be remembered, and no work is given back
+-- the rule is the same, each old square stays what it was, the memo may have as many entries, and no work is given back
 pub record LeaperGrows (Rule : Type 0) (old new : LeaperView Rule) : Type 0 where
   pub rule : new.rule ≡ old.rule
   pub grows : Grows old.nodes new.nodes

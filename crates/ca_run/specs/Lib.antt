@@ -6,7 +6,5 @@ pub mod Advanced
 pub mod Stepped
 pub mod Lanes
 pub mod Masks
-pub mod Slots
-pub mod Pages
 pub mod Memo
 pub mod inner

@@ -15,3 +15,6 @@ pub mod Frames
 pub mod Dense
 pub mod Apart
 pub mod AtCost
+pub mod Slots
+pub mod Pages
+pub mod Tables

@@ -60,7 +60,7 @@ pub struct Leaper<A: Automaton> {
     recent_centres: Slots<(Id, u8)>,
     // Squares in the middle of four, as far on as they can be known.
     recent_leaps: Slots<(Id, Id, Id, Id)>,
-    // How many results may be remembered.
+    // How many entries the memo and the two tables may have together.
     capacity: usize,
     work: Work,
     // With how many squares a leap is given up.
@@ -69,7 +69,7 @@ pub struct Leaper<A: Automaton> {
 
 impl<A: Automaton> Model for Leaper<A> {
     ghost use Rattle.ca_run.specs.Leaping.{LeaperView};
-    ghost use Rattle.ca_run.specs.Memo.{IsLeaper};
+    ghost use Rattle.ca_run.specs.inner.Tables.{IsLeaper};
 
     ghost Value = { LeaperView A };
 
@@ -80,8 +80,8 @@ impl<A: Automaton> Model for Leaper<A> {
 }
 
 impl<A: Automaton> Leaper<A> {
-    /// A leaper over the squares of a store, which has worked out nothing yet, and may work out so many
-    /// results.
+    /// A leaper over the squares of a store, which has worked out nothing yet. Its memo may have so many
+    /// entries, each of one result or up to 16, and it may do so many units of work.
     pub fn new(
         alloc: Global,
         store: Store,
@@ -119,10 +119,11 @@ impl<A: Automaton> Leaper<A> {
         })
     }
 
-    /// How many results were worked out so far: no more than may be. A result is the centre of a square that
-    /// isn't empty, after some generations, that wasn't remembered; or a brick of a plane that is stepped,
-    /// one generation on; or a square that is made of such bricks again. As one result counts what is copied
-    /// of up to 4096 squares, where a run needed a store of its own.
+    /// How many units of work are used up: no more than may be. A unit is the centre of a square that isn't
+    /// empty, after some generations, that wasn't remembered; or a brick of a plane that is stepped, one
+    /// generation on; or a square that is made of such bricks again. Where a run needed a store of its own, a
+    /// tree is copied out of it for a unit for each 4096 of its squares, and one besides. Units are counted
+    /// before what they are for is done: where too few are left for it, these are used up all the same.
     pub fn used(&self) -> u64
         ensures value { result ≡ self.now.spent.used }
         ensures most { result ≤ self.now.spent.limit }
@@ -131,7 +132,7 @@ impl<A: Automaton> Leaper<A> {
         self.work.used()
     }
 
-    // Counts a result before it is worked out.
+    // Counts units of work before they are done.
     fn charge(&mut self, units: u64) -> Result<(), LeapFault>
         ensures at_cost { GoesOnAtCost A self.old self.new units 0 }
         ensures same { self.new.nodes ≡ self.old.nodes }

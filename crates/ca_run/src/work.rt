@@ -1,6 +1,6 @@
 //! Work that is counted.
 
-ghost use Rattle.std.specs.Prelude.{◌≡◌, ◌+◌, ◌≤◌, OnOk};
+ghost use Rattle.std.specs.Prelude.{◌≡◌, ◌+◌, ◌<◌, ◌≤◌, ◌^◌, OnOk};
 ghost use Rattle.ca_run.specs.Leaping.{Spends, EndsAtLimit};
 
 use crate::fault::LeapFault;
@@ -47,6 +47,7 @@ impl Work {
     pub(crate) fn charge(&mut self, units: u64) -> Result<(), LeapFault>
         ensures counts { OnOk result (self.new.used ≡ self.old.used + units) }
         ensures most { self.new.used ≤ self.old.used + units }
+        ensures fits { self.new.used < 2 ^ 64 }
         ensures spends { Spends self.old self.new }
         ensures work { EndsAtLimit self.new result }
     {

@@ -1,7 +1,7 @@
 //! Generations of a wall.
 
 ghost use Rattle.std.specs.Prelude.{◌≡◌, ℕ, ◌+◌, ◌*◌, ◌<◌, ◌≤◌, ◌^◌, []};
-ghost use Rattle.std.specs.Prelude.{length, if◌then◌else◌, IfOk};
+ghost use Rattle.std.specs.Prelude.{length, min, if◌then◌else◌, IfOk, OnOk};
 ghost use Rattle.ca_plane.specs.Generations.{cells_after};
 ghost use Rattle.ca_plane.specs.Limits.{most_generations};
 ghost use Rattle.ca_quad.specs.Trees.{cell};
@@ -54,6 +54,20 @@ fn wake_next(is_first: bool, alloc: Global, queue: &mut Queue, awake: &mut Vec<u
     }
 }
 
+// Counts the bricks of a list before they are stepped, but no more than there are.
+fn count_steps(work: &mut Work, awake: &[usize], count: usize) -> Result<u64, LeapFault>
+    ensures steps { IfOk result (λ steps. steps ≡ min (length awake.now) count) }
+    ensures counts { OnOk result (work.new.used ≡ work.old.used + min (length awake.now) count) }
+    ensures most { work.new.used ≤ work.old.used + count }
+    ensures fits { work.new.used < 2 ^ 64 }
+    ensures spends { Spends work.old work.new }
+    ensures work { EndsAtLimit work.new result }
+{
+    let steps = awake.len().min(count) as u64;
+    work.charge(steps)?;
+    Ok(steps)
+}
+
 impl Wall {
     /// The wall n generations on. The run began with a tree, so many generations before. Each brick that is
     /// stepped is counted before: no more in a generation than there are.
@@ -71,10 +85,12 @@ impl Wall {
         requires begins { CanStepFor (A.next_of leaper.now.rule) masks
             (cell leaper.now.nodes first.now) reached n self }
         requires time { reached + n ≤ most_generations }
+        requires fresh { self.work ≡ 0 }
         ensures shows { IfOk result (λ later. WallShows later 0
             (cells_after (A.next_of leaper.now.rule) (cell leaper.now.nodes first.now) (reached + n))) }
         ensures place { IfOk result (IsInPlace self) }
         ensures spends { Spends work.old work.new }
+        ensures counts { IfOk result (λ later. work.new.used ≡ work.old.used + later.work) }
         ensures most { work.new.used ≤ work.old.used + n * length self.bricks.items }
         ensures work { EndsAtLimit work.new result }
     {
@@ -83,8 +99,7 @@ impl Wall {
         let mut queue = Queue::new(alloc, count)?;
         let mut before = blank_bricks(alloc, count)?;
         'generations: for k in 0..n {
-            let steps = awake.len().min(count) as u64;
-            work.charge(steps)?;
+            let steps = count_steps(work, &awake, count)?;
             self.work = self.work.saturating_add(steps);
             generation(
                 self.across,

@@ -22,8 +22,8 @@ impl<A: Automaton> Leaper<A> {
     ///
     /// # Errors
     ///
-    /// `Memory` where there is no memory for more squares or results, and `Work` where as many results were
-    /// worked out as may be. Every tree stays as it was, and later calls go on with what was worked out so
+    /// `Memory` where there is no memory for more squares or results, and `Work` where as many units of work
+    /// are used up as may be. Every tree stays as it was, and later calls go on with what was worked out so
     /// far.
     pub fn advance(&mut self, tree: Tree, n: u64) -> Result<Tree, LeapFault>
         requires { CanAdvance self.old.nodes tree n }

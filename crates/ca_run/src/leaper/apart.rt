@@ -1,7 +1,7 @@
 //! Runs that make too many squares for the leaper's store: they go on in a store of their own, whose squares
 //! are left behind from time to time but for those of the tree.
 
-ghost use Rattle.std.specs.Prelude.{◌≡◌, ◌+◌, ◌*◌, ◌≤◌, ◌<◌, length, take, IfOk, OnErr};
+ghost use Rattle.std.specs.Prelude.{◌≡◌, ◌+◌, ◌*◌, ◌/◌, ◌≤◌, ◌<◌, length, take, IfOk, OnErr};
 ghost use Rattle.ca_quad.specs.Sound.{Grows};
 ghost use Rattle.ca_quad.specs.Trees.{IsTree};
 ghost use Rattle.ca_run.specs.Advanced.{CanAdvance, IsAdvanced};
@@ -86,13 +86,15 @@ impl<A: Automaton> Leaper<A> {
         mem::replace(&mut self.store, store)
     }
 
-    // The tree of another store, whose squares are counted before they are copied.
+    // The tree of another store. Before it is copied a unit is counted for each 4096 squares of that store,
+    // and one besides.
     fn take(&mut self, from: &Store, tree: Tree) -> Result<Tree, LeapFault>
         requires { IsTree from.now tree }
         ensures moved { IfOk result (IsCopyOfTree from.now tree self.new.nodes) }
         ensures goes_on { LeaperGrows A self.old self.new }
         ensures made { length self.new.nodes + 4096 * self.old.spent.used
             ≤ length self.old.nodes + 4096 * self.new.spent.used }
+        ensures few { self.new.spent.used ≤ self.old.spent.used + (length from.now / 4096 + 1) }
         ensures work { EndsAtLimit self.new.spent result }
     {
         self.charge((from.count() / A_UNIT + 1) as u64)?;

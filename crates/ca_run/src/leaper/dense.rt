@@ -216,10 +216,12 @@ impl<A: Automaton> Leaper<A> {
         requires least { 7 ≤ first.now.level }
         requires margin { generations ≤ 1024 }
         requires time { reached + generations ≤ most_generations }
+        requires fresh { wall.work ≡ 0 }
         ensures shows { IfOk result (λ later. WallShows later 0 (cells_after (A.next_of self.old.rule)
             (cell self.old.nodes first.now) (reached + generations))) }
         ensures place { IfOk result (IsInPlace wall) }
         ensures same { self.new.nodes ≡ self.old.nodes }
+        ensures counts { IfOk result (λ later. self.new.spent.used ≡ self.old.spent.used + later.work) }
         ensures at_cost { GoesOnAtCost A self.old self.new (14 ^ (first.now.level + 4)) 0 }
         ensures work { EndsAtLimit self.new.spent result }
     {
@@ -250,6 +252,7 @@ impl<A: Automaton> Leaper<A> {
         ensures room { IfOk result (λ found. IfSome found
             (λ wall. wall.across + length wall.bricks.items < 2 ^ 63)) }
         ensures few { IfOk result (λ found. IfSome found (λ wall. length wall.bricks.items ≤ 2 ^ 18)) }
+        ensures fresh { IfOk result (λ found. IfSome found (λ wall. wall.work ≡ 0)) }
         ensures some { margin ≡ 0 → result ≡ Ok None }
     {
         if margin == 0 || tree.level < LEAST || tree.level > GREATEST {

@@ -3,7 +3,8 @@
 ghost use Rattle.std.specs.Prelude.{◌≡◌, ◌⊎◌, ◌<◌, ◌^◌, ℕ, length};
 ghost use Rattle.std.specs.Prelude.{IfSome, IfOk, OnOk, Some, Option, slice_get};
 ghost use Rattle.std.specs.NonZero.{non_zero_usize_get};
-ghost use Rattle.ca_run.specs.Pages.{HasPageKey, HasFullLeap, HasSingle, RemembersNoMore, IsBlankMemo};
+ghost use Rattle.ca_run.specs.inner.Pages.{HasPageKey, HasFullLeap, HasSingle, RemembersNoMore};
+ghost use Rattle.ca_run.specs.inner.Pages.{IsBoundedMemo, IsBlankMemo};
 ghost use Rattle.ca_run.specs.declared.leaper.page.Page.{Page};
 ghost use Rattle.ca_run.specs.declared.leaper.key.Key.TheVariants.{Page as OfPage, Single};
 
@@ -31,7 +32,7 @@ pub(crate) struct Memo {
 }
 
 impl Model for Memo {
-    ghost use Rattle.ca_run.specs.Pages.{MemoView, IsBoundedMemo};
+    ghost use Rattle.ca_run.specs.inner.Pages.{MemoView, IsBoundedMemo};
 
     ghost Value = { MemoView };
 
@@ -72,6 +73,7 @@ impl Memo {
     pub(crate) fn full_leap(&mut self, id: Id) -> Option<Id>
         ensures found { IfSome result (HasFullLeap self.old id) }
         ensures no_more { RemembersNoMore self.old self.new }
+        ensures bounded { IsBoundedMemo self.new.pages self.new.order }
     {
         let place = id.number();
         let number = place / 16;
@@ -97,6 +99,7 @@ impl Memo {
         ensures singles { (other j centre : ℕ) → HasSingle self.new other j centre
             → HasSingle self.old other j centre }
         ensures capacity { self.new.order.cap ≡ self.old.order.cap }
+        ensures bounded { IsBoundedMemo self.new.pages self.new.order }
     {
         self.ensure_page(id)?;
         self.write(id, half);
@@ -110,13 +113,15 @@ impl Memo {
         ensures singles { (other time centre : ℕ) → HasSingle self.new other time centre
             → HasSingle self.old other time centre ⊎ ((other ≡ id) × (time ≡ j) × (centre ≡ half)) }
         ensures capacity { self.new.order.cap ≡ self.old.order.cap }
+        ensures bounded { IsBoundedMemo self.new.pages self.new.order }
     {
         self.admit(Key::Single(id, j), Some(half))
     }
 
     // Sees that the page of a square stands.
     fn ensure_page(&mut self, id: Id) -> Result<(), Memory>
-        ensures { RemembersNoMore self.old self.new }
+        ensures no_more { RemembersNoMore self.old self.new }
+        ensures bounded { IsBoundedMemo self.new.pages self.new.order }
     {
         let number = id.number() / 16;
         self.make_room(number)?;
@@ -132,6 +137,7 @@ impl Memo {
         ensures full_leaps { (other centre : ℕ) → HasFullLeap self.new other centre
             → HasFullLeap self.old other centre ⊎ ((other ≡ id) × (centre ≡ half)) }
         ensures order { self.new.order ≡ self.old.order }
+        ensures bounded { IsBoundedMemo self.new.pages self.new.order }
     {
         let place = id.number();
         let number = place / 16;
@@ -148,6 +154,7 @@ impl Memo {
         requires { page < 2 ^ 32 }
         ensures room { OnOk result (page < length self.new.pages) }
         ensures no_more { RemembersNoMore self.old self.new }
+        ensures bounded { IsBoundedMemo self.new.pages self.new.order }
     {
         if page < self.pages.len() {
             return Ok(());
@@ -192,6 +199,7 @@ impl Memo {
             → HasPageKey self.new.order.entries page) }
         ensures capacity { self.new.order.cap ≡ self.old.order.cap }
         ensures room { length self.new.pages ≡ length self.old.pages }
+        ensures bounded { IsBoundedMemo self.new.pages self.new.order }
     {
         self.spare_used();
         let gone = self.order.push(key, half)?;

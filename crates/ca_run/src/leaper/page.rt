@@ -1,7 +1,7 @@
 //! Results of squares with neighbouring numbers.
 
 ghost use Rattle.std.specs.Prelude.{ℕ};
-ghost use Rattle.ca_run.specs.Pages.{HasSlot};
+ghost use Rattle.ca_run.specs.inner.Pages.{HasSlot};
 
 use ca_quad::Id;
 

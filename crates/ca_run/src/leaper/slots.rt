@@ -1,7 +1,7 @@
 //! Results that cost little: tables of bounded size remember them, and may drop any.
 
-ghost use Rattle.std.specs.Prelude.{◌≡◌, ℕ, ◌⊎◌, ◌≤◌, [], IfSome};
-ghost use Rattle.ca_run.specs.Slots.{HasRecent};
+ghost use Rattle.std.specs.Prelude.{◌≡◌, ℕ, ◌⊎◌, ◌≤◌, [], length, IfSome};
+ghost use Rattle.ca_run.specs.inner.Slots.{HasRecent};
 
 use super::slot_key::SlotKey;
 use ca_quad::Id;
@@ -24,7 +24,7 @@ pub(crate) struct Slots<K: SlotKey> {
 
 impl<K: SlotKey> Model for Slots<K> {
     ghost use Rattle.std.specs.Prelude.{◌≤◌, length};
-    ghost use Rattle.ca_run.specs.Slots.{SlotsView};
+    ghost use Rattle.ca_run.specs.inner.Slots.{SlotsView};
 
     ghost Value = { SlotsView K };
 
@@ -77,6 +77,7 @@ impl<K: SlotKey> Slots<K> {
         ensures results { (other : K) (any : ℕ) → HasRecent self.new.slots other any
             → HasRecent self.old.slots other any ⊎ ((other ≡ key) × (any ≡ square)) }
         ensures most { self.new.most ≡ self.old.most }
+        ensures bounded { length self.new.slots ≤ self.new.most }
     {
         self.count_one();
         let place = self.place(key);

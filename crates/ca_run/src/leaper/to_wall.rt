@@ -133,6 +133,7 @@ impl<A: Automaton> Leaper<A> {
         ensures room { IfOk result (λ found. IfSome found
             (λ wall. wall.across + length wall.bricks.items < 2 ^ 63)) }
         ensures few { IfOk result (λ found. IfSome found (λ wall. length wall.bricks.items ≤ 2 ^ 18)) }
+        ensures fresh { IfOk result (λ found. IfSome found (λ wall. wall.work ≡ 0)) }
     {
         let across = frame.columns.count;
         let mut bricks = Vec::new(alloc);

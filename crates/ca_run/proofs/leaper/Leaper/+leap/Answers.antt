@@ -49,6 +49,13 @@ new_centre-returns-clause-centre g t c =
     nine_centre next c.args.self.now.nodes c.centre_of_nine-2.new.self.nodes sound c.centre_of_nine-2.ensures.at_cost.goes_on.grows c.centre_of_nine-2.result c.args.id (c.args.grain - 1) c.args.grain 0 (2 ^ c.args.j) c.args.j up
     c.requires.centre.is_square c.requires.centre.in_time sum (λ p a b shows. c.centre_of_nine-2.ensures.shows next p a b refl shows)
 
+pub pair-first_inner-requires-2 : goal.pair-first_inner-requires-2
+pair-first_inner-requires-2 g t c κs within =
+    let sound = subst (λ l. IsSoundStore l.nodes) c.self.view_is c.self.invariant.squares in
+    let four = four_there _ _ sound c.in_ok-west.ensures.at_cost.goes_on.grows (suc c.args.grain) _ _ _ _ (omega (arith, c.requires.low))
+    c.requires.north.middle c.requires.north.east c.requires.south.middle c.requires.south.east in
+    search rules
+
 pub pair-returns-clause-shows : goal.pair-returns-clause-shows
 pair-returns-clause-shows g t c = λ next p a b e north south.
     let k = c.args.grain in

@@ -1,44 +1,45 @@
 use Rattle.std.proofs.Common.{arith, sym, subst}
 use Rattle.std.proofs.lemmas.Bool.Decides.{nat_tests}
 use Rattle.ca_run.specs.Centre.{IsCentre}
+use Rattle.ca_run.proofs.LeapResults.{full_leaps_of, singles_of, centres_of, leaps_of, leaper_with}
 use Rattle.ca_run.proofs.ShownPlanes.{kept_more, full_leaps_more, singles_more}
 use Rattle.ca_run.proofs.leaper.Leaper.remember.Goals as goal
 
 pub invariant_of-self : goal.invariant_of-self
-invariant_of-self g c = record {
-  rule = c.self.invariant.rule;
-  squares = c.self.invariant.squares;
-  full_leaps = full_leaps_more (g.A.Automaton.next_of c.self.inside.rule) c.self.inside.store c.self.inside.memo c.put_full_leap.new.self c.args.id c.args.grain c.args.j c.args.half (grind (arith, nat_tests)) c.self.invariant.full_leaps
-      (subst (λ l. IsCentre (g.A.Automaton.next_of l.rule) l.nodes c.args.id c.args.grain c.args.j c.args.half) (sym c.self.view_is) c.requires) c.put_full_leap.ensures.full_leaps;
-  singles = λ id j half e. c.self.invariant.singles id j half (c.put_full_leap.ensures.singles id j half e);
-  recent_centres = c.self.invariant.recent_centres;
-  recent_leaps = c.self.invariant.recent_leaps;
-  within = omega (arith, c.put_full_leap.ensures.capacity, c.self.invariant.within);
-  by_masks = c.self.invariant.by_masks;
-}
+invariant_of-self g c =
+    let next = g.A.Automaton.next_of c.self.inside.rule in
+    let s = c.self.inside in
+    let all = c.self.invariant.remembers.true_results in
+    let bounded = c.self.invariant.bounded in
+    let put = c.put_full_leap in
+    let centre = subst (λ l. IsCentre (g.A.Automaton.next_of l.rule) l.nodes c.args.id c.args.grain c.args.j c.args.half) (sym c.self.view_is) c.requires in
+    let full = full_leaps_more next s.store s.memo put.new.self c.args.id c.args.grain c.args.j c.args.half (grind (arith, nat_tests)) (full_leaps_of next s.store s.memo s.recent_centres s.recent_leaps all) centre put.ensures.full_leaps in
+    leaper_with c.self.invariant put.new.self s.recent_centres s.recent_leaps full (λ id j half e. singles_of next s.store s.memo s.recent_centres s.recent_leaps all id j half (put.ensures.singles id j half e))
+    (centres_of next s.store s.memo s.recent_centres s.recent_leaps all) (leaps_of next s.store s.memo s.recent_centres s.recent_leaps all)
+    (record { within = omega (arith, put.ensures.capacity, bounded.within); entries = put.ensures.bounded; few_centres = bounded.few_centres; few_leaps = bounded.few_leaps })
 
 pub invariant_of-self-then-is_cheap : goal.invariant_of-self-then-is_cheap
-invariant_of-self-then-is_cheap g c = record {
-  rule = c.self.invariant.rule;
-  squares = c.self.invariant.squares;
-  full_leaps = c.self.invariant.full_leaps;
-  singles = c.self.invariant.singles;
-  recent_centres = kept_more (g.A.Automaton.next_of c.self.inside.rule) c.self.inside.store c.self.inside.recent_centres.slots c.put.new.self.slots c.args.id c.args.grain c.args.j c.args.half c.self.invariant.recent_centres
-      (subst (λ l. IsCentre (g.A.Automaton.next_of l.rule) l.nodes c.args.id c.args.grain c.args.j c.args.half) (sym c.self.view_is) c.requires) c.put.ensures.results;
-  recent_leaps = c.self.invariant.recent_leaps;
-  within = omega (arith, c.put.ensures.most, c.self.invariant.within);
-  by_masks = c.self.invariant.by_masks;
-}
+invariant_of-self-then-is_cheap g c =
+    let next = g.A.Automaton.next_of c.self.inside.rule in
+    let s = c.self.inside in
+    let all = c.self.invariant.remembers.true_results in
+    let bounded = c.self.invariant.bounded in
+    let put = c.put in
+    let centre = subst (λ l. IsCentre (g.A.Automaton.next_of l.rule) l.nodes c.args.id c.args.grain c.args.j c.args.half) (sym c.self.view_is) c.requires in
+    let more = kept_more next s.store s.recent_centres.slots put.new.self.slots c.args.id c.args.grain c.args.j c.args.half (centres_of next s.store s.memo s.recent_centres s.recent_leaps all) centre put.ensures.results in
+    leaper_with c.self.invariant s.memo put.new.self s.recent_leaps (full_leaps_of next s.store s.memo s.recent_centres s.recent_leaps all) (singles_of next s.store s.memo s.recent_centres s.recent_leaps all)
+    more (leaps_of next s.store s.memo s.recent_centres s.recent_leaps all)
+    (record { within = omega (arith, put.ensures.most, bounded.within); entries = bounded.entries; few_centres = put.ensures.bounded; few_leaps = bounded.few_leaps })
 
 pub invariant_of-self-2 : goal.invariant_of-self-2
-invariant_of-self-2 g c = record {
-  rule = c.self.invariant.rule;
-  squares = c.self.invariant.squares;
-  full_leaps = λ id half e. c.self.invariant.full_leaps id half (c.put_single.ensures.full_leaps id half e);
-  singles = singles_more (g.A.Automaton.next_of c.self.inside.rule) c.self.inside.store c.self.inside.memo c.put_single.new.self c.args.id c.args.grain c.args.j c.args.half c.self.invariant.singles
-      (subst (λ l. IsCentre (g.A.Automaton.next_of l.rule) l.nodes c.args.id c.args.grain c.args.j c.args.half) (sym c.self.view_is) c.requires) c.put_single.ensures.singles;
-  recent_centres = c.self.invariant.recent_centres;
-  recent_leaps = c.self.invariant.recent_leaps;
-  within = omega (arith, c.put_single.ensures.capacity, c.self.invariant.within);
-  by_masks = c.self.invariant.by_masks;
-}
+invariant_of-self-2 g c =
+    let next = g.A.Automaton.next_of c.self.inside.rule in
+    let s = c.self.inside in
+    let all = c.self.invariant.remembers.true_results in
+    let bounded = c.self.invariant.bounded in
+    let put = c.put_single in
+    let centre = subst (λ l. IsCentre (g.A.Automaton.next_of l.rule) l.nodes c.args.id c.args.grain c.args.j c.args.half) (sym c.self.view_is) c.requires in
+    let singles = singles_more next s.store s.memo put.new.self c.args.id c.args.grain c.args.j c.args.half (singles_of next s.store s.memo s.recent_centres s.recent_leaps all) centre put.ensures.singles in
+    leaper_with c.self.invariant put.new.self s.recent_centres s.recent_leaps (λ id half e. full_leaps_of next s.store s.memo s.recent_centres s.recent_leaps all id half (put.ensures.full_leaps id half e)) singles
+    (centres_of next s.store s.memo s.recent_centres s.recent_leaps all) (leaps_of next s.store s.memo s.recent_centres s.recent_leaps all)
+    (record { within = omega (arith, put.ensures.capacity, bounded.within); entries = put.ensures.bounded; few_centres = bounded.few_centres; few_leaps = bounded.few_leaps })

@@ -1,17 +1,17 @@
 use Rattle.std.proofs.Common.{sym, subst, arith}
 use Rattle.ca_run.specs.Centre.{IsLeap}
+use Rattle.ca_run.proofs.LeapResults.{full_leaps_of, singles_of, centres_of, leaps_of, leaper_with}
 use Rattle.ca_run.proofs.ShownPlanes.{leaps_more}
 use Rattle.ca_run.proofs.leaper.Leaper.remember_leap.Goals as goal
 
 pub invariant_of-self : goal.invariant_of-self
-invariant_of-self g c = record {
-  rule = c.self.invariant.rule;
-  squares = c.self.invariant.squares;
-  full_leaps = c.self.invariant.full_leaps;
-  singles = c.self.invariant.singles;
-  recent_centres = c.self.invariant.recent_centres;
-  recent_leaps = leaps_more (g.A.Automaton.next_of c.self.inside.rule) c.self.inside.store c.self.inside.recent_leaps.slots c.put.new.self.slots c.args.grain c.args.nw c.args.ne c.args.sw c.args.se c.args.half c.self.invariant.recent_leaps
-      (subst (λ l. IsLeap (g.A.Automaton.next_of l.rule) l.nodes c.args.grain c.args.nw c.args.ne c.args.sw c.args.se c.args.half) (sym c.self.view_is) c.requires) c.put.ensures.results;
-  within = omega (arith, c.put.ensures.most, c.self.invariant.within);
-  by_masks = c.self.invariant.by_masks;
-}
+invariant_of-self g c =
+    let next = g.A.Automaton.next_of c.self.inside.rule in
+    let s = c.self.inside in
+    let all = c.self.invariant.remembers.true_results in
+    let bounded = c.self.invariant.bounded in
+    let leap = subst (λ l. IsLeap (g.A.Automaton.next_of l.rule) l.nodes c.args.grain c.args.nw c.args.ne c.args.sw c.args.se c.args.half) (sym c.self.view_is) c.requires in
+    leaper_with c.self.invariant s.memo s.recent_centres c.put.new.self (full_leaps_of next s.store s.memo s.recent_centres s.recent_leaps all) (singles_of next s.store s.memo s.recent_centres s.recent_leaps all)
+    (centres_of next s.store s.memo s.recent_centres s.recent_leaps all)
+    (leaps_more next s.store s.recent_leaps.slots c.put.new.self.slots c.args.grain c.args.nw c.args.ne c.args.sw c.args.se c.args.half (leaps_of next s.store s.memo s.recent_centres s.recent_leaps all) leap c.put.ensures.results)
+    (record { within = omega (arith, c.put.ensures.most, bounded.within); entries = bounded.entries; few_centres = bounded.few_centres; few_leaps = c.put.ensures.bounded })

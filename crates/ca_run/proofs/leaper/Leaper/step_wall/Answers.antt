@@ -1,4 +1,4 @@
-use Rattle.std.proofs.Common.{◌+◌, ◌<◌, ◌≤◌, ◌^◌, length, IfSome, subst, ◌∙◌, arith}
+use Rattle.std.proofs.Common.{◌≡◌, ◌+◌, ◌<◌, ◌≤◌, ◌^◌, length, IfSome, subst, ◌∙◌, arith}
 use Rattle.ca_plane.specs.Generations.{cells_after}
 use Rattle.ca_quad.specs.Trees.{cell}
 use Rattle.ca_run.specs.inner.Bricks.{WallShows}
@@ -20,6 +20,9 @@ later_wall-requires-clause-room g c = subst (λ found. IfSome found (λ wall. wa
 
 pub later_wall-requires-clause-few : goal.later_wall-requires-clause-few
 later_wall-requires-clause-few g c = subst (λ found. IfSome found (λ wall. length wall.bricks.items ≤ 2 ^ 18)) c.in-Some.is c.in_ok-wall.ensures.few
+
+pub later_wall-requires-clause-fresh : goal.later_wall-requires-clause-fresh
+later_wall-requires-clause-fresh g c = subst (λ found. IfSome found (λ wall. wall.work ≡ 0)) c.in-Some.is c.in_ok-wall.ensures.fresh
 
 pub returns-clause-reached : goal.returns-clause-reached
 returns-clause-reached g c =

@@ -41,6 +41,7 @@ generations-init g c =
       edge_before = c.in_ok-before.ensures.blank across;
       all = λ _. all;
       spends = spends_same c.args.work.now;
+      counted = omega (arith, c.requires.fresh);
       most = omega arith;
     }
 
@@ -73,8 +74,9 @@ generations-preserved g c =
       edge = made.edge inv.edge_before;
       edge_before = subst (λ l. HasBlankEdge across l) (sym made.before) inv.edge;
       all = λ e. absurd (omega (arith, e));
-      spends = spends_again inv.spends c.charge.ensures.spends;
-      most = bricks_charged _ _ _ k (length c.args.self.bricks.items) c.min-steps.result inv.most c.charge.ensures.most (omega (arith, c.min-steps.ensures, c.len-count.ensures, c.args.self.bricks.ok.0));
+      spends = spends_again inv.spends c.count_steps.ensures.spends;
+      counted = omega (arith, inv.counted, c.count_steps.ensures.fits, c.in_ok-steps.ensures.counts, c.in_ok-steps.ensures.steps, c.saturating_add.ensures);
+      most = bricks_charged _ _ _ k (length c.args.self.bricks.items) c.len-count.result inv.most c.count_steps.ensures.most (omega (arith, c.len-count.ensures, c.args.self.bricks.ok.0));
     }
 
 -- what is charged of a run that ends within it
@@ -84,26 +86,26 @@ charged_within n k count steps first old new early few was charged =
     let all : (k + 1) * count ≤ n * count = mul-le-mul_right count (omega (arith, early)) in
     omega (arith, most, all)
 
-pub returns-in_err-charge-clause-most : goal.returns-in_err-charge-clause-most
-returns-in_err-charge-clause-most g c =
-    charged_within c.args.n c.generations.k (length c.args.self.bricks.items) c.min-steps.result _ _ _ (omega (arith, c.generations-test.true))
-    (omega (arith, c.min-steps.ensures, c.len-count.ensures, c.args.self.bricks.ok.0)) c.generations.invariant.most c.charge.ensures.most
+pub returns-in_err-steps-clause-most : goal.returns-in_err-steps-clause-most
+returns-in_err-steps-clause-most g c =
+    charged_within c.args.n c.generations.k (length c.args.self.bricks.items) c.len-count.result _ _ _ (omega (arith, c.generations-test.true))
+    (omega (arith, c.len-count.ensures, c.args.self.bricks.ok.0)) c.generations.invariant.most c.count_steps.ensures.most
 
 pub returns-in_err-generation-clause-most : goal.returns-in_err-generation-clause-most
 returns-in_err-generation-clause-most g c =
-    charged_within c.args.n c.generations.k (length c.args.self.bricks.items) c.min-steps.result _ _ _ (omega (arith, c.generations-test.true))
-    (omega (arith, c.min-steps.ensures, c.len-count.ensures, c.args.self.bricks.ok.0)) c.generations.invariant.most c.charge.ensures.most
+    charged_within c.args.n c.generations.k (length c.args.self.bricks.items) c.len-count.result _ _ _ (omega (arith, c.generations-test.true))
+    (omega (arith, c.len-count.ensures, c.args.self.bricks.ok.0)) c.generations.invariant.most c.count_steps.ensures.most
 
 pub returns-clause-most : goal.returns-clause-most
 returns-clause-most g c =
     let all : c.generations.k ≡ c.args.n = grind (arith, nat_tests) in
     subst (λ n. c.generations.work.used ≤ c.args.work.now.used + n * length c.args.self.bricks.items) all c.generations.invariant.most
 
-pub returns-in_err-charge-clause-spends : goal.returns-in_err-charge-clause-spends
-returns-in_err-charge-clause-spends g c = spends_again c.generations.invariant.spends c.charge.ensures.spends
+pub returns-in_err-steps-clause-spends : goal.returns-in_err-steps-clause-spends
+returns-in_err-steps-clause-spends g c = spends_again c.generations.invariant.spends c.count_steps.ensures.spends
 
 pub returns-in_err-generation-clause-spends : goal.returns-in_err-generation-clause-spends
-returns-in_err-generation-clause-spends g c = spends_again c.generations.invariant.spends c.charge.ensures.spends
+returns-in_err-generation-clause-spends g c = spends_again c.generations.invariant.spends c.count_steps.ensures.spends
 
 pub returns-clause-spends : goal.returns-clause-spends
 returns-clause-spends g c = c.generations.invariant.spends

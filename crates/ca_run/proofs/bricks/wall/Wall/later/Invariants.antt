@@ -20,5 +20,6 @@ invariant-generations g l = record {
   edge_before : HasBlankEdge l.self.across l.before.items;
   all : l.k ≡ 0 → (t : ℕ) → HasNeighbours l.self.across (length l.self.bricks.items) t → IsNotIn l.awake.items t → ⊥;
   spends : Spends l.fn.work l.work;
+  counted : l.work.used ≡ l.fn.work.used + l.self.work;
   most : l.work.used ≤ l.fn.work.used + l.k * length l.fn.self.bricks.items;
 }

@@ -1,5 +1,5 @@
 use Rattle.std.proofs.Common.{subst, ◌∙◌, inl, inr}
-use Rattle.ca_run.specs.Pages.{HasSingle}
+use Rattle.ca_run.specs.inner.Pages.{HasSingle}
 use Rattle.ca_run.proofs.MemoKeys.{put-held, put-near, put-there}
 use Rattle.ca_run.proofs.leaper.memo.Memo.admit.Goals as goal
 
@@ -18,3 +18,10 @@ returns-clause-singles c = λ other j centre d. elim (put-near c.self.inside.ord
 
 pub returns-clause-there : goal.returns-clause-there
 returns-clause-there c = λ n e. rw c.in_ok-gone.ensures.entries (put-there c.self.inside.order c.args.key c.args.half n e)
+
+pub returns-clause-bounded : goal.returns-clause-bounded
+returns-clause-bounded c = record {
+  held = rw c.in_ok-gone.ensures.entries (put-held c.self.inside.order c.args.key c.args.half c.self.inside.pages.items c.drop_page.new.pages.items c.self.invariant.most c.self.invariant.held
+      (λ n page e. let r = c.drop_page.ensures.rest n page e in (r.0, λ w d. r.1 w (c.in_ok-gone.ensures.old ∙ d))));
+  most = c.len-keys.ensures.valid.1;
+}

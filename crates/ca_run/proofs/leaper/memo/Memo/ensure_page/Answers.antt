@@ -1,10 +1,10 @@
 use Rattle.std.proofs.Common.{refl, subst, sym, arith, ◌/◌}
-use Rattle.ca_run.specs.Pages.{MemoView, HasPageKey, HasFullLeap, HasSingle}
+use Rattle.ca_run.specs.inner.Pages.{MemoView, HasPageKey, HasFullLeap, HasSingle}
 use Rattle.ca_run.proofs.MemoKeys.{opened-held, opened-far, none-put}
 use Rattle.ca_run.proofs.leaper.memo.Memo.ensure_page.Goals as goal
 
-pub returns-in_err-admit : goal.returns-in_err-admit
-returns-in_err-admit c = record {
+pub returns-in_err-admit-clause-no_more : goal.returns-in_err-admit-clause-no_more
+returns-in_err-admit-clause-no_more c = record {
   full_leaps = λ id half f. c.in_ok-make_room.ensures.no_more.full_leaps id half (c.admit.ensures.full_leaps id half f);
   singles = λ id j half d. c.in_ok-make_room.ensures.no_more.singles id j half (none-put (c.admit.ensures.singles id j half d));
   capacity = grind (arith, c.admit.ensures.capacity, c.in_ok-make_room.ensures.no_more.capacity);
@@ -16,10 +16,16 @@ invariant_of-self c = let there = c.in_ok-admit.ensures.there _ refl in record {
   most = c.self-then-is_none.invariant.most;
 }
 
-pub returns-in_ok-admit : goal.returns-in_ok-admit
-returns-in_ok-admit c = record {
+pub returns-in_ok-admit-clause-no_more : goal.returns-in_ok-admit-clause-no_more
+returns-in_ok-admit-clause-no_more c = record {
   full_leaps = λ id half f. c.in_ok-make_room.ensures.no_more.full_leaps id half (c.admit.ensures.full_leaps id half
       (subst (λ m. HasFullLeap m id half) c.self-then-is_none.view_is (opened-far c.self-then-is_none.inside.pages.items _ c.empty.result c.empty.ensures id half f)));
   singles = λ id j half d. c.in_ok-make_room.ensures.no_more.singles id j half (none-put (c.admit.ensures.singles id j half (subst (λ m. HasSingle m id j half) c.self-then-is_none.view_is d)));
   capacity = grind (arith, c.self-then-is_none.view_is, c.admit.ensures.capacity, c.in_ok-make_room.ensures.no_more.capacity);
+}
+
+pub returns-in_ok-admit-clause-bounded : goal.returns-in_ok-admit-clause-bounded
+returns-in_ok-admit-clause-bounded c = let there = c.in_ok-admit.ensures.there _ refl in record {
+  held = opened-held c.self-then-is_none.inside.pages.items c.self-then-is_none.inside.order.entries (c.number-number.result / 16) c.empty.result (subst (λ (m : MemoView). HasPageKey m.order.entries (c.number-number.result / 16)) (sym c.self-then-is_none.view_is) there) c.self-then-is_none.invariant.held;
+  most = c.self-then-is_none.invariant.most;
 }

@@ -1,5 +1,5 @@
 use Rattle.std.proofs.Common.{◌≡◌, length}
-use Rattle.ca_run.specs.Pages.{RemembersNoMore}
+use Rattle.ca_run.specs.inner.Pages.{RemembersNoMore}
 use Rattle.ca_run.proofs.leaper.memo.Memo.spare_used.Given as goal
 
 abbrev pub invariant-pages : goal.invariant-pages

@@ -1,4 +1,4 @@
--- What a leaper's memo keeps: pages of results, single results, and the order in which they were used.
+-- What the memo of a leaper keeps: pages of results, single results, and the order in which they were used (our own).
 use Rattle.std.specs.Prelude.{◌≡◌, ℕ, ◌≤◌, ◌/◌, ◌%◌, List, [], Option, Some, length, slice_get}
 use Rattle.std.specs.List.{Contains}
 use Rattle.lru.specs.LruCache.{LruCache}

@@ -1,4 +1,4 @@
--- Tables of results that may drop any.
+-- Tables of results that may drop any (our own).
 use Rattle.std.specs.Prelude.{ℕ, List, Option, Some}
 use Rattle.std.specs.List.{Contains}
 
