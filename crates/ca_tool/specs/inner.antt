@@ -3,3 +3,4 @@ pub mod Judged
 pub mod Pieces
 pub mod Refusals
 pub mod Searches
+pub mod Tried

@@ -16,7 +16,8 @@ use crate::catalog::{Catalog, catalog_text};
 use crate::entry::{Content, Entry, Outcome, Subject};
 use crate::fault::ToolFault;
 use crate::names::{add_name, is_claim_path};
-use ca_claims::{DetailedFault, File, Limits, Observer, WordSet, identify_after};
+use crate::taken_names::TakenNames;
+use ca_claims::{DetailedFault, File, Limits, Observer, identify_after};
 use ca_plane::{Dev, Memory, send};
 use ca_rule::{Table, TableFault};
 use std::alloc::Global;
@@ -121,7 +122,7 @@ fn entries_of<'a, O: Observer>(
         search.now.generations search.now.limit [] subjects.now entries.items) }
     ensures memory { OnErr result (subjects.now ≢ []) }
 {
-    let mut names = WordSet::new(alloc);
+    let mut names = TakenNames::new(alloc);
     let mut entries = Vec::new(alloc);
     'subjects: for subject in subjects {
         observer.begins((entries.len() as u64).saturating_add(1));
@@ -137,7 +138,7 @@ fn entries_of<'a, O: Observer>(
 // The entry on a file, under a name that is put after the others.
 fn entry_of<'a, O: Observer>(
     alloc: Global,
-    names: &mut WordSet,
+    names: &mut TakenNames,
     subject: &Subject<'a>,
     search: &Search<'_>,
     observer: &mut O,

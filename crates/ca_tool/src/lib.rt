@@ -21,6 +21,7 @@ mod read;
 mod rule_folder;
 mod run;
 mod summary;
+mod taken_names;
 mod texts;
 mod view;
 

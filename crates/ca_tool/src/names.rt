@@ -1,16 +1,16 @@
 //! Names for the files of a claim text, of which no two are equal.
 
-ghost use Rattle.std.specs.Prelude.{◌≡◌, ◌<◌, ◌^◌, ◌-◌, ◌++◌, ◌∷◌, [], map, codes, decimal, IfOk, OnOk, OnErr};
+ghost use Rattle.std.specs.Prelude.{◌≡◌, ◌++◌, ◌∷◌, [], map, IfOk, OnOk, OnErr};
 ghost use Rattle.std.specs.List.{list_all};
 ghost use Rattle.ca_plane.specs.Bytes.{is_word_byte};
 ghost use Rattle.ca_plane.specs.Puts.{Puts};
 ghost use Rattle.ca_tool.specs.Names.{is_word, is_claim_path, last_component, without_ending, name_byte};
-ghost use Rattle.ca_tool.specs.Names.{with_first_byte, claim_name, numbered_name, IsFreeName};
+ghost use Rattle.ca_tool.specs.Names.{with_first_byte, claim_name, IsFreeName};
 
-use ca_claims::WordSet;
+use crate::taken_names::TakenNames;
 use ca_plane::Memory;
 use ca_plane::bytes::is_word_byte;
-use ca_plane::text::{push_number, push_text};
+use ca_plane::text::push_text;
 use std::alloc::Global;
 
 fn are_word_bytes(bytes: &[u8]) -> bool
@@ -103,39 +103,6 @@ fn claim_name(alloc: Global, path: &[u8]) -> Result<Vec<u8>, Memory>
     Ok(name)
 }
 
-// The name itself, or with `-2`, `-3` and so on after it.
-fn numbered_name(alloc: Global, name: &[u8], place: u64) -> Result<Vec<u8>, Memory>
-    requires { place < 2 ^ 64 - 1 }
-    ensures { IfOk result (λ text. text.items ≡ numbered_name name.now place) }
-{
-    let mut text = Vec::from_slice(alloc, name)?;
-    if place == 0 {
-        return Ok(text);
-    }
-    push_suffix(&mut text, place + 1)?;
-    Ok(text)
-}
-
-fn push_suffix(out: &mut Vec<u8>, place: u64) -> Result<(), Memory>
-    ensures { OnOk result (Puts out.old.items out.new.items (codes "-" ++ decimal place)) }
-{
-    push_text(out, b"-")?;
-    push_number(out, place)
-}
-
-// The name itself, or the first with `-2`, `-3` and so on after it that is none of these.
-fn free_name(alloc: Global, names: &WordSet, name: &[u8]) -> Result<Vec<u8>, Memory>
-    ensures { IfOk result (λ free. IsFreeName names.now name.now free.items) }
-{
-    'places: for place in 0..u64::MAX {
-        let free = numbered_name(alloc, name, place)?;
-        if !names.contains(&free) {
-            return Ok(free);
-        }
-    }
-    Err(Memory)
-}
-
 /// A name for the file of a path that is none of these, and is put after them: the file's own name without its
 /// ending, with `_` for blanks, a leading `#` or no name at all, and with `-2`, `-3` and so on where that is
 /// taken.
@@ -143,13 +110,14 @@ fn free_name(alloc: Global, names: &WordSet, name: &[u8]) -> Result<Vec<u8>, Mem
 /// # Errors
 ///
 /// Fails where there is no memory for it, and then leaves the names as they were.
-pub(crate) fn add_name(alloc: Global, names: &mut WordSet, path: &[u8]) -> Result<Vec<u8>, Memory>
+pub(crate) fn add_name(
+    alloc: Global,
+    names: &mut TakenNames,
+    path: &[u8],
+) -> Result<Vec<u8>, Memory>
     ensures name { IfOk result (λ name. IsFreeName names.old (claim_name path.now) name.items) }
     ensures names { IfOk result (λ name. names.new ≡ names.old ++ name.items ∷ []) }
     ensures refused { OnErr result (names.new ≡ names.old) }
 {
-    let own = claim_name(alloc, path)?;
-    let name = free_name(alloc, names, &own)?;
-    names.put(alloc, &name)?;
-    Ok(name)
+    names.take(alloc, claim_name(alloc, path)?)
 }
