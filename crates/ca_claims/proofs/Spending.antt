@@ -13,7 +13,7 @@ use Rattle.ca_claims.specs.declared.claims.asks.Barred.{Barred}
 use Rattle.ca_claims.specs.declared.claims.asks.Barred.TheVariants.{Nothing, InPlace, Anywhere, EmptyPlane}
 use Rattle.ca_claims.specs.Limited.{most_runs, IsNoMoreThan, MayBeUsedUp}
 use Rattle.ca_claims.specs.inner.Subjects.{ShowsTree}
-use Rattle.ca_claims.specs.inner.Spending.{Takes, TakesHalves, most_halvings}
+use Rattle.ca_claims.specs.inner.Spending.{Takes, TakesHalves, most_halvings, most_looks}
 use Rattle.ca_claims.proofs.CellsNearMiddle.{trimmed_low}
 
 -- one run
@@ -59,26 +59,28 @@ takes_before old mid new runs level n same takes d less =
     omega (arith, used, most)
 
 -- a death is looked for among at most 2^60 generations, and nothing is taken yet
-pub halves_none : (old left level n : ℕ) → left ≤ most_generations → TakesHalves old old left level n
-halves_none old left level n few = record { halvings = most_halvings; few = omega arith; near = few; takes = λ d less. omega arith }
+pub halves_none : (old left level n : ℕ) → left ≤ n → n ≤ most_generations → TakesHalves old old left level n
+halves_none old left level n within few = record { runs = 0; halvings = most_halvings; few = omega arith; early = omega (arith, within); near = omega (arith, within, few); takes = λ d less. omega arith }
 
 -- it's looked for in half of them, after a run more
-halves_on : (old mid new left half level n halvings : ℕ) → halvings ≤ most_halvings → left ≤ 2 ^ halvings → 1 < left → half + half ≤ left + 1 → Takes old mid (most_halvings - halvings) level n → Takes mid new 1 level n → TakesHalves old new half level n
-halves_on old mid new left half level n zero few near some halved before now = absurd (omega (arith, near, some))
-halves_on old mid new left half level n (suc halvings) few near some halved before now = record {
+halves_on : (old mid new left half level n runs halvings : ℕ) → runs + halvings ≤ most_halvings → runs + left ≤ n → left ≤ 2 ^ halvings → 1 < left → half + half ≤ left + 1 → Takes old mid runs level n → Takes mid new 1 level n → TakesHalves old new half level n
+halves_on old mid new left half level n runs zero few early near some halved before now = absurd (omega (arith, near, some))
+halves_on old mid new left half level n runs (suc halvings) few early near some halved before now = record {
+  runs = runs + 1;
   halvings = halvings;
   few = omega (arith, few);
+  early = omega (arith, early, some, halved);
   near = omega (arith, two-pow-succ halvings, near, halved);
-  takes = takes_then old mid new (most_halvings - halvings) level n (most_halvings - suc halvings) 1 (omega (arith, few)) before now;
+  takes = takes_then old mid new (runs + 1) level n runs 1 (omega arith) before now;
 }
 
 pub takes_half : (old mid new left half level n m : ℕ) → 1 < left → half + half ≤ left + 1 → m ≤ n → TakesHalves old mid left level n → Takes mid new 1 level m → TakesHalves old new half level n
 takes_half old mid new left half level n m some halved sooner before now =
-    halves_on old mid new left half level n before.halvings before.few before.near some halved before.takes (λ d less. now d (omega (arith, sooner, less)))
+    halves_on old mid new left half level n before.runs before.halvings before.few before.early before.near some halved before.takes (λ d less. now d (omega (arith, sooner, less)))
 
--- it never takes more runs than halvings
-pub halves_all : (old new left level n : ℕ) → TakesHalves old new left level n → Takes old new most_halvings level n
-halves_all old new left level n takes = takes_fewer old new (most_halvings - takes.halvings) most_halvings level n (omega arith) takes.takes
+-- while some generation is left, no more runs are taken than that
+pub halves_all : (old new left level n : ℕ) → 1 ≤ left → TakesHalves old new left level n → Takes old new (most_looks n) level n
+halves_all old new left level n some takes = takes_fewer old new takes.runs (most_looks n) level n (let few = takes.few in let early = takes.early in omega (arith, few, early, some)) takes.takes
 
 -- what is no more than a tree may need is no more than a larger one may
 larger : (work : ℕ) (asks : Asks) (low level : ℕ) → low ≤ level → IsNoMoreThan work asks low → IsNoMoreThan work asks level
@@ -99,7 +101,7 @@ pub some_runs : (barred : Barred) (n : ℕ) → (barred ≢ Nothing → 1 ≤ n)
 some_runs Nothing n some = omega arith
 some_runs InPlace n some = some (λ e. cc)
 some_runs Anywhere n some = some (λ e. cc)
-some_runs EmptyPlane n some = omega arith
+some_runs EmptyPlane n some = let least = some (λ e. cc) in omega (arith, least)
 
 -- and where a return is barred, one and one for each earlier time
 pub all_runs : (barred : Barred) (n : ℕ) → barred ≢ Nothing → barred ≢ EmptyPlane → (barred ≢ Nothing → 1 ≤ n) → 1 + (n - 1) ≤ most_runs barred n
@@ -107,3 +109,7 @@ all_runs Nothing n other lives some = absurd (other refl)
 all_runs InPlace n other lives some = let least = some other in omega (arith, least)
 all_runs Anywhere n other lives some = let least = some other in omega (arith, least)
 all_runs EmptyPlane n other lives some = absurd (lives refl)
+
+-- where a death is, one and those that look for it
+pub death_runs : (n : ℕ) → 1 ≤ n → 1 + most_looks n ≤ most_runs EmptyPlane n
+death_runs n some = omega (arith, some)

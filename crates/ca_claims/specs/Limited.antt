@@ -1,5 +1,5 @@
 -- How much may be spent on the judgement of a claim.
-use Rattle.std.specs.Prelude.{ℕ, ◌+◌, ◌*◌, ◌<◌, ◌≤◌, ◌^◌, ℤ}
+use Rattle.std.specs.Prelude.{ℕ, ◌+◌, ◌*◌, ◌<◌, ◌≤◌, ◌^◌, min, ℤ}
 use Rattle.ca_plane.specs.Limits.{most_memo}
 use Rattle.ca_quad.specs.Trees.{HoldsAll}
 use Rattle.ca_claims.specs.declared.claims.asks.Asks.{Asks}
@@ -12,13 +12,13 @@ pub record AreGoodLimits (limits : Limits) : Type 0 where
   pub least : 1 ≤ limits.memo
   pub most : limits.memo ≤ most_memo
 
--- how often a pattern may be taken some generations on for a claim that asks this: once; where it may not be back at earlier times, no more
--- often than it claims generations; and where it may not be dead, no more than 64 times, since a death is found by halves
+-- how often a pattern may be taken some generations on for a claim that asks this: once, and where something is barred at earlier times,
+-- no more often than it claims generations; where that is an empty plane, also no more than 64 times, since a death is found by halves
 abbrev pub most_runs : Barred → (generations : ℕ) → ℕ
 most_runs Nothing generations = 1
 most_runs InPlace generations = generations
 most_runs Anywhere generations = generations
-most_runs EmptyPlane generations = 64
+most_runs EmptyPlane generations = min generations 64
 
 -- the work is no more than so many runs may need of a tree of this level: 14 to the power of the level, the binary digits of the
 -- generations, and 2

@@ -5,7 +5,7 @@ ghost use Rattle.ca_plane.specs.Plane.{Picture};
 ghost use Rattle.ca_plane.specs.Generations.{IsAfter};
 ghost use Rattle.ca_claims.specs.declared.claims.asks.Barred.TheVariants.{EmptyPlane};
 ghost use Rattle.ca_run.specs.Leaping.{LeaperGrows, EndsAtLimit};
-ghost use Rattle.ca_claims.specs.inner.Spending.{Takes, most_halvings};
+ghost use Rattle.ca_claims.specs.inner.Spending.{Takes, most_looks};
 ghost use Rattle.ca_claims.specs.inner.Returns.{IsSparedBefore, IsFirstDeath, IsLifeSpan};
 ghost use Rattle.ca_claims.specs.inner.Subjects.{ShowsTree, BarsDeath};
 
@@ -28,8 +28,8 @@ pub(super) fn first_death<A: Automaton, O: Observer>(
         (IsSparedBefore (A.next_of leaper.old.rule) cells EmptyPlane case.now.asks.generations)
         (IsFirstDeath (A.next_of leaper.old.rule) cells case.now.asks.generations)) }
     ensures goes_on { LeaperGrows A leaper.old leaper.new }
-    ensures takes { Takes leaper.old.spent.used leaper.new.spent.used most_halvings
-        case.now.subject.pattern.level case.now.asks.generations }
+    ensures takes { Takes leaper.old.spent.used leaper.new.spent.used
+        (most_looks case.now.asks.generations) case.now.subject.pattern.level case.now.asks.generations }
     ensures work { EndsAtLimit leaper.new.spent result }
 {
     let m = life_span(leaper, case, observer)?;
@@ -53,8 +53,8 @@ fn life_span<A: Automaton, O: Observer>(
         → IsAfter (A.next_of leaper.old.rule) cells case.now.asks.generations []
         → IfOk result (IsLifeSpan (A.next_of leaper.old.rule) cells) }
     ensures goes_on { LeaperGrows A leaper.old leaper.new }
-    ensures takes { Takes leaper.old.spent.used leaper.new.spent.used most_halvings
-        case.now.subject.pattern.level case.now.asks.generations }
+    ensures takes { Takes leaper.old.spent.used leaper.new.spent.used
+        (most_looks case.now.asks.generations) case.now.subject.pattern.level case.now.asks.generations }
     ensures work { EndsAtLimit leaper.new.spent result }
 {
     // Says what holds of every leaper.

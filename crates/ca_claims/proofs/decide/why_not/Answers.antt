@@ -1,7 +1,9 @@
-use Rattle.std.proofs.Common.{◌-◌, refl}
+use Rattle.std.proofs.Common.{◌+◌, ◌-◌, ◌≤◌, refl, sym, subst}
 use Rattle.ca_claims.proofs.LeaptTrees.{bars_stays, death_stays}
 use Rattle.ca_claims.proofs.Reasons.{live_case, death_is_some, bars_returns, difference_reason, true_at_once, by_death, by_return}
-use Rattle.ca_claims.proofs.Spending.{takes_fewer, takes_then, some_runs, all_runs}
+use Rattle.ca_claims.specs.Limited.{most_runs}
+use Rattle.ca_claims.specs.inner.Spending.{most_looks}
+use Rattle.ca_claims.proofs.Spending.{takes_fewer, takes_then, some_runs, all_runs, death_runs}
 use Rattle.ca_claims.proofs.decide.why_not.Goals as goal
 
 pub returns-in-Some-clause-why : goal.returns-in-Some-clause-why
@@ -47,6 +49,14 @@ pub returns-in-Some-clause-takes : goal.returns-in-Some-clause-takes
 returns-in-Some-clause-takes g c =
     let asks = c.args.case.now.asks in
     takes_fewer _ _ 1 _ c.args.case.now.subject.pattern.level asks.generations (some_runs asks.barred asks.generations c.requires.bounded.some) c.find_wrong_cell.ensures.takes
+
+pub returns-in-EmptyPlane-clause-takes : goal.returns-in-EmptyPlane-clause-takes
+returns-in-EmptyPlane-clause-takes g c =
+    let asks = c.args.case.now.asks in
+    let barred = c.in-EmptyPlane.is in
+    takes_then _ _ _ _ c.args.case.now.subject.pattern.level asks.generations 1 (most_looks asks.generations)
+    (subst (λ b. 1 + most_looks asks.generations ≤ most_runs b asks.generations) (sym barred) (death_runs asks.generations (c.requires.bounded.some (death_is_some asks.barred barred))))
+    c.find_wrong_cell.ensures.takes c.first_death.ensures.takes
 
 pub returns-in_default-barred-clause-takes : goal.returns-in_default-barred-clause-takes
 returns-in_default-barred-clause-takes g c =

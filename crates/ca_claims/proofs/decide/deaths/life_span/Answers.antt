@@ -15,7 +15,7 @@ pub halves-init : goal.halves-init
 halves-init g c = record {
   goes_on = search rules;
   bounds = search rules;
-  takes = halves_none _ _ c.args.case.now.subject.pattern.level c.args.case.now.asks.generations (omega (arith, c.requires.subject.bounded.few));
+  takes = halves_none _ _ c.args.case.now.subject.pattern.level c.args.case.now.asks.generations (omega arith) c.requires.subject.bounded.few;
 }
 
 pub halves-preserved-then-is_dead : goal.halves-preserved-then-is_dead
@@ -41,8 +41,8 @@ returns-clause-span g c = λ cells shows empty.
 
 pub returns-in_err-plane-clause-takes : goal.returns-in_err-plane-clause-takes
 returns-in_err-plane-clause-takes g c =
-    halves_all _ _ (c.half_way-middle.result - c.halves.low) c.args.case.now.subject.pattern.level c.args.case.now.asks.generations
+    halves_all _ _ (c.half_way-middle.result - c.halves.low) c.args.case.now.subject.pattern.level c.args.case.now.asks.generations (omega (arith, c.halves-test.true, c.half_way-middle.ensures))
     (takes_half _ _ _ _ _ c.args.case.now.subject.pattern.level c.args.case.now.asks.generations _ c.halves-test.true (omega (arith, c.halves-test.true, c.half_way-middle.ensures)) (omega (arith, c.halves-test.true, c.half_way-middle.ensures, c.halves.invariant.bounds.within)) c.halves.invariant.takes c.tree_after.ensures.takes)
 
 pub returns-clause-takes : goal.returns-clause-takes
-returns-clause-takes g c = halves_all _ _ (c.halves.high - c.halves.low) c.args.case.now.subject.pattern.level c.args.case.now.asks.generations c.halves.invariant.takes
+returns-clause-takes g c = halves_all _ _ (c.halves.high - c.halves.low) c.args.case.now.subject.pattern.level c.args.case.now.asks.generations (omega (arith, c.halves.invariant.bounds.order)) c.halves.invariant.takes
