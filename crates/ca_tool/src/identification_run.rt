@@ -125,9 +125,8 @@ fn entries_of<'a, O: Observer>(
     let mut names = TakenNames::new(alloc);
     let mut entries = Vec::new(alloc);
     'subjects: for subject in subjects {
-        observer.begins((entries.len() as u64).saturating_add(1));
-        let entry = entry_of(alloc, &mut names, subject, search, observer)?;
-        observer.ends();
+        let number = (entries.len() as u64).saturating_add(1);
+        let entry = entry_of(alloc, &mut names, number, subject, search, observer)?;
         if entries.push(entry).is_err() {
             return Err(Memory);
         }
@@ -135,10 +134,12 @@ fn entries_of<'a, O: Observer>(
     Ok(entries)
 }
 
-// The entry on a file, under a name that is put after the others.
+// The entry on the file of this number, under a name that is put after the others. The observer hears of its end in
+// any case.
 fn entry_of<'a, O: Observer>(
     alloc: Global,
     names: &mut TakenNames,
+    number: u64,
     subject: &Subject<'a>,
     search: &Search<'_>,
     observer: &mut O,
@@ -148,7 +149,9 @@ fn entry_of<'a, O: Observer>(
         search.now.generations search.now.limit names.old subject.now) }
     ensures names { IfOk result (λ entry. names.new ≡ names.old ++ entry.name.items ∷ []) }
 {
+    observer.begins(number);
     let outcome = outcome_of(alloc, subject, search, observer);
+    observer.ends();
     let name = add_name(alloc, names, subject.path)?;
     Ok(Entry {
         name,
