@@ -7,16 +7,21 @@
 - `show` and `convert` of such files print nothing and are out of memory, on standard input too.
 - Under an ample limit all is judged, and under each limit between, a line is the ample one or refused for lack of memory, or the text is out of
   memory.
+- A run that goes on in a store of its own, and needs more there, is given up, and not tried again.
+- `identify` remembers no more boxes of squares than may be, however many it measures.
 """
 import os
 import random
+import re
 import resource
 import tempfile
 
 import far_cells
-from lib import rle
+import full_store
+from lib import rle, rows
 from lib.claim_text import ClaimText, outcome, printed
 from lib.program import Folder, Outcome, Tally, ample, fault, run
+from lib.work import unit
 from macrocell_sizes import distinct_leaves, figures, header
 from refused_memory import NO_MEMORY, answers_in, consists_of
 from table_sizes import DOT, table, transitions
@@ -27,21 +32,37 @@ SPACE, AMPLE = 9_000_000, 1_000_000_000
 # The limits between, from one under which the program starts.
 LEAST, RATIO = 4_000_000, 1.8
 
+# Gliders far apart, so many that a generation of theirs needs more squares than a store of its own has at first, and the bytes of address space that are enough
+# for these squares, but not for more. So many times the known work such a run may take.
+GLIDERS, ROOM, BOUND = 16000, 300_000_000, 800
+
+# A line of progress that tells the squares that there are.
+SQUARES = re.compile(rb"(\d+)\.(\d) million squares")
+
+# The side of a soup whose squares are measured in each of so many generations, and the bytes of address space that are enough for its squares and for as many
+# boxes as are remembered, but not for the boxes of all squares.
+MEASURED_SIDE, MEASURED, BOXES = 500, 400, 180_000_000
+
 # Cells that lie far from each other, the side of a soup, the generations of a small one, leaves, transitions and claims.
 FAR_CELLS, SIDE, GENERATIONS, LEAVES, TRANSITIONS, CLAIMS = 10000, 2500, 700, 81920, 60000, 120000
 
 
-def within(space):
-    """How a run is started that has this much address space."""
-    return {"preexec_fn": lambda: resource.setrlimit(resource.RLIMIT_AS, (space, space))}
+def within(space, seconds=None):
+    """How a run is started that has this much address space, and perhaps so many seconds of a processor."""
+    def limit():
+        resource.setrlimit(resource.RLIMIT_AS, (space, space))
+        if seconds:
+            resource.setrlimit(resource.RLIMIT_CPU, (seconds, seconds))
+
+    return {"preexec_fn": limit}
 
 
 def soup(side, rule):
     """An RLE of a random square, and the number of its live cells."""
     chance = random.Random(side)
-    rows = [format(chance.getrandbits(side), f"0{side}b") for _ in range(side)]
-    body = "$\n".join(rows).translate({ord("0"): "b", ord("1"): "o"})
-    return f"x = {side}, y = {side}, rule = {rule}\n{body}!\n", sum(row.count("1") for row in rows)
+    lines = [format(chance.getrandbits(side), f"0{side}b") for _ in range(side)]
+    body = "$\n".join(lines).translate({ord("0"): "b", ord("1"): "o"})
+    return f"x = {side}, y = {side}, rule = {rule}\n{body}!\n", sum(row.count("1") for row in lines)
 
 
 def spread_cells():
@@ -151,6 +172,31 @@ def try_shown(tally, files, cells):
         tally.expect(f"show {name}, ample space", run(["show", path, *more], **within(AMPLE)), wanted)
 
 
+def try_a_store_of_its_own(tally, files):
+    """A run that goes on in a store of its own has no memory for a generation there: it is given up."""
+    text = ClaimText(files)
+    text.load_path("block", "examples/block.rle")
+    text.load("gliders", full_store.far_gliders(GLIDERS)[0])
+    text.claim("still block", "yes")
+    text.claim("oscillator gliders 8", "refused, memory")
+    text.claim("still block", "yes")
+    got = run(["verify", "--progress", text.write()], **within(ROOM, int(BOUND * unit()) + 1))
+    squares = [10 * int(it[1]) + int(it[2]) for it in SQUARES.finditer(got.complaint)]
+    # where some were left behind there were fewer then
+    well = (got.printed, got.status) == (printed(text.answers, False), 2) and squares != sorted(squares)
+    tally.tell("a store of its own, too little space", [] if well else [f"{got}, squares {squares}"])
+
+
+def try_boxes(tally, files):
+    """A soup whose squares are measured in each of many generations: their boxes are forgotten where they are too many."""
+    before = rows.soup(random.Random(MEASURED_SIDE), MEASURED_SIDE, MEASURED_SIDE)
+    later = before.after("B3/S23", MEASURED)
+    path = files.path("measured.rle", rows.text_of("B3/S23", before))
+    told = f"{later.population()} cells, in a box of {later.width()} by {len(later.rows)}, after {MEASURED}"
+    wanted = ample(f"load measured {path}\n# measured: none of these within {MEASURED} generations: {told}\n".encode())
+    tally.expect("boxes of many squares", run(["identify", "--limit", str(MEASURED), path], **within(BOXES)), wanted)
+
+
 def main():
     tally = Tally()
     with tempfile.TemporaryDirectory() as folder:
@@ -161,6 +207,8 @@ def main():
         try_claims(tally, files)
         try_texts(tally, files)
         try_shown(tally, files, cells)
+        try_a_store_of_its_own(tally, files)
+        try_boxes(tally, files)
         missing = os.path.join(folder, "missing")
         tally.expect("a file that isn't there, too little space", run(["show", missing], **within(SPACE)), fault(f"cannot read {missing}"))
     tally.finish()

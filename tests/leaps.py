@@ -25,6 +25,9 @@ SPACE = 25_000_000
 
 LEAPS, TABLES = "tests/leaps", "examples/tables"
 
+# How many cells lie far apart.
+CELLS = 132000
+
 # The most generations of `becomes`, and the longest period. Cells of files lie from -FAR to FAR - 1.
 FAR, LONGEST = 1 << 60, (1 << 32) - 1
 
@@ -353,6 +356,17 @@ def try_a_million_squares(claims):
     claims.judge("a plane of 1398132 squares", text)
 
 
+def try_beside_many_squares(claims):
+    """A small pattern is leapt in a store that has the squares of a large one: some 6.7 million, of cells far apart, each of which takes about 50."""
+    chance, count = random.Random(1), 1 << 20
+    far = "".join(f"{chance.randrange(2 * FAR)}bo{chance.randrange(1, 2 * FAR // CELLS)}$" for _ in range(CELLS))
+    text = claims.text()
+    text.load_path("gun", "examples/gun.rle")
+    text.load("far", f"#CXRLE Pos={-FAR},{-FAR}\nx = 1, y = 1, rule = B3/S23\n{far}!\n")
+    text.claim(f"becomes gun {count} far", f"no, cells differ after {count}")
+    claims.judge("a gun beside cells far apart", text)
+
+
 def try_dense_beside_sparse(claims):
     """Far gliders are leapt over, however few the generations are beside the side of their square: stepped cell by cell they take a thousand times as long."""
     text = claims.text()
@@ -398,7 +412,7 @@ def main():
         for it in RETURNS:
             try_returns(claims, *it)
         for it in (try_far_gliders, try_squares, try_one_cell, try_most_cells, try_slides, try_many_squares, try_stepped, try_a_million_squares,
-                   try_dense_beside_sparse, try_settled, try_want_of_memory):
+                   try_beside_many_squares, try_dense_beside_sparse, try_settled, try_want_of_memory):
             it(claims)
     tally.finish()
 

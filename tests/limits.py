@@ -50,6 +50,9 @@ FAULTS = (
     ("--work", "-1"), ("--work", "x"), ("--work", ""), ("--work", str(MOST_WORK + 1)), ("--work", "0x10"),
 )
 
+# Less work than a soup of four states needs, and enough.
+LITTLE, ENOUGH = 600000, 1000000
+
 # No block needs so much work for a generation.
 AMPLE_WORK = 1000
 
@@ -98,6 +101,16 @@ def try_a_soup(tally, folder):
     tally.expect("a soup among blocks", run(["verify", "--work", "1000", text.write()]), outcome(text.answers, False))
 
 
+def try_least_work(tally, folder):
+    """A soup of a rule of four states is leapt, and each square of 4 by 4 cells that isn't empty is counted: the run took 816560 units, by the program's own
+    count when this was written, and no value from outside."""
+    text = claim_text(folder, {"s": rows.text_of("345/2/4", rows.soup(random.Random(200), 200, 200))})
+    text.claim("becomes s 300 s", "no, cells differ after 300")
+    path = text.write()
+    for work, wanted in ((LITTLE, lines_outcome([(2, "refused, work")])), (ENOUGH, outcome(text.answers, False))):
+        tally.expect(f"a soup of four states, {work} units", run(["verify", "--work", str(work), path]), wanted)
+
+
 def try_faults(tally):
     """Other numbers are faults of the words."""
     for options in FAULTS:
@@ -112,6 +125,7 @@ def main():
         try_claims(tally, folder)
         try_each_by_itself(tally, folder)
         try_a_soup(tally, folder)
+        try_least_work(tally, folder)
     try_faults(tally)
     tally.finish()
 

@@ -1,0 +1,78 @@
+#!/usr/bin/env -S python3 -B
+"""How many results typical runs work out: each has to end within a tenth more than it took when this was written. So leaps that forget what they should
+remember, or look for it in the wrong place, are seen on a machine of any speed.
+
+The units are the program's own count, and no value from outside: what is promised (docs/PROMISES.md) is a bound far above them. Where fewer serve, they may
+be lowered here. The verdicts are known: what a pattern becomes was computed by Golly (leaps/README.md), and a soup doesn't come back.
+"""
+import random
+import tempfile
+
+from leaps import AFTER, LEAPS
+from lib import rows
+from lib.claim_text import ClaimText, outcome
+from lib.program import Folder, Tally, run
+
+# The entries of the memo by default, and those of small ones.
+USUAL, SMALL, SMALLEST = 262144, 16384, 4096
+
+# Patterns of leaps.py, the entries of a memo, and the units of work that their runs took.
+PATTERNS = (
+    ("acorn", USUAL, 26395),
+    ("acorn", SMALLEST, 33804),
+    ("switch_engine", USUAL, 5575),
+    ("gun", USUAL, 3502),
+    ("von_neumann", USUAL, 27614),
+    ("wires", USUAL, 3782),
+    ("wires", SMALLEST, 5374),
+    ("langtons_loop", USUAL, 71305),
+    ("rule_110", USUAL, 9558),
+)
+
+# The rules of soups of 200 by 200 cells, the generations, the entries of a memo, and the units of work.
+SOUPS = (
+    ("345/2/4", 300, USUAL, 816560),
+    ("345/2/4", 300, SMALL, 1249225),
+    ("B3/S23", 1000, USUAL, 87925),
+)
+
+
+def judge(tally, name, text, memo, units):
+    """Expects the verdicts of a text with so much work and a tenth more."""
+    words = ["verify", "--memo", str(memo), "--work", str(units + units // 10), text.write()]
+    tally.expect(f"{name}, {memo} entries: {units} units", run(words), outcome(text.answers, False))
+
+
+def try_patterns(tally, folder):
+    """What patterns become by leaps."""
+    known = {name: it for name, *it in AFTER}
+    for name, memo, units in PATTERNS:
+        before, rule, count = known[name]
+        text = ClaimText(Folder(folder))
+        if rule:
+            text.rule_path(rule)
+        text.load_path("before", before)
+        text.load_path("after", f"{LEAPS}/{name}_after.mc")
+        text.claim(f"becomes before {count} after", "yes")
+        judge(tally, f"{name} by {count}", text, memo, units)
+
+
+def try_soups(tally, folder):
+    """Soups: that of a rule with more states is leapt, and the other is stepped."""
+    for rule, count, memo, units in SOUPS:
+        text = ClaimText(Folder(folder))
+        text.load("soup", rows.text_of(rule, rows.soup(random.Random(200), 200, 200)))
+        text.claim(f"becomes soup {count} soup", f"no, cells differ after {count}")
+        judge(tally, f"a soup of {rule} by {count}", text, memo, units)
+
+
+def main():
+    tally = Tally()
+    with tempfile.TemporaryDirectory() as folder:
+        try_patterns(tally, folder)
+        try_soups(tally, folder)
+    tally.finish()
+
+
+if __name__ == "__main__":
+    main()
