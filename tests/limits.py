@@ -1,11 +1,12 @@
 #!/usr/bin/env -S python3 -B
-"""The limits of a claim, `--memo` and `--work`: what is judged within them, what is refused as work, and that each claim has its own count."""
+"""The limits of a claim, a run and an identification, `--memo` and `--work`: what is judged within them, what is refused as work, that each claim has its own
+count, and that each command remembers and works out what these say; and that no generations need no work."""
 import random
 import tempfile
 
-from lib import rows
+from lib import rle, rows
 from lib.claim_text import ClaimText, outcome
-from lib.program import Folder, Tally, lines_outcome, run
+from lib.program import Folder, Outcome, Tally, ample, fault, lines_outcome, run
 
 BLOCK = "x = 2, y = 2, rule = B3/S23\n2o$2o!\n"
 EMPTY = "x = 0, y = 0, rule = B3/S23\n!\n"
@@ -55,6 +56,14 @@ LITTLE, ENOUGH = 600000, 1000000
 
 # No block needs so much work for a generation.
 AMPLE_WORK = 1000
+
+# How long a glider goes: much is remembered of that, and else worked out again and again. And more work than any command needs for it.
+LONG, ENOUGH_WORK = 1 << 40, 1 << 20
+
+# The cells of a pattern of 2^20 cells a side, and how it is drawn at the scale at which it is 8 squares wide.
+SIDE = 1 << 20
+WIDE = dict.fromkeys([*((at << 10, at << 10) for at in range(1024)), (SIDE - 1, SIDE - 1)], 1)
+WIDE_PICTURE = "".join("." * at + "o" + "." * (7 - at) + "\n" for at in range(8))
 
 
 def claim_text(folder, patterns, first=()):
@@ -119,13 +128,65 @@ def try_faults(tally):
         tally.tell(f"faulty words: {' '.join(options)}", [] if well else [str(got)])
 
 
+def long_runs(folder):
+    """The words of each command that takes a glider far on, what it comes to, and what it comes to where work is out."""
+    files = Folder(tempfile.mkdtemp(dir=folder))
+    path, far = files.path("glider.rle", GLIDER), LONG // 4
+    cells = {(x + far, y + far): 1 for x, y in ((1, 0), (2, 1), (0, 2), (1, 2), (2, 2))}
+    text = claim_text(folder, {"g": GLIDER, "h": f"#CXRLE Pos={far},{far}\n" + GLIDER})
+    text.lines.append(f"becomes g {LONG} h".encode())
+    told = f"load glider {path}\n# glider after {LONG} generations: spaceship 4 1 1\n"
+    after = [path, "--after", str(LONG)]
+    return (
+        (["verify", text.write()], lines_outcome([(3, "yes")]), lines_outcome([(3, "refused, work")])),
+        (["show", *after], ample(f"format rle\nrule B3/S23\ngen {LONG}\ncells 5\nbox {far} {far} 3 3\n".encode()), fault("work")),
+        (["convert", *after, "--to", "rle"], ample(rle.tidy(cells, "B3/S23", LONG, 2)), fault("work")),
+        (["draw", *after], ample(b".o.\n..o\nooo\n"), fault("work")),
+        (["identify", *after], ample(told.encode()), Outcome(f"# glider: {path}: work\n".encode(), b"", 2)),
+    )
+
+
+def least_work(words, done):
+    """With how much work these words just come to what they have to."""
+    low, high = 0, ENOUGH_WORK
+    while high - low > 1:
+        middle = (low + high) // 2
+        low, high = (low, middle) if run([*words, "--work", str(middle)]) == done else (middle, high)
+    return high
+
+
+def try_limits_of_commands(tally, folder):
+    """A command that has just the work that it needs is refused with less, and with a memo of one entry also where it has four times as much. The run is the
+    same for all of them, and so is what it needs; an identification takes some steps more."""
+    most = {}
+    for words, done, refused in long_runs(folder):
+        most[words[0]] = work = least_work(words, done)
+        tries = [(["--work", str(work)], done), (["--work", str(work - 1)], refused), (["--work", str(work), "--memo", "262144"], done),
+                 (["--work", str(work), "--memo", str(MOST_MEMO)], done), (["--work", str(4 * work), "--memo", "1"], refused)]
+        for more, wanted in tries:
+            tally.expect(f"{words[0]}, a long run: {' '.join(more)}", run([*words, *more]), wanted)
+    claim, more = most["verify"], most.pop("identify")
+    others = [f"{name} needs {work} units, verify {claim}" for name, work in most.items() if work != claim]
+    tally.tell("each command needs as much work", others if claim <= more < 2 * claim else [*others, f"identify needs {more} units, verify {claim}"])
+
+
+def try_no_generations(tally, folder):
+    """A large plane after no generations needs no work, with a memo of one entry."""
+    text = rle.tidy(WIDE, "B3/S23", 0, 2)
+    path = Folder(tempfile.mkdtemp(dir=folder)).path("wide.rle", text)
+    shown = f"format rle\nrule B3/S23\ngen 0\ncells {len(WIDE)}\nbox 0 0 {SIDE} {SIDE}\n".encode()
+    draw = ["draw", path, "--scale", "17"]
+    tries = ((draw, WIDE_PICTURE.encode()), ([*draw, "--after", "0"], WIDE_PICTURE.encode()), (["show", path, "--after", "0"], shown),
+             (["convert", path, "--after", "0", "--to", "rle"], text))
+    for words, wanted in tries:
+        tally.expect(f"no generations: {words[0]} {' '.join(words[2:])}", run([*words, "--work", "0", "--memo", "1"]), ample(wanted))
+
+
 def main():
     tally = Tally()
     with tempfile.TemporaryDirectory() as folder:
-        try_claims(tally, folder)
-        try_each_by_itself(tally, folder)
-        try_a_soup(tally, folder)
-        try_least_work(tally, folder)
+        for it in (try_claims, try_each_by_itself, try_a_soup, try_least_work, try_limits_of_commands, try_no_generations):
+            it(tally, folder)
     try_faults(tally)
     tally.finish()
 
