@@ -178,11 +178,17 @@ def try_order(tally, refusing, files):
     tally.expect("wiped before the verdict", got, Outcome(wanted, b"", 1))
 
 
-def identified_shown(path, limit, generations, milliseconds):
-    """What `identify` shows of a file, which it looks at for so many generations: the first look is before the first of them."""
-    lines, last = [], None
+def identified_shown(path, limit, generations, milliseconds, begun=0):
+    """What `identify` shows of a file, which it looks at for so many generations, so many after the pattern: each time that the run to there has reached is
+    shown after a second, and then, at most twice a second, how many were looked at; the first look is before the first of them."""
+    lines, last, time_now = [], None, 0
+    for reached in digits(begun)[1][1:]:
+        time_now += milliseconds
+        if time_now >= 1000:
+            lines.append(f"{path}: {reached} of {begun} generation{'s' * (begun != 1)}".encode())
+            last = time_now
     for reached in range(generations):
-        time_now = (reached + 1) * milliseconds
+        time_now += milliseconds
         if time_now >= (1000 if last is None else last + 500):
             lines.append(f"{path}: {reached} of {limit} generations".encode())
             last = time_now
@@ -206,6 +212,34 @@ def try_identify(tally, refusing, files):
         tally.tell(f"identify on a terminal, {step}", [] if got == (printed, shown) else [f"wanted {(printed, shown)}, got {got}"])
     got, _ = refusing.run([*words, "--progress"], {"CLOCK_FAILS": 1})
     tally.expect("identify, no clock", got, Outcome(printed, b"", 2))
+
+
+def try_identify_after(tally, refusing, _):
+    """`identify --after` first shows the run to the later plane, of as many generations as are asked for."""
+    for begun in (1, 6, 1000):
+        looked_at = {"examples/glider.rle": (4, f"load glider examples/glider.rle\n# glider after {begun} generation{'s' * (begun != 1)}: spaceship 4 1 1\n"), "my block.rle": (None, "# my_block: my block.rle: no claim text can name this path\n"),
+                     "examples/empty.rle": (0, f"load empty examples/empty.rle\n# empty after {begun} generation{'s' * (begun != 1)}: no cell is live\n"), "examples/lost.rle": (None, "# lost: examples/lost.rle: no file\n"),
+                     "examples/pentadecathlon.rle": (15, f"load pentadecathlon examples/pentadecathlon.rle\n# pentadecathlon after {begun} generation{'s' * (begun != 1)}: oscillator 15\n")}
+        words, printed = ["identify", "--limit", "20", "--after", str(begun), *looked_at], "".join(it for _, it in looked_at.values()).encode()
+        for step in STEPS:
+            shown = b"".join(identified_shown(path, 20, generations, step, begun) for path, (generations, _) in looked_at.items() if generations is not None)
+            got, _ = refusing.run([*words, "--progress"], {"CLOCK_STEP": step})
+            tally.expect(f"identify after {begun}, {step}", got, Outcome(printed, shown, 2))
+        got = on_a_terminal(refusing, words, {"CLOCK_STEP": 1000})
+        shown = b"".join(identified_shown(path, 20, generations, 1000, begun) for path, (generations, _) in looked_at.items() if generations is not None)
+        tally.tell(f"identify after {begun} on a terminal", [] if got == (printed, shown) else [f"wanted {(printed, shown)}, got {got}"])
+
+
+def try_identify_results(tally, refusing, files):
+    """The results of a run of `identify --after` are shown with that run alone, and not with the generations that are looked at then, or with the next file."""
+    soup = files.path("soup.rle", soup_of(100))
+    paths, begun, limit = ("examples/glider.rle", soup, "examples/pentadecathlon.rle"), 128, 3
+    got, _ = refusing.run(["identify", "--progress", "--after", str(begun), "--limit", str(limit), *paths], {"CLOCK_STEP": 1000})
+    glider, oscillator = (identified_shown(path, limit, limit, 1000, begun) for path in (paths[0], paths[2]))
+    run_of, later = re.escape(f"\r\x1b[K{soup}: ".encode()), b"".join(WIPE + f"{soup}: {it} of {limit} generations".encode() for it in range(limit))
+    results = rb", \d+\.\d million results, \d+\.\d million squares"
+    wanted = re.escape(glider) + rb"(%s0 of 128 generations%s)+%s128 of 128 generations%s" % (run_of, results, run_of, results) + re.escape(later + WIPE + oscillator)
+    tally.tell("results of a run of identify --after", [] if re.fullmatch(wanted, got.complaint) and got.status == 0 else [f"wanted {wanted}, got {got.complaint}"])
 
 
 def try_after(tally, refusing, files):
@@ -308,30 +342,51 @@ def try_terminal(tally, refusing, files):
         tally.tell(f"on a terminal, {step}", [] if got == wanted else [f"wanted {wanted}, got {got}"])
 
 
-def try_results(tally, refusing, files):
-    """While one leap lasts, what was worked out is told about twice a second, and no generation that isn't reached. A soup whose squares hardly repeat
-    is leapt over under a rule of four states."""
+def soup_of(side):
+    """A soup whose squares hardly repeat, under a rule of four states, by which planes are leapt over."""
     chance = random.Random(2)
-    rows = "$".join("".join(chance.choice(".A") for _ in range(200)) for _ in range(200))
+    rows = "$".join("".join(chance.choice(".A") for _ in range(side)) for _ in range(side))
+    return f"x = {side}, y = {side}, rule = 345/2/4\n{rows}!\n"
+
+
+def try_results(tally, refusing, files):
+    """While one leap lasts, what was worked out is told about twice a second, and no generation that isn't reached."""
     text = Watched(files)
-    text.load("soup", f"x = 200, y = 200, rule = 345/2/4\n{rows}!\n")
+    text.load("soup", soup_of(200))
+    text.load_path("glider", "examples/glider.rle")
     text.claim("becomes soup 1024 soup", "no, cells differ after 1024")
-    printed = b"line 2: no, cells differ after 1024\n"
-    line = re.compile(rb"line 2: (\d+) of 1024 generations(?:, (\d+)\.(\d) million results, (\d+)\.(\d) million squares)?")
+    text.claim("spaceship glider 4 1 1", "yes")
+    printed = b"line 3: no, cells differ after 1024\nline 4: yes\n"
+    line = re.compile(rb"line 3: (\d+) of 1024 generations(?:, (\d+)\.(\d) million results, (\d+)\.(\d) million squares)?")
     shown = {}
     for step in (1000, 100):
         got, _ = refusing.run(["verify", "--progress", text.write()], {"CLOCK_STEP": step})
-        told = [line.fullmatch(it) for it in got.complaint.split(WIPE)[1:-1]]
+        # of the next claim no results are told: it took too few
+        next_one = shown_of(b"line 4", [digits(4), digits(1), digits(2)], step)
+        told = [line.fullmatch(it) for it in got.complaint.removesuffix(next_one).split(WIPE)[1:-1]]
         results = [10 * int(it[2]) + int(it[3]) for it in told if it and it[2]]
-        well = got.printed == printed and all(told) and [int(it[1]) for it in told] == [0] * (len(told) - 1) + [1024] and results == sorted(results) and results[-1] > 2
+        well = got.printed == printed and got.complaint.endswith(WIPE + next_one) and all(told) and [int(it[1]) for it in told] == [0] * (len(told) - 1) + [1024] and results == sorted(results) and results[-1] > 2
         shown[step] = len(results)
         tally.tell(f"results of one leap, {step}", [] if well else [f"{got}"])
     # what is told last is nearly what the claim needs: a limit just below it is too small, and one a little above it isn't
     least = 100000 * results[-1]
     for limit, verdict in ((least - 1, b"refused, work"), (least + 100000 + 65536, b"no, cells differ after 1024")):
         got = run(["verify", "--work", str(limit), text.write()])
-        tally.tell(f"as many results as a claim needs, {verdict.decode()}", [] if got.printed == b"line 2: " + verdict + b"\n" else [f"{got}"])
+        tally.tell(f"as many results as a claim needs, {verdict.decode()}", [] if got.printed == b"line 3: " + verdict + b"\nline 4: yes\n" else [f"{got}"])
     tally.tell("shown at most twice a second", [] if 4 * shown[100] < shown[1000] < 6 * shown[100] + 6 else [f"{shown}"])
+
+
+def try_refused_memory(tally, refusing, _):
+    """Where memory is refused, the line is wiped before that is told, and before what is printed."""
+    told = re.compile(rb"(?:(?:\r\x1b\[K[^\r\n]+)+\r\x1b\[K)*(?:cafile: memory\n)?")
+    for words in (["identify", "examples/glider.rle", "examples/block.rle"], ["identify", "--after", "3", "examples/glider.rle"], ["show", "examples/glider.rle", "--after", "3"],
+                  ["verify", "examples/glider.claims"]):
+        outcomes = refusing.until_unmet([*words, "--progress"], "REFUSE", itertools.count(1), {"CLOCK_STEP": 1000})
+        complaints = [f"allocation {number}: {it}" for number, it in outcomes.items() if not told.fullmatch(it.complaint)]
+        late = sum(it.complaint.endswith(WIPE + b"cafile: memory\n") for it in outcomes.values())
+        if "verify" not in words and not late:
+            complaints.append("no run was out of memory once a line was shown")
+        tally.tell(f"{len(outcomes)} allocations refused, {late} once a line was shown, {' '.join(words)}", complaints)
 
 
 def try_the_clock(tally, _, files):
@@ -361,7 +416,8 @@ def try_quick(tally, refusing, _):
 def main():
     tally = Tally()
     with refusing_program(tally, "progress") as (folder, refusing):
-        for it in (try_claims, try_identify, try_after, try_notes, try_dense, try_order, try_closed, try_terminal, try_results, try_the_clock, try_quick) if refusing else ():
+        for it in (try_claims, try_identify, try_identify_after, try_identify_results, try_after, try_notes, try_dense, try_order, try_closed, try_terminal, try_results,
+                   try_refused_memory, try_the_clock, try_quick) if refusing else ():
             inner = os.path.join(folder, it.__name__)
             os.mkdir(inner)
             it(tally, refusing, Folder(inner))

@@ -10,6 +10,7 @@ import tempfile
 
 from lib.claim_text import ClaimText, outcome
 from lib.program import Folder, Tally, fault, lines_outcome, run
+from lib.work import excess, timed
 
 BLOCK, BLINKER, EMPTY = "examples/block.rle", "examples/blinker.rle", "examples/empty.rle"
 
@@ -26,6 +27,10 @@ CLAIMS = (
 
 # The lines of a long claim text, and of one beyond 100000 lines.
 LINES, MANY_LINES = 6000, 110000
+
+# The cells a side of a pattern whose file is long and whose squares are few, how many claims there are about two such, and how many times the known work
+# they may take: to read both anew for each claim would take far more.
+STRIPES, STRIPED_CLAIMS, STRIPED_WORK = 1600, 150, 60
 
 # Patterns, and claims about them, each with its verdict and note: all kinds of both.
 PATTERNS = {"dot": "x = 1, y = 1\no!", "high": "x = 2, y = 2, rule = B36/S23\n2o$2o!", "state": "x = 1, y = 1\nB!", "bad": "x = 1, y = 1\nz!",
@@ -137,6 +142,18 @@ def try_kinds(texts):
         texts.judge(f"each kind, {paths} paths more", text)
 
 
+def try_one_reading(texts):
+    """Many claims about the same two large patterns: each is read once."""
+    text = texts.text()
+    for name, row in (("a", "bo"), ("b", "ob")):
+        text.load(name, f"x = {STRIPES}, y = {STRIPES}\n" + f"{row * (STRIPES // 2)}$\n" * STRIPES + "!\n")
+    for at in range(STRIPED_CLAIMS):
+        text.claim("becomes a 0 b" if at % 2 else "becomes b 0 a", "no, cells differ after 0")
+    got, seconds = timed(["verify", text.write()])
+    wanted = outcome(text.answers, False)
+    texts.tally.tell(f"{STRIPED_CLAIMS} claims about two large patterns: {seconds:.2f} s", ([] if got == wanted else [f"{got}"]) + excess(seconds, STRIPED_WORK))
+
+
 def try_rule_files(texts):
     """A rule file that is missing or faulty, in a text of more than 1000 paths and on lines beyond 100000."""
     good = "@RULE S\n@TABLE\nn_states:3\nneighborhood:oneDimensional\nsymmetries:none\n"
@@ -228,7 +245,7 @@ def main():
     tally = Tally()
     with tempfile.TemporaryDirectory() as folder:
         texts = Texts(tally, folder)
-        for it in (try_long_texts, try_kinds, try_rule_files, try_many_files, try_more_files, try_periods, try_many_cells, try_ships, try_the_most_cells):
+        for it in (try_long_texts, try_kinds, try_rule_files, try_many_files, try_more_files, try_one_reading, try_periods, try_many_cells, try_ships, try_the_most_cells):
             it(texts)
     tally.finish()
 

@@ -1,5 +1,6 @@
 #!/usr/bin/env -S python3 -B
-"""The path `-`, which is standard input: as a claim text, and as the FILE of `show` and `convert`. No other path is."""
+"""The path `-`, which is standard input: as a claim text, and as the FILE of `show` and `convert`. No other path is. And /dev/stdin, a path as any, whose bytes
+a pipe gives once: each file is read once."""
 import os
 import subprocess
 import tempfile
@@ -7,7 +8,11 @@ import tempfile
 from lib.program import MOST_WAITING, PROGRAM, ROOT, Folder, Outcome, Tally, ample, contents, fault, lines_outcome, run
 
 SHOW, TO_RLE, TO_MC = ["show", "-"], ["convert", "-", "--to", "rle"], ["convert", "-", "--to", "mc"]
-RULE = "examples/tables/spread.rule"
+RULE, SPREAD = "examples/tables/spread.rule", "examples/tables/spread_1.rle"
+
+# What `identify --limit 1` tells of that pattern, a plus of five cells: a cell next to one live cell alone becomes live.
+GROWTH = "none of these within 1 generation: 9 cells, in a box of 5 by 5, after 1"
+
 MAX_FILE = 67108864
 
 
@@ -59,9 +64,9 @@ def try_patterns(tally):
         for words in (SHOW, TO_RLE, TO_MC, ["convert", "--to", "mc", "-"], ["convert", "--to", "mc", "--", "-"]):
             by_path = run([name if it == "-" else it for it in words])
             tally.expect(f"{' '.join(words)}, {name}", run(words, input=text), by_path)
-    spread = contents(os.path.join(ROOT, "examples/tables/spread_1.rle"))
+    spread = contents(os.path.join(ROOT, SPREAD))
     for words in (SHOW, TO_RLE, TO_MC):
-        by_path = run(["examples/tables/spread_1.rle" if it == "-" else it for it in words] + ["--rule", RULE])
+        by_path = run([SPREAD if it == "-" else it for it in words] + ["--rule", RULE])
         tally.tell("a table", [] if by_path.status == 0 else [str(by_path)])
         tally.expect(f"{' '.join(words)}, with a table", run([*words, "--rule", RULE], input=spread), by_path)
     tally.expect("nothing", run(SHOW, input=b""), fault("bad pattern: rle header"))
@@ -117,6 +122,25 @@ def try_other_paths(tally, files):
     tally.expect("a file with this name", run(["verify", "./-"], cwd=files.folder), lines_outcome([(2, "yes")]))
 
 
+def try_once(tally):
+    """A pattern and a rule file that can be read once alone."""
+    glider, spread, rule = (contents(os.path.join(ROOT, it)) for it in ("examples/glider.rle", SPREAD, RULE))
+    told = b"load stdin /dev/stdin\nspaceship stdin 4 1 1\n"
+    for words in ([], ["--explain"], ["--progress"], ["--limit", "4"], ["--after", "0"], ["--rules", "examples/rules"]):
+        tally.expect(f"identify {' '.join(words)}, from a pipe", run(["identify", "/dev/stdin", *words], input=glider), ample(told))
+    for words, path in ((["--rule", RULE], RULE), (["--rules", "examples/rules"], "examples/rules/Spread.rule")):
+        got = run(["identify", "--limit", "1", "/dev/stdin", *words], input=spread)
+        tally.expect(f"identify {' '.join(words)}, from a pipe", got, ample(f"rule {path}\nload stdin /dev/stdin\n# stdin: {GROWTH}\n".encode()))
+    got = run(["identify", "--limit", "1", SPREAD, "--rule", "/dev/stdin"], input=rule)
+    tally.expect("identify, a rule file from a pipe", got, ample(f"rule /dev/stdin\nload spread_1 {SPREAD}\n# spread_1: {GROWTH}\n".encode()))
+    for words in (["show"], ["convert", "--to", "rle"], ["convert", "--to", "mc"], ["draw"], ["show", "--after", "3"], ["draw", "--after", "3", "--to", "pgm"]):
+        tally.expect(f"{' '.join(words)}, from a pipe", run([*words, "/dev/stdin"], input=glider), run([*words, "examples/glider.rle"]))
+        by_path = run([*words, SPREAD, "--rule", RULE])
+        tally.expect(f"{' '.join(words)}, a table", by_path, ample(by_path.printed))
+        tally.expect(f"{' '.join(words)}, with a rule file, from a pipe", run([*words, "/dev/stdin", "--rule", RULE], input=spread), by_path)
+        tally.expect(f"{' '.join(words)}, a rule file from a pipe", run([*words, SPREAD, "--rule", "/dev/stdin"], input=rule), by_path)
+
+
 def main():
     tally = Tally()
     with tempfile.TemporaryDirectory() as folder:
@@ -124,6 +148,7 @@ def main():
         try_texts(tally)
         try_several(tally)
         try_patterns(tally)
+        try_once(tally)
         try_faults(tally, files)
         try_pieces(tally)
         try_other_paths(tally, files)

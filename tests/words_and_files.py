@@ -43,6 +43,18 @@ def try_help(tally):
     tally.expect(f"in the help: {claims}", run(["verify", "-"], input="\n".join(lines).encode()), lines_outcome([(at, "yes") for at in range(9, 15)]))
 
 
+def try_limits_in_help(tally):
+    """The help of each command says how many entries a memo may have, and how many where none are given: as docs/CLAIMS.md does, and as
+    `Limits::default` promises."""
+    with open(os.path.join(ROOT, "docs", "CLAIMS.md"), encoding="utf-8") as page:
+        on_page = re.search(r"`--memo N` bounds .* to N entries, from (\d+) to (\d+), and to (\d+) where the option is missing", page.read())
+    wanted = ("1", "16777216", "262144")
+    tally.tell("the memo in docs/CLAIMS.md", [] if on_page and on_page.groups() == wanted else [str(on_page)])
+    for name in HELP:
+        told = re.findall(r"--memo <N> How many entries [^;:]*: (\d+) to (\d+); unless set, (\d+)", " ".join(run([name, "--help"]).printed.decode().split()))
+        tally.tell(f"the memo in the help of {name}", [] if told == [wanted] else [str(told)])
+
+
 def try_words(tally):
     """Words that ask for nothing are told on standard error with status 2."""
     block = "examples/block.rle"
@@ -125,6 +137,7 @@ def try_patterns(tally, files):
 def main():
     tally = Tally()
     try_help(tally)
+    try_limits_in_help(tally)
     try_words(tally)
     with tempfile.TemporaryDirectory() as folder:
         files = Folder(folder)
