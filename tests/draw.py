@@ -177,6 +177,22 @@ def try_large(tally, files):
     try_tree(tally, "a plane of 2^60 cells a side with 255 states", files.path("states.mc", text), macrocell.read(text.encode()).tree, 255, chance)
 
 
+def try_the_largest(tally, files):
+    """The largest window, over a square of 64 by 64 random cells, again and again."""
+    chance, squares = random.Random(10), macrocell.Squares()
+    tile = ["".join(chance.choices(".o", (3, 1), k=64)) for _ in range(64)]
+    fours = {(x, y): int(tile[y][x] == "o") for y in range(64) for x in range(64)}
+    for level in range(1, 7):
+        places = [(x, y) for x in range(64 >> level) for y in range(64 >> level)]
+        fours = {(x, y): squares.join(level, [fours[2 * x + at % 2, 2 * y + at // 2] for at in range(4)]) for x, y in places}
+    root = fours[0, 0]
+    for level in range(7, 14):
+        root = squares.join(level, [root] * 4)
+    text = macrocell.tidy(macrocell.Pattern(macrocell.Tree(squares, root, 13), "B3/S23", 0), 2)
+    path, wanted = files.path("largest.mc", text), "".join(row * 128 + "\n" for row in tile) * 128
+    tally.expect("the largest picture", run(["draw", path, "--size", "8192,8192"]), ample(wanted.encode()))
+
+
 def try_after(tally, files):
     """Planes some generations on."""
     chance = random.Random(9)
@@ -234,7 +250,7 @@ def try_tables(tally, _):
 def main():
     tally = Tally()
     with tempfile.TemporaryDirectory() as folder:
-        for it in (try_by_hand, try_examples, try_large, try_after, try_faults, try_tables):
+        for it in (try_by_hand, try_examples, try_large, try_the_largest, try_after, try_faults, try_tables):
             it(tally, Folder(folder))
     tally.finish()
 

@@ -18,10 +18,10 @@ CELLS, SPACE, AMPLE = 50000, 60_000_000, 2_000_000_000
 FAR = 1 << 60
 
 
-def far_cells(seed, states):
+def far_cells(seed, states, count=CELLS):
     """Cells at random places all over the plane, and at its corners."""
     chance = random.Random(seed)
-    cells = {(chance.randrange(-FAR, FAR), chance.randrange(-FAR, FAR)): chance.randrange(1, states) for _ in range(CELLS)}
+    cells = {(chance.randrange(-FAR, FAR), chance.randrange(-FAR, FAR)): chance.randrange(1, states) for _ in range(count)}
     return {**cells, (-FAR, -FAR): 1, (FAR - 1, FAR - 1): states - 1}
 
 
@@ -66,11 +66,22 @@ def try_rule(tally, folder, rule, states):
     tally.expect("the macrocell, of which squares are kept", run(["show", written], **within(SPACE)), fault("memory"))
 
 
+def try_copies(tally, folder):
+    """Nearly 7 million squares, which go over to the store of the end of a run."""
+    cells = far_cells(1, 2, 150000)
+    path = os.path.join(folder, "many.rle")
+    with open(path, "wb") as file:
+        file.write(rle.tidy(cells, "B3/S23", 0, 2))
+    words = ["draw", path, "--after", "0", "--at", f"{-FAR},{-FAR}", "--size", "3,2", "--scale", "0"]
+    tally.expect(f"{len(cells)} far cells after no generation", run(words), ample(b"o..\n...\n"))
+
+
 def main():
     tally = Tally()
     with tempfile.TemporaryDirectory() as folder:
         try_rule(tally, folder, "B3/S23", 2)
         try_rule(tally, folder, "345/2/4", 4)
+        try_copies(tally, folder)
     tally.finish()
 
 

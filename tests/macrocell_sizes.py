@@ -50,9 +50,21 @@ def deep_two():
     return "\n".join(lines) + "\n"
 
 
-def figures(generation, cells, box, kind="macrocell"):
-    """The outcome of `show` under the usual rule."""
-    return ample(f"format {kind}\nrule B3/S23\ngen {generation}\ncells {cells}\nbox {box}\n".encode())
+def all_fours(states):
+    """As many different squares of four live cells as a file has room for, and a square of level 2 whose last part is the last of them."""
+    tails = [f"{sw} {se}\n" for sw in range(1, states) for se in range(1, states)]
+    pieces, size, count = [f"[M2]\n#R /2/{states}\n"], 100, 0
+    for heads in (f"1 {nw} {ne} " for nw in range(1, states) for ne in range(1, states)):
+        pieces.append(heads + heads.join(tails))
+        size, count = size + len(pieces[-1]), count + len(tails)
+        if size + len(pieces[-1]) > MAX_FILE:
+            break
+    return "".join([*pieces, f"2 0 0 0 {count}\n"])
+
+
+def figures(generation, cells, box, kind="macrocell", rule="B3/S23"):
+    """The outcome of `show`."""
+    return ample(f"format {kind}\nrule {rule}\ngen {generation}\ncells {cells}\nbox {box}\n".encode())
 
 
 def bad(kind):
@@ -68,6 +80,9 @@ TOO_MANY = fault("too many cells")
 SHOWN = (
     ("a million leaves", lambda: "[M2]\n" + "*.*$\n" * 1000000, figures(0, 2, "-4 -4 3 1")),
     ("a million full leaves", lambda: "[M2]\n" + ("********$" * 8 + "\n") * 900000, figures(0, 64, "-4 -4 8 8")),
+    ("22 million leaves", lambda: "[M2]\n" + "*$\n" * (MAX_FILE // 3 - 2), ONE_LEAF),
+    ("5 million squares of four cells, all different", lambda: all_fours(50), figures(0, 4, "0 0 2 2", rule="/2/50")),
+    ("6 million squares of level 2", lambda: "[M2]\n1 1 0 0 0\n" + "2 1 0 0 0\n" * (MAX_FILE // 10 - 2), figures(0, 1, "-2 -2 1 1")),
     ("a million squares of one level", lambda: "[M2]\n" + "*$\n" + "4 1 1 1 1\n" * 1000000, figures(0, 4, "-8 -8 9 9")),
     ("a million empty squares", lambda: "[M2]\n" + "120 0 0 0 0\n" * 1000000, figures(0, 0, "none")),
     ("one cell at level 119, the root at 120", lambda: chain(CELL, "{} 0 0 0", 119) + "120 0 0 0 117\n", figures(0, 1, "0 0 1 1")),

@@ -6,10 +6,12 @@ The texts and patterns are made here, of blocks, blinkers and gliders, so that t
 """
 import itertools
 import os
+import random
+import re
 import tempfile
 
 from lib.claim_text import ClaimText, outcome
-from lib.program import Folder, Tally, fault, lines_outcome, run
+from lib.program import Folder, Tally, ample, fault, lines_outcome, run
 from lib.work import excess, timed
 
 BLOCK, BLINKER, EMPTY = "examples/block.rle", "examples/blinker.rle", "examples/empty.rle"
@@ -241,11 +243,29 @@ def try_the_most_cells(texts):
                  lines_outcome([(4, "no, cells differ after 0"), (5, "refused, bad pattern: rle too many cells")]))
 
 
+def try_many_states(texts):
+    """16777216 cells of three states: a run of a million of them, and then rows that don't repeat, which take 48 million bytes."""
+    chance, left = random.Random(6), (1 << 24) - 1000000
+    kinds = ["".join(chance.choices(".AB", (12, 1, 1), k=8000)) + "A" for _ in range(200)]
+    kinds = [(len(it) - it.count("."), re.sub(r"(.)\1+", lambda run: f"{len(run[0])}{run[1]}", it)) for it in kinds]
+    rows = ["1000000B"]
+    while left:
+        live, row = chance.choice(kinds)
+        live, row = (live, row) if live <= left else (left, f"{left}B")
+        rows.append(row)
+        left -= live
+    body = "\n".join(re.findall(r".{0,69}\D", "$".join(rows) + "!"))
+    text = f"#CXRLE Pos=0,0\nx = 1000000, y = {len(rows)}, rule = 345/2/4\n{body}\n"
+    path = texts.path("states.rle", text)
+    texts.tally.expect("16777216 cells of three states, written anew", run(["convert", path, "--to", "rle"]), ample(text.encode()))
+
+
 def main():
     tally = Tally()
     with tempfile.TemporaryDirectory() as folder:
         texts = Texts(tally, folder)
-        for it in (try_long_texts, try_kinds, try_rule_files, try_many_files, try_more_files, try_one_reading, try_periods, try_many_cells, try_ships, try_the_most_cells):
+        for it in (try_long_texts, try_kinds, try_rule_files, try_many_files, try_more_files, try_one_reading, try_periods, try_many_cells, try_ships,
+                   try_the_most_cells, try_many_states):
             it(texts)
     tally.finish()
 

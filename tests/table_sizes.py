@@ -77,6 +77,8 @@ FILES = (
     ("a variable of 1100000 elements", lambda: table([f"var a={{{'1,2,' * 550000}1}}", "0,a,0,0,0,a"], 3), DOT, SPREAD_DOT, GOOD),
     ("300000 transitions", lambda: table(transitions(300000)), DOT, SPREAD_DOT, GOOD),
     ("1100000 transitions under eight orders", lambda: table(transitions(1100000), symmetry="rotate4reflect"), DOT, SPREAD_DOT, GOOD),
+    ("8 million transitions of three cells", lambda: table(["1,1,1,0\n" * 8300000 + "0,2,0,2"], 3, "oneDimensional", "none"), DOT,
+     "x = 2, y = 1, rule = Wide\n2B!\n", GOOD),
     ("a transition of two million fields", lambda: table(["0," * 2000000 + "0"]), DOT, DOT, "refused, bad table: syntax"),
     ("a line of ten million bytes", lambda: table(["0" * 10000000]), DOT, DOT, "refused, bad table: syntax"),
     ("ten million brackets", lambda: table(["var a=" + "{" * 10000000]), DOT, DOT, "refused, bad table: syntax"),
