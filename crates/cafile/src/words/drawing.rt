@@ -1,6 +1,6 @@
 //! The words of `draw`.
 
-ghost use Rattle.std.specs.Prelude.{◌≡◌};
+ghost use Rattle.std.specs.Prelude.{◌≡◌, ◌≢◌, ℕ, ◌≤◌, pos, MatchOption};
 
 use crate::texts;
 use crate::words::arguments::{file_word, value_word, with_rule_words};
@@ -26,6 +26,8 @@ pub struct DrawWords {
 impl DrawWords {
     /// What is asked for of the run, so many generations on and within these limits.
     pub fn request(self, generations: u64, limits: Limits) -> DrawRequest
+        ensures view { result.view ≡ self.view }
+        ensures format { result.format ≡ self.format }
         ensures generations { result.generations ≡ generations }
         ensures limits { result.limits ≡ limits }
     {
@@ -160,7 +162,10 @@ fn size_from(word: &str) -> Option<Size> {
     })
 }
 
-fn side_from(number: i128) -> Option<u16> {
+fn side_from(number: i128) -> Option<u16>
+    ensures { MatchOption result ((side : ℕ) → 1 ≤ side → side ≤ 8192 → number ≢ pos side)
+        (λ side. (1 ≤ side) × (side ≤ 8192) × (number ≡ pos side)) }
+{
     if 1 <= number && number <= i128::from(MOST_SIDE) {
         return Some(number as u16);
     }

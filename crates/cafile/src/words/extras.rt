@@ -1,8 +1,11 @@
 //! What a run on claims is asked for besides these, and how much each may take.
 
+ghost use Rattle.std.specs.Prelude.{◌≡◌, codes};
 ghost use Rattle.ca_claims.specs.Limited.{AreGoodLimits};
+ghost use Rattle.cafile.specs.Words.{IsNumberAfter, memo_of, work_of};
 
 use crate::words::arguments::{flag_word, memo_word, work_word};
+use crate::words::values::number_value;
 use ca_claims::Limits;
 use ca_plane::limits::MOST_MEMO;
 use clap::{ArgMatches, Command};
@@ -16,7 +19,7 @@ pub struct Extras {
     /// How far a long claim is.
     pub progress: bool,
     /// How many entries the memo of each claim may have, where that is set.
-    pub memo: Option<usize>,
+    pub memo: Option<u64>,
     /// How much work each claim may take, where that is set.
     pub work: Option<u64>,
 }
@@ -24,7 +27,9 @@ pub struct Extras {
 impl Extras {
     /// The limits of each claim.
     pub fn limits(self) -> Limits
-        ensures { AreGoodLimits result }
+        ensures good { AreGoodLimits result }
+        ensures memo { result.memo ≡ memo_of self.memo }
+        ensures work { result.work ≡ work_of self.work }
     {
         limits_of(self.memo, self.work)
     }
@@ -32,12 +37,15 @@ impl Extras {
 
 /// The limits that are set, and else the usual ones. The words keep a memo within its limits, and one outside
 /// is brought within.
-pub fn limits_of(memo: Option<usize>, work: Option<u64>) -> Limits
-    ensures { AreGoodLimits result }
+pub fn limits_of(memo: Option<u64>, work: Option<u64>) -> Limits
+    ensures good { AreGoodLimits result }
+    ensures memo { result.memo ≡ memo_of memo }
+    ensures work { result.work ≡ work_of work }
 {
     let usual = Limits::default();
+    let memo = memo.unwrap_or(usual.memo as u64).clamp(1, MOST_MEMO as u64);
     Limits {
-        memo: memo.unwrap_or(usual.memo).clamp(1, MOST_MEMO),
+        memo: memo as usize,
         work: work.unwrap_or(usual.work),
     }
 }
@@ -62,12 +70,15 @@ pub fn with_extras<'a>(alloc: Global, command: Command<'a>) -> Result<Command<'a
 }
 
 /// What the words ask for.
-pub fn extras_of(words: &ArgMatches<'_>) -> Extras {
+pub fn extras_of(words: &ArgMatches<'_>) -> Extras
+    ensures memo { IsNumberAfter words.now (codes "memo") result.memo }
+    ensures work { IsNumberAfter words.now (codes "work") result.work }
+{
     let explained = words.get_flag("explain");
     Extras {
         explained,
         progress: words.get_flag("progress"),
-        memo: words.get_one("memo"),
-        work: words.get_one("work"),
+        memo: number_value(words, "memo"),
+        work: number_value(words, "work"),
     }
 }

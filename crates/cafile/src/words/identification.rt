@@ -1,13 +1,14 @@
 //! The words of `identify`.
 
-ghost use Rattle.std.specs.Prelude.{◌≤◌};
+ghost use Rattle.std.specs.Prelude.{◌≡◌, ◌≤◌, codes, IfOk};
 ghost use Rattle.ca_plane.specs.Limits.{longest_period, most_generations};
+ghost use Rattle.cafile.specs.Words.{IsTextAfter, IsNumberAfter, limit_of, generations_of};
 
 use crate::texts;
 use crate::words::arguments::{path_words, value_word, with_rule_words};
 use crate::words::extras::{Extras, extras_of, with_extras};
 use crate::words::pattern::after_word;
-use crate::words::values::{path_value, values_of};
+use crate::words::values::{number_value, path_value, values_of};
 use crate::words::{Request, WordsFault};
 use ca_plane::limits::{LONGEST_PERIOD, MOST_GENERATIONS};
 use clap::{Arg, ArgMatches, Command, value_parser};
@@ -37,13 +38,15 @@ impl IdentifyExtras {
     pub fn limit(&self) -> u64
         ensures some { 1 ≤ result }
         ensures most { result ≤ longest_period }
+        ensures value { result ≡ limit_of self.now.limit }
     {
         self.limit.unwrap_or(USUAL_LIMIT).clamp(1, LONGEST_PERIOD)
     }
 
     /// How many generations on that begins. The words keep them within their limit, and more are brought within.
     pub fn after(&self) -> u64
-        ensures { result ≤ most_generations }
+        ensures most { result ≤ most_generations }
+        ensures value { result ≡ generations_of self.now.after }
     {
         self.after.unwrap_or(0).min(MOST_GENERATIONS)
     }
@@ -82,10 +85,17 @@ pub fn identify_request(alloc: Global, words: &ArgMatches<'_>) -> Result<Request
     Ok(Request::Identify { paths, extras })
 }
 
-fn identify_extras(alloc: Global, words: &ArgMatches<'_>) -> Result<IdentifyExtras, WordsFault> {
+fn identify_extras(alloc: Global, words: &ArgMatches<'_>) -> Result<IdentifyExtras, WordsFault>
+    ensures limit { IfOk result (λ extras. IsNumberAfter words.now (codes "limit") extras.limit) }
+    ensures after { IfOk result (λ extras. IsNumberAfter words.now (codes "after") extras.after) }
+    ensures rule { IfOk result (λ extras. IsTextAfter words.now (codes "rule") extras.rule) }
+    ensures folder { IfOk result (λ extras. IsTextAfter words.now (codes "rules") extras.folder) }
+    ensures memo { IfOk result (λ extras. IsNumberAfter words.now (codes "memo") extras.extras.memo) }
+    ensures work { IfOk result (λ extras. IsNumberAfter words.now (codes "work") extras.extras.work) }
+{
     Ok(IdentifyExtras {
-        limit: words.get_one("limit"),
-        after: words.get_one("after"),
+        limit: number_value(words, "limit"),
+        after: number_value(words, "after"),
         rule: path_value(alloc, words, "rule")?,
         folder: path_value(alloc, words, "rules")?,
         extras: extras_of(words),

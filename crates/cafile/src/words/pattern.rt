@@ -1,13 +1,15 @@
 //! The words of `show` and `convert`, and those that `draw` shares with them.
 
+ghost use Rattle.std.specs.Prelude.{◌≡◌, codes, IfOk};
 ghost use Rattle.ca_claims.specs.Limited.{AreGoodLimits};
+ghost use Rattle.cafile.specs.Words.{IsTextAfter, IsNumberAfter, memo_of, work_of};
 
 use crate::texts;
 use crate::words::arguments::{
     file_word, flag_word, memo_word, value_word, with_rule_words, work_word,
 };
 use crate::words::extras::limits_of;
-use crate::words::values::{path_value, value_of};
+use crate::words::values::{number_value, path_value, value_of};
 use crate::words::{Request, WordsFault};
 use ca_claims::{Limits, Target};
 use clap::{Arg, ArgMatches, Command, value_parser};
@@ -27,7 +29,7 @@ pub struct PatternExtras {
     /// How far that is.
     pub progress: bool,
     /// How many entries the memo of that may have, where that is set.
-    pub memo: Option<usize>,
+    pub memo: Option<u64>,
     /// How much work that may take, where that is set.
     pub work: Option<u64>,
 }
@@ -35,7 +37,9 @@ pub struct PatternExtras {
 impl PatternExtras {
     /// The limits of taking the pattern some generations on.
     pub fn limits(&self) -> Limits
-        ensures { AreGoodLimits result }
+        ensures good { AreGoodLimits result }
+        ensures memo { result.memo ≡ memo_of self.now.memo }
+        ensures work { result.work ≡ work_of self.now.work }
     {
         limits_of(self.memo, self.work)
     }
@@ -133,14 +137,20 @@ fn target_of(words: &ArgMatches<'_>) -> Result<Target, WordsFault> {
 }
 
 /// What the words say of a pattern's rule, its generation, and what that may take.
-pub fn pattern_extras(alloc: Global, words: &ArgMatches<'_>) -> Result<PatternExtras, WordsFault> {
+pub fn pattern_extras(alloc: Global, words: &ArgMatches<'_>) -> Result<PatternExtras, WordsFault>
+    ensures rule { IfOk result (λ extras. IsTextAfter words.now (codes "rule") extras.rule) }
+    ensures folder { IfOk result (λ extras. IsTextAfter words.now (codes "rules") extras.folder) }
+    ensures after { IfOk result (λ extras. IsNumberAfter words.now (codes "after") extras.after) }
+    ensures memo { IfOk result (λ extras. IsNumberAfter words.now (codes "memo") extras.memo) }
+    ensures work { IfOk result (λ extras. IsNumberAfter words.now (codes "work") extras.work) }
+{
     Ok(PatternExtras {
         rule: path_value(alloc, words, "rule")?,
         folder: path_value(alloc, words, "rules")?,
         explained: words.get_flag("explain"),
-        after: words.get_one("after"),
+        after: number_value(words, "after"),
         progress: words.get_flag("progress"),
-        memo: words.get_one("memo"),
-        work: words.get_one("work"),
+        memo: number_value(words, "memo"),
+        work: number_value(words, "work"),
     })
 }

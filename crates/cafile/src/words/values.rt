@@ -1,11 +1,16 @@
 //! The values of a command's words, copied.
 
+ghost use Rattle.std.specs.Prelude.{◌≡◌, Some, string_bytes, IfOk};
+ghost use Rattle.cafile.specs.Words.{IsTextAfter, IsNumberAfter};
+
 use crate::words::WordsFault;
 use clap::ArgMatches;
 use std::alloc::Global;
 
 /// The value of a word that is required.
-pub fn value_of(alloc: Global, words: &ArgMatches<'_>, name: &str) -> Result<String, WordsFault> {
+pub fn value_of(alloc: Global, words: &ArgMatches<'_>, name: &str) -> Result<String, WordsFault>
+    ensures { IfOk result (λ value. IsTextAfter words.now name.now (Some value)) }
+{
     let Some(word) = words.get_str(name) else {
         return Err(WordsFault::Usage);
     };
@@ -30,7 +35,9 @@ pub fn values_of(
     Ok(all)
 }
 
-fn copy_word(alloc: Global, word: &str) -> Result<String, WordsFault> {
+fn copy_word(alloc: Global, word: &str) -> Result<String, WordsFault>
+    ensures { IfOk result (λ text. string_bytes text ≡ word.now) }
+{
     let Ok(text) = String::from_str(alloc, word) else {
         return Err(WordsFault::Memory);
     };
@@ -42,10 +49,19 @@ pub fn path_value(
     alloc: Global,
     words: &ArgMatches<'_>,
     name: &str,
-) -> Result<Option<String>, WordsFault> {
+) -> Result<Option<String>, WordsFault>
+    ensures { IfOk result (λ path. IsTextAfter words.now name.now path) }
+{
     if !words.contains_id(name) {
         return Ok(None);
     }
     let path = value_of(alloc, words, name)?;
     Ok(Some(path))
+}
+
+/// The number that is given after a word, where that stands there.
+pub fn number_value(words: &ArgMatches<'_>, name: &str) -> Option<u64>
+    ensures { IsNumberAfter words.now name.now result }
+{
+    words.get_one(name)
 }
