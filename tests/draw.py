@@ -121,6 +121,16 @@ def try_by_hand(tally, files):
     tally.expect("standard input", run(["draw", "-"], input=GLIDER.encode()), ample(b".o.\n..o\nooo\n"))
 
 
+def try_widest(tally, files):
+    """Windows that are as wide or as high as any."""
+    path, wide = files.path("pattern.rle", GLIDER), 8192
+    for size, text in ((f"{wide},2", ".o" + "." * (wide - 2) + "\n..o" + "." * (wide - 3) + "\n"), (f"2,{wide}", ".o\n..\noo\n" + "..\n" * (wide - 3))):
+        words = ["draw", path, "--at", "0,0", "--size", size]
+        tally.expect(f"{size} characters", run(words), ample(text.encode()))
+        pixels = bytes({"o": 0, ".": 255}[it] for it in text.replace("\n", ""))
+        tally.expect(f"{size} pixels", run([*words, "--to", "pgm"]), ample(b"P5\n%s\n255\n" % size.replace(",", " ").encode() + pixels))
+
+
 def windows_of(chance, box):
     """Words for some windows of a plane with this box, in and around it."""
     x0, y0, wide, high = box or (0, 0, 1, 1)
@@ -250,7 +260,7 @@ def try_tables(tally, _):
 def main():
     tally = Tally()
     with tempfile.TemporaryDirectory() as folder:
-        for it in (try_by_hand, try_examples, try_large, try_the_largest, try_after, try_faults, try_tables):
+        for it in (try_by_hand, try_widest, try_examples, try_large, try_the_largest, try_after, try_faults, try_tables):
             it(tally, Folder(folder))
     tally.finish()
 

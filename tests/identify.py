@@ -9,6 +9,7 @@ import tempfile
 from lib import rle
 from lib.claim_reader import next_cells
 from lib.program import EXAMPLES, ROOT, Folder, Outcome, Tally, ample, fault, run
+from lib.work import excess, timed
 
 # Patterns of examples/ whose claims are known from elsewhere: the field's names for them, or docs/CLAIMS.md.
 KNOWN = {
@@ -160,6 +161,36 @@ def try_squares(tally, files):
         tally.tell(f"{count - 1} squares under {rule}: {sorted(kinds)}", complaints + ([] if got == ample((version + lines).encode()) else [f"wanted {version + lines!r}", str(got)]))
 
 
+def drifted(cells, later, times):
+    """The cells so many times four generations on, where those four generations on are told: each group of neighbours is there again, or is a glider, which is one
+    place further on, and none meets another."""
+    ways, end, left = [(0, 0), (1, 1), (1, -1), (-1, 1), (-1, -1)], set(), set(cells)
+    while left:
+        group = found = {left.pop()}
+        while found:
+            found = {(x + i, y + j) for x, y in found for i in (-1, 0, 1) for j in (-1, 0, 1)} & left
+            left, group = left - found, group | found
+        east, south = next(way for way in ways if {(x + way[0], y + way[1]) for x, y in group} <= later)
+        end |= {(x + times * east, y + times * south) for x, y in group}
+    return end
+
+
+def try_long_periods(tally, files):
+    """Cells that each go through states of their own in turn: the period is the product of the numbers of these states, which have no common divisor."""
+    for lengths, words in (((39, 40, 41), ()), ((39, 40, 41), ("--limit", "65537")), ((40, 41, 43), ("--limit", "70520"))):
+        first, period, lines, cells = 1, 1, [], {}
+        for at, length in enumerate(lengths):
+            lines += [f"{first + step},0,0,0,0,{first + (step + 1) % length}" for step in range(length)]
+            cells[3 * at, 0] = first
+            first, period = first + length, period * length
+        rule = files.path("turns.rule", f"@RULE Turns\n@TABLE\nn_states:{first}\nneighborhood:vonNeumann\nsymmetries:none\n" + "\n".join([*lines, ""]))
+        path = files.path("turns.rle", rle.tidy(cells, "Turns", 0, first))
+        words = ["identify", path, "--rule", rule, *words]
+        tally.expect(f"a period of {period}", run(words), ample(f"rule {rule}\n{entry('turns', path, f'oscillator {period}')}".encode()))
+        none = none_within(period - 1, len(cells), 3 * len(cells) - 2, 1)
+        tally.expect(f"a limit of {period - 1}", run([*words[:4], "--limit", str(period - 1)]), ample(f"rule {rule}\n{entry('turns', path, none)}".encode()))
+
+
 def try_limits(tally):
     """A period that is the limit is found, and one that is one more isn't."""
     for path, told, limit in (("pulsar.rle", "oscillator 3", 3), ("glider.rle", "spaceship 4 1 1", 4), ("reactions/diehard.rle", "dies 130", 130), ("block.rle", "still", 1),
@@ -170,11 +201,15 @@ def try_limits(tally):
         if limit > 1:
             tally.expect(f"{path}, as far as {limit - 1}", run(["identify", path, "--limit", str(limit - 1)]),
                          ample(entry(base_name(path), path, shown_after(path, limit - 1)).encode()))
-    path, now = "examples/r_pentomino.rle", {(1, 0), (2, 0), (0, 1), (1, 1), (1, 2)}
-    for generation in range(1, 1001):
+    path, now, settled = "examples/r_pentomino.rle", {(1, 0), (2, 0), (0, 1), (1, 1), (1, 2)}, []
+    for generation in range(1, 1109):
         now = next_cells(now, {3}, {2, 3})
         if generation in (1, 7, 100, 1000):
             tally.expect(f"the R-pentomino, as far as {generation}", run(["identify", path, "--limit", str(generation)]), ample(entry("r_pentomino", path, none_of(now, generation)).encode()))
+        if generation in (1104, 1108):
+            settled.append(now)
+    end = drifted(*settled, (65536 - 1104) // 4)
+    tally.expect("the R-pentomino, as far as usual", run(["identify", path]), ample(entry("r_pentomino", path, none_of(end, 65536)).encode()))
     path = "examples/blinker.rle"
     tally.expect("as far as can be", run(["identify", path, "--limit", "4294967295"]), ample(entry("blinker", path, "oscillator 2").encode()))
 
@@ -422,12 +457,45 @@ def try_rules(tally, files):
     tally.expect("a rule with a blank in its name", run(["identify", "--rules", folder, f]), Outcome(f"# of_F_G: {f}: bad rule: unknown\n".encode(), b"", 2))
 
 
+def try_given_rule(tally, files):
+    """The table of `--rule` goes before another good one of its name in the folder: under it a lone cell dies, and under the other one it is still."""
+    given = files.path("given.rule", rule_text("Lone") + "1,0,0,0,0,0\n")
+    files.path("Lone.rule", rule_text("Lone"))
+    path = files.path("lone.rle", "x = 1, y = 1, rule = Lone\nA!\n")
+    for words in (["--rule", given, "--rules", files.folder], ["--rules", files.folder, "--rule", given]):
+        for more, lines in (([], entry("lone", path, "dies 1")), (["--after", "0"], entry("lone", path, "dies 1")), (["--after", "1"], later_entry("lone", path, 1, "no cell is live"))):
+            version = "claims 2\n" * ("dies" in lines)
+            tally.expect(f"a rule file beside a folder {' '.join(more)}", run(["identify", path, *words, *more]), ample(f"{version}rule {given}\n{lines}".encode()))
+
+
+def try_many(tally, files):
+    """1100 files of one name, of which the last 200 have rules of their own; a text of more than a million bytes; and the time that many files of one name take."""
+    os.mkdir(os.path.join(files.folder, "rules"))
+    paths, rules, lines = [], [], []
+    for number in range(1100):
+        own = number - 900
+        os.mkdir(os.path.join(files.folder, str(number)))
+        if own >= 0:
+            rules.append(files.path(f"rules/R{own}.rule", rule_text(f"R{own}")))
+        paths.append(files.path(f"{number}/p.rle", pattern_of(f"R{own}") if own >= 0 else BLOCK))
+        lines.append(entry("p" if number == 0 else f"p-{number + 1}", paths[-1], "still"))
+    text = "".join([*(f"rule {rule}\n" for rule in rules), *lines])
+    tally.expect("1100 files of one name and 200 rules", run(["identify", "--rules", os.path.join(files.folder, "rules"), *paths]), ample(text.encode()))
+    long = paths[0].replace("/", "/" + "./" * 1900, 1)
+    lines = [entry(f"p-{number + 1}" if number else "p", long, "still") for number in range(300)]
+    tally.expect("a text of more than a million bytes", run(["identify", *[long] * len(lines)]), ample("".join(lines).encode()))
+    count = 16000
+    got, seconds = timed(["identify", *["examples/block.rle"] * count])
+    lines = [entry(f"block-{number + 1}" if number else "block", "examples/block.rle", "still") for number in range(count)]
+    tally.tell(f"{count} files of one name", ([] if got == ample("".join(lines).encode()) else [str(got)]) + excess(seconds, 20))
+
+
 def main():
     tally = Tally()
     try_known(tally)
     try_true_claims(tally)
     try_limits(tally)
-    for trial in (try_squares, try_growth, try_many_squares, try_after, try_all, try_names, try_refused, try_rules):
+    for trial in (try_squares, try_growth, try_many_squares, try_long_periods, try_after, try_all, try_names, try_refused, try_rules, try_given_rule, try_many):
         with tempfile.TemporaryDirectory() as folder:
             trial(tally, Folder(folder))
     tally.finish()

@@ -116,6 +116,20 @@ def try_given(files):
     files.expect("one is given that isn't there", ["show", second, "--rule", files.rules, "--rules", files.rules], fault(f"cannot read {files.rules}"))
 
 
+def try_given_after(files):
+    """The table of `--rule` goes before another good one of its name in the folder, some generations on too: under it each cell is put to its four sides, and
+    under the other one nothing changes."""
+    spread = files.path("spread.rule", SPREAD)
+    files.rule("Spread.rule", SPREAD.replace("0,a,0,0,0,a\n", ""))
+    path = files.path("pattern", pattern_of("Spread")[0])
+    first = {(0, 0): 2, (2, 0): 1}
+    second = {**first, (-1, 0): 2, (0, -1): 2, (0, 1): 2, (2, -1): 1, (2, 1): 1, (3, 0): 1}
+    for words, cells in ((["--rule", spread, "--rules", files.rules], second), (["--rules", files.rules, "--rule", spread], second), (["--rules", files.rules], first)):
+        pattern = macrocell.Pattern(macrocell.tree_of(cells), "Spread", 1)
+        for command, wanted in zip(COMMANDS, (pattern.shown(kind="rle"), macrocell.tidy(pattern, 3), rle.tidy(cells, "Spread", 1, 3), drawn(cells, 3))):
+            files.expect(f"after a generation, {words[0]}", with_file(command, path, "--after", "1", *words), ample(wanted))
+
+
 def try_unread(files):
     """A folder or a rule file that isn't there, or can't be read, is as none."""
     pattern = files.path("pattern", pattern_of("Spread")[0])
@@ -159,7 +173,7 @@ def try_unneeded(files):
 def main():
     tally = Tally()
     with tempfile.TemporaryDirectory() as folder:
-        for name, it in (("found", try_found), ("names", try_names), ("faulty", try_faulty), ("beside --rule", try_given), ("not read", try_unread),
+        for name, it in (("found", try_found), ("names", try_names), ("faulty", try_faulty), ("beside --rule", try_given), ("after", try_given_after), ("not read", try_unread),
                          ("not needed", try_unneeded)):
             files = Rules(tempfile.mkdtemp(dir=folder))
             it(files)

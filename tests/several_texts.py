@@ -111,6 +111,13 @@ def try_one(tally, texts):
         tally.expect(f"one text, {name}", texts.run([name]), fault(told))
 
 
+def try_limits(tally, texts):
+    """The limits that are set are those of each claim of each text."""
+    group = ("yes", "more", "yes")
+    lines = [f"{texts.path(it)}: line {answer.line}: refused, work\n" for it in group for answer in texts.answers[it]]
+    tally.expect("no work in several texts", texts.run(group, "--work", "0"), Outcome("".join(lines).encode(), b"", 2))
+
+
 def try_paths(tally, files):
     """The path is told as it is given, however it is spelled."""
     text = b"load a examples/block.rle\nstill a\n"
@@ -150,7 +157,7 @@ def main():
     tally = Tally()
     with tempfile.TemporaryDirectory() as folder:
         texts = Texts(folder)
-        for it in (try_one, try_orders, try_one_stream, try_statuses, try_failed_writes):
+        for it in (try_one, try_orders, try_one_stream, try_statuses, try_failed_writes, try_limits):
             it(tally, texts)
         try_paths(tally, texts.files)
         try_memory(tally, texts.files)

@@ -319,11 +319,24 @@ def try_layout(files):
     files.judge("two hundred rules", text)
 
 
+def try_many(files):
+    """1100 patterns, of which the last hundred have rules of their own."""
+    text = files.text()
+    for rank in range(1100):
+        own = max(rank - 999, 0)
+        if own or rank == 0:
+            files.table(f"R{own}", TURN if own % 2 else STILL)
+        text.load(f"p{rank}", rle_of(f"R{own}"))
+        text.claim(f"still p{rank}", "no, cells differ after 1" if own % 2 else "yes")
+    files.check("1100 patterns", ["verify", "--rules", files.rules, text.write()], outcome(text.answers, False))
+
+
 def main():
     tally = Tally()
     with tempfile.TemporaryDirectory() as folder:
         for name, it in (("found", try_found), ("several texts", try_several), ("names", try_names), ("faulty", try_faulty), ("not read", try_unread),
-                         ("beside rule lines", try_rule_lines), ("two patterns", try_pairs), ("not needed", try_unneeded), ("Golly's files", try_layout)):
+                         ("beside rule lines", try_rule_lines), ("two patterns", try_pairs), ("not needed", try_unneeded), ("Golly's files", try_layout),
+                         ("many patterns", try_many)):
             files = Rules(folder)
             it(files)
             tally.tell(f"verify with a folder of rules, {name}: {files.count} runs", files.complaints)
