@@ -34,7 +34,7 @@ LEAST, RATIO = 4_000_000, 1.8
 
 # Gliders far apart, so many that a generation of theirs needs more squares than a store of its own has at first, and the bytes of address space that are enough
 # for these squares, but not for more. So many times the known work such a run may take.
-GLIDERS, ROOM, BOUND = 16000, 300_000_000, 800
+GLIDERS, ROOM, BOUND = 16000, 353_000_000, 1000
 
 # A line of progress that tells the squares that there are.
 SQUARES = re.compile(rb"(\d+)\.(\d) million squares")

@@ -26,7 +26,7 @@ SPACE = 25_000_000
 LEAPS, TABLES = "tests/leaps", "examples/tables"
 
 # How many cells lie far apart.
-CELLS = 132000
+CELLS = 160000
 
 # The most generations of `becomes`, and the longest period. Cells of files lie from -FAR to FAR - 1.
 FAR, LONGEST = 1 << 60, (1 << 32) - 1
@@ -357,7 +357,7 @@ def try_a_million_squares(claims):
 
 
 def try_beside_many_squares(claims):
-    """A small pattern is leapt in a store that has the squares of a large one: some 6.7 million, of cells far apart, each of which takes about 50."""
+    """A small pattern is leapt in a store that has the squares of a large one: some 7 million, of cells far apart, each of which takes 44."""
     chance, count = random.Random(1), 1 << 20
     far = "".join(f"{chance.randrange(2 * FAR)}bo{chance.randrange(1, 2 * FAR // CELLS)}$" for _ in range(CELLS))
     text = claims.text()
