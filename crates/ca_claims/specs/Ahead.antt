@@ -42,7 +42,7 @@ pub record IsReached (bytes : List ℕ) (tables : List TableRule) (n : ℕ) (rea
   pub shows : (x y : ℤ) → trees.cell reached.store reached.tree x y ≡ after (next_of (rule_value reached.rule)) cells n x y
   pub small : HasSmallStates (rule_value reached.rule) (trees.cell reached.store reached.tree)
 
--- there is a generation at least to run, and the work is no more than a run of n of them from these cells may need: 14 to the power of a level that
+-- there is at least one generation to run, and the work is no more than a run of n of them from these cells may need: 14 to the power of a level that
 -- holds them, the binary digits of n, and 2
 abbrev pub MayNeedRun : (work n : ℕ) → (ℤ → ℤ → ℕ) → Type 0
 MayNeedRun work n cells = (1 ≤ n) × ((level digits : ℕ) → 1 ≤ level → HoldsAll level cells → n < 2 ^ digits → work ≤ 14 ^ (level + digits + 2))

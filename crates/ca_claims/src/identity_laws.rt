@@ -22,7 +22,7 @@ pub fn one_identity()
 {}
 
 /// Within a limit a file is identified as one thing at most, or not identified for one cause, with its line,
-/// and not both; out of work and memory apart.
+/// and not both; out of work and memory apart. Nothing is said of the rule text that comes with a cause.
 pub fn one_kind_of_identification()
     ensures one_identity { (bytes : List ℕ) (tables : List TableRule) (limit : ℕ) (one two : Identity)
         → IsIdentified bytes tables limit one → IsIdentified bytes tables limit two → one ≡ two }

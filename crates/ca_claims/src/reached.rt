@@ -34,7 +34,7 @@ pub enum ReachFault {
     /// may name.
     #[error("the generation is too large")]
     GenTooLarge,
-    /// As much work was done as may be. After no generations none is.
+    /// As much work was done as may be. A run of no generations is never out of work.
     #[error("out of work")]
     Work,
     /// A cell is live in the end outside -2^60 to 2^60 - 1, where no file may have one. No summary has it.

@@ -69,8 +69,8 @@ impl BitPlane {
     ///
     /// # Errors
     ///
-    /// Fails where there is no memory for it, and then some first cells of the run may be live, but not all of
-    /// them. Every other cell is as it was.
+    /// Fails where there is no memory for it, and then some first cells of the run may be made live, but not all
+    /// of them. Every other cell is as it was.
     pub fn add_run(&mut self, first: Point, length: u64) -> Result<(), Memory>
         requires west { neg_ℤ reach ≤ℤ first.x }
         requires east { (first.x +ℤ pos length) ≤ℤ reach }

@@ -51,7 +51,7 @@ const MOST: usize = 9 << 28;
 /// Squares of cells, each kept once. An id names one as long as the store lasts.
 ///
 /// A store is full where it keeps 2415919104 of them, those that are named by their cells not counted. What
-/// would keep one then fails with `Memory`, though memory may be there, also where the square is kept.
+/// would keep one then fails with `Memory`, though memory may be there, also where the square is kept already.
 #[derive(Drop)]
 pub struct Store {
     nodes: IndexSet<Node>,

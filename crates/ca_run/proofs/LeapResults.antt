@@ -9,7 +9,7 @@ use Rattle.ca_run.specs.declared.leaper.key.Key.{Key}
 use Rattle.ca_run.specs.declared.leaper.key.Key.TheVariants.{Page as OfPage, Single}
 use Rattle.ca_run.specs.declared.leaper.page.Page.{Page}
 use Rattle.ca_run.specs.Centre.{IsCentre, IsLeap}
-use Rattle.ca_run.specs.Memo.{LeapResult, FullLeap, Leap, LeapOfFour, IsTrueResult}
+use Rattle.ca_run.specs.Memo.{LeapResult, FullLeap, Centre, LeapOfFour, IsTrueResult}
 use Rattle.ca_run.specs.inner.Pages.{MemoView, HasPageKey, HasSlot, HasFullLeap, HasSingle}
 use Rattle.ca_run.specs.inner.Slots.{SlotsView, HasRecent}
 use Rattle.ca_run.specs.inner.Tables.{slot_results, page_results, single_result, centre_result, leap_result, results_of, AreBounded, IsLeaper}
@@ -246,11 +246,11 @@ module _ (next : List ℕ → ℕ) (nodes : List Node) where
   single_true : (entries : List (Key × Option ℕ)) → ((id j half : ℕ) → Contains entries (Single id j, Some half) → (k : ℕ) × IsCentre next nodes id k j half) → (entry : Key × Option ℕ) (result : LeapResult) → Contains entries entry → single_result entry ≡ Some result → IsTrueResult next nodes result
   single_true entries all (OfPage number, centre) result c e = let no : ⊥ = cc in absurd no
   single_true entries all (Single square j, None) result c e = let no : ⊥ = cc in absurd no
-  single_true entries all (Single square j, Some centre) result c e = let same : Leap square j centre ≡ result = cc in subst (IsTrueResult next nodes) same (all square j centre c)
+  single_true entries all (Single square j, Some centre) result c e = let same : Centre square j centre ≡ result = cc in subst (IsTrueResult next nodes) same (all square j centre c)
 
   centre_true : (slots : List (Option ((ℕ × ℕ) × ℕ))) → AreRecentCentres next nodes slots → (slot : Option ((ℕ × ℕ) × ℕ)) (result : LeapResult) → Contains slots slot → centre_result slot ≡ Some result → IsTrueResult next nodes result
   centre_true slots all None result c e = let no : ⊥ = cc in absurd no
-  centre_true slots all (Some ((square, j), centre)) result c e = let same : Leap square j centre ≡ result = cc in subst (IsTrueResult next nodes) same (all square j centre c)
+  centre_true slots all (Some ((square, j), centre)) result c e = let same : Centre square j centre ≡ result = cc in subst (IsTrueResult next nodes) same (all square j centre c)
 
   leap_true : (slots : List (Option ((ℕ × ℕ × ℕ × ℕ) × ℕ))) → AreRecentLeaps next nodes slots → (slot : Option ((ℕ × ℕ × ℕ × ℕ) × ℕ)) (result : LeapResult) → Contains slots slot → leap_result slot ≡ Some result → IsTrueResult next nodes result
   leap_true slots all None result c e = let no : ⊥ = cc in absurd no
@@ -295,13 +295,13 @@ module _ (next : List ℕ → ℕ) (nodes : List Node) where
 
     pub singles_of : AreTrue next nodes (results_of memo centres leaps) → AreSingles next nodes memo
     singles_of all id j half c =
-        let result = Leap id j half in
+        let result = Centre id j half in
         all result (Contains-append_right in_pages (in_entries ++ (in_centres ++ in_leaps)) result
         (Contains-append_left in_entries (in_centres ++ in_leaps) result (filter_map-there single_result memo.order.entries (Single id j, Some half) result c refl)))
 
     pub centres_of : AreTrue next nodes (results_of memo centres leaps) → AreRecentCentres next nodes centres.slots
     centres_of all id j half c =
-        let result = Leap id j half in
+        let result = Centre id j half in
         all result (Contains-append_right in_pages (in_entries ++ (in_centres ++ in_leaps)) result
         (Contains-append_right in_entries (in_centres ++ in_leaps) result
         (Contains-append_left in_centres in_leaps result (filter_map-there centre_result centres.slots (Some ((id, j), half)) result c refl))))

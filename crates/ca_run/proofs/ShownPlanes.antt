@@ -18,7 +18,7 @@ use Rattle.ca_run.specs.Leaping.{Spent, Spends, LeaperView, LeaperGrows}
 use Rattle.ca_run.specs.inner.Shown.{ShowsPlane, ShowsAt, FourShow, ThreeShow, TwoShow, AreThree, side}
 use Rattle.ca_run.specs.inner.Pages.{MemoView, HasFullLeap, HasSingle, RemembersNoMore, IsBoundedMemo}
 use Rattle.ca_run.specs.inner.Slots.{SlotsView, HasRecent}
-use Rattle.ca_run.specs.Memo.{LeapResult, FullLeap, Leap, LeapOfFour, IsTrueResult}
+use Rattle.ca_run.specs.Memo.{LeapResult, FullLeap, Centre, LeapOfFour, IsTrueResult}
 use Rattle.ca_run.specs.inner.Tables.{IsLeaper}
 use Rattle.ca_run.proofs.LeapResults.{AreFullLeaps, AreSingles, AreRecentCentres, AreRecentLeaps, full_leaps_of, singles_of, centres_of, leaps_of, leaper_with}
 use Rattle.ca_run.proofs.After.{after_again}
@@ -119,7 +119,7 @@ module _ (old new : List Node) (sound : IsSoundStore old) (grows : Grows old new
 
   pub result_stays : (next : List ℕ → ℕ) (result : LeapResult) → IsTrueResult next old result → IsTrueResult next new result
   result_stays next (FullLeap square centre) h = (h.0, centre_stays next square h.0 h.0 centre h.1)
-  result_stays next (Leap square j centre) h = (h.0, centre_stays next square h.0 j centre h.1)
+  result_stays next (Centre square j centre) h = (h.0, centre_stays next square h.0 j centre h.1)
   result_stays next (LeapOfFour nw ne sw se middle) h = (h.0, leap_stays next h.0 nw ne sw se middle h.1)
 
 -- a leaper stays one as its store grows

@@ -21,7 +21,8 @@ pub record Spends (old new : Spent) : Type 0 where
 abbrev pub EndsAtLimit : {T : Type 0} → Spent → Result T LeapFault → Type 0
 EndsAtLimit spent result = IfErr result (λ fault. fault ≡ Work → spent.used ≡ spent.limit)
 
--- a rule, the squares of a store, how many entries the memo may have, and the work that was done and may be
+-- a rule, the squares of a store, how many entries the memo and its two tables may have together, and the work that was done
+-- and may be
 pub record LeaperView (Rule : Type 0) : Type 0 where
   pub rule : Rule
   pub nodes : List Node

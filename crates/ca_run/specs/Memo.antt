@@ -8,13 +8,13 @@ use Rattle.ca_run.specs.Centre.{IsCentre, IsLeap}
 -- of four as far on as it can be known
 pub data LeapResult : Type 0 where
   FullLeap : (square centre : ℕ) → LeapResult
-  Leap : (square j centre : ℕ) → LeapResult
+  Centre : (square j centre : ℕ) → LeapResult
   LeapOfFour : (nw ne sw se middle : ℕ) → LeapResult
 
 -- the result is true of these squares
 abbrev pub IsTrueResult : (List ℕ → ℕ) → List Node → LeapResult → Type 0
 IsTrueResult next nodes (FullLeap square centre) = (k : ℕ) × IsCentre next nodes square k k centre
-IsTrueResult next nodes (Leap square j centre) = (k : ℕ) × IsCentre next nodes square k j centre
+IsTrueResult next nodes (Centre square j centre) = (k : ℕ) × IsCentre next nodes square k j centre
 IsTrueResult next nodes (LeapOfFour nw ne sw se middle) = (k : ℕ) × IsLeap next nodes k nw ne sw se middle
 
 -- what is remembered with a memo of so many entries: true results, and at most 16 for each entry

@@ -92,7 +92,8 @@ pub fn returning_pictures_stay_small<A: Automaton>(rule: &A)
 
 /// Where the plane of a picture is at some time such that it is back after q more generations, moved by a
 /// vector, the picture itself is back after q generations, moved by that vector, if it ever comes back, in
-/// its place or moved. So one comparison, after q generations, rules out every period, or finds one.
+/// its place or moved. So for a q of at least 1 one comparison, after q generations, rules out every period, or
+/// finds one.
 pub fn returning_pictures_settle_as_they_are<A: Automaton>(rule: &A)
     ensures { (cells settled : Picture) (p n q : ℕ) (dx dy : ℤ)
         → IsBackAnywhere (A.next_of rule.now) cells p → IsAfter (A.next_of rule.now) cells n settled

@@ -8,7 +8,7 @@ pub trait Watch {
     fn reached(&mut self, run: Milestone);
 
     /// The run goes on: so many units of work were done so far, and so many squares are kept. It is told
-    /// after each 65536 results or so.
+    /// after each 65536 units of work or so.
     fn works(&mut self, used: u64, squares: usize);
 }
 

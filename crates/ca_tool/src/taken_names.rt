@@ -42,7 +42,7 @@ impl TakenNames {
         }
     }
 
-    /// Takes the first of the name itself, with `-2`, `-3` and so on after it that isn't taken.
+    /// Takes the name itself, or the first with `-2`, `-3` and so on after it that isn't taken.
     ///
     /// # Errors
     ///

@@ -9,7 +9,7 @@ use Rattle.ca_plane.specs.Limits.{most_memo, longest_period, most_generations}
 abbrev pub IsTextAfter : {A : Type 0} → ArgMatches → (name : List ℕ) → Option (String A) → Type 0
 IsTextAfter words name text = option_map string_bytes text ≡ first_value (found_of words) name
 
--- the text is this number below 2^64, in decimal digits
+-- the text is this number below 2^64, in decimal digits, which a `+` may precede
 abbrev pub IsNumberText : List ℕ → ℕ → Type 0
 IsNumberText text number = IsNumeral 10 (without_leading_plus text) × (number ≡ digits_value 10 (without_leading_plus text)) × (number < 2 ^ 64)
 
@@ -18,7 +18,7 @@ abbrev pub IsNumberAfter : ArgMatches → (name : List ℕ) → Option ℕ → T
 IsNumberAfter words name (Some number) = (text : List ℕ) × (one_text (found_of words) name ≡ Some text) × IsNumberText text number
 IsNumberAfter words name None = (text : List ℕ) (number : ℕ) → one_text (found_of words) name ≡ Some text → IsNumberText text number → ⊥
 
--- the entries of a memo: 262144 unless set. A number outside the limits is brought within, here and below
+-- the entries of a memo: 262144 unless set. A number outside its limits is brought within them, and so are the two below that have some
 abbrev pub memo_of : Option ℕ → ℕ
 memo_of set = max 1 (min (unwrap_or set 262144) most_memo)
 

@@ -36,7 +36,7 @@ fn pad_to(store: &mut Store, tree: Tree, least: u8) -> Result<Tree, Memory>
     pad_to(store, larger, least)
 }
 
-/// The same for a tree of the smallest level that shows its cells.
+/// The root of a tidy text, of a tree of the smallest level that shows its cells.
 fn padded_root(store: &mut Store, least: Tree, states: u16) -> Result<Tree, Memory>
     requires tree { IsTree store.old least }
     requires trimmed { IsTrimmed store.old least }

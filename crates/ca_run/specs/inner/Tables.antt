@@ -7,7 +7,7 @@ use Rattle.ca_run.specs.declared.leaper.key.Key.{Key}
 use Rattle.ca_run.specs.declared.leaper.key.Key.TheVariants.{Page as OfPage, Single}
 use Rattle.ca_run.specs.declared.leaper.page.Page.{Page}
 use Rattle.ca_run.specs.Masks.{GoesBy}
-use Rattle.ca_run.specs.Memo.{LeapResult, FullLeap, Leap, LeapOfFour, Remembers}
+use Rattle.ca_run.specs.Memo.{LeapResult, FullLeap, Centre, LeapOfFour, Remembers}
 use Rattle.ca_run.specs.inner.Pages.{MemoView, IsBoundedMemo}
 use Rattle.ca_run.specs.inner.Slots.{SlotsView}
 
@@ -28,12 +28,12 @@ page_results number (Some page ∷ pages) = slot_results 16 (16 * number) page.s
 abbrev pub single_result : Key × Option ℕ → Option LeapResult
 single_result (OfPage number, centre) = None
 single_result (Single square j, None) = None
-single_result (Single square j, Some centre) = Some (Leap square j centre)
+single_result (Single square j, Some centre) = Some (Centre square j centre)
 
 -- the result in a slot of the table by squares and times
 abbrev pub centre_result : Option ((ℕ × ℕ) × ℕ) → Option LeapResult
 centre_result None = None
-centre_result (Some ((square, j), centre)) = Some (Leap square j centre)
+centre_result (Some ((square, j), centre)) = Some (Centre square j centre)
 
 -- the result in a slot of the table by four squares
 abbrev pub leap_result : Option ((ℕ × ℕ × ℕ × ℕ) × ℕ) → Option LeapResult

@@ -18,7 +18,7 @@ use ca_plane::{Automaton, Memory};
 use ca_quad::{Store, Tree};
 use std::mem;
 
-// How many squares that are copied cost as much as a result.
+// How many squares that are copied cost a unit of work.
 const A_UNIT: usize = 4096;
 
 // More leaps than any run can make in a lifetime.
