@@ -1,5 +1,5 @@
 -- Which claims are true of pictures, by what their planes show after one generation after the other.
-use Rattle.std.proofs.Common.{◌≡◌, ◌≢◌, ℕ, ◌+◌, ◌≤◌, ◌<◌, List, [], Result, sym, subst, ◌∙◌, arith}
+use Rattle.std.proofs.Common.{◌≡◌, ◌≢◌, ℕ, zero, suc, ◌+◌, ◌≤◌, ◌<◌, List, [], Result, sym, subst, ◌∙◌, arith}
 use Rattle.std.specs.Prelude.{ℤ, pos, ◌-ℤ◌, replicate, IfOk}
 use Rattle.std.proofs.lemmas.Int.{ints}
 use Rattle.ca_plane.specs.Plane.{Picture, shifted, IsLive}
@@ -13,6 +13,7 @@ use Rattle.ca_quad.specs.Trees as trees
 use Rattle.ca_run.specs.declared.fault.LeapFault.{LeapFault}
 use Rattle.ca_run.proofs.After.{after_same}
 use Rattle.ca_claims.specs.declared.claims.line.Kind.TheVariants as kind
+use Rattle.ca_claims.specs.declared.identification.ending.Ending.TheVariants.{Death}
 use Rattle.ca_claims.specs.declared.identification.stage.First.{First}
 use Rattle.ca_claims.specs.declared.identification.stage.Stage.TheVariants.{Other}
 use Rattle.ca_claims.specs.declared.identity.Growth.{Growth}
@@ -21,8 +22,9 @@ use Rattle.ca_claims.specs.declared.identity.Identity.TheVariants.{Unknown}
 use Rattle.ca_claims.specs.Identified.{IsIdentity, IsIdentityAfter, IsTrueWithin, HasNoTrueClaim}
 use Rattle.ca_plane.specs.Limits.{longest_period}
 use Rattle.ca_claims.specs.Truth.{IsChanged, IsNowhere, IsLiveAfter}
-use Rattle.ca_claims.specs.inner.Stages.{IsFirst, IsStage, IsReturn, IsLaterTree, IsGrowthOf, AreMoved, AreMovedNowhere, AreOtherUpTo}
+use Rattle.ca_claims.specs.inner.Stages.{IsFirst, IsStage, IsReturn, IsLaterTree, IsGrowthOf, AreMoved, AreMovedNowhere, AreOtherUpTo, IsEnding, HasNoReturn}
 use Rattle.ca_claims.specs.inner.Subjects.{ShowsTree, HasLive}
+use Rattle.ca_claims.proofs.Deaths.{live_at_all}
 use Rattle.ca_claims.proofs.LaterPlanes.{tree_picture}
 use Rattle.ca_claims.proofs.LeaptTrees.{ok_as}
 use Rattle.ca_claims.proofs.Starts.{near_start, start_near, picture_after}
@@ -64,18 +66,37 @@ module _ (next : List ℕ → ℕ) (p : ℤ → ℤ → ℕ) (cells : Picture) (
       let live = picture_lives n (others n some within).0 in
       live.2 (true.stands live.0 live.1)
 
-  -- where they are dead then, and live before it, the pattern dies
-  pub death_true : (limit n : ℕ) → HasLive p → 1 ≤ n → n ≤ limit → limit ≤ longest_period → ((m : ℕ) → 1 ≤ m → m < n → IsStage p (cells_after next p m) Other) → IsDead (cells_after next p n)
-      → IsTrueWithin next cells limit (kind.Dies n)
-  death_true limit n live some within short others dead = record {
-    numbers = (some, omega (arith, within, short));
-    within = within;
-    holds = record {
-      live = λ _. picture_live live;
-      stands = picture_dies n dead;
-      least = λ m first less. picture_lives m (others m first less).0;
-    };
-  }
+  -- a plane that is live and no other one till then is live at each time before
+  lives_before : (n : ℕ) → HasLive p → ((m : ℕ) → 1 ≤ m → m < n → IsStage p (cells_after next p m) Other) → (k : ℕ) → k < n → IsLiveAfter next cells k
+  lives_before n live others zero less = picture_live live
+  lives_before n live others (suc k) less = picture_lives (suc k) (others (suc k) (omega arith) less).0
+
+  -- where they are dead then, and live before it, the pattern ends so
+  pub death_ends : (n : ℕ) → HasLive p → 1 ≤ n → ((m : ℕ) → 1 ≤ m → m < n → IsStage p (cells_after next p m) Other) → IsDead (cells_after next p n) → IsEnding next cells (Death n)
+  death_ends n live some others dead = (some, picture_live live, record { empty = picture_dies n dead; live = lives_before n live others })
+
+-- ---- a pattern that dies
+
+-- that it does is a true claim
+pub death_true : (next : List ℕ → ℕ) (cells : Picture) (limit n : ℕ) → n ≤ limit → limit ≤ longest_period → IsEnding next cells (Death n) → IsTrueWithin next cells limit (kind.Dies n)
+death_true next cells limit n within short is = record {
+  numbers = (is.0, omega (arith, within, short));
+  within = within;
+  holds = record { live = λ _. is.1; stands = is.2.empty; least = λ m first less. is.2.live m less };
+}
+
+-- ---- a pattern that is never back, and lives
+
+-- no claim is true of it
+none_back : (next : List ℕ → ℕ) → next (replicate 9 0) ≡ 0 → (cells : Picture) (limit : ℕ) → HasNoReturn next cells limit → IsLiveAfter next cells limit → HasNoTrueClaim next cells limit
+none_back next quiet cells limit without alive kind.Still one some within true = without 1 some within (pos 0) (pos 0) true.stands
+none_back next quiet cells limit without alive (kind.Oscillator n) one some within true = without n some within (pos 0) (pos 0) true.stands
+none_back next quiet cells limit without alive (kind.Spaceship n dx dy) one some within true = without n some within dx dy true.stands
+none_back next quiet cells limit without alive (kind.Becomes n) one some within true = absurd one
+none_back next quiet cells limit without alive (kind.BecomesShifted n dx dy) one some within true = absurd one
+none_back next quiet cells limit without alive (kind.Dies n) one some within true =
+    let live = live_at_all next cells quiet n limit within alive in
+    live.2 (true.stands live.0 live.1)
 
 -- ---- a pattern that is back for the first time
 
@@ -117,10 +138,21 @@ module _ (next : List ℕ → ℕ) (quiet : next (replicate 9 0) ≡ 0) (nodes :
     grown,
   )
 
+  -- where no time up to the limit brings it back, and a tree is live then, nothing is true of it, and the growth is that of the tree
+  pub found_growth : (limit : ℕ) → HasNoReturn next cells limit → (new : List Node) (last : Tree) → IsLaterTree next p limit new last → HasLive (trees.cell new last) → (growth : Growth)
+      → IsGrowthOf new last growth → IsIdentity next cells limit (Unknown growth)
+  found_growth limit without new last is live growth (picture, shown, grown) = (
+    picture_live next p cells shows first_live,
+    none_back next quiet cells limit without (live.0, live.1, λ none. live.2 (is.shows live.0 live.1 ∙ sym (later next p cells shows limit live.0 live.1) ∙ none)),
+    picture,
+    (λ x y. later next p cells shows limit x y ∙ sym (is.shows x y) ∙ sym (shown x y)),
+    grown,
+  )
+
   module _ (n : ℕ) (others : AreOtherUpTo next p n) (limit : ℕ) (less : n < limit) (short : limit ≤ longest_period) where
-    -- where the next one is dead, it dies then
-    pub found_death : IsDead (cells_after next p (n + 1)) → IsTrueWithin next cells limit (kind.Dies (n + 1))
-    found_death dead = death_true next p cells shows limit (n + 1) first_live (omega arith) (omega (arith, less)) short (λ m some before. others m some (omega (arith, before))) dead
+    -- where the next one is dead, it ends then
+    pub found_death : IsDead (cells_after next p (n + 1)) → IsEnding next cells (Death (n + 1))
+    found_death dead = death_ends next p cells shows (n + 1) first_live (omega arith) (λ m some before. others m some (omega (arith, before))) dead
 
     -- where the next one is the pattern, moved, it is back for the first time
     pub found_return : (dx dy : ℤ) → AreMoved p (cells_after next p (n + 1)) dx dy → IsReturn next cells (n + 1) dx dy

@@ -1,6 +1,6 @@
 -- What a live pattern's plane shows some generations on: which vectors may move the pattern there, and how far they are.
-use Rattle.std.proofs.Common.{◌≡◌, ◌≢◌, ℕ, zero, suc, ◌+◌, ◌*◌, ◌^◌, ◌≤◌, ◌<◌, List, inl, inr, refl, sym, subst, ◌∙◌, arith}
-use Rattle.std.proofs.Math.Nat.{mul-le-mul_right}
+use Rattle.std.proofs.Common.{◌≡◌, ◌≢◌, ℕ, zero, suc, ◌+◌, ◌-◌, ◌*◌, ◌^◌, ◌≤◌, ◌<◌, List, inl, inr, refl, sym, subst, ◌∙◌, arith}
+use Rattle.std.proofs.Math.Nat.{mul-le-mul_left, mul-le-mul_right}
 use Rattle.std.specs.Prelude.{ℤ, pos, neg_ℤ, ◌+ℤ◌, ◌-ℤ◌, ◌≤ℤ◌, replicate}
 use Rattle.std.proofs.lemmas.Bool.{cases_eq}
 use Rattle.std.proofs.lemmas.Int.{ints}
@@ -10,19 +10,21 @@ use Rattle.ca_quad.specs.declared.node.Node.{Node}
 use Rattle.ca_quad.specs.declared.tree.Tree.{Tree}
 use Rattle.ca_quad.specs.declared.tree.WideBounds.{WideBounds}
 use Rattle.ca_quad.specs.Sound.{IsSoundStore, Grows}
-use Rattle.ca_quad.specs.Boxes.{IsLeastWideBox, IsInWideBox}
+use Rattle.ca_quad.specs.Boxes.{IsLeastWideBox, IsInWideBox, AreSquareBoxes}
 use Rattle.ca_quad.specs.Trees.{cell, IsTrimmed, HoldsAll}
 use Rattle.ca_quad.proofs.Growth.{below_or_not}
+use Rattle.ca_quad.proofs.Measures.{boxes_stay}
 use Rattle.ca_quad.proofs.Trims.{trees_stay}
 use Rattle.ca_run.proofs.After.{after_same, after_again}
-use Rattle.ca_run.proofs.Costs.{power_more}
+use Rattle.ca_run.proofs.Costs.{power_more, power_suc}
 use Rattle.ca_claims.specs.Identified.{run_work}
 use Rattle.ca_plane.specs.Limits.{longest_period}
 use Rattle.ca_claims.specs.declared.identification.stage.First.{First}
 use Rattle.ca_claims.specs.declared.identification.stage.Stage.{Stage}
+use Rattle.ca_claims.specs.declared.identification.walk.Walk.{Walk}
 use Rattle.ca_claims.specs.declared.identification.stage.Stage.TheVariants.{Empty, Back, Other}
 use Rattle.ca_claims.specs.inner.Spending.{Takes}
-use Rattle.ca_claims.specs.inner.Stages.{IsWithinPlane, IsStart, IsFirst, AreMoved, AreMovedNowhere, IsStage, IsLaterTree, AreOtherUpTo, TakesSteps, TakesRun, TakesRunAndSteps}
+use Rattle.ca_claims.specs.inner.Stages.{IsWithinPlane, IsStart, CanGoOn, IsFirst, AreMoved, AreMovedNowhere, IsStage, IsLaterTree, AreOtherUpTo, IsWalk, TakesSteps, TakesSearch, TakesRun, TakesRunAndSteps, step_work, leap_work}
 use Rattle.ca_claims.proofs.Corners.{live_after}
 use Rattle.ca_claims.proofs.CellsNearMiddle.{live_near, trimmed_low}
 use Rattle.ca_claims.proofs.LeaptTrees.{near_stays}
@@ -112,6 +114,16 @@ first_stays old new sound grows first is = record {
   box = least_as (cell old first.tree) (cell new first.tree) first.bounds (λ x y. sym (trees_stay old new sound grows first.tree is.start.is_tree x y)) is.box;
 }
 
+-- from the tree of a plane that is looked at, its plane can be taken on
+pub start_goes_on : (next : List ℕ → ℕ) (nodes : List Node) (tree : Tree) → next (replicate 9 0) ≡ 0 → IsStart nodes tree → (n : ℕ) → n ≤ 2 ^ 60 → CanGoOn next nodes tree n
+start_goes_on next nodes tree quiet is n few = record {
+  is_tree = is.is_tree;
+  low = let low = is.low in omega (arith, low);
+  trimmed = is.trimmed;
+  few = few;
+  near = start_near next (cell nodes tree) n quiet is.within (omega (arith, few));
+}
+
 -- ---- one generation on
 
 -- no generation on
@@ -167,41 +179,81 @@ module _ {R : Type 0} (next_of : R → List ℕ → ℕ) {rule later : R} (same 
       first_same (λ x y. after_same (next_of rule) (cell s first.tree) (cell s0 first.tree) n first_same x y) stage
       (subst (λ r. IsStage (cell s first.tree) (cells_after (next_of r) (cell s first.tree) n) stage) same told)
 
+-- ---- walks
+
+-- nothing was looked at yet
+pub first_walk : (next : List ℕ → ℕ) (nodes : List Node) (tree : Tree) → IsStart nodes tree → (walk : Walk) → walk.tree ≡ tree → walk.generations ≡ 0 → AreSquareBoxes nodes walk.boxes
+    → IsWalk next (cell nodes tree) nodes walk
+first_walk next nodes tree is walk there none boxes = record {
+  now = subst (λ n. IsLaterTree next (cell nodes tree) n nodes walk.tree) (sym none) (subst (IsLaterTree next (cell nodes tree) 0 nodes) (sym there) (first_tree next nodes tree is));
+  others = subst (AreOtherUpTo next (cell nodes tree)) (sym none) (others_at_first next (cell nodes tree));
+  boxes = boxes;
+}
+
+-- one over the same first cells
+pub walk_as : (next : List ℕ → ℕ) (p q : ℤ → ℤ → ℕ) (nodes : List Node) (walk : Walk) → ((x y : ℤ) → p x y ≡ q x y) → IsWalk next p nodes walk → IsWalk next q nodes walk
+walk_as next p q nodes walk same is = record {
+  now = later_as next p q walk.generations nodes walk.tree same is.now;
+  others = λ m some within. stage_as p (cells_after next p m) q (cells_after next q m) same (λ x y. after_same next p q m same x y) Other (is.others m some within);
+  boxes = is.boxes;
+}
+
+-- it stays one
+pub walk_stays : (next : List ℕ → ℕ) (p : ℤ → ℤ → ℕ) (old new : List Node) → IsSoundStore old → Grows old new → (walk : Walk) → IsWalk next p old walk → IsWalk next p new walk
+walk_stays next p old new sound grows walk is = record {
+  now = later_stays next p walk.generations old new sound grows walk.tree is.now;
+  others = is.others;
+  boxes = boxes_stay old new sound grows walk.boxes is.boxes;
+}
+
 -- ---- the work that steps take
 
 -- none
-pub no_step : (old new : ℕ) (stages : ℕ → ℤ → ℤ → ℕ) (limit : ℕ) → new ≡ old → TakesSteps old new stages limit 0
-no_step old new stages limit same level some holds = omega (arith, same)
-
--- one
-pub one_step : (old new level : ℕ) → TakesRun old new level 1 → new ≤ old + 14 ^ (level + 3)
-one_step old new level takes =
-    let most = takes 1 (omega arith) in
-    let same : level + 1 + 2 ≡ level + 3 = omega arith in
-    subst (λ e. new ≤ old + 14 ^ e) same (omega (arith, most))
+pub no_step : (old new : ℕ) (stages : ℕ → ℤ → ℤ → ℕ) (limit n : ℕ) → new ≡ old → TakesSteps old new stages limit n
+no_step old new stages limit n same level some holds = omega (arith, same)
 
 -- one more, from a trimmed tree of the live cells before it
-pub one_more_step : (old mid new : ℕ) (stages : ℕ → ℤ → ℤ → ℕ) (limit n : ℕ) (nodes : List Node) (tree : Tree) → IsTrimmed nodes tree → ((x y : ℤ) → cell nodes tree x y ≡ stages n x y)
-    → n < limit → TakesSteps old mid stages limit n → new ≤ mid + 14 ^ (tree.level + 3) → TakesSteps old new stages limit (n + 1)
-one_more_step old mid new stages limit n nodes tree trimmed shows less before takes level some holds =
-    let high = trimmed_low nodes tree (stages n) level some trimmed shows (holds n less) in
+pub one_more_step : (old mid new : ℕ) (stages : ℕ → ℤ → ℤ → ℕ) (limit n m : ℕ) (nodes : List Node) (tree : Tree) → IsTrimmed nodes tree → ((x y : ℤ) → cell nodes tree x y ≡ stages m x y)
+    → m < limit → TakesSteps old mid stages limit n → new ≤ mid + step_work tree.level → TakesSteps old new stages limit (n + 1)
+one_more_step old mid new stages limit n m nodes tree trimmed shows less before takes level some holds =
+    let high = trimmed_low nodes tree (stages m) level some trimmed shows (holds m less) in
     let most = before level some holds in
-    let power = power_more (tree.level + 3) (level + 3) (omega (arith, high)) in
-    let sum : (n + 1) * 14 ^ (level + 3) ≡ n * 14 ^ (level + 3) + 14 ^ (level + 3) = omega arith in
+    let power = power_more (tree.level + 2) (level + 2) (omega (arith, high)) in
+    let sum : (n + 1) * (13 * 14 ^ (level + 2)) ≡ n * (13 * 14 ^ (level + 2)) + 13 * 14 ^ (level + 2) = omega arith in
     omega (arith, most, power, sum, takes)
 
 -- more may be allowed
-pub fewer_steps : (old new : ℕ) (stages : ℕ → ℤ → ℤ → ℕ) (limit n : ℕ) → n ≤ limit → TakesSteps old new stages limit n → TakesSteps old new stages limit limit
-fewer_steps old new stages limit n few takes level some holds =
+pub fewer_steps : (old new : ℕ) (stages : ℕ → ℤ → ℤ → ℕ) (limit n k : ℕ) → n ≤ k → TakesSteps old new stages limit n → TakesSteps old new stages limit k
+fewer_steps old new stages limit n k few takes level some holds =
     let most = takes level some holds in
-    let all : n * 14 ^ (level + 3) ≤ limit * 14 ^ (level + 3) = mul-le-mul_right (14 ^ (level + 3)) few in
+    let all : n * (13 * 14 ^ (level + 2)) ≤ k * (13 * 14 ^ (level + 2)) = mul-le-mul_right (13 * 14 ^ (level + 2)) few in
     omega (arith, most, all)
 
--- the last one: those that aren't made may be allowed too
-pub last_step : (old mid new : ℕ) (stages : ℕ → ℤ → ℤ → ℕ) (limit n : ℕ) (nodes : List Node) (tree : Tree) → IsTrimmed nodes tree → ((x y : ℤ) → cell nodes tree x y ≡ stages n x y)
-    → n < limit → TakesSteps old mid stages limit n → new ≤ mid + 14 ^ (tree.level + 3) → TakesSteps old new stages limit limit
-last_step old mid new stages limit n nodes tree trimmed shows less before takes =
-    fewer_steps old new stages limit (n + 1) (omega (arith, less)) (one_more_step old mid new stages limit n nodes tree trimmed shows less before takes)
+-- the same over the same planes
+pub steps_as : (old new : ℕ) (stages others : ℕ → ℤ → ℤ → ℕ) (limit n : ℕ) → ((m : ℕ) (x y : ℤ) → others m x y ≡ stages m x y) → TakesSteps old new others limit n → TakesSteps old new stages limit n
+steps_as old new stages others limit n same takes level some holds = takes level some (λ m less x y live. holds m less x y (λ none. live (same m x y ∙ none)))
+
+parts_of_product : (a b x : ℕ) → (a + b) * x ≡ a * x + b * x
+parts_of_product a b x = omega arith
+
+-- a search: the first steps, leaps, and the steps that are left
+pub whole_search : (old mid leapt new : ℕ) (stages : ℕ → ℤ → ℤ → ℕ) (early limit : ℕ) → early ≤ limit → TakesSteps old mid stages early early → leapt ≤ mid + leap_work limit
+    → TakesSteps leapt new stages limit (limit - early) → TakesSearch old new stages limit
+whole_search old mid leapt new stages early limit few first leaps rest level some holds =
+    let x = 14 ^ (level + 2) in
+    let begun = first level some (λ m less. holds m (omega (arith, less, few))) in
+    let ended = rest level some holds in
+    let all : early + (limit - early) ≡ limit = omega (arith, few) in
+    let parts = parts_of_product early (limit - early) (13 * x) in
+    let both : limit * (13 * x) ≡ early * (13 * x) + (limit - early) * (13 * x) = subst (λ n. n * (13 * x) ≡ early * (13 * x) + (limit - early) * (13 * x)) all parts in
+    let power = power_more 3 (level + 2) (omega (arith, some)) in
+    let share : limit * 14 ^ 3 ≤ limit * x = mul-le-mul_left limit power in
+    let up : 14 ^ (level + 3) ≡ 14 * x = power_next (level + 2) (level + 3) (omega arith) in
+    let top : limit * 14 ^ (level + 3) ≡ limit * (13 * x) + limit * x = subst (λ k. limit * k ≡ limit * (13 * x) + limit * x) (sym up) (omega arith) in
+    omega (arith, begun, leaps, ended, both, share, top)
+  where
+    power_next : (g h : ℕ) → h ≡ suc g → 14 ^ h ≡ 14 * 14 ^ g
+    power_next g h e = subst (λ k. 14 ^ k ≡ 14 * 14 ^ g) (sym e) (power_suc g)
 
 -- a run of some generations
 pub some_run : (old new level n : ℕ) → (n ≡ 0 → ⊥) → Takes old new 1 level n → TakesRun old new level n
@@ -218,7 +270,7 @@ run_alone next p old new level n limit run digits height short some holds =
 
 -- a run, and steps from there
 pub run_then_steps : (next : List ℕ → ℕ) (p : ℤ → ℤ → ℕ) (old mid new level n limit : ℕ) (nodes : List Node) (start : Tree) → IsLaterTree next p n nodes start
-    → TakesRun old mid level n → TakesSteps mid new (cells_after next (cell nodes start)) limit limit → TakesRunAndSteps old new level n (cells_after next p) limit
+    → TakesRun old mid level n → TakesSearch mid new (cells_after next (cell nodes start)) limit → TakesRunAndSteps old new level n (cells_after next p) limit
 run_then_steps next p old mid new level n limit nodes start is run steps digits height short some holds =
     let first = run digits short in
     let most = steps height some (λ m less x y live. holds m less x y (λ none. live (after_same next (cell nodes start) (cells_after next p n) m is.shows x y ∙ after_again next p n m x y ∙ none))) in

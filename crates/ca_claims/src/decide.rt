@@ -126,8 +126,8 @@ fn is_wrongly_dead<A: Automaton>(leaper: &Leaper<A>, case: &Case) -> bool
     case.asks.live && is_dead(leaper.store(), &case.subject.pattern)
 }
 
-// Whether no cell of a tree is live.
-fn is_dead(store: &Store, tree: &Tree) -> bool
+/// Whether no cell of a tree is live.
+pub(crate) fn is_dead(store: &Store, tree: &Tree) -> bool
     requires { IsNearTree store.now tree.now }
     ensures dead { IsTrue result → IsDead (cell store.now tree.now) }
     ensures live { IsFalse result → HasLive (cell store.now tree.now) }

@@ -14,10 +14,13 @@ ghost use Rattle.ca_claims.specs.inner.Spending.{HasLimits};
 ghost use Rattle.ca_claims.specs.inner.Stages.{TakesRunAndSteps};
 ghost use Rattle.ca_claims.specs.inner.Subjects.{ShowsTree, IsPattern};
 
+mod ending;
 mod growth;
 mod later;
+mod leaps;
 mod search;
 mod stage;
+mod walk;
 
 use crate::conversion::ConvertFault;
 use crate::detailed_fault::DetailedFault;

@@ -194,3 +194,9 @@ pub countable_cost : (k d used : ℕ) → 15 ≤ k + d → used < 2 ^ 64 → use
 countable_cost k d used long few =
     let power = power_more 17 (k + d + 2) (omega (arith, long)) in
     omega (arith, power, few)
+
+-- and less than 13 times 14 to the power of 16
+pub countable_one : (k used : ℕ) → 14 ≤ k → used < 2 ^ 64 → used ≤ 13 * 14 ^ (k + 2)
+countable_one k used long few =
+    let power = power_more 16 (k + 2) (omega (arith, long)) in
+    omega (arith, power, few)

@@ -16,7 +16,7 @@ use Rattle.ca_run.specs.inner.Apart.{IsCopyOfTree}
 use Rattle.ca_run.specs.inner.AtCost.{GoesOnAtCost}
 use Rattle.ca_run.specs.inner.Dense.{HasReached, IsIdle, IsDense, HasLeapt, HasParted}
 use Rattle.ca_run.proofs.After.{after_same, after_again}
-use Rattle.ca_run.proofs.Costs.{costs_then, costs_more, at_cost_more, at_both_costs, power_more, one_more, six_digits, bricks_cost, walls_cost, dense_cost, countable_cost}
+use Rattle.ca_run.proofs.Costs.{costs_then, costs_more, at_cost_more, at_both_costs, power_more, one_more, six_digits, bricks_cost, walls_cost, dense_cost, countable_cost, countable_one}
 use Rattle.ca_run.proofs.Levels.{low_stays, later_level, trimmed_low}
 use Rattle.ca_run.proofs.Trees.{tree_stays}
 
@@ -137,6 +137,37 @@ module _ {Rule : Type 0} {old mid : LeaperView Rule} (first : Tree) (n d : ℕ) 
     most = omega (arith, countable_cost first.level d _ (parted.long d time) parted.used);
     made = omega (arith, dense.costs.made, parted.made);
   }
+
+module _ {Rule : Type 0} {old mid : LeaperView Rule} (first : Tree) (n : ℕ) (single : n ≡ 1) where
+  -- what one generation costs that ends before its leap: no bricks are stepped for it
+  pub stepped_one : (r : Result ReachedTree LeapFault) → IsIdle Rule old mid r ⊎ IsDense Rule old first n mid → Costs Rule old mid (13 * 14 ^ (first.level + 2)) 1048576
+  stepped_one r (inl idle) = costs_more idle.costs (omega arith) (omega arith)
+  stepped_one r (inr dense) =
+      let many = dense.many in
+      absurd (omega (arith, many, single))
+
+  -- and one that leaps
+  pub whole_one : {new : LeaperView Rule} (reached : ReachedTree) → IsIdle Rule old mid (Ok reached) ⊎ IsDense Rule old first n mid
+      → HasLeapt Rule mid first reached.generations n 61 new → Costs Rule old new (13 * 14 ^ (first.level + 2)) 1048576
+  whole_one reached (inl idle) leapt =
+      let more = power_more (first.level + min 1 61 + 1) (first.level + 2) (omega arith) in
+      costs_then idle.costs (leapt.rising idle.none 1 (omega (arith, single))) (omega (arith, more)) (omega arith)
+  whole_one reached (inr dense) leapt =
+      let many = dense.many in
+      absurd (omega (arith, many, single))
+
+  -- and one that went on in a store of its own
+  pub parted_one : {new : LeaperView Rule} (r : Result ReachedTree LeapFault) → IsIdle Rule old mid r ⊎ IsDense Rule old first n mid
+      → HasParted Rule mid first n new → Costs Rule old new (13 * 14 ^ (first.level + 2)) 1048576
+  parted_one r (inl idle) parted =
+      let long = parted.long 1 (omega (arith, single)) in
+      record {
+        most = omega (arith, countable_one first.level _ (omega (arith, long)) parted.used);
+        made = omega (arith, idle.costs.made, parted.made);
+      }
+  parted_one r (inr dense) parted =
+      let many = dense.many in
+      absurd (omega (arith, many, single))
 
 -- ---- what walls cost
 

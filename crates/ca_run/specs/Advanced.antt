@@ -1,5 +1,5 @@
 -- Trees some generations on.
-use Rattle.std.specs.Prelude.{◌≡◌, ℕ, ◌+◌, ◌<◌, ◌≤◌, ◌^◌, ℤ, List, Result, Ok, IfOk}
+use Rattle.std.specs.Prelude.{◌≡◌, ℕ, ◌+◌, ◌*◌, ◌<◌, ◌≤◌, ◌^◌, ℤ, List, Result, Ok, IfOk}
 use Rattle.ca_plane.specs.Generations.{cells_after}
 use Rattle.ca_plane.specs.Limits.{most_generations}
 use Rattle.ca_quad.specs.declared.node.Node.{Node}
@@ -23,7 +23,7 @@ pub record IsAdvanced (next : List ℕ → ℕ) (old : List Node) (first : Tree)
 
 -- what a call comes to that takes a tree n generations on: Ok with the later tree, which is the same one where n is 0;
 -- want of work is told only at its limit; what a leaper had stays; and where n has at most d binary digits, Ok or not,
--- it costs no more than 14 to the power of the tree's level, d and 2
+-- it costs no more than 14 to the power of the tree's level, d and 2; one generation costs at most 13 fourteenths of that
 pub record Advances (Rule : Type 0) (next : List ℕ → ℕ) (old : LeaperView Rule)
     (tree : Tree) (n : ℕ) (new : LeaperView Rule) (result : Result Tree LeapFault) : Type 0 where
   pub advanced : IfOk result (IsAdvanced next old.nodes tree n new.nodes)
@@ -31,3 +31,4 @@ pub record Advances (Rule : Type 0) (next : List ℕ → ℕ) (old : LeaperView 
   pub work : EndsAtLimit new.spent result
   pub goes_on : LeaperGrows Rule old new
   pub costs : (d : ℕ) → n < 2 ^ d → Costs Rule old new (14 ^ (tree.level + d + 2)) 1048576
+  pub one : n ≡ 1 → Costs Rule old new (13 * 14 ^ (tree.level + 2)) 1048576

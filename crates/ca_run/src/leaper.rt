@@ -1,6 +1,6 @@
 //! Leaps by powers of two over shared squares (Gosper, "Exploiting regularities in large cellular spaces").
 
-ghost use Rattle.std.specs.Prelude.{◌≡◌, ℕ, suc, ◌+◌, ◌≤◌, ℤ, OnOk, IfOk, IfSome};
+ghost use Rattle.std.specs.Prelude.{◌≡◌, ℕ, suc, ◌+◌, ◌≤◌, ℤ, max, OnOk, IfOk, IfSome};
 ghost use Rattle.ca_quad.specs.Squares.{IsOf, one_cell, joined_cells};
 ghost use Rattle.ca_quad.specs.Sound.{IsSoundStore};
 ghost use Rattle.ca_quad.specs.Trees.{AreFour, ShowsSquare};
@@ -130,6 +130,25 @@ impl<A: Automaton> Leaper<A> {
     {
         let _ = &self.store;
         self.work.used()
+    }
+
+    /// How many units of work may be used up.
+    pub fn work_limit(&self) -> u64
+        ensures { result ≡ self.now.spent.limit }
+    {
+        let _ = &self.store;
+        self.work.limit()
+    }
+
+    /// Lets so many units of work be used up in all, or as many as are used up already. So a caller may allow a
+    /// part of its work a share of what is left, and the rest again after it.
+    pub fn limit_work(&mut self, limit: u64)
+        ensures limited { self.new ≡ record { rule = self.old.rule; nodes = self.old.nodes; memo = self.old.memo;
+            spent = record { used = self.old.spent.used; limit = max self.old.spent.used limit } } }
+        ensures most { self.old.spent.used ≤ self.old.spent.limit }
+    {
+        let _ = &self.store;
+        self.work.set_limit(limit);
     }
 
     // Counts units of work before they are done.

@@ -1,6 +1,6 @@
 //! Work that is counted.
 
-ghost use Rattle.std.specs.Prelude.{◌≡◌, ◌+◌, ◌<◌, ◌≤◌, ◌^◌, OnOk};
+ghost use Rattle.std.specs.Prelude.{◌≡◌, ◌+◌, ◌<◌, ◌≤◌, ◌^◌, max, OnOk};
 ghost use Rattle.ca_run.specs.Leaping.{Spends, EndsAtLimit};
 
 use crate::fault::LeapFault;
@@ -40,6 +40,20 @@ impl Work {
         ensures most { result ≤ self.now.limit }
     {
         self.used
+    }
+
+    /// How much may be used up.
+    pub(crate) fn limit(&self) -> u64
+        ensures { result ≡ self.now.limit }
+    {
+        self.limit
+    }
+
+    /// Lets so much be used up in all, or as much as is used up already.
+    pub(crate) fn set_limit(&mut self, limit: u64)
+        ensures { self.new ≡ record { used = self.old.used; limit = max self.old.used limit } }
+    {
+        self.limit = self.used.max(limit);
     }
 
     /// Counts so many units before they are worked out. Where fewer are left, all are used up, and nothing is

@@ -1,5 +1,6 @@
 -- What a live pattern's plane shows after one generation after the other.
 use Rattle.std.specs.Prelude.{◌≡◌, ℕ, ◌+◌, ◌*◌, ◌^◌, ◌≤◌, ◌<◌, ℤ, List}
+use Rattle.ca_plane.specs.declared.point.Bounds.{Bounds}
 use Rattle.ca_plane.specs.Plane.{Picture, IsLive, shifted}
 use Rattle.ca_plane.specs.Generations.{cells_after, IsAfter}
 use Rattle.ca_plane.specs.Limits.{most_generations}
@@ -7,17 +8,20 @@ use Rattle.ca_plane.specs.Sparse.{IsInPlane}
 use Rattle.ca_quad.specs.declared.node.Node.{Node}
 use Rattle.ca_quad.specs.declared.tree.Tree.{Tree}
 use Rattle.ca_quad.specs.declared.tree.WideBounds.{WideBounds}
-use Rattle.ca_quad.specs.Boxes.{IsDead, IsLeastWideBox}
+use Rattle.ca_quad.specs.Boxes.{IsDead, IsLeastWideBox, AreSquareBoxes}
 use Rattle.ca_quad.specs.Shifted.{shifted_cells}
 use Rattle.ca_quad.specs.Trees.{IsTree, cell, IsTrimmed, HoldsAll}
+use Rattle.ca_claims.specs.declared.identification.ending.Ending.{Ending}
+use Rattle.ca_claims.specs.declared.identification.ending.Ending.TheVariants.{Death, Return}
 use Rattle.ca_claims.specs.declared.identification.stage.First.{First}
 use Rattle.ca_claims.specs.declared.identification.stage.Stage.{Stage}
 use Rattle.ca_claims.specs.declared.identification.stage.Stage.TheVariants.{Empty, Back, Other}
+use Rattle.ca_claims.specs.declared.identification.walk.Walk.{Walk}
 use Rattle.ca_claims.specs.declared.identity.Growth.{Growth}
 use Rattle.ca_claims.specs.Identified.{IsGrowth, run_work}
 use Rattle.ca_claims.specs.Text.{IsShift}
 use Rattle.ca_claims.specs.Truth.{IsChanged, IsNowhere}
-use Rattle.ca_claims.specs.inner.Returns.{IsBroad, IsWide}
+use Rattle.ca_claims.specs.inner.Returns.{IsBroad, IsWide, IsLifeSpan}
 use Rattle.ca_claims.specs.inner.Subjects.{ShowsTree, IsNearTree, HasLive}
 
 -- no live cell lies outside the square of a plane
@@ -92,9 +96,22 @@ IsGrowthOf nodes tree growth = (cells : Picture) × ShowsTree nodes tree cells �
 abbrev pub AreOtherUpTo : (List ℕ → ℕ) → (ℤ → ℤ → ℕ) → ℕ → Type 0
 AreOtherUpTo next first n = (m : ℕ) → 1 ≤ m → m ≤ n → IsStage first (cells_after next first m) Other
 
--- from the old count of work to the new one it is at most n steps of a tree of a level that holds the live cells before each of them
+-- how many units of work one generation may take from a tree of this level, which is less than a run of one may need
+abbrev pub step_work : (level : ℕ) → ℕ
+step_work level = 13 * 14 ^ (level + 2)
+
+-- from the old count of work to the new one it is at most n steps of a tree of a level that holds the live cells before each of the steps up to the limit
 abbrev pub TakesSteps : (old new : ℕ) → (stages : ℕ → ℤ → ℤ → ℕ) → (limit n : ℕ) → Type 0
-TakesSteps old new stages limit n = (level : ℕ) → 1 ≤ level → ((m : ℕ) → m < limit → HoldsAll level (stages m)) → new ≤ old + n * 14 ^ (level + 3)
+TakesSteps old new stages limit n = (level : ℕ) → 1 ≤ level → ((m : ℕ) → m < limit → HoldsAll level (stages m)) → new ≤ old + n * step_work level
+
+-- what leaps may take of the work of a search through so many generations: what is left where each step takes its most
+abbrev pub leap_work : (limit : ℕ) → ℕ
+leap_work limit = limit * 14 ^ 3
+
+-- from the old count of work to the new one it is at most what as many steps as the limit may need of a tree of a level that holds the live cells before
+-- each of them
+abbrev pub TakesSearch : (old new : ℕ) → (stages : ℕ → ℤ → ℤ → ℕ) → (limit : ℕ) → Type 0
+TakesSearch old new stages limit = (level : ℕ) → 1 ≤ level → ((m : ℕ) → m < limit → HoldsAll level (stages m)) → new ≤ old + limit * 14 ^ (level + 3)
 
 -- from the old count of work to the new one it is at most a run of n generations of a tree of this level
 abbrev pub TakesRun : (old new level n : ℕ) → Type 0
@@ -114,3 +131,31 @@ pub record IsReturn (next : List ℕ → ℕ) (cells : Picture) (generations : �
   pub stands : IsAfter next cells generations (shifted cells dx dy)
   pub changed : (m : ℕ) → 1 ≤ m → m < generations → IsChanged next cells m
   pub nowhere : (m : ℕ) → 1 ≤ m → m < generations → IsNowhere next cells m
+
+-- a live pattern's plane is dead for the first time after these generations; or the pattern is back for the first time
+abbrev pub IsEnding : (List ℕ → ℕ) → Picture → Ending → Type 0
+IsEnding next cells (Death generations) = (1 ≤ generations) × IsLive cells × IsLifeSpan next cells generations
+IsEnding next cells (Return generations dx dy) = IsReturn next cells generations dx dy
+
+-- after how many generations it ends so
+abbrev pub generations_of : Ending → ℕ
+generations_of (Death generations) = generations
+generations_of (Return generations dx dy) = generations
+
+-- within n generations it ends so
+abbrev pub EndsWithin : (List ℕ → ℕ) → Picture → ℕ → Type 0
+EndsWithin next cells n = (ending : Ending) × IsEnding next cells ending × (generations_of ending ≤ n)
+
+-- after none of the generations from 1 to n is the pattern there again, under any vector
+abbrev pub HasNoReturn : (List ℕ → ℕ) → Picture → ℕ → Type 0
+HasNoReturn next cells n = (m : ℕ) → 1 ≤ m → m ≤ n → IsNowhere next cells m
+
+-- a pattern's plane was looked at up to some generation: with its tree and boxes of some squares, and at none from 1 on was it dead or the pattern, moved
+pub record IsWalk (next : List ℕ → ℕ) (first : ℤ → ℤ → ℕ) (nodes : List Node) (walk : Walk) : Type 0 where
+  pub now : IsLaterTree next first walk.generations nodes walk.tree
+  pub others : AreOtherUpTo next first walk.generations
+  pub boxes : AreSquareBoxes nodes walk.boxes
+
+-- the same box
+abbrev pub box_of : WideBounds → Bounds
+box_of box = record { x0 = box.x0; y0 = box.y0; x1 = box.x1; y1 = box.y1 }

@@ -1,9 +1,9 @@
 //! Trees some generations on.
 
-ghost use Rattle.std.specs.Prelude.{IfOk};
+ghost use Rattle.std.specs.Prelude.{◌≡◌, ◌+◌, ◌≤◌, IfOk};
 ghost use Rattle.ca_quad.specs.Trees.{cell};
 ghost use Rattle.ca_run.specs.Leaping.{LeaperGrows, EndsAtLimit};
-ghost use Rattle.ca_claims.specs.inner.Stages.{CanGoOn, IsLaterTree, TakesRun};
+ghost use Rattle.ca_claims.specs.inner.Stages.{CanGoOn, IsLaterTree, TakesRun, step_work};
 
 use ca_plane::{Automaton, MoveFault};
 use ca_quad::Tree;
@@ -21,6 +21,7 @@ pub(super) fn later_tree<A: Automaton, W: Watch>(
         (cell leaper.old.nodes tree) generations leaper.new.nodes) }
     ensures goes_on { LeaperGrows A leaper.old leaper.new }
     ensures takes { TakesRun leaper.old.spent.used leaper.new.spent.used tree.level generations }
+    ensures one { generations ≡ 1 → leaper.new.spent.used ≤ leaper.old.spent.used + step_work tree.level }
     ensures work { EndsAtLimit leaper.new.spent result }
 {
     // Says what holds of every leaper.

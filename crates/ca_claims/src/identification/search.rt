@@ -1,25 +1,29 @@
-//! The first generation after which a pattern is back or dead.
+//! What a live pattern is: some hundred generations are looked at one after the other, then leaps are made, and
+//! what these don't tell is looked at in all generations that are left.
 
-ghost use Rattle.std.specs.Prelude.{ℕ, ◌+◌, ◌≤◌, ◌<◌, ◌^◌, List, IfOk, OnOk};
+ghost use Rattle.std.specs.Prelude.{◌≤◌, IfOk};
 ghost use Rattle.ca_plane.specs.Plane.{Picture};
 ghost use Rattle.ca_plane.specs.Generations.{cells_after};
 ghost use Rattle.ca_plane.specs.Limits.{longest_period};
-ghost use Rattle.ca_quad.specs.Boxes.{AreSquareBoxes};
 ghost use Rattle.ca_quad.specs.Trees.{cell};
 ghost use Rattle.ca_run.specs.Leaping.{LeaperGrows, EndsAtLimit};
 ghost use Rattle.ca_claims.specs.Identified.{IsIdentity};
-ghost use Rattle.ca_claims.specs.inner.Stages.{IsFirst, IsStage, IsLaterTree, IsReturn, TakesSteps};
+ghost use Rattle.ca_claims.specs.inner.Stages.{IsFirst, TakesSearch};
 ghost use Rattle.ca_claims.specs.inner.Subjects.{ShowsTree};
 
+use super::ending::identity_of;
 use super::growth::growth_of;
-use super::later::later_tree;
-use super::stage::{First, Stage, stage_of};
+use super::leaps::growth_by_leaps;
+use super::stage::First;
+use super::walk::{Walk, look_on};
 use crate::identity::Identity;
 use crate::observer::Observer;
 use ca_plane::Automaton;
-use ca_quad::{SquareBoxes, Tree};
-use ca_run::{LeapFault, Leaper, Unwatched};
+use ca_run::{LeapFault, Leaper};
 use std::alloc::Global;
+
+// How many generations are looked at before the first leap: nearly all that comes back does so in fewer.
+const EARLY: u64 = 512;
 
 /// What a live pattern is, within so many generations.
 pub(super) fn search<A: Automaton, O: Observer>(
@@ -35,86 +39,26 @@ pub(super) fn search<A: Automaton, O: Observer>(
     ensures identity { (cells : Picture) → ShowsTree leaper.old.nodes first.tree cells
         → IfOk result (IsIdentity (A.next_of leaper.old.rule) cells limit) }
     ensures goes_on { LeaperGrows A leaper.old leaper.new }
-    ensures takes { TakesSteps leaper.old.spent.used leaper.new.spent.used
-        (cells_after (A.next_of leaper.old.rule) (cell leaper.old.nodes first.tree)) limit limit }
+    ensures takes { TakesSearch leaper.old.spent.used leaper.new.spent.used
+        (cells_after (A.next_of leaper.old.rule) (cell leaper.old.nodes first.tree)) limit }
     ensures work { EndsAtLimit leaper.new.spent result }
 {
     // Says what holds of every leaper.
     let _ = leaper.store();
-    let mut now = first.tree;
-    let mut generations: u64 = 0;
-    let mut boxes = SquareBoxes::new(alloc);
-    'generations: while generations < limit {
-        observer.goes_to(generations + 1);
-        let later = step(alloc, leaper, &first, now, generations, &mut boxes)?;
-        now = later.tree;
-        generations += 1;
-        match later.stage {
-            Stage::Empty => return Ok(Identity::Dies { generations }),
-            Stage::Back { dx, dy } => return Ok(identity_of_return(generations, dx, dy)),
-            Stage::Other => {}
-        }
+    let mut walk = Walk::from(alloc, first.tree);
+    let early = limit.min(EARLY);
+    let soon = look_on(alloc, leaper, &first, &mut walk, early, observer)?;
+    if let Some(ending) = soon {
+        return Ok(identity_of(ending));
     }
-    let growth = growth_of(alloc, leaper.store(), &now)?;
+    let grown = growth_by_leaps(alloc, leaper, &first, early, limit)?;
+    if let Some(growth) = grown {
+        return Ok(Identity::Unknown { growth });
+    }
+    let late = look_on(alloc, leaper, &first, &mut walk, limit, observer)?;
+    if let Some(ending) = late {
+        return Ok(identity_of(ending));
+    }
+    let growth = growth_of(alloc, leaper.store(), &walk.tree)?;
     Ok(Identity::Unknown { growth })
-}
-
-// A tree, and what it shows of the pattern.
-#[derive(Drop)]
-struct LaterStage {
-    tree: Tree,
-    stage: Stage,
-}
-
-// One generation on from the tree so many generations after the pattern.
-fn step<A: Automaton>(
-    alloc: Global,
-    leaper: &mut Leaper<A>,
-    first: &First,
-    now: Tree,
-    generations: u64,
-    boxes: &mut SquareBoxes,
-) -> Result<LaterStage, LeapFault>
-    requires first { IsFirst leaper.old.nodes first.now }
-    requires few { generations < longest_period }
-    requires now { IsLaterTree (A.next_of leaper.old.rule) (cell leaper.old.nodes first.now.tree) generations
-        leaper.old.nodes now }
-    requires boxes { AreSquareBoxes leaper.old.nodes boxes.old }
-    ensures tree { IfOk result
-        (λ later. IsLaterTree (A.next_of leaper.old.rule) (cell leaper.old.nodes first.now.tree)
-        (generations + 1) leaper.new.nodes later.tree) }
-    ensures stage { IfOk result (λ later. IsStage (cell leaper.old.nodes first.now.tree)
-        (cells_after (A.next_of leaper.old.rule) (cell leaper.old.nodes first.now.tree) (generations + 1))
-        later.stage) }
-    ensures boxes { OnOk result (AreSquareBoxes leaper.new.nodes boxes.new) }
-    ensures goes_on { LeaperGrows A leaper.old leaper.new }
-    ensures takes { leaper.new.spent.used ≤ leaper.old.spent.used + 14 ^ (now.level + 3) }
-    ensures work { EndsAtLimit leaper.new.spent result }
-{
-    // Says what holds of every leaper.
-    let _ = leaper.store();
-    let _ = generations;
-    let tree = later_tree(leaper, now, 1, &mut Unwatched)?;
-    let stage = stage_of(alloc, leaper, first, &tree, boxes)?;
-    Ok(LaterStage { tree, stage })
-}
-
-// What a pattern is that is back for the first time after so many generations, by this vector.
-fn identity_of_return(generations: u64, dx: i64, dy: i64) -> Identity
-    ensures { (next : List ℕ → ℕ) (cells : Picture) (limit : ℕ) → generations ≤ limit → limit ≤ longest_period
-        → IsReturn next cells generations dx dy → IsIdentity next cells limit result }
-{
-    if dx != 0 || dy != 0 {
-        return Identity::Spaceship {
-            period: generations,
-            dx,
-            dy,
-        };
-    }
-    if generations == 1 {
-        return Identity::StillLife;
-    }
-    Identity::Oscillator {
-        period: generations,
-    }
 }

@@ -5,7 +5,7 @@ use Rattle.ca_quad.specs.Boxes.{IsDead, IsLeastWideBox}
 use Rattle.ca_quad.specs.Trees.{cell}
 use Rattle.ca_claims.specs.declared.identity.Identity.TheVariants.{Empty}
 use Rattle.ca_claims.specs.Identified.{IsIdentity}
-use Rattle.ca_claims.specs.inner.Stages.{TakesSteps}
+use Rattle.ca_claims.specs.inner.Stages.{TakesSearch}
 use Rattle.ca_claims.proofs.Identities.{found_later}
 use Rattle.ca_claims.proofs.Nearby.{later_outside}
 use Rattle.ca_claims.proofs.Stages.{run_alone, run_then_steps}
@@ -59,4 +59,4 @@ returns-clause-takes g c =
     let start = c.in_ok-start.start in
     run_then_steps (next c.args.leaper.now.rule) (cell c.args.leaper.now.nodes c.args.pattern) c.args.leaper.now.spent.used mid.spent.used c.search.new.leaper.spent.used
     c.args.pattern.level c.args.generations c.args.limit mid.nodes start c.in_ok-start.ensures.later c.in_ok-start.ensures.takes
-    (subst (λ r. TakesSteps mid.spent.used c.search.new.leaper.spent.used (cells_after (next r) (cell mid.nodes start)) c.args.limit c.args.limit) c.in_ok-start.ensures.goes_on.rule c.search.ensures.takes)
+    (subst (λ r. TakesSearch mid.spent.used c.search.new.leaper.spent.used (cells_after (next r) (cell mid.nodes start)) c.args.limit) c.in_ok-start.ensures.goes_on.rule c.search.ensures.takes)

@@ -1,9 +1,10 @@
-use Rattle.std.proofs.Common.{refl, sym, subst, ◌∙◌, arith}
+use Rattle.std.proofs.Common.{◌+◌, ◌≤◌, refl, sym, subst, ◌∙◌, arith}
 use Rattle.std.specs.Prelude.{pos}
 use Rattle.ca_quad.specs.Shifted.{shifted_cells, IsShiftRefused}
 use Rattle.ca_plane.specs.Generations.{cells_after}
 use Rattle.ca_quad.specs.Trees.{cell}
-use Rattle.ca_claims.specs.inner.Stages.{IsWithinPlane, IsLaterTree}
+use Rattle.ca_run.specs.Leaping.{Spent}
+use Rattle.ca_claims.specs.inner.Stages.{IsWithinPlane, IsLaterTree, step_work}
 use Rattle.ca_claims.proofs.Corners.{fits_near}
 use Rattle.ca_claims.proofs.Spending.{takes_one, takes_before}
 use Rattle.ca_claims.proofs.Stages.{some_run}
@@ -56,3 +57,13 @@ returns-in-Err-Memory-clause-takes g c =
     some_run _ _ c.args.tree.level c.args.generations c.if-generations-eq0.false
     (takes_before c.args.leaper.now.spent.used c.advance_watched.new.self.spent c.shifted.new.self.spent 1 c.args.tree.level c.args.generations c.in-Err-Memory.ensures.spent
     (takes_one c.args.leaper.now c.advance_watched.new.self c.args.tree.level c.args.generations c.in_ok-later.ensures.costs))
+
+pub returns-in_err-later-clause-one : goal.returns-in_err-later-clause-one
+returns-in_err-later-clause-one g c = λ single. (c.advance_watched.ensures.one single).most
+
+pub returns-in-Ok-clause-one : goal.returns-in-Ok-clause-one
+returns-in-Ok-clause-one g c = λ single. subst (λ (s : Spent). s.used ≤ c.args.leaper.now.spent.used + step_work c.args.tree.level) (sym c.in-Ok.ensures.spent) (c.in_ok-later.ensures.one single).most
+
+pub returns-in-Err-Memory-clause-one : goal.returns-in-Err-Memory-clause-one
+returns-in-Err-Memory-clause-one g c =
+    λ single. subst (λ (s : Spent). s.used ≤ c.args.leaper.now.spent.used + step_work c.args.tree.level) (sym c.in-Err-Memory.ensures.spent) (c.in_ok-later.ensures.one single).most

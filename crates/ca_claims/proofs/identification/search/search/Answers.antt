@@ -1,151 +1,214 @@
-use Rattle.std.proofs.Common.{rules, ◌≡◌, ℕ, ◌+◌, refl, sym, subst, arith, w64, SFits, to_z, of_z}
+use Rattle.std.proofs.Common.{◌≡◌, ℕ, ◌+◌, ◌-◌, ◌≤◌, List, refl, sym, subst, arith}
 use Rattle.std.specs.Prelude.{ℤ}
-use Rattle.std.proofs.lemmas.Int.{to_z-of_z}
 use Rattle.ca_plane.specs.Generations.{cells_after}
+use Rattle.ca_plane.specs.Plane.{Picture}
 use Rattle.ca_quad.specs.Trees.{cell}
-use Rattle.ca_run.proofs.Leap.{goes_on_same}
+use Rattle.ca_quad.proofs.Trims.{trees_stay}
+use Rattle.ca_run.specs.Leaping.{LeaperGrows}
+use Rattle.ca_run.proofs.After.{after_same}
 use Rattle.ca_run.proofs.ShownPlanes.{goes_on_again}
+use Rattle.ca_claims.specs.declared.identity.Identity.TheVariants.{Unknown}
+use Rattle.ca_claims.specs.Identified.{IsIdentity}
 use Rattle.ca_claims.specs.inner.Glance.{IsLowTree}
-use Rattle.ca_claims.specs.inner.Stages.{IsStage, IsReturn, IsLaterTree, AreOtherUpTo, IsGrowthOf, TakesSteps}
-use Rattle.ca_claims.specs.inner.Subjects.{HasLive}
-use Rattle.ca_claims.proofs.Identities.{last_live, found_none, found_death, found_return}
+use Rattle.ca_claims.specs.inner.Stages.{IsWalk, IsEnding, IsGrowthOf, AreOtherUpTo, IsLaterTree, HasNoReturn, TakesSteps, TakesSearch, leap_work}
+use Rattle.ca_claims.specs.inner.Subjects.{ShowsTree, HasLive}
+use Rattle.ca_claims.proofs.Identities.{picture_nowhere, last_live, found_none}
+use Rattle.ca_claims.proofs.LeaptTrees.{shows_stays}
 use Rattle.ca_claims.proofs.Starts.{start_is_low}
-use Rattle.ca_claims.proofs.Stages.{first_tree, first_stays, others_at_first, one_more_other, step_from, step_to, stage_to, no_step, one_more_step, fewer_steps, last_step}
+use Rattle.ca_claims.proofs.Stages.{first_walk, first_stays, walk_as, walk_stays, no_step, fewer_steps, steps_as, whole_search}
 use Rattle.ca_claims.proofs.identification.search.search.Goals as goal
-use Rattle.ca_claims.proofs.identification.search.search.Goals.{In_ok-later}
+use Rattle.ca_claims.proofs.identification.search.search.Goals.{In_ok-soon, In_default-grown, In_default-late}
 
--- after one generation more
-module _ (g : _) (c : In_ok-later g) where
+-- ---- the first generations
+
+module _ (g : _) (c : In_ok-soon g) where
+  abbrev next : List ℕ → ℕ
+  next = g.A.Automaton.next_of c.args.leaper.now.rule
+
   abbrev first : ℤ → ℤ → ℕ
   first = cell c.args.leaper.now.nodes c.args.first.tree
 
-  abbrev stages : ℕ → ℤ → ℤ → ℕ
-  stages = cells_after (g.A.Automaton.next_of c.args.leaper.now.rule) first
+  few : c.min-early.result ≤ c.args.limit
+  few = omega (arith, c.min-early.ensures)
 
-  -- what the first pattern's plane shows
-  told : IsStage first (stages (c.generations.generations + 1)) c.in_ok-later.later.stage
-  told =
-      let inv = c.generations.invariant in
-      stage_to g.A.Automaton.next_of inv.goes_on.rule c.store.ensures.sound inv.goes_on.grows c.requires.first (c.generations.generations + 1) c.in_ok-later.later.stage c.in_ok-later.ensures.stage
+  -- the same picture of the first tree
+  shows_then : (cells : Picture) → ShowsTree c.args.leaper.now.nodes c.args.first.tree cells → ShowsTree c.look_on.new.leaper.nodes c.args.first.tree cells
+  shows_then cells shows = shows_stays c.args.leaper.now.nodes c.look_on.new.leaper.nodes c.store.ensures.sound c.in_ok-soon.ensures.goes_on.grows c.args.first.tree cells c.requires.first.start.is_tree shows
 
-  -- what it took, and what may be taken besides
-  takes : TakesSteps c.args.leaper.now.spent.used c.step.new.leaper.spent.used stages c.args.limit c.args.limit
-  takes =
-      let inv = c.generations.invariant in
-      last_step _ _ _ stages c.args.limit c.generations.generations c.generations.leaper.nodes c.generations.now inv.now.trimmed inv.now.shows (omega (arith, c.generations-test.true)) inv.takes c.step.ensures.takes
+-- what they take, and no more
+early_takes : (old mid : ℕ) (stages : ℕ → ℤ → ℤ → ℕ) (early begun limit : ℕ) → early ≤ limit → TakesSteps old mid stages early (early - begun) → TakesSearch old mid stages limit
+early_takes old mid stages early begun limit few takes =
+    whole_search old mid mid mid stages early limit few (fewer_steps old mid stages early (early - begun) early (omega arith) takes) (omega arith) (no_step mid mid stages limit (limit - early) refl)
 
-pub generations-init : goal.generations-init
-generations-init g c =
-    let next = g.A.Automaton.next_of c.args.leaper.now.rule in
-    let s0 = c.args.leaper.now.nodes in
-    let first = cell s0 c.args.first.tree in
-    record {
-      goes_on = goes_on_same _ c.args.leaper.now c.store.ensures.sound;
-      now = first_tree next s0 c.args.first.tree c.requires.first.start;
-      others = others_at_first next first;
-      boxes = c.new-boxes.ensures s0;
-      within = omega arith;
-      takes = no_step _ _ (cells_after next first) c.args.limit refl;
-    }
+-- what they and leaps take
+leaps_take : (old mid leapt : ℕ) (stages : ℕ → ℤ → ℤ → ℕ) (early begun limit : ℕ) → early ≤ limit → TakesSteps old mid stages early (early - begun) → leapt ≤ mid + leap_work limit
+    → TakesSearch old leapt stages limit
+leaps_take old mid leapt stages early begun limit few takes leaps =
+    whole_search old mid leapt leapt stages early limit few (fewer_steps old mid stages early (early - begun) early (omega arith) takes) leaps (no_step leapt leapt stages limit (limit - early) refl)
 
-pub step-requires-clause-first : goal.step-requires-clause-first
-step-requires-clause-first g c =
-    first_stays c.args.leaper.now.nodes c.generations.leaper.nodes c.store.ensures.sound c.generations.invariant.goes_on.grows c.args.first c.requires.first
+pub look_on-requires-clause-walk : goal.look_on-requires-clause-walk
+look_on-requires-clause-walk g c =
+    first_walk (g.A.Automaton.next_of c.args.leaper.now.rule) c.args.leaper.now.nodes c.args.first.tree c.requires.first.start c.from-walk.result c.from-walk.ensures.tree c.from-walk.ensures.generations
+    (c.from-walk.ensures.boxes c.args.leaper.now.nodes)
 
-pub step-requires-clause-now : goal.step-requires-clause-now
-step-requires-clause-now g c =
-    let inv = c.generations.invariant in
-    step_from g.A.Automaton.next_of inv.goes_on.rule c.store.ensures.sound inv.goes_on.grows c.requires.first c.generations.generations c.generations.now inv.now
+pub returns-in_err-soon-clause-takes : goal.returns-in_err-soon-clause-takes
+returns-in_err-soon-clause-takes g c =
+    early_takes _ _ (cells_after (g.A.Automaton.next_of c.args.leaper.now.rule) (cell c.args.leaper.now.nodes c.args.first.tree)) c.min-early.result c.from-walk.result.generations c.args.limit
+    (omega (arith, c.min-early.ensures)) c.in_err-soon.ensures.takes
 
-pub returns-in_err-later-clause-takes : goal.returns-in_err-later-clause-takes
-returns-in_err-later-clause-takes g c =
-    let inv = c.generations.invariant in
-    last_step _ _ _ (cells_after (g.A.Automaton.next_of c.args.leaper.now.rule) (cell c.args.leaper.now.nodes c.args.first.tree)) c.args.limit c.generations.generations
-    c.generations.leaper.nodes c.generations.now inv.now.trimmed inv.now.shows (omega (arith, c.generations-test.true)) inv.takes c.step.ensures.takes
+pub returns-in-Some-clause-identity : goal.returns-in-Some-clause-identity
+returns-in-Some-clause-identity g c = λ cells shows.
+    let a = (goal.at.returns-in-Some-clause-identity g c).In_ok-soon in
+    let time = rw c.in-Some.is at c.in_ok-soon.ensures.time in
+    let low = few g a in
+    c.identity_of.ensures (next g a) cells c.args.limit (omega (arith, time, low)) c.requires.most (rw c.in-Some.is at (c.in_ok-soon.ensures.ending cells shows))
 
-pub returns-in-Empty : goal.returns-in-Empty
-returns-in-Empty g c =
-    let a = (goal.at.returns-in-Empty g c).In_ok-later in
-    let n = c.generations.generations in
-    record {
-      identity = λ cells shows.
-          found_death (g.A.Automaton.next_of c.args.leaper.now.rule) (g.met.A.Automaton.quiet c.args.leaper.now.rule c.store.ensures.rule) c.args.leaper.now.nodes c.args.first c.requires.first
-          cells shows n c.generations.invariant.others c.args.limit (omega (arith, c.generations-test.true)) c.requires.most (subst (IsStage (first g a) (stages g a (n + 1))) c.in-Empty.is (told g a));
-      goes_on = goes_on_again _ c.args.leaper.now c.generations.leaper c.step.new.leaper c.generations.invariant.goes_on c.in_ok-later.ensures.goes_on;
-      takes = takes g a;
-      work = search rules;
-    }
+pub returns-in-Some-clause-takes : goal.returns-in-Some-clause-takes
+returns-in-Some-clause-takes g c =
+    early_takes _ _ (cells_after (g.A.Automaton.next_of c.args.leaper.now.rule) (cell c.args.leaper.now.nodes c.args.first.tree)) c.min-early.result c.from-walk.result.generations c.args.limit
+    (omega (arith, c.min-early.ensures)) c.in_ok-soon.ensures.takes
 
-pub returns-in-Back : goal.returns-in-Back
-returns-in-Back g c =
-    let a = (goal.at.returns-in-Back g c).In_ok-later in
-    let n = c.generations.generations in
-    let next = g.A.Automaton.next_of c.args.leaper.now.rule in
-    let dx = c.in-Back.dx in
-    let dy = c.in-Back.dy in
-    let fits_x : SFits w64 dx = search rules in
-    let fits_y : SFits w64 dy = search rules in
-    record {
-      identity = λ cells shows.
-          let back = found_return next (g.met.A.Automaton.quiet c.args.leaper.now.rule c.store.ensures.rule) c.args.leaper.now.nodes c.args.first c.requires.first
-          cells shows n c.generations.invariant.others c.args.limit (omega (arith, c.generations-test.true)) c.requires.most dx dy
-          (subst (IsStage (first g a) (stages g a (n + 1))) c.in-Back.is (told g a)) in
-          c.identity_of_return.ensures next cells c.args.limit (omega (arith, c.generations-test.true)) c.requires.most
-          (subst (λ a. IsReturn next cells (n + 1) a (to_z w64 (of_z w64 dy))) (sym (to_z-of_z w64 dx fits_x))
-          (subst (λ b. IsReturn next cells (n + 1) dx b) (sym (to_z-of_z w64 dy fits_y)) back));
-      goes_on = goes_on_again _ c.args.leaper.now c.generations.leaper c.step.new.leaper c.generations.invariant.goes_on c.in_ok-later.ensures.goes_on;
-      takes = takes g a;
-      work = search rules;
-    }
+-- ---- leaps
 
-pub generations-preserved : goal.generations-preserved
-generations-preserved g c =
-    let inv = c.generations.invariant in
-    let n = c.generations.generations in
-    let s = c.generations.leaper.nodes in
-    let a = (goal.at.generations-preserved g c).In_ok-later in
-    record {
-      goes_on = goes_on_again _ c.args.leaper.now c.generations.leaper c.step.new.leaper inv.goes_on c.in_ok-later.ensures.goes_on;
-      now = step_to g.A.Automaton.next_of inv.goes_on.rule c.store.ensures.sound inv.goes_on.grows c.requires.first (n + 1) c.step.new.leaper.nodes c.in_ok-later.later.tree c.in_ok-later.ensures.tree;
-      others = one_more_other (g.A.Automaton.next_of c.args.leaper.now.rule) (first g a) n inv.others (subst (IsStage (first g a) (stages g a (n + 1))) c.in-Other.is (told g a));
-      boxes = c.in_ok-later.ensures.boxes;
-      within = omega (arith, c.generations-test.true);
-      takes = one_more_step _ _ _ (stages g a) c.args.limit n s c.generations.now inv.now.trimmed inv.now.shows (omega (arith, c.generations-test.true)) inv.takes c.step.ensures.takes;
-    }
+pub growth_by_leaps-requires-clause-first : goal.growth_by_leaps-requires-clause-first
+growth_by_leaps-requires-clause-first g c =
+    first_stays c.args.leaper.now.nodes c.look_on.new.leaper.nodes c.store.ensures.sound c.in_ok-soon.ensures.goes_on.grows c.args.first c.requires.first
+
+pub returns-in_err-grown-clause-takes : goal.returns-in_err-grown-clause-takes
+returns-in_err-grown-clause-takes g c =
+    leaps_take _ _ _ (cells_after (g.A.Automaton.next_of c.args.leaper.now.rule) (cell c.args.leaper.now.nodes c.args.first.tree)) c.min-early.result c.from-walk.result.generations c.args.limit
+    (omega (arith, c.min-early.ensures)) c.in_ok-soon.ensures.takes c.in_err-grown.ensures.takes
+
+pub returns-in-Some-grown-clause-identity : goal.returns-in-Some-grown-clause-identity
+returns-in-Some-grown-clause-identity g c = λ cells shows.
+    let a = (goal.at.returns-in-Some-grown-clause-identity g c).In_ok-soon in
+    let on = c.in_ok-soon.ensures.goes_on in
+    let rules = g.A.Automaton.next_of in
+    let walk = c.in_ok-soon.ensures.walk c.in_default.is in
+    let end = c.in_ok-soon.ensures.end c.in_default.is in
+    let without : HasNoReturn (next g a) cells c.min-early.result = λ m some within. picture_nowhere (next g a) (first g a) cells shows m (walk.others m some (omega (arith, within, end))).1 in
+    let told = c.in_ok-grown.ensures.growth cells (shows_then g a cells shows) (subst (λ r. HasNoReturn (rules r) cells c.min-early.result) (sym on.rule) without) in
+    subst (λ r. IsIdentity (rules r) cells c.args.limit (Unknown c.in-Some-grown.growth)) on.rule (rw c.in-Some-grown.is at told)
+
+pub returns-in-Some-grown-clause-takes : goal.returns-in-Some-grown-clause-takes
+returns-in-Some-grown-clause-takes g c =
+    leaps_take _ _ _ (cells_after (g.A.Automaton.next_of c.args.leaper.now.rule) (cell c.args.leaper.now.nodes c.args.first.tree)) c.min-early.result c.from-walk.result.generations c.args.limit
+    (omega (arith, c.min-early.ensures)) c.in_ok-soon.ensures.takes c.in_ok-grown.ensures.takes
+
+-- ---- the generations that are left
+
+module _ (g : _) (c : In_default-grown g) where
+  -- how the leaper goes on till then
+  on : LeaperGrows _ c.args.leaper.now c.growth_by_leaps.new.leaper
+  on = goes_on_again _ c.args.leaper.now c.look_on.new.leaper c.growth_by_leaps.new.leaper c.in_ok-soon.ensures.goes_on c.in_ok-grown.ensures.goes_on
+
+  same_first : (x y : ℤ) → cell c.growth_by_leaps.new.leaper.nodes c.args.first.tree x y ≡ cell c.args.leaper.now.nodes c.args.first.tree x y
+  same_first = trees_stay c.args.leaper.now.nodes c.growth_by_leaps.new.leaper.nodes c.store.ensures.sound on.grows c.args.first.tree c.requires.first.start.is_tree
+
+  -- what all takes, with the last steps
+  all_take : (new : ℕ) → TakesSteps c.growth_by_leaps.new.leaper.spent.used new (cells_after (g.A.Automaton.next_of c.growth_by_leaps.new.leaper.rule) (cell c.growth_by_leaps.new.leaper.nodes c.args.first.tree)) c.args.limit (c.args.limit - c.look_on.new.walk.generations)
+      → TakesSearch c.args.leaper.now.spent.used new (cells_after (g.A.Automaton.next_of c.args.leaper.now.rule) (cell c.args.leaper.now.nodes c.args.first.tree)) c.args.limit
+  all_take new takes =
+      let rules = g.A.Automaton.next_of in
+      let next = rules c.args.leaper.now.rule in
+      let p = cell c.args.leaper.now.nodes c.args.first.tree in
+      let q = cell c.growth_by_leaps.new.leaper.nodes c.args.first.tree in
+      let limit = c.args.limit in
+      let early = c.min-early.result in
+      let leapt = c.growth_by_leaps.new.leaper.spent.used in
+      let end = c.in_ok-soon.ensures.end c.in_default.is in
+      let here = subst (λ r. TakesSteps leapt new (cells_after (rules r) q) limit (limit - c.look_on.new.walk.generations)) on.rule takes in
+      let rest = steps_as leapt new (cells_after next p) (cells_after next q) limit (limit - c.look_on.new.walk.generations) (λ m x y. after_same next q p m same_first x y) here in
+      whole_search _ c.look_on.new.leaper.spent.used leapt new (cells_after next p) early limit (omega (arith, c.min-early.ensures))
+      (fewer_steps _ _ (cells_after next p) early (early - c.from-walk.result.generations) early (omega arith) c.in_ok-soon.ensures.takes) c.in_ok-grown.ensures.takes
+      (fewer_steps leapt new (cells_after next p) limit (limit - c.look_on.new.walk.generations) (limit - early) (omega (arith, end)) rest)
+
+pub look_on-requires-2-clause-first : goal.look_on-requires-2-clause-first
+look_on-requires-2-clause-first g c =
+    let a = (goal.at.look_on-requires-2-clause-first g c).In_default-grown in
+    first_stays c.args.leaper.now.nodes c.growth_by_leaps.new.leaper.nodes c.store.ensures.sound (on g a).grows c.args.first c.requires.first
+
+pub look_on-requires-2-clause-walk : goal.look_on-requires-2-clause-walk
+look_on-requires-2-clause-walk g c =
+    let a = (goal.at.look_on-requires-2-clause-walk g c).In_default-grown in
+    let rules = g.A.Automaton.next_of in
+    let s1 = c.look_on.new.leaper.nodes in
+    let s2 = c.growth_by_leaps.new.leaper.nodes in
+    let walk = c.look_on.new.walk in
+    let tree = c.args.first.tree in
+    let p = cell c.args.leaper.now.nodes tree in
+    let stays = walk_stays (rules c.args.leaper.now.rule) p s1 s2 c.in_ok-soon.ensures.goes_on.grows.sound c.in_ok-grown.ensures.goes_on.grows walk (c.in_ok-soon.ensures.walk c.in_default.is) in
+    subst (λ r. IsWalk (rules r) (cell s2 tree) s2 walk) (sym (on g a).rule) (walk_as (rules c.args.leaper.now.rule) p (cell s2 tree) s2 walk (λ x y. sym (same_first g a x y)) stays)
+
+pub returns-in_err-late-clause-takes : goal.returns-in_err-late-clause-takes
+returns-in_err-late-clause-takes g c = all_take g (goal.at.returns-in_err-late-clause-takes g c).In_default-grown c.look_on-2.new.leaper.spent.used c.in_err-late.ensures.takes
+
+pub returns-in-Some-late-clause-takes : goal.returns-in-Some-late-clause-takes
+returns-in-Some-late-clause-takes g c = all_take g (goal.at.returns-in-Some-late-clause-takes g c).In_default-grown c.look_on-2.new.leaper.spent.used c.in_ok-late.ensures.takes
+
+pub returns-in_err-growth-clause-takes : goal.returns-in_err-growth-clause-takes
+returns-in_err-growth-clause-takes g c = all_take g (goal.at.returns-in_err-growth-clause-takes g c).In_default-grown c.look_on-2.new.leaper.spent.used c.in_ok-late.ensures.takes
+
+pub returns-clause-takes : goal.returns-clause-takes
+returns-clause-takes g c = all_take g (goal.at.returns-clause-takes g c).In_default-grown c.look_on-2.new.leaper.spent.used c.in_ok-late.ensures.takes
+
+pub returns-in-Some-late-clause-identity : goal.returns-in-Some-late-clause-identity
+returns-in-Some-late-clause-identity g c = λ cells shows.
+    let a = (goal.at.returns-in-Some-late-clause-identity g c).In_default-grown in
+    let rules = g.A.Automaton.next_of in
+    let shown = shows_stays c.args.leaper.now.nodes c.growth_by_leaps.new.leaper.nodes c.store.ensures.sound (on g a).grows c.args.first.tree cells c.requires.first.start.is_tree shows in
+    let ending = rw c.in-Some-late.is at (c.in_ok-late.ensures.ending cells shown) in
+    c.identity_of-in-Some-late.ensures (rules c.args.leaper.now.rule) cells c.args.limit (rw c.in-Some-late.is at c.in_ok-late.ensures.time) c.requires.most
+    (subst (λ r. IsEnding (rules r) cells c.in-Some-late.ending) (on g a).rule ending)
+
+-- ---- none of all generations
+
+module _ (g : _) (c : In_default-late g) (on_till : LeaperGrows _ c.args.leaper.now c.growth_by_leaps.new.leaper) where
+  -- what was looked at, over the first cells as they were
+  pub last_walk : IsWalk (g.A.Automaton.next_of c.args.leaper.now.rule) (cell c.args.leaper.now.nodes c.args.first.tree) c.look_on-2.new.leaper.nodes c.look_on-2.new.walk
+  last_walk =
+      let rules = g.A.Automaton.next_of in
+      let tree = c.args.first.tree in
+      let s0 = c.args.leaper.now.nodes in
+      let s2 = c.growth_by_leaps.new.leaper.nodes in
+      let s3 = c.look_on-2.new.leaper.nodes in
+      let walk = c.look_on-2.new.walk in
+      walk_as (rules c.args.leaper.now.rule) (cell s2 tree) (cell s0 tree) s3 walk (trees_stay s0 s2 c.store.ensures.sound on_till.grows tree c.requires.first.start.is_tree)
+      (subst (λ r. IsWalk (rules r) (cell s2 tree) s3 walk) on_till.rule (c.in_ok-late.ensures.walk c.in_default-late.is))
 
 pub growth_of-requires-clause-low : goal.growth_of-requires-clause-low
 growth_of-requires-clause-low g c =
-    let inv = c.generations.invariant in
+    let a = goal.at.growth_of-requires-clause-low g c in
     let next = g.A.Automaton.next_of c.args.leaper.now.rule in
-    let p = cell c.args.leaper.now.nodes c.args.first.tree in
+    let walk = last_walk g a.In_default-late (on g a.In_default-grown) in
+    let end = c.in_ok-late.ensures.end c.in_default-late.is in
     let quiet = g.met.A.Automaton.quiet c.args.leaper.now.rule c.store.ensures.rule in
-    let low = start_is_low next p c.generations.generations quiet c.requires.first.start.within (let within = inv.within in let most = c.requires.most in omega (arith, within, most)) c.generations.leaper.nodes c.generations.now inv.now.trimmed inv.now.shows in
-    subst (λ s. IsLowTree s c.generations.now) (sym c.store-2.ensures.nodes) (record { is_tree = inv.now.near.is_tree; low = omega (arith, low) })
+    let tree = c.look_on-2.new.walk.tree in
+    let low = start_is_low next (cell c.args.leaper.now.nodes c.args.first.tree) c.look_on-2.new.walk.generations quiet c.requires.first.start.within (omega (arith, end, c.requires.most)) c.look_on-2.new.leaper.nodes tree walk.now.trimmed walk.now.shows in
+    subst (λ s. IsLowTree s tree) (sym c.store-2.ensures.nodes) (record { is_tree = walk.now.near.is_tree; low = low })
 
 pub growth_of-requires-clause-live : goal.growth_of-requires-clause-live
 growth_of-requires-clause-live g c =
-    let inv = c.generations.invariant in
+    let a = goal.at.growth_of-requires-clause-live g c in
     let next = g.A.Automaton.next_of c.args.leaper.now.rule in
-    let p = cell c.args.leaper.now.nodes c.args.first.tree in
-    subst (λ s. HasLive (cell s c.generations.now)) (sym c.store-2.ensures.nodes)
-    (last_live next p c.generations.generations c.generations.leaper.nodes c.generations.now inv.now inv.others (omega (arith, c.generations-test.false, c.requires.some)))
+    let walk = last_walk g a.In_default-late (on g a.In_default-grown) in
+    let end = c.in_ok-late.ensures.end c.in_default-late.is in
+    let tree = c.look_on-2.new.walk.tree in
+    subst (λ s. HasLive (cell s tree)) (sym c.store-2.ensures.nodes)
+    (last_live next (cell c.args.leaper.now.nodes c.args.first.tree) c.look_on-2.new.walk.generations c.look_on-2.new.leaper.nodes tree walk.now walk.others (omega (arith, end, c.requires.some)))
 
 pub returns-clause-identity : goal.returns-clause-identity
 returns-clause-identity g c = λ cells shows.
-    let inv = c.generations.invariant in
+    let a = goal.at.returns-clause-identity g c in
     let next = g.A.Automaton.next_of c.args.leaper.now.rule in
     let p = cell c.args.leaper.now.nodes c.args.first.tree in
-    let all : c.generations.generations ≡ c.args.limit = let within = inv.within in omega (arith, within, c.generations-test.false) in
-    found_none next (g.met.A.Automaton.quiet c.args.leaper.now.rule c.store.ensures.rule) c.args.leaper.now.nodes c.args.first c.requires.first cells shows c.args.limit
-    (subst (AreOtherUpTo next p) all inv.others) c.generations.leaper.nodes c.generations.now (subst (λ n. IsLaterTree next p n c.generations.leaper.nodes c.generations.now) all inv.now)
-    c.in_ok-growth.growth (subst (λ s. IsGrowthOf s c.generations.now c.in_ok-growth.growth) c.store-2.ensures.nodes c.in_ok-growth.ensures)
+    let walk = last_walk g a.In_default-late (on g a.In_default-grown) in
+    let end = c.in_ok-late.ensures.end c.in_default-late.is in
+    let new = c.look_on-2.new.leaper.nodes in
+    let tree = c.look_on-2.new.walk.tree in
+    found_none next (g.met.A.Automaton.quiet c.args.leaper.now.rule c.store.ensures.rule) c.args.leaper.now.nodes c.args.first c.requires.first cells shows c.args.limit (subst (AreOtherUpTo next p) end walk.others) new tree
+    (subst (λ n. IsLaterTree next p n new tree) end walk.now) c.in_ok-growth.growth (subst (λ s. IsGrowthOf s tree c.in_ok-growth.growth) c.store-2.ensures.nodes c.in_ok-growth.ensures)
 
-pub returns-clause-takes : goal.returns-clause-takes
-returns-clause-takes g c =
-    fewer_steps _ _ (cells_after (g.A.Automaton.next_of c.args.leaper.now.rule) (cell c.args.leaper.now.nodes c.args.first.tree)) c.args.limit c.generations.generations
-    c.generations.invariant.within c.generations.invariant.takes
-
-pub returns-in_err-growth-clause-takes : goal.returns-in_err-growth-clause-takes
-returns-in_err-growth-clause-takes g c =
-    fewer_steps _ _ (cells_after (g.A.Automaton.next_of c.args.leaper.now.rule) (cell c.args.leaper.now.nodes c.args.first.tree)) c.args.limit c.generations.generations
-    c.generations.invariant.within c.generations.invariant.takes
+pub returns-clause-goes_on : goal.returns-clause-goes_on
+returns-clause-goes_on g c =
+    goes_on_again _ c.args.leaper.now c.growth_by_leaps.new.leaper c.look_on-2.new.leaper (on g (goal.at.returns-clause-goes_on g c).In_default-grown) c.look_on-2.ensures.goes_on

@@ -5,7 +5,7 @@ use Rattle.ca_quad.proofs.Cells.{of_stays}
 use Rattle.ca_run.specs.Advanced.{IsAdvanced}
 use Rattle.ca_run.specs.Leaping.{EndsAtLimit}
 use Rattle.ca_run.specs.inner.Dense.{HasReached}
-use Rattle.ca_run.proofs.DenseRuns.{reached_now, advanced_before, stepped_cost, whole_cost, parted_cost}
+use Rattle.ca_run.proofs.DenseRuns.{reached_now, advanced_before, stepped_cost, whole_cost, parted_cost, stepped_one, whole_one, parted_one}
 use Rattle.ca_run.proofs.ShownPlanes.{goes_on_again}
 use Rattle.ca_run.proofs.leaper.Leaper.advance_watched.Goals as goal
 
@@ -37,6 +37,7 @@ returns-in_err-reached g c =
       work = λ is. subst (EndsAtLimit c.step_dense.new.self.spent) failed c.step_dense.ensures.work (sym passed.2 ∙ is);
       goes_on = c.step_dense.ensures.goes_on;
       costs = λ d less. stepped_cost c.args.tree c.args.n d less c.step_dense.result c.step_dense.ensures.costs;
+      one = λ single. stepped_one c.args.tree c.args.n single c.step_dense.result c.step_dense.ensures.costs;
     })
 
 pub returns : goal.returns
@@ -57,5 +58,9 @@ returns g c =
       costs = λ d less. elim c.go_on.ensures.costs [
         | inl leapt ↦ whole_cost tree c.args.n d less c.in_ok-reached.reached c.in_ok-reached.ensures.costs leapt
         | inr parted ↦ parted_cost tree c.args.n d less _ c.in_ok-reached.ensures.costs parted
+      ];
+      one = λ single. elim c.go_on.ensures.costs [
+        | inl leapt ↦ whole_one tree c.args.n single c.in_ok-reached.reached c.in_ok-reached.ensures.costs leapt
+        | inr parted ↦ parted_one tree c.args.n single _ c.in_ok-reached.ensures.costs parted
       ];
     }

@@ -1,12 +1,13 @@
-use Rattle.std.proofs.Common.{◌+◌, ◌≤◌, ◌^◌, sym, subst, arith}
+use Rattle.std.proofs.Common.{◌+◌, ◌≤◌, refl, sym, subst, arith}
 use Rattle.ca_plane.specs.Generations.{cells_after}
 use Rattle.ca_quad.specs.Trees.{cell}
 use Rattle.ca_quad.proofs.Measures.{boxes_stay}
 use Rattle.ca_quad.proofs.Trims.{trees_stay}
 use Rattle.ca_run.specs.Leaping.{Spent}
 use Rattle.ca_run.proofs.ShownPlanes.{goes_on_again}
-use Rattle.ca_claims.proofs.Stages.{one_step, near_next, later_next, later_stays, first_stays, stage_as}
-use Rattle.ca_claims.proofs.identification.search.step.Goals as goal
+use Rattle.ca_claims.proofs.Stages.{near_next, later_next, later_stays, first_stays, stage_as}
+use Rattle.ca_claims.specs.inner.Stages.{step_work}
+use Rattle.ca_claims.proofs.identification.walk.step.Goals as goal
 
 pub later_tree-requires : goal.later_tree-requires
 later_tree-requires g c =
@@ -46,12 +47,12 @@ pub returns-clause-goes_on : goal.returns-clause-goes_on
 returns-clause-goes_on g c = goes_on_again _ c.args.leaper.now c.later_tree.new.leaper c.stage_of.new.leaper c.in_ok-tree.ensures.goes_on c.in_ok-stage.ensures.goes_on
 
 pub returns-in_err-tree-clause-takes : goal.returns-in_err-tree-clause-takes
-returns-in_err-tree-clause-takes g c = one_step _ _ c.args.now.level c.later_tree.ensures.takes
+returns-in_err-tree-clause-takes g c = c.later_tree.ensures.one refl
 
 pub returns-in_err-stage-clause-takes : goal.returns-in_err-stage-clause-takes
 returns-in_err-stage-clause-takes g c =
-    subst (λ (s : Spent). s.used ≤ c.args.leaper.now.spent.used + 14 ^ (c.args.now.level + 3)) (sym c.in_err-stage.ensures.spent) (one_step _ _ c.args.now.level c.in_ok-tree.ensures.takes)
+    subst (λ (s : Spent). s.used ≤ c.args.leaper.now.spent.used + step_work c.args.now.level) (sym c.in_err-stage.ensures.spent) (c.in_ok-tree.ensures.one refl)
 
 pub returns-clause-takes : goal.returns-clause-takes
 returns-clause-takes g c =
-    subst (λ (s : Spent). s.used ≤ c.args.leaper.now.spent.used + 14 ^ (c.args.now.level + 3)) (sym c.in_ok-stage.ensures.spent) (one_step _ _ c.args.now.level c.in_ok-tree.ensures.takes)
+    subst (λ (s : Spent). s.used ≤ c.args.leaper.now.spent.used + step_work c.args.now.level) (sym c.in_ok-stage.ensures.spent) (c.in_ok-tree.ensures.one refl)

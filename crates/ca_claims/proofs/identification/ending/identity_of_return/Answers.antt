@@ -1,6 +1,6 @@
 use Rattle.ca_claims.proofs.Identities.{oscillator_true}
 use Rattle.ca_claims.proofs.Times.{no_shift_reads}
-use Rattle.ca_claims.proofs.identification.search.identity_of_return.Goals as goal
+use Rattle.ca_claims.proofs.identification.ending.identity_of_return.Goals as goal
 
 pub returns : goal.returns
 returns c = λ next cells limit within short is.

@@ -1,0 +1,175 @@
+//! What leaps tell of a pattern that isn't back soon: that it never is, and how far it has grown.
+
+ghost use Rattle.std.specs.Prelude.{◌≡◌, ◌+◌, ◌-◌, ◌*◌, ◌≤◌, ◌^◌, IfOk, IfSome, IsTrue};
+ghost use Rattle.ca_plane.specs.Plane.{Picture};
+ghost use Rattle.ca_plane.specs.Limits.{longest_period};
+ghost use Rattle.ca_run.specs.Leaping.{LeaperGrows, EndsAtLimit};
+ghost use Rattle.ca_run.specs.Reach.{IsWiderByAtMost};
+ghost use Rattle.ca_claims.specs.Identified.{IsIdentity};
+ghost use Rattle.ca_claims.specs.declared.identity.Identity.TheVariants.{Unknown};
+ghost use Rattle.ca_claims.specs.inner.Stages.{IsFirst, IsFirstBox, IsWideBox, box_of};
+ghost use Rattle.ca_claims.specs.inner.Stages.{HasNoReturn, EndsWithin, leap_work};
+ghost use Rattle.ca_claims.specs.inner.Subjects.{ShowsTree};
+
+use super::growth::growth_of;
+use super::later::later_tree;
+use super::stage::First;
+use super::walk::{Walk, look_on};
+use crate::decide::is_dead;
+use crate::identity::Growth;
+use ca_plane::Automaton;
+use ca_quad::WideBounds;
+use ca_run::{LeapFault, Leaper, Unwatched};
+use std::alloc::Global;
+
+// How many times as many generations as the limit a leap goes, so that what flies off is far away.
+const FAR: u64 = 16;
+
+// How many units of work leaps may take for each generation up to the limit, and how many at most.
+const SHARE: u64 = 1024;
+
+const MOST_SHARE: u64 = 1 << 23;
+
+/// How far the plane of a pattern has grown after as many generations as the limit, where leaps show that the
+/// pattern is none of what can be claimed up to then, and a share of the work is enough for them. In so many
+/// generations it isn't back.
+pub(super) fn growth_by_leaps<A: Automaton>(
+    alloc: Global,
+    leaper: &mut Leaper<A>,
+    first: &First,
+    seen: u64,
+    limit: u64,
+) -> Result<Option<Growth>, LeapFault>
+    requires first { IsFirst leaper.old.nodes first.now }
+    requires some { 1 ≤ seen }
+    requires within { seen ≤ limit }
+    requires most { limit ≤ longest_period }
+    ensures growth { (cells : Picture) → ShowsTree leaper.old.nodes first.now.tree cells
+        → HasNoReturn (A.next_of leaper.old.rule) cells seen → IfOk result
+        (λ found. IfSome found (λ growth. IsIdentity (A.next_of leaper.old.rule) cells limit (Unknown growth))) }
+    ensures goes_on { LeaperGrows A leaper.old leaper.new }
+    ensures takes { leaper.new.spent.used ≤ leaper.old.spent.used + leap_work limit }
+    ensures work { EndsAtLimit leaper.new.spent result }
+{
+    // Says what holds of every leaper.
+    let _ = leaper.store();
+    if seen == limit {
+        return Ok(None);
+    }
+    let most = leaper.work_limit();
+    let share = (limit * SHARE).min(MOST_SHARE);
+    leaper.limit_work(leaper.used().saturating_add(share).min(most));
+    let grown = growth_if_not_back(alloc, leaper, first, seen, limit);
+    leaper.limit_work(most);
+    match grown {
+        Err(LeapFault::Work) => Ok(None),
+        told => told,
+    }
+}
+
+// The same, as far as the work goes.
+fn growth_if_not_back<A: Automaton>(
+    alloc: Global,
+    leaper: &mut Leaper<A>,
+    first: &First,
+    seen: u64,
+    limit: u64,
+) -> Result<Option<Growth>, LeapFault>
+    requires first { IsFirst leaper.old.nodes first.now }
+    requires some { 1 ≤ seen }
+    requires within { seen ≤ limit }
+    requires most { limit ≤ longest_period }
+    ensures growth { (cells : Picture) → ShowsTree leaper.old.nodes first.now.tree cells
+        → HasNoReturn (A.next_of leaper.old.rule) cells seen → IfOk result
+        (λ found. IfSome found (λ growth. IsIdentity (A.next_of leaper.old.rule) cells limit (Unknown growth))) }
+    ensures goes_on { LeaperGrows A leaper.old leaper.new }
+{
+    // Says what holds of every leaper.
+    let _ = leaper.store();
+    if !is_never_back(alloc, leaper, first, seen, limit)? {
+        return Ok(None);
+    }
+    let last = later_tree(leaper, first.tree, limit, &mut Unwatched)?;
+    if is_dead(leaper.store(), &last) {
+        return Ok(None);
+    }
+    let growth = growth_of(alloc, leaper.store(), &last)?;
+    Ok(Some(growth))
+}
+
+// Whether the plane long after the limit shows that the pattern is back after none of the generations up to
+// the limit: it is dead, or has grown too far, or is back itself, which the pattern wasn't, after a few
+// generations.
+fn is_never_back<A: Automaton>(
+    alloc: Global,
+    leaper: &mut Leaper<A>,
+    first: &First,
+    seen: u64,
+    limit: u64,
+) -> Result<bool, LeapFault>
+    requires first { IsFirst leaper.old.nodes first.now }
+    requires some { 1 ≤ seen }
+    requires within { seen ≤ limit }
+    requires most { limit ≤ longest_period }
+    ensures never { (cells : Picture) → ShowsTree leaper.old.nodes first.now.tree cells
+        → HasNoReturn (A.next_of leaper.old.rule) cells seen
+        → IfOk result (λ never. IsTrue never → HasNoReturn (A.next_of leaper.old.rule) cells limit) }
+    ensures goes_on { LeaperGrows A leaper.old leaper.new }
+{
+    // Says what holds of every leaper.
+    let _ = leaper.store();
+    let end = later_tree(leaper, first.tree, FAR * limit, &mut Unwatched)?;
+    let tree = &end;
+    let Some(bounds) = leaper.store().bounds(alloc, *tree)? else {
+        return Ok(true);
+    };
+    let later = First {
+        tree: *tree,
+        bounds,
+    };
+    if has_grown_too_far(&first.bounds, &later.bounds, limit) {
+        return Ok(true);
+    }
+    // Else it may lie too far from the origin to be looked at.
+    if later.tree.level > 62 {
+        return Ok(false);
+    }
+    is_back_soon(alloc, leaper, &later, seen)
+}
+
+// Whether one box is so much wider or higher than another that no pattern with the one box has the other at
+// any time, if it is back after a number of generations up to the limit.
+fn has_grown_too_far(from: &WideBounds, to: &WideBounds, limit: u64) -> bool
+    requires from { IsFirstBox from.now }
+    requires to { IsWideBox to.now }
+    requires some { 1 ≤ limit }
+    requires most { limit ≤ longest_period }
+    ensures { IsTrue result → IsWiderByAtMost (box_of from.now) (box_of to.now) (2 * (limit - 1)) → ⊥ }
+{
+    let most = i128::from(2 * (limit - 1));
+    if (to.x1 - to.x0) - (from.x1 - from.x0) > most {
+        return true;
+    }
+    if (to.y1 - to.y0) - (from.y1 - from.y0) > most {
+        return true;
+    }
+    false
+}
+
+// Whether a plane is dead, or back in its place or moved, after a few generations.
+fn is_back_soon<A: Automaton>(
+    alloc: Global,
+    leaper: &mut Leaper<A>,
+    settled: &First,
+    seen: u64,
+) -> Result<bool, LeapFault>
+    requires settled { IsFirst leaper.old.nodes settled.now }
+    requires few { seen ≤ longest_period }
+    ensures back { (cells : Picture) → ShowsTree leaper.old.nodes settled.now.tree cells
+        → IfOk result (λ back. IsTrue back → EndsWithin (A.next_of leaper.old.rule) cells seen) }
+    ensures goes_on { LeaperGrows A leaper.old leaper.new }
+{
+    let mut walk = Walk::from(alloc, settled.tree);
+    let ending = look_on(alloc, leaper, settled, &mut walk, seen, &mut Unwatched)?;
+    Ok(ending.is_some())
+}
