@@ -80,6 +80,11 @@ pub record IsLaterTree (next : List ℕ → ℕ) (first : ℤ → ℤ → ℕ) (
   pub trimmed : IsTrimmed nodes tree
   pub shows : (x y : ℤ) → cell nodes tree x y ≡ cells_after next first n x y
 
+-- such a tree, of a live plane, and the least box round its cells
+pub record IsLater (next : List ℕ → ℕ) (first : ℤ → ℤ → ℕ) (n : ℕ) (nodes : List Node) (later : First) : Type 0 where
+  pub tree : IsLaterTree next first n nodes later.tree
+  pub box : IsLeastWideBox (cell nodes later.tree) later.bounds
+
 -- from the tree a plane can be taken n generations on: it is no larger than it need be, and no live cell lies outside the square of a plane then
 pub record CanGoOn (next : List ℕ → ℕ) (nodes : List Node) (tree : Tree) (n : ℕ) : Type 0 where
   pub is_tree : IsTree nodes tree

@@ -1,13 +1,14 @@
 //! What leaps tell of a pattern that isn't back soon: that it never is, and how far it has grown.
 
-ghost use Rattle.std.specs.Prelude.{◌≡◌, ◌+◌, ◌-◌, ◌*◌, ◌≤◌, ◌^◌, IfOk, IfSome, IsTrue};
+ghost use Rattle.std.specs.Prelude.{◌≡◌, ◌+◌, ◌-◌, ◌*◌, ◌≤◌, None, IfOk, IfSome, IsTrue};
 ghost use Rattle.ca_plane.specs.Plane.{Picture};
-ghost use Rattle.ca_plane.specs.Limits.{longest_period};
+ghost use Rattle.ca_plane.specs.Limits.{longest_period, most_generations};
+ghost use Rattle.ca_quad.specs.Trees.{cell};
 ghost use Rattle.ca_run.specs.Leaping.{LeaperGrows, EndsAtLimit};
 ghost use Rattle.ca_run.specs.Reach.{IsWiderByAtMost};
 ghost use Rattle.ca_claims.specs.Identified.{IsIdentity};
 ghost use Rattle.ca_claims.specs.declared.identity.Identity.TheVariants.{Unknown};
-ghost use Rattle.ca_claims.specs.inner.Stages.{IsFirst, IsFirstBox, IsWideBox, box_of};
+ghost use Rattle.ca_claims.specs.inner.Stages.{IsFirst, IsLater, IsFirstBox, IsWideBox, box_of};
 ghost use Rattle.ca_claims.specs.inner.Stages.{HasNoReturn, EndsWithin, leap_work};
 ghost use Rattle.ca_claims.specs.inner.Subjects.{ShowsTree};
 
@@ -22,8 +23,11 @@ use ca_quad::WideBounds;
 use ca_run::{LeapFault, Leaper, Unwatched};
 use std::alloc::Global;
 
-// How many times as many generations as the limit a leap goes, so that what flies off is far away.
-const FAR: u64 = 16;
+// How many times as many generations as the limit the first leap goes, and the last one: so far that what flies
+// off slowly is far away.
+const NEAR: u64 = 4;
+
+const FAR: u64 = 64;
 
 // How many units of work leaps may take for each generation up to the limit, and how many at most.
 const SHARE: u64 = 1024;
@@ -86,7 +90,7 @@ fn growth_if_not_back<A: Automaton>(
 {
     // Says what holds of every leaper.
     let _ = leaper.store();
-    if !is_never_back(alloc, leaper, first, seen, limit)? {
+    if !is_never_back(alloc, leaper, first, seen, limit, NEAR)? {
         return Ok(None);
     }
     let last = later_tree(leaper, first.tree, limit, &mut Unwatched)?;
@@ -97,20 +101,23 @@ fn growth_if_not_back<A: Automaton>(
     Ok(Some(growth))
 }
 
-// Whether the plane long after the limit shows that the pattern is back after none of the generations up to
-// the limit: it is dead, or has grown too far, or is back itself, which the pattern wasn't, after a few
-// generations.
+// Whether the plane so many times as long after as the limit, or longer, shows that the pattern is back after
+// none of the generations up to the limit: it is dead, or has grown too far, or is back itself, which the pattern
+// wasn't, after a few generations.
 fn is_never_back<A: Automaton>(
     alloc: Global,
     leaper: &mut Leaper<A>,
     first: &First,
     seen: u64,
     limit: u64,
+    times: u64,
 ) -> Result<bool, LeapFault>
     requires first { IsFirst leaper.old.nodes first.now }
     requires some { 1 ≤ seen }
     requires within { seen ≤ limit }
     requires most { limit ≤ longest_period }
+    requires far { times ≤ 64 }
+    requires early { 1 ≤ times }
     ensures never { (cells : Picture) → ShowsTree leaper.old.nodes first.now.tree cells
         → HasNoReturn (A.next_of leaper.old.rule) cells seen
         → IfOk result (λ never. IsTrue never → HasNoReturn (A.next_of leaper.old.rule) cells limit) }
@@ -118,23 +125,57 @@ fn is_never_back<A: Automaton>(
 {
     // Says what holds of every leaper.
     let _ = leaper.store();
-    let end = later_tree(leaper, first.tree, FAR * limit, &mut Unwatched)?;
+    let found = unless_gone(alloc, leaper, first, seen, limit, times * limit)?;
+    let Some(later) = found else {
+        return Ok(true);
+    };
+    if times < FAR {
+        return is_never_back(alloc, leaper, first, seen, limit, (2 * times).min(FAR));
+    }
+    // It may lie too far from the origin to be looked at.
+    if later.tree.level > 62 {
+        return Ok(false);
+    }
+    is_back_soon(alloc, leaper, &later, seen)
+}
+
+// The tree of the plane so many generations on, and its box, unless it is dead or has grown too far.
+fn unless_gone<A: Automaton>(
+    alloc: Global,
+    leaper: &mut Leaper<A>,
+    first: &First,
+    seen: u64,
+    limit: u64,
+    generations: u64,
+) -> Result<Option<First>, LeapFault>
+    requires first { IsFirst leaper.old.nodes first.now }
+    requires some { 1 ≤ seen }
+    requires within { 1 ≤ limit }
+    requires most { limit ≤ longest_period }
+    requires few { generations ≤ most_generations }
+    ensures gone { (cells : Picture) → ShowsTree leaper.old.nodes first.now.tree cells
+        → HasNoReturn (A.next_of leaper.old.rule) cells seen
+        → IfOk result (λ later. later ≡ None → HasNoReturn (A.next_of leaper.old.rule) cells limit) }
+    ensures later { IfOk result (λ found. IfSome found
+        (IsLater (A.next_of leaper.old.rule) (cell leaper.old.nodes first.now.tree) generations leaper.new.nodes)) }
+    ensures goes_on { LeaperGrows A leaper.old leaper.new }
+{
+    // Says what holds of every leaper.
+    let _ = leaper.store();
+    let _ = seen;
+    let end = later_tree(leaper, first.tree, generations, &mut Unwatched)?;
     let tree = &end;
     let Some(bounds) = leaper.store().bounds(alloc, *tree)? else {
-        return Ok(true);
+        return Ok(None);
     };
     let later = First {
         tree: *tree,
         bounds,
     };
     if has_grown_too_far(&first.bounds, &later.bounds, limit) {
-        return Ok(true);
+        return Ok(None);
     }
-    // Else it may lie too far from the origin to be looked at.
-    if later.tree.level > 62 {
-        return Ok(false);
-    }
-    is_back_soon(alloc, leaper, &later, seen)
+    Ok(Some(later))
 }
 
 // Whether one box is so much wider or higher than another that no pattern with the one box has the other at

@@ -22,8 +22,13 @@ use ca_plane::Automaton;
 use ca_run::{LeapFault, Leaper};
 use std::alloc::Global;
 
-// How many generations are looked at before the first leap: nearly all that comes back does so in fewer.
-const EARLY: u64 = 512;
+// How many generations are looked at before the first leap: nearly all that comes back does so in fewer. Of
+// large patterns it's fewer, for as many squares together.
+const MOST_EARLY: u64 = 512;
+
+const LEAST_EARLY: u64 = 32;
+
+const EARLY_SQUARES: usize = 1 << 20;
 
 /// What a live pattern is, within so many generations.
 pub(super) fn search<A: Automaton, O: Observer>(
@@ -46,7 +51,7 @@ pub(super) fn search<A: Automaton, O: Observer>(
     // Says what holds of every leaper.
     let _ = leaper.store();
     let mut walk = Walk::from(alloc, first.tree);
-    let early = limit.min(EARLY);
+    let early = early_generations(leaper.store().count()).min(limit);
     let soon = look_on(alloc, leaper, &first, &mut walk, early, observer)?;
     if let Some(ending) = soon {
         return Ok(identity_of(ending));
@@ -61,4 +66,12 @@ pub(super) fn search<A: Automaton, O: Observer>(
     }
     let growth = growth_of(alloc, leaper.store(), &walk.tree)?;
     Ok(Identity::Unknown { growth })
+}
+
+// How many generations of a pattern of so many squares are looked at before the first leap.
+fn early_generations(squares: usize) -> u64
+    ensures { 1 ≤ result }
+{
+    let generations = EARLY_SQUARES / squares.max(1);
+    (generations as u64).clamp(LEAST_EARLY, MOST_EARLY)
 }

@@ -185,7 +185,7 @@ growth_of-requires-clause-low g c =
     let quiet = g.met.A.Automaton.quiet c.args.leaper.now.rule c.store.ensures.rule in
     let tree = c.look_on-2.new.walk.tree in
     let low = start_is_low next (cell c.args.leaper.now.nodes c.args.first.tree) c.look_on-2.new.walk.generations quiet c.requires.first.start.within (omega (arith, end, c.requires.most)) c.look_on-2.new.leaper.nodes tree walk.now.trimmed walk.now.shows in
-    subst (λ s. IsLowTree s tree) (sym c.store-2.ensures.nodes) (record { is_tree = walk.now.near.is_tree; low = low })
+    subst (λ s. IsLowTree s tree) (sym c.store-3.ensures.nodes) (record { is_tree = walk.now.near.is_tree; low = low })
 
 pub growth_of-requires-clause-live : goal.growth_of-requires-clause-live
 growth_of-requires-clause-live g c =
@@ -194,7 +194,7 @@ growth_of-requires-clause-live g c =
     let walk = last_walk g a.In_default-late (on g a.In_default-grown) in
     let end = c.in_ok-late.ensures.end c.in_default-late.is in
     let tree = c.look_on-2.new.walk.tree in
-    subst (λ s. HasLive (cell s tree)) (sym c.store-2.ensures.nodes)
+    subst (λ s. HasLive (cell s tree)) (sym c.store-3.ensures.nodes)
     (last_live next (cell c.args.leaper.now.nodes c.args.first.tree) c.look_on-2.new.walk.generations c.look_on-2.new.leaper.nodes tree walk.now walk.others (omega (arith, end, c.requires.some)))
 
 pub returns-clause-identity : goal.returns-clause-identity
@@ -207,7 +207,7 @@ returns-clause-identity g c = λ cells shows.
     let new = c.look_on-2.new.leaper.nodes in
     let tree = c.look_on-2.new.walk.tree in
     found_none next (g.met.A.Automaton.quiet c.args.leaper.now.rule c.store.ensures.rule) c.args.leaper.now.nodes c.args.first c.requires.first cells shows c.args.limit (subst (AreOtherUpTo next p) end walk.others) new tree
-    (subst (λ n. IsLaterTree next p n new tree) end walk.now) c.in_ok-growth.growth (subst (λ s. IsGrowthOf s tree c.in_ok-growth.growth) c.store-2.ensures.nodes c.in_ok-growth.ensures)
+    (subst (λ n. IsLaterTree next p n new tree) end walk.now) c.in_ok-growth.growth (subst (λ s. IsGrowthOf s tree c.in_ok-growth.growth) c.store-3.ensures.nodes c.in_ok-growth.ensures)
 
 pub returns-clause-goes_on : goal.returns-clause-goes_on
 returns-clause-goes_on g c =
