@@ -50,7 +50,7 @@ CELLS = (
      "two at 1,0: 2 after 1 generation, claimed 1"),
     ({"high": "x = 1, y = 1, rule = High\nyO!", "low": "x = 1, y = 1, rule = High\nyN!"}, "becomes high 3 low", 3, "high at 0,0: 255 after 3 generations, claimed 254"),
     # names of any bytes
-    ({b"\xff\x00\xfe": DOT}, b"still \xff\x00\xfe", 1, b"\xff\x00\xfe at 0,0: 0 after 1 generation, claimed 1"),
+    ({b"\xff\x00\xfe": DOT}, b"still \xff\x00\xfe", 1, b"\xff\\x00\xfe at 0,0: 0 after 1 generation, claimed 1"),
     ({"-": DOT}, "still -", 1, "- at 0,0: 0 after 1 generation, claimed 1"),
     ({"n" * 9000: DOT}, "still " + "n" * 9000, 1, "n" * 9000 + " at 0,0: 0 after 1 generation, claimed 1"),
 )

@@ -42,7 +42,7 @@ def try_patterns(files):
     files.refuse("too many cells of two", ["convert", twos, "--to", "rle", "--rule", spread], "too many cells", twos)
     files.refuse("a table that isn't given", ["show", twos], "bad rule: unknown", f"{twos}: rule Spread")
     odd = files.path("odd", b"x = 1, y = 1, rule = \xff\xfe\x00\nA!\n")
-    files.expect("a rule of any bytes", ["show", odd, "--explain"], explained("bad rule: unknown", odd.encode() + b": rule \xff\xfe\x00"))
+    files.expect("a rule of any bytes", ["show", odd, "--explain"], explained("bad rule: unknown", odd.encode() + b": rule \xff\xfe\\x00"))
     long = files.path("long", f"[M2]\n#R {'n' * 100000}\n")
     files.expect("a long rule", ["show", long, "--explain"], explained("bad rule: unknown", f"{long}: rule {'n' * 100000}"))
 

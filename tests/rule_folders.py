@@ -7,7 +7,7 @@ import tempfile
 from explained_patterns import explained
 from lib import macrocell, rle
 from lib.pictures import drawn
-from lib.program import Tally, ample, fault, run
+from lib.program import Tally, ample, escaped, fault, run
 from show_and_convert import COMMANDS, GOOD, MAX_FILE, PATTERNS, SPREAD, TABLES, Files, with_file
 
 # The seconds in which a run that opens no pipe ends.
@@ -80,7 +80,7 @@ def try_names(files):
         with open(os.path.join(files.rules.encode(), name.replace(b"\x00", b"") + b".rule"), "wb") as file:
             file.write(rule_of("Cut").encode())
         path = files.path("pattern", b"x = 2, y = 1, rule = %s\nB.A!\n" % name)
-        files.refuse(f"the name {name}", ["show", path, "--rules", files.rules], "bad rule: unknown", path.encode() + b": rule " + name)
+        files.refuse(f"the name {name}", ["show", path, "--rules", files.rules], "bad rule: unknown", path.encode() + b": rule " + escaped(name))
 
 
 def try_faulty(files):

@@ -8,7 +8,7 @@ import subprocess
 import tempfile
 
 from lib.claim_text import ClaimText, printed, status_of
-from lib.program import Folder, Outcome, Tally, fault, run
+from lib.program import Folder, Outcome, Tally, escaped, fault, run
 
 BLOCK = "x = 2, y = 2, rule = B3/S23\n2o$2o!\n"
 
@@ -119,11 +119,11 @@ def try_limits(tally, texts):
 
 
 def try_paths(tally, files):
-    """The path is told as it is given, however it is spelled."""
+    """The path is told as it is given, however it is spelled; an LF in it is spelled out."""
     text = b"load a examples/block.rle\nstill a\n"
     for name in ("a b.claims", "a: b", "line 2: yes", "\u00e9\u4e16.claims", "n" * 200, "a\nb"):
         path = files.path(name, text)
-        wanted = Outcome(f"{path}: line 2: yes\nexamples/block.claims: line 2: yes\n".encode(), b"", 0)
+        wanted = Outcome(b"%s: line 2: yes\nexamples/block.claims: line 2: yes\n" % escaped(path.encode()), b"", 0)
         tally.expect(f"a path, {name[:20]!r}", run(["verify", path, "examples/block.claims"]), wanted)
     wanted = Outcome(b"./examples/block.claims: line 2: yes\nexamples/../examples/block.claims: line 2: yes\n", b"", 0)
     tally.expect("a path in two ways", run(["verify", "./examples/block.claims", "examples/../examples/block.claims"]), wanted)

@@ -5,7 +5,7 @@ import os
 import tempfile
 
 from lib.claim_text import ClaimText, outcome, printed, status_of
-from lib.program import Folder, Outcome, Tally, fault, run
+from lib.program import Folder, Outcome, Tally, escaped, fault, run
 
 # Tables under which every state stays, and under which each 1 becomes a 2.
 STILL = "@RULE NAME\n@TABLE\nn_states:3\nneighborhood:oneDimensional\nsymmetries:none\n"
@@ -72,7 +72,7 @@ class Rules(Folder):
 def unknown(text, name, content, told):
     """Loads a pattern of a rule that isn't known, and claims that it is still."""
     path = text.load(name, content)
-    text.claim(f"still {name}", UNKNOWN, name.encode() + b": " + path + b": rule " + told)
+    text.claim(f"still {name}", UNKNOWN, name.encode() + b": " + path + b": rule " + escaped(told))
 
 
 def try_found(files):

@@ -1,5 +1,6 @@
 """The built program, run from a test, and a count of what passed."""
 import os
+import re
 import resource
 import subprocess
 import sys
@@ -30,7 +31,12 @@ class Outcome:
 
 def fault(text):
     """The outcome of a run that prints nothing and complains of this."""
-    return Outcome(b"", f"cafile: {text}\n".encode(), 2)
+    return Outcome(b"", b"cafile: " + (text if isinstance(text, bytes) else text.encode()) + b"\n", 2)
+
+
+def escaped(text):
+    """A path, a name or a rule text as it is printed: the bytes of control characters, in UTF-8, as a backslash, an x and two digits."""
+    return re.sub(rb"\xc2[\x80-\x9f]|[\x00-\x1f\x7f]", lambda found: b"".join(b"\\x%02x" % it for it in found[0]), text)
 
 
 def ample(text):

@@ -42,6 +42,7 @@ use Rattle.ca_tool.specs.declared.explanation.RunPaths.{RunPaths}
 use Rattle.ca_tool.specs.declared.rule_folder.FaultyRule.{FaultyRule}
 use Rattle.ca_tool.specs.declared.finding.ReportStyle.{ReportStyle}
 use Rattle.ca_tool.specs.declared.finding.Finding.{Finding}
+use Rattle.ca_tool.specs.Escaped.{escaped}
 
 -- an earlier return of a pattern
 abbrev pub return_text : ℕ → ℤ → ℤ → List ℕ
@@ -168,8 +169,8 @@ claim_fault_text claims.Memory = codes "memory"
 
 -- a file that can't be read
 abbrev pub input_fault_text : InputFault → List ℕ → List ℕ
-input_fault_text inputs.Read path = codes "cannot read " ++ path
-input_fault_text inputs.TooLong path = codes "too long " ++ path
+input_fault_text inputs.Read path = codes "cannot read " ++ escaped path
+input_fault_text inputs.TooLong path = codes "too long " ++ escaped path
 input_fault_text inputs.Memory path = codes "memory"
 
 -- why a pattern isn't shown or converted
@@ -202,7 +203,7 @@ abbrev pub fault_text : Fault → List ℕ → List ℕ
 fault_text (faults.Input fault) path = input_fault_text fault path
 fault_text (faults.Claims fault) path = claim_fault_text fault
 fault_text (faults.Tool fault) path = tool_fault_text fault path
-fault_text faults.Unnameable path = codes "no claim text can name " ++ path
+fault_text faults.Unnameable path = codes "no claim text can name " ++ escaped path
 
 -- the line that tells a fault
 abbrev pub complaint : Fault → List ℕ → List ℕ
@@ -210,7 +211,7 @@ complaint fault path = codes "cafile: " ++ (fault_text fault path ++ 10 ∷ [])
 
 -- the same, after the path of the file that was read: for faults of several files
 abbrev pub complaint_of : Fault → List ℕ → List ℕ
-complaint_of fault path = codes "cafile: " ++ (path ++ (codes ": " ++ (fault_text fault path ++ 10 ∷ [])))
+complaint_of fault path = codes "cafile: " ++ (escaped path ++ (codes ": " ++ (fault_text fault path ++ 10 ∷ [])))
 
 -- the word for so many generations
 abbrev pub generations_word : ℕ → List ℕ
@@ -219,7 +220,7 @@ generations_word n = if nat_eq n 1 then codes " generation" else codes " generat
 -- the line about a cell that differs, of the pattern with this name, after a text that stands before each line
 abbrev pub cell_line : List ℕ → List ℕ → Why → List ℕ
 cell_line before name (Differs x y found claimed gens) =
-    before ++ (codes "  " ++ (name ++ (codes " at " ++ (signed_decimal x ++ (codes "," ++ (signed_decimal y ++ (codes ": " ++ (decimal found
+    before ++ (codes "  " ++ (escaped name ++ (codes " at " ++ (signed_decimal x ++ (codes "," ++ (signed_decimal y ++ (codes ": " ++ (decimal found
     ++ (codes " after " ++ (decimal gens ++ (generations_word gens ++ (codes ", claimed " ++ (decimal claimed ++ 10 ∷ [])))))))))))))
 cell_line before name why = []
 
@@ -230,7 +231,7 @@ at_line (Some line) = codes ", line " ++ decimal line
 
 -- the line about a file, with the name of what it holds
 abbrev pub file_line : List ℕ → List ℕ → List ℕ → Option ℕ → List ℕ
-file_line before name path line = before ++ (codes "  " ++ (name ++ (codes ": " ++ (path ++ (at_line line ++ 10 ∷ [])))))
+file_line before name path line = before ++ (codes "  " ++ (escaped name ++ (codes ": " ++ (escaped path ++ (at_line line ++ 10 ∷ [])))))
 
 -- the faulty line of a rule line's file
 abbrev pub cause_line : Cause → Option ℕ
@@ -245,7 +246,7 @@ no_note_text before why note = []
 -- a rule text that names no rule
 abbrev pub rule_words : Option (Vec ℕ Global) → List ℕ
 rule_words None = []
-rule_words (Some text) = codes ": rule " ++ text.items
+rule_words (Some text) = codes ": rule " ++ escaped text.items
 
 -- the first of some faulty rule files that was looked for by this name
 abbrev pub faulty_named : List FaultyRule → List ℕ → Option FaultyRule
@@ -255,7 +256,7 @@ faulty_named (f ∷ fs) name = if bytes_eq f.name.now name then Some f else faul
 -- the path of a faulty rule file, the line of its fault, and what is wrong there
 abbrev pub faulty_words : Option FaultyRule → List ℕ
 faulty_words None = []
-faulty_words (Some file) = codes ": " ++ (file.path.now ++ (codes ": " ++ table_text (λ line. codes "line " ++ decimal line) file.fault))
+faulty_words (Some file) = codes ": " ++ (escaped file.path.now ++ (codes ": " ++ table_text (λ line. codes "line " ++ decimal line) file.fault))
 
 -- the faulty rule file that was looked for by a rule text, where there is one
 abbrev pub faulty_rule_words : List FaultyRule → Option (Vec ℕ Global) → List ℕ
@@ -264,7 +265,7 @@ faulty_rule_words faulty (Some text) = faulty_words (faulty_named faulty text.it
 
 -- the line about the file of a pattern with this name: the line of its fault, or its rule text, and the rule file of that name that is faulty
 abbrev pub noted_line : List ℕ → List FaultyRule → List ℕ → List ℕ → Option ℕ → Option (Vec ℕ Global) → List ℕ
-noted_line before faulty name path line text = before ++ (codes "  " ++ (name ++ (codes ": " ++ (path ++ (at_line line ++ (rule_words text
+noted_line before faulty name path line text = before ++ (codes "  " ++ (escaped name ++ (codes ": " ++ (escaped path ++ (at_line line ++ (rule_words text
     ++ (faulty_rule_words faulty text ++ 10 ∷ [])))))))
 
 -- the line of a note on a refusal
@@ -293,7 +294,7 @@ findings_text style findings = flat_map (finding_text style) findings
 
 -- the line about a pattern file
 abbrev pub pattern_line : List ℕ → Option ℕ → Option (Vec ℕ Global) → List ℕ
-pattern_line path line text = codes "  " ++ (path ++ (at_line line ++ (rule_words text ++ 10 ∷ [])))
+pattern_line path line text = codes "  " ++ (escaped path ++ (at_line line ++ (rule_words text ++ 10 ∷ [])))
 
 -- the line about a rule file that is no good table
 abbrev pub rule_file_line : List ℕ → TableFault → List ℕ

@@ -33,7 +33,7 @@ fn fault_pieces<'a>(fault: &Fault, path: &'a [u8]) -> [Piece<'a>; 3]
             in_pieces![3; text b"window too large"],
         Fault::Tool(ToolFault::Write) => in_pieces![3; text b"write"],
         Fault::Tool(ToolFault::Memory) => in_pieces![3; text b"memory"],
-        Fault::Unnameable => in_pieces![3; text b"no claim text can name ", text path],
+        Fault::Unnameable => in_pieces![3; text b"no claim text can name ", escaped path],
     }
 }
 
@@ -41,8 +41,8 @@ fn input_pieces<'a>(fault: InputFault, path: &'a [u8]) -> [Piece<'a>; 3]
     ensures { pieces_text result ≡ input_fault_text fault path.now }
 {
     match fault {
-        InputFault::Read => in_pieces![3; text b"cannot read ", text path],
-        InputFault::TooLong => in_pieces![3; text b"too long ", text path],
+        InputFault::Read => in_pieces![3; text b"cannot read ", escaped path],
+        InputFault::TooLong => in_pieces![3; text b"too long ", escaped path],
         InputFault::Memory => in_pieces![3; text b"memory"],
     }
 }
@@ -97,7 +97,7 @@ fn complaint_of_pieces<'a>(fault: &Fault, path: &'a [u8]) -> [Piece<'a>; 7]
 {
     let [front, middle, back] = fault_pieces(fault, path);
     in_pieces![
-        text b"cafile: ", text path, text b": ", piece front, piece middle, piece back, text b"\n",
+        text b"cafile: ", escaped path, text b": ", piece front, piece middle, piece back, text b"\n",
     ]
 }
 

@@ -31,7 +31,7 @@ fn pattern_pieces<'a>(
 {
     let [at, number] = at_pieces(line);
     let [word, text] = rule_pieces(rule_text);
-    in_pieces![15; text b"  ", text path, piece at, piece number, piece word, piece text, text b"\n"]
+    in_pieces![15; text b"  ", escaped path, piece at, piece number, piece word, piece text, text b"\n"]
 }
 
 // The line that explains why the pattern of a file isn't identified, where there is something to tell.

@@ -59,7 +59,7 @@ fn cell_pieces<'a>(before: &'a [u8], name: &'a [u8], why: Why) -> [Piece<'a>; 15
         return [NOTHING; 15];
     };
     in_pieces![
-        text before, text b"  ", text name, text b" at ", integer x, text b",", integer y,
+        text before, text b"  ", escaped name, text b" at ", integer x, text b",", integer y,
         text b": ", number u64::from(found), text b" after ", number gens, text generations_word(gens),
         text b", claimed ", number u64::from(claimed), text b"\n",
     ]
@@ -85,7 +85,7 @@ fn file_pieces<'a>(
 {
     let [at, number] = at_pieces(line);
     in_pieces![15;
-        text before, text b"  ", text name, text b": ", text path, piece at, piece number, text b"\n",
+        text before, text b"  ", escaped name, text b": ", escaped path, piece at, piece number, text b"\n",
     ]
 }
 
@@ -101,7 +101,7 @@ pub(crate) fn rule_pieces<'a>(rule_text: &'a Option<Vec<u8>>) -> [Piece<'a>; 2]
     ensures { pieces_text result ≡ rule_words rule_text.now }
 {
     match rule_text {
-        Some(text) => in_pieces![text b": rule ", text text],
+        Some(text) => in_pieces![text b": rule ", escaped text],
         None => [NOTHING; 2],
     }
 }
@@ -124,10 +124,10 @@ fn faulty_pieces<'a>(file: FaultyRule<'a>) -> [Piece<'a>; 5]
     ensures { pieces_text result ≡ faulty_words (Some file.entry) }
 {
     if let TableFault::Memory = file.fault {
-        return in_pieces![5; text b": ", text file.path, text b": memory"];
+        return in_pieces![5; text b": ", escaped file.path, text b": memory"];
     }
     in_pieces![
-        text b": ", text file.path,
+        text b": ", escaped file.path,
         text b": line ", number table_line(file.fault), text table_kind(file.fault),
     ]
 }
@@ -160,7 +160,7 @@ fn noted_pieces<'a>(
     let [word, text] = rule_pieces(rule_text);
     let [colon, file, at_fault, fault_line, kind] = faulty_rule_pieces(style.faulty, rule_text);
     in_pieces![
-        text style.before, text b"  ", text name, text b": ", text path,
+        text style.before, text b"  ", escaped name, text b": ", escaped path,
         piece at, piece number, piece word, piece text,
         piece colon, piece file, piece at_fault, piece fault_line, piece kind, text b"\n",
     ]

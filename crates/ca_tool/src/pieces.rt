@@ -5,15 +5,18 @@ ghost use Rattle.ca_plane.specs.Puts.{Puts};
 ghost use Rattle.ca_tool.specs.Writing.{Sends};
 ghost use Rattle.ca_tool.specs.inner.Pieces.{piece_text, pieces_text};
 
-use ca_plane::text::push_text;
+use crate::escaped::{push_escaped, send_escaped};
+use ca_plane::text::{push_integer, push_number, push_text};
 use ca_plane::{Dev, Memory, WriteFault, send};
 use itoa::Buffer;
 use std::io::Write;
 
-/// A piece of a text: bytes, or a number in decimal digits.
+/// A piece of a text: bytes as they are, bytes whose control characters are spelled out, or a number in decimal
+/// digits.
 #[derive(Clone, Copy)]
 pub(crate) enum Piece<'a> {
     Text(&'a [u8]),
+    Escaped(&'a [u8]),
     Number(u64),
     Integer(i64),
 }
@@ -21,10 +24,14 @@ pub(crate) enum Piece<'a> {
 /// No bytes.
 pub(crate) const NOTHING: Piece<'static> = Piece::Text(b"");
 
-/// One of `in_pieces!`: a text, a number or an integer, or a piece that is there already.
+/// One of `in_pieces!`: a text, a text whose control characters are spelled out, a number or an integer, or a piece
+/// that is there already.
 macro_rules! piece {
     (text $text:expr) => {
         $crate::pieces::Piece::Text($text)
+    };
+    (escaped $text:expr) => {
+        $crate::pieces::Piece::Escaped($text)
     };
     (number $number:expr) => {
         $crate::pieces::Piece::Number($number)
@@ -58,14 +65,28 @@ macro_rules! in_pieces {
 
 pub(crate) use in_pieces;
 
-// The bytes of a piece; those of a number are kept in the buffer.
-fn piece_bytes<'a>(piece: Piece<'a>, buffer: &'a mut Buffer) -> &'a [u8]
-    ensures { result.now ≡ piece_text piece.entry }
+// Puts a piece after what `out` holds.
+fn push_piece(out: &mut Vec<u8>, piece: Piece<'_>) -> Result<(), Memory>
+    ensures { OnOk result (Puts out.old.items out.new.items (piece_text piece.entry)) }
 {
     match piece {
-        Piece::Text(text) => text,
-        Piece::Number(number) => buffer.format(number).as_bytes(),
-        Piece::Integer(number) => buffer.format(number).as_bytes(),
+        Piece::Text(text) => push_text(out, text),
+        Piece::Escaped(text) => push_escaped(out, text),
+        Piece::Number(number) => push_number(out, number),
+        Piece::Integer(number) => push_integer(out, number),
+    }
+}
+
+// Writes a piece.
+fn send_piece<W: Write>(device: &mut Dev<W>, piece: Piece<'_>) -> Result<(), WriteFault>
+    ensures { Sends W.contents device.old device.new (piece_text piece.entry) WriteFault.Write result }
+{
+    let mut buffer = Buffer::new();
+    match piece {
+        Piece::Text(text) => send(device, text),
+        Piece::Escaped(text) => send_escaped(device, text),
+        Piece::Number(number) => send(device, buffer.format(number).as_bytes()),
+        Piece::Integer(number) => send(device, buffer.format(number).as_bytes()),
     }
 }
 
@@ -74,8 +95,7 @@ pub(crate) fn push_pieces(out: &mut Vec<u8>, pieces: &[Piece<'_>]) -> Result<(),
     ensures { OnOk result (Puts out.old.items out.new.items (pieces_text pieces.now)) }
 {
     'pieces: for piece in pieces {
-        let mut buffer = Buffer::new();
-        push_text(out, piece_bytes(*piece, &mut buffer))?;
+        push_piece(out, *piece)?;
     }
     Ok(())
 }
@@ -88,8 +108,7 @@ pub(crate) fn send_pieces<W: Write>(
     ensures { Sends W.contents device.old device.new (pieces_text pieces.now) WriteFault.Write result }
 {
     'pieces: for piece in pieces {
-        let mut buffer = Buffer::new();
-        if let Err(fault) = send(device, piece_bytes(*piece, &mut buffer)) {
+        if let Err(fault) = send_piece(device, *piece) {
             return Err(fault);
         }
     }

@@ -1,6 +1,7 @@
 //! The command `verify`.
 
 ghost use Rattle.std.specs.Prelude.{◌≡◌, ◌++◌, [], codes, IfOk, OnErr, IsTrue, if◌then◌else◌};
+ghost use Rattle.ca_tool.specs.Escaped.{escaped};
 
 use crate::FAULT;
 use crate::files::{LoadedText, faulty_rules, load_needed, read_source, views, with_named_rules};
@@ -9,8 +10,10 @@ use crate::streams::Streams;
 use crate::words::Extras;
 use ca_claims::{Claims, read_claims};
 use ca_plane::Memory;
+use ca_plane::text::push_text;
 use ca_tool::{
-    Fault, InputFault, ReportStyle, ToolFault, complain, complain_with_path, verify_watched,
+    Fault, InputFault, ReportStyle, ToolFault, complain, complain_with_path, push_escaped,
+    verify_watched,
 };
 use std::alloc::Global;
 use std::rt::{Clock, Files};
@@ -103,13 +106,13 @@ fn load<R: Files + AllocGlobal>(
 
 // What stands before each line: the path of the text, where it is named.
 fn line_prefix(alloc: Global, path: &str, is_named: bool) -> Result<Vec<u8>, Memory>
-    ensures text { IfOk result (λ text. text.items ≡ (if is_named then path.now ++ codes ": " else [])) }
+    ensures text { IfOk result (λ text. text.items ≡ (if is_named then escaped path.now ++ codes ": " else [])) }
     ensures memory { OnErr result (IsTrue is_named) }
 {
     let mut before = Vec::new(alloc);
     if is_named {
-        before.extend_from_slice(path.as_bytes())?;
-        before.extend_from_slice(b": ")?;
+        push_escaped(&mut before, path.as_bytes())?;
+        push_text(&mut before, b": ")?;
     }
     Ok(before)
 }

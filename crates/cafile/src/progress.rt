@@ -4,6 +4,7 @@ use ca_claims::Observer;
 use ca_plane::text::{push_number, push_text};
 use ca_plane::{Dev, Memory, send};
 use ca_run::{Milestone, Watch};
+use ca_tool::push_escaped;
 use std::io::IsTerminal;
 use std::rt::{Clock, Stderr};
 use std::time::Instant;
@@ -17,10 +18,10 @@ const FIRST: u128 = 1000;
 
 const AGAIN: u128 = 500;
 
-/// What a line of progress is about.
+/// What a line of progress is about. Control characters of a path are spelled out in it.
 #[derive(Clone, Copy)]
 pub enum Heading<'a> {
-    /// The claims of a text. This stands before each of its lines.
+    /// The claims of a text. This stands before each of its lines, as it is.
     Claims {
         before: &'a [u8],
     },
@@ -138,9 +139,9 @@ impl<'a, R: Clock + AllocGlobal> Progress<'a, R> {
                 push_text(text, b"line ")?;
                 push_number(text, self.line)
             }
-            Heading::Run { path } => push_text(text, path),
+            Heading::Run { path } => push_escaped(text, path),
             Heading::Files { paths, .. } => match paths.get(self.line.saturating_sub(1) as usize) {
-                Some(path) => push_text(text, path.as_bytes()),
+                Some(path) => push_escaped(text, path.as_bytes()),
                 None => Ok(()),
             },
         }

@@ -3,11 +3,13 @@ use Rattle.std.specs.Prelude.{ℕ, List, decimal}
 use Rattle.std.specs.Fmt.{signed_decimal}
 use Rattle.std.specs.List.{flat_map}
 use Rattle.ca_tool.specs.declared.pieces.Piece.{Piece}
-use Rattle.ca_tool.specs.declared.pieces.Piece.TheVariants.{Text, Number, Integer}
+use Rattle.ca_tool.specs.declared.pieces.Piece.TheVariants.{Text, Escaped, Number, Integer}
+use Rattle.ca_tool.specs.Escaped.{escaped}
 
 -- the bytes of a piece
 abbrev pub piece_text : Piece → List ℕ
 piece_text (Text text) = text.now
+piece_text (Escaped text) = escaped text.now
 piece_text (Number number) = decimal number
 piece_text (Integer number) = signed_decimal number
 

@@ -1,4 +1,5 @@
 use Rattle.std.proofs.Common.{rules, ap, ap₂, ◌∙◌, ◌++◌, ◌∷◌, [], codes}
+use Rattle.ca_tool.specs.Escaped.{escaped}
 use Rattle.ca_tool.specs.inner.Pieces.{piece_text}
 use Rattle.ca_tool.proofs.InPieces.{each_all}
 use Rattle.ca_tool.proofs.finding.noted_pieces.Goals as goal
@@ -6,7 +7,7 @@ use Rattle.ca_tool.proofs.finding.noted_pieces.Goals as goal
 -- the pieces of each part one by one are its text
 pub returns : goal.returns
 returns c =
-    ap (λ l. c.args.style.now.before.now ++ (codes "  " ++ (c.args.name.now ++ (codes ": " ++ (c.args.path.now ++ l)))))
+    ap (λ l. c.args.style.now.before.now ++ (codes "  " ++ (escaped c.args.name.now ++ (codes ": " ++ (escaped c.args.path.now ++ l)))))
     (each_all piece_text c.at_pieces.result _ 0 2 _ (search rules)
     ∙ ap₂ (λ a l. a ++ l) c.at_pieces.ensures
     (each_all piece_text c.rule_pieces.result _ 0 2 _ (search rules)
