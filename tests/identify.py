@@ -452,6 +452,9 @@ def try_rules(tally, files):
     os.mkdir(os.path.join(files.folder, "my tables"))
     for path in (os.path.join(files.folder, "my tables"), "-", ""):
         tally.expect(f"a folder that a claim text can't name: {os.path.basename(path)}", run(["identify", "--rules", path, a]), fault(f"no claim text can name {path}"))
+    for path in (os.path.join(files.folder, "nowhere"), bad, os.path.join(bad, "rules")):
+        for words in ([a], ["--explain", a], ["--rule", "nowhere.rule", a], ["nowhere.rle"]):
+            tally.expect(f"a folder that is none: {os.path.basename(path)}", run(["identify", "--rules", path, *words]), fault(f"cannot read {path}"))
     table("F G.rule", rule_text("F G"))
     f = files.path("of_F_G.mc", "[M2]\n#R F G\n1 0 0 0 1\n")
     tally.expect("a rule with a blank in its name", run(["identify", "--rules", folder, f]), Outcome(f"# of_F_G: {f}: bad rule: unknown\n".encode(), b"", 2))

@@ -1,6 +1,7 @@
 #!/usr/bin/env -S python3 -B
 """`show --rules DIR`, `convert --rules DIR` and `draw --rules DIR`: a rule that is neither in B/S notation nor a table of `--rule` is looked for as DIR/NAME.rule; which names
 are looked for, and which files are opened."""
+import itertools
 import os
 import tempfile
 
@@ -131,11 +132,18 @@ def try_given_after(files):
 
 
 def try_unread(files):
-    """A folder or a rule file that isn't there, or can't be read, is as none."""
-    pattern = files.path("pattern", pattern_of("Spread")[0])
-    for folder in (os.path.join(files.folder, "missing"), pattern, files.rules):
-        for command in COMMANDS:
-            files.refuse("no rule file", with_file(command, pattern, "--rules", folder), "bad rule: unknown", f"{pattern}: rule Spread")
+    """A rule file that isn't there, or can't be read, is as none; a folder that is none is a fault, also where no rule is looked for."""
+    pattern, block = files.path("pattern", pattern_of("Spread")[0]), files.path("block", "x = 2, y = 2\n2o$2o!\n")
+    for command in COMMANDS:
+        files.refuse("no rule file", with_file(command, pattern, "--rules", files.rules), "bad rule: unknown", f"{pattern}: rule Spread")
+    os.symlink(files.rules, os.path.join(files.folder, "link"))
+    files.expect("a link to a folder", ["show", block, "--rules", os.path.join(files.folder, "link")], run(["show", block]))
+    lost = os.path.join(files.folder, "lost.rle")
+    for folder in (os.path.join(files.folder, "missing"), pattern, os.path.join(pattern, "rules"), os.path.join(files.folder, "a\nb"), "-", ""):
+        told = b"cannot read " + escaped(folder.encode())
+        for command, path in itertools.product(COMMANDS, (pattern, block, lost)):
+            files.expect("no folder", with_file(command, path, "--rules", folder), fault(told))
+            files.expect("no folder, explained", with_file(command, path, "--explain", "--rules", folder, "--rule", lost), fault(told))
     os.mkdir(os.path.join(files.rules, "Folder.rule"))
     files.rule("Longer.rule", rule_of("Longer").encode().ljust(MAX_FILE + 1))
     for name in ("Folder", "Longer"):

@@ -189,7 +189,7 @@ def try_faulty(files):
 
 
 def try_unread(files):
-    """A folder or a rule file that isn't there, or can't be read, is as none."""
+    """A rule file that isn't there, or can't be read, is as none; a folder that is none is a fault before any text is read."""
     os.mkdir(os.path.join(files.rules, "Folder.rule"))
     os.symlink("nowhere", os.path.join(files.rules, "Link.rule"))
     files.rule("Longer.rule", STILL.replace("NAME", "Longer").encode().ljust(MAX_FILE + 1))
@@ -203,7 +203,8 @@ def try_unread(files):
     text = files.text()
     unknown(text, "p", rle_of("Longest"), b"Longest")
     for folder in (os.path.join(files.folder, "missing"), os.path.join(files.rules, "Longest.rule"), ""):
-        files.judge(f"the folder {folder!r}", text, folder)
+        for paths in ([text.write()], [text.write(), "examples/block.claims"], ["examples/no_claims.claims"], ["examples/syntax.claims"], [os.path.join(files.folder, "lost.claims")]):
+            files.check(f"the folder {folder!r}", ["verify", "--rules", folder, *paths], fault(f"cannot read {folder}"))
     text = files.text()
     text.load_path("lost", files.path("lost.rle"))
     text.load("good", rle_of("Longest"))

@@ -75,6 +75,15 @@ fn open<R: Files>(rt: &R, path: &str) -> Result<R::File, InputFault> {
     }
 }
 
+/// Fails where the path isn't that of a folder.
+pub fn check_folder<R: Files>(rt: &R, path: &str) -> Result<(), InputFault> {
+    match fs::metadata(rt, path) {
+        Ok(found) if found.is_dir() => Ok(()),
+        Err(error) if error.kind() == ErrorKind::OutOfMemory => Err(InputFault::Memory),
+        _ => Err(InputFault::Read),
+    }
+}
+
 /// The files that a claim text needs and that can be read, in the order of its paths. No other file is
 /// opened. Fails where there is no memory for them, of a text that makes a claim.
 pub fn load_needed<R: Files + AllocGlobal>(

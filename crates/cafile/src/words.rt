@@ -10,6 +10,7 @@ mod verification;
 
 use crate::texts;
 use ca_claims::Target;
+use ca_tool::is_claim_path;
 use clap::error::ErrorKind;
 use clap::{ArgMatches, Command, Error};
 pub use drawing::DrawWords;
@@ -60,6 +61,31 @@ pub enum Request {
     Help {
         text: String,
     },
+}
+
+impl Request {
+    /// The folder where rule files are looked for, if there is one. One that `identify` can't name in its claim text
+    /// is a fault of its own, and is left to that.
+    pub fn rules_folder(&self) -> Option<&str> {
+        match self {
+            Request::Show { extras, .. }
+            | Request::Convert { extras, .. }
+            | Request::Draw { extras, .. } => path_text(&extras.folder),
+            Request::Verify { folder, .. } => path_text(folder),
+            Request::Identify { extras, .. } => {
+                let folder = path_text(&extras.folder)?;
+                is_claim_path(folder.as_bytes()).then_some(folder)
+            }
+            Request::Help { .. } => None,
+        }
+    }
+}
+
+fn path_text(path: &Option<String>) -> Option<&str> {
+    match path {
+        Some(path) => Some(path.as_str()),
+        None => None,
+    }
 }
 
 /// Why the words ask for nothing.
