@@ -193,7 +193,7 @@ def try_boxes(tally, files):
     later = before.after("B3/S23", MEASURED)
     path = files.path("measured.rle", rows.text_of("B3/S23", before))
     told = f"{later.population()} cells, in a box of {later.width()} by {len(later.rows)}, after {MEASURED}"
-    wanted = ample(f"load measured {path}\n# measured: none of these within {MEASURED} generations: {told}\n".encode())
+    wanted = ample(f"claims 2\nload measured {path}\n# measured: none of these within {MEASURED} generations: {told}\n".encode())
     tally.expect("boxes of many squares", run(["identify", "--limit", str(MEASURED), path], **within(BOXES)), wanted)
 
 

@@ -4,7 +4,8 @@
 - By a byte at a time, read or written, a run comes to what it does otherwise.
 - Where the kth byte of standard output can't be written, the first k - 1 are there and no other, though later writes would go well: nothing is tried
   again. `cafile: write` is told, and the status is 2. That a write takes no byte is a failure too.
-- What is printed for a claim is one write: where the kth write fails, what was printed for the first k - 1 claims is there.
+- What is printed for a claim is one write: where the kth write fails, what was printed for the first k - 1 claims is there. So are the lines of `identify` on a
+  file, its first line, and its `rule` lines.
 - Where the kth byte of standard error can't be written, the status is the same, and so is all that comes before that line and after it.
 - Where the kth byte of a file can't be read, that file is told as one that can't be read, or refuses the claims that need it; the others are judged.
 """
@@ -35,7 +36,7 @@ EXPLAINED = (b"line 3: no, cells differ after 1\n  dot at 0,0: 0 after 1 generat
 
 # What the dot, the row and the dot as macrocell are, and what is told of a file that isn't identified, with the row.
 IDENTIFIED = ("claims 2\nload dot {dot}\ndies dot 1\nload row {row}\noscillator row 2\nload dot-2 {macrocell}\ndies dot-2 1\n")
-NOT_IDENTIFIED = "# z: {bad}: bad pattern: rle syntax, line 2\nload row {row}\noscillator row 2\n"
+NOT_IDENTIFIED = "claims 2\n# z: {bad}: bad pattern: rle syntax, line 2\nload row {row}\noscillator row 2\n"
 
 # What comes of the dot and of the cell under a table.
 SHOWN, SHOWN_MACROCELL, SHOWN_TABLE = (
@@ -131,10 +132,13 @@ def try_output(tally, refusing, files):
 
 
 def try_claims(tally, refusing, files):
-    """Each write of all that is printed for a claim in turn fails."""
-    text, _ = claim_text(files)
-    for words, printed in ((["verify", text], PLAIN), (["verify", "--explain", text], EXPLAINED)):
-        each = re.findall(rb"line .*\n(?:  .*\n)?", printed)
+    """Each write of all that is printed for a claim in turn fails, or for a file that is identified."""
+    text, (dot, row) = claim_text(files)
+    bad, rule = files.path("z.rle", "x = 1, y = 1\nz!"), files.path("s.rule", RULE)
+    found = f"claims 2\nrule {rule}\nload dot {dot}\ndies dot 1\n# z: {bad}: bad pattern: rle syntax, line 2\nload row {row}\noscillator row 2\n".encode()
+    for words, printed, one in ((["verify", text], PLAIN, rb"line .*\n(?:  .*\n)?"), (["verify", "--explain", text], EXPLAINED, rb"line .*\n(?:  .*\n)?"),
+                                (["identify", "--rule", rule, dot, bad, row], found, rb"load .*\n.*\n|.*\n")):
+        each = re.findall(one, printed)
         wanted = {number: Outcome(b"".join(each[:number - 1]), b"cafile: write\n", 2) for number in range(1, len(each) + 1)}
         got = refusing.until_unmet(words, "WRITE_FAILS", range(1, 100))
         tally.tell(f"{named(words)}: {len(each)} writes", [] if got == wanted else [f"wanted: {wanted}", f"got:    {got}"])

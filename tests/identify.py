@@ -23,6 +23,11 @@ GLIDER = "x = 3, y = 3\nbob$2bo$3o!\n"
 SPREAD = "@RULE Spread\n@TABLE\nn_states:3\nneighborhood:vonNeumann\nsymmetries:none\n0,0,0,0,1,1\n"
 
 
+def whole(lines, complaint=b"", status=0):
+    """The outcome of a run that prints the text with these lines after its first."""
+    return Outcome(f"claims 2\n{lines}".encode(), complaint, status)
+
+
 def claim_of(name, told):
     """The line of a claim, whose first word and numbers are told."""
     word, *numbers = told.split()
@@ -82,9 +87,8 @@ def try_known(tally):
     paths = [f"examples/{name}" for name in KNOWN]
     entries = [entry(name, path, told) for name, path, told in zip(names_of(paths), paths, KNOWN.values())]
     for path, told, lines in zip(paths, KNOWN.values(), entries):
-        version = "claims 2\n" * told.startswith("dies")
-        tally.expect(f"{path}: {told}", run(["identify", path]), ample((version + lines).encode()))
-    tally.expect("all of these", run(["identify", *paths]), ample(("claims 2\n" + "".join(entries)).encode()))
+        tally.expect(f"{path}: {told}", run(["identify", path]), whole(lines))
+    tally.expect("all of these", run(["identify", *paths]), whole("".join(entries)))
 
 
 def true_claims():
@@ -112,10 +116,9 @@ def try_true_claims(tally):
         words = [word for rule in rules for word in ("--rule", rule)]
         if len(rules) > 1 or int((told.split() + ["1"])[1] if told != "still" else 1) > 65536:
             continue
-        version = "claims 2\n" * told.startswith("dies")
-        lines = version + "".join(f"rule {rule}\n" for rule in rules) + entry(base_name(path), path, told)
+        lines = "".join(f"rule {rule}\n" for rule in rules) + entry(base_name(path), path, told)
         got = run(["identify", path, *words])
-        if got != ample(lines.encode()):
+        if got != whole(lines):
             complaints.append(f"{path}: wanted {lines!r}, {got}")
     tally.tell(f"{len(claims)} patterns of examples/ whose claims are true", complaints if len(claims) > 40 else ["too few claims"])
 
@@ -154,11 +157,10 @@ def try_squares(tally, files):
             paths.append(files.path(f"square_{number}.rle", rle.tidy({it: 1 for it in cells}, rule, 0, 2)))
             tolds.append(told_of(frozenset(cells), birth, survival, limit))
         lines = "".join(entry(name, path, told) for name, path, told in zip(names_of(paths), paths, tolds))
-        version = "claims 2\n" * any(it.startswith("dies") for it in tolds)
         kinds = {it.split()[0] if it[0] != "#" else it for it in tolds}
         complaints = [] if len(kinds) >= least else [f"only {kinds}"]
         got = run(["identify", "--limit", str(limit), *paths])
-        tally.tell(f"{count - 1} squares under {rule}: {sorted(kinds)}", complaints + ([] if got == ample((version + lines).encode()) else [f"wanted {version + lines!r}", str(got)]))
+        tally.tell(f"{count - 1} squares under {rule}: {sorted(kinds)}", complaints + ([] if got == whole(lines) else [f"wanted {lines!r}", str(got)]))
 
 
 def drifted(cells, later, times):
@@ -186,9 +188,9 @@ def try_long_periods(tally, files):
         rule = files.path("turns.rule", f"@RULE Turns\n@TABLE\nn_states:{first}\nneighborhood:vonNeumann\nsymmetries:none\n" + "\n".join([*lines, ""]))
         path = files.path("turns.rle", rle.tidy(cells, "Turns", 0, first))
         words = ["identify", path, "--rule", rule, *words]
-        tally.expect(f"a period of {period}", run(words), ample(f"rule {rule}\n{entry('turns', path, f'oscillator {period}')}".encode()))
+        tally.expect(f"a period of {period}", run(words), whole(f"rule {rule}\n{entry('turns', path, f'oscillator {period}')}"))
         none = none_within(period - 1, len(cells), 3 * len(cells) - 2, 1)
-        tally.expect(f"a limit of {period - 1}", run([*words[:4], "--limit", str(period - 1)]), ample(f"rule {rule}\n{entry('turns', path, none)}".encode()))
+        tally.expect(f"a limit of {period - 1}", run([*words[:4], "--limit", str(period - 1)]), whole(f"rule {rule}\n{entry('turns', path, none)}"))
 
 
 def try_limits(tally):
@@ -196,33 +198,32 @@ def try_limits(tally):
     for path, told, limit in (("pulsar.rle", "oscillator 3", 3), ("glider.rle", "spaceship 4 1 1", 4), ("reactions/diehard.rle", "dies 130", 130), ("block.rle", "still", 1),
                               ("blinker.rle", "oscillator 2", 2), ("pentadecathlon.rle", "oscillator 15", 15), ("period_57960.rle", "oscillator 57960", 57960)):
         path = f"examples/{path}"
-        version = "claims 2\n" * told.startswith("dies")
-        tally.expect(f"{path}, as far as {limit}", run(["identify", path, "--limit", str(limit)]), ample((version + entry(base_name(path), path, told)).encode()))
+        tally.expect(f"{path}, as far as {limit}", run(["identify", path, "--limit", str(limit)]), whole(entry(base_name(path), path, told)))
         if limit > 1:
             tally.expect(f"{path}, as far as {limit - 1}", run(["identify", path, "--limit", str(limit - 1)]),
-                         ample(entry(base_name(path), path, shown_after(path, limit - 1)).encode()))
+                         whole(entry(base_name(path), path, shown_after(path, limit - 1))))
     path, now, settled = "examples/r_pentomino.rle", {(1, 0), (2, 0), (0, 1), (1, 1), (1, 2)}, []
     for generation in range(1, 1109):
         now = next_cells(now, {3}, {2, 3})
         if generation in (1, 7, 100, 1000):
-            tally.expect(f"the R-pentomino, as far as {generation}", run(["identify", path, "--limit", str(generation)]), ample(entry("r_pentomino", path, none_of(now, generation)).encode()))
+            tally.expect(f"the R-pentomino, as far as {generation}", run(["identify", path, "--limit", str(generation)]), whole(entry("r_pentomino", path, none_of(now, generation))))
         if generation in (1104, 1108):
             settled.append(now)
     end = drifted(*settled, (65536 - 1104) // 4)
-    tally.expect("the R-pentomino, as far as usual", run(["identify", path]), ample(entry("r_pentomino", path, none_of(end, 65536)).encode()))
+    tally.expect("the R-pentomino, as far as usual", run(["identify", path]), whole(entry("r_pentomino", path, none_of(end, 65536))))
     path = "examples/blinker.rle"
-    tally.expect("as far as can be", run(["identify", path, "--limit", "4294967295"]), ample(entry("blinker", path, "oscillator 2").encode()))
+    tally.expect("as far as can be", run(["identify", path, "--limit", "4294967295"]), whole(entry("blinker", path, "oscillator 2")))
 
 
 def try_growth(tally, files):
     """One cell, and cells at the ends of the range."""
     lone = files.path("lone.rle", "x = 1, y = 1, rule = 23/3/4\nA!\n")
-    tally.expect("a cell that ages", run(["identify", lone, "--limit", "1"]), ample(entry("lone", lone, none_within(1, 1, 1, 1)).encode()))
+    tally.expect("a cell that ages", run(["identify", lone, "--limit", "1"]), whole(entry("lone", lone, none_within(1, 1, 1, 1))))
     edge, side = 1 << 60, 1 << 61
     corner = files.path("corner.rle", f"#CXRLE Pos={edge - 1},{-edge}\nx = 1, y = 1, rule = B1/S012345678\no!\n")
-    tally.expect("a cell in a corner of the range", run(["identify", corner, "--limit", "3"]), ample(entry("corner", corner, shown_after(corner, 3)).encode()))
+    tally.expect("a cell in a corner of the range", run(["identify", corner, "--limit", "3"]), whole(entry("corner", corner, shown_after(corner, 3))))
     ends = files.path("ends.rle", f"#CXRLE Pos={-edge},{-edge}\nx = {side}, y = {side}, rule = B3/S23\n3o{side - 2}${side - 2}b2o${side - 2}b2o!\n")
-    tally.expect("patterns in two corners of the range", run(["identify", ends, "--limit", "1"]), ample(entry("ends", ends, none_within(1, 7, side - 1, side + 1)).encode()))
+    tally.expect("patterns in two corners of the range", run(["identify", ends, "--limit", "1"]), whole(entry("ends", ends, none_within(1, 7, side - 1, side + 1))))
 
 
 def try_many_squares(tally, files):
@@ -230,7 +231,7 @@ def try_many_squares(tally, files):
     chance = random.Random(7)
     corners = {(chance.randrange(1 << 40), chance.randrange(1 << 40)) for _ in range(4000)}
     path = files.path("apart.rle", rle.tidy({(x + i, y): 1 for x, y in corners for i in range(3)}, "B3/S23", 0, 2))
-    tally.expect("blinkers far apart", run(["identify", path]), ample(entry("apart", path, "oscillator 2").encode()))
+    tally.expect("blinkers far apart", run(["identify", path]), whole(entry("apart", path, "oscillator 2")))
 
 
 def try_after(tally, files):
@@ -247,25 +248,25 @@ def try_after(tally, files):
         lines = "".join(later_entry(name, path, generations, told) for name, path, told in zip(names_of(paths), paths, tolds))
         got = run(["identify", "--after", str(generations), "--limit", str(limit), *paths])
         kinds = {it.split()[0] for it in tolds}
-        tally.tell(f"squares after {generations}: {len(kinds)} kinds", ([] if len(kinds) > 2 else [str(kinds)]) + ([] if got == ample(lines.encode()) else [f"wanted {lines!r}", str(got)]))
+        tally.tell(f"squares after {generations}: {len(kinds)} kinds", ([] if len(kinds) > 2 else [str(kinds)]) + ([] if got == whole(lines) else [f"wanted {lines!r}", str(got)]))
         tally.expect("verify reads the text, which has no claim", run(["verify", "-"], input=got.printed), ample(b""))
     returning = {name: told for name, told in KNOWN.items() if not told.startswith("dies")}
     paths = [f"examples/{name}" for name in returning]
     for generations in (3, 1000003, 1 << 60):
         lines = "".join(later_entry(name, path, generations, told) for name, path, told in zip(names_of(paths), paths, returning.values()))
-        tally.expect(f"patterns that come back, after {generations}", run(["identify", *paths, "--after", str(generations)]), ample(lines.encode()))
+        tally.expect(f"patterns that come back, after {generations}", run(["identify", *paths, "--after", str(generations)]), whole(lines))
     path = "examples/reactions/diehard.rle"
     for generations, told in ((1, "dies 129"), (129, "dies 1"), (130, "no cell is live"), (1 << 60, "no cell is live")):
-        tally.expect(f"diehard, after {generations}", run(["identify", path, "--after", str(generations)]), ample(later_entry("diehard", path, generations, told).encode()))
+        tally.expect(f"diehard, after {generations}", run(["identify", path, "--after", str(generations)]), whole(later_entry("diehard", path, generations, told)))
     edge, rule = 1 << 60, "B12345678/S012345678"
     for at in ((0, 0), (edge - 1, -edge), (-edge, edge - 1)):
         dot = files.path("dot.rle", f"#CXRLE Pos={at[0]},{at[1]}\nx = 1, y = 1, rule = {rule}\no!\n")
         side = 2 * (edge + 3) + 1
         tally.expect(f"a cell at {at} that grows, after 2^60", run(["identify", dot, "--after", str(edge), "--limit", "3"]),
-                     ample(later_entry("dot", dot, edge, none_within(3, side * side, side, side, edge)).encode()))
+                     whole(later_entry("dot", dot, edge, none_within(3, side * side, side, side, edge))))
     path = "examples/r_pentomino.rle"
-    tally.expect("the R-pentomino when it settles", run(["identify", path, "--after", "1103", "--limit", "50"]), ample(later_entry("r_pentomino", path, 1103, shown_after(path, 50, begun=1103)).encode()))
-    tally.expect("no work", run(["identify", path, "--after", "1103", "--work", "1"]), Outcome(f"# r_pentomino: {path}: work\n".encode(), b"", 2))
+    tally.expect("the R-pentomino when it settles", run(["identify", path, "--after", "1103", "--limit", "50"]), whole(later_entry("r_pentomino", path, 1103, shown_after(path, 50, begun=1103))))
+    tally.expect("no work", run(["identify", path, "--after", "1103", "--work", "1"]), whole(f"# r_pentomino: {path}: work\n", status=2))
     paths = all_examples()
     tally.expect("all files of examples/ after none", run(["identify", "--limit", "4", "--after", "0", *paths]), run(["identify", "--limit", "4", *paths]))
 
@@ -349,21 +350,21 @@ def try_names(tally, files):
     got = run(["identify", *paths, paths[0], paths[0]])
     names = names_of([*paths, paths[0], paths[0]])
     lines = "".join(entry(name, path, "still") for name, path in zip(names, [*paths, paths[0], paths[0]]))
-    tally.expect(f"names: {' '.join(names)}", got, ample(lines.encode()))
+    tally.expect(f"names: {' '.join(names)}", got, whole(lines))
     wanted = ["block", "block-2", "block.mc", "block-2-2", "block-3", "_", "_1", "_#", "_-2", "_-3", "no_ending", "a.b.c", "x", "é", "a-2", "a", "a-3", "load", "-", "2", "..", ".", "block-4", "block-5"]
     tally.tell("these are the names", [] if names == wanted else [f"{names}", f"{wanted}"])
     tally.expect("and verify proves them", run(["verify", files.path("names.claims", got.printed)]),
-                 ample("".join(f"line {at}: yes\n" for at in range(2, 2 * len(names) + 1, 2)).encode()))
+                 ample("".join(f"line {at}: yes\n" for at in range(3, 2 * len(names) + 2, 2)).encode()))
     blanks = [files.path(name, BLOCK) for name in ("my block.rle", "two/a\tb.rle", "one/c\rd.rle", "one/e\nf.rle")] + [os.path.join(files.folder, "lost one.rle"), "-", "", " "]
     shown = [it.replace("\n", "_") for it in blanks]
     names = ["my_block", "a_b", "c_d", "e_f", "lost_one", "-", "_", "_-2"]
     lines = "".join(f"# {name}: {path}: no claim text can name this path\n" for name, path in zip(names, shown))
     got = run(["identify", *blanks, paths[0]], input=BLOCK.encode())
-    tally.expect("paths that a claim text can't name", got, Outcome((lines + entry("block", paths[0], "still")).encode(), b"", 2))
-    tally.expect("and verify reads the text", run(["verify", "-"], input=got.printed), ample(f"line {lines.count(chr(10)) + 2}: yes\n".encode()))
+    tally.expect("paths that a claim text can't name", got, whole(lines + entry("block", paths[0], "still"), status=2))
+    tally.expect("and verify reads the text", run(["verify", "-"], input=got.printed), ample(f"line {lines.count(chr(10)) + 3}: yes\n".encode()))
     os.chdir(files.folder)
     try:
-        tally.expect("a file that is called -", run(["identify", "./-.rle"], cwd=os.path.join(files.folder, "two")), ample(b"load - ./-.rle\nstill -\n"))
+        tally.expect("a file that is called -", run(["identify", "./-.rle"], cwd=os.path.join(files.folder, "two")), whole("load - ./-.rle\nstill -\n"))
     finally:
         os.chdir(ROOT)
 
@@ -377,24 +378,24 @@ def try_refused(tally, files):
     paths = [files.path(name, text) for name, (text, _) in bad.items()]
     comments = [f"# {base_name(path)}: {path}: {cause}\n" for path, (_, cause) in zip(paths, bad.values())]
     for path, comment in zip(paths, comments):
-        tally.expect(f"{comment.split(': ', 2)[2].strip()}", run(["identify", good, path]), Outcome((entry("good", good, "still") + comment).encode(), b"", 2))
-    tally.expect("a refused file, and then a good one", run(["identify", paths[1], good]), Outcome((comments[1] + entry("good", good, "still")).encode(), b"", 2))
-    tally.expect("all of them", run(["identify", *paths]), Outcome("".join(comments).encode(), b"", 2))
+        tally.expect(f"{comment.split(': ', 2)[2].strip()}", run(["identify", good, path]), whole(entry("good", good, "still") + comment, status=2))
+    tally.expect("a refused file, and then a good one", run(["identify", paths[1], good]), whole(comments[1] + entry("good", good, "still"), status=2))
+    tally.expect("all of them", run(["identify", *paths]), whole("".join(comments), status=2))
     notes = [(paths[1], ", line 2"), (paths[2], ", line 2"), (paths[3], ": rule Life"), (paths[4], ": rule B3/S23:T30"), (paths[5], ": rule B0/S"), (paths[6], ""), (paths[7], ", line 2")]
     explained = "".join(f"  {path}{note}\n" for path, note in notes)
-    tally.expect("all of them, explained", run(["identify", "--explain", good, *paths]), Outcome((entry("good", good, "still") + "".join(comments)).encode(), explained.encode(), 2))
-    tally.expect("good files, explained", run(["identify", "--explain", good]), ample(entry("good", good, "still").encode()))
-    tally.expect("a folder", run(["identify", files.folder]), Outcome(f"# {base_name(files.folder)}: {files.folder}: no file\n".encode(), b"", 2))
+    tally.expect("all of them, explained", run(["identify", "--explain", good, *paths]), whole(entry("good", good, "still") + "".join(comments), explained.encode(), 2))
+    tally.expect("good files, explained", run(["identify", "--explain", good]), whole(entry("good", good, "still")))
+    tally.expect("a folder", run(["identify", files.folder]), whole(f"# {base_name(files.folder)}: {files.folder}: no file\n", status=2))
     long = files.path("long.rle", BLOCK.encode().ljust(67108865))
-    tally.expect("a file that is too long", run(["identify", long]), Outcome(f"# long: {long}: no file\n".encode(), b"", 2))
+    tally.expect("a file that is too long", run(["identify", long]), whole(f"# long: {long}: no file\n", status=2))
     path = "examples/r_pentomino.rle"
-    no_work = Outcome(f"# r_pentomino: {path}: work\n# good: {good}: work\n".encode(), b"", 2)
+    no_work = whole(f"# r_pentomino: {path}: work\n# good: {good}: work\n", status=2)
     tally.expect("no work", run(["identify", "--work", "0", path, good]), no_work)
     tally.expect("no work, explained", run(["identify", "--explain", "--work", "0", path, good]), no_work)
     empty = files.path("empty.rle", EMPTY)
-    tally.expect("no live cell", run(["identify", "--work", "0", empty]), ample(entry("empty", empty, "# no cell is live").encode()))
+    tally.expect("no live cell", run(["identify", "--work", "0", empty]), whole(entry("empty", empty, "# no cell is live")))
     for memo in (1, 1000, 16777216):
-        tally.expect(f"a memo of {memo}", run(["identify", "--memo", str(memo), "examples/pulsar.rle"]), ample(entry("pulsar", "examples/pulsar.rle", "oscillator 3").encode()))
+        tally.expect(f"a memo of {memo}", run(["identify", "--memo", str(memo), "examples/pulsar.rle"]), whole(entry("pulsar", "examples/pulsar.rle", "oscillator 3")))
 
 
 def rule_text(name, states=3):
@@ -418,8 +419,8 @@ def try_rules(tally, files):
     def both(name, words, text, status=0, complaint=b""):
         """Expects a text, whose claims `verify` proves."""
         got = run(["identify", *words])
-        tally.expect(name, got, Outcome(text.encode(), complaint, status))
-        yes = [at for at, line in enumerate(text.splitlines(), 1) if line.startswith(("still", "oscillator"))]
+        tally.expect(name, got, whole(text, complaint, status))
+        yes = [at for at, line in enumerate(text.splitlines(), 2) if line.startswith(("still", "oscillator"))]
         tally.expect(f"{name}, judged", run(["verify", "-"], input=got.printed), ample("".join(f"line {at}: yes\n" for at in yes).encode()))
 
     a, b = (files.path(f"of_{name}.rle", pattern_of(name)) for name in ("A", "B"))
@@ -457,7 +458,7 @@ def try_rules(tally, files):
             tally.expect(f"a folder that is none: {os.path.basename(path)}", run(["identify", "--rules", path, *words]), fault(f"cannot read {path}"))
     table("F G.rule", rule_text("F G"))
     f = files.path("of_F_G.mc", "[M2]\n#R F G\n1 0 0 0 1\n")
-    tally.expect("a rule with a blank in its name", run(["identify", "--rules", folder, f]), Outcome(f"# of_F_G: {f}: bad rule: unknown\n".encode(), b"", 2))
+    tally.expect("a rule with a blank in its name", run(["identify", "--rules", folder, f]), whole(f"# of_F_G: {f}: bad rule: unknown\n", status=2))
 
 
 def try_given_rule(tally, files):
@@ -467,8 +468,7 @@ def try_given_rule(tally, files):
     path = files.path("lone.rle", "x = 1, y = 1, rule = Lone\nA!\n")
     for words in (["--rule", given, "--rules", files.folder], ["--rules", files.folder, "--rule", given]):
         for more, lines in (([], entry("lone", path, "dies 1")), (["--after", "0"], entry("lone", path, "dies 1")), (["--after", "1"], later_entry("lone", path, 1, "no cell is live"))):
-            version = "claims 2\n" * ("dies" in lines)
-            tally.expect(f"a rule file beside a folder {' '.join(more)}", run(["identify", path, *words, *more]), ample(f"{version}rule {given}\n{lines}".encode()))
+            tally.expect(f"a rule file beside a folder {' '.join(more)}", run(["identify", path, *words, *more]), whole(f"rule {given}\n{lines}"))
 
 
 def try_many(tally, files):
@@ -483,14 +483,14 @@ def try_many(tally, files):
         paths.append(files.path(f"{number}/p.rle", pattern_of(f"R{own}") if own >= 0 else BLOCK))
         lines.append(entry("p" if number == 0 else f"p-{number + 1}", paths[-1], "still"))
     text = "".join([*(f"rule {rule}\n" for rule in rules), *lines])
-    tally.expect("1100 files of one name and 200 rules", run(["identify", "--rules", os.path.join(files.folder, "rules"), *paths]), ample(text.encode()))
+    tally.expect("1100 files of one name and 200 rules", run(["identify", "--rules", os.path.join(files.folder, "rules"), *paths]), whole(text))
     long = paths[0].replace("/", "/" + "./" * 1900, 1)
     lines = [entry(f"p-{number + 1}" if number else "p", long, "still") for number in range(300)]
-    tally.expect("a text of more than a million bytes", run(["identify", *[long] * len(lines)]), ample("".join(lines).encode()))
+    tally.expect("a text of more than a million bytes", run(["identify", *[long] * len(lines)]), whole("".join(lines)))
     count = 16000
     got, seconds = timed(["identify", *["examples/block.rle"] * count])
     lines = [entry(f"block-{number + 1}" if number else "block", "examples/block.rle", "still") for number in range(count)]
-    tally.tell(f"{count} files of one name", ([] if got == ample("".join(lines).encode()) else [str(got)]) + excess(seconds, 20))
+    tally.tell(f"{count} files of one name", ([] if got == whole("".join(lines)) else [str(got)]) + excess(seconds, 20))
 
 
 def main():

@@ -135,14 +135,14 @@ def long_runs(folder):
     cells = {(x + far, y + far): 1 for x, y in ((1, 0), (2, 1), (0, 2), (1, 2), (2, 2))}
     text = claim_text(folder, {"g": GLIDER, "h": f"#CXRLE Pos={far},{far}\n" + GLIDER})
     text.lines.append(f"becomes g {LONG} h".encode())
-    told = f"load glider {path}\n# glider after {LONG} generations: spaceship 4 1 1\n"
+    told = f"claims 2\nload glider {path}\n# glider after {LONG} generations: spaceship 4 1 1\n"
     after = [path, "--after", str(LONG)]
     return (
         (["verify", text.write()], lines_outcome([(3, "yes")]), lines_outcome([(3, "refused, work")])),
         (["show", *after], ample(f"format rle\nrule B3/S23\ngen {LONG}\ncells 5\nbox {far} {far} 3 3\n".encode()), fault("work")),
         (["convert", *after, "--to", "rle"], ample(rle.tidy(cells, "B3/S23", LONG, 2)), fault("work")),
         (["draw", *after], ample(b".o.\n..o\nooo\n"), fault("work")),
-        (["identify", *after], ample(told.encode()), Outcome(f"# glider: {path}: work\n".encode(), b"", 2)),
+        (["identify", *after], ample(told.encode()), Outcome(f"claims 2\n# glider: {path}: work\n".encode(), b"", 2)),
     )
 
 

@@ -201,7 +201,7 @@ def try_identify(tally, refusing, files):
                  "examples/pentadecathlon.rle": (15, "load pentadecathlon examples/pentadecathlon.rle\noscillator pentadecathlon 15\n"),
                  PENTOMINO: (20, f"load r_pentomino {PENTOMINO}\n# r_pentomino: none of these within 20 generations: 32 cells, in a box of 12 by 8, after 20\n"), "my block.rle": (0, "# my_block: my block.rle: no claim text can name this path\n"),
                  "examples/lost.rle": (0, "# lost: examples/lost.rle: no file\n"), "examples/block.rle": (1, "load block examples/block.rle\nstill block\n")}
-    words, printed = ["identify", "--limit", "20", *looked_at], "".join(it for _, it in looked_at.values()).encode()
+    words, printed = ["identify", "--limit", "20", *looked_at], "".join(["claims 2\n", *(it for _, it in looked_at.values())]).encode()
     for step in STEPS:
         shown = b"".join(identified_shown(path, 20, generations, step) for path, (generations, _) in looked_at.items())
         got, _ = refusing.run([*words, "--progress"], {"CLOCK_STEP": step})
@@ -210,6 +210,9 @@ def try_identify(tally, refusing, files):
         tally.expect(f"identify without the word, {step}", got, Outcome(printed, b"", 2))
         got = on_a_terminal(refusing, words, {"CLOCK_STEP": step})
         tally.tell(f"identify on a terminal, {step}", [] if got == (printed, shown) else [f"wanted {(printed, shown)}, got {got}"])
+        both = b"claims 2\n" + b"".join(identified_shown(path, 20, generations, step) + lines.encode() for path, (generations, lines) in looked_at.items())
+        got, _ = refusing.run([*words, "--progress"], {"CLOCK_STEP": step}, stderr=subprocess.STDOUT)
+        tally.expect(f"identify, wiped before the lines of each file, {step}", got, Outcome(both, b"", 2))
     got, _ = refusing.run([*words, "--progress"], {"CLOCK_FAILS": 1})
     tally.expect("identify, no clock", got, Outcome(printed, b"", 2))
 
@@ -220,7 +223,7 @@ def try_identify_after(tally, refusing, _):
         looked_at = {"examples/glider.rle": (4, f"load glider examples/glider.rle\n# glider after {begun} generation{'s' * (begun != 1)}: spaceship 4 1 1\n"), "my block.rle": (None, "# my_block: my block.rle: no claim text can name this path\n"),
                      "examples/empty.rle": (0, f"load empty examples/empty.rle\n# empty after {begun} generation{'s' * (begun != 1)}: no cell is live\n"), "examples/lost.rle": (None, "# lost: examples/lost.rle: no file\n"),
                      "examples/pentadecathlon.rle": (15, f"load pentadecathlon examples/pentadecathlon.rle\n# pentadecathlon after {begun} generation{'s' * (begun != 1)}: oscillator 15\n")}
-        words, printed = ["identify", "--limit", "20", "--after", str(begun), *looked_at], "".join(it for _, it in looked_at.values()).encode()
+        words, printed = ["identify", "--limit", "20", "--after", str(begun), *looked_at], "".join(["claims 2\n", *(it for _, it in looked_at.values())]).encode()
         for step in STEPS:
             shown = b"".join(identified_shown(path, 20, generations, step, begun) for path, (generations, _) in looked_at.items() if generations is not None)
             got, _ = refusing.run([*words, "--progress"], {"CLOCK_STEP": step})

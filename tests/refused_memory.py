@@ -10,7 +10,8 @@ Of each run either nothing changed, or it ended with `cafile: memory` and printe
 - a claim whose file, or a rule file, is missing, or whose rule file or RLE doesn't read, is refused for that in every run;
 - claims are refused in their order, and no run ends whole once a claim was judged.
 
-A run of `identify` prints all that it prints with ample memory, or nothing and `cafile: memory`, or of one file that memory is out.
+A run of `identify` prints all that it prints with ample memory, or of one file that memory is out; or nothing, or the lines on the first so many files, and
+`cafile: memory`.
 
 Of an explained run one claim may also be without its note, or a macrocell's note without the faulty line, or one without its rule; but where cells differ, a file is missing or a
 rule file is bad, the note is always given. Of a run over several texts one text may be told as out of
@@ -234,31 +235,35 @@ def try_words(tally, refusing):
         tell_words(tally, refusing, example_words(f"{name}.words"), ample, f"examples/{name}.words", less)
 
 
-def with_version(lines, is_explained=False):
-    """The text of `identify` with these lines on its files, and the outcome of a run that prints it, and the line of a fault where that is explained."""
-    text = "".join(("claims 2\n" * any("\ndies " in it for it in lines), *lines))
+def identified(head, lines, is_explained=False):
+    """What a run of `identify` comes to that prints these lines on its files after this, and the line of a fault where that is explained."""
     notes = [f"  {path}, line {line}\n" for it in lines for path, line in re.findall(r"^# \S+: (\S+): .*, line (\d+)$", it, re.M)]
-    return Outcome(text.encode(), "".join(notes * is_explained).encode(), 2 if any(re.search("^# .*: .*: ", it, re.M) for it in lines) else 0)
+    return Outcome((head + "".join(lines)).encode(), "".join(notes * is_explained).encode(), 2 if any(re.search("^# .*: .*: ", it, re.M) for it in lines) else 0)
 
 
 def try_identify(tally, refusing):
-    """Each allocation of some runs of `identify` in turn: all is printed, or of one file that memory is out, or nothing."""
+    """Each allocation of some runs of `identify` in turn, and all from each on: all is printed, or of one file that memory is out, or nothing, or the lines on the
+    first so many files."""
     files = {"glider": ("examples/glider.rle", "spaceship glider 4 1 1"), "diehard": ("examples/reactions/diehard.rle", "dies diehard 130"),
              "empty": ("examples/empty.rle", "# empty: no cell is live"), "blocks": ("examples/macrocell/blocks.mc", "still blocks")}
     lines = [f"load {name} {path}\n{told}\n" for name, (path, told) in files.items()]
     lines.append("# syntax: examples/bad/syntax.rle: bad pattern: rle syntax, line 2\n")
     paths = [*(path for path, _ in files.values()), "examples/bad/syntax.rle"]
-    clock = "examples/tables/wireworld_clock.rle"
-    rule = "rule examples/tables/wireworld.rule\n"
-    for words, names, wanted in ((["identify", *paths], [*files, "syntax"], lines), (["identify", "--explain", *paths], [*files, "syntax"], lines),
-                                 (["identify", "--rule", "examples/tables/wireworld.rule", clock], ["wireworld_clock"], [f"{rule}load wireworld_clock {clock}\noscillator wireworld_clock 6\n"])):
-        memory = [f"{rule * ('--rule' in words)}# {name}: {path}: memory\n" for name, path in zip(names, [it for it in words if it.endswith((".rle", ".mc"))])]
+    clock, rule = "examples/tables/wireworld_clock.rle", "examples/tables/wireworld.rule"
+    version = "claims 2\n"
+    for words, names, head, wanted in ((["identify", *paths], [*files, "syntax"], version, lines), (["identify", "--explain", *paths], [*files, "syntax"], version, lines),
+                                       (["identify", "examples/lost"], ["lost"], version, ["# lost: examples/lost: no file\n"]),
+                                       (["identify", "--rule", rule, clock], ["wireworld_clock"], f"{version}rule {rule}\n", [f"load wireworld_clock {clock}\noscillator wireworld_clock 6\n"])):
         explained = "--explain" in words
-        refused = [with_version([*wanted[:at], memory[at], *wanted[at + 1:]], explained) for at in range(len(wanted))]
-        outcomes = refusing.sweep(words, itertools.count(1))
-        complaints = [f"allocation {number}: {it}" for number, it in outcomes.items() if it not in (with_version(wanted, explained), NO_MEMORY, *refused)]
-        complaints += [f"never met: {it}" for it in (NO_MEMORY, *refused) if it not in outcomes.values()]
-        tally.tell(f"refused memory, identify {'--explain ' * explained}{' '.join(names)}: {len(outcomes)} allocations refused", complaints)
+        whole = identified(head, wanted, explained)
+        memory = [f"# {name}: {path}: memory\n" for name, path in zip(names, words[-len(names):])]
+        refused = {identified(head, [*wanted[:at], memory[at], *wanted[at + 1:]], explained) for at in range(len(wanted)) if "no file" not in wanted[at]}
+        ended = {NO_MEMORY, *(Outcome((head + "".join(wanted[:at])).encode(), NO_MEMORY.complaint, 2) for at in range(len(wanted)))}
+        for goes_on, may_be in ((False, {whole, *ended, *refused}), (True, {whole, *ended})):
+            outcomes = refusing.sweep(words, itertools.count(1), goes_on=goes_on)
+            complaints = [f"allocation {number}: {it}" for number, it in outcomes.items() if it not in may_be]
+            complaints += [f"never met: {it}" for it in may_be - {whole, *outcomes.values()}]
+            tally.tell(f"refused memory{' for good' * goes_on}, {' '.join(words)}: {len(outcomes)} allocations refused", complaints)
 
 
 def try_larger(tally, refusing):
@@ -312,7 +317,7 @@ def wrong_for_good(ample, outcomes):
 def try_for_good(tally, refusing):
     """All allocations from one on: the complaint itself takes none, and the claims that were judged before are told."""
     for words in (["verify", "examples/syntax.claims"], ["verify", "examples/lost"], ["--help"], ["verify"],
-                  ["identify", "examples/lost"], ["draw", "examples/glider.rle"], ["show", "examples/macrocell/glider.mc"], ["convert", "examples/glider.rle", "--to", "mc"], ["show", "examples/lost"]):
+                  ["draw", "examples/glider.rle"], ["show", "examples/macrocell/glider.mc"], ["convert", "examples/glider.rle", "--to", "mc"], ["show", "examples/lost"]):
         ample, outcomes = run(words), refusing.sweep(words, itertools.count(1), goes_on=True)
         wrong = wrong_ones(ample, outcomes)
         tally.tell(f"memory refused for good, {' '.join(words)}: {len(outcomes)} runs", wrong if outcomes else ["no allocation was refused"])

@@ -125,14 +125,14 @@ def try_other_paths(tally, files):
 def try_once(tally):
     """A pattern and a rule file that can be read once alone."""
     glider, spread, rule = (contents(os.path.join(ROOT, it)) for it in ("examples/glider.rle", SPREAD, RULE))
-    told = b"load stdin /dev/stdin\nspaceship stdin 4 1 1\n"
+    told = b"claims 2\nload stdin /dev/stdin\nspaceship stdin 4 1 1\n"
     for words in ([], ["--explain"], ["--progress"], ["--limit", "4"], ["--after", "0"], ["--rules", "examples/rules"]):
         tally.expect(f"identify {' '.join(words)}, from a pipe", run(["identify", "/dev/stdin", *words], input=glider), ample(told))
     for words, path in ((["--rule", RULE], RULE), (["--rules", "examples/rules"], "examples/rules/Spread.rule")):
         got = run(["identify", "--limit", "1", "/dev/stdin", *words], input=spread)
-        tally.expect(f"identify {' '.join(words)}, from a pipe", got, ample(f"rule {path}\nload stdin /dev/stdin\n# stdin: {GROWTH}\n".encode()))
+        tally.expect(f"identify {' '.join(words)}, from a pipe", got, ample(f"claims 2\nrule {path}\nload stdin /dev/stdin\n# stdin: {GROWTH}\n".encode()))
     got = run(["identify", "--limit", "1", SPREAD, "--rule", "/dev/stdin"], input=rule)
-    tally.expect("identify, a rule file from a pipe", got, ample(f"rule /dev/stdin\nload spread_1 {SPREAD}\n# spread_1: {GROWTH}\n".encode()))
+    tally.expect("identify, a rule file from a pipe", got, ample(f"claims 2\nrule /dev/stdin\nload spread_1 {SPREAD}\n# spread_1: {GROWTH}\n".encode()))
     for words in (["show"], ["convert", "--to", "rle"], ["convert", "--to", "mc"], ["draw"], ["show", "--after", "3"], ["draw", "--after", "3", "--to", "pgm"]):
         tally.expect(f"{' '.join(words)}, from a pipe", run([*words, "/dev/stdin"], input=glider), run([*words, "examples/glider.rle"]))
         by_path = run([*words, SPREAD, "--rule", RULE])

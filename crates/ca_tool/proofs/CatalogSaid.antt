@@ -5,7 +5,7 @@ use Rattle.std.specs.Fmt.{signed_decimal}
 use Rattle.std.specs.List.{flat_map, list_any}
 use Rattle.std.specs.Option.{option_or}
 use Rattle.std.specs.Str.{bytes_eq}
-use Rattle.std.proofs.lemmas.Bool.{cases_Bool, or_left, or_right, or_parts, false≢true}
+use Rattle.std.proofs.lemmas.Bool.{cases_Bool, or_parts, false≢true}
 use Rattle.std.proofs.lemmas.List.{append-nil}
 use Rattle.std.proofs.lemmas.Slice.Eq.{bytes_eq-Decides}
 use Rattle.ca_plane.specs.Bytes.{Every, IsWord, lines_of}
@@ -34,8 +34,8 @@ use Rattle.ca_tool.specs.declared.entry.Outcome.TheVariants.{Unnameable, Identif
 use Rattle.ca_tool.specs.declared.entry.Entry.{Entry}
 use Rattle.ca_tool.specs.Printed.{cause_text, at_line, generations_word, side_length}
 use Rattle.ca_tool.specs.Names.{is_claim_path, is_taken}
-use Rattle.ca_tool.specs.Catalog.{cells_word, growth_text, none_text, later_text, later_line, found_line, refused_line, claims_death, identity_line, line_byte, entry_lines, outcome_lines, rule_line, version_line, catalog_text, is_death, IsContentOutcome, IsEntry, AreEntries}
-use Rattle.ca_tool.specs.CatalogSays.{claim_line, identity_says, found_says, outcome_says, entry_says, version_says, AreRuleWords, SaysItsClaims}
+use Rattle.ca_tool.specs.Catalog.{cells_word, growth_text, none_text, later_text, later_line, found_line, refused_line, identity_line, line_byte, entry_lines, outcome_lines, rule_line, version_line, catalog_head, catalog_text, IsContentOutcome, IsEntry, AreEntries}
+use Rattle.ca_tool.specs.CatalogSays.{claim_line, identity_says, found_says, outcome_says, entry_says, AreRuleWords, SaysItsClaims}
 use Rattle.ca_tool.proofs.Saying.{is_inner, TextSays, says_none, says_then, says_words, says_comment, inner_word, line_end, line_more}
 use Rattle.ca_tool.proofs.NameWords.{word_by_test, path_word, free_word, digits_word, integer_word, decimal_inner, signed_inner, line_bytes_inner}
 use Rattle.ca_tool.proofs.CauseLines.{cause_inner, at_inner}
@@ -70,9 +70,9 @@ none_inner limit last growth =
     (inner_then (generations_word limit) told (generations_inner limit) (inner_then (codes ": ") (growth_text growth ++ after) refl
     (inner_then (growth_text growth) after (growth_inner growth) (inner_then (codes ", after ") (decimal last) refl (decimal_inner last)))))
 
--- the line on what a pattern is says its claim, after lines that load the name, and begin with the version where the pattern dies
+-- the line on what a pattern is says its claim, after lines that begin with the version and load the name
 identity_said : (next : List ℕ → ℕ) (cells : Picture) (limit : ℕ) (earlier : List ClaimTextLine) (name : List ℕ) (identity : Identity)
-    → IsIdentity next cells limit identity → IsWord name → IsSome (path_of earlier name) → (is_death (Identified identity) ≡ true → is_second earlier ≡ true)
+    → IsIdentity next cells limit identity → IsWord name → IsSome (path_of earlier name) → is_second earlier ≡ true
     → TextSays earlier (identity_line limit name identity) (identity_says name identity)
 identity_said next cells limit earlier name Empty is word loaded second =
     says_comment earlier _ (line_more name _ (inner_word name word) (line_more (codes ": no cell is live") _ refl line_end))
@@ -95,7 +95,7 @@ identity_said next cells limit earlier name (Dies generations) is word loaded se
     let good = is.numbers in
     let writes = decimal_writes generations (omega (arith, good.1)) in
     says_words earlier (codes "dies" ∷ name ∷ decimal generations ∷ []) (claim_line name (kind.Dies generations)) (refl, (word, (digits_word (decimal generations) writes.0, tt))) refl
-    ((decimal generations, refl, writes.0, writes.1, refl), second refl) (good, (loaded, tt))
+    ((decimal generations, refl, writes.0, writes.1, refl), second) (good, (loaded, tt))
 identity_said next cells limit earlier name (Unknown growth) is word loaded second =
     says_comment earlier _ (line_more name _ (inner_word name word) (line_more (codes ": ") _ refl (line_more (none_text limit limit growth) _ (none_inner limit limit growth) line_end)))
 
@@ -119,10 +119,10 @@ later_said n limit earlier name identity word =
 
 -- the line on what is found says the claim where it is found of the pattern itself
 found_said : (next : List ℕ → ℕ) (cells : Picture) (n limit : ℕ) (earlier : List ClaimTextLine) (name : List ℕ) (identity : Identity)
-    → IsIdentity next cells limit identity → IsWord name → IsSome (path_of earlier name) → (nat_eq n 0 ≡ true → is_death (Identified identity) ≡ true → is_second earlier ≡ true)
+    → IsIdentity next cells limit identity → IsWord name → IsSome (path_of earlier name) → is_second earlier ≡ true
     → TextSays earlier (found_line n limit name identity) (found_says n name identity)
 found_said next cells n limit earlier name identity is word loaded second = elim (cases_Bool (nat_eq n 0)) [
-  | inl e ↦ rw e (identity_said next cells limit earlier name identity is word loaded (second e))
+  | inl e ↦ rw e (identity_said next cells limit earlier name identity is word loaded second)
   | inr e ↦ rw e (later_said n limit earlier name identity word)
 ]
 
@@ -146,9 +146,9 @@ refused_said earlier name path cause line word fits =
     says_comment earlier _ (line_more name _ (inner_word name word) (line_more (codes ": ") _ refl (line_more path _ (inner_word path (path_word path fits)) (line_more (codes ": ") _ refl
     (line_more (cause_text cause) _ (cause_inner cause) (line_more (at_line line) _ (at_inner line) line_end))))))
 
--- the lines on a file say its name and its claim, after lines that don't load the name
+-- the lines on a file say its name and its claim, after lines that begin with the version and don't load the name
 outcome_said : (tables : List TableRule) (work n limit : ℕ) (earlier : List ClaimTextLine) (name path : List ℕ) (content : Content) (outcome : Outcome)
-    → is_claim_path path ≡ true → IsContentOutcome tables work n limit content outcome → IsWord name → path_of earlier name ≡ None → (nat_eq n 0 ≡ true → is_death outcome ≡ true → is_second earlier ≡ true)
+    → is_claim_path path ≡ true → IsContentOutcome tables work n limit content outcome → IsWord name → path_of earlier name ≡ None → is_second earlier ≡ true
     → TextSays earlier (outcome_lines n limit name path outcome) (outcome_says n name path outcome)
 outcome_said tables work n limit earlier name path content Unnameable fits is word free second = absurd is
 outcome_said tables work n limit earlier name path content (Refused why) fits is word free second = refused_said earlier name path why.fault why.line word fits
@@ -158,7 +158,7 @@ outcome_said tables work n limit earlier name path (FaultyRule rule) (Identified
 outcome_said tables work n limit earlier name path (Bytes bytes) (Identified identity) fits (cells, rule, holds, (later, stands, is)) word free second =
     says_then earlier _ _ (Load name path ∷ []) (found_says n name identity)
     (says_words earlier (codes "load" ∷ name ∷ path ∷ []) (Load name path) (refl, (word, (path_word path fits, tt))) refl refl free)
-    (found_said _ later n limit (earlier ++ Load name path ∷ []) name identity is word (loaded_now earlier name path free) (λ now dies. second_stays earlier (Load name path ∷ []) (second now dies)))
+    (found_said _ later n limit (earlier ++ Load name path ∷ []) name identity is word (loaded_now earlier name path free) (second_stays earlier (Load name path ∷ []) second))
 
 -- the comment on a file that can't be named says nothing
 unnameable_said : (n limit : ℕ) (earlier : List ClaimTextLine) (name path : List ℕ) (outcome : Outcome) → outcome ≡ Unnameable → IsWord name
@@ -169,7 +169,7 @@ unnameable_said n limit earlier name path outcome e word =
     (line_more (codes ": no claim text can name this path") _ refl line_end)))))
 
 entry_said : (tables : List TableRule) (work n limit : ℕ) (taken : List (List ℕ)) (earlier : List ClaimTextLine) (subject : Subject) (entry : Entry) → IsEntry tables work n limit taken subject entry
-    → path_of earlier entry.name.items ≡ None → (nat_eq n 0 ≡ true → is_death entry.outcome ≡ true → is_second earlier ≡ true) → TextSays earlier (entry_lines n limit entry) (entry_says n entry)
+    → path_of earlier entry.name.items ≡ None → is_second earlier ≡ true → TextSays earlier (entry_lines n limit entry) (entry_says n entry)
 entry_said tables work n limit taken earlier subject entry is free second =
     let word = free_word taken subject.path.now entry.name.items is.name in
     elim is.outcome [
@@ -209,22 +209,22 @@ free_after taken name other h =
     let parts = or_parts (is_taken taken other) (list_any (bytes_eq other) (name ∷ [])) (sym (any_more (bytes_eq other) taken name) ∙ h) in
     (parts.0, (or_parts (bytes_eq other name) false parts.1).0)
 
--- the text of entries says their names and claims, after lines that load none of their names, and begin with the version where some pattern dies
+-- the text of entries says their names and claims, after lines that begin with the version and load none of their names
 entries_said : (tables : List TableRule) (work n limit : ℕ) (taken : List (List ℕ)) (earlier : List ClaimTextLine) (subjects : List Subject) (entries : List Entry)
     → AreEntries tables work n limit taken subjects entries → ((name : List ℕ) → is_taken taken name ≡ false → path_of earlier name ≡ None)
-    → (nat_eq n 0 ≡ true → list_any (λ (e : Entry). is_death e.outcome) entries ≡ true → is_second earlier ≡ true) → TextSays earlier (flat_map (entry_lines n limit) entries) (flat_map (entry_says n) entries)
+    → is_second earlier ≡ true → TextSays earlier (flat_map (entry_lines n limit) entries) (flat_map (entry_says n) entries)
 entries_said tables work n limit taken earlier [] [] all free second = says_none earlier
 entries_said tables work n limit taken earlier [] (e ∷ es) all free second = absurd all
 entries_said tables work n limit taken earlier (s ∷ ss) [] all free second = absurd all
 entries_said tables work n limit taken earlier (s ∷ ss) (e ∷ es) all free second =
-    let one = entry_said tables work n limit taken earlier s e all.0 (free e.name.items all.0.name.new) (λ now dies. second now (or_left (is_death e.outcome) (list_any (λ (f : Entry). is_death f.outcome) es) dies)) in
+    let one = entry_said tables work n limit taken earlier s e all.0 (free e.name.items all.0.name.new) second in
     says_then earlier _ _ (entry_says n e) (flat_map (entry_says n) es) one
     (entries_said tables work n limit (taken ++ e.name.items ∷ []) (earlier ++ entry_says n e) ss es all.1
     (λ name new.
     let parts = free_after taken e.name.items name new in
     path_of-append earlier (entry_says n e) name ∙ ap (λ p. option_or p (path_of (entry_says n e) name)) (free name parts.0)
     ∙ no_other n e.name.items e.path.now name e.outcome (other_way name e.name.items parts.1))
-    (λ now dies. second_stays earlier (entry_says n e) (second now (or_right (is_death e.outcome) (list_any (λ (f : Entry). is_death f.outcome) es) dies))))
+    (second_stays earlier (entry_says n e) second))
 
 -- what the lines of rule files say
 abbrev rules_say : List File → List ClaimTextLine
@@ -242,25 +242,17 @@ rules_load [] name = refl
 rules_load (f ∷ fs) name = rules_load fs name
 
 -- the line of the version says it
-version_said : (n : ℕ) (entries : List Entry) → TextSays [] (version_line n entries) (version_says n entries)
-version_said n entries = elim (cases_Bool (claims_death n entries)) [
-  | inl e ↦ rw e (says_words [] (codes "claims" ∷ codes "2" ∷ []) Version (refl, (refl, tt)) refl (refl, refl) tt)
-  | inr e ↦ rw e (says_none [])
-]
-
-version_loads : (n : ℕ) (entries : List Entry) (name : List ℕ) → path_of (version_says n entries) name ≡ None
-version_loads n entries name = elim (cases_Bool (claims_death n entries)) [ inl e ↦ rw e refl | inr e ↦ rw e refl ]
+version_said : TextSays [] version_line (Version ∷ [])
+version_said = says_words [] (codes "claims" ∷ codes "2" ∷ []) Version (refl, (refl, tt)) refl (refl, refl) tt
 
 -- the whole text says all that
 pub catalog_said : SaysItsClaims
 catalog_said subjects rules work n limit text entries words catalog =
-    let version = version_says n entries in
+    let version = Version ∷ [] in
     let before = version ++ rules_say rules in
-    let all = says_then [] (version_line n entries) (flat_map rule_line rules ++ flat_map (entry_lines n limit) entries) version (rules_say rules ++ flat_map (entry_says n) entries) (version_said n entries)
-    (says_then version (flat_map rule_line rules) (flat_map (entry_lines n limit) entries) (rules_say rules) (flat_map (entry_says n) entries) (rules_said version rules words)
-    (entries_said catalog.tables work n limit [] before subjects entries catalog.holds
-    (λ name new. path_of-append version (rules_say rules) name ∙ ap (λ p. option_or p (path_of (rules_say rules) name)) (version_loads n entries name) ∙ rules_load rules name)
-    (λ now dies. second_stays version (rules_say rules) (rw (now, dies) refl)))) in
+    let head = says_then [] version_line (flat_map rule_line rules) version (rules_say rules) version_said (rules_said version rules words) in
+    let all = says_then [] (catalog_head rules) (flat_map (entry_lines n limit) entries) before (flat_map (entry_says n) entries) head
+    (entries_said catalog.tables work n limit [] before subjects entries catalog.holds (λ name new. rules_load rules name) refl) in
     let here : lines_of text ≡ all.lines =
     ap lines_of catalog.lines ∙ ap lines_of (sym (append-nil (catalog_text n limit rules entries))) ∙ all.split [] ∙ append-nil all.lines in
     record { said = all.said; reads = subst (λ ls. ClaimLinesSay [] ls all.said) (sym here) all.good; says = all.all }

@@ -1,12 +1,17 @@
--- Entries on files, one more after others.
-use Rattle.std.proofs.Common.{◌≡◌, ℕ, ◌+◌, List, [], ◌∷◌, ◌++◌, map, take, slice_get, Some, add-one, subst, sym, ap, ◌∙◌, append_assoc}
+-- Entries on files and their lines, one more after others.
+use Rattle.std.proofs.Common.{◌≡◌, ℕ, ◌+◌, List, [], ◌∷◌, ◌++◌, map, take, slice_get, Option, Some, add-one, subst, sym, ap, ◌∙◌, append_assoc}
+use Rattle.std.specs.List.{flat_map}
+use Rattle.std.specs.Io.KnownBytes.{Appends}
 use Rattle.std.proofs.Math.Seq.{take-suc}
 use Rattle.std.proofs.lemmas.List.{append-nil, map-append}
 use Rattle.std.proofs.lemmas.Option.{slice_get_within, get_or_from_slice_get}
+use Rattle.std.proofs.lemmas.List.Concat.{flat_map-append}
+use Rattle.ca_plane.specs.Device.{AppendsPrefix}
+use Rattle.ca_plane.proofs.Sends.{sent_both, prefix_of_second}
 use Rattle.ca_rule.specs.TableNext.{TableRule}
 use Rattle.ca_tool.specs.declared.entry.Subject.{Subject}
 use Rattle.ca_tool.specs.declared.entry.Entry.{Entry}
-use Rattle.ca_tool.specs.Catalog.{IsEntry, AreEntries}
+use Rattle.ca_tool.specs.Catalog.{entry_lines, IsEntry, AreEntries}
 
 -- the names of entries
 abbrev pub names_of : List Entry → List (List ℕ)
@@ -39,3 +44,25 @@ entries_next tables work n limit subjects i subject entries next entry names new
       (subst (λ l. AreEntries tables work n limit [] l (entries ++ entry ∷ [])) (sym (take-more subjects i subject at))
       (entries_more tables work n limit [] (take i subjects) entries subject entry all (subst (λ l. IsEntry tables work n limit l subject entry) before is))),
 )
+
+-- the lines on some entries, and on one more
+lines_more : (n limit : ℕ) (entries : List Entry) (entry : Entry)
+    → flat_map (entry_lines n limit) (entries ++ entry ∷ []) ≡ flat_map (entry_lines n limit) entries ++ entry_lines n limit entry
+lines_more n limit entries entry =
+    flat_map-append (entry_lines n limit) entries (entry ∷ []) ∙ ap (λ l. flat_map (entry_lines n limit) entries ++ l) (append-nil (entry_lines n limit entry))
+
+-- the lines on the entries so far were written, and then those on one more
+pub lines_next : (n limit : ℕ) (old mid new : Option (List ℕ)) (entries next : List Entry) (entry : Entry) (text : List ℕ)
+    → Appends old mid (flat_map (entry_lines n limit) entries) → text ≡ entry_lines n limit entry → next ≡ entries ++ entry ∷ [] → Appends mid new text
+    → Appends old new (flat_map (entry_lines n limit) next)
+lines_next n limit old mid new entries next entry text sent put pushed more =
+    subst (Appends old new) (sym (ap (flat_map (entry_lines n limit)) pushed ∙ lines_more n limit entries entry))
+    (sent_both old mid new (flat_map (entry_lines n limit) entries) (entry_lines n limit entry) sent (subst (Appends mid new) put more))
+
+-- or those in part
+pub lines_in_part : (n limit : ℕ) (old mid new : Option (List ℕ)) (entries next : List Entry) (entry : Entry) (text : List ℕ)
+    → Appends old mid (flat_map (entry_lines n limit) entries) → text ≡ entry_lines n limit entry → next ≡ entries ++ entry ∷ [] → AppendsPrefix mid new text
+    → AppendsPrefix old new (flat_map (entry_lines n limit) next)
+lines_in_part n limit old mid new entries next entry text sent put pushed more =
+    subst (AppendsPrefix old new) (sym (ap (flat_map (entry_lines n limit)) pushed ∙ lines_more n limit entries entry))
+    (prefix_of_second old mid new (flat_map (entry_lines n limit) entries) (entry_lines n limit entry) sent (subst (AppendsPrefix mid new) put more))

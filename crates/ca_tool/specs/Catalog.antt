@@ -1,9 +1,11 @@
 -- What `identify` prints: a claim text with the claims that are true of files, and the lines of `--explain` (our own; docs/CLAIMS.md).
-use Rattle.std.specs.Prelude.{◌≡◌, ◌≢◌, ℕ, List, [], ◌∷◌, ◌++◌, ◌+◌, map, Bool, true, false, ◌&&◌, codes, decimal, nat_eq, if◌then◌else◌, Option, None, ◌⊎◌}
+use Rattle.std.specs.Prelude.{◌≡◌, ◌≢◌, ℕ, List, [], ◌∷◌, ◌++◌, ◌+◌, map, Bool, true, false, codes, decimal, nat_eq, if◌then◌else◌, Option, None, ◌⊎◌}
 use Rattle.std.specs.Fmt.{signed_decimal}
-use Rattle.std.specs.List.{flat_map, list_any, list_all, AllZip}
+use Rattle.std.specs.List.{flat_map, list_all, AllZip}
 use Rattle.ca_plane.specs.Bytes.{is_line_end}
+use Rattle.ca_plane.specs.Device.{Counted}
 use Rattle.ca_rule.specs.TableNext.{TableRule}
+use Rattle.ca_rule.specs.declared.table.fault.TableFault.{TableFault}
 use Rattle.ca_claims.specs.declared.file.File.{File}
 use Rattle.ca_claims.specs.declared.identity.Identity.{Identity}
 use Rattle.ca_claims.specs.declared.identity.Identity.TheVariants.{Empty, StillLife, Oscillator, Spaceship, Dies, Unknown}
@@ -23,6 +25,7 @@ use Rattle.ca_tool.specs.declared.fault.ToolFault.{ToolFault}
 use Rattle.ca_tool.specs.declared.fault.ToolFault.TheVariants as tools
 use Rattle.ca_tool.specs.Printed.{cause_text, at_line, generations_word, side_length, rule_file_line, cause_explanation}
 use Rattle.ca_tool.specs.Names.{is_claim_path, claim_name, IsFreeName}
+use Rattle.ca_tool.specs.Writing.{WritesOn, WritesOnFirst, WritesPartOn}
 
 -- the line that gives a name to a file
 abbrev pub load_line : List ℕ → List ℕ → List ℕ
@@ -95,22 +98,17 @@ entry_lines n limit entry = outcome_lines n limit entry.name.items entry.path.no
 abbrev pub rule_line : File → List ℕ
 rule_line file = codes "rule " ++ (file.path.now ++ 10 ∷ [])
 
--- the pattern dies: the claim that says so came with the second version of the language
-abbrev pub is_death : Outcome → Bool
-is_death (Identified (Dies generations)) = true
-is_death outcome = false
+-- the first line of the text, since `dies` came with the second version of the language
+abbrev pub version_line : List ℕ
+version_line = codes "claims 2" ++ 10 ∷ []
 
--- some pattern dies, and the text claims it
-abbrev pub claims_death : ℕ → List Entry → Bool
-claims_death n entries = nat_eq n 0 && list_any (λ entry. is_death entry.outcome) entries
+-- the head of the text: its version and the rule files
+abbrev pub catalog_head : List File → List ℕ
+catalog_head rules = version_line ++ flat_map rule_line rules
 
--- the first line of a text that needs the second version
-abbrev pub version_line : ℕ → List Entry → List ℕ
-version_line n entries = if claims_death n entries then codes "claims 2" ++ 10 ∷ [] else []
-
--- the whole text: its version, where it needs the second one, the rule files, and the lines on each file
+-- the whole text: its head, and the lines on each file
 abbrev pub catalog_text : (n limit : ℕ) → List File → List Entry → List ℕ
-catalog_text n limit rules entries = version_line n entries ++ (flat_map rule_line rules ++ flat_map (entry_lines n limit) entries)
+catalog_text n limit rules entries = catalog_head rules ++ flat_map (entry_lines n limit) entries
 
 -- the file is identified
 abbrev pub is_identified : Outcome → Bool
@@ -171,16 +169,28 @@ abbrev pub AreRuleTables : List File → List TableRule → Type 0
 AreRuleTables rules tables = AllZip (λ file table. IsQuietTable file.bytes.now table) rules tables
 
 -- these are true entries on these files, under the tables of the rule files, and the text has their lines
-pub record IsCatalog (subjects : List Subject) (rules : List File) (work n limit : ℕ) (text : List ℕ)
+pub record IsCatalog (rules : List File) (work n limit : ℕ) (subjects : List Subject) (text : List ℕ)
     (entries : List Entry) : Type 0 where
   pub tables : List TableRule
   pub known : AreRuleTables rules tables
   pub holds : AreEntries tables work n limit [] subjects entries
   pub lines : text ≡ catalog_text n limit rules entries
 
--- why no text is written: this is the fault of the first rule file that is no good table, or memory is out
-abbrev pub IsCatalogFault : List Subject → List File → ToolFault → Type 0
-IsCatalogFault subjects rules (tools.BadTable fault) =
-    FirstBad (λ file. (table : TableRule) × IsQuietTable file.bytes.now table) (λ file. IsTableFault file.bytes.now fault) rules
-IsCatalogFault subjects rules tools.Memory = (subjects ≢ []) ⊎ (rules ≢ [])
-IsCatalogFault subjects rules told = ⊥
+-- this is the fault of the first rule file that is no good table
+abbrev pub IsFirstBadTable : List File → TableFault → Type 0
+IsFirstBadTable rules fault = FirstBad (λ file. (table : TableRule) × IsQuietTable file.bytes.now table) (λ file. IsTableFault file.bytes.now fault) rules
+
+-- the whole text on these files is written, with these entries
+abbrev pub WritesCatalog : {W : Type 0} → (W → Option (List ℕ)) → Counted W → Counted W → List File → (work n limit : ℕ) → List Subject
+    → List Entry → Type 0
+WritesCatalog contents old new rules work n limit subjects entries = WritesOn contents old new (IsCatalog rules work n limit) subjects entries
+
+-- why it isn't, and what is written: a write failed, after a first part of the text on the first so many files; memory is out for the lines on a file, and the
+-- text on those before it is written, or it is out for the rule files, and nothing is; or nothing is, for the fault of the first one that is no good table
+abbrev pub EndsCatalog : {W : Type 0} → (W → Option (List ℕ)) → Counted W → Counted W → List File → (work n limit : ℕ) → List Subject
+    → ToolFault → Type 0
+EndsCatalog contents old new rules work n limit subjects tools.Write = WritesPartOn contents old new (IsCatalog rules work n limit) subjects
+EndsCatalog contents old new rules work n limit subjects tools.Memory =
+    WritesOnFirst contents old new (IsCatalog rules work n limit) subjects ⊎ ((rules ≢ []) × (new ≡ old))
+EndsCatalog contents old new rules work n limit subjects (tools.BadTable fault) = IsFirstBadTable rules fault × (new ≡ old)
+EndsCatalog contents old new rules work n limit subjects told = ⊥

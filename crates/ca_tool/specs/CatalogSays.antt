@@ -12,7 +12,7 @@ use Rattle.ca_tool.specs.declared.entry.Outcome.TheVariants.{Identified}
 use Rattle.ca_tool.specs.declared.entry.Entry.{Entry}
 use Rattle.ca_tool.specs.declared.entry.Subject.{Subject}
 use Rattle.ca_tool.specs.Names.{is_word}
-use Rattle.ca_tool.specs.Catalog.{claims_death, IsCatalog}
+use Rattle.ca_tool.specs.Catalog.{IsCatalog}
 
 -- a claim of this kind about the pattern of a name
 abbrev pub claim_line : List ℕ → Kind → ClaimTextLine
@@ -39,13 +39,9 @@ outcome_says n name path outcome = []
 abbrev pub entry_says : ℕ → Entry → List ClaimTextLine
 entry_says n entry = outcome_says n entry.name.items entry.path.now entry.outcome
 
--- the version, where some pattern dies
-abbrev pub version_says : ℕ → List Entry → List ClaimTextLine
-version_says n entries = if claims_death n entries then Version ∷ [] else []
-
 -- the version, the rule files, and each file's lines
 abbrev pub catalog_says : ℕ → List File → List Entry → List ClaimTextLine
-catalog_says n rules entries = version_says n entries ++ (map (λ file. Rule file.path.now) rules ++ flat_map (entry_says n) entries)
+catalog_says n rules entries = Version ∷ (map (λ file. Rule file.path.now) rules ++ flat_map (entry_says n) entries)
 
 -- the text is a claim text, and its lines that aren't skipped say just this
 pub record SaysOf (text : List ℕ) (lines : List ClaimTextLine) : Type 0 where
@@ -57,7 +53,8 @@ pub record SaysOf (text : List ℕ) (lines : List ClaimTextLine) : Type 0 where
 abbrev pub AreRuleWords : List File → Type 0
 AreRuleWords rules = AllByRecursion (λ file. is_word file.path.now ≡ true) rules
 
--- the text that `identify` prints says just the claims that are true of the patterns; after some generations it makes no claim
+-- the text that `identify` prints says just the claims that are true of the patterns, and so does what is printed of it after each file, which is the text on
+-- the first so many of the files; after some generations it makes no claim
 abbrev pub SaysItsClaims : Type 0
 SaysItsClaims = (subjects : List Subject) (rules : List File) (work n limit : ℕ) (text : List ℕ) (entries : List Entry) → AreRuleWords rules
-    → IsCatalog subjects rules work n limit text entries → SaysOf text (catalog_says n rules entries)
+    → IsCatalog rules work n limit subjects text entries → SaysOf text (catalog_says n rules entries)

@@ -1,20 +1,20 @@
-//! What came of files that were to be identified: the claim text, the exit status, and the lines of `--explain`.
+//! What came of files that were to be identified: the head of the claim text, the exit status, and the lines of
+//! `--explain`.
 
-ghost use Rattle.std.specs.Prelude.{◌≡◌, ◌≢◌, ◌<◌, ◌+◌, ◌^◌, [], IfOk, OnOk, OnErr, ◌⊎◌};
-ghost use Rattle.std.specs.List.{list_any, list_all, flat_map};
+ghost use Rattle.std.specs.Prelude.{◌≡◌, ◌≢◌, ◌++◌, [], IfOk, OnOk, OnErr};
+ghost use Rattle.std.specs.List.{list_all, flat_map};
 ghost use Rattle.ca_plane.specs.Puts.{Puts};
-ghost use Rattle.ca_tool.specs.Catalog.{is_death, claims_death, is_identified};
-ghost use Rattle.ca_tool.specs.Catalog.{version_line, rule_line, entry_lines, catalog_text};
+ghost use Rattle.ca_tool.specs.Catalog.{version_line, rule_line, is_identified};
 ghost use Rattle.ca_tool.specs.Catalog.{catalog_status, catalog_explanation};
 ghost use Rattle.ca_tool.specs.CatalogSays.{SaysItsClaims};
 ghost use Rattle.ca_tool.specs.Writing.{Sends};
+ghost use Rattle.ca_tool.specs.inner.Pieces.{pieces_text};
 
 use crate::entry::{Entry, Outcome};
-use crate::entry_lines::{push_entry, push_rule};
+use crate::entry_lines::push_rule;
 use crate::explanation::outcome_explanation_pieces;
-use crate::pieces::send_pieces;
-use ca_claims::{File, Identity};
-use ca_plane::text::push_text;
+use crate::pieces::{Piece, in_pieces, send_pieces};
+use ca_claims::File;
 use ca_plane::{Dev, Memory, WriteFault};
 use std::alloc::Global;
 use std::io::Write;
@@ -79,18 +79,6 @@ fn explain_entries<'a, W: Write>(
     Ok(())
 }
 
-fn is_death(outcome: &Outcome<'_>) -> bool
-    ensures { result ≡ is_death outcome.now }
-{
-    matches!(outcome, Outcome::Identified(Identity::Dies { .. }))
-}
-
-fn has_death(entries: &[Entry<'_>]) -> bool
-    ensures { result ≡ list_any (λ entry. is_death entry.outcome) entries.now }
-{
-    entries.iter().any(|entry| is_death(&entry.outcome))
-}
-
 fn is_identified(outcome: &Outcome<'_>) -> bool
     ensures { result ≡ is_identified outcome.now }
 {
@@ -110,45 +98,18 @@ fn catalog_status(entries: &[Entry<'_>]) -> u8
     if are_identified(entries) { 0 } else { 2 }
 }
 
-/// The whole claim text.
+/// The lines of the rule files.
 ///
 /// # Errors
 ///
-/// Fails where there is no memory for it.
-pub(crate) fn catalog_text(
-    alloc: Global,
-    generations: u64,
-    limit: u64,
-    rules: &[File<'_>],
-    entries: &[Entry<'_>],
-) -> Result<Vec<u8>, Memory>
-    requires { generations + limit < 2 ^ 64 }
-    ensures text { IfOk result (λ text. text.items ≡ catalog_text generations limit rules.now entries.now) }
-    ensures memory { OnErr result ((entries.now ≢ []) ⊎ (rules.now ≢ [])) }
+/// Fails where there is no memory for them.
+pub(crate) fn rules_text(alloc: Global, rules: &[File<'_>]) -> Result<Vec<u8>, Memory>
+    ensures text { IfOk result (λ text. text.items ≡ flat_map rule_line rules.now) }
+    ensures memory { OnErr result (rules.now ≢ []) }
 {
     let mut text = Vec::new(alloc);
-    push_version(&mut text, generations, entries)?;
     push_rules(&mut text, rules)?;
-    push_entries(&mut text, generations, limit, entries)?;
     Ok(text)
-}
-
-// Whether the text has a claim that some pattern dies.
-fn claims_death(generations: u64, entries: &[Entry<'_>]) -> bool
-    ensures { result ≡ claims_death generations entries.now }
-{
-    generations == 0 && has_death(entries)
-}
-
-// Puts the line of the version, where a text with these entries needs the second one.
-fn push_version(out: &mut Vec<u8>, generations: u64, entries: &[Entry<'_>]) -> Result<(), Memory>
-    ensures puts { OnOk result (Puts out.old.items out.new.items (version_line generations entries.now)) }
-    ensures memory { OnErr result (entries.now ≢ []) }
-{
-    if claims_death(generations, entries) {
-        push_text(out, b"claims 2\n")?;
-    }
-    Ok(())
 }
 
 fn push_rules(out: &mut Vec<u8>, rules: &[File<'_>]) -> Result<(), Memory>
@@ -161,26 +122,17 @@ fn push_rules(out: &mut Vec<u8>, rules: &[File<'_>]) -> Result<(), Memory>
     Ok(())
 }
 
-fn push_entries(
-    out: &mut Vec<u8>,
-    generations: u64,
-    limit: u64,
-    entries: &[Entry<'_>],
-) -> Result<(), Memory>
-    requires { generations + limit < 2 ^ 64 }
-    ensures puts { OnOk result (Puts out.old.items out.new.items
-        (flat_map (entry_lines generations limit) entries.now)) }
-    ensures memory { OnErr result (entries.now ≢ []) }
+/// The head of a claim text in pieces: its version, and the lines of the rule files.
+pub(crate) fn head_pieces<'a>(rule_lines: &'a [u8]) -> [Piece<'a>; 2]
+    ensures { pieces_text result ≡ version_line ++ rule_lines.now }
 {
-    'entries: for entry in entries {
-        push_entry(out, generations, limit, entry)?;
-    }
-    Ok(())
+    in_pieces![text b"claims 2\n", text rule_lines]
 }
 
-/// A law: the text that `identify_run` writes is a claim text. Read as one, as `ca_claims::read_claims` reads it, it
-/// says just the names of the files that are identified and the claims that are true of them, and the rule files,
-/// whose paths have to be words; and no line of it is faulty. Of planes some generations on it makes no claim.
+/// A law: the text that `identify_run` writes is a claim text, and so is what it has written of it after each file,
+/// which is the text on the first so many of them. Read as one, as `ca_claims::read_claims` reads it, it says just
+/// the names of the files that are identified and the claims that are true of them, and the rule files, whose paths
+/// have to be words; and no line of it is faulty. Of planes some generations on it makes no claim.
 pub fn says_its_claims()
     ensures { SaysItsClaims }
 {}

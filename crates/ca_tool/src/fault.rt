@@ -20,7 +20,8 @@ pub enum InputFault {
 }
 
 /// Why a run ended without its whole text being written: the first of these that holds, but that `Memory` may
-/// come before any other. On all but `Write` nothing was written.
+/// come before any other. On all but `Write` nothing was written, but that a run that identifies files may have
+/// written the text on the first ones, and is out of memory then.
 #[derive(Clone, Copy, Debug, PartialEq, Eq, Error)]
 pub enum ToolFault {
     /// The file was not read.

@@ -1,21 +1,23 @@
-//! Runs of `identify`: pattern files in, a claim text out with the claims that are true of them.
+//! Runs of `identify`: pattern files in, a claim text out with the claims that are true of them, those of each file before
+//! the next one is identified.
 
-ghost use Rattle.std.specs.Prelude.{◌≡◌, ◌≢◌, ◌≤◌, ◌<◌, ◌+◌, ◌++◌, ◌∷◌, List, [], IfOk, IfErr, OnErr};
+ghost use Rattle.std.specs.Prelude.{◌≡◌, ◌≢◌, ◌≤◌, ◌++◌, ◌∷◌, [], IfOk, IfErr, OnOk, OnErr};
 ghost use Rattle.ca_rule.specs.TableNext.{TableRule};
 ghost use Rattle.ca_rule.specs.declared.table.fault.TableFault.TheVariants as table_fault;
 ghost use Rattle.ca_claims.specs.Answers.{IsQuietTable, IsTableFault, FirstBad};
 ghost use Rattle.ca_claims.specs.Limited.{AreGoodLimits};
 ghost use Rattle.ca_plane.specs.Limits.{longest_period, most_generations};
-ghost use Rattle.ca_tool.specs.declared.entry.Entry.{Entry as CatalogEntry};
-ghost use Rattle.ca_tool.specs.Catalog.{IsOutcome, IsEntry, AreEntries};
-ghost use Rattle.ca_tool.specs.Catalog.{AreRuleTables, IsCatalog, IsCatalogFault};
-ghost use Rattle.ca_tool.specs.Writing.{WritesOneOf};
-ghost use Rattle.ca_tool.specs.inner.Searches.{IsGoodSearch};
+ghost use Rattle.ca_tool.specs.Catalog.{entry_lines, IsOutcome, IsEntry};
+ghost use Rattle.ca_tool.specs.Catalog.{AreRuleTables, WritesCatalog, EndsCatalog};
+ghost use Rattle.ca_tool.specs.Writing.{WritesOn};
+ghost use Rattle.ca_tool.specs.inner.Searches.{IsGoodSearch, AreLines, EndsLines};
 
-use crate::catalog::{Catalog, catalog_text};
+use crate::catalog::{Catalog, head_pieces, rules_text};
 use crate::entry::{Content, Entry, Outcome, Subject};
+use crate::entry_lines::push_entry;
 use crate::fault::ToolFault;
 use crate::names::{add_name, is_claim_path};
+use crate::pieces::send_pieces;
 use crate::taken_names::TakenNames;
 use ca_claims::{DetailedFault, File, Limits, Observer, identify_after};
 use ca_plane::{Dev, Memory, send};
@@ -24,18 +26,21 @@ use std::alloc::Global;
 use std::io::Write;
 
 /// Identifies the patterns of files, and writes a claim text: for each file, in order, a `load` line and the claim
-/// that is true of its pattern, or a comment. It answers what came of the files, with their exit status. Where some
-/// generations are asked for, at most 1152921504606846976, the planes that the patterns have then are identified in
-/// place of them, and the text says of these in comments alone.
+/// that is true of its pattern, or a comment. The lines on a file are written before the next one is identified. It
+/// answers what came of the files, with their exit status. Where some generations are asked for, at most
+/// 1152921504606846976, the planes that the patterns have then are identified in place of them, and the text says of
+/// these in comments alone.
 ///
 /// The patterns are looked at for as many generations as the limit says, from 1 to 4294967295, and each within the
-/// limits. Rules are looked for among the tables of the rule files, which the text names too. No two files have
-/// one name in the text. The observer hears of each file by its number, counted from 1, in place of a line.
+/// limits. Rules are looked for among the tables of the rule files, which the text names too, before the files. No
+/// two files have one name in the text. The observer hears of each file by its number, counted from 1, in place of
+/// a line; of its end before its lines are written.
 ///
 /// # Errors
 ///
-/// Fails for the first rule file that is no good table, and where there is no memory for the tables, the names or
-/// the text. Then nothing is written. Nothing is written before all files are identified.
+/// Fails for the first rule file that is no good table, and where there is no memory for the rule files; then
+/// nothing is written. Where there is none for the name or the lines of a file, what was written is the text on the
+/// files before it.
 pub fn identify_run<'a, W: Write, O: Observer>(
     alloc: Global,
     subjects: &[Subject<'a>],
@@ -50,32 +55,32 @@ pub fn identify_run<'a, W: Write, O: Observer>(
     requires limits { AreGoodLimits limits }
     requires some { 1 ≤ limit }
     requires most { limit ≤ longest_period }
-    ensures writes { WritesOneOf W.contents device.old device.new
-        (IsCatalog subjects.now rules.now limits.work generations limit)
-        (λ text. (entries : List CatalogEntry)
-        × IsCatalog subjects.now rules.now limits.work generations limit text entries)
-        (IsCatalogFault subjects.now rules.now) result }
+    ensures writes { IfOk result (WritesCatalog W.contents device.old device.new
+        rules.now limits.work generations limit subjects.now) }
+    ensures ends { IfErr result (EndsCatalog W.contents device.old device.new
+        rules.now limits.work generations limit subjects.now) }
 {
     let tables = match parse_tables(alloc, rules) {
         Ok(tables) => tables,
         Err(TableFault::Memory) => return Err(ToolFault::Memory),
         Err(fault) => return Err(ToolFault::BadTable(fault)),
     };
+    let Ok(rule_lines) = rules_text(alloc, rules) else {
+        return Err(ToolFault::Memory);
+    };
+    if send_pieces(device, &head_pieces(&rule_lines)).is_err() {
+        return Err(ToolFault::Write);
+    }
     let search = Search {
         tables: &tables,
         generations,
         limits,
         limit,
     };
-    let Ok(entries) = entries_of(alloc, subjects, &search, observer) else {
-        return Err(ToolFault::Memory);
+    let entries = match write_entries(alloc, subjects, &search, device, observer) {
+        Ok(entries) => entries,
+        Err(fault) => return Err(fault),
     };
-    let Ok(text) = catalog_text(alloc, generations, limit, rules, &entries) else {
-        return Err(ToolFault::Memory);
-    };
-    if send(device, &text).is_err() {
-        return Err(ToolFault::Write);
-    }
     Ok(Catalog::of(entries))
 }
 
@@ -110,28 +115,44 @@ struct Search<'a> {
     limit: u64,
 }
 
-// The entries on the files, in order.
-fn entries_of<'a, O: Observer>(
+// Writes the lines on each file, in order, before the next one is identified, and answers the entries.
+fn write_entries<'a, W: Write, O: Observer>(
     alloc: Global,
     subjects: &[Subject<'a>],
     search: &Search<'_>,
+    device: &mut Dev<W>,
     observer: &mut O,
-) -> Result<Vec<Entry<'a>>, Memory>
+) -> Result<Vec<Entry<'a>>, ToolFault>
     requires { IsGoodSearch search.now }
-    ensures entries { IfOk result (λ entries. AreEntries search.now.tables.now search.now.limits.work
-        search.now.generations search.now.limit [] subjects.now entries.items) }
-    ensures memory { OnErr result (subjects.now ≢ []) }
+    ensures writes { IfOk result (λ entries. WritesOn W.contents device.old device.new
+        (AreLines search.now) subjects.now entries.items) }
+    ensures ends { IfErr result (EndsLines W.contents device.old device.new search.now subjects.now) }
 {
     let mut names = TakenNames::new(alloc);
+    let mut text = Vec::new(alloc);
     let mut entries = Vec::new(alloc);
     'subjects: for subject in subjects {
         let number = (entries.len() as u64).saturating_add(1);
-        let entry = entry_of(alloc, &mut names, number, subject, search, observer)?;
-        if entries.push(entry).is_err() {
-            return Err(Memory);
+        let Ok(entry) = entry_of(alloc, &mut names, number, subject, search, observer) else {
+            return Err(ToolFault::Memory);
+        };
+        if put_entry(&mut text, search, &entry).is_err() || entries.push(entry).is_err() {
+            return Err(ToolFault::Memory);
+        }
+        if send(device, &text).is_err() {
+            return Err(ToolFault::Write);
         }
     }
     Ok(entries)
+}
+
+// Puts the lines on a file in place of what `out` holds.
+fn put_entry(out: &mut Vec<u8>, search: &Search<'_>, entry: &Entry<'_>) -> Result<(), Memory>
+    requires { IsGoodSearch search.now }
+    ensures { OnOk result (out.new.items ≡ entry_lines search.now.generations search.now.limit entry.now) }
+{
+    out.clear();
+    push_entry(out, search.generations, search.limit, entry)
 }
 
 // The entry on the file of this number, under a name that is put after the others. The observer hears of its end in

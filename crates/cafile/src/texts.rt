@@ -182,11 +182,12 @@ Examples:
 
 pub const IDENTIFY: &str =
     "What is printed is a claim text. So `cafile identify *.rle > mine.claims; cafile verify mine.claims` proves a whole
-folder. For each file the text has a line `load NAME PATH`, and the claim that is true of the pattern:
+folder. The text begins with `claims 2`. For each file it has a line `load NAME PATH`, and the claim that is true of
+the pattern:
   still NAME              some cell is live, and a generation later no cell has changed
   oscillator NAME P       P is the first number of generations after which the pattern is back
   spaceship NAME P DX DY  P is the first after which it is back, moved by DX to the right and DY down
-  dies NAME N             N is the first after which no cell is live; the text then begins with `claims 2`
+  dies NAME N             N is the first after which no cell is live
 or else a comment:
   # NAME: no cell is live
   # NAME: none of these within 65536 generations: N cells, in a box of W by H, after 65536
@@ -213,8 +214,8 @@ that isn't known, as in `  codd.rle: rule Codd`.
 On a terminal, a line on standard error shows how far a file is that takes over a second, as
 `glider.rle: 904 of 65536 generations`. --progress shows it also where standard error is no terminal.
 
-The text is printed when all files are identified. The status is 0, or 2 where some file isn't, or nothing could be
-printed; then standard error says why.
+The lines on a file are printed before the next one is identified. The status is 0, or 2 where some file isn't, or the
+rest couldn't be printed; then standard error says why.
 
 Examples:
   cafile identify examples/glider.rle examples/blinker.rle examples/reactions/diehard.rle

@@ -1,8 +1,16 @@
--- What is looked for in files that are to be identified.
-use Rattle.std.specs.Prelude.{◌≤◌}
-use Rattle.ca_claims.specs.Limited.{AreGoodLimits}
+-- What is looked for in files that are to be identified, and what is written of them.
+use Rattle.std.specs.Prelude.{◌≡◌, ◌≤◌, ℕ, List, [], Option}
+use Rattle.std.specs.List.{flat_map}
+use Rattle.ca_plane.specs.Device.{Counted}
 use Rattle.ca_plane.specs.Limits.{longest_period, most_generations}
+use Rattle.ca_claims.specs.Limited.{AreGoodLimits}
 use Rattle.ca_tool.specs.declared.identification_run.Search.{Search}
+use Rattle.ca_tool.specs.declared.entry.Entry.{Entry}
+use Rattle.ca_tool.specs.declared.entry.Subject.{Subject}
+use Rattle.ca_tool.specs.declared.fault.ToolFault.{ToolFault}
+use Rattle.ca_tool.specs.declared.fault.ToolFault.TheVariants as tools
+use Rattle.ca_tool.specs.Catalog.{entry_lines, AreEntries}
+use Rattle.ca_tool.specs.Writing.{WritesOnFirst, WritesPartOn}
 
 -- it is within what may be asked for
 pub record IsGoodSearch (search : Search) : Type 0 where
@@ -10,3 +18,14 @@ pub record IsGoodSearch (search : Search) : Type 0 where
   pub limits : AreGoodLimits search.limits
   pub some : 1 ≤ search.limit
   pub most : search.limit ≤ longest_period
+
+-- these are true entries on these files, and the text is their lines
+pub record AreLines (search : Search) (subjects : List Subject) (text : List ℕ) (entries : List Entry) : Type 0 where
+  pub holds : AreEntries search.tables.now search.limits.work search.generations search.limit [] subjects entries
+  pub lines : text ≡ flat_map (entry_lines search.generations search.limit) entries
+
+-- why not all lines on some files are written, and what is written of them
+abbrev pub EndsLines : {W : Type 0} → (W → Option (List ℕ)) → Counted W → Counted W → Search → List Subject → ToolFault → Type 0
+EndsLines contents old new search subjects tools.Write = WritesPartOn contents old new (AreLines search) subjects
+EndsLines contents old new search subjects tools.Memory = WritesOnFirst contents old new (AreLines search) subjects
+EndsLines contents old new search subjects told = ⊥
