@@ -11,7 +11,7 @@ import tempfile
 from leaps import AFTER, LEAPS
 from lib import rows
 from lib.claim_text import ClaimText, outcome
-from lib.program import Folder, Tally, run
+from lib.program import Folder, Outcome, Tally, run
 
 # The entries of the memo by default, and those of small ones.
 USUAL, SMALL, SMALLEST = 262144, 16384, 4096
@@ -34,6 +34,13 @@ SOUPS = (
     ("345/2/4", 300, USUAL, 816560),
     ("345/2/4", 300, SMALL, 1249225),
     ("B3/S23", 1000, USUAL, 87925),
+)
+
+# Patterns of examples/ that are back at no time, the cells and the box that they have after 65536 generations (by Golly), and the units of work by which
+# `identify` tells so. It leaps: one that looks at each generation takes a hundred times as many.
+NEVER_BACK = (
+    ("gun", "10964 cells, in a box of 16402 by 16389", 11649),
+    ("r_pentomino", "116 cells, in a box of 32717 by 32741", 28965),
 )
 
 
@@ -66,11 +73,21 @@ def try_soups(tally, folder):
         judge(tally, f"a soup of {rule} by {count}", text, memo, units)
 
 
+def try_identification(tally):
+    """What is back at no time."""
+    for name, grown, units in NEVER_BACK:
+        path = f"examples/{name}.rle"
+        words = ["identify", "--work", str(units + units // 10), path]
+        told = f"claims 2\nload {name} {path}\n# {name}: none of these within 65536 generations: {grown}, after 65536\n"
+        tally.expect(f"{name} is back at no time: {units} units", run(words), Outcome(told.encode(), b"", 0))
+
+
 def main():
     tally = Tally()
     with tempfile.TemporaryDirectory() as folder:
         try_patterns(tally, folder)
         try_soups(tally, folder)
+    try_identification(tally)
     tally.finish()
 
 
