@@ -4,9 +4,10 @@ ghost use Rattle.std.specs.Prelude.{◌≡◌, ◌≢◌, [], map, IfOk, OnErr};
 
 use crate::streams::Source;
 use ca_claims::{Claims, File, NamedTable, WordSet, table_named, unknown_rules};
+use ca_plane::text::push_text;
 use ca_plane::{Dev, Memory};
 use ca_rule::TableFault;
-use ca_tool::{FaultyRule, InputFault, read_all, rule_path};
+use ca_tool::{FaultyRule, InputFault, path_in, read_all, rule_path};
 use std::alloc::Global;
 use std::fs;
 use std::io::ErrorKind;
@@ -85,10 +86,12 @@ pub fn check_folder<R: Files>(rt: &R, path: &str) -> Result<(), InputFault> {
 }
 
 /// The files that a claim text needs and that can be read, in the order of its paths. No other file is
-/// opened. Fails where there is no memory for them, of a text that makes a claim.
+/// opened. Where there is a root, they are looked for there, and none whose path may lead out of it is opened.
+/// Fails where there is no memory for them, of a text that makes a claim.
 pub fn load_needed<R: Files + AllocGlobal>(
     rt: &R,
     claims: &Claims,
+    root: &Option<String>,
 ) -> Result<Vec<LoadedFile>, Memory>
     ensures { OnErr result (claims.now.claims ≢ []) }
 {
@@ -99,31 +102,48 @@ pub fn load_needed<R: Files + AllocGlobal>(
     let mut all = Vec::new(rt.alloc());
     for index in 0..claims.path_count() {
         if needed.get(index) == Some(&true) {
-            add_file(rt, claims.path(index), &mut all)?;
+            add_file(rt, root, claims.path(index), &mut all)?;
         }
     }
     Ok(all)
 }
 
-// Adds the file of a path, if it can be read.
+// Adds the file of a text's path, if it can be read.
 fn add_file<R: Files + AllocGlobal>(
     rt: &R,
+    root: &Option<String>,
     path: &[u8],
     all: &mut Vec<LoadedFile>,
 ) -> Result<(), Memory> {
-    if let Some(file) = load_file(rt, path)? {
-        all.push(file)?;
+    if let Some(bytes) = load_bytes_below(rt, root, path)? {
+        all.push(LoadedFile::new(rt.alloc(), path, bytes)?)?;
     }
     Ok(())
 }
 
-// The file of a path, if the path is UTF-8, and the file can be read and isn't too long.
-fn load_file<R: Files + AllocGlobal>(rt: &R, path: &[u8]) -> Result<Option<LoadedFile>, Memory> {
+// The bytes of a text's file. Where there is a root, it is looked for there, and isn't opened where its path may lead
+// out of it.
+fn load_bytes_below<R: Files + AllocGlobal>(
+    rt: &R,
+    root: &Option<String>,
+    path: &[u8],
+) -> Result<Option<Vec<u8>>, Memory> {
+    let Some(root) = root else {
+        return load_bytes(rt, path);
+    };
+    match path_in(rt.alloc(), root.as_bytes(), path)? {
+        Some(place) => load_bytes(rt, &place),
+        None => Ok(None),
+    }
+}
+
+// The bytes of the file of a path, if the path is UTF-8, and the file can be read and isn't too long.
+fn load_bytes<R: Files + AllocGlobal>(rt: &R, path: &[u8]) -> Result<Option<Vec<u8>>, Memory> {
     let Ok(text) = str::from_utf8(path) else {
         return Ok(None);
     };
     match read_file(rt, text) {
-        Ok(bytes) => Ok(Some(LoadedFile::new(rt.alloc(), path, bytes)?)),
+        Ok(bytes) => Ok(Some(bytes)),
         Err(InputFault::Memory) => Err(Memory),
         Err(InputFault::Read | InputFault::TooLong) => Ok(None),
     }
@@ -138,7 +158,10 @@ pub fn load_rule_file<R: Files + AllocGlobal>(
     let Some(path) = rule_path(rt.alloc(), folder.as_bytes(), name)? else {
         return Ok(None);
     };
-    load_file(rt, &path)
+    match load_bytes(rt, &path)? {
+        Some(bytes) => Ok(Some(LoadedFile::new(rt.alloc(), &path, bytes)?)),
+        None => Ok(None),
+    }
 }
 
 /// The claims of a text, the files that they need, and the rule files that were looked for by the names of their
@@ -183,36 +206,52 @@ impl FaultyFile {
 
 /// The same text with the rule files of a folder that the claims' patterns name and no rule line gives: each
 /// whose table has the name that was looked for stands on a rule line at the text's end. One that is read is among
-/// the files in any case, and one that can't be read is as none.
+/// the files in any case, and one that can't be read is as none. Where the text's own paths are looked for in a root,
+/// no path of the text stands for such a file.
 pub fn with_named_rules<R: Files + AllocGlobal>(
     rt: &R,
     folder: &str,
+    has_root: bool,
     mut text: LoadedText,
 ) -> Result<LoadedText, Memory> {
     let names = unknown_names(rt.alloc(), &text.claims, &text.files)?;
     for index in 0..names.len() {
         let name = names.word(index);
         if let Some(path) = rule_path(rt.alloc(), folder.as_bytes(), name)? {
-            load_once(rt, &path, &mut text.files)?;
-            text = with_named_rule(rt.alloc(), name, &path, text)?;
+            let label = file_label(rt.alloc(), &path, has_root)?;
+            load_once(rt, &path, &label, &mut text.files)?;
+            text = with_named_rule(rt.alloc(), name, &path, &label, text)?;
         }
     }
     Ok(text)
 }
 
-// The same text with the rule file of this path, which was looked for by this name.
+// The path under which a rule file of the folder stands among the files. Where the text's paths are looked for in a
+// root, they are other files than those of these paths here: so it begins with a blank, which no word does.
+fn file_label(alloc: Global, path: &[u8], has_root: bool) -> Result<Vec<u8>, Memory> {
+    let mut label = Vec::new(alloc);
+    if has_root {
+        push_text(&mut label, b" ")?;
+    }
+    push_text(&mut label, path)?;
+    Ok(label)
+}
+
+// The same text with the rule file of this path, which was looked for by this name, and stands among the files under
+// the other path.
 fn with_named_rule(
     alloc: Global,
     name: &[u8],
     path: &[u8],
+    label: &[u8],
     mut text: LoadedText,
 ) -> Result<LoadedText, Memory> {
-    let Some(bytes) = bytes_at(&text.files, path) else {
+    let Some(bytes) = bytes_at(&text.files, label) else {
         return Ok(text);
     };
     match table_named(alloc, name, bytes)? {
         NamedTable::Good => {
-            let claims = text.claims.with_rule(alloc, path)?;
+            let claims = text.claims.with_rule(alloc, label)?;
             Ok(LoadedText { claims, ..text })
         }
         NamedTable::OtherName => Ok(text),
@@ -230,16 +269,20 @@ fn unknown_names(alloc: Global, claims: &Claims, loaded: &[LoadedFile]) -> Resul
     unknown_rules(alloc, claims, &files)
 }
 
-// Adds the file of a path, if it isn't there yet and can be read.
+// Adds the file of a path under another one, if it isn't there yet and can be read.
 fn load_once<R: Files + AllocGlobal>(
     rt: &R,
     path: &[u8],
+    label: &[u8],
     files: &mut Vec<LoadedFile>,
 ) -> Result<(), Memory> {
-    if bytes_at(files, path).is_some() {
+    if bytes_at(files, label).is_some() {
         return Ok(());
     }
-    add_file(rt, path, files)
+    if let Some(bytes) = load_bytes(rt, path)? {
+        files.push(LoadedFile::new(rt.alloc(), label, bytes)?)?;
+    }
+    Ok(())
 }
 
 // The bytes of the first file with this path.

@@ -7,7 +7,7 @@ use crate::FAULT;
 use crate::files::{LoadedText, faulty_rules, load_needed, read_source, views, with_named_rules};
 use crate::progress::{Heading, Progress};
 use crate::streams::Streams;
-use crate::words::Extras;
+use crate::words::{Extras, Folders};
 use ca_claims::{Claims, read_claims};
 use ca_plane::Memory;
 use ca_plane::text::push_text;
@@ -20,13 +20,13 @@ use std::rt::{Clock, Files};
 
 /// Judges the claim texts of these paths, one after another, and answers the greatest of their exit statuses.
 ///
-/// Rule files that no rule line gives are looked for in the folder, if there is one. A text that can't be read or
-/// has a fault is reported on standard error, and the others are still judged. Nothing more is judged after a
+/// Rule files that no rule line gives are looked for in the folder of rules, if there is one, and the paths of the texts
+/// in the root, if there is one. A text that can't be read or has a fault is reported on standard error, and the others are still judged. Nothing more is judged after a
 /// failed write.
 pub fn verify_files<R: Files + Clock + AllocGlobal>(
     rt: &R,
     paths: &[String],
-    folder: &Option<String>,
+    folders: &Folders,
     extras: Extras,
     streams: &mut Streams,
 ) -> u8 {
@@ -34,7 +34,7 @@ pub fn verify_files<R: Files + Clock + AllocGlobal>(
     let mut greatest = 0;
     'paths: for path in paths {
         let path = path.as_str();
-        match verify_text(rt, path, are_named, folder, extras, streams) {
+        match verify_text(rt, path, are_named, folders, extras, streams) {
             Ok(status) => greatest = greatest.max(status),
             Err(Fault::Tool(ToolFault::Write)) => {
                 let _ = complain(&Fault::Tool(ToolFault::Write), b"", &mut streams.errors);
@@ -62,7 +62,7 @@ fn verify_text<R: Files + Clock + AllocGlobal>(
     rt: &R,
     path: &str,
     is_named: bool,
-    folder: &Option<String>,
+    folders: &Folders,
     extras: Extras,
     streams: &mut Streams,
 ) -> Result<u8, Fault> {
@@ -71,7 +71,7 @@ fn verify_text<R: Files + Clock + AllocGlobal>(
     let Ok(before) = line_prefix(rt.alloc(), path, is_named) else {
         return Err(Fault::Input(InputFault::Memory));
     };
-    let Ok(text) = load(rt, claims, folder) else {
+    let Ok(text) = load(rt, claims, folders) else {
         return Err(Fault::Input(InputFault::Memory));
     };
     let Ok(faulty) = faulty_rules(rt.alloc(), &text.faulty) else {
@@ -85,21 +85,21 @@ fn verify_text<R: Files + Clock + AllocGlobal>(
     judge(rt, &text, &style, extras, streams)
 }
 
-// The claims, and the files that they need. Where there is a folder, rules are looked for there.
+// The claims, and the files that they need. Where there is a folder of rules, rules are looked for there.
 fn load<R: Files + AllocGlobal>(
     rt: &R,
     claims: Claims,
-    folder: &Option<String>,
+    folders: &Folders,
 ) -> Result<LoadedText, Memory> {
-    let files = load_needed(rt, &claims)?;
+    let files = load_needed(rt, &claims, &folders.root)?;
     let faulty = Vec::new(rt.alloc());
     let text = LoadedText {
         claims,
         files,
         faulty,
     };
-    match folder {
-        Some(folder) => with_named_rules(rt, folder.as_str(), text),
+    match &folders.rules {
+        Some(folder) => with_named_rules(rt, folder.as_str(), folders.root.is_some(), text),
         None => Ok(text),
     }
 }

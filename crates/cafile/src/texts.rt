@@ -151,6 +151,9 @@ reason. Where several texts are given, the text's path stands before that.
 --rules names a folder, such as Golly's Rules: where a pattern's rule is NAME, and no `rule` line gives its table,
 the rule file is looked for there as DIR/NAME.rule. A faulty one refuses the claims on patterns that name it.
 
+--root names a folder for the texts of strangers: the paths of their lines are looked for there, and one that is
+absolute or has `..` among its parts is never opened: `refused, no file`. A link in that folder is followed.
+
 --explain adds a line after a no or a refusal that has more to tell: the pattern's name with a cell that
 differs, or with its file and the line of the fault, or the rule that isn't known; or the rule file.
 
@@ -178,6 +181,7 @@ Examples:
   cafile verify --progress examples/published.claims
   cafile verify --work 100000 examples/published.claims
   cafile verify --rules examples/rules examples/rules/named.claims
+  cafile verify --root . examples/block.claims
   cat examples/block.claims | cafile verify -";
 
 pub const IDENTIFY: &str =

@@ -23,6 +23,7 @@ use pattern::{convert_command, convert_request, show_command, show_request};
 use std::alloc::{AllocError, Global};
 use std::rt::Env;
 use std::{env, io};
+pub use verification::Folders;
 use verification::{verify_command, verify_request};
 
 /// What the words ask for.
@@ -45,11 +46,11 @@ pub enum Request {
         words: DrawWords,
         extras: PatternExtras,
     },
-    /// A verdict for each claim of the texts at these paths, and what more is asked for. Where there is a folder,
-    /// a rule file is looked for there by the name of a pattern's rule.
+    /// A verdict for each claim of the texts at these paths, the folders in which files are looked for, and what more
+    /// is asked for.
     Verify {
         paths: Vec<String>,
-        folder: Option<String>,
+        folders: Folders,
         extras: Extras,
     },
     /// What is true of the patterns of the files at these paths, and what more is given and asked for.
@@ -71,12 +72,20 @@ impl Request {
             Request::Show { extras, .. }
             | Request::Convert { extras, .. }
             | Request::Draw { extras, .. } => path_text(&extras.folder),
-            Request::Verify { folder, .. } => path_text(folder),
+            Request::Verify { folders, .. } => path_text(&folders.rules),
             Request::Identify { extras, .. } => {
                 let folder = path_text(&extras.folder)?;
                 is_claim_path(folder.as_bytes()).then_some(folder)
             }
             Request::Help { .. } => None,
+        }
+    }
+
+    /// The folder in which the paths of claim texts are looked for, if there is one.
+    pub fn root(&self) -> Option<&str> {
+        match self {
+            Request::Verify { folders, .. } => path_text(&folders.root),
+            _ => None,
         }
     }
 }
