@@ -27,7 +27,7 @@ use Rattle.ca_claims.specs.Identified.{IsTrueWithin, IsIdentity, IsIdentified, I
 use Rattle.ca_claims.specs.Truth.{asks_of, wanted_cells, IsTrueClaim, ShowsNothingBarred}
 use Rattle.ca_claims.specs.inner.Patterns.{rule_of}
 use Rattle.ca_claims.specs.inner.Ready.{IsReady}
-use Rattle.ca_claims.specs.inner.Stages.{TakesRunAndSteps}
+use Rattle.ca_claims.specs.inner.Stages.{TakesRunAndSearch}
 use Rattle.ca_claims.specs.inner.Subjects.{ShowsTree}
 use Rattle.ca_claims.proofs.CellsNearMiddle.{trimmed_low}
 use Rattle.ca_claims.proofs.Stages.{run_more}
@@ -43,7 +43,7 @@ module _ (nodes : List Node) (bytes : List ℕ) (tables : List TableRule) (ruled
   file_holds = (ruled.pattern.generation, file_begins nodes bytes tables ruled ready)
 
   -- and for which a run and steps may need so much work, where all of it is used up
-  pub file_needs : (old new work n limit : ℕ) → old ≡ 0 → new ≡ work → TakesRunAndSteps old new ruled.pattern.tree.level n (cells_after (next_of (rule_of ruled)) (trees.cell nodes ruled.pattern.tree)) limit
+  pub file_needs : (old new work n limit : ℕ) → old ≡ 0 → new ≡ work → TakesRunAndSearch old new ruled.pattern.tree.level n (cells_after (next_of (rule_of ruled)) (trees.cell nodes ruled.pattern.tree)) limit
       → MayNeedWorkAfter work n (after (next_of (rule_of ruled)) ready.read.cells) limit
   file_needs old new work n limit none all takes start digits level first held short some holds =
       let next = next_of (rule_of ruled) in

@@ -17,7 +17,7 @@ pub mod JudgedInTurn
 pub mod LinesSaid
 pub mod ClaimsKept
 pub mod PathMarks
-pub mod NeverBack
+pub mod NoReturn
 pub mod NextLines
 pub mod AllLines
 pub mod OneMeaning

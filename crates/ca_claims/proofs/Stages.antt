@@ -24,7 +24,7 @@ use Rattle.ca_claims.specs.declared.identification.stage.Stage.{Stage}
 use Rattle.ca_claims.specs.declared.identification.walk.Walk.{Walk}
 use Rattle.ca_claims.specs.declared.identification.stage.Stage.TheVariants.{Empty, Back, Other}
 use Rattle.ca_claims.specs.inner.Spending.{Takes}
-use Rattle.ca_claims.specs.inner.Stages.{IsWithinPlane, IsStart, CanGoOn, IsFirst, AreMoved, AreMovedNowhere, IsStage, IsLaterTree, AreOtherUpTo, IsWalk, TakesSteps, TakesSearch, TakesRun, TakesRunAndSteps, step_work, leap_work}
+use Rattle.ca_claims.specs.inner.Stages.{IsWithinPlane, IsStart, CanGoOn, IsFirst, AreMoved, AreMovedNowhere, IsStage, IsLaterTree, AreOtherUpTo, IsWalk, TakesSteps, TakesSearch, TakesRun, TakesRunAndSearch, step_work, leap_work}
 use Rattle.ca_claims.proofs.Corners.{live_after}
 use Rattle.ca_claims.proofs.CellsNearMiddle.{live_near, trimmed_low}
 use Rattle.ca_claims.proofs.LeaptTrees.{near_stays}
@@ -263,14 +263,14 @@ some_run old new level (suc n) some takes = λ digits short.
     omega (arith, most)
 
 -- a run, and no step
-pub run_alone : (next : List ℕ → ℕ) (p : ℤ → ℤ → ℕ) (old new level n limit : ℕ) → TakesRun old new level n → TakesRunAndSteps old new level n (cells_after next p) limit
+pub run_alone : (next : List ℕ → ℕ) (p : ℤ → ℤ → ℕ) (old new level n limit : ℕ) → TakesRun old new level n → TakesRunAndSearch old new level n (cells_after next p) limit
 run_alone next p old new level n limit run digits height short some holds =
     let first = run digits short in
     omega (arith, first)
 
 -- a run, and steps from there
 pub run_then_steps : (next : List ℕ → ℕ) (p : ℤ → ℤ → ℕ) (old mid new level n limit : ℕ) (nodes : List Node) (start : Tree) → IsLaterTree next p n nodes start
-    → TakesRun old mid level n → TakesSearch mid new (cells_after next (cell nodes start)) limit → TakesRunAndSteps old new level n (cells_after next p) limit
+    → TakesRun old mid level n → TakesSearch mid new (cells_after next (cell nodes start)) limit → TakesRunAndSearch old new level n (cells_after next p) limit
 run_then_steps next p old mid new level n limit nodes start is run steps digits height short some holds =
     let first = run digits short in
     let most = steps height some (λ m less x y live. holds m less x y (λ none. live (after_same next (cell nodes start) (cells_after next p n) m is.shows x y ∙ after_again next p n m x y ∙ none))) in

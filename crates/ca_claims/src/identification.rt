@@ -1,4 +1,4 @@
-//! What a pattern is: its plane is looked at after one generation after the other.
+//! What a pattern is: its first generations are looked at one by one, then leaps are made.
 
 ghost use Rattle.std.specs.Prelude.{◌≡◌, ◌≤◌, IfOk, IfErr};
 ghost use Rattle.ca_plane.specs.Plane.{Picture};
@@ -11,7 +11,7 @@ ghost use Rattle.ca_claims.specs.Limited.{AreGoodLimits};
 ghost use Rattle.ca_plane.specs.Limits.{longest_period, most_generations};
 ghost use Rattle.ca_claims.specs.inner.Patterns.{cause_of};
 ghost use Rattle.ca_claims.specs.inner.Spending.{HasLimits};
-ghost use Rattle.ca_claims.specs.inner.Stages.{TakesRunAndSteps};
+ghost use Rattle.ca_claims.specs.inner.Stages.{TakesRunAndSearch};
 ghost use Rattle.ca_claims.specs.inner.Subjects.{ShowsTree, IsPattern};
 
 mod ending;
@@ -49,8 +49,8 @@ const OUT_OF_MEMORY: DetailedFault<Cause> = DetailedFault {
 /// What the pattern of a file is, under the rule that its rule text names, B/S or among the tables: the one
 /// claim about it that is true of those that name one pattern (`still`, `oscillator`, `spaceship`, `dies`);
 /// or that none is whose period or generations are from 1 to the limit, and how far the plane has grown then.
-/// The limit is from 1 to 4294967295 generations. The observer sees each generation that is looked at, and no
-/// line.
+/// The limit is from 1 to 4294967295 generations. The observer sees each generation of the pattern that is
+/// looked at by itself, no leap, and no line.
 ///
 /// # Errors
 ///
@@ -155,7 +155,7 @@ fn identity_after<A: Automaton, O: Observer>(
     ensures identity { (cells : Picture) → ShowsTree leaper.old.nodes pattern cells
         → IfOk result (IsIdentityAfter (A.next_of leaper.old.rule) cells generations limit) }
     ensures goes_on { LeaperGrows A leaper.old leaper.new }
-    ensures takes { TakesRunAndSteps leaper.old.spent.used leaper.new.spent.used pattern.level generations
+    ensures takes { TakesRunAndSearch leaper.old.spent.used leaper.new.spent.used pattern.level generations
         (cells_after (A.next_of leaper.old.rule) (cell leaper.old.nodes pattern)) limit }
     ensures work { EndsAtLimit leaper.new.spent result }
 {

@@ -2,8 +2,7 @@
 
 use ca_plane::Bounds;
 
-/// What a pattern is found to be, by what its plane shows after one generation after the other, up to a
-/// limit. One of these holds of each pattern, and no other.
+/// What a pattern is found to be, by what its plane shows up to a limit. One of these holds of each pattern, and no other.
 #[derive(Clone, Copy, Debug, PartialEq, Eq)]
 pub enum Identity {
     /// No cell is live, so that none of the others can be claimed.

@@ -23,7 +23,7 @@ pub record IsAdvanced (next : List ℕ → ℕ) (old : List Node) (first : Tree)
 
 -- what a call comes to that takes a tree n generations on: Ok with the later tree, which is the same one where n is 0;
 -- want of work is told only at its limit; what a leaper had stays; and where n has at most d binary digits, Ok or not,
--- it costs no more than 14 to the power of the tree's level, d and 2; one generation costs at most 13 fourteenths of that
+-- it costs no more than 14 to the power of the tree's level, d and 2; one generation costs at most 13 fourteenths of that for a d of 1
 pub record Advances (Rule : Type 0) (next : List ℕ → ℕ) (old : LeaperView Rule)
     (tree : Tree) (n : ℕ) (new : LeaperView Rule) (result : Result Tree LeapFault) : Type 0 where
   pub advanced : IfOk result (IsAdvanced next old.nodes tree n new.nodes)

@@ -203,7 +203,8 @@ NAME is the file's name without its ending, with _ for blanks and for a # that i
 it is followed by -2, -3 and so on. A path with a blank, and -, can't be in a claim text: such a file has a comment
 that says so.
 
---limit N looks at N generations of each pattern. --memo N and --work N are as for verify, for each pattern.
+--limit N looks for periods and deaths of up to N generations. --memo N and --work N are as for verify, for each
+pattern.
 
 --after N identifies the plane that each pattern has N generations on. No claim about the file says what that is, so
 there are comments alone: `# NAME after 1103 generations: still`, and so on.

@@ -1,4 +1,4 @@
--- What a live pattern's plane shows after one generation after the other.
+-- What a live pattern's plane shows some generations on, and what work it takes to see it.
 use Rattle.std.specs.Prelude.{◌≡◌, ℕ, ◌+◌, ◌*◌, ◌^◌, ◌≤◌, ◌<◌, ℤ, List}
 use Rattle.ca_plane.specs.declared.point.Bounds.{Bounds}
 use Rattle.ca_plane.specs.Plane.{Picture, IsLive, shifted}
@@ -101,7 +101,7 @@ IsGrowthOf nodes tree growth = (cells : Picture) × ShowsTree nodes tree cells �
 abbrev pub AreOtherUpTo : (List ℕ → ℕ) → (ℤ → ℤ → ℕ) → ℕ → Type 0
 AreOtherUpTo next first n = (m : ℕ) → 1 ≤ m → m ≤ n → IsStage first (cells_after next first m) Other
 
--- how many units of work one generation may take from a tree of this level, which is less than a run of one may need
+-- how many units of work one generation of a tree of this level takes at most: 13 fourteenths of what a run of one generation may need
 abbrev pub step_work : (level : ℕ) → ℕ
 step_work level = 13 * 14 ^ (level + 2)
 
@@ -109,12 +109,12 @@ step_work level = 13 * 14 ^ (level + 2)
 abbrev pub TakesSteps : (old new : ℕ) → (stages : ℕ → ℤ → ℤ → ℕ) → (limit n : ℕ) → Type 0
 TakesSteps old new stages limit n = (level : ℕ) → 1 ≤ level → ((m : ℕ) → m < limit → HoldsAll level (stages m)) → new ≤ old + n * step_work level
 
--- what leaps may take of the work of a search through so many generations: what is left where each step takes its most
+-- what leaps may take of the work of a search: what is left of a tree of level 1, the lowest, where each step takes its most
 abbrev pub leap_work : (limit : ℕ) → ℕ
 leap_work limit = limit * 14 ^ 3
 
--- from the old count of work to the new one it is at most what as many steps as the limit may need of a tree of a level that holds the live cells before
--- each of them
+-- from the old count of work to the new one it is at most what as many runs of one generation as the limit may need, each of a tree of a level that holds
+-- the live cells before it: steps and leaps together
 abbrev pub TakesSearch : (old new : ℕ) → (stages : ℕ → ℤ → ℤ → ℕ) → (limit : ℕ) → Type 0
 TakesSearch old new stages limit = (level : ℕ) → 1 ≤ level → ((m : ℕ) → m < limit → HoldsAll level (stages m)) → new ≤ old + limit * 14 ^ (level + 3)
 
@@ -122,9 +122,9 @@ TakesSearch old new stages limit = (level : ℕ) → 1 ≤ level → ((m : ℕ) 
 abbrev pub TakesRun : (old new level n : ℕ) → Type 0
 TakesRun old new level n = (digits : ℕ) → n < 2 ^ digits → new ≤ old + run_work n level digits
 
--- and then at most so many steps of a tree of a level that holds the live cells before each of them
-abbrev pub TakesRunAndSteps : (old new start n : ℕ) → (stages : ℕ → ℤ → ℤ → ℕ) → (limit : ℕ) → Type 0
-TakesRunAndSteps old new start n stages limit = (digits level : ℕ) → n < 2 ^ digits → 1 ≤ level → ((m : ℕ) → m < limit → HoldsAll level (stages (n + m)))
+-- and then at most a search through so many generations
+abbrev pub TakesRunAndSearch : (old new start n : ℕ) → (stages : ℕ → ℤ → ℤ → ℕ) → (limit : ℕ) → Type 0
+TakesRunAndSearch old new start n stages limit = (digits level : ℕ) → n < 2 ^ digits → 1 ≤ level → ((m : ℕ) → m < limit → HoldsAll level (stages (n + m)))
     → new ≤ old + run_work n start digits + limit * 14 ^ (level + 3)
 
 -- a live pattern is back for the first time after so many generations, by this vector
@@ -137,7 +137,7 @@ pub record IsReturn (next : List ℕ → ℕ) (cells : Picture) (generations : �
   pub changed : (m : ℕ) → 1 ≤ m → m < generations → IsChanged next cells m
   pub nowhere : (m : ℕ) → 1 ≤ m → m < generations → IsNowhere next cells m
 
--- a live pattern's plane is dead for the first time after these generations; or the pattern is back for the first time
+-- the pattern is live, and after these generations, for the first time, its plane is dead, or the pattern is back, moved by this vector
 abbrev pub IsEnding : (List ℕ → ℕ) → Picture → Ending → Type 0
 IsEnding next cells (Death generations) = (1 ≤ generations) × IsLive cells × IsLifeSpan next cells generations
 IsEnding next cells (Return generations dx dy) = IsReturn next cells generations dx dy
@@ -147,7 +147,7 @@ abbrev pub generations_of : Ending → ℕ
 generations_of (Death generations) = generations
 generations_of (Return generations dx dy) = generations
 
--- within n generations it ends so
+-- it is dead or back within n generations
 abbrev pub EndsWithin : (List ℕ → ℕ) → Picture → ℕ → Type 0
 EndsWithin next cells n = (ending : Ending) × IsEnding next cells ending × (generations_of ending ≤ n)
 
@@ -155,12 +155,13 @@ EndsWithin next cells n = (ending : Ending) × IsEnding next cells ending × (ge
 abbrev pub HasNoReturn : (List ℕ → ℕ) → Picture → ℕ → Type 0
 HasNoReturn next cells n = (m : ℕ) → 1 ≤ m → m ≤ n → IsNowhere next cells m
 
--- a pattern's plane was looked at up to some generation: with its tree and boxes of some squares, and at none from 1 on was it dead or the pattern, moved
+-- a pattern's plane was looked at up to some generation: its tree then, boxes of some squares, and after no generation, starting at 1, was it dead or the
+-- pattern, moved
 pub record IsWalk (next : List ℕ → ℕ) (first : ℤ → ℤ → ℕ) (nodes : List Node) (walk : Walk) : Type 0 where
   pub now : IsLaterTree next first walk.generations nodes walk.tree
   pub others : AreOtherUpTo next first walk.generations
   pub boxes : AreSquareBoxes nodes walk.boxes
 
--- the same box
+-- the same box, as one of a picture
 abbrev pub box_of : WideBounds → Bounds
 box_of box = record { x0 = box.x0; y0 = box.y0; x1 = box.x1; y1 = box.y1 }

@@ -1,4 +1,4 @@
-//! How a pattern's plane first ends what the pattern was: dead, or the pattern again.
+//! How a pattern ends: its plane is dead, or the pattern is there again.
 
 ghost use Rattle.std.specs.Prelude.{ℕ, ◌≤◌, List};
 ghost use Rattle.ca_plane.specs.Plane.{Picture};
@@ -19,8 +19,8 @@ pub(super) enum Ending {
 
 /// What a pattern is that ends so.
 pub(super) fn identity_of(ending: Ending) -> Identity
-    ensures { (next : List ℕ → ℕ) (cells : Picture) (limit : ℕ) → generations_of ending ≤ limit → limit ≤ longest_period
-        → IsEnding next cells ending → IsIdentity next cells limit result }
+    ensures { (next : List ℕ → ℕ) (cells : Picture) (limit : ℕ) → generations_of ending ≤ limit
+        → limit ≤ longest_period → IsEnding next cells ending → IsIdentity next cells limit result }
 {
     match ending {
         Ending::Death { generations } => Identity::Dies { generations },

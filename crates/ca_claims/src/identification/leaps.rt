@@ -1,4 +1,4 @@
-//! What leaps tell of a pattern that isn't back soon: that it never is, and how far it has grown.
+//! What leaps show of a pattern that isn't back soon: that it isn't within the limit, and how far it has grown.
 
 ghost use Rattle.std.specs.Prelude.{◌≡◌, ◌+◌, ◌-◌, ◌*◌, ◌≤◌, None, IfOk, IfSome, IsTrue};
 ghost use Rattle.ca_plane.specs.Plane.{Picture};
@@ -23,20 +23,21 @@ use ca_quad::WideBounds;
 use ca_run::{LeapFault, Leaper, Unwatched};
 use std::alloc::Global;
 
-// How many times as many generations as the limit the first leap goes, and the last one: so far that what flies
-// off slowly is far away.
+// How many times as many generations as the limit the first leap goes, and the last one, which is so long that
+// what flies off slowly is far away.
 const NEAR: u64 = 4;
 
 const FAR: u64 = 64;
 
-// How many units of work leaps may take for each generation up to the limit, and how many at most.
+// How many units of work leaps may take for each generation up to the limit, and how many at most. They take no
+// more than a quarter of what is left.
 const SHARE: u64 = 1024;
 
 const MOST_SHARE: u64 = 1 << 23;
 
 /// How far the plane of a pattern has grown after as many generations as the limit, where leaps show that the
-/// pattern is none of what can be claimed up to then, and a share of the work is enough for them. In so many
-/// generations it isn't back.
+/// pattern is none of what can be claimed up to then, and a share of the work is enough for them. It is known
+/// that the pattern isn't back within the generations that were seen.
 pub(super) fn growth_by_leaps<A: Automaton>(
     alloc: Global,
     leaper: &mut Leaper<A>,
@@ -49,8 +50,8 @@ pub(super) fn growth_by_leaps<A: Automaton>(
     requires within { seen ≤ limit }
     requires most { limit ≤ longest_period }
     ensures growth { (cells : Picture) → ShowsTree leaper.old.nodes first.now.tree cells
-        → HasNoReturn (A.next_of leaper.old.rule) cells seen → IfOk result
-        (λ found. IfSome found (λ growth. IsIdentity (A.next_of leaper.old.rule) cells limit (Unknown growth))) }
+        → HasNoReturn (A.next_of leaper.old.rule) cells seen → IfOk result (λ found. IfSome found
+        (λ growth. IsIdentity (A.next_of leaper.old.rule) cells limit (Unknown growth))) }
     ensures goes_on { LeaperGrows A leaper.old leaper.new }
     ensures takes { leaper.new.spent.used ≤ leaper.old.spent.used + leap_work limit }
     ensures work { EndsAtLimit leaper.new.spent result }
@@ -61,13 +62,14 @@ pub(super) fn growth_by_leaps<A: Automaton>(
         return Ok(None);
     }
     let most = leaper.work_limit();
-    let share = (limit * SHARE).min(MOST_SHARE);
-    leaper.limit_work(leaper.used().saturating_add(share).min(most));
+    let used = leaper.used();
+    let share = (limit * SHARE).min(MOST_SHARE).min((most - used) / 4);
+    leaper.limit_work(used + share);
     let grown = growth_if_not_back(alloc, leaper, first, seen, limit);
     leaper.limit_work(most);
     match grown {
         Err(LeapFault::Work) => Ok(None),
-        told => told,
+        other => other,
     }
 }
 
@@ -84,13 +86,13 @@ fn growth_if_not_back<A: Automaton>(
     requires within { seen ≤ limit }
     requires most { limit ≤ longest_period }
     ensures growth { (cells : Picture) → ShowsTree leaper.old.nodes first.now.tree cells
-        → HasNoReturn (A.next_of leaper.old.rule) cells seen → IfOk result
-        (λ found. IfSome found (λ growth. IsIdentity (A.next_of leaper.old.rule) cells limit (Unknown growth))) }
+        → HasNoReturn (A.next_of leaper.old.rule) cells seen → IfOk result (λ found. IfSome found
+        (λ growth. IsIdentity (A.next_of leaper.old.rule) cells limit (Unknown growth))) }
     ensures goes_on { LeaperGrows A leaper.old leaper.new }
 {
     // Says what holds of every leaper.
     let _ = leaper.store();
-    if !is_never_back(alloc, leaper, first, seen, limit, NEAR)? {
+    if !has_no_return(alloc, leaper, first, seen, limit, NEAR)? {
         return Ok(None);
     }
     let last = later_tree(leaper, first.tree, limit, &mut Unwatched)?;
@@ -102,9 +104,9 @@ fn growth_if_not_back<A: Automaton>(
 }
 
 // Whether the plane so many times as long after as the limit, or longer, shows that the pattern is back after
-// none of the generations up to the limit: it is dead, or has grown too far, or is back itself, which the pattern
-// wasn't, after a few generations.
-fn is_never_back<A: Automaton>(
+// none of the generations up to the limit: it is dead, or has grown too far, or at last is back itself within as
+// many generations as were seen of the pattern, which wasn't.
+fn has_no_return<A: Automaton>(
     alloc: Global,
     leaper: &mut Leaper<A>,
     first: &First,
@@ -117,7 +119,7 @@ fn is_never_back<A: Automaton>(
     requires within { seen ≤ limit }
     requires most { limit ≤ longest_period }
     requires far { times ≤ 64 }
-    requires early { 1 ≤ times }
+    requires once { 1 ≤ times }
     ensures never { (cells : Picture) → ShowsTree leaper.old.nodes first.now.tree cells
         → HasNoReturn (A.next_of leaper.old.rule) cells seen
         → IfOk result (λ never. IsTrue never → HasNoReturn (A.next_of leaper.old.rule) cells limit) }
@@ -125,12 +127,12 @@ fn is_never_back<A: Automaton>(
 {
     // Says what holds of every leaper.
     let _ = leaper.store();
-    let found = unless_gone(alloc, leaper, first, seen, limit, times * limit)?;
+    let found = later_plane(alloc, leaper, first, seen, limit, times * limit)?;
     let Some(later) = found else {
         return Ok(true);
     };
     if times < FAR {
-        return is_never_back(alloc, leaper, first, seen, limit, (2 * times).min(FAR));
+        return has_no_return(alloc, leaper, first, seen, limit, (2 * times).min(FAR));
     }
     // It may lie too far from the origin to be looked at.
     if later.tree.level > 62 {
@@ -140,7 +142,7 @@ fn is_never_back<A: Automaton>(
 }
 
 // The tree of the plane so many generations on, and its box, unless it is dead or has grown too far.
-fn unless_gone<A: Automaton>(
+fn later_plane<A: Automaton>(
     alloc: Global,
     leaper: &mut Leaper<A>,
     first: &First,
@@ -150,14 +152,15 @@ fn unless_gone<A: Automaton>(
 ) -> Result<Option<First>, LeapFault>
     requires first { IsFirst leaper.old.nodes first.now }
     requires some { 1 ≤ seen }
-    requires within { 1 ≤ limit }
+    requires one { 1 ≤ limit }
     requires most { limit ≤ longest_period }
     requires few { generations ≤ most_generations }
     ensures gone { (cells : Picture) → ShowsTree leaper.old.nodes first.now.tree cells
         → HasNoReturn (A.next_of leaper.old.rule) cells seen
         → IfOk result (λ later. later ≡ None → HasNoReturn (A.next_of leaper.old.rule) cells limit) }
     ensures later { IfOk result (λ found. IfSome found
-        (IsLater (A.next_of leaper.old.rule) (cell leaper.old.nodes first.now.tree) generations leaper.new.nodes)) }
+        (IsLater (A.next_of leaper.old.rule) (cell leaper.old.nodes first.now.tree) generations
+        leaper.new.nodes)) }
     ensures goes_on { LeaperGrows A leaper.old leaper.new }
 {
     // Says what holds of every leaper.
@@ -178,8 +181,8 @@ fn unless_gone<A: Automaton>(
     Ok(Some(later))
 }
 
-// Whether one box is so much wider or higher than another that no pattern with the one box has the other at
-// any time, if it is back after a number of generations up to the limit.
+// Whether the second box is so much wider or higher than the first one that no pattern with the first box has
+// the second one at any time, if it is back after a number of generations up to the limit.
 fn has_grown_too_far(from: &WideBounds, to: &WideBounds, limit: u64) -> bool
     requires from { IsFirstBox from.now }
     requires to { IsWideBox to.now }
@@ -197,7 +200,7 @@ fn has_grown_too_far(from: &WideBounds, to: &WideBounds, limit: u64) -> bool
     false
 }
 
-// Whether a plane is dead, or back in its place or moved, after a few generations.
+// Whether a plane is dead, or back in its place or moved, within so many generations.
 fn is_back_soon<A: Automaton>(
     alloc: Global,
     leaper: &mut Leaper<A>,

@@ -1,5 +1,5 @@
-//! What a live pattern is: some hundred generations are looked at one after the other, then leaps are made, and
-//! what these don't tell is looked at in all generations that are left.
+//! What a live pattern is: the first generations are looked at one by one, then leaps are made, and where these
+//! don't settle it all generations that are left are looked at.
 
 ghost use Rattle.std.specs.Prelude.{◌≤◌, IfOk};
 ghost use Rattle.ca_plane.specs.Plane.{Picture};
@@ -22,8 +22,8 @@ use ca_plane::Automaton;
 use ca_run::{LeapFault, Leaper};
 use std::alloc::Global;
 
-// How many generations are looked at before the first leap: nearly all that comes back does so in fewer. Of
-// large patterns it's fewer, for as many squares together.
+// How many generations are looked at before the first leap: nearly all that comes back does so in fewer. Where
+// the store has many squares, fewer.
 const MOST_EARLY: u64 = 512;
 
 const LEAST_EARLY: u64 = 32;
@@ -68,7 +68,7 @@ pub(super) fn search<A: Automaton, O: Observer>(
     Ok(Identity::Unknown { growth })
 }
 
-// How many generations of a pattern of so many squares are looked at before the first leap.
+// How many generations of a pattern in a store of so many squares are looked at before the first leap.
 fn early_generations(squares: usize) -> u64
     ensures { 1 ≤ result }
 {

@@ -14,7 +14,7 @@ use ca_quad::{SquareBoxes, Tree, WideBounds};
 use ca_run::{LeapFault, Leaper};
 use std::alloc::Global;
 
-/// A live pattern, and the smallest box round its cells.
+/// The tree of a live plane, and the smallest box round its cells.
 #[derive(Drop)]
 pub(super) struct First {
     pub(super) tree: Tree,

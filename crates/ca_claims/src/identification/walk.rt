@@ -31,7 +31,7 @@ pub(super) struct Walk {
 }
 
 impl Walk {
-    /// Nothing was looked at but the pattern.
+    /// A walk that begins at the pattern.
     pub(super) fn from(alloc: Global, pattern: Tree) -> Walk
         ensures tree { result.tree ≡ pattern }
         ensures generations { result.generations ≡ 0 }
@@ -45,7 +45,7 @@ impl Walk {
     }
 }
 
-/// Goes on to so many generations after the pattern, and tells how it ends before or then, if it does.
+/// Goes on to so many generations after the pattern, and gives how the pattern ends by then, if it does.
 pub(super) fn look_on<A: Automaton, O: Observer>(
     alloc: Global,
     leaper: &mut Leaper<A>,
@@ -55,14 +55,16 @@ pub(super) fn look_on<A: Automaton, O: Observer>(
     observer: &mut O,
 ) -> Result<Option<Ending>, LeapFault>
     requires first { IsFirst leaper.old.nodes first.now }
-    requires walk { IsWalk (A.next_of leaper.old.rule) (cell leaper.old.nodes first.now.tree) leaper.old.nodes walk.old }
+    requires walk { IsWalk (A.next_of leaper.old.rule) (cell leaper.old.nodes first.now.tree)
+        leaper.old.nodes walk.old }
     requires within { walk.old.generations ≤ end }
     requires most { end ≤ longest_period }
     ensures ending { (cells : Picture) → ShowsTree leaper.old.nodes first.now.tree cells → IfOk result
         (λ found. IfSome found (IsEnding (A.next_of leaper.old.rule) cells)) }
     ensures time { IfOk result (λ found. IfSome found (λ ending. generations_of ending ≤ end)) }
     ensures walk { IfOk result (λ found. found ≡ None
-        → IsWalk (A.next_of leaper.old.rule) (cell leaper.old.nodes first.now.tree) leaper.new.nodes walk.new) }
+        → IsWalk (A.next_of leaper.old.rule) (cell leaper.old.nodes first.now.tree)
+        leaper.new.nodes walk.new) }
     ensures end { IfOk result (λ found. found ≡ None → walk.new.generations ≡ end) }
     ensures goes_on { LeaperGrows A leaper.old leaper.new }
     ensures takes { TakesSteps leaper.old.spent.used leaper.new.spent.used

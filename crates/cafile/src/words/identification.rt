@@ -73,7 +73,7 @@ fn limit_word<'a>(alloc: Global) -> Arg<'a> {
         alloc,
         "limit",
         "N",
-        "How many generations to look at: 1 to 4294967295; unless set, 65536",
+        "The longest period or life that is looked for: 1 to 4294967295; unless set, 65536",
     )
     .value_parser(value_parser!(u64).range(1..=LONGEST_PERIOD as i64))
 }

@@ -5,7 +5,7 @@ use Rattle.ca_rule.specs.Rule.{rule_value, next_of}
 use Rattle.ca_claims.specs.declared.detailed_fault.DetailedFault.{DetailedFault}
 use Rattle.ca_claims.specs.declared.verdict.Cause.{Cause}
 use Rattle.ca_claims.specs.Identified.{IsIdentityAfter, IsUnidentifiedAfterFor, IsUnidentifiedAfter, IsTextOf}
-use Rattle.ca_claims.specs.inner.Stages.{TakesRunAndSteps}
+use Rattle.ca_claims.specs.inner.Stages.{TakesRunAndSearch}
 use Rattle.ca_claims.specs.inner.Subjects.{ShowsTree, IsPattern}
 use Rattle.ca_claims.proofs.IdentifiedFiles.{file_shows, file_holds, file_needs}
 use Rattle.ca_claims.proofs.IdentityRefusals.{unidentified_for}
@@ -43,8 +43,8 @@ returns-clause-unidentified g c =
     let new = c.identity_after.new.leaper.spent.used in
     let told = c.in-Err-Work.ensures in
     let takes =
-    subst (λ r. TakesRunAndSteps leaper.spent.used new tree.level n (cells_after (next_of (rule_value r)) (cell store tree)) limit) c.in-Ok-leaper_of.ensures.rule
-    (subst (λ s. TakesRunAndSteps leaper.spent.used new tree.level n (cells_after (next_of (rule_value leaper.rule)) (cell s tree)) limit) c.in-Ok-leaper_of.ensures.store told.takes) in
+    subst (λ r. TakesRunAndSearch leaper.spent.used new tree.level n (cells_after (next_of (rule_value r)) (cell store tree)) limit) c.in-Ok-leaper_of.ensures.rule
+    (subst (λ s. TakesRunAndSearch leaper.spent.used new tree.level n (cells_after (next_of (rule_value leaper.rule)) (cell s tree)) limit) c.in-Ok-leaper_of.ensures.store told.takes) in
     subst (λ (refused : DetailedFault Cause). IsUnidentifiedAfter c.args.bytes.now c.args.tables.now work n limit refused) (sym c.of.ensures) (
       (
         refl,

@@ -15,48 +15,48 @@ returns-in-Err-Work-clause-goes_on g c =
     let old = c.args.leaper.now in
     let mid = c.growth_if_not_back-grown.new.leaper in
     subst (LeaperGrows _ old) (sym c.limit_work-2.ensures.limited) (subst (λ k. LeaperGrows _ old (limited mid k)) (sym c.work_limit-most.ensures)
-    (shared_goes_on old mid c.min.result (subst (λ l. LeaperGrows _ l mid) c.limit_work.ensures.limited c.growth_if_not_back-grown.ensures.goes_on) c.limit_work-2.ensures.most c.limit_work.ensures.most
-    (omega (arith, c.min.ensures, c.work_limit-most.ensures))))
+    (shared_goes_on old mid (c.used-used.result + c.min-share.result) (subst (λ l. LeaperGrows _ l mid) c.limit_work.ensures.limited c.growth_if_not_back-grown.ensures.goes_on) c.limit_work-2.ensures.most c.limit_work.ensures.most
+    (omega (arith, c.min-share.ensures, c.used-used.ensures.value, c.used-used.ensures.most, c.work_limit-most.ensures))))
 
 pub returns-in-Err-Work-clause-takes : goal.returns-in-Err-Work-clause-takes
 returns-in-Err-Work-clause-takes g c =
     let old = c.args.leaper.now in
     let mid = c.growth_if_not_back-grown.new.leaper in
-    let most = shared_takes old mid c.min.result (subst (λ l. LeaperGrows _ l mid) c.limit_work.ensures.limited c.growth_if_not_back-grown.ensures.goes_on) c.limit_work-2.ensures.most in
+    let most = shared_takes old mid (c.used-used.result + c.min-share.result) (subst (λ l. LeaperGrows _ l mid) c.limit_work.ensures.limited c.growth_if_not_back-grown.ensures.goes_on) c.limit_work-2.ensures.most in
     subst (λ (l : LeaperView _). l.spent.used ≤ old.spent.used + leap_work c.args.limit) (sym c.limit_work-2.ensures.limited)
-    (omega (arith, most, c.min.ensures, c.saturating_add.ensures, c.min-share.ensures, c.used.ensures.value))
+    (omega (arith, most, c.min.ensures, c.min-share.ensures, c.used-used.ensures.value))
 
 pub returns-in_default-clause-goes_on : goal.returns-in_default-clause-goes_on
 returns-in_default-clause-goes_on g c =
     let old = c.args.leaper.now in
     let mid = c.growth_if_not_back-grown.new.leaper in
     subst (LeaperGrows _ old) (sym c.limit_work-2.ensures.limited) (subst (λ k. LeaperGrows _ old (limited mid k)) (sym c.work_limit-most.ensures)
-    (shared_goes_on old mid c.min.result (subst (λ l. LeaperGrows _ l mid) c.limit_work.ensures.limited c.growth_if_not_back-grown.ensures.goes_on) c.limit_work-2.ensures.most c.limit_work.ensures.most
-    (omega (arith, c.min.ensures, c.work_limit-most.ensures))))
+    (shared_goes_on old mid (c.used-used.result + c.min-share.result) (subst (λ l. LeaperGrows _ l mid) c.limit_work.ensures.limited c.growth_if_not_back-grown.ensures.goes_on) c.limit_work-2.ensures.most c.limit_work.ensures.most
+    (omega (arith, c.min-share.ensures, c.used-used.ensures.value, c.used-used.ensures.most, c.work_limit-most.ensures))))
 
 pub returns-in_default-clause-takes : goal.returns-in_default-clause-takes
 returns-in_default-clause-takes g c =
     let old = c.args.leaper.now in
     let mid = c.growth_if_not_back-grown.new.leaper in
-    let most = shared_takes old mid c.min.result (subst (λ l. LeaperGrows _ l mid) c.limit_work.ensures.limited c.growth_if_not_back-grown.ensures.goes_on) c.limit_work-2.ensures.most in
+    let most = shared_takes old mid (c.used-used.result + c.min-share.result) (subst (λ l. LeaperGrows _ l mid) c.limit_work.ensures.limited c.growth_if_not_back-grown.ensures.goes_on) c.limit_work-2.ensures.most in
     subst (λ (l : LeaperView _). l.spent.used ≤ old.spent.used + leap_work c.args.limit) (sym c.limit_work-2.ensures.limited)
-    (omega (arith, most, c.min.ensures, c.saturating_add.ensures, c.min-share.ensures, c.used.ensures.value))
+    (omega (arith, most, c.min.ensures, c.min-share.ensures, c.used-used.ensures.value))
 
 pub returns-in_default-2-clause-goes_on : goal.returns-in_default-2-clause-goes_on
 returns-in_default-2-clause-goes_on g c =
     let old = c.args.leaper.now in
     let mid = c.growth_if_not_back-grown.new.leaper in
     subst (LeaperGrows _ old) (sym c.limit_work-2.ensures.limited) (subst (λ k. LeaperGrows _ old (limited mid k)) (sym c.work_limit-most.ensures)
-    (shared_goes_on old mid c.min.result (subst (λ l. LeaperGrows _ l mid) c.limit_work.ensures.limited c.growth_if_not_back-grown.ensures.goes_on) c.limit_work-2.ensures.most c.limit_work.ensures.most
-    (omega (arith, c.min.ensures, c.work_limit-most.ensures))))
+    (shared_goes_on old mid (c.used-used.result + c.min-share.result) (subst (λ l. LeaperGrows _ l mid) c.limit_work.ensures.limited c.growth_if_not_back-grown.ensures.goes_on) c.limit_work-2.ensures.most c.limit_work.ensures.most
+    (omega (arith, c.min-share.ensures, c.used-used.ensures.value, c.used-used.ensures.most, c.work_limit-most.ensures))))
 
 pub returns-in_default-2-clause-takes : goal.returns-in_default-2-clause-takes
 returns-in_default-2-clause-takes g c =
     let old = c.args.leaper.now in
     let mid = c.growth_if_not_back-grown.new.leaper in
-    let most = shared_takes old mid c.min.result (subst (λ l. LeaperGrows _ l mid) c.limit_work.ensures.limited c.growth_if_not_back-grown.ensures.goes_on) c.limit_work-2.ensures.most in
+    let most = shared_takes old mid (c.used-used.result + c.min-share.result) (subst (λ l. LeaperGrows _ l mid) c.limit_work.ensures.limited c.growth_if_not_back-grown.ensures.goes_on) c.limit_work-2.ensures.most in
     subst (λ (l : LeaperView _). l.spent.used ≤ old.spent.used + leap_work c.args.limit) (sym c.limit_work-2.ensures.limited)
-    (omega (arith, most, c.min.ensures, c.saturating_add.ensures, c.min-share.ensures, c.used.ensures.value))
+    (omega (arith, most, c.min.ensures, c.min-share.ensures, c.used-used.ensures.value))
 
 pub returns-in_default-2-clause-growth : goal.returns-in_default-2-clause-growth
 returns-in_default-2-clause-growth g c =

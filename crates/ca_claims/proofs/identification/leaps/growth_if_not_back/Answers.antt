@@ -15,9 +15,9 @@ use Rattle.ca_claims.proofs.identification.leaps.growth_if_not_back.Goals.{In_ok
 pub later_tree-requires : goal.later_tree-requires
 later_tree-requires g c =
     let next = g.A.Automaton.next_of in
-    let on = c.in_ok-is_never_back.ensures.goes_on in
+    let on = c.in_ok-has_no_return.ensures.goes_on in
     let s0 = c.args.leaper.now.nodes in
-    let s1 = c.is_never_back.new.leaper.nodes in
+    let s1 = c.has_no_return.new.leaper.nodes in
     let tree = c.args.first.now.tree in
     subst (λ r. CanGoOn (next r) s1 tree c.args.limit) (sym on.rule)
     (start_goes_on (next c.args.leaper.now.rule) s1 tree (g.met.A.Automaton.quiet c.args.leaper.now.rule c.store.ensures.rule) (start_stays s0 s1 c.store.ensures.sound on.grows tree c.requires.first.start) c.args.limit
@@ -36,9 +36,9 @@ module _ (g : _) (c : In_ok-last g) where
 
   pub last_later : IsLaterTree next first c.args.limit c.later_tree.new.leaper.nodes c.in_ok-last.last
   last_later =
-      let on = c.in_ok-is_never_back.ensures.goes_on in
+      let on = c.in_ok-has_no_return.ensures.goes_on in
       let s0 = c.args.leaper.now.nodes in
-      let s1 = c.is_never_back.new.leaper.nodes in
+      let s1 = c.has_no_return.new.leaper.nodes in
       let s2 = c.later_tree.new.leaper.nodes in
       let tree = c.args.first.now.tree in
       later_as next (cell s1 tree) first c.args.limit s2 c.in_ok-last.last (trees_stay s0 s1 c.store.ensures.sound on.grows tree c.requires.first.start.is_tree)
@@ -59,8 +59,8 @@ pub returns-clause-growth : goal.returns-clause-growth
 returns-clause-growth g c = λ cells shows without.
     let a = (goal.at.returns-clause-growth g c).In_ok-last in
     found_growth (next g a) (quiet g a) c.args.leaper.now.nodes c.args.first.now c.requires.first cells shows c.args.limit
-    (c.in_ok-is_never_back.ensures.never cells shows without c.if-not-branch.false) c.later_tree.new.leaper.nodes c.in_ok-last.last (last_later g a) (subst (λ s. HasLive (cell s c.in_ok-last.last)) c.store-2.ensures.nodes (c.if-is_dead.ensures.live refl)) c.in_ok-growth.growth
+    (c.in_ok-has_no_return.ensures.never cells shows without c.if-not-branch.false) c.later_tree.new.leaper.nodes c.in_ok-last.last (last_later g a) (subst (λ s. HasLive (cell s c.in_ok-last.last)) c.store-2.ensures.nodes (c.if-is_dead.ensures.live refl)) c.in_ok-growth.growth
     (subst (λ s. IsGrowthOf s c.in_ok-last.last c.in_ok-growth.growth) c.store-3.ensures.nodes c.in_ok-growth.ensures)
 
 pub returns-clause-goes_on : goal.returns-clause-goes_on
-returns-clause-goes_on g c = goes_on_again _ c.args.leaper.now c.is_never_back.new.leaper c.later_tree.new.leaper c.in_ok-is_never_back.ensures.goes_on c.in_ok-last.ensures.goes_on
+returns-clause-goes_on g c = goes_on_again _ c.args.leaper.now c.has_no_return.new.leaper c.later_tree.new.leaper c.in_ok-has_no_return.ensures.goes_on c.in_ok-last.ensures.goes_on

@@ -1,6 +1,6 @@
 use Rattle.std.proofs.Common.{subst}
 use Rattle.std.specs.Prelude.{IsTrue}
-use Rattle.ca_claims.proofs.NeverBack.{some_ends}
+use Rattle.ca_claims.proofs.NoReturn.{some_ends}
 use Rattle.ca_claims.proofs.Stages.{first_walk}
 use Rattle.ca_claims.proofs.identification.leaps.is_back_soon.Goals as goal
 

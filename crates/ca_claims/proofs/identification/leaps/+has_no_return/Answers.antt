@@ -7,16 +7,16 @@ use Rattle.ca_claims.specs.inner.Stages.{EndsWithin, HasNoReturn}
 use Rattle.ca_claims.specs.inner.Subjects.{ShowsTree}
 use Rattle.ca_claims.proofs.LaterPlanes.{tree_picture}
 use Rattle.ca_claims.proofs.LeaptTrees.{ok_as, shows_stays}
-use Rattle.ca_claims.proofs.NeverBack.{tree_ended}
+use Rattle.ca_claims.proofs.NoReturn.{tree_ended}
 use Rattle.ca_claims.proofs.Stages.{first_stays}
-use Rattle.ca_claims.proofs.identification.leaps.+is_never_back.Goals as goal
+use Rattle.ca_claims.proofs.identification.leaps.+has_no_return.Goals as goal
 
 pub returns-in_default-clause-never : goal.returns-in_default-clause-never
 returns-in_default-clause-never g t c = λ cells shows without _. c.in_ok-found.ensures.gone cells shows without c.in_default.is
 
 pub is_back_soon-requires-clause-settled : goal.is_back_soon-requires-clause-settled
 is_back_soon-requires-clause-settled g t c =
-    let nodes = c.unless_gone.new.leaper.nodes in
+    let nodes = c.later_plane.new.leaper.nodes in
     let later = rw c.in-Some.is at c.in_ok-found.ensures.later in
     let tree = later.tree in
     let low = c.if-later-gt62.false in
@@ -33,7 +33,7 @@ is_back_soon-requires-clause-settled g t c =
 pub returns-clause-never : goal.returns-clause-never
 returns-clause-never g t c = λ cells shows without.
     let next = g.A.Automaton.next_of in
-    let nodes = c.unless_gone.new.leaper.nodes in
+    let nodes = c.later_plane.new.leaper.nodes in
     let found = rw c.in-Some.is at c.in_ok-found.ensures.later in
     let end = c.in-Some.later.tree in
     let (later, same) = tree_picture nodes end in
@@ -43,17 +43,17 @@ returns-clause-never g t c = λ cells shows without.
     (λ b ends told. tree_ended (next c.args.leaper.now.rule) (g.met.A.Automaton.quiet c.args.leaper.now.rule c.store.ensures.rule) (cell c.args.leaper.now.nodes c.args.first.now.tree) cells shows _
     nodes end found.tree c.args.seen c.args.limit c.requires.some without later shown (ends told)) back
 
-pub is_never_back-requires : goal.is_never_back-requires
-is_never_back-requires g t c κs within =
-    let first = first_stays c.args.leaper.now.nodes c.unless_gone.new.leaper.nodes c.store.ensures.sound c.in_ok-found.ensures.goes_on.grows c.args.first.now c.requires.first in
+pub has_no_return-requires : goal.has_no_return-requires
+has_no_return-requires g t c κs within =
+    let first = first_stays c.args.leaper.now.nodes c.later_plane.new.leaper.nodes c.store.ensures.sound c.in_ok-found.ensures.goes_on.grows c.args.first.now c.requires.first in
     let far : c.min.result ≤ 64 = omega (arith, c.min.ensures) in
-    let more : c.args.times < c.min.result = omega (arith, c.min.ensures, c.requires.early, c.if-times-lt-FAR.true) in
+    let more : c.args.times < c.min.result = omega (arith, c.min.ensures, c.requires.once, c.if-times-lt-FAR.true) in
     search rules
 
 pub returns-then-times-lt-FAR-clause-never : goal.returns-then-times-lt-FAR-clause-never
 returns-then-times-lt-FAR-clause-never g t c = λ cells shows without.
     let next = g.A.Automaton.next_of in
     let on = c.in_ok-found.ensures.goes_on in
-    let shown = shows_stays c.args.leaper.now.nodes c.unless_gone.new.leaper.nodes c.store.ensures.sound on.grows c.args.first.now.tree cells c.requires.first.start.is_tree shows in
+    let shown = shows_stays c.args.leaper.now.nodes c.later_plane.new.leaper.nodes c.store.ensures.sound on.grows c.args.first.now.tree cells c.requires.first.start.is_tree shows in
     let here = subst (λ r. HasNoReturn (next r) cells c.args.seen) (sym on.rule) without in
-    subst (λ r. IfOk c.is_never_back.result (λ never. IsTrue never → HasNoReturn (next r) cells c.args.limit)) on.rule (c.is_never_back.ensures.never cells shown here)
+    subst (λ r. IfOk c.has_no_return.result (λ never. IsTrue never → HasNoReturn (next r) cells c.args.limit)) on.rule (c.has_no_return.ensures.never cells shown here)

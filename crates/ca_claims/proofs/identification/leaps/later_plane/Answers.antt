@@ -2,10 +2,10 @@ use Rattle.std.proofs.Common.{refl, subst}
 use Rattle.ca_quad.specs.Boxes.{IsDead, IsLeastWideBox}
 use Rattle.ca_quad.specs.Trees.{cell}
 use Rattle.ca_claims.proofs.Corners.{corner_broad, corner_wide, far_corner_wide}
-use Rattle.ca_claims.proofs.NeverBack.{tree_empty, tree_grown}
+use Rattle.ca_claims.proofs.NoReturn.{tree_empty, tree_grown}
 use Rattle.ca_claims.proofs.Stages.{start_goes_on}
 use Rattle.ca_claims.proofs.Starts.{near_start}
-use Rattle.ca_claims.proofs.identification.leaps.unless_gone.Goals as goal
+use Rattle.ca_claims.proofs.identification.leaps.later_plane.Goals as goal
 
 pub later_tree-requires : goal.later_tree-requires
 later_tree-requires g c =
