@@ -56,7 +56,7 @@ def try_stopped(tally, files):
         wanted = (b"line 3: yes\nline 4: yes\n", True, b"", True)
         tally.tell(f"stopped, {name}", [] if got == wanted else [f"wanted {wanted}, got {got}"])
     explained = files.path("explained.claims", f"{BLOCK}load lost examples/lost.rle\n{soup}still lost\nstill block\nbecomes soup {1 << 60} soup\n")
-    lines = b"line 4: refused, no file\n  lost: examples/lost.rle\nline 5: yes\n"
+    lines = b"line 4: refused, no file\n  lost: examples/lost.rle: no such file\nline 5: yes\n"
     got = first_lines(["verify", "--explain", explained], 3)
     tally.tell("stopped, explained", [] if got == (lines, True, b"", True) else [f"wanted {lines}, got {got}"])
     several = ["verify", "examples/block.claims", path]

@@ -85,13 +85,13 @@ def try_claims(tally, files):
     for name, spelled in SPELLED:
         if is_word(name):
             text.load_path(b"p" + name, os.path.join(files.folder.encode(), b"lost" + name))
-            text.claim(b"still p%s" % name, "refused, no file", b"p%s: %s" % (spelled, os.path.join(files.folder.encode(), b"lost" + spelled)))
+            text.claim(b"still p%s" % name, "refused, no file", b"p%s: %s: no such file" % (spelled, os.path.join(files.folder.encode(), b"lost" + spelled)))
     path = text.write()
     for words in (["verify", path], ["verify", "--explain", path]):
         tally.expect(f"names and rule texts, {len(words)} words", run(words), outcome(text.answers, "--explain" in words))
     one, other = files.path("\x1b[1m\u0085.claims", b"load block examples/block.rle\nload lost lost.rle\nstill block\nstill lost\n"), files.path("faulty\x7f", "x")
     told = os.path.join(files.folder, "\\x1b[1m\\xc2\\x85.claims").encode()
-    printed = b"%s: line 3: yes\n%s: line 4: refused, no file\n%s:   lost: lost.rle\n" % (told, told, told)
+    printed = b"%s: line 3: yes\n%s: line 4: refused, no file\n%s:   lost: lost.rle: no such file\n" % (told, told, told)
     complaint = b"cafile: %s: claims line 1: syntax\n" % os.path.join(files.folder, "faulty\\x7f").encode()
     tally.expect("the path of a text", run(["verify", "--explain", one, other]), Outcome(printed, complaint, 2))
     text = ClaimText(files)

@@ -140,8 +140,10 @@ def try_patterns(texts):
 
     rules = {"unknown": b"Life", "wakes": b"B0/S", "bounded": b"B3/S23:T9,9", "large_life": b"Life"}
 
+    missing = {"lost": "no such file", "gone": "no such file", "folder": "a folder", "not_utf_8": "not UTF-8", b"\xfe\xff": "no such file"}
+
     def refused(claim, cause, name, line=None):
-        told = b": rule " + rules[name] if cause.startswith("bad rule") else b""
+        told = b": rule " + rules[name] if cause.startswith("bad rule") else b": " + missing[name].encode() if cause == "no file" else b""
         text.claim(claim, f"refused, {cause}", b"%s: %s%s" % (name if isinstance(name, bytes) else name.encode(), where(paths[name], line), told))
 
     for name in ("lost", "gone", "folder", "not_utf_8"):
@@ -188,7 +190,7 @@ def try_patterns(texts):
     texts.judge("refused for a pattern's file", text)
     text = texts.text()
     path = text.load("longer", BLOCK.encode().ljust(MAX_FILE + 1))
-    text.claim("still longer", "refused, no file", b"longer: " + path)
+    text.claim("still longer", "refused, no file", b"longer: " + path + b": more than 67108864 bytes")
     texts.judge("refused for a file that is too long", text)
 
 
@@ -207,14 +209,15 @@ def try_faulty_lines(texts):
 
 def try_rule_files(texts):
     """Every claim of a text is refused for a rule file that is missing or faulty."""
-    missing = [("missing", texts.files.path("lost.rule").encode()), ("folder", texts.files.folder.encode()), ("not UTF-8", b"\xff.rule")]
+    missing = [("no such file", texts.files.path("lost.rule").encode()), ("a folder", texts.files.folder.encode()), ("not UTF-8", b"\xff.rule")]
     for name, path in missing:
+        note = b"rule file: %s: %s" % (path, name.encode())
         text = texts.text()
         text.rule(SPREAD)
         text.load("block", BLOCK)
         text.load("no_end", HEADER + "3o")
-        text.claim("still block", "refused, no file", b"rule file: " + path)
-        text.claim("becomes block 0 no_end", "refused, no file", b"rule file: " + path)
+        text.claim("still block", "refused, no file", note)
+        text.claim("becomes block 0 no_end", "refused, no file", note)
         text.rule("")
         text.rule_path(path)
         # of several that are missing the first is told
@@ -232,7 +235,7 @@ def try_rule_files(texts):
         text.rule("another faulty file")
         for claim in ("still block", "still no_end", "becomes block 0 no_end"):
             text.claim(claim, f"refused, bad table: {kind}", b"rule file: %s, line %s" % (path, line.encode()))
-        text.claim("becomes block 1 lost", "refused, no file", b"lost: " + lost)
+        text.claim("becomes block 1 lost", "refused, no file", b"lost: " + lost + b": no such file")
         texts.judge(f"refused for a rule file, {name}", text)
 
 
@@ -282,7 +285,7 @@ def try_missing_twice(texts):
     rule = text.rule_path(texts.files.path("lost.rule"))
     text.claim("still lost", "refused, no file")
     got = run(["verify", "--explain", text.write()])
-    wanted = [printed(text.answers, True) + b"  " + note + b"\n" for note in (b"lost: " + pattern, b"rule file: " + rule)]
+    wanted = [printed(text.answers, True) + b"  " + note + b": no such file\n" for note in (b"lost: " + pattern, b"rule file: " + rule)]
     texts.tally.tell("two files are missing", [] if got.printed in wanted and (got.complaint, got.status) == (b"", 2) else [str(got)])
 
 

@@ -69,7 +69,7 @@ def printing_runs(files):
     faulty = files.path("Z.rule", "faulty")
     named = files.path("named.claims", f"load s {state}\nload z {unknown}\nstill s\nstill z\n")
     found = f"line 3: yes\nline 4: refused, bad rule: unknown\n  z: {unknown}: rule Z: {faulty}: line 1 no rule line\n".encode()
-    both = after_path(text, EXPLAINED) + after_path(lost, b"line 2: refused, no file\n  lost: nowhere.rle\n")
+    both = after_path(text, EXPLAINED) + after_path(lost, b"line 2: refused, no file\n  lost: nowhere.rle: no such file\n")
     return (
         (["verify", text], Outcome(PLAIN, b"", 1)), (["verify", "--explain", text], Outcome(EXPLAINED, b"", 1)),
         (["verify", "--explain", text, lost], Outcome(both, b"", 2)), (["verify", "--explain", "--rules", files.folder, named], Outcome(found, b"", 2)), (["show", dot], SHOWN), (["show", macrocell], SHOWN_MACROCELL),
@@ -188,8 +188,8 @@ def try_reads(tally, refusing, files):
     size = os.path.getsize(text)
     expect_reads(tally, refusing, ["verify", text], Outcome(PLAIN, b"", 1), (
         (size, fault(f"cannot read {text}")), (len(DOT), refused(PLAIN, (3, 5))), (len(ROW), refused(PLAIN, (4, 5)))))
-    no_dot = b"line 3: refused, no file\n  dot: %s\nline 4: yes\nline 5: refused, no file\n  dot: %s\n" % (dot.encode(), dot.encode())
-    no_row = b"line 4: refused, no file\n  row: %s\nline 5: refused, no file\n  row: %s\n" % (row.encode(), row.encode())
+    no_dot = b"line 3: refused, no file\n  dot: %s: it can't be read\nline 4: yes\nline 5: refused, no file\n  dot: %s: it can't be read\n" % (dot.encode(), dot.encode())
+    no_row = b"line 4: refused, no file\n  row: %s: it can't be read\nline 5: refused, no file\n  row: %s: it can't be read\n" % (row.encode(), row.encode())
     before = EXPLAINED.partition(b"line 4")[0]
     expect_reads(tally, refusing, ["verify", "--explain", text], Outcome(EXPLAINED, b"", 1), (
         (size, fault(f"cannot read {text}")), (len(DOT), Outcome(no_dot, b"", 2)), (len(ROW), Outcome(before + no_row, b"", 2))))

@@ -82,7 +82,7 @@ def try_needed(tally, files):
         text.load_path("b", missing)
         text.load_path("pipe", files.paths["pipe"])
         text.claim("still block", "yes")
-        text.claim(claim, "refused, no file", name.encode() + b": " + missing)
+        text.claim(claim, "refused, no file", name.encode() + b": " + missing + b": no such file")
         files.expect(tally, f"needed, {claim}", text)
     text = files.text()
     path = text.load("a", BLOCK)
@@ -105,12 +105,12 @@ def try_needed(tally, files):
 
 def try_rule_files(tally, files):
     """Every rule file is read where there is a claim."""
-    for name in ("missing", "folder", "not_utf_8"):
+    for name, why in (("missing", b"no such file"), ("folder", b"a folder"), ("not_utf_8", b"not UTF-8")):
         path = files.paths[name]
         text = files.text()
         text.load("block", BLOCK)
         text.rule_path(path)
-        text.claim("still block", "refused, no file", b"rule file: " + (path if isinstance(path, bytes) else path.encode()))
+        text.claim("still block", "refused, no file", b"rule file: " + (path if isinstance(path, bytes) else path.encode()) + b": " + why)
         files.expect(tally, f"a rule file, {name}", text)
 
 

@@ -153,7 +153,7 @@ def try_notes(tally, refusing, files):
     text.load_path("lost", "examples/lost.rle")
     text.long_claim("still lost", "refused, no file")
     text.long_claim("becomes block 300 block", "yes", digits(300))
-    printed = b"line 3: refused, no file\n  lost: examples/lost.rle\nline 4: yes\n"
+    printed = b"line 3: refused, no file\n  lost: examples/lost.rle: no such file\nline 4: yes\n"
     judge(tally, refusing, "explained", ["--progress", "--explain", text.write()], printed, b"".join(text.shown(1000)), 2, CLOCK_STEP=1000)
     judge(tally, refusing, "no claim", ["--progress", "examples/no_claims.claims"], b"", b"", 0, CLOCK_STEP=1000)
     judge(tally, refusing, "a fault", ["--progress", "examples/syntax.claims"], b"", b"cafile: claims line 2: syntax\n", 2, CLOCK_STEP=1000)

@@ -47,7 +47,7 @@ NOTED = ("show_explain_syntax", "show_explain_forward", "show_rules_unknown", "c
          "draw_explain_unknown")
 
 # Examples of `verify` with notes, each of one text, and runs over several texts, each with the examples that its texts give by themselves.
-EXPLAINED = {"explain_several": 1, "explain_bad_patterns": 1, "explain_bad_macrocells": 3, "explain_bad_table": 1, "explain_no_rule_file": 1, "explain_causes": 1, "verify_rules": 1,
+EXPLAINED = {"explain_several": 1, "explain_bad_patterns": 1, "explain_bad_macrocells": 3, "explain_bad_table": 1, "explain_no_rule_file": 1, "explain_causes": 1, "verify_rules": 1, "verify_root": 1,
              "explain_rules": 1}
 SEVERAL = (
     (("verify",), {"block": "block", "several": "several"}),

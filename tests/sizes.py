@@ -42,7 +42,7 @@ KINDS = (
     ("still block", "yes", None), ("still dot", "no, cells differ after 1", "dot at 0,0: 0 after 1 generation, claimed 1"),
     ("becomes nothing 7 dot", "no, cells differ after 7", "nothing at 0,0: 0 after 7 generations, claimed 1"), ("oscillator blinker 2", "yes", None),
     ("oscillator block 2", "no, the same after 1, shifted by 0,0", None), ("spaceship nothing 4 1 1", "no, empty", None),
-    ("still lost", "refused, no file", "lost: {lost}"), ("becomes block 1 lost", "refused, no file", "lost: {lost}"),
+    ("still lost", "refused, no file", "lost: {lost}: no such file"), ("becomes block 1 lost", "refused, no file", "lost: {lost}: no such file"),
     ("still bad", "refused, bad pattern: rle syntax", "bad: {bad}, line 2"), ("becomes block 0 life", "refused, bad rule: unknown", "life: {life}: rule Life"),
     ("still state", "refused, state too large", "state: {state}"), ("becomes block 0 high", "refused, mixed rules", None),
     ("spaceship full 1 1 0", "refused, too many cells", "full: {full}"),
@@ -159,7 +159,7 @@ def try_one_reading(texts):
 def try_rule_files(texts):
     """A rule file that is missing or faulty, in a text of more than 1000 paths and on lines beyond 100000."""
     good = "@RULE S\n@TABLE\nn_states:3\nneighborhood:oneDimensional\nsymmetries:none\n"
-    for verdict, content, line in (("refused, no file", None, ""), ("refused, bad table: syntax", good + "var\n", ", line 6")):
+    for verdict, content, line in (("refused, no file", None, ": no such file"), ("refused, bad table: syntax", good + "var\n", ", line 6")):
         text = texts.text()
         text.rule(good)
         path = (text.rule(content) if content else text.rule_path(f"{texts.folder}/lost")).decode()

@@ -37,7 +37,7 @@ def try_texts(tally):
         for words in (["verify", "-"], ["verify", "--", "-"], ["verify", "-", "--explain"], ["verify", "--explain", "--", "-"]):
             tally.expect(f"{' '.join(words)}, {text[-20:]!r}", run(words, input=text), wanted)
     lost = b"load lost examples/lost.rle\nstill lost\n"
-    note = b"line 2: refused, no file\n  lost: examples/lost.rle\n"
+    note = b"line 2: refused, no file\n  lost: examples/lost.rle: no such file\n"
     tally.expect("explained", run(["verify", "--explain", "-"], input=lost), Outcome(note, b"", 2))
 
 
@@ -52,7 +52,7 @@ def try_several(tally):
     tally.expect("a fault", run(["verify", "-", block], input=b"still"), Outcome(more, b"cafile: -: claims line 1: syntax\n", 2))
     tally.expect("twice, with a fault", run(["verify", "-", block, "-"], input=b"still"), Outcome(more, b"cafile: -: claims line 1: syntax\n", 2))
     text = b"load lost examples/lost.rle\nstill lost\n"
-    wanted = Outcome(b"-: line 2: refused, no file\n-:   lost: examples/lost.rle\n" + more, b"", 2)
+    wanted = Outcome(b"-: line 2: refused, no file\n-:   lost: examples/lost.rle: no such file\n" + more, b"", 2)
     tally.expect("explained, with another", run(["verify", "-", block, "--explain"], input=text), wanted)
 
 

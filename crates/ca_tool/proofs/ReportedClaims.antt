@@ -158,8 +158,8 @@ plain_text : (style : ReportStyle) (findings : List Finding) → style.before.no
 plain_text style [] none off = refl
 plain_text style (finding ∷ findings) none off =
     ap (λ l. l ++ findings_text style findings)
-    (ap (λ b. (b ++ answer_line finding.answer) ++ (if style.explained then note_text style.before.now style.faulty.now finding.answer.verdict finding.note else [])) none
-    ∙ ap (λ e. answer_line finding.answer ++ (if e then note_text style.before.now style.faulty.now finding.answer.verdict finding.note else [])) off
+    (ap (λ b. (b ++ answer_line finding.answer) ++ (if style.explained then note_text style.before.now style.faulty.now style.missing.now finding.answer.verdict finding.note else [])) none
+    ∙ ap (λ e. answer_line finding.answer ++ (if e then note_text style.before.now style.faulty.now style.missing.now finding.answer.verdict finding.note else [])) off
     ∙ append-nil (answer_line finding.answer))
     ∙ ap (λ l. answer_line finding.answer ++ l) (plain_text style findings none off)
 

@@ -40,6 +40,9 @@ use Rattle.ca_tool.specs.declared.fault.ToolFault.{ToolFault}
 use Rattle.ca_tool.specs.declared.fault.ToolFault.TheVariants as tools
 use Rattle.ca_tool.specs.declared.explanation.RunPaths.{RunPaths}
 use Rattle.ca_tool.specs.declared.rule_folder.FaultyRule.{FaultyRule}
+use Rattle.ca_tool.specs.declared.absence.Absence.{Absence}
+use Rattle.ca_tool.specs.declared.absence.Absence.TheVariants as absences
+use Rattle.ca_tool.specs.declared.absence.MissingFile.{MissingFile}
 use Rattle.ca_tool.specs.declared.finding.ReportStyle.{ReportStyle}
 use Rattle.ca_tool.specs.declared.finding.Finding.{Finding}
 use Rattle.ca_tool.specs.Escaped.{escaped}
@@ -229,9 +232,33 @@ abbrev pub at_line : Option ℕ → List ℕ
 at_line None = []
 at_line (Some line) = codes ", line " ++ decimal line
 
--- the line about a file, with the name of what it holds
-abbrev pub file_line : List ℕ → List ℕ → List ℕ → Option ℕ → List ℕ
-file_line before name path line = before ++ (codes "  " ++ (escaped name ++ (codes ": " ++ (escaped path ++ (at_line line ++ 10 ∷ [])))))
+-- why no file of a path is handed in
+abbrev pub absence_text : Absence → List ℕ
+absence_text absences.NoFile = codes "no such file"
+absence_text absences.Folder = codes "a folder"
+absence_text absences.Unreadable = codes "it can't be read"
+absence_text absences.TooLong = codes "more than 67108864 bytes"
+absence_text absences.NotUtf8 = codes "not UTF-8"
+absence_text absences.Outside = codes "outside the root"
+
+-- the first of some missing files with this path
+abbrev pub missing_at : List MissingFile → List ℕ → Option MissingFile
+missing_at [] path = None
+missing_at (f ∷ fs) path = if bytes_eq f.path.now path then Some f else missing_at fs path
+
+-- why a missing file isn't there
+abbrev pub absence_words : Option MissingFile → List ℕ
+absence_words None = []
+absence_words (Some file) = codes ": " ++ absence_text file.why
+
+-- why there is no file of a path, where that is known
+abbrev pub missing_words : List MissingFile → List ℕ → List ℕ
+missing_words missing path = absence_words (missing_at missing path)
+
+-- the line about a file, with the name of what it holds, and why it is missing or on which line it is faulty
+abbrev pub file_line : List ℕ → List MissingFile → List ℕ → List ℕ → Option ℕ → List ℕ
+file_line before missing name path line =
+    before ++ (codes "  " ++ (escaped name ++ (codes ": " ++ (escaped path ++ (missing_words missing path ++ (at_line line ++ 10 ∷ []))))))
 
 -- the faulty line of a rule line's file
 abbrev pub cause_line : Cause → Option ℕ
@@ -263,26 +290,26 @@ abbrev pub faulty_rule_words : List FaultyRule → Option (Vec ℕ Global) → L
 faulty_rule_words faulty None = []
 faulty_rule_words faulty (Some text) = faulty_words (faulty_named faulty text.items)
 
--- the line about the file of a pattern with this name: the line of its fault, or its rule text, and the rule file of that name that is faulty
-abbrev pub noted_line : List ℕ → List FaultyRule → List ℕ → List ℕ → Option ℕ → Option (Vec ℕ Global) → List ℕ
-noted_line before faulty name path line text = before ++ (codes "  " ++ (escaped name ++ (codes ": " ++ (escaped path ++ (at_line line ++ (rule_words text
-    ++ (faulty_rule_words faulty text ++ 10 ∷ [])))))))
+-- the line about the file of a pattern with this name: why it is missing, the line of its fault, or its rule text, and the rule file of that name that is faulty
+abbrev pub noted_line : List ℕ → List FaultyRule → List MissingFile → List ℕ → List ℕ → Option ℕ → Option (Vec ℕ Global) → List ℕ
+noted_line before faulty missing name path line text = before ++ (codes "  " ++ (escaped name ++ (codes ": " ++ (escaped path ++ (missing_words missing path
+    ++ (at_line line ++ (rule_words text ++ (faulty_rule_words faulty text ++ 10 ∷ []))))))))
 
 -- the line of a note on a refusal
-abbrev pub refusal_note_text : List ℕ → List FaultyRule → Cause → Note → List ℕ
-refusal_note_text before faulty cause (notes.Pattern name path line text) = noted_line before faulty name.now path.now line text
-refusal_note_text before faulty cause (notes.RuleFile path) = file_line before (codes "rule file") path.now (cause_line cause)
-refusal_note_text before faulty cause note = []
+abbrev pub refusal_note_text : List ℕ → List FaultyRule → List MissingFile → Cause → Note → List ℕ
+refusal_note_text before faulty missing cause (notes.Pattern name path line text) = noted_line before faulty missing name.now path.now line text
+refusal_note_text before faulty missing cause (notes.RuleFile path) = file_line before missing (codes "rule file") path.now (cause_line cause)
+refusal_note_text before faulty missing cause note = []
 
 -- the second line, of a note on a verdict, where there is something to tell
-abbrev pub note_text : List ℕ → List FaultyRule → Verdict → Note → List ℕ
-note_text before faulty Yes note = []
-note_text before faulty (No why) note = no_note_text before why note
-note_text before faulty (Refused cause) note = refusal_note_text before faulty cause note
+abbrev pub note_text : List ℕ → List FaultyRule → List MissingFile → Verdict → Note → List ℕ
+note_text before faulty missing Yes note = []
+note_text before faulty missing (No why) note = no_note_text before why note
+note_text before faulty missing (Refused cause) note = refusal_note_text before faulty missing cause note
 
 -- the second line for a claim, where answers are explained
 abbrev pub second_line : ReportStyle → Finding → List ℕ
-second_line style finding = if style.explained then note_text style.before.now style.faulty.now finding.answer.verdict finding.note else []
+second_line style finding = if style.explained then note_text style.before.now style.faulty.now style.missing.now finding.answer.verdict finding.note else []
 
 -- what is printed for a claim: the line of its answer, and where answers are explained the second line
 abbrev pub finding_text : ReportStyle → Finding → List ℕ
@@ -298,7 +325,7 @@ pattern_line path line text = codes "  " ++ (escaped path ++ (at_line line ++ (r
 
 -- the line about a rule file that is no good table
 abbrev pub rule_file_line : List ℕ → TableFault → List ℕ
-rule_file_line path fault = file_line [] (codes "rule file") path (Some (table_line fault))
+rule_file_line path fault = file_line [] [] (codes "rule file") path (Some (table_line fault))
 
 -- the line that explains a fault of a run over a pattern file: it names the rule file or the pattern file, with what is known of the fault. A fault
 -- that names its file, or is about none, has no such line

@@ -26,23 +26,23 @@ fn pattern_pieces<'a>(
     path: &'a [u8],
     line: Option<u64>,
     rule_text: &'a Option<Vec<u8>>,
-) -> [Piece<'a>; 15]
+) -> [Piece<'a>; 16]
     ensures { pieces_text result ≡ pattern_line path.now line rule_text.now }
 {
     let [at, number] = at_pieces(line);
     let [word, text] = rule_pieces(rule_text);
-    in_pieces![15; text b"  ", escaped path, piece at, piece number, piece word, piece text, text b"\n"]
+    in_pieces![16; text b"  ", escaped path, piece at, piece number, piece word, piece text, text b"\n"]
 }
 
 // The line that explains why the pattern of a file isn't identified, where there is something to tell.
 fn cause_explanation_pieces<'a>(
     path: &'a [u8],
     refused: &'a DetailedFault<Cause>,
-) -> [Piece<'a>; 15]
+) -> [Piece<'a>; 16]
     ensures { pieces_text result ≡ cause_explanation path.now refused.now }
 {
     let (Cause::BadPattern(_) | Cause::BadRule(_) | Cause::StateTooLarge) = refused.fault else {
-        return [NOTHING; 15];
+        return [NOTHING; 16];
     };
     pattern_pieces(path, refused.line, &refused.rule_text)
 }
@@ -52,13 +52,13 @@ fn cause_explanation_pieces<'a>(
 pub(crate) fn outcome_explanation_pieces<'a>(
     path: &'a [u8],
     outcome: &'a Outcome<'a>,
-) -> [Piece<'a>; 15]
+) -> [Piece<'a>; 16]
     ensures { pieces_text result ≡ outcome_explanation path.now outcome.now }
 {
     match outcome {
         Outcome::Refused(why) => cause_explanation_pieces(path, why),
         Outcome::FaultyRule(rule) => rule_file_pieces(rule.path, rule.fault),
-        Outcome::Unnameable | Outcome::Identified(_) => [NOTHING; 15],
+        Outcome::Unnameable | Outcome::Identified(_) => [NOTHING; 16],
     }
 }
 
@@ -66,7 +66,7 @@ pub(crate) fn outcome_explanation_pieces<'a>(
 fn explanation_pieces<'a>(
     refused: &'a DetailedFault<ToolFault>,
     paths: &RunPaths<'a>,
-) -> [Piece<'a>; 15]
+) -> [Piece<'a>; 16]
     ensures { pieces_text result ≡ explanation refused.now paths.now }
 {
     match refused.fault {
@@ -76,7 +76,7 @@ fn explanation_pieces<'a>(
         | ToolFault::Work
         | ToolFault::Range
         | ToolFault::Window(_) => pattern_pieces(paths.pattern, refused.line, &refused.rule_text),
-        _ => [NOTHING; 15],
+        _ => [NOTHING; 16],
     }
 }
 

@@ -7,6 +7,7 @@ ghost use Rattle.ca_tool.specs.Printed.{cause_line, note_text, second_line, find
 ghost use Rattle.ca_tool.specs.Writing.{Sends};
 ghost use Rattle.ca_tool.specs.inner.Pieces.{pieces_text};
 
+use crate::absence::{MissingFile, missing_piece};
 use crate::pieces::{NOTHING, Piece, in_pieces, push_pieces, send_pieces};
 use crate::printing::answer_pieces;
 use crate::rule_folder::FaultyRule;
@@ -26,6 +27,8 @@ pub struct ReportStyle<'a> {
     /// The rule files that were looked for by the names of rules, and aren't good: a second line about a
     /// pattern whose rule text is such a name tells the file too.
     pub faulty: &'a [FaultyRule<'a>],
+    /// The paths whose files aren't handed in, as far as it is known why: a second line about such a file tells it.
+    pub missing: &'a [MissingFile<'a>],
 }
 
 /// An answer, and the note on it.
@@ -45,7 +48,7 @@ pub(crate) fn generations_word<'a>(generations: u64) -> &'a [u8]
 }
 
 // The line about a cell that differs, with the name of the pattern.
-fn cell_pieces<'a>(before: &'a [u8], name: &'a [u8], why: Why) -> [Piece<'a>; 15]
+fn cell_pieces<'a>(before: &'a [u8], name: &'a [u8], why: Why) -> [Piece<'a>; 16]
     ensures { pieces_text result ≡ cell_line before.now name.now why }
 {
     let Why::Differs {
@@ -56,12 +59,12 @@ fn cell_pieces<'a>(before: &'a [u8], name: &'a [u8], why: Why) -> [Piece<'a>; 15
         gens,
     } = why
     else {
-        return [NOTHING; 15];
+        return [NOTHING; 16];
     };
     in_pieces![
         text before, text b"  ", escaped name, text b" at ", integer x, text b",", integer y,
         text b": ", number u64::from(found), text b" after ", number gens, text generations_word(gens),
-        text b", claimed ", number u64::from(claimed), text b"\n",
+        text b", claimed ", number u64::from(claimed), text b"\n", text b"",
     ]
 }
 
@@ -77,23 +80,25 @@ pub(crate) fn at_pieces<'a>(line: Option<u64>) -> [Piece<'a>; 2]
 // The line about a file, with the name of what it holds.
 fn file_pieces<'a>(
     before: &'a [u8],
+    missing: &[MissingFile<'a>],
     name: &'a [u8],
     path: &'a [u8],
     line: Option<u64>,
-) -> [Piece<'a>; 15]
-    ensures { pieces_text result ≡ file_line before.now name.now path.now line }
+) -> [Piece<'a>; 16]
+    ensures { pieces_text result ≡ file_line before.now missing.now name.now path.now line }
 {
     let [at, number] = at_pieces(line);
-    in_pieces![15;
-        text before, text b"  ", escaped name, text b": ", escaped path, piece at, piece number, text b"\n",
+    in_pieces![16;
+        text before, text b"  ", escaped name, text b": ", escaped path, piece missing_piece(missing, path),
+        piece at, piece number, text b"\n",
     ]
 }
 
 /// The line about a rule file, with the line of its fault.
-pub(crate) fn rule_file_pieces<'a>(path: &'a [u8], fault: TableFault) -> [Piece<'a>; 15]
+pub(crate) fn rule_file_pieces<'a>(path: &'a [u8], fault: TableFault) -> [Piece<'a>; 16]
     ensures { pieces_text result ≡ rule_file_line path.now fault }
 {
-    file_pieces(b"", b"rule file", path, Some(table_line(fault)))
+    file_pieces(b"", &[], b"rule file", path, Some(table_line(fault)))
 }
 
 /// A rule text that names no rule.
@@ -152,16 +157,16 @@ fn noted_pieces<'a>(
     path: &'a [u8],
     line: Option<u64>,
     rule_text: &'a Option<Vec<u8>>,
-) -> [Piece<'a>; 15]
-    ensures { pieces_text result ≡ noted_line style.now.before.now style.now.faulty.now name.now path.now
-        line rule_text.now }
+) -> [Piece<'a>; 16]
+    ensures { pieces_text result ≡ noted_line style.now.before.now style.now.faulty.now style.now.missing.now
+        name.now path.now line rule_text.now }
 {
     let [at, number] = at_pieces(line);
     let [word, text] = rule_pieces(rule_text);
     let [colon, file, at_fault, fault_line, kind] = faulty_rule_pieces(style.faulty, rule_text);
     in_pieces![
         text style.before, text b"  ", escaped name, text b": ", escaped path,
-        piece at, piece number, piece word, piece text,
+        piece missing_piece(style.missing, path), piece at, piece number, piece word, piece text,
         piece colon, piece file, piece at_fault, piece fault_line, piece kind, text b"\n",
     ]
 }
@@ -177,9 +182,9 @@ fn cause_line(cause: Cause) -> Option<u64>
 }
 
 // The line of a note on a verdict, where there is something to tell.
-fn note_pieces<'a>(style: &ReportStyle<'a>, verdict: Verdict, note: &'a Note<'a>) -> [Piece<'a>; 15]
+fn note_pieces<'a>(style: &ReportStyle<'a>, verdict: Verdict, note: &'a Note<'a>) -> [Piece<'a>; 16]
     ensures { pieces_text result
-        ≡ note_text style.now.before.now style.now.faulty.now verdict note.now }
+        ≡ note_text style.now.before.now style.now.faulty.now style.now.missing.now verdict note.now }
 {
     match (verdict, note) {
         (Verdict::No(why), Note::Cell { name }) => cell_pieces(style.before, name, why),
@@ -193,18 +198,24 @@ fn note_pieces<'a>(style: &ReportStyle<'a>, verdict: Verdict, note: &'a Note<'a>
             },
         ) => noted_pieces(style, name, path, *line, rule_text),
         (Verdict::Refused(cause), Note::RuleFile { path }) => {
-            file_pieces(style.before, b"rule file", path, cause_line(cause))
+            file_pieces(
+                style.before,
+                style.missing,
+                b"rule file",
+                path,
+                cause_line(cause),
+            )
         }
-        _ => [NOTHING; 15],
+        _ => [NOTHING; 16],
     }
 }
 
 // The second line, where one is printed.
-fn second_pieces<'a>(style: &ReportStyle<'a>, finding: &'a Finding<'a>) -> [Piece<'a>; 15]
+fn second_pieces<'a>(style: &ReportStyle<'a>, finding: &'a Finding<'a>) -> [Piece<'a>; 16]
     ensures { pieces_text result ≡ second_line style.now finding.now }
 {
     if !style.explained {
-        return [NOTHING; 15];
+        return [NOTHING; 16];
     }
     note_pieces(style, finding.answer.verdict, &finding.note)
 }

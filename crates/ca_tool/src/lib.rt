@@ -1,6 +1,7 @@
 //! Runs over devices, and the texts that they print.
 #![tactic(auto)]
 
+mod absence;
 mod ahead_run;
 mod catalog;
 mod complaint;
@@ -27,6 +28,7 @@ mod taken_names;
 mod texts;
 mod view;
 
+pub use absence::{Absence, MissingFile};
 pub use ahead_run::write_form_after;
 pub use catalog::{Catalog, says_its_claims};
 pub use complaint::{complain, complain_with_path};

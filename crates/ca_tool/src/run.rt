@@ -22,6 +22,7 @@ const PLAIN: ReportStyle<'static> = ReportStyle {
     before: b"",
     explained: false,
     faulty: &[],
+    missing: &[],
 };
 
 /// Judges each claim, in order and within the limits, and writes the line of its answer before the next is

@@ -7,7 +7,7 @@ use ca_claims::{Claims, File, NamedTable, WordSet, table_named, unknown_rules};
 use ca_plane::text::push_text;
 use ca_plane::{Dev, Memory};
 use ca_rule::TableFault;
-use ca_tool::{FaultyRule, InputFault, path_in, read_all, rule_path};
+use ca_tool::{Absence, FaultyRule, InputFault, MissingFile, path_in, read_all, rule_path};
 use std::alloc::Global;
 use std::fs;
 use std::io::ErrorKind;
@@ -85,67 +85,130 @@ pub fn check_folder<R: Files>(rt: &R, path: &str) -> Result<(), InputFault> {
     }
 }
 
-/// The files that a claim text needs and that can be read, in the order of its paths. No other file is
-/// opened. Where there is a root, they are looked for there, and none whose path may lead out of it is opened.
-/// Fails where there is no memory for them, of a text that makes a claim.
+/// The files of a claim text's paths: those that were read, and those that weren't.
+#[derive(Drop)]
+pub struct NeededFiles {
+    pub loaded: Vec<LoadedFile>,
+    pub missing: Vec<LostFile>,
+}
+
+/// A path of a claim text whose file wasn't read.
+#[derive(Drop)]
+pub struct LostFile {
+    path: Vec<u8>,
+    why: Absence,
+}
+
+impl LostFile {
+    /// The same for a run, whose bytes stay here.
+    pub fn view(&self) -> MissingFile<'_> {
+        MissingFile {
+            path: self.path.as_slice(),
+            why: self.why,
+        }
+    }
+}
+
+// Why a file's bytes aren't there: it wasn't read, or memory is out.
+#[derive(Clone, Copy)]
+enum Unread {
+    Absent(Absence),
+    Memory,
+}
+
+/// The files that a claim text needs, in the order of its paths: those that can be read, and the others with the
+/// reason. No other file is opened. Where there is a root, they are looked for there, and none whose path may lead out
+/// of it is opened. Fails where there is no memory for them, of a text that makes a claim.
 pub fn load_needed<R: Files + AllocGlobal>(
     rt: &R,
     claims: &Claims,
     root: &Option<String>,
-) -> Result<Vec<LoadedFile>, Memory>
+) -> Result<NeededFiles, Memory>
     ensures { OnErr result (claims.now.claims ≢ []) }
 {
+    let mut files = NeededFiles {
+        loaded: Vec::new(rt.alloc()),
+        missing: Vec::new(rt.alloc()),
+    };
     if claims.claim_count() == 0 {
-        return Ok(Vec::new(rt.alloc()));
+        return Ok(files);
     }
     let needed = claims.needed(rt.alloc())?;
-    let mut all = Vec::new(rt.alloc());
     for index in 0..claims.path_count() {
         if needed.get(index) == Some(&true) {
-            add_file(rt, root, claims.path(index), &mut all)?;
+            add_file(rt, root, claims.path(index), &mut files)?;
         }
     }
-    Ok(all)
+    Ok(files)
 }
 
-// Adds the file of a text's path, if it can be read.
+// Adds the file of a text's path, or why it isn't read.
 fn add_file<R: Files + AllocGlobal>(
     rt: &R,
     root: &Option<String>,
     path: &[u8],
-    all: &mut Vec<LoadedFile>,
+    files: &mut NeededFiles,
 ) -> Result<(), Memory> {
-    if let Some(bytes) = load_bytes_below(rt, root, path)? {
-        all.push(LoadedFile::new(rt.alloc(), path, bytes)?)?;
+    let alloc = rt.alloc();
+    match load_below(rt, root, path) {
+        Ok(bytes) => files.loaded.push(LoadedFile::new(alloc, path, bytes)?)?,
+        Err(Unread::Absent(why)) => {
+            let path = Vec::from_slice(alloc, path)?;
+            files.missing.push(LostFile { path, why })?;
+        }
+        Err(Unread::Memory) => return Err(Memory),
     }
     Ok(())
 }
 
 // The bytes of a text's file. Where there is a root, it is looked for there, and isn't opened where its path may lead
 // out of it.
-fn load_bytes_below<R: Files + AllocGlobal>(
+fn load_below<R: Files + AllocGlobal>(
     rt: &R,
     root: &Option<String>,
     path: &[u8],
-) -> Result<Option<Vec<u8>>, Memory> {
+) -> Result<Vec<u8>, Unread> {
     let Some(root) = root else {
         return load_bytes(rt, path);
     };
-    match path_in(rt.alloc(), root.as_bytes(), path)? {
-        Some(place) => load_bytes(rt, &place),
-        None => Ok(None),
+    match path_in(rt.alloc(), root.as_bytes(), path) {
+        Ok(Some(place)) => load_bytes(rt, &place),
+        Ok(None) => Err(Unread::Absent(Absence::Outside)),
+        Err(_) => Err(Unread::Memory),
     }
 }
 
 // The bytes of the file of a path, if the path is UTF-8, and the file can be read and isn't too long.
-fn load_bytes<R: Files + AllocGlobal>(rt: &R, path: &[u8]) -> Result<Option<Vec<u8>>, Memory> {
+fn load_bytes<R: Files + AllocGlobal>(rt: &R, path: &[u8]) -> Result<Vec<u8>, Unread> {
     let Ok(text) = str::from_utf8(path) else {
-        return Ok(None);
+        return Err(Unread::Absent(Absence::NotUtf8));
     };
     match read_file(rt, text) {
+        Ok(bytes) => Ok(bytes),
+        Err(InputFault::Read) => Err(Unread::Absent(why_unread(rt, text))),
+        Err(InputFault::TooLong) => Err(Unread::Absent(Absence::TooLong)),
+        Err(InputFault::Memory) => Err(Unread::Memory),
+    }
+}
+
+// Why a file couldn't be read, as far as a further look at its path tells it.
+fn why_unread<R: Files>(rt: &R, path: &str) -> Absence {
+    match fs::metadata(rt, path) {
+        Ok(found) if found.is_dir() => Absence::Folder,
+        Ok(_) => Absence::Unreadable,
+        Err(error) => match error.kind() {
+            ErrorKind::NotFound | ErrorKind::NotADirectory => Absence::NoFile,
+            _ => Absence::Unreadable,
+        },
+    }
+}
+
+// The bytes of the file of a path, if it can be read.
+fn found_bytes<R: Files + AllocGlobal>(rt: &R, path: &[u8]) -> Result<Option<Vec<u8>>, Memory> {
+    match load_bytes(rt, path) {
         Ok(bytes) => Ok(Some(bytes)),
-        Err(InputFault::Memory) => Err(Memory),
-        Err(InputFault::Read | InputFault::TooLong) => Ok(None),
+        Err(Unread::Absent(_)) => Ok(None),
+        Err(Unread::Memory) => Err(Memory),
     }
 }
 
@@ -158,18 +221,19 @@ pub fn load_rule_file<R: Files + AllocGlobal>(
     let Some(path) = rule_path(rt.alloc(), folder.as_bytes(), name)? else {
         return Ok(None);
     };
-    match load_bytes(rt, &path)? {
+    match found_bytes(rt, &path)? {
         Some(bytes) => Ok(Some(LoadedFile::new(rt.alloc(), &path, bytes)?)),
         None => Ok(None),
     }
 }
 
-/// The claims of a text, the files that they need, and the rule files that were looked for by the names of their
-/// patterns' rules, and aren't good.
+/// The claims of a text, the files that they need, those of them that weren't read, and the rule files that were looked
+/// for by the names of their patterns' rules, and aren't good.
 #[derive(Drop)]
 pub struct LoadedText {
     pub claims: Claims,
     pub files: Vec<LoadedFile>,
+    pub missing: Vec<LostFile>,
     pub faulty: Vec<FaultyFile>,
 }
 
@@ -279,7 +343,7 @@ fn load_once<R: Files + AllocGlobal>(
     if bytes_at(files, label).is_some() {
         return Ok(());
     }
-    if let Some(bytes) = load_bytes(rt, path)? {
+    if let Some(bytes) = found_bytes(rt, path)? {
         files.push(LoadedFile::new(rt.alloc(), label, bytes)?)?;
     }
     Ok(())
@@ -304,6 +368,18 @@ pub fn views<'a>(alloc: Global, loaded: &'a [LoadedFile]) -> Result<Vec<File<'a>
         views.push(file.view())?;
     }
     Ok(views)
+}
+
+/// The files that weren't read as `verify` takes them.
+pub fn missing_files<'a>(
+    alloc: Global,
+    lost: &'a [LostFile],
+) -> Result<Vec<MissingFile<'a>>, Memory> {
+    let mut missing = Vec::new(alloc);
+    'files: for file in lost {
+        missing.push(file.view())?;
+    }
+    Ok(missing)
 }
 
 /// The faulty rule files as `verify` takes them.

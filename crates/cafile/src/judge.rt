@@ -4,7 +4,9 @@ ghost use Rattle.std.specs.Prelude.{◌≡◌, ◌++◌, [], codes, IfOk, OnErr,
 ghost use Rattle.ca_tool.specs.Escaped.{escaped};
 
 use crate::FAULT;
-use crate::files::{LoadedText, faulty_rules, load_needed, read_source, views, with_named_rules};
+use crate::files::{
+    LoadedText, faulty_rules, load_needed, missing_files, read_source, views, with_named_rules,
+};
 use crate::progress::{Heading, Progress};
 use crate::streams::Streams;
 use crate::words::{Extras, Folders};
@@ -77,10 +79,14 @@ fn verify_text<R: Files + Clock + AllocGlobal>(
     let Ok(faulty) = faulty_rules(rt.alloc(), &text.faulty) else {
         return Err(Fault::Input(InputFault::Memory));
     };
+    let Ok(missing) = missing_files(rt.alloc(), &text.missing) else {
+        return Err(Fault::Input(InputFault::Memory));
+    };
     let style = ReportStyle {
         before: &before,
         explained: extras.explained,
         faulty: &faulty,
+        missing: &missing,
     };
     judge(rt, &text, &style, extras, streams)
 }
@@ -92,11 +98,11 @@ fn load<R: Files + AllocGlobal>(
     folders: &Folders,
 ) -> Result<LoadedText, Memory> {
     let files = load_needed(rt, &claims, &folders.root)?;
-    let faulty = Vec::new(rt.alloc());
     let text = LoadedText {
         claims,
-        files,
-        faulty,
+        files: files.loaded,
+        missing: files.missing,
+        faulty: Vec::new(rt.alloc()),
     };
     match &folders.rules {
         Some(folder) => with_named_rules(rt, folder.as_str(), folders.root.is_some(), text),

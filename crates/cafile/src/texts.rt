@@ -155,7 +155,8 @@ the rule file is looked for there as DIR/NAME.rule. A faulty one refuses the cla
 absolute or has `..` among its parts is never opened: `refused, no file`. A link in that folder is followed.
 
 --explain adds a line after a no or a refusal that has more to tell: the pattern's name with a cell that
-differs, or with its file and the line of the fault, or the rule that isn't known; or the rule file.
+differs, or with its file and the line of the fault, the rule that isn't known, or why there is no file; or the
+rule file.
 
 On a terminal, a line on standard error shows how far a claim is that takes over a second, as
 `line 3: 904 of 5000 generations`, and where it takes much work how much was done, as `, 1.2 million results, 5.1

@@ -75,6 +75,7 @@ const STYLE: ReportStyle<'static> = ReportStyle {
     before: b"c: ",
     explained: true,
     faulty: &[],
+    missing: &[],
 };
 
 const SHOWN: &[u8] = b"format rle\nrule B3/S23\ngen 0\ncells 5\nbox 0 0 3 3\n";
