@@ -143,8 +143,12 @@ impl<A: Automaton> Leaper<A> {
     /// Lets so many units of work be used up in all, or as many as are used up already. So a caller may allow a
     /// part of its work a share of what is left, and the rest after it.
     pub fn limit_work(&mut self, limit: u64)
-        ensures limited { self.new ≡ record { rule = self.old.rule; nodes = self.old.nodes; memo = self.old.memo;
-            spent = record { used = self.old.spent.used; limit = max self.old.spent.used limit } } }
+        ensures limited { self.new ≡ record {
+          rule = self.old.rule;
+          nodes = self.old.nodes;
+          memo = self.old.memo;
+          spent = record { used = self.old.spent.used; limit = max self.old.spent.used limit };
+        } }
         ensures most { self.old.spent.used ≤ self.old.spent.limit }
     {
         let _ = &self.store;
