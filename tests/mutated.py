@@ -13,6 +13,7 @@ import os
 import random
 import re
 import resource
+import stat
 import tempfile
 from dataclasses import dataclass, field
 from functools import cached_property
@@ -21,7 +22,7 @@ from lib import claim_reader, macrocell, rle
 from lib.claim_reader import Judge
 from lib.mutations import KINDS, Mutator
 from lib.pictures import drawn
-from lib.program import Folder, Outcome, Tally, ample, fault
+from lib.program import Folder, Outcome, Tally, ample, escaped, fault
 from lib.rle_reader import Fault, PatternFile, WORD, lines_of, rule_of
 from lib.work import excess, timed
 
@@ -189,7 +190,7 @@ class Rules:
             return None if printed == wanted.encode() and is_within else f"wanted {wanted!r}"
         if self.printed_rule(trial):
             return None if TABLE_VERDICTS.fullmatch(printed) else "its table has to be known and either good or faulty"
-        told = b"%s: rule %s" % (trial.name("rle").encode(), self.pattern_rule(trial))
+        told = b"%s: rule %s" % (trial.name("rle").encode(), escaped(self.pattern_rule(trial)))
         wanted = b"".join(b"line %d: refused, bad rule: unknown\n  p: %s\n" % (at, told) for at in (3, 4))
         return None if printed == wanted else "its table has another name"
 
@@ -206,7 +207,7 @@ class Claims:
     """Judges runs over claim texts."""
 
     def __init__(self, files):
-        self.files, self.judge = files, Judge(self.content_of, rule_file_fault)
+        self.files, self.judge = files, Judge(self.content_of, self.absence_of, rule_file_fault)
 
     def content_of(self, path):
         """The bytes of the file at a path; None where the program can't be handed them."""
@@ -216,6 +217,20 @@ class Claims:
                 return file.read()
         except (OSError, ValueError):
             return None
+
+    def absence_of(self, path):
+        """Why there is no file at a path."""
+        try:
+            path.decode()
+        except ValueError:
+            return b"not UTF-8"
+        try:
+            mode = os.stat(os.path.join(os.fsencode(self.files.folder), path)).st_mode
+        except (FileNotFoundError, NotADirectoryError):
+            return b"no such file"
+        except (OSError, ValueError):
+            return b"it can't be read"
+        return b"a folder" if stat.S_ISDIR(mode) else b"it can't be read"
 
     @staticmethod
     def prepare(_, trial):

@@ -4,6 +4,7 @@ import re
 from dataclasses import dataclass
 
 from lib.macrocell import EDGE, number
+from lib.program import escaped
 from lib.rle_reader import Fault, WORD, PatternFile, lines_of
 
 MOST_PERIOD = 4294967295
@@ -160,10 +161,11 @@ class Verdict:
 
 
 class Judge:
-    """Judges claims. `content_of` gives the bytes of the file at a path, `rule_file_fault` a rule file's fault and its line, or None."""
+    """Judges claims. `content_of` gives the bytes of the file at a path, `absence_of` why there are none, `rule_file_fault` a rule file's fault and its line,
+    or None."""
 
-    def __init__(self, content_of, rule_file_fault):
-        self.content_of, self.rule_file_fault = content_of, rule_file_fault
+    def __init__(self, content_of, absence_of, rule_file_fault):
+        self.content_of, self.absence_of, self.rule_file_fault = content_of, absence_of, rule_file_fault
         self.files, self.courses = {}, {}
 
     def file(self, path):
@@ -184,19 +186,19 @@ class Judge:
         """The cause of a claim's refusal and its note; None where it isn't refused."""
         for name, path in claim.patterns:
             if self.content_of(path) is None:
-                return "no file", name + b": " + path
+                return "no file", b"%s: %s: %s" % (escaped(name), escaped(path), self.absence_of(path))
         for path in rules:
             if self.content_of(path) is None:
-                return "no file", b"rule file: " + path
+                return "no file", b"rule file: %s: %s" % (escaped(path), self.absence_of(path))
         for path in rules:
             fault = self.rule_file_fault(self.content_of(path))
             if fault:
-                return f"bad table: {fault[0]}", b"rule file: %s, line %d" % (path, fault[1])
+                return f"bad table: {fault[0]}", b"rule file: %s, line %d" % (escaped(path), fault[1])
         for kind in ("bad pattern", "bad rule", "state"):
             for name, path in claim.patterns:
                 file = self.file(path)
                 if file.cause.startswith(kind):
-                    return file.cause, name + b": " + path + file.told()
+                    return file.cause, escaped(name) + b": " + escaped(path) + file.told()
         return ("mixed rules", b"") if len({self.file(path).rule for _, path in claim.patterns}) > 1 else None
 
     def verdict(self, claim, rules):

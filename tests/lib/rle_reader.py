@@ -4,6 +4,7 @@ from dataclasses import dataclass
 
 from lib import macrocell
 from lib.macrocell import BLANKS, EDGE, GENERATIONS, number
+from lib.program import escaped
 
 MOST_CELLS, MOST_COUNT = 1 << 24, 1 << 62
 
@@ -242,5 +243,5 @@ class PatternFile:
     def told(self):
         """What an explained run tells of the cause after the file's path: the line of its fault, or the rule text that isn't known."""
         if self.cause.startswith("bad rule"):
-            return b": rule " + (self.held.rule.encode("latin-1") if self.is_macrocell else self.held.rule)
+            return b": rule " + escaped(self.held.rule.encode("latin-1") if self.is_macrocell else self.held.rule)
         return b", line %d" % self.line if self.line else b""
