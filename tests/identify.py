@@ -356,12 +356,22 @@ def try_names(tally, files):
     tally.expect("and verify proves them", run(["verify", files.path("names.claims", got.printed)]),
                  ample("".join(f"line {at}: yes\n" for at in range(3, 2 * len(names) + 2, 2)).encode()))
     blanks = [files.path(name, BLOCK) for name in ("my block.rle", "two/a\tb.rle", "one/c\rd.rle", "one/e\nf.rle")] + [os.path.join(files.folder, "lost one.rle"), "-", "", " "]
-    shown = [it.replace("\n", "_") for it in blanks]
+    shown = [it.replace("\t", r"\x09").replace("\r", r"\x0d").replace("\n", r"\x0a") for it in blanks]
     names = ["my_block", "a_b", "c_d", "e_f", "lost_one", "-", "_", "_-2"]
     lines = "".join(f"# {name}: {path}: no claim text can name this path\n" for name, path in zip(names, shown))
     got = run(["identify", *blanks, paths[0]], input=BLOCK.encode())
     tally.expect("paths that a claim text can't name", got, whole(lines + entry("block", paths[0], "still"), status=2))
     tally.expect("and verify reads the text", run(["verify", "-"], input=got.printed), ample(f"line {lines.count(chr(10)) + 3}: yes\n".encode()))
+    spelled = {"a\x1b[31mb.rle": ("a\x1b[31mb", r"a\x1b[31mb"), "c\x7fd.rle": ("c\x7fd", r"c\x7fd"), "e\x85f\x9fé\xa0.rle": ("e\x85f\x9fé\xa0", "e\\xc2\\x85f\\xc2\\x9fé\xa0"), "\x01.rle": ("\x01", r"\x01")}
+    for name, (own, told) in spelled.items():
+        good, lost, at = files.path(name, BLOCK), os.path.join(files.folder, "lost", name), os.path.join(files.folder, "lost", told)
+        got = run(["identify", good, lost, "--limit", "1"])
+        tally.expect(f"control characters, {told}", got, whole(f"{entry(own, good, 'still')}# {told}-2: {at}.rle: no file\n", status=2))
+        tally.expect(f"control characters, {told}, judged", run(["verify", "-"], input=got.printed), ample(b"line 3: yes\n"))
+        files.path(name, GLIDER)
+        tally.expect(f"control characters, {told}, a comment", run(["identify", good, "--limit", "3"]),
+                     whole(f"load {own} {good}\n# {told}: none of these within 3 generations: 5 cells, in a box of 3 by 3, after 3\n"))
+        tally.expect(f"control characters, {told}, later", run(["identify", good, "--after", "1"]), whole(f"load {own} {good}\n# {told} after 1 generation: spaceship 4 1 1\n"))
     os.chdir(files.folder)
     try:
         tally.expect("a file that is called -", run(["identify", "./-.rle"], cwd=os.path.join(files.folder, "two")), whole("load - ./-.rle\nstill -\n"))

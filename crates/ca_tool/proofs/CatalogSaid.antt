@@ -32,12 +32,13 @@ use Rattle.ca_tool.specs.declared.entry.Outcome.{Outcome}
 use Rattle.ca_tool.specs.declared.entry.Outcome.TheVariants as outcomes
 use Rattle.ca_tool.specs.declared.entry.Outcome.TheVariants.{Unnameable, Identified, Refused}
 use Rattle.ca_tool.specs.declared.entry.Entry.{Entry}
+use Rattle.ca_tool.specs.Escaped.{escaped}
 use Rattle.ca_tool.specs.Printed.{cause_text, at_line, generations_word, side_length}
 use Rattle.ca_tool.specs.Names.{is_claim_path, is_taken}
-use Rattle.ca_tool.specs.Catalog.{cells_word, growth_text, none_text, later_text, later_line, found_line, refused_line, identity_line, line_byte, entry_lines, outcome_lines, rule_line, version_line, catalog_head, catalog_text, IsContentOutcome, IsEntry, AreEntries}
+use Rattle.ca_tool.specs.Catalog.{cells_word, growth_text, none_text, later_text, later_line, found_line, refused_line, identity_line, entry_lines, outcome_lines, rule_line, version_line, catalog_head, catalog_text, IsContentOutcome, IsEntry, AreEntries}
 use Rattle.ca_tool.specs.CatalogSays.{claim_line, identity_says, found_says, outcome_says, entry_says, AreRuleWords, SaysItsClaims}
-use Rattle.ca_tool.proofs.Saying.{is_inner, TextSays, says_none, says_then, says_words, says_comment, inner_word, line_end, line_more}
-use Rattle.ca_tool.proofs.NameWords.{word_by_test, path_word, free_word, digits_word, integer_word, decimal_inner, signed_inner, line_bytes_inner}
+use Rattle.ca_tool.proofs.Saying.{is_inner, TextSays, says_none, says_then, says_words, says_comment, line_end, line_more}
+use Rattle.ca_tool.proofs.NameWords.{word_by_test, path_word, free_word, digits_word, integer_word, decimal_inner, signed_inner, escaped_inner}
 use Rattle.ca_tool.proofs.CauseLines.{cause_inner, at_inner}
 use Rattle.ca_tool.proofs.Statuses.{any_more}
 
@@ -75,7 +76,7 @@ identity_said : (next : List ℕ → ℕ) (cells : Picture) (limit : ℕ) (earli
     → IsIdentity next cells limit identity → IsWord name → IsSome (path_of earlier name) → is_second earlier ≡ true
     → TextSays earlier (identity_line limit name identity) (identity_says name identity)
 identity_said next cells limit earlier name Empty is word loaded second =
-    says_comment earlier _ (line_more name _ (inner_word name word) (line_more (codes ": no cell is live") _ refl line_end))
+    says_comment earlier _ (line_more (escaped name) _ (escaped_inner name) (line_more (codes ": no cell is live") _ refl line_end))
 identity_said next cells limit earlier name StillLife is word loaded second =
     says_words earlier (codes "still" ∷ name ∷ []) (claim_line name kind.Still) (refl, (word, tt)) refl ((refl, refl), tt) (tt, (loaded, tt))
 identity_said next cells limit earlier name (Oscillator period) is word loaded second =
@@ -97,7 +98,7 @@ identity_said next cells limit earlier name (Dies generations) is word loaded se
     says_words earlier (codes "dies" ∷ name ∷ decimal generations ∷ []) (claim_line name (kind.Dies generations)) (refl, (word, (digits_word (decimal generations) writes.0, tt))) refl
     ((decimal generations, refl, writes.0, writes.1, refl), second) (good, (loaded, tt))
 identity_said next cells limit earlier name (Unknown growth) is word loaded second =
-    says_comment earlier _ (line_more name _ (inner_word name word) (line_more (codes ": ") _ refl (line_more (none_text limit limit growth) _ (none_inner limit limit growth) line_end)))
+    says_comment earlier _ (line_more (escaped name) _ (escaped_inner name) (line_more (codes ": ") _ refl (line_more (none_text limit limit growth) _ (none_inner limit limit growth) line_end)))
 
 -- the words on what a plane is some generations on are on one line
 later_inner : (n limit : ℕ) (identity : Identity) → Every is_inner (later_text n limit identity)
@@ -114,7 +115,7 @@ later_inner n limit (Unknown growth) = none_inner limit (n + limit) growth
 -- so the line on it says nothing
 later_said : (n limit : ℕ) (earlier : List ClaimTextLine) (name : List ℕ) (identity : Identity) → IsWord name → TextSays earlier (later_line n limit name identity) []
 later_said n limit earlier name identity word =
-    says_comment earlier _ (line_more name _ (inner_word name word) (line_more (codes " after " ++ decimal n) _ (inner_then (codes " after ") (decimal n) refl (decimal_inner n))
+    says_comment earlier _ (line_more (escaped name) _ (escaped_inner name) (line_more (codes " after " ++ decimal n) _ (inner_then (codes " after ") (decimal n) refl (decimal_inner n))
     (line_more (generations_word n) _ (generations_inner n) (line_more (codes ": ") _ refl (line_more (later_text n limit identity) _ (later_inner n limit identity) line_end)))))
 
 -- the line on what is found says the claim where it is found of the pattern itself
@@ -143,7 +144,7 @@ second_stays (Claims claim ∷ ls) more h = absurd (false≢true h)
 -- the comment on a file that is refused says nothing
 refused_said : (earlier : List ClaimTextLine) (name path : List ℕ) (cause : Cause) (line : Option ℕ) → IsWord name → is_claim_path path ≡ true → TextSays earlier (refused_line name path cause line) []
 refused_said earlier name path cause line word fits =
-    says_comment earlier _ (line_more name _ (inner_word name word) (line_more (codes ": ") _ refl (line_more path _ (inner_word path (path_word path fits)) (line_more (codes ": ") _ refl
+    says_comment earlier _ (line_more (escaped name) _ (escaped_inner name) (line_more (codes ": ") _ refl (line_more (escaped path) _ (escaped_inner path) (line_more (codes ": ") _ refl
     (line_more (cause_text cause) _ (cause_inner cause) (line_more (at_line line) _ (at_inner line) line_end))))))
 
 -- the lines on a file say its name and its claim, after lines that begin with the version and don't load the name
@@ -165,7 +166,7 @@ unnameable_said : (n limit : ℕ) (earlier : List ClaimTextLine) (name path : Li
     → TextSays earlier (outcome_lines n limit name path outcome) (outcome_says n name path outcome)
 unnameable_said n limit earlier name path outcome e word =
     subst (λ (o : Outcome). TextSays earlier (outcome_lines n limit name path o) (outcome_says n name path o)) (sym e)
-    (says_comment earlier _ (line_more name _ (inner_word name word) (line_more (codes ": ") _ refl (line_more (map line_byte path) _ (line_bytes_inner path)
+    (says_comment earlier _ (line_more (escaped name) _ (escaped_inner name) (line_more (codes ": ") _ refl (line_more (escaped path) _ (escaped_inner path)
     (line_more (codes ": no claim text can name this path") _ refl line_end)))))
 
 entry_said : (tables : List TableRule) (work n limit : ℕ) (taken : List (List ℕ)) (earlier : List ClaimTextLine) (subject : Subject) (entry : Entry) → IsEntry tables work n limit taken subject entry

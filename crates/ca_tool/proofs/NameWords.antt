@@ -1,13 +1,13 @@
 -- Names and numbers are words of a claim text.
-use Rattle.std.proofs.Common.{◌≡◌, ℕ, zero, suc, ◌+◌, ◌/◌, ◌%◌, ◌<◌, ◌==◌, Bool, true, false, List, [], ◌∷◌, ◌++◌, ℤ, pos, negsuc, map, nat_eq, codes, decimal, refl, ap, sym, ◌∙◌, inl, inr, subst, arith}
+use Rattle.std.proofs.Common.{◌≡◌, ℕ, zero, suc, ◌+◌, ◌/◌, ◌%◌, ◌<◌, ◌==◌, Bool, true, false, List, [], ◌∷◌, ◌++◌, ℤ, pos, negsuc, map, nat_eq, nat_lt, codes, decimal, refl, ap, sym, ◌∙◌, inl, inr, subst, arith}
 use Rattle.std.specs.Fmt.{digits, digits_onto, digit_glyph, signed_decimal}
 use Rattle.std.specs.List.{list_all}
 use Rattle.std.proofs.lemmas.Bool.{and_parts, and_from, cases_Bool, lt-ltb, false≢true}
 use Rattle.std.proofs.lemmas.Bool.Decides.{nat_tests}
-use Rattle.ca_plane.specs.Bytes.{Every, is_line_end, is_word_byte, is_digit, IsWord, AreDigits, IsInteger}
+use Rattle.ca_plane.specs.Bytes.{Every, is_word_byte, is_digit, IsWord, AreDigits, IsInteger}
 use Rattle.ca_plane.proofs.Fronts.{every_append, every_wider}
 use Rattle.ca_tool.specs.Names.{is_word, is_claim_path, name_byte, with_first_byte, without_ending, last_component, claim_name, numbered_name, IsFreeName}
-use Rattle.ca_tool.specs.Catalog.{line_byte}
+use Rattle.ca_tool.specs.Escaped.{spelled_byte, is_control, is_control_pair, escaped_byte, escaped}
 use Rattle.ca_tool.proofs.Saying.{is_inner}
 
 -- what the test says is a word
@@ -101,10 +101,25 @@ integer_word bytes n (inr (ds, whole, are, is)) = subst IsWord (sym whole) (minu
     minus [] are = absurd (false≢true are)
     minus (d ∷ more) are = digits_word (d ∷ more) are
 
--- a path without LF is on one line
-pub line_bytes_inner : (path : List ℕ) → Every is_inner (map line_byte path)
-line_bytes_inner [] = refl
-line_bytes_inner (b ∷ bs) = and_from _ _ (each b) (line_bytes_inner bs)
-  where
-    each : (b : ℕ) → is_inner (line_byte b) ≡ true
-    each b = elim (cases_Bool (is_line_end b)) [ inl e ↦ rw e refl | inr e ↦ rw e (rw e refl) ]
+-- a hexadecimal digit is no LF
+glyph_inner : (d : ℕ) → is_inner (digit_glyph false d) ≡ true
+glyph_inner d = elim (cases_Bool (nat_lt d 10)) [ inl e ↦ rw e (grind (arith, nat_tests)) | inr e ↦ rw e (grind (arith, nat_tests)) ]
+
+spelled_inner : (b : ℕ) → Every is_inner (spelled_byte b)
+spelled_inner b = and_from _ _ refl (and_from _ _ refl (and_from _ _ (glyph_inner (b / 16)) (and_from _ _ (glyph_inner (b % 16)) refl)))
+
+escaped_byte_inner : (b : ℕ) → Every is_inner (escaped_byte b)
+escaped_byte_inner b = elim (cases_Bool (is_control b)) [
+  | inl e ↦ rw e (spelled_inner b)
+  | inr e ↦ rw e (grind (arith, nat_tests))
+]
+
+-- a text whose control characters are spelled out is on one line
+pub escaped_inner : (text : List ℕ) → Every is_inner (escaped text)
+escaped_inner [] = refl
+escaped_inner (b ∷ []) = escaped_byte_inner b
+escaped_inner (b ∷ c ∷ bs) = elim (cases_Bool (is_control_pair b c)) [
+  | inl e ↦ rw e (every_append is_inner (spelled_byte b) (spelled_byte c ++ escaped bs) (spelled_inner b)
+      (every_append is_inner (spelled_byte c) (escaped bs) (spelled_inner c) (escaped_inner bs)))
+  | inr e ↦ rw e (every_append is_inner (escaped_byte b) (escaped (c ∷ bs)) (escaped_byte_inner b) (escaped_inner (c ∷ bs)))
+]

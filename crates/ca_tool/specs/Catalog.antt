@@ -1,8 +1,7 @@
 -- What `identify` prints: a claim text with the claims that are true of files, and the lines of `--explain` (our own; docs/CLAIMS.md).
-use Rattle.std.specs.Prelude.{◌≡◌, ◌≢◌, ℕ, List, [], ◌∷◌, ◌++◌, ◌+◌, map, Bool, true, false, codes, decimal, nat_eq, if◌then◌else◌, Option, None, ◌⊎◌}
+use Rattle.std.specs.Prelude.{◌≡◌, ◌≢◌, ℕ, List, [], ◌∷◌, ◌++◌, ◌+◌, Bool, true, false, codes, decimal, nat_eq, if◌then◌else◌, Option, None, ◌⊎◌}
 use Rattle.std.specs.Fmt.{signed_decimal}
 use Rattle.std.specs.List.{flat_map, list_all, AllZip}
-use Rattle.ca_plane.specs.Bytes.{is_line_end}
 use Rattle.ca_plane.specs.Device.{Counted}
 use Rattle.ca_rule.specs.TableNext.{TableRule}
 use Rattle.ca_rule.specs.declared.table.fault.TableFault.{TableFault}
@@ -23,6 +22,7 @@ use Rattle.ca_tool.specs.declared.entry.Outcome.TheVariants.{Unnameable, Identif
 use Rattle.ca_tool.specs.declared.entry.Entry.{Entry}
 use Rattle.ca_tool.specs.declared.fault.ToolFault.{ToolFault}
 use Rattle.ca_tool.specs.declared.fault.ToolFault.TheVariants as tools
+use Rattle.ca_tool.specs.Escaped.{escaped}
 use Rattle.ca_tool.specs.Printed.{cause_text, at_line, generations_word, side_length, rule_file_line, cause_explanation}
 use Rattle.ca_tool.specs.Names.{is_claim_path, claim_name, IsFreeName}
 use Rattle.ca_tool.specs.Writing.{WritesOn, WritesOnFirst, WritesPartOn}
@@ -45,15 +45,16 @@ abbrev pub none_text : (limit last : ℕ) → Growth → List ℕ
 none_text limit last growth =
     (codes "none of these within " ++ decimal limit) ++ (generations_word limit ++ (codes ": " ++ (growth_text growth ++ (codes ", after " ++ decimal last))))
 
--- the line of what a pattern is found to be: the claim that says it, or a comment where none of the claims is true within the limit
+-- the line of what a pattern is found to be: the claim that says it, or a comment where none of the claims is true within the limit; in each comment, names and
+-- paths have their control characters spelled out
 abbrev pub identity_line : (limit : ℕ) → List ℕ → Identity → List ℕ
-identity_line limit name Empty = codes "# " ++ (name ++ (codes ": no cell is live" ++ 10 ∷ []))
+identity_line limit name Empty = codes "# " ++ (escaped name ++ (codes ": no cell is live" ++ 10 ∷ []))
 identity_line limit name StillLife = codes "still " ++ (name ++ 10 ∷ [])
 identity_line limit name (Oscillator period) = codes "oscillator " ++ (name ++ (32 ∷ (decimal period ++ 10 ∷ [])))
 identity_line limit name (Spaceship period dx dy) =
     codes "spaceship " ++ (name ++ (32 ∷ (decimal period ++ (32 ∷ (signed_decimal dx ++ (32 ∷ (signed_decimal dy ++ 10 ∷ [])))))))
 identity_line limit name (Dies generations) = codes "dies " ++ (name ++ (32 ∷ (decimal generations ++ 10 ∷ [])))
-identity_line limit name (Unknown growth) = codes "# " ++ (name ++ (codes ": " ++ (none_text limit limit growth ++ 10 ∷ [])))
+identity_line limit name (Unknown growth) = codes "# " ++ (escaped name ++ (codes ": " ++ (none_text limit limit growth ++ 10 ∷ [])))
 
 -- what the plane of a pattern is found to be n generations on, in the words of the claims: a comment, since no claim about the file says it
 abbrev pub later_text : (n limit : ℕ) → Identity → List ℕ
@@ -66,7 +67,7 @@ later_text n limit (Unknown growth) = none_text limit (n + limit) growth
 
 abbrev pub later_line : (n limit : ℕ) → List ℕ → Identity → List ℕ
 later_line n limit name identity =
-    codes "# " ++ (name ++ ((codes " after " ++ decimal n) ++ (generations_word n ++ (codes ": " ++ (later_text n limit identity ++ 10 ∷ [])))))
+    codes "# " ++ (escaped name ++ ((codes " after " ++ decimal n) ++ (generations_word n ++ (codes ": " ++ (later_text n limit identity ++ 10 ∷ [])))))
 
 -- the line of what is found: of the pattern, or of its plane n generations on
 abbrev pub found_line : (n limit : ℕ) → List ℕ → Identity → List ℕ
@@ -74,15 +75,11 @@ found_line n limit name identity = if nat_eq n 0 then identity_line limit name i
 
 -- the comment on a file that is refused: why, and on which line of the file, where it has such a line
 abbrev pub refused_line : List ℕ → List ℕ → Cause → Option ℕ → List ℕ
-refused_line name path cause line = codes "# " ++ (name ++ (codes ": " ++ (path ++ (codes ": " ++ (cause_text cause ++ (at_line line ++ 10 ∷ []))))))
-
--- a byte of a line, or `_` in place of LF
-abbrev pub line_byte : ℕ → ℕ
-line_byte b = if is_line_end b then 95 else b
+refused_line name path cause line = codes "# " ++ (escaped name ++ (codes ": " ++ (escaped path ++ (codes ": " ++ (cause_text cause ++ (at_line line ++ 10 ∷ []))))))
 
 -- the comment on a file whose path can't be in a claim text
 abbrev pub unnameable_line : List ℕ → List ℕ → List ℕ
-unnameable_line name path = codes "# " ++ (name ++ (codes ": " ++ (map line_byte path ++ (codes ": no claim text can name this path" ++ 10 ∷ []))))
+unnameable_line name path = codes "# " ++ (escaped name ++ (codes ": " ++ (escaped path ++ (codes ": no claim text can name this path" ++ 10 ∷ []))))
 
 -- the lines on a file by what came of it
 abbrev pub outcome_lines : (n limit : ℕ) → List ℕ → List ℕ → Outcome → List ℕ

@@ -1,16 +1,17 @@
 //! The lines of a claim text on the files that were to be identified.
 
-ghost use Rattle.std.specs.Prelude.{◌≡◌, ◌+◌, ◌<◌, ◌^◌, ◌++◌, ◌∷◌, [], map, codes, decimal, OnOk};
+ghost use Rattle.std.specs.Prelude.{◌≡◌, ◌+◌, ◌<◌, ◌^◌, ◌++◌, ◌∷◌, [], codes, decimal, OnOk};
 ghost use Rattle.std.specs.Fmt.{signed_decimal};
 ghost use Rattle.ca_claims.specs.declared.identity.Identity.TheVariants.{Unknown};
 ghost use Rattle.ca_tool.specs.declared.entry.Outcome.TheVariants.{Identified};
 ghost use Rattle.ca_plane.specs.Puts.{Puts};
-ghost use Rattle.ca_tool.specs.Catalog.{load_line, identity_line, refused_line, line_byte, unnameable_line};
+ghost use Rattle.ca_tool.specs.Catalog.{load_line, identity_line, refused_line, unnameable_line};
 ghost use Rattle.ca_tool.specs.Catalog.{later_text, later_line};
 ghost use Rattle.ca_tool.specs.Catalog.{outcome_lines, entry_lines, rule_line};
 ghost use Rattle.ca_tool.specs.inner.Pieces.{pieces_text};
 
 use crate::entry::{Entry, Outcome};
+use crate::escaped::push_escaped;
 use crate::finding::{at_pieces, generations_word};
 use crate::growth::{push_counted, push_none};
 use crate::pieces::{Piece, in_pieces, push_pieces};
@@ -47,7 +48,7 @@ fn push_unknown(out: &mut Vec<u8>, limit: u64, name: &[u8], growth: Growth) -> R
     ensures { OnOk result (Puts out.old.items out.new.items (identity_line limit name.now (Unknown growth))) }
 {
     push_text(out, b"# ")?;
-    push_text(out, name)?;
+    push_escaped(out, name)?;
     push_text(out, b": ")?;
     push_none(out, limit, limit, growth)?;
     push_text(out, b"\n")
@@ -65,7 +66,7 @@ fn push_identity(
     match identity {
         Identity::Empty => push_pieces(
             out,
-            &in_pieces![text b"# ", text name, text b": no cell is live\n"],
+            &in_pieces![text b"# ", escaped name, text b": no cell is live\n"],
         ),
         Identity::StillLife => {
             push_pieces(out, &in_pieces![text b"still ", text name, text b"\n"])
@@ -119,7 +120,7 @@ fn push_later(
         (later_line generations limit name.now identity)) }
 {
     push_text(out, b"# ")?;
-    push_text(out, name)?;
+    push_escaped(out, name)?;
     push_counted(out, b" after ", generations)?;
     push_text(out, generations_word(generations))?;
     push_text(out, b": ")?;
@@ -139,36 +140,18 @@ fn refused_pieces<'a>(
     let [first, second] = cause_pieces(cause);
     let [at, number] = at_pieces(line);
     in_pieces![
-        text b"# ", text name, text b": ", text path, text b": ",
+        text b"# ", escaped name, text b": ", escaped path, text b": ",
         piece first, piece second, piece at, piece number, text b"\n",
     ]
 }
 
-// A byte of a line, or `_` in place of LF.
-fn line_byte(byte: u8) -> u8
-    ensures { result ≡ line_byte byte }
+// The comment on a file whose path can't be in a claim text in pieces.
+fn unnameable_pieces<'a>(name: &'a [u8], path: &'a [u8]) -> [Piece<'a>; 5]
+    ensures { pieces_text result ≡ unnameable_line name.now path.now }
 {
-    if byte == b'\n' { b'_' } else { byte }
-}
-
-fn push_line_bytes(out: &mut Vec<u8>, bytes: &[u8]) -> Result<(), Memory>
-    ensures { OnOk result (Puts out.old.items out.new.items (map line_byte bytes.now)) }
-{
-    'bytes: for byte in bytes {
-        out.push(line_byte(*byte))?;
-    }
-    Ok(())
-}
-
-// Puts the comment on a file whose path can't be in a claim text.
-fn push_unnameable(out: &mut Vec<u8>, name: &[u8], path: &[u8]) -> Result<(), Memory>
-    ensures { OnOk result (Puts out.old.items out.new.items (unnameable_line name.now path.now)) }
-{
-    push_text(out, b"# ")?;
-    push_text(out, name)?;
-    push_text(out, b": ")?;
-    push_line_bytes(out, path)?;
-    push_text(out, b": no claim text can name this path\n")
+    in_pieces![
+        text b"# ", escaped name, text b": ", escaped path, text b": no claim text can name this path\n",
+    ]
 }
 
 // Puts the lines on a file that is identified: of its pattern, or of its plane some generations on.
@@ -207,7 +190,7 @@ pub(crate) fn push_entry(
     ensures { OnOk result (Puts out.old.items out.new.items (entry_lines generations limit entry.now)) }
 {
     match &entry.outcome {
-        Outcome::Unnameable => push_unnameable(out, &entry.name, entry.path),
+        Outcome::Unnameable => push_pieces(out, &unnameable_pieces(&entry.name, entry.path)),
         Outcome::Refused(why) => push_pieces(
             out,
             &refused_pieces(&entry.name, entry.path, why.fault, why.line),

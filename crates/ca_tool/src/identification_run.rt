@@ -1,5 +1,5 @@
-//! Runs of `identify`: pattern files in, a claim text out with the claims that are true of them, those of each file before
-//! the next one is identified.
+//! Runs of `identify`: pattern files in, a claim text out with the claims that are true of them, those of each file
+//! before the next one is identified.
 
 ghost use Rattle.std.specs.Prelude.{◌≡◌, ◌≢◌, ◌≤◌, ◌++◌, ◌∷◌, [], IfOk, IfErr, OnOk, OnErr};
 ghost use Rattle.ca_rule.specs.TableNext.{TableRule};
