@@ -1,11 +1,13 @@
 -- Runs in a store of their own.
-use Rattle.std.proofs.Common.{ℕ, Result, Ok, Err, IfOk, List, ◌∙◌, arith}
+use Rattle.std.proofs.Common.{ℕ, ◌+◌, ◌-◌, ◌*◌, ◌<◌, ◌≤◌, inl, inr, Result, Ok, Err, IfOk, List, ◌∙◌, arith}
 use Rattle.ca_quad.specs.declared.node.Node.{Node}
 use Rattle.ca_quad.specs.declared.tree.Tree.{Tree}
 use Rattle.ca_quad.specs.Sound.{Grows}
 use Rattle.ca_run.specs.Advanced.{IsAdvanced}
 use Rattle.ca_run.specs.Leaping.{LeaperView, LeaperGrows}
-use Rattle.ca_run.specs.inner.Apart.{IsCopyOfTree, KeepsOn}
+use Rattle.ca_run.specs.declared.leaper.dense.ReachedTree.{ReachedTree}
+use Rattle.ca_run.specs.declared.leaper.pace.Pace.{Pace}
+use Rattle.ca_run.specs.inner.Apart.{IsCopyOfTree, KeepsOn, IsNearer, tries, most_tries}
 use Rattle.ca_run.proofs.ShownPlanes.{spends_again}
 
 module _ {Rule : Type 0} where
@@ -30,3 +32,11 @@ advanced_moved next s0 s1 s2 first n tree (Ok copy) advanced moved = record {
   level = omega (arith, moved.level, advanced.level);
   cells = λ x y. moved.cells x y ∙ advanced.cells x y;
 }
+
+-- a run that is nearer to its end has less to do
+pub less_to_do : (n : ℕ) (reached : ReachedTree) (pace : Pace) (later : ReachedTree) (after last : Pace) → IsNearer reached pace later after → later.generations ≤ n → tries last ≤ tries after
+    → (n - later.generations) * most_tries + tries last < (n - reached.generations) * most_tries + tries pace
+less_to_do n reached pace later after last near most copied = elim near [
+  | inl on ↦ omega (arith, on.0, on.1, most, copied)
+  | inr again ↦ omega (arith, again.0, again.1, most, copied)
+]

@@ -1,10 +1,12 @@
 -- Runs in a store of their own (our own).
-use Rattle.std.specs.Prelude.{◌≡◌, ℤ, List}
+use Rattle.std.specs.Prelude.{◌≡◌, ℕ, ℤ, ◌+◌, ◌-◌, ◌*◌, ◌^◌, ◌<◌, ◌⊎◌, List}
 use Rattle.ca_quad.specs.declared.node.Node.{Node}
 use Rattle.ca_quad.specs.declared.tree.Tree.{Tree}
 use Rattle.ca_quad.specs.Sound.{IsSoundStore}
 use Rattle.ca_quad.specs.Trees.{IsTree, cell}
 use Rattle.ca_run.specs.Leaping.{LeaperView, Spends}
+use Rattle.ca_run.specs.declared.leaper.dense.ReachedTree.{ReachedTree}
+use Rattle.ca_run.specs.declared.leaper.pace.Pace.{Pace}
 
 -- the tree has the level and the cells of a tree of another store
 pub record IsCopyOfTree (old : List Node) (tree : Tree) (new : List Node) (copy : Tree) : Type 0 where
@@ -18,3 +20,17 @@ pub record KeepsOn (Rule : Type 0) (old new : LeaperView Rule) : Type 0 where
   pub memo : new.memo ≡ old.memo
   pub sound : IsSoundStore new.nodes
   pub spends : Spends old.spent new.spent
+
+-- what may still be tried before a leap succeeds: the room may grow, or leaps become shorter
+abbrev pub tries : Pace → ℕ
+tries pace = (2 ^ 64 - pace.room) * 256 + pace.digit
+
+-- more than may ever be tried
+abbrev pub most_tries : ℕ
+most_tries = 2 ^ 73
+
+-- a run is nearer to its end: it has reached more generations, or as many, and less may still be tried
+abbrev pub IsNearer : ReachedTree → Pace → ReachedTree → Pace → Type 0
+IsNearer reached pace later after =
+    ((reached.generations < later.generations) × (tries after < most_tries))
+    ⊎ ((later.generations ≡ reached.generations) × (tries after < tries pace))

@@ -6,7 +6,7 @@ ghost use Rattle.ca_quad.specs.Sound.{Grows};
 ghost use Rattle.ca_quad.specs.Trees.{IsTree};
 ghost use Rattle.ca_run.specs.Advanced.{CanAdvance, IsAdvanced};
 ghost use Rattle.ca_run.specs.Leaping.{LeaperGrows, EndsAtLimit};
-ghost use Rattle.ca_run.specs.inner.Apart.{IsCopyOfTree, KeepsOn};
+ghost use Rattle.ca_run.specs.inner.Apart.{IsCopyOfTree, KeepsOn, IsNearer, tries};
 ghost use Rattle.ca_run.specs.inner.Dense.{HasReached};
 
 use super::dense::ReachedTree;
@@ -20,9 +20,6 @@ use std::mem;
 
 // How many squares that are copied cost a unit of work.
 const A_UNIT: usize = 4096;
-
-// More leaps than any run can make in a lifetime.
-const MOST_LEAPS: u64 = 1 << 62;
 
 impl<A: Automaton> Leaper<A> {
     // The tree n generations on, from one that was reached on the way, by leaps in a store of its own. Of the
@@ -121,16 +118,13 @@ impl<A: Automaton> Leaper<A> {
         let _known = origin.count();
         let mut reached = reached;
         let mut pace = Pace::new(self.store.count());
-        'leaps: for _ in 0..MOST_LEAPS {
-            if reached.generations == n {
-                return Ok(reached.tree);
-            }
+        'leaps: while reached.generations < n {
             reached = self.leap_once(origin, first, reached, n, &mut pace, watch)?;
             if pace.is_late(self.store.count()) {
                 reached.tree = self.leave_squares(reached.tree, &mut pace)?;
             }
         }
-        Err(LeapFault::Memory)
+        Ok(reached.tree)
     }
 
     // What is reached after one leap more. Where it made too many squares, it is given up, and they are left
@@ -150,6 +144,7 @@ impl<A: Automaton> Leaper<A> {
         requires more { reached.generations < n }
         ensures reached { IfOk result (HasReached (A.next_of self.old.rule)
             origin.now first.now n self.new.nodes) }
+        ensures nearer { IfOk result (λ later. IsNearer reached pace.old later pace.new) }
         ensures keeps { KeepsOn A self.old self.new }
         ensures work { EndsAtLimit self.new.spent result }
     {
@@ -164,7 +159,7 @@ impl<A: Automaton> Leaper<A> {
                 pace.note_leap(digit, self.store.count() - before);
                 Ok(ReachedTree { tree, generations })
             }
-            Err(LeapFault::Memory) if self.is_full() => {
+            Err(LeapFault::Memory) if pace.is_full(self.store.count()) => {
                 pace.note_abandoned_leap();
                 let tree = self.leave_squares(reached.tree, pace)?;
                 Ok(ReachedTree {
@@ -182,6 +177,7 @@ impl<A: Automaton> Leaper<A> {
         ensures moved { IfOk result (IsCopyOfTree self.old.nodes tree self.new.nodes) }
         ensures keeps { KeepsOn A self.old self.new }
         ensures spent { self.new.spent ≡ self.old.spent }
+        ensures tries { tries pace.new ≤ tries pace.old }
     {
         let (copy, _none) = self.part(tree, 0)?;
         pace.note_copy(self.store.count());

@@ -1,6 +1,7 @@
 //! How long leaps are, and how many squares a store may have, where a run makes too many.
 
-ghost use Rattle.std.specs.Prelude.{◌≡◌, ℕ, ◌+◌, ◌<◌, ◌≤◌, ◌^◌, true};
+ghost use Rattle.std.specs.Prelude.{◌≡◌, ℕ, ◌+◌, ◌-◌, ◌<◌, ◌≤◌, ◌^◌, true};
+ghost use Rattle.ca_run.specs.inner.Apart.{tries, most_tries};
 
 // How many squares a store may have, and how many more than at first.
 const ROOM: usize = 4 << 20;
@@ -52,16 +53,28 @@ impl Pace {
 
     /// After a leap that made so many squares, by so many generations as a power of two: twice as long where
     /// they are few.
-    pub(super) fn note_leap(&mut self, digit: u8, made: usize) {
+    pub(super) fn note_leap(&mut self, digit: u8, made: usize)
+        ensures { tries self.new < most_tries }
+    {
         if digit == self.digit && digit < 60 && made < self.room / 8 {
             self.digit += 1;
         }
     }
 
+    /// Whether a leap was given up since there were so many squares, and may be tried with more.
+    pub(super) fn is_full(self, squares: usize) -> bool
+        ensures { result ≡ true → self.room < 2 ^ 64 - 1 }
+    {
+        squares >= self.room && self.room < usize::MAX
+    }
+
     /// After a leap that was given up: half as long, or with twice as many squares.
-    pub(super) fn note_abandoned_leap(&mut self) {
+    pub(super) fn note_abandoned_leap(&mut self)
+        requires { self.old.room < 2 ^ 64 - 1 }
+        ensures { tries self.new < tries self.old }
+    {
         if self.digit == 0 {
-            self.room = self.room.saturating_mul(2);
+            self.room = room_after(self.room);
         } else {
             self.digit -= 1;
         }
@@ -73,13 +86,17 @@ impl Pace {
     }
 
     /// After squares were left behind, so that there are so many.
-    pub(super) fn note_copy(&mut self, squares: usize) {
+    pub(super) fn note_copy(&mut self, squares: usize)
+        ensures { tries self.new ≤ tries self.old }
+    {
         self.room = self.room.max(room_after(squares));
     }
 }
 
 // How many squares there may be in a store that has so many at first.
-fn room_after(squares: usize) -> usize {
+fn room_after(squares: usize) -> usize
+    ensures { squares < 2 ^ 64 - 1 → squares < result }
+{
     squares.saturating_mul(2).max(ROOM)
 }
 

@@ -1,10 +1,11 @@
-use Rattle.std.proofs.Common.{◌≡◌, ℕ, ◌+◌, ◌-◌, ◌*◌, ◌%◌, ◌<◌, ◌≤◌, ◌^◌, List, sym, ap, subst, ◌∙◌, arith}
+use Rattle.std.proofs.Common.{◌≡◌, refl, inl, inr, ℕ, ◌+◌, ◌-◌, ◌*◌, ◌%◌, ◌<◌, ◌≤◌, ◌^◌, List, sym, ap, subst, ◌∙◌, arith}
 use Rattle.std.specs.Prelude.{ℤ, replicate}
 use Rattle.ca_plane.specs.Generations.{cells_after}
 use Rattle.ca_quad.specs.Sound.{IsSoundStore, Grows}
 use Rattle.ca_quad.specs.Trees.{IsTree, cell, IsTrimmed}
 use Rattle.ca_quad.specs.declared.node.Node.{Node}
 use Rattle.ca_quad.specs.declared.tree.Tree.{Tree}
+use Rattle.ca_quad.proofs.Cells.{one_up}
 use Rattle.ca_quad.proofs.Shifts.{some_level}
 use Rattle.ca_run.specs.declared.leaper.dense.ReachedTree.{ReachedTree}
 use Rattle.ca_run.specs.inner.Dense.{HasReached}
@@ -51,3 +52,12 @@ returns-in_ok-tree-in-Err-Memory-clause-reached g c =
     let mid = c.leap.new.self.nodes in
     let kept = reached_kept next s0 c.args.self.now.nodes mid first c.args.n c.args.reached (subst (λ l. IsSoundStore l.nodes) c.self.view_is c.self.invariant.squares) (subst (λ l. Grows l.nodes mid) c.set_room.ensures c.in-Err-Memory.ensures.at_cost.goes_on.grows) c.requires.reached in
     reached_moved next s0 mid first c.args.n c.args.reached kept c.leave_squares.new.self.nodes c.in_ok-tree-in-Err-Memory.tree c.in_ok-tree-in-Err-Memory.ensures.moved
+
+pub returns-in-Ok-clause-nearer : goal.returns-in-Ok-clause-nearer
+returns-in-Ok-clause-nearer g c =
+    let power = shifted_one c.digit-digit.result c.digit-digit.ensures.low in
+    let some = one_up c.digit-digit.result in
+    inl (omega (arith, power, some), c.note_leap.ensures)
+
+pub returns-in_ok-tree-in-Err-Memory-clause-nearer : goal.returns-in_ok-tree-in-Err-Memory-clause-nearer
+returns-in_ok-tree-in-Err-Memory-clause-nearer g c = inr (refl, omega (arith, c.note_abandoned_leap.ensures, c.leave_squares.ensures.tries))
