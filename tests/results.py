@@ -14,12 +14,12 @@ from lib.claim_text import ClaimText, outcome
 from lib.program import Folder, Outcome, Tally, run
 
 # The entries of the memo by default, and those of small ones.
-USUAL, SMALL, SMALLEST = 262144, 16384, 4096
+USUAL, SMALL, SMALLEST = 262144, 16384, 256
 
 # Patterns of leaps.py, the entries of a memo, and the units of work that their runs took.
 PATTERNS = (
     ("acorn", USUAL, 26395),
-    ("acorn", SMALLEST, 33804),
+    ("acorn", SMALLEST, 153062),
     ("switch_engine", USUAL, 5575),
     ("gun", USUAL, 3502),
     ("von_neumann", USUAL, 27614),
@@ -32,7 +32,7 @@ PATTERNS = (
 # The rules of soups of 200 by 200 cells, the generations, the entries of a memo, and the units of work.
 SOUPS = (
     ("345/2/4", 300, USUAL, 816560),
-    ("345/2/4", 300, SMALL, 1249225),
+    ("345/2/4", 300, SMALL, 993737),
     ("B3/S23", 1000, USUAL, 87925),
 )
 

@@ -9,9 +9,9 @@ pub const USUAL_MEMO: usize = 262144;
 /// How much each claim of a text may take. Each has a memo of its own, and a count of its own.
 #[derive(Clone, Copy, Debug, PartialEq, Eq)]
 pub struct Limits {
-    /// How many entries the memo may have: 1 to 16777216. An entry is one result, or up to 16 results at full
-    /// leap of squares with neighbouring numbers; a quarter and an eighth of the entries are kept for results
-    /// that cost little. With fewer entries a claim may take longer, and more work.
+    /// How many entries the memo may have: 1 to 16777216. An entry is one result, or up to 64 results at full
+    /// leap of squares with neighbouring numbers; a sixteenth of the entries, or an eighth under a rule without
+    /// masks, is kept for results that cost little. With fewer entries a claim may take longer, and more work.
     pub memo: usize,
     /// How many units of work may be done. A unit is the centre of one square, not empty, after some
     /// generations, that wasn't remembered; one brick of 64 by 16 cells of a dense plane, one generation on;

@@ -93,11 +93,11 @@ record IsInPage (number : ℕ) (pages : List (Option Page)) (result : LeapResult
   pub later : ℕ
   pub page : Page
   pub is : result ≡ FullLeap square centre
-  pub page_number : square / 16 ≡ number + later
+  pub page_number : square / 64 ≡ number + later
   pub is_page : slice_get pages later ≡ Some (Some page)
-  pub slot : HasSlot page (square % 16) centre
+  pub slot : HasSlot page (square % 64) centre
 
-in_page_of : (square number i : ℕ) → square ≡ 16 * number + i → i < 16 → (square / 16 ≡ number) × (square % 16 ≡ i)
+in_page_of : (square number i : ℕ) → square ≡ 64 * number + i → i < 64 → (square / 64 ≡ number) × (square % 64 ≡ i)
 in_page_of square number i e lt = (omega (arith, e, lt), omega (arith, e, lt))
 
 later_page : (number : ℕ) (first : Option Page) (pages : List (Option Page)) (result : LeapResult) → IsInPage (suc number) pages result → IsInPage number (first ∷ pages) result
@@ -115,12 +115,12 @@ later_page number first pages result h = record {
 pages_found : (number : ℕ) (pages : List (Option Page)) (result : LeapResult) → Contains (page_results number pages) result → IsInPage number pages result
 pages_found number [] result c = absurd (Contains-nil result c)
 pages_found number (None ∷ pages) result c = later_page number None pages result (pages_found (suc number) pages result c)
-pages_found number (Some page ∷ pages) result c = elim (Contains-append_cases (slot_results 16 (16 * number) page.slots) (page_results (suc number) pages) result c) [
+pages_found number (Some page ∷ pages) result c = elim (Contains-append_cases (slot_results 64 (64 * number) page.slots) (page_results (suc number) pages) result c) [
   | inl d ↦
-      let on = slots_found 16 (16 * number) page.slots result d in
-      let at = in_page_of (16 * number + on.0) number on.0 refl on.2 in
+      let on = slots_found 64 (64 * number) page.slots result d in
+      let at = in_page_of (64 * number + on.0) number on.0 refl on.2 in
       record {
-        square = 16 * number + on.0;
+        square = 64 * number + on.0;
         centre = on.1;
         later = 0;
         page = page;
@@ -132,23 +132,23 @@ pages_found number (Some page ∷ pages) result c = elim (Contains-append_cases 
   | inr d ↦ later_page number (Some page) pages result (pages_found (suc number) pages result d)
 ]
 
-pages_there : (number : ℕ) (pages : List (Option Page)) (later : ℕ) (page : Page) (i centre : ℕ) → i < 16 → slice_get pages later ≡ Some (Some page) → HasSlot page i centre
-    → Contains (page_results number pages) (FullLeap (16 * (number + later) + i) centre)
+pages_there : (number : ℕ) (pages : List (Option Page)) (later : ℕ) (page : Page) (i centre : ℕ) → i < 64 → slice_get pages later ≡ Some (Some page) → HasSlot page i centre
+    → Contains (page_results number pages) (FullLeap (64 * (number + later) + i) centre)
 pages_there number [] zero page i centre lt e s = let no : ⊥ = cc in absurd no
 pages_there number [] (suc later) page i centre lt e s = let no : ⊥ = cc in absurd no
 pages_there number (None ∷ pages) zero page i centre lt e s = let no : ⊥ = cc in absurd no
 pages_there number (Some first ∷ pages) zero page i centre lt e s =
     let same : page ≡ first = cc in
-    let here : 16 * number + i ≡ 16 * (number + 0) + i = omega arith in
-    Contains-append_left (slot_results 16 (16 * number) first.slots) (page_results (suc number) pages) (FullLeap (16 * (number + 0) + i) centre)
-    (subst (λ id. Contains (slot_results 16 (16 * number) first.slots) (FullLeap id centre)) here
-    (slots_there 16 (16 * number) first.slots i centre lt (subst (λ p. HasSlot p i centre) same s)))
+    let here : 64 * number + i ≡ 64 * (number + 0) + i = omega arith in
+    Contains-append_left (slot_results 64 (64 * number) first.slots) (page_results (suc number) pages) (FullLeap (64 * (number + 0) + i) centre)
+    (subst (λ id. Contains (slot_results 64 (64 * number) first.slots) (FullLeap id centre)) here
+    (slots_there 64 (64 * number) first.slots i centre lt (subst (λ p. HasSlot p i centre) same s)))
 pages_there number (None ∷ pages) (suc later) page i centre lt e s =
-    let next : 16 * (suc number + later) + i ≡ 16 * (number + suc later) + i = omega arith in
+    let next : 64 * (suc number + later) + i ≡ 64 * (number + suc later) + i = omega arith in
     subst (λ id. Contains (page_results (suc number) pages) (FullLeap id centre)) next (pages_there (suc number) pages later page i centre lt e s)
 pages_there number (Some first ∷ pages) (suc later) page i centre lt e s =
-    let next : 16 * (suc number + later) + i ≡ 16 * (number + suc later) + i = omega arith in
-    Contains-append_right (slot_results 16 (16 * number) first.slots) (page_results (suc number) pages) (FullLeap (16 * (number + suc later) + i) centre)
+    let next : 64 * (suc number + later) + i ≡ 64 * (number + suc later) + i = omega arith in
+    Contains-append_right (slot_results 64 (64 * number) first.slots) (page_results (suc number) pages) (FullLeap (64 * (number + suc later) + i) centre)
     (subst (λ id. Contains (page_results (suc number) pages) (FullLeap id centre)) next (pages_there (suc number) pages later page i centre lt e s))
 
 -- ---- how many there are
@@ -188,9 +188,9 @@ without_page (e ∷ entries) n h = elim (Contains-cons e entries (OfPage n, h.0)
       )
 ]
 
--- at most 16 results for each entry, where each page has its key
+-- at most 64 results for each entry, where each page has its key
 entry_results : (number : ℕ) (pages : List (Option Page)) (entries : List (Key × Option ℕ)) → ((later : ℕ) (page : Page) → slice_get pages later ≡ Some (Some page) → HasPageKey entries (number + later))
-    → length (page_results number pages) + length (filter_map single_result entries) ≤ 16 * length entries
+    → length (page_results number pages) + length (filter_map single_result entries) ≤ 64 * length entries
 entry_results number [] entries held = let singles = filter_map-length single_result entries in omega arith
 entry_results number (None ∷ pages) entries held =
     entry_results (suc number) pages entries (λ later page e.
@@ -202,13 +202,13 @@ entry_results number (Some page ∷ pages) entries held =
     let on = entry_results (suc number) pages rest.0 (λ later other e.
     let next : number + suc later ≡ suc number + later = omega arith in
     rest.3 (suc number + later) (λ same. let no : ⊥ = omega (arith, same) in no) (subst (HasPageKey entries) next (held (suc later) other e))) in
-    let few = slots_length 16 (16 * number) page.slots in
-    let sum = length-append (slot_results 16 (16 * number) page.slots) (page_results (suc number) pages) in
+    let few = slots_length 64 (64 * number) page.slots in
+    let sum = length-append (slot_results 64 (64 * number) page.slots) (page_results (suc number) pages) in
     let singles = ap length rest.2 in
     let fewer = rest.1 in
     omega arith
 
-pub results_most : (memo : MemoView) (centres : SlotsView (ℕ × ℕ)) (leaps : SlotsView (ℕ × ℕ × ℕ × ℕ)) (capacity : ℕ) → AreBounded memo centres leaps capacity → length (results_of memo centres leaps) ≤ 16 * capacity
+pub results_most : (memo : MemoView) (centres : SlotsView (ℕ × ℕ)) (leaps : SlotsView (ℕ × ℕ × ℕ × ℕ)) (capacity : ℕ) → AreBounded memo centres leaps capacity → length (results_of memo centres leaps) ≤ 64 * capacity
 results_most memo centres leaps capacity h =
     let singles = filter_map single_result memo.order.entries in
     let some = filter_map centre_result centres.slots in
@@ -274,7 +274,7 @@ module _ (next : List ℕ → ℕ) (nodes : List Node) where
     are_true full singles some others result c = elim (Contains-append_cases in_pages (in_entries ++ (in_centres ++ in_leaps)) result c) [
       | inl d ↦
           let at = pages_found 0 memo.pages result d in
-          let number : at.later ≡ at.square / 16 = omega (arith, at.page_number) in
+          let number : at.later ≡ at.square / 64 = omega (arith, at.page_number) in
           let is_page = subst (λ n. slice_get memo.pages n ≡ Some (Some at.page)) number at.is_page in
           subst (IsTrueResult next nodes) (sym at.is) (full at.square at.centre (at.page, is_page, at.slot))
       | inr d ↦ elim (Contains-append_cases in_entries (in_centres ++ in_leaps) result d) [
@@ -289,8 +289,8 @@ module _ (next : List ℕ → ℕ) (nodes : List Node) where
     -- and the other way round
     pub full_leaps_of : AreTrue next nodes (results_of memo centres leaps) → AreFullLeaps next nodes memo
     full_leaps_of all id half f =
-        let is : 16 * (0 + id / 16) + id % 16 ≡ id = omega arith in
-        let there = pages_there 0 memo.pages (id / 16) f.0 (id % 16) half (omega arith) f.1 f.2 in
+        let is : 64 * (0 + id / 64) + id % 64 ≡ id = omega arith in
+        let there = pages_there 0 memo.pages (id / 64) f.0 (id % 64) half (omega arith) f.1 f.2 in
         all (FullLeap id half) (Contains-append_left in_pages (in_entries ++ (in_centres ++ in_leaps)) (FullLeap id half) (subst (λ n. Contains in_pages (FullLeap n half)) is there))
 
     pub singles_of : AreTrue next nodes (results_of memo centres leaps) → AreSingles next nodes memo

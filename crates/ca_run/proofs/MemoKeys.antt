@@ -94,7 +94,7 @@ opened-held pages entries n q key held = λ m p e. elim (set-cases pages n m (So
 
 -- an empty page adds no result
 pub opened-far : (pages : List (Option Page)) (n : ℕ) (q : Page) → ((i half : ℕ) → HasSlot q i half → ⊥) → (id half : ℕ) → HasFullLeapIn (slice_set pages n (Some q)) id half → HasFullLeapIn pages id half
-opened-far pages n q none id half f = elim (set-cases pages n (id / 16) (Some q) f.0 f.1) [
-  | inl s ↦ let is : f.0 ≡ q = cc in absurd (none (id % 16) half (subst (λ (g : Page). HasSlot g (id % 16) half) is f.2))
+opened-far pages n q none id half f = elim (set-cases pages n (id / 64) (Some q) f.0 f.1) [
+  | inl s ↦ let is : f.0 ≡ q = cc in absurd (none (id % 64) half (subst (λ (g : Page). HasSlot g (id % 64) half) is f.2))
   | inr r ↦ (f.0, r, f.2)
 ]

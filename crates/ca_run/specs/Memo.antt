@@ -17,7 +17,7 @@ IsTrueResult next nodes (FullLeap square centre) = (k : ℕ) × IsCentre next no
 IsTrueResult next nodes (Centre square j centre) = (k : ℕ) × IsCentre next nodes square k j centre
 IsTrueResult next nodes (LeapOfFour nw ne sw se middle) = (k : ℕ) × IsLeap next nodes k nw ne sw se middle
 
--- what is remembered with a memo of so many entries: true results, and at most 16 for each entry
+-- what is remembered with a memo of so many entries: true results, and at most 64 for each entry
 pub record Remembers (next : List ℕ → ℕ) (nodes : List Node) (results : List LeapResult) (memo : ℕ) : Type 0 where
   pub true_results : (result : LeapResult) → Contains results result → IsTrueResult next nodes result
-  pub most : length results ≤ 16 * memo
+  pub most : length results ≤ 64 * memo

@@ -1,6 +1,6 @@
 //! Leaps by powers of two over shared squares (Gosper, "Exploiting regularities in large cellular spaces").
 
-ghost use Rattle.std.specs.Prelude.{◌≡◌, ℕ, suc, ◌+◌, ◌≤◌, ℤ, max, OnOk, IfOk, IfSome};
+ghost use Rattle.std.specs.Prelude.{◌≡◌, ℕ, suc, ◌+◌, ◌≤◌, ◌/◌, ℤ, max, OnOk, IfOk, IfSome};
 ghost use Rattle.ca_quad.specs.Squares.{IsOf, one_cell, joined_cells};
 ghost use Rattle.ca_quad.specs.Sound.{IsSoundStore};
 ghost use Rattle.ca_quad.specs.Trees.{AreFour, ShowsSquare};
@@ -81,7 +81,7 @@ impl<A: Automaton> Model for Leaper<A> {
 
 impl<A: Automaton> Leaper<A> {
     /// A leaper over the squares of a store, which has worked out nothing yet. Its memo may have so many
-    /// entries, each of one result or up to 16, and it may do so many units of work.
+    /// entries, each of one result or up to 64, and it may do so many units of work.
     pub fn new(
         alloc: Global,
         store: Store,
@@ -102,9 +102,7 @@ impl<A: Automaton> Leaper<A> {
         let _states = rule.states();
         let _squares = store.count();
         let masks = rule.masks();
-        // A quarter for results that cost little, an eighth for those by the parts of squares.
-        let centres = memo / 4;
-        let leaps = memo / 8;
+        let (centres, leaps) = table_slots(memo, masks.is_some());
         let entries = NonZeroUsize::new(memo - (centres + leaps)).unwrap_or(NonZeroUsize::MIN);
         Ok(Leaper {
             store,
@@ -300,5 +298,17 @@ impl<A: Automaton> Leaper<A> {
     {
         let _ = grain;
         self.store.join(nw, ne, sw, se)
+    }
+}
+
+// How many of a memo's entries are slots for results that cost little, and how many for those by the parts of
+// squares: a leaper uses but one of these tables.
+fn table_slots(memo: usize, by_masks: bool) -> (usize, usize)
+    ensures { result.0 + result.1 ≤ memo / 8 }
+{
+    if by_masks {
+        (memo / 16, 0)
+    } else {
+        (0, memo / 8)
     }
 }

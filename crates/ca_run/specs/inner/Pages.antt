@@ -30,7 +30,7 @@ HasSlot page i half = slice_get page.slots i ≡ Some (Some half)
 
 -- the page of a square has its result at full leap
 abbrev pub HasFullLeapIn : List (Option Page) → ℕ → ℕ → Type 0
-HasFullLeapIn pages id half = (page : Page) × (slice_get pages (id / 16) ≡ Some (Some page)) × HasSlot page (id % 16) half
+HasFullLeapIn pages id half = (page : Page) × (slice_get pages (id / 64) ≡ Some (Some page)) × HasSlot page (id % 64) half
 
 abbrev pub HasFullLeap : MemoView → ℕ → ℕ → Type 0
 HasFullLeap memo id half = HasFullLeapIn memo.pages id half

@@ -22,7 +22,7 @@ slot_results (suc room) square (Some centre ∷ slots) = FullLeap square centre 
 abbrev pub page_results : ℕ → List (Option Page) → List LeapResult
 page_results number [] = []
 page_results number (None ∷ pages) = page_results (suc number) pages
-page_results number (Some page ∷ pages) = slot_results 16 (16 * number) page.slots ++ page_results (suc number) pages
+page_results number (Some page ∷ pages) = slot_results 64 (64 * number) page.slots ++ page_results (suc number) pages
 
 -- the result of an entry of the memo, if it has one of its own
 abbrev pub single_result : Key × Option ℕ → Option LeapResult

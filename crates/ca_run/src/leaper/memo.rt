@@ -9,7 +9,7 @@ ghost use Rattle.ca_run.specs.declared.leaper.page.Page.{Page};
 ghost use Rattle.ca_run.specs.declared.leaper.key.Key.TheVariants.{Page as OfPage, Single};
 
 use super::key::Key;
-use super::page::Page;
+use super::page::{Page, SQUARES};
 use ca_plane::Memory;
 use ca_quad::Id;
 use lru::LruCache;
@@ -22,7 +22,7 @@ use std::num::NonZeroUsize;
 const SPARED: u32 = 64;
 
 /// The centres of squares after 2^j generations. Those at full leap, which are asked for most, are found
-/// without a search, in the slots of their squares' numbers: 16 neighbouring slots are a page. The cache
+/// without a search, in the slots of their squares' numbers: 64 neighbouring slots are a page. The cache
 /// holds the keys of all pages that stand, and the other results, and so bounds both; the least recently used
 /// one goes. A forgotten result costs only time.
 #[derive(Drop)]
@@ -76,13 +76,13 @@ impl Memo {
         ensures bounded { IsBoundedMemo self.new.pages self.new.order }
     {
         let place = id.number();
-        let number = place / 16;
+        let number = place / SQUARES;
         if number >= self.pages.len() {
             return None;
         }
         let page = self.pages[number].as_mut()?;
         page.used = true;
-        page.slots[place % 16]
+        page.slots[place % SQUARES]
     }
 
     /// What is remembered for a square and another time.
@@ -123,7 +123,7 @@ impl Memo {
         ensures no_more { RemembersNoMore self.old self.new }
         ensures bounded { IsBoundedMemo self.new.pages self.new.order }
     {
-        let number = id.number() / 16;
+        let number = id.number() / SQUARES;
         self.make_room(number)?;
         if self.pages[number].is_none() {
             self.admit(Key::Page(number as u32), None)?;
@@ -140,12 +140,12 @@ impl Memo {
         ensures bounded { IsBoundedMemo self.new.pages self.new.order }
     {
         let place = id.number();
-        let number = place / 16;
+        let number = place / SQUARES;
         if number >= self.pages.len() {
             return;
         }
         if let Some(page) = &mut self.pages[number] {
-            page.slots[place % 16] = Some(half);
+            page.slots[place % SQUARES] = Some(half);
         }
     }
 

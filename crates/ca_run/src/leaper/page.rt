@@ -5,10 +5,13 @@ ghost use Rattle.ca_run.specs.inner.Pages.{HasSlot};
 
 use ca_quad::Id;
 
-/// The results at full leap of 16 squares, and whether one was looked up since the page was last spared.
+/// Of how many squares a page has results.
+pub(crate) const SQUARES: usize = 64;
+
+/// The results at full leap of these squares, and whether one was looked up since the page was last spared.
 #[derive(Clone, Copy, Drop)]
 pub(crate) struct Page {
-    pub(crate) slots: [Option<Id>; 16],
+    pub(crate) slots: [Option<Id>; SQUARES],
     pub(crate) used: bool,
 }
 
@@ -18,7 +21,7 @@ impl Page {
         ensures { (i half : ℕ) → HasSlot result i half → ⊥ }
     {
         Page {
-            slots: [None; 16],
+            slots: [None; SQUARES],
             used: false,
         }
     }

@@ -12,7 +12,7 @@ returns-in_err-admit-clause-no_more c = record {
 
 pub invariant_of-self : goal.invariant_of-self
 invariant_of-self c = let there = c.in_ok-admit.ensures.there _ refl in record {
-  held = opened-held c.self-then-is_none.inside.pages.items c.self-then-is_none.inside.order.entries (c.number-number.result / 16) c.empty.result (subst (λ (m : MemoView). HasPageKey m.order.entries (c.number-number.result / 16)) (sym c.self-then-is_none.view_is) there) c.self-then-is_none.invariant.held;
+  held = opened-held c.self-then-is_none.inside.pages.items c.self-then-is_none.inside.order.entries (c.number-number.result / 64) c.empty.result (subst (λ (m : MemoView). HasPageKey m.order.entries (c.number-number.result / 64)) (sym c.self-then-is_none.view_is) there) c.self-then-is_none.invariant.held;
   most = c.self-then-is_none.invariant.most;
 }
 
@@ -26,6 +26,6 @@ returns-in_ok-admit-clause-no_more c = record {
 
 pub returns-in_ok-admit-clause-bounded : goal.returns-in_ok-admit-clause-bounded
 returns-in_ok-admit-clause-bounded c = let there = c.in_ok-admit.ensures.there _ refl in record {
-  held = opened-held c.self-then-is_none.inside.pages.items c.self-then-is_none.inside.order.entries (c.number-number.result / 16) c.empty.result (subst (λ (m : MemoView). HasPageKey m.order.entries (c.number-number.result / 16)) (sym c.self-then-is_none.view_is) there) c.self-then-is_none.invariant.held;
+  held = opened-held c.self-then-is_none.inside.pages.items c.self-then-is_none.inside.order.entries (c.number-number.result / 64) c.empty.result (subst (λ (m : MemoView). HasPageKey m.order.entries (c.number-number.result / 64)) (sym c.self-then-is_none.view_is) there) c.self-then-is_none.invariant.held;
   most = c.self-then-is_none.invariant.most;
 }
