@@ -4,6 +4,7 @@ them; and what a file holds is repeated as it is, in `show`, in `convert` and in
 import os
 import tempfile
 
+from lib import remedies
 from lib.claim_text import ClaimText, outcome
 from lib.program import Folder, Outcome, Tally, ample, fault, run
 from lib.refusing import refusing_program
@@ -57,7 +58,7 @@ def try_faults(tally, files):
     complaints = []
     for text, spelled in SPELLED:
         path, told = files.path(text.decode(), b"x = 1, y = 1\nz!").encode(), os.path.join(files.folder.encode(), spelled)
-        for words, it in ((["show", "--explain", path], Outcome(b"", b"cafile: bad pattern: rle syntax\n  %s, line 2\n" % told, 2)),
+        for words, it in ((["show", "--explain", path], Outcome(b"", b"cafile: bad pattern: rle syntax\n  %s, line 2\n" % told + remedies.line("bad pattern: rle syntax", path), 2)),
                           (["show", "--explain", "examples/tables/spread.rle", "--rule", path], Outcome(b"", b"cafile: bad table: line 1 no rule line\n  rule file: %s, line 1\n" % told, 2))):
             got = run(words)
             if got != it:
@@ -65,7 +66,8 @@ def try_faults(tally, files):
     for text, spelled in (*SPELLED, *ODD, *BYTES):
         if is_word(text):
             path = files.path("file", b"x = 1, y = 1, rule = %s\no!\n" % text)
-            got, wanted = run(["show", "--explain", path]), Outcome(b"", b"cafile: bad rule: unknown\n  %s: rule %s\n" % (path.encode(), spelled), 2)
+            helps = remedies.line("bad rule: unknown", path.encode(), rule=text)
+            got, wanted = run(["show", "--explain", path]), Outcome(b"", b"cafile: bad rule: unknown\n  %s: rule %s\n" % (path.encode(), spelled) + helps, 2)
             if got != wanted:
                 complaints.append(f"the rule {text}: wanted {wanted}, got {got}")
     tally.tell("faults of files, and rule texts", complaints)

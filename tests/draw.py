@@ -253,7 +253,7 @@ def try_tables(tally, _):
     tally.tell("a table's pattern", [] if wanted.printed and (wanted.complaint, wanted.status) == (b"", 0) else [str(wanted)])
     tally.expect("a rule file by its name", run(["draw", spread, "--rules", "examples/rules"]), wanted)
     tally.expect("no table", run(["draw", spread]), fault("bad rule: unknown"))
-    explained = Outcome(b"", f"cafile: bad rule: unknown\n  {spread}: rule Spread\n".encode(), 2)
+    explained = Outcome(b"", f"cafile: bad rule: unknown\n  {spread}: rule Spread\n  try: name the folder of Spread.rule by --rules\n".encode(), 2)
     tally.expect("no table, explained", run(["draw", spread, "--explain"]), explained)
 
 

@@ -6,6 +6,7 @@ import os
 import tempfile
 
 from explained import BAD_RLES, faulty_macrocells, where
+from lib import remedies
 from lib.program import Outcome, Tally, ample, fault, run
 from show_and_convert import COMMANDS, FULL, FULL_OF_TWOS, GOOD, MAX_FILE, PATTERNS, SPREAD, TABLES, Files, with_file
 
@@ -15,9 +16,10 @@ DETAILS = {"no_end": ", line 2", "first_fault": ", line 4", "unknown": ": rule L
 
 
 def explained(told, note):
-    """The outcome of a run that complains of this, and explains it by this note."""
+    """The outcome of a run that complains of this, and explains it by this note, and tells what helps, where something does."""
     note = note if isinstance(note, bytes) else note.encode()
-    return Outcome(b"", f"cafile: {told}\n".encode() + b"  " + note + b"\n", 2)
+    helps = remedies.line_after(f"cafile: {told}" if told in ("too many cells", "work") else told, note)
+    return Outcome(b"", f"cafile: {told}\n".encode() + b"  " + note + b"\n" + helps, 2)
 
 
 class Explained(Files):

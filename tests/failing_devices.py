@@ -12,6 +12,7 @@
 import os
 import re
 
+from lib import remedies
 from lib.program import ROOT, Folder, Outcome, Tally, ample, example, example_words, fault, run
 from lib.refusing import refusing_program
 
@@ -74,7 +75,7 @@ def printing_runs(files):
         (["verify", text], Outcome(PLAIN, b"", 1)), (["verify", "--explain", text], Outcome(EXPLAINED, b"", 1)),
         (["verify", "--explain", text, lost], Outcome(both, b"", 2)), (["verify", "--explain", "--rules", files.folder, named], Outcome(found, b"", 2)), (["show", dot], SHOWN), (["show", macrocell], SHOWN_MACROCELL),
         (["identify", dot, row, macrocell], ample(IDENTIFIED.format(dot=dot, row=row, macrocell=macrocell).encode())),
-        (["identify", "--explain", files.path("z.rle", "x = 1, y = 1\nz!"), row], Outcome(NOT_IDENTIFIED.format(bad=files.path("z.rle"), row=row).encode(), f"  {files.path('z.rle')}, line 2\n".encode(), 2)),
+        (["identify", "--explain", files.path("z.rle", "x = 1, y = 1\nz!"), row], Outcome(NOT_IDENTIFIED.format(bad=files.path("z.rle"), row=row).encode(), f"  {files.path('z.rle')}, line 2\n".encode() + remedies.line("bad pattern: rle syntax", b""), 2)),
         (["show", dot, "--after", "0"], SHOWN), (["convert", dot, "--to", "mc", "--after", "0"], AS_MACROCELL),
         (["show", state, "--rule", rule], SHOWN_TABLE), (["show", state, "--rules", files.folder], SHOWN_TABLE),
         (["draw", state, "--rule", rule], DRAWN_TABLE), (["draw", state, "--rules", files.folder], DRAWN_TABLE), (["convert", dot, "--to", "mc"], AS_MACROCELL), (["convert", macrocell, "--to", "rle"], AS_RLE),
@@ -89,7 +90,7 @@ def complaining_runs(files):
     bad, worse = files.path("bad.claims", "gun\n"), files.path("worse.claims", "still a\n")
     rule, z = files.path("r.rule", "@RULE R\n@TABLE\nn_states:1\n"), files.path("z.rle", "x = 1, y = 1\nz!")
     noted = {"bad pattern: rle syntax": f"{z}, line 2", "bad table: line 3 states": f"rule file: {rule}, line 3"}
-    noted = {told: Outcome(b"", f"cafile: {told}\n  {note}\n".encode(), 2) for told, note in noted.items()}
+    noted = {told: Outcome(b"", f"cafile: {told}\n  {note}\n".encode() + remedies.line(told, b""), 2) for told, note in noted.items()}
     several = f"cafile: {bad}: claims line 1: syntax\ncafile: {worse}: claims line 1: unknown name\n"
     return (
         (["show", "nowhere", "--after", "1"], fault("cannot read nowhere")), (["show", text, "--after", "1"], fault("bad pattern: rle header")),
@@ -145,10 +146,11 @@ def try_claims(tally, refusing, files):
 
 
 def try_errors(tally, refusing, files):
-    """Each byte of standard error in turn can't be written: the other lines and the status are the same. The library's lines are written as one."""
+    """Each byte of standard error in turn can't be written: the other lines and the status are the same. The library's lines are written as one, and so is an
+    explanation with what helps."""
     for words, whole in complaining_runs(files):
         complaints, at = [] if whole.complaint else ["there was no complaint"], 0
-        for line in whole.complaint.splitlines(keepends=True) if whole.complaint.startswith(b"cafile: ") else [whole.complaint]:
+        for line in re.findall(rb".*\n(?:  try: .*\n)?", whole.complaint) if whole.complaint.startswith(b"cafile: ") else [whole.complaint]:
             for number in range(1, len(line) + 1):
                 got, is_met = refusing.run(words, {"WRITE_FAILS": at + number, "WRITE_MOST": 1, "WRITE_TO": 2})
                 told = whole.complaint[:at + number - 1] + whole.complaint[at + len(line):]

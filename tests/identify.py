@@ -6,7 +6,7 @@ import random
 import re
 import tempfile
 
-from lib import rle
+from lib import remedies, rle
 from lib.claim_reader import next_cells
 from lib.program import EXAMPLES, ROOT, Folder, Outcome, Tally, ample, fault, run
 from lib.work import excess, timed
@@ -278,7 +278,7 @@ def refusals_by_verify(files, paths, rules):
     lines += [f"still {number}" for number in range(len(paths))]
     told = run(["verify", "--explain", files.path("refused.claims", "\n".join([*lines, ""]))]).printed.decode()
     refusals = [None] * len(paths)
-    for number, cause, note in re.findall(r"^line (\d+): refused, (.*)\n((?:  .*\n)?)", told, re.M):
+    for number, cause, note in re.findall(r"^line (\d+): refused, (.*)\n((?:  .*\n)?)(?:  try: .*\n)?", told, re.M):
         at = re.search(r"(, line \d+)$", note.rstrip("\n"))
         refusals[int(number) - first] = cause + (at[1] if at and cause.startswith("bad pattern") else "")
     return refusals
@@ -392,7 +392,8 @@ def try_refused(tally, files):
     tally.expect("a refused file, and then a good one", run(["identify", paths[1], good]), whole(comments[1] + entry("good", good, "still"), status=2))
     tally.expect("all of them", run(["identify", *paths]), whole("".join(comments), status=2))
     notes = [(paths[1], ", line 2"), (paths[2], ", line 2"), (paths[3], ": rule Life"), (paths[4], ": rule B3/S23:T30"), (paths[5], ": rule B0/S"), (paths[6], ""), (paths[7], ", line 2")]
-    explained = "".join(f"  {path}{note}\n" for path, note in notes)
+    causes = {path: cause.split(", line")[0] for path, (_, cause) in zip(paths, bad.values())}
+    explained = "".join(f"  {path}{note}\n" + remedies.line(causes[path], path.encode(), rule=note.encode()[7:]).decode() for path, note in notes)
     tally.expect("all of them, explained", run(["identify", "--explain", good, *paths]), whole(entry("good", good, "still") + "".join(comments), explained.encode(), 2))
     tally.expect("good files, explained", run(["identify", "--explain", good]), whole(entry("good", good, "still")))
     tally.expect("a folder", run(["identify", files.folder]), whole(f"# {base_name(files.folder)}: {files.folder}: no file\n", status=2))
@@ -452,7 +453,7 @@ def try_rules(tally, files):
     d = files.path("of_D.rle", pattern_of("D"))
     both("a rule file of another name", ["--rules", folder, d, a], f"rule {one}\n# of_D: {d}: bad rule: unknown\n{still[a]}", 2)
     e = files.path("of_E.rle", pattern_of("E"))
-    both("a rule file that isn't there, explained", ["--rules", folder, "--explain", e], f"# of_E: {e}: bad rule: unknown\n", 2, f"  {e}: rule E\n".encode())
+    both("a rule file that isn't there, explained", ["--rules", folder, "--explain", e], f"# of_E: {e}: bad rule: unknown\n", 2, f"  {e}: rule E\n  try: name the folder of E.rule by --rules\n".encode())
     bad = os.path.join(folder, "C.rule")
     tally.expect("a faulty rule file", run(["identify", "--rule", bad, a]), fault("bad table: line 3 states"))
     tally.expect("a faulty rule file, explained", run(["identify", "--explain", "--rule", bad, a]),

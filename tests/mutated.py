@@ -18,7 +18,7 @@ import tempfile
 from dataclasses import dataclass, field
 from functools import cached_property
 
-from lib import claim_reader, macrocell, rle
+from lib import claim_reader, macrocell, remedies, rle
 from lib.claim_reader import Judge
 from lib.mutations import KINDS, Mutator
 from lib.pictures import drawn
@@ -133,7 +133,8 @@ class Patterns:
         file = trial.file
         if file.cause:
             note = b"  p: " + trial.name("pattern").encode() + file.told()
-            wanted = [it for at in (2, 3) for it in (f"line {at}: refused, {file.cause}".encode(), note)]
+            helps = file.helps(trial.name("pattern").encode()).splitlines()
+            wanted = [it for at in (2, 3) for it in (f"line {at}: refused, {file.cause}".encode(), note, *helps)]
             return None if trial.printed == wanted and not trial.faults else f"it has to be {file.cause}, and {note!r}"
         forms = rb"yes|no, cells differ after 1\n  p at -?\d+,-?\d+: \d+ after 1 generation, claimed \d+" if file.population() else rb"no, empty"
         is_right = re.fullmatch(rb"line 2: yes\nline 3: (?:%s)" % forms, b"\n".join(trial.printed)) and not trial.faults
@@ -191,7 +192,8 @@ class Rules:
         if self.printed_rule(trial):
             return None if TABLE_VERDICTS.fullmatch(printed) else "its table has to be known and either good or faulty"
         told = b"%s: rule %s" % (trial.name("rle").encode(), escaped(self.pattern_rule(trial)))
-        wanted = b"".join(b"line %d: refused, bad rule: unknown\n  p: %s\n" % (at, told) for at in (3, 4))
+        helps = remedies.line("bad rule: unknown", trial.name("rle").encode(), rule=self.pattern_rule(trial))
+        wanted = b"".join(b"line %d: refused, bad rule: unknown\n  p: %s\n%s" % (at, told, helps) for at in (3, 4))
         return None if printed == wanted else "its table has another name"
 
     def alone(self, trial):

@@ -24,6 +24,7 @@ import itertools
 import os
 import re
 
+from lib import remedies
 from lib.program import Outcome, Tally, example, example_words, fault, lines_outcome, run
 from lib.refusing import refusing_program
 from sizes import BLOCK, long_text, spelled
@@ -140,11 +141,11 @@ def try_examples(tally, refusing):
 
 
 def answers_in(printed):
-    """The lines of the verdicts in what an explained run of one text prints, each with the line of its note, where it has one."""
+    """The lines of the verdicts in what an explained run of one text prints, each with the lines of its note and of what helps, where it has them."""
     answers = []
     for line in printed.splitlines(keepends=True):
         if line.startswith(b"  "):
-            answers[-1] = (answers[-1][0], line)
+            answers[-1] = (answers[-1][0], answers[-1][1] + line)
         else:
             answers.append((line, b""))
     return answers
@@ -152,21 +153,26 @@ def answers_in(printed):
 
 def lesser(answer):
     """What may be told in place of an answer where memory is refused: that, and unless the note is promised the line without it, or the note without its
-    faulty line or its rule."""
+    faulty line, or without its rule, and then without what helps."""
     line, note = answer
     told = {(line.split(b":")[0] + b": refused, memory\n", b"")}
     if not ALWAYS_NOTED.match(line):
         told.add((line, b""))
     if MAY_LACK_LINE.match(line):
-        told.add((line, re.sub(rb", line [0-9]+\n$", b"\n", note)))
+        told.add((line, re.sub(rb", line [0-9]+\n", b"\n", note)))
     if b": refused, bad rule: " in line:
-        told.add((line, re.sub(rb": rule .*\n$", b"\n", note)))
+        told.add((line, re.sub(rb": rule .*\n(  try: .*\n)?$", b"\n", note)))
     return told
+
+
+def after_text(before, answer):
+    """The lines of an answer and its note, each after this."""
+    return b"".join(before + line for part in answer for line in part.splitlines(keepends=True))
 
 
 def outcome_of(texts, complaint=b""):
     """What a run over these texts prints, given by what stands before their lines and their answers."""
-    printed = b"".join(before + line + (note and before + note) for before, answers in texts for line, note in answers)
+    printed = b"".join(after_text(before, answer) for before, answers in texts for answer in answers)
     status = 2 if complaint or b": refused, " in printed else int(b": no, " in printed)
     return Outcome(printed, complaint, status)
 
@@ -231,13 +237,14 @@ def try_words(tally, refusing):
         tell_words(tally, refusing, example_words(f"{name}.words"), example(name), f"examples/{name}.words")
     for name in NOTED:
         ample = example(name)
-        less = Outcome(b"", re.sub(rb"(?m)^(  \S+?)(, line [0-9]+|: rule .*)$", rb"\1", ample.complaint), ample.status)
+        less = Outcome(b"", re.sub(rb"(?m)^(  \S+?)(?:, line [0-9]+|: rule .*(?:\n  try: .*)?)$", rb"\1", ample.complaint), ample.status)
         tell_words(tally, refusing, example_words(f"{name}.words"), ample, f"examples/{name}.words", less)
 
 
 def identified(head, lines, is_explained=False):
-    """What a run of `identify` comes to that prints these lines on its files after this, and the line of a fault where that is explained."""
-    notes = [f"  {path}, line {line}\n" for it in lines for path, line in re.findall(r"^# \S+: (\S+): .*, line (\d+)$", it, re.M)]
+    """What a run of `identify` comes to that prints these lines on its files after this, and the lines of a fault of spelling where that is explained."""
+    helps = remedies.line("bad pattern: rle syntax", b"").decode()
+    notes = [f"  {path}, line {line}\n{helps}" for it in lines for path, line in re.findall(r"^# \S+: (\S+): .*, line (\d+)$", it, re.M)]
     return Outcome((head + "".join(lines)).encode(), "".join(notes * is_explained).encode(), 2 if any(re.search("^# .*: .*: ", it, re.M) for it in lines) else 0)
 
 
@@ -297,7 +304,7 @@ def consists_of(texts, outcome):
     rest = outcome.printed
     for before, answers in texts:
         for answer in answers if before not in lost else []:
-            may_be = {before + line + (note and before + note) for line, note in {answer, *lesser(answer)}}
+            may_be = {after_text(before, it) for it in {answer, *lesser(answer)}}
             fits = [it for it in may_be if rest.startswith(it)]
             if not fits:
                 return False

@@ -1,10 +1,14 @@
 #!/usr/bin/env -S python3 -B
-"""Files with the usual mistakes, and what docs/CLAIMS.md says of each under 'What to do': its fault, and that its remedy helps."""
+"""Files with the usual mistakes, and what docs/CLAIMS.md says of each under 'What to do': its fault, that its remedy helps, and that `--explain` ends with the remedy
+of that table."""
 import gzip
 import os
+import re
+import subprocess
 import tempfile
 
-from lib.program import Tally, fault as refused, lines_outcome, run
+from lib import remedies
+from lib.program import Folder, Outcome, Tally, escaped, fault as refused, lines_outcome, run
 
 GOOD = b"x = 3, y = 3, rule = B3/S23\nbo$2bo$3o!\n"
 
@@ -33,6 +37,43 @@ MISTAKES = {
 }
 
 
+# What the last line of an explained run says of some of these, word for word; None where there is no such line.
+WORDS = {
+    "byte order mark": rb"sed '1s/^\xef\xbb\xbf//' FILE", "gzip": b"gunzip -c FILE", "gzip of a macrocell": b"gunzip -c FILE", "plaintext": b"open it in Golly and save it as RLE",
+    "Life 1.05": b"open it in Golly and save it as RLE", "Life 1.06": b"open it in Golly and save it as RLE", "no commas": b"write the header as x = 3, y = 3, rule = B3/S23",
+    "CR alone": rb"tr '\r' '\n' < FILE", "CR alone after a comment": rb"tr '\r' '\n' < FILE", "cut off": b"get the file again, or put ! at its end",
+    "another letter": b"look for bytes other than b o . $ !, A to X, p to y and digits", "a rule line of XLife": b"write the rule into the header",
+    "a capital O": b"write o for a live cell, or name the right rule", "a rule's name": b"name the folder of Life.rule by --rules", "LifeHistory": b"name the folder of LifeHistory.rule by --rules",
+    "a comma after the rule": b"take away what follows the rule", "a rule of another kind": None, "a Generations rule over four neighbours": None, "a grid": None,
+    "a timeline": b"open it in Golly and save one of its planes",
+}
+
+# Files that seem to be what another one is, with their faults and what helps.
+SEEMING = {
+    "gzip's first byte": (b"\x1f" + GOOD, "rle header", b"write the header as x = 3, y = 3, rule = B3/S23"),
+    "gzip's first bytes alone": (b"\x1f\x8b", "rle header", b"gunzip -c FILE"),
+    "gzip's first bytes after another": (b"x\x1f\x8b", "rle header", b"write the header as x = 3, y = 3, rule = B3/S23"),
+    "packed, and with a `!` in it": (b"\x1f\x8b!\r", "rle header", b"gunzip -c FILE"),
+    "two bytes of a byte order mark": (b"\xef\xbb" + GOOD, "rle header", b"write the header as x = 3, y = 3, rule = B3/S23"),
+    "a byte order mark, and CR": (b"\xef\xbb\xbf" + GOOD.replace(b"\n", b"\r"), "rle header", rb"sed '1s/^\xef\xbb\xbf//' FILE"),
+    "`!` behind a blank": (b" !Name\n.O\n", "rle header", b"write the header as x = 3, y = 3, rule = B3/S23"),
+    "Life of another version": (b"#Life 2\n.*\n", "rle header", b"write the header as x = 3, y = 3, rule = B3/S23"),
+    "a comment on life": (b"#life 1.05\n.*\n", "rle header", b"write the header as x = 3, y = 3, rule = B3/S23"),
+    "CR and LF": (GOOD[:-2].replace(b"\n", b"\r\n"), "rle no end", b"get the file again, or put ! at its end"),
+    "CR and one LF": (GOOD[:-2].replace(b"\n", b"\r") + b"\n", "rle no end", b"get the file again, or put ! at its end"),
+    "an end alone": (b"!", "rle header", b"open it in Golly and save it as RLE"),
+    "nothing": (b"", "rle header", b"write the header as x = 3, y = 3, rule = B3/S23"),
+    "a byte order mark before a faulty item": (GOOD.replace(b"3o", b"\xef\xbb\xbf3o"), "rle syntax", b"look for bytes other than b o . $ !, A to X, p to y and digits"),
+    "a state above 255": (GOOD.replace(b"3o", b"yX"), "rle bad state", None), "a faulty node": (b"[M2]\nz\n", "macrocell syntax", None),
+}
+
+# Rule texts that name no rule, and what helps.
+RULES = {
+    b"life": b"name the folder of life.rule by --rules", b"B3/S23,": b"take away what follows the rule", b"B3/S23,more": b"take away what follows the rule", b"Life,": b"name the folder of Life,.rule by --rules",
+    b"B3/S23more": None, b"R5,C0,M1,S34..58,B34..45,NM": None, b"a/b": None, b"..": None, b"a\0b": None, b"\x1b[2J": rb"name the folder of \x1b[2J.rule by --rules", b"\xff": b"name the folder of \xff.rule by --rules",
+}
+
+
 def put(path, data):
     with open(path, "wb") as file:
         file.write(data)
@@ -45,9 +86,96 @@ def try_mistake(tally, folder, name, data, fault, mended):
     claims = os.path.join(folder, "claims")
     put(claims, f"load a {path}\nbecomes a 0 a\n".encode())
     tally.expect(f"{name}, verified", run(["verify", claims]), lines_outcome([(2, f"refused, {fault}")]))
+    try_explained(tally, name, path, fault, WORDS[name])
     if mended is not None:
         put(path, mended)
         tally.expect(f"{name}, mended", run(["verify", claims]), lines_outcome([(2, "yes")]))
+
+
+def last_line(path, words):
+    """The line that says what helps, of the file of a path."""
+    return b"" if words is None else b"  try: " + words.replace(b"FILE", escaped(os.fsencode(path))) + b"\n"
+
+
+def try_explained(tally, name, path, fault, words):
+    """The last line of each explained run on a file is that of the table, and stands there once; and the lines before are as ever."""
+    helps, note, complaints = last_line(path, words), rb"  %s(?:, line \d+|: rule [^\n]*)?\n" % re.escape(escaped(os.fsencode(path))), []
+    claims = f"{os.path.dirname(path)}/explained.claims"
+    put(claims, b"load a %s\nbecomes a 0 a\nload b examples/block.rle\nstill b\n" % os.fsencode(path))
+    told = b"cafile: %s\n" % fault.encode()
+    for command in (["show"], ["convert", "--to", "mc"], ["draw"]):
+        got = run([*command, "--explain", path])
+        if (got.printed, got.status) != (b"", 2) or not re.fullmatch(re.escape(told) + note + re.escape(helps), got.complaint):
+            complaints.append(f"{command[0]}: {got}, wanted {helps}")
+    for before, texts in ((b"", [claims]), (claims.encode() + b": ", [claims, "examples/no_claims.claims"])):
+        got = run(["verify", "--explain", *texts])
+        wanted = rb"%sline 2: refused, %s\n%s  a:%s%s%sline 4: yes\n" % (before, re.escape(fault.encode()), before, note[1:], re.escape(helps and before + helps), before)
+        if (got.complaint, got.status) != (b"", 2) or not re.fullmatch(wanted, got.printed):
+            complaints.append(f"verify: {got}, wanted {helps}")
+    got = run(["identify", "--explain", path, "examples/block.rle", path])
+    if got.status != 2 or not re.fullmatch(b"(?:%s%s){2}" % (note, re.escape(helps)), got.complaint):
+        complaints.append(f"identify: {got}, wanted {helps}")
+    tally.tell(f"{name}, explained: {helps}", complaints)
+
+
+def try_seeming(tally, folder):
+    """Files that are taken for others, or aren't, by their bytes; and rule texts."""
+    for name, (data, fault, words) in SEEMING.items():
+        path = os.path.join(folder, "seeming")
+        put(path, data)
+        try_explained(tally, name, path, f"bad pattern: {fault}", words)
+    for rule, words in RULES.items():
+        path = os.path.join(folder, "ruled")
+        put(path, b"x = 1, y = 1, rule = %s\no!\n" % rule)
+        try_explained(tally, f"the rule {rule}", path, "bad rule: unknown", words)
+
+
+def try_paths(tally, folder):
+    """Control characters of a path are spelled out in what helps."""
+    for name in (b"a\x1b[2J", b"b\x7f", b"c\xc2\x9b", b"\xc3\xa9", b"d\\x1b"):
+        path = os.path.join(folder, os.fsdecode(name))
+        for data, words in ((gzip.compress(GOOD), b"gunzip -c FILE"), (b"\xef\xbb\xbf" + GOOD, rb"sed '1s/^\xef\xbb\xbf//' FILE"), (b"#C\rx", rb"tr '\r' '\n' < FILE")):
+            put(path, data)
+            try_explained(tally, f"the path {name}", path, "bad pattern: rle header", words)
+
+
+def try_commands(tally, folder):
+    """What is told as a command mends the file."""
+    for name, (data, fault, mended) in MISTAKES.items():
+        if WORDS[name] and WORDS[name].endswith(b"FILE"):
+            path = os.path.join(folder, "broken")
+            put(path, data)
+            command = run(["show", "--explain", path]).complaint.split(b"  try: ")[-1]
+            done = subprocess.run(["sh", "-c", os.fsdecode(command)], capture_output=True, check=False)
+            tally.tell(f"{name}, mended by {command}", [] if done.stdout.strip() == mended.strip() else [str(done)])
+
+
+def try_others(tally, folder):
+    """Want of work and too many cells, of runs and of claims; and refusals that no line helps."""
+    soup, full = "examples/soup/soup.rle", "examples/macrocell/full_square.mc"
+    for command in (["show"], ["convert", "--to", "mc"], ["draw"]):
+        wanted = Outcome(b"", f"cafile: work\n  {soup}\n".encode() + last_line(soup, b"allow more by --work"), 2)
+        tally.expect(f"want of work, {command[0]}", run([*command, soup, "--after", "1000", "--work", "100", "--explain"]), wanted)
+    wanted = Outcome(b"", f"cafile: too many cells\n  {full}\n".encode() + last_line(full, b"convert it --to mc, which takes any number of cells"), 2)
+    tally.expect("too many cells, convert", run(["convert", full, "--to", "rle", "--explain"]), wanted)
+    claims = Folder(folder).path("full.claims", f"load full {full}\nspaceship full 1 1 0\nload lost nowhere\nstill lost\n")
+    helps = last_line(full, b"claim that it becomes a file of its moved plane, without a shift").decode()
+    wanted = f"line 2: refused, too many cells\n  full: {full}\n{helps}line 4: refused, no file\n  lost: nowhere: no such file\n"
+    tally.expect("too many cells, verify", run(["verify", "--explain", claims]), Outcome(wanted.encode(), b"", 2))
+    for words in (["verify", "--explain", "--rules", "examples/rules", "examples/rules/slow.claims"], ["show", "--explain", "--rules", "examples/rules", "examples/rules/slow.rle"],
+                  ["verify", "--explain", "examples/bad_table.claims"], ["verify", "--explain", "--work", "0", "examples/glider.claims"], ["identify", "--explain", "examples/lost.rle"],
+                  ["identify", "--explain", "--rules", "examples/rules", "examples/rules/slow.rle"]):
+        got = run(words)
+        tally.tell(f"nothing helps, {' '.join(words)}", [str(got)] if b"  try: " in got.printed + got.complaint or b"  " not in got.printed + got.complaint and "0" not in words and "examples/lost.rle" not in words else [])
+
+
+def try_table(tally):
+    """Each remedy of the table is one of those here, word for word; and these are in the table."""
+    told = {it.decode() for it in (*WORDS.values(), *(words for _, _, words in SEEMING.values())) if it}
+    told |= {"allow more by --work", "convert it --to mc, which takes any number of cells", "claim that it becomes a file of its moved plane, without a shift"}
+    told = {re.sub(r"\w+\.rule", "NAME.rule", it) for it in told}
+    table = set(remedies.table().values())
+    tally.tell("the table of docs/CLAIMS.md", [f"in one alone: {it}" for it in sorted(told ^ table)])
 
 
 def main():
@@ -55,6 +183,11 @@ def main():
     with tempfile.TemporaryDirectory() as folder:
         for name, (data, fault, mended) in MISTAKES.items():
             try_mistake(tally, folder, name, data, fault, mended)
+        try_seeming(tally, folder)
+        try_paths(tally, folder)
+        try_commands(tally, folder)
+        try_others(tally, folder)
+    try_table(tally)
     tally.finish()
 
 

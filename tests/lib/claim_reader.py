@@ -130,12 +130,13 @@ class Course:
 
 @dataclass(frozen=True)
 class Verdict:
-    """What is printed of a claim, and the note of an explained run: its bytes, or the planes found and claimed, of which it names a cell."""
+    """What is printed of a claim, and the note of an explained run: its bytes, or the planes found and claimed, of which it names a cell; and its last line, which helps."""
 
     claim: Claim
     text: str
     note: bytes = b""
     planes: tuple = ()
+    helps: bytes = b""
 
     def complaint(self, lines):
         """Takes the lines of this verdict from the first of what was printed, and tells what is wrong with them."""
@@ -144,6 +145,8 @@ class Verdict:
             return f"line {self.claim.line} has to come to {self.text}, and {got[0]!r} was printed"
         if self.note or self.planes:
             got.append(lines.pop(0) if lines else b"(nothing)")
+        if self.helps and (not lines or lines.pop(0) + b"\n" != self.helps):
+            return f"{got[0]!r} lacks {self.helps!r}"
         is_good = len(got) == 1 or self.is_noted(got[1])
         return None if is_good else f"{got[0]!r} has another note: {got[1]!r}, wanted {self.note!r}"
 
@@ -183,29 +186,29 @@ class Judge:
         return self.courses[file.content]
 
     def refusal(self, claim, rules):
-        """The cause of a claim's refusal and its note; None where it isn't refused."""
+        """The cause of a claim's refusal, its note and what helps; None where it isn't refused."""
         for name, path in claim.patterns:
             if self.content_of(path) is None:
-                return "no file", b"%s: %s: %s" % (escaped(name), escaped(path), self.absence_of(path))
+                return "no file", b"%s: %s: %s" % (escaped(name), escaped(path), self.absence_of(path)), b""
         for path in rules:
             if self.content_of(path) is None:
-                return "no file", b"rule file: %s: %s" % (escaped(path), self.absence_of(path))
+                return "no file", b"rule file: %s: %s" % (escaped(path), self.absence_of(path)), b""
         for path in rules:
             fault = self.rule_file_fault(self.content_of(path))
             if fault:
-                return f"bad table: {fault[0]}", b"rule file: %s, line %d" % (escaped(path), fault[1])
+                return f"bad table: {fault[0]}", b"rule file: %s, line %d" % (escaped(path), fault[1]), b""
         for kind in ("bad pattern", "bad rule", "state"):
             for name, path in claim.patterns:
                 file = self.file(path)
                 if file.cause.startswith(kind):
-                    return file.cause, escaped(name) + b": " + escaped(path) + file.told()
-        return ("mixed rules", b"") if len({self.file(path).rule for _, path in claim.patterns}) > 1 else None
+                    return file.cause, escaped(name) + b": " + escaped(path) + file.told(), file.helps(path)
+        return ("mixed rules", b"", b"") if len({self.file(path).rule for _, path in claim.patterns}) > 1 else None
 
     def verdict(self, claim, rules):
         """The verdict on a claim."""
         refusal = self.refusal(claim, rules)
         if refusal:
-            return Verdict(claim, f"refused, {refusal[0]}", refusal[1])
+            return Verdict(claim, f"refused, {refusal[0]}", refusal[1], helps=refusal[2])
         course, start = self.course(claim.patterns[0][1]), self.course(claim.patterns[0][1]).after(0)
         if claim.kind != b"becomes" and not start:
             return Verdict(claim, "no, empty")

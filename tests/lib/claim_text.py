@@ -1,6 +1,7 @@
 """A claim text that is made line by line, with its files, and what an explained run has to tell of it."""
 from dataclasses import dataclass, field
 
+from lib import remedies
 from lib.program import Folder, Outcome
 
 
@@ -17,9 +18,11 @@ class Answer:
         return {"yes": 0, "no": 1}.get(self.verdict.split(",")[0], 2)
 
     def text(self, explained, before=b""):
-        """The line that is printed, and the one of the note."""
+        """The line that is printed, and those of the note and of what helps."""
         line = before + f"line {self.line}: {self.verdict}\n".encode()
-        return line + before + b"  " + self.note + b"\n" if explained and self.note else line
+        if explained and self.note:
+            line += before + b"  " + self.note + b"\n" + remedies.line_of(self.verdict, self.note, before)
+        return line
 
 
 def printed(answers, explained, before=b""):

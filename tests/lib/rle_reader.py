@@ -2,7 +2,7 @@
 import re
 from dataclasses import dataclass
 
-from lib import macrocell
+from lib import macrocell, remedies
 from lib.macrocell import BLANKS, EDGE, GENERATIONS, number
 from lib.program import escaped
 
@@ -243,5 +243,13 @@ class PatternFile:
     def told(self):
         """What an explained run tells of the cause after the file's path: the line of its fault, or the rule text that isn't known."""
         if self.cause.startswith("bad rule"):
-            return b": rule " + escaped(self.held.rule.encode("latin-1") if self.is_macrocell else self.held.rule)
+            return b": rule " + escaped(self.rule_text())
         return b", line %d" % self.line if self.line else b""
+
+    def rule_text(self):
+        """The rule text that isn't known."""
+        return self.held.rule.encode("latin-1") if self.is_macrocell else self.held.rule
+
+    def helps(self, path):
+        """What an explained run tells to help, of the file at this path."""
+        return remedies.line(self.cause, path, self.content, self.rule_text() if self.cause.startswith("bad rule") else b"")

@@ -15,7 +15,7 @@ use Rattle.ca_claims.specs.Notes.{IsNote, HasItsNote}
 use Rattle.ca_claims.specs.Judging.{Judging, JudgesAndNotes}
 use Rattle.ca_tool.specs.declared.finding.ReportStyle.{ReportStyle}
 use Rattle.ca_tool.specs.declared.finding.Finding.{Finding}
-use Rattle.ca_tool.specs.Printed.{answer_line, answer_lines, note_text, finding_text, findings_text, status_of}
+use Rattle.ca_tool.specs.Printed.{answer_line, answer_lines, note_text, second_line, verdict_remedy_line, last_line, finding_text, findings_text, status_of}
 use Rattle.ca_tool.specs.Runs.{answers_of, AreTrueNotes, AreFindings, IsPlainReport, IsReport, IsReportOnFirst}
 use Rattle.ca_tool.specs.inner.Judged.{WereJudged, NoneLeft, IsReportUpTo, IsReportPart, WereAllJudged}
 use Rattle.ca_plane.proofs.Elements.{all_append}
@@ -158,8 +158,9 @@ plain_text : (style : ReportStyle) (findings : List Finding) → style.before.no
 plain_text style [] none off = refl
 plain_text style (finding ∷ findings) none off =
     ap (λ l. l ++ findings_text style findings)
-    (ap (λ b. (b ++ answer_line finding.answer) ++ (if style.explained then note_text style.before.now style.faulty.now style.missing.now finding.answer.verdict finding.note else [])) none
-    ∙ ap (λ e. answer_line finding.answer ++ (if e then note_text style.before.now style.faulty.now style.missing.now finding.answer.verdict finding.note else [])) off
+    (ap (λ b. (b ++ answer_line finding.answer) ++ (second_line style finding ++ last_line style finding)) none
+    ∙ ap (λ e. answer_line finding.answer ++ ((if e then note_text style.before.now style.faulty.now style.missing.now finding.answer.verdict finding.note else [])
+    ++ (if e then verdict_remedy_line style.before.now style.faulty.now style.files.now finding.answer.verdict finding.note else []))) off
     ∙ append-nil (answer_line finding.answer))
     ∙ ap (λ l. answer_line finding.answer ++ l) (plain_text style findings none off)
 

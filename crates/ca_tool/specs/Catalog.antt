@@ -23,7 +23,8 @@ use Rattle.ca_tool.specs.declared.entry.Entry.{Entry}
 use Rattle.ca_tool.specs.declared.fault.ToolFault.{ToolFault}
 use Rattle.ca_tool.specs.declared.fault.ToolFault.TheVariants as tools
 use Rattle.ca_tool.specs.Escaped.{escaped}
-use Rattle.ca_tool.specs.Printed.{cause_text, at_line, generations_word, side_length, rule_file_line, cause_explanation}
+use Rattle.ca_tool.specs.Printed.{cause_text, at_line, generations_word, side_length, rule_file_line, cause_explanation, cause_remedy_line}
+use Rattle.ca_tool.specs.Remedies.{bytes_of}
 use Rattle.ca_tool.specs.Names.{is_claim_path, claim_name, IsFreeName}
 use Rattle.ca_tool.specs.Writing.{WritesOn, WritesOnFirst, WritesPartOn}
 
@@ -122,12 +123,18 @@ outcome_explanation path (Refused why) = cause_explanation path why
 outcome_explanation path (outcomes.FaultyRule rule) = rule_file_line rule.path.now rule.fault
 outcome_explanation path outcome = []
 
-abbrev pub entry_explanation : Entry → List ℕ
-entry_explanation entry = outcome_explanation entry.path.now entry.outcome
+-- the line that says what helps against it, where something does: it may go by the bytes of the file, which is the first of some with that path
+abbrev pub outcome_remedy_line : List File → List ℕ → Outcome → List ℕ
+outcome_remedy_line files path (Refused why) = cause_remedy_line path (bytes_of files path) why
+outcome_remedy_line files path outcome = []
 
--- these lines of all files, in order
-abbrev pub catalog_explanation : List Entry → List ℕ
-catalog_explanation entries = flat_map entry_explanation entries
+-- both lines
+abbrev pub entry_explanation : List File → Entry → List ℕ
+entry_explanation files entry = outcome_explanation entry.path.now entry.outcome ++ outcome_remedy_line files entry.path.now entry.outcome
+
+-- these lines of all entries, in order
+abbrev pub catalog_explanation : List File → List Entry → List ℕ
+catalog_explanation files entries = flat_map (entry_explanation files) entries
 
 -- what came of a file that gave this is true of it: n generations on its plane is this, or that isn't found out for this reason; or there are no bytes of it,
 -- for this cause; or this rule file of its isn't good

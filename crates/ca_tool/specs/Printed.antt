@@ -22,6 +22,7 @@ use Rattle.ca_claims.specs.declared.verdict.PatternFault.{PatternFault}
 use Rattle.ca_claims.specs.declared.verdict.PatternFault.TheVariants as patterns
 use Rattle.ca_claims.specs.declared.verdict.Cause.{Cause}
 use Rattle.ca_claims.specs.declared.verdict.Cause.TheVariants as causes
+use Rattle.ca_claims.specs.declared.file.File.{File}
 use Rattle.ca_claims.specs.declared.note.Note.{Note}
 use Rattle.ca_claims.specs.declared.note.Note.TheVariants as notes
 use Rattle.ca_claims.specs.declared.format.Format.{Format}
@@ -38,14 +39,16 @@ use Rattle.ca_tool.specs.declared.view.WindowFault.{WindowFault}
 use Rattle.ca_tool.specs.declared.view.WindowFault.TheVariants as windows
 use Rattle.ca_tool.specs.declared.fault.ToolFault.{ToolFault}
 use Rattle.ca_tool.specs.declared.fault.ToolFault.TheVariants as tools
-use Rattle.ca_tool.specs.declared.explanation.RunPaths.{RunPaths}
+use Rattle.ca_tool.specs.declared.explanation.RunFiles.{RunFiles}
 use Rattle.ca_tool.specs.declared.rule_folder.FaultyRule.{FaultyRule}
 use Rattle.ca_tool.specs.declared.absence.Absence.{Absence}
 use Rattle.ca_tool.specs.declared.absence.Absence.TheVariants as absences
 use Rattle.ca_tool.specs.declared.absence.MissingFile.{MissingFile}
 use Rattle.ca_tool.specs.declared.finding.ReportStyle.{ReportStyle}
 use Rattle.ca_tool.specs.declared.finding.Finding.{Finding}
+use Rattle.ca_tool.specs.declared.remedy.Remedy.{Remedy}
 use Rattle.ca_tool.specs.Escaped.{escaped}
+use Rattle.ca_tool.specs.Remedies.{cause_remedy, run_remedy, bytes_of, remedy_line}
 
 -- an earlier return of a pattern
 abbrev pub return_text : ℕ → ℤ → ℤ → List ℕ
@@ -311,9 +314,32 @@ note_text before faulty missing (Refused cause) note = refusal_note_text before 
 abbrev pub second_line : ReportStyle → Finding → List ℕ
 second_line style finding = if style.explained then note_text style.before.now style.faulty.now style.missing.now finding.answer.verdict finding.note else []
 
--- what is printed for a claim: the line of its answer, and where answers are explained the second line
+-- what helps, but for a rule whose file was found and is faulty: the line before tells that
+abbrev pub remedy_beside : Option FaultyRule → Option Remedy → Option Remedy
+remedy_beside None remedy = remedy
+remedy_beside (Some file) remedy = None
+
+-- what helps against a cause that is about the file of a pattern with these bytes, whose rule file may be one of the faulty ones
+abbrev pub noted_remedy : List FaultyRule → Cause → List ℕ → Option (Vec ℕ Global) → Option Remedy
+noted_remedy faulty cause bytes None = cause_remedy cause bytes None
+noted_remedy faulty cause bytes (Some text) = remedy_beside (faulty_named faulty text.items) (cause_remedy cause bytes (Some text))
+
+-- the line that says what helps, of a note on a refusal that is about the file of a pattern
+abbrev pub note_remedy_line : List ℕ → List FaultyRule → List File → Cause → Note → List ℕ
+note_remedy_line before faulty files cause (notes.Pattern name path line text) = remedy_line before (noted_remedy faulty cause (bytes_of files path.now) text) path.now text
+note_remedy_line before faulty files cause note = []
+
+abbrev pub verdict_remedy_line : List ℕ → List FaultyRule → List File → Verdict → Note → List ℕ
+verdict_remedy_line before faulty files (Refused cause) note = note_remedy_line before faulty files cause note
+verdict_remedy_line before faulty files verdict note = []
+
+-- the last line for a claim, where answers are explained
+abbrev pub last_line : ReportStyle → Finding → List ℕ
+last_line style finding = if style.explained then verdict_remedy_line style.before.now style.faulty.now style.files.now finding.answer.verdict finding.note else []
+
+-- what is printed for a claim: the line of its answer, and where answers are explained the second line, and the one that says what helps
 abbrev pub finding_text : ReportStyle → Finding → List ℕ
-finding_text style finding = (style.before.now ++ answer_line finding.answer) ++ second_line style finding
+finding_text style finding = (style.before.now ++ answer_line finding.answer) ++ (second_line style finding ++ last_line style finding)
 
 -- what is printed for all claims, in order
 abbrev pub findings_text : ReportStyle → List Finding → List ℕ
@@ -329,15 +355,23 @@ rule_file_line path fault = file_line [] [] (codes "rule file") path (Some (tabl
 
 -- the line that explains a fault of a run over a pattern file: it names the rule file or the pattern file, with what is known of the fault. A fault
 -- that names its file, or is about none, has no such line
-abbrev pub explanation_of : ToolFault → Option ℕ → Option (Vec ℕ Global) → RunPaths → List ℕ
-explanation_of (tools.Input fault) line text paths = []
-explanation_of (tools.BadTable fault) line text paths = rule_file_line paths.rule.now fault
-explanation_of tools.Write line text paths = []
-explanation_of tools.Memory line text paths = []
-explanation_of fault line text paths = pattern_line paths.pattern.now line text
+abbrev pub explanation_of : ToolFault → Option ℕ → Option (Vec ℕ Global) → RunFiles → List ℕ
+explanation_of (tools.Input fault) line text files = []
+explanation_of (tools.BadTable fault) line text files = rule_file_line files.rule_path.now fault
+explanation_of tools.Write line text files = []
+explanation_of tools.Memory line text files = []
+explanation_of fault line text files = pattern_line files.pattern.path.now line text
 
-abbrev pub explanation : RefusedFor ToolFault → RunPaths → List ℕ
-explanation refused paths = explanation_of refused.fault refused.line refused.rule_text paths
+abbrev pub fault_line : RefusedFor ToolFault → RunFiles → List ℕ
+fault_line refused files = explanation_of refused.fault refused.line refused.rule_text files
+
+-- the line that says what helps against it, where something does
+abbrev pub run_remedy_line : RefusedFor ToolFault → File → List ℕ
+run_remedy_line refused file = remedy_line [] (run_remedy refused.fault file.bytes.now refused.rule_text) file.path.now refused.rule_text
+
+-- both lines
+abbrev pub explanation : RefusedFor ToolFault → RunFiles → List ℕ
+explanation refused files = fault_line refused files ++ run_remedy_line refused files.pattern
 
 -- the line that explains why the pattern of a file isn't identified: the file, with what is known of its fault. A cause that doesn't lie in the file has
 -- no such line
@@ -349,6 +383,10 @@ cause_explanation_of path cause line text = []
 
 abbrev pub cause_explanation : List ℕ → RefusedFor Cause → List ℕ
 cause_explanation path refused = cause_explanation_of path refused.fault refused.line refused.rule_text
+
+-- the line that says what helps against it, for a file of this path and with these bytes
+abbrev pub cause_remedy_line : List ℕ → List ℕ → RefusedFor Cause → List ℕ
+cause_remedy_line path bytes refused = remedy_line [] (cause_remedy refused.fault bytes refused.rule_text) path refused.rule_text
 
 -- the name of a format
 abbrev pub format_name : Format → List ℕ

@@ -5,15 +5,15 @@ ghost use Rattle.std.specs.Prelude.{◌≡◌, ◌≢◌, ◌++◌, [], IfOk, On
 ghost use Rattle.std.specs.List.{list_all, flat_map};
 ghost use Rattle.ca_plane.specs.Puts.{Puts};
 ghost use Rattle.ca_tool.specs.Catalog.{version_line, rule_line, is_identified};
-ghost use Rattle.ca_tool.specs.Catalog.{catalog_status, catalog_explanation};
+ghost use Rattle.ca_tool.specs.Catalog.{catalog_status, entry_explanation, catalog_explanation};
 ghost use Rattle.ca_tool.specs.CatalogSays.{SaysItsClaims};
 ghost use Rattle.ca_tool.specs.Writing.{Sends};
 ghost use Rattle.ca_tool.specs.inner.Pieces.{pieces_text};
 
 use crate::entry::{Entry, Outcome};
 use crate::entry_lines::push_rule;
-use crate::explanation::outcome_explanation_pieces;
-use crate::pieces::{Piece, in_pieces, send_pieces};
+use crate::explanation::{outcome_explanation_pieces, outcome_remedy_pieces};
+use crate::pieces::{Piece, in_pieces, send_both};
 use ca_claims::File;
 use ca_plane::{Dev, Memory, WriteFault};
 use std::alloc::Global;
@@ -51,32 +51,53 @@ impl<'a> Catalog<'a> {
     }
 
     /// Writes a line for each file that isn't identified because it or its rule file is faulty: which file that is,
-    /// and what is known of its fault.
+    /// and what is known of its fault; and then what helps, where something does. `files` are those whose bytes are
+    /// known, by which that may go.
     ///
     /// It takes no memory. After a failure some first part of the lines was written, but not all of them.
-    pub fn explain<W: Write>(&self, device: &mut Dev<W>) -> Result<(), WriteFault>
+    pub fn explain<W: Write>(
+        &self,
+        files: &[File<'_>],
+        device: &mut Dev<W>,
+    ) -> Result<(), WriteFault>
         ensures sends { Sends W.contents device.old device.new
-            (catalog_explanation self.now) WriteFault.Write result }
+            (catalog_explanation files.now self.now) WriteFault.Write result }
     {
-        explain_entries(&self.entries, device)
+        explain_entries(&self.entries, files, device)
     }
 }
 
 // Writes the lines that explain what came of the files, where there is something to tell.
 fn explain_entries<'a, W: Write>(
     entries: &'a [Entry<'a>],
+    files: &[File<'a>],
     device: &mut Dev<W>,
 ) -> Result<(), WriteFault>
     ensures { Sends W.contents device.old device.new
-        (catalog_explanation entries.now) WriteFault.Write result }
+        (catalog_explanation files.now entries.now) WriteFault.Write result }
 {
     'entries: for entry in entries {
-        let line = outcome_explanation_pieces(entry.path, &entry.outcome);
-        if let Err(fault) = send_pieces(device, &line) {
+        if let Err(fault) = explain_entry(entry, files, device) {
             return Err(fault);
         }
     }
     Ok(())
+}
+
+// Writes the lines that explain what came of one file.
+fn explain_entry<'a, W: Write>(
+    entry: &'a Entry<'a>,
+    files: &[File<'a>],
+    device: &mut Dev<W>,
+) -> Result<(), WriteFault>
+    ensures { Sends W.contents device.old device.new
+        (entry_explanation files.now entry.now) WriteFault.Write result }
+{
+    send_both(
+        device,
+        &outcome_explanation_pieces(entry.path, &entry.outcome),
+        &outcome_remedy_pieces(files, entry.path, &entry.outcome),
+    )
 }
 
 fn is_identified(outcome: &Outcome<'_>) -> bool

@@ -1,18 +1,20 @@
-//! What is printed for a claim: the line of its answer, and a second line that explains it.
+//! What is printed for a claim: the line of its answer, a second line that explains it, and one that says what helps.
 
-ghost use Rattle.std.specs.Prelude.{◌≡◌, Some, OnOk};
+ghost use Rattle.std.specs.Prelude.{◌≡◌, ◌++◌, Some, OnOk};
 ghost use Rattle.ca_tool.specs.Printed.{generations_word, cell_line, at_line, file_line, rule_file_line};
 ghost use Rattle.ca_tool.specs.Printed.{rule_words, faulty_named, faulty_words, faulty_rule_words, noted_line};
-ghost use Rattle.ca_tool.specs.Printed.{cause_line, note_text, second_line, finding_text};
+ghost use Rattle.ca_tool.specs.Printed.{cause_line, note_text, noted_remedy, verdict_remedy_line};
+ghost use Rattle.ca_tool.specs.Printed.{second_line, last_line, finding_text};
 ghost use Rattle.ca_tool.specs.Writing.{Sends};
 ghost use Rattle.ca_tool.specs.inner.Pieces.{pieces_text};
 
 use crate::absence::{MissingFile, missing_piece};
-use crate::pieces::{NOTHING, Piece, in_pieces, push_pieces, send_pieces};
+use crate::pieces::{NOTHING, Piece, in_pieces, push_pieces, send_both, send_pieces};
 use crate::printing::answer_pieces;
+use crate::remedy::{Remedy, bytes_of, cause_remedy, remedy_line_pieces};
 use crate::rule_folder::FaultyRule;
 use crate::texts::{table_kind, table_line};
-use ca_claims::{Answer, Cause, Note, Verdict, Why};
+use ca_claims::{Answer, Cause, File, Note, Verdict, Why};
 use ca_plane::{Dev, Memory, WriteFault, send};
 use ca_rule::TableFault;
 use std::io::Write;
@@ -29,6 +31,8 @@ pub struct ReportStyle<'a> {
     pub faulty: &'a [FaultyRule<'a>],
     /// The paths whose files aren't handed in, as far as it is known why: a second line about such a file tells it.
     pub missing: &'a [MissingFile<'a>],
+    /// The files by whose bytes it is told what helps against a fault of one.
+    pub files: &'a [File<'a>],
 }
 
 /// An answer, and the note on it.
@@ -220,6 +224,76 @@ fn second_pieces<'a>(style: &ReportStyle<'a>, finding: &'a Finding<'a>) -> [Piec
     note_pieces(style, finding.answer.verdict, &finding.note)
 }
 
+// What helps against a cause that is about the file of a pattern with these bytes: nothing more where the rule file of
+// its rule is one of the faulty ones.
+fn noted_remedy(
+    faulty: &[FaultyRule<'_>],
+    cause: Cause,
+    bytes: &[u8],
+    rule_text: &Option<Vec<u8>>,
+) -> Option<Remedy>
+    ensures { result ≡ noted_remedy faulty.now cause bytes.now rule_text.now }
+{
+    if let Some(text) = rule_text {
+        if faulty_named(faulty, text).is_some() {
+            return None;
+        }
+    }
+    cause_remedy(cause, bytes, rule_text)
+}
+
+// The line that says what helps against a refusal, where something does.
+fn verdict_remedy_pieces<'a>(
+    style: &ReportStyle<'a>,
+    verdict: Verdict,
+    note: &'a Note<'a>,
+) -> [Piece<'a>; 6]
+    ensures { pieces_text result ≡ verdict_remedy_line style.now.before.now style.now.faulty.now
+        style.now.files.now verdict note.now }
+{
+    match (verdict, note) {
+        (
+            Verdict::Refused(cause),
+            Note::Pattern {
+                path,
+                rule_text,
+                ..
+            },
+        ) => {
+            let bytes = bytes_of(style.files, path);
+            let remedy = noted_remedy(style.faulty, cause, bytes, rule_text);
+            remedy_line_pieces(style.before, remedy, path, rule_text)
+        }
+        _ => [NOTHING; 6],
+    }
+}
+
+// The last line, where one is printed.
+fn last_pieces<'a>(style: &ReportStyle<'a>, finding: &'a Finding<'a>) -> [Piece<'a>; 6]
+    ensures { pieces_text result ≡ last_line style.now finding.now }
+{
+    if style.explained {
+        return verdict_remedy_pieces(style, finding.answer.verdict, &finding.note);
+    }
+    [NOTHING; 6]
+}
+
+// Writes the second line and the last one, where they are printed.
+fn send_explanation<W: Write>(
+    device: &mut Dev<W>,
+    style: &ReportStyle<'_>,
+    finding: &Finding<'_>,
+) -> Result<(), WriteFault>
+    ensures { Sends W.contents device.old device.new
+        (second_line style.now finding.now ++ last_line style.now finding.now) WriteFault.Write result }
+{
+    send_both(
+        device,
+        &second_pieces(style, finding),
+        &last_pieces(style, finding),
+    )
+}
+
 // Puts the lines for a claim in place of what `out` holds.
 fn put_finding(
     out: &mut Vec<u8>,
@@ -230,7 +304,8 @@ fn put_finding(
 {
     out.clear();
     push_pieces(out, &answer_pieces(style.before, &finding.answer))?;
-    push_pieces(out, &second_pieces(style, finding))
+    push_pieces(out, &second_pieces(style, finding))?;
+    push_pieces(out, &last_pieces(style, finding))
 }
 
 /// Writes the lines for a claim as one text, which is put together in `text`; where there is no memory for
@@ -250,7 +325,7 @@ pub(crate) fn send_finding<W: Write>(
         if let Err(fault) = send_pieces(device, &answer_pieces(style.before, &finding.answer)) {
             return Err(fault);
         }
-        return send_pieces(device, &second_pieces(style, finding));
+        return send_explanation(device, style, finding);
     }
     send(device, text)
 }

@@ -1,6 +1,6 @@
 //! Texts in pieces, which are sent or pushed one after another. The pieces themselves take no memory.
 
-ghost use Rattle.std.specs.Prelude.{◌≡◌, OnOk};
+ghost use Rattle.std.specs.Prelude.{◌≡◌, ◌++◌, OnOk};
 ghost use Rattle.ca_plane.specs.Puts.{Puts};
 ghost use Rattle.ca_tool.specs.Writing.{Sends};
 ghost use Rattle.ca_tool.specs.inner.Pieces.{piece_text, pieces_text};
@@ -113,4 +113,20 @@ pub(crate) fn send_pieces<W: Write>(
         }
     }
     Ok(())
+}
+
+/// Writes the pieces of two texts, one after the other. After a failure some first part of them was written, but not
+/// all of them.
+pub(crate) fn send_both<W: Write>(
+    device: &mut Dev<W>,
+    first: &[Piece<'_>],
+    second: &[Piece<'_>],
+) -> Result<(), WriteFault>
+    ensures { Sends W.contents device.old device.new
+        (pieces_text first.now ++ pieces_text second.now) WriteFault.Write result }
+{
+    if let Err(fault) = send_pieces(device, first) {
+        return Err(fault);
+    }
+    send_pieces(device, second)
 }

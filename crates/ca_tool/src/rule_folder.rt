@@ -33,8 +33,8 @@ fn has_two_dots(name: &[u8]) -> bool
     false
 }
 
-// Whether a file of a folder may have this name: one that isn't empty and has no `/`, no NUL and no `..`.
-fn is_file_name(name: &[u8]) -> bool
+/// Whether a file of a folder may have this name: one that isn't empty and has no `/`, no NUL and no `..`.
+pub(crate) fn is_file_name(name: &[u8]) -> bool
     ensures { result ≡ is_file_name name.now }
 {
     !name.is_empty() && !name.contains(&b'/') && !name.contains(&0) && !has_two_dots(name)

@@ -23,6 +23,7 @@ const PLAIN: ReportStyle<'static> = ReportStyle {
     explained: false,
     faulty: &[],
     missing: &[],
+    files: &[],
 };
 
 /// Judges each claim, in order and within the limits, and writes the line of its answer before the next is

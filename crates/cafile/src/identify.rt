@@ -5,11 +5,11 @@ use crate::files::{FaultyFile, LoadedFile, load_rule_file, read_file, views};
 use crate::progress::{Heading, Progress};
 use crate::streams::Streams;
 use crate::words::IdentifyExtras;
-use ca_claims::{Cause, DetailedFault, rule_text_of};
+use ca_claims::{Cause, DetailedFault, File, rule_text_of};
 use ca_plane::{Dev, Memory};
 use ca_rule::{RuleFault, Table, TableFault, resolve};
 use ca_tool::{
-    Catalog, Content, Fault, InputFault, RunPaths, Subject, ToolFault, complain, explain,
+    Catalog, Content, Fault, InputFault, RunFiles, Subject, ToolFault, complain, explain,
     identify_run, is_claim_path,
 };
 use std::alloc::Global;
@@ -82,12 +82,15 @@ fn write_claims<'a, R: Files + Clock + AllocGlobal>(
     if let Some(folder) = &extras.folder {
         find_rules(rt, folder.as_str(), &mut contents, &mut rules);
     }
+    let Ok(files) = read_files(rt.alloc(), paths, &contents) else {
+        return Err(Failure::of(OUT_OF_MEMORY));
+    };
     let catalog = match run(rt, paths, &contents, &rules, extras, streams) {
         Ok(catalog) => catalog,
         Err(fault) => return Err(Failure::of(Fault::Tool(fault))),
     };
     if extras.extras.explained {
-        let _ = catalog.explain(&mut streams.errors);
+        let _ = catalog.explain(&files, &mut streams.errors);
     }
     Ok(catalog.status())
 }
@@ -305,13 +308,34 @@ fn subjects<'a>(
     Ok(subjects)
 }
 
+// The files that were read.
+fn read_files<'a>(
+    alloc: Global,
+    paths: &'a [String],
+    contents: &'a [FileContent],
+) -> Result<Vec<File<'a>>, Memory> {
+    let mut files = Vec::new(alloc);
+    'paths: for (path, content) in paths.iter().zip(contents.iter()) {
+        if let FileContent::Bytes(bytes) = content {
+            files.push(File {
+                path: path.as_bytes(),
+                bytes,
+            })?;
+        }
+    }
+    Ok(files)
+}
+
 // Tells the line of a faulty rule file that the words name.
 fn explain_failure(fault: Fault, rule: &Option<String>, errors: &mut Dev<Stderr>) {
     if let (Fault::Tool(fault), Some(rule)) = (fault, rule) {
-        let paths = RunPaths {
-            pattern: b"",
-            rule: rule.as_bytes(),
+        let files = RunFiles {
+            pattern: File {
+                path: b"",
+                bytes: b"",
+            },
+            rule_path: rule.as_bytes(),
         };
-        let _ = explain(&DetailedFault::of(fault), &paths, errors);
+        let _ = explain(&DetailedFault::of(fault), &files, errors);
     }
 }

@@ -82,13 +82,17 @@ fn verify_text<R: Files + Clock + AllocGlobal>(
     let Ok(missing) = missing_files(rt.alloc(), &text.missing) else {
         return Err(Fault::Input(InputFault::Memory));
     };
+    let Ok(files) = views(rt.alloc(), &text.files) else {
+        return Err(Fault::Input(InputFault::Memory));
+    };
     let style = ReportStyle {
         before: &before,
         explained: extras.explained,
         faulty: &faulty,
         missing: &missing,
+        files: &files,
     };
-    judge(rt, &text, &style, extras, streams)
+    judge(rt, &text.claims, &style, extras, streams)
 }
 
 // The claims, and the files that they need. Where there is a folder of rules, rules are looked for there.
@@ -123,17 +127,14 @@ fn line_prefix(alloc: Global, path: &str, is_named: bool) -> Result<Vec<u8>, Mem
     Ok(before)
 }
 
-// Judges the claims over the files.
+// Judges the claims over the files of the style.
 fn judge<R: Files + Clock + AllocGlobal>(
     rt: &R,
-    text: &LoadedText,
+    claims: &Claims,
     style: &ReportStyle<'_>,
     extras: Extras,
     streams: &mut Streams,
 ) -> Result<u8, Fault> {
-    let Ok(files) = views(rt.alloc(), &text.files) else {
-        return Err(Fault::Input(InputFault::Memory));
-    };
     let limits = extras.limits();
     let output = &mut streams.output;
     let heading = Heading::Claims {
@@ -142,8 +143,8 @@ fn judge<R: Files + Clock + AllocGlobal>(
     let mut observer = Progress::new(rt, &mut streams.errors, heading, extras.progress);
     let result = verify_watched(
         rt.alloc(),
-        &text.claims,
-        &files,
+        claims,
+        style.files,
         limits,
         style,
         output,

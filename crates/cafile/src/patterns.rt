@@ -11,7 +11,7 @@ use ca_plane::{Dev, Memory};
 use ca_rule::RuleFault;
 use ca_run::Unwatched;
 use ca_tool::{
-    Fault, InputFault, RunPaths, TextForm, ToolFault, complain, draw_bytes, explain, read_all,
+    Fault, InputFault, RunFiles, TextForm, ToolFault, complain, draw_bytes, explain, read_all,
     write_form, write_form_after,
 };
 use std::rt::{Clock, Files, Stderr, Stdin};
@@ -210,9 +210,6 @@ fn explain_fault(
         Some(rule) => rule.path,
         None => b"",
     };
-    let paths = RunPaths {
-        pattern: pattern.path,
-        rule: rule_path,
-    };
-    let _ = explain(refused, &paths, errors);
+    let files = RunFiles { pattern, rule_path };
+    let _ = explain(refused, &files, errors);
 }

@@ -11,7 +11,7 @@ A pattern under a rule such as B3/S23 or 345/2/4 needs none. --rules names a fol
 the rule is NAME, and --rule doesn't give its table, the rule file is looked for there as DIR/NAME.rule.
 
 --explain adds a line to a refusal: the file with the line of its fault, or the rule that isn't known, as in
-`  codd.rle: rule Codd`.
+`  codd.rle: rule Codd`. Where something helps, a further line says so: `  try: gunzip -c FILE`.
 
 ",
             $($after,)*
@@ -156,7 +156,7 @@ absolute or has `..` among its parts is never opened: `refused, no file`. A link
 
 --explain adds a line after a no or a refusal that has more to tell: the pattern's name with a cell that
 differs, or with its file and the line of the fault, the rule that isn't known, or why there is no file; or the
-rule file.
+rule file. Where something helps against the fault of a pattern's file, a further line says so: `  try: gunzip -c FILE`.
 
 On a terminal, a line on standard error shows how far a claim is that takes over a second, as
 `line 3: 904 of 5000 generations`, and where it takes much work how much was done, as `, 1.2 million results, 5.1
@@ -215,7 +215,7 @@ names a folder, such as Golly's Rules: where a rule is NAME, and isn't known, th
 DIR/NAME.rule. The text has a `rule` line for each rule file.
 
 --explain tells on standard error of each file that is faulty which one it is, with the line of its fault, or the rule
-that isn't known, as in `  codd.rle: rule Codd`.
+that isn't known, as in `  codd.rle: rule Codd`. Where something helps, a further line says so: `  try: gunzip -c FILE`.
 
 On a terminal, a line on standard error shows how far a file is that takes over a second, as
 `glider.rle: 904 of 65536 generations`. --progress shows it also where standard error is no terminal.

@@ -69,6 +69,7 @@ c: line 8: refused, no file
 c:   lost: lost.rle
 c: line 9: refused, bad pattern: rle syntax
 c:   bad: bad.rle, line 3
+c:   try: look for bytes other than b o . $ !, A to X, p to y and digits
 ";
 
 const STYLE: ReportStyle<'static> = ReportStyle {
@@ -76,6 +77,7 @@ const STYLE: ReportStyle<'static> = ReportStyle {
     explained: true,
     faulty: &[],
     missing: &[],
+    files: FILES,
 };
 
 const SHOWN: &[u8] = b"format rle\nrule B3/S23\ngen 0\ncells 5\nbox 0 0 3 3\n";
