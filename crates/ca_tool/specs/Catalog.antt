@@ -1,7 +1,7 @@
 -- What `identify` prints: a claim text with the claims that are true of files, and the lines of `--explain` (our own; docs/CLAIMS.md).
 use Rattle.std.specs.Prelude.{◌≡◌, ◌≢◌, ℕ, List, [], ◌∷◌, ◌++◌, ◌+◌, Bool, true, false, codes, decimal, nat_eq, if◌then◌else◌, Option, None, ◌⊎◌}
 use Rattle.std.specs.Fmt.{signed_decimal}
-use Rattle.std.specs.List.{flat_map, list_all, AllZip}
+use Rattle.std.specs.List.{flat_map, list_all, list_any, AllZip}
 use Rattle.ca_plane.specs.Device.{Counted}
 use Rattle.ca_rule.specs.TableNext.{TableRule}
 use Rattle.ca_rule.specs.declared.table.fault.TableFault.{TableFault}
@@ -23,7 +23,7 @@ use Rattle.ca_tool.specs.declared.entry.Entry.{Entry}
 use Rattle.ca_tool.specs.declared.fault.ToolFault.{ToolFault}
 use Rattle.ca_tool.specs.declared.fault.ToolFault.TheVariants as tools
 use Rattle.ca_tool.specs.Escaped.{escaped}
-use Rattle.ca_tool.specs.Printed.{cause_text, at_line, generations_word, side_length, rule_file_line, cause_explanation, cause_remedy_line}
+use Rattle.ca_tool.specs.Printed.{cause_text, at_line, generations_word, side_length, rule_file_line, is_in_file, cause_explanation, cause_remedy_line}
 use Rattle.ca_tool.specs.Remedies.{bytes_of}
 use Rattle.ca_tool.specs.Names.{is_claim_path, claim_name, IsFreeName}
 use Rattle.ca_tool.specs.Writing.{WritesOn, WritesOnFirst, WritesPartOn}
@@ -122,6 +122,16 @@ abbrev pub outcome_explanation : List ℕ → Outcome → List ℕ
 outcome_explanation path (Refused why) = cause_explanation path why
 outcome_explanation path (outcomes.FaultyRule rule) = rule_file_line rule.path.now rule.fault
 outcome_explanation path outcome = []
+
+-- whether there is such a line
+abbrev pub outcome_has_explanation : Outcome → Bool
+outcome_has_explanation (Refused why) = is_in_file why.fault
+outcome_has_explanation (outcomes.FaultyRule rule) = true
+outcome_has_explanation outcome = false
+
+-- whether there is one for some entry
+abbrev pub catalog_has_explanation : List Entry → Bool
+catalog_has_explanation entries = list_any (λ entry. outcome_has_explanation entry.outcome) entries
 
 -- the line that says what helps against it, where something does: it may go by the bytes of the file, which is the first of some with that path
 abbrev pub outcome_remedy_line : List File → List ℕ → Outcome → List ℕ

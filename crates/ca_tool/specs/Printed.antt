@@ -310,6 +310,12 @@ note_text before faulty missing Yes note = []
 note_text before faulty missing (No why) note = no_note_text before why note
 note_text before faulty missing (Refused cause) note = refusal_note_text before faulty missing cause note
 
+-- whether a claim is refused, and there is a line of a note on that
+abbrev pub is_noted_refusal : Verdict → Note → Bool
+is_noted_refusal (Refused cause) (notes.Pattern name path line text) = true
+is_noted_refusal (Refused cause) (notes.RuleFile path) = true
+is_noted_refusal verdict note = false
+
 -- the second line for a claim, where answers are explained
 abbrev pub second_line : ReportStyle → Finding → List ℕ
 second_line style finding = if style.explained then note_text style.before.now style.faulty.now style.missing.now finding.answer.verdict finding.note else []
@@ -365,6 +371,13 @@ explanation_of fault line text files = pattern_line files.pattern.path.now line 
 abbrev pub fault_line : RefusedFor ToolFault → RunFiles → List ℕ
 fault_line refused files = explanation_of refused.fault refused.line refused.rule_text files
 
+-- whether there is such a line
+abbrev pub has_explanation : ToolFault → Bool
+has_explanation (tools.Input fault) = false
+has_explanation tools.Write = false
+has_explanation tools.Memory = false
+has_explanation fault = true
+
 -- the line that says what helps against it, where something does
 abbrev pub run_remedy_line : RefusedFor ToolFault → File → List ℕ
 run_remedy_line refused file = remedy_line [] (run_remedy refused.fault file.bytes.now refused.rule_text) file.path.now refused.rule_text
@@ -380,6 +393,13 @@ cause_explanation_of path (causes.BadPattern fault) line text = pattern_line pat
 cause_explanation_of path (causes.BadRule fault) line text = pattern_line path line text
 cause_explanation_of path causes.StateTooLarge line text = pattern_line path line text
 cause_explanation_of path cause line text = []
+
+-- whether a cause lies in the file
+abbrev pub is_in_file : Cause → Bool
+is_in_file (causes.BadPattern fault) = true
+is_in_file (causes.BadRule fault) = true
+is_in_file causes.StateTooLarge = true
+is_in_file cause = false
 
 abbrev pub cause_explanation : List ℕ → RefusedFor Cause → List ℕ
 cause_explanation path refused = cause_explanation_of path refused.fault refused.line refused.rule_text

@@ -7,6 +7,8 @@ use Rattle.ca_rle.specs.declared.fault.RleFault.TheVariants as rle
 use Rattle.ca_macro.specs.declared.fault.MacroFault.TheVariants as macrocell
 use Rattle.ca_rule.specs.declared.fault.RuleFault.{RuleFault}
 use Rattle.ca_rule.specs.declared.fault.RuleFault.TheVariants as rules
+use Rattle.ca_claims.specs.declared.fault.ClaimFault.{ClaimFault}
+use Rattle.ca_claims.specs.declared.fault.ClaimFault.TheVariants as claims
 use Rattle.ca_claims.specs.declared.file.File.{File}
 use Rattle.ca_claims.specs.declared.verdict.PatternFault.{PatternFault}
 use Rattle.ca_claims.specs.declared.verdict.PatternFault.TheVariants as patterns
@@ -18,6 +20,7 @@ use Rattle.ca_tool.specs.declared.fault.ToolFault.TheVariants as tools
 use Rattle.ca_tool.specs.declared.remedy.Remedy.{Remedy}
 use Rattle.ca_tool.specs.declared.remedy.Remedy.TheVariants.{DropMark, Unpack, SaveAsRle, BreakLines, WriteHeader, WriteEnd, FindByte, MoveRule, MendState, NameFolder, CutRule, SavePlane, ClaimBecomes, ToMacrocell, AllowWork}
 use Rattle.ca_tool.specs.Escaped.{escaped}
+use Rattle.ca_tool.specs.Names.{is_claim_path}
 use Rattle.ca_tool.specs.RulePaths.{is_file_name}
 
 -- the bytes have this one
@@ -112,3 +115,14 @@ found_bytes (Some file) = file.bytes.now
 -- the bytes of the first of some files with this path
 abbrev pub bytes_of : List File → List ℕ → List ℕ
 bytes_of files path = found_bytes (file_at files path)
+
+-- a text seems to be a pattern file: it begins as a macrocell does, or as an RLE does with its header, a comment, its name or its author
+abbrev pub seems_pattern : List ℕ → Bool
+seems_pattern bytes = begins bytes (codes "[M2]") || (begins bytes (codes "x =") || (begins bytes (codes "x=")
+    || (begins bytes (codes "#CXRLE") || (begins bytes (codes "#C ") || (begins bytes (codes "#N ") || begins bytes (codes "#O "))))))
+
+-- the line that says what helps against a fault of a claim text at a path, with these bytes, where something does: to identify it
+abbrev pub claims_remedy_line : ClaimFault → List ℕ → List ℕ → List ℕ
+claims_remedy_line (claims.Syntax line) path bytes = if not (is_claim_path path) || not (seems_pattern bytes) then []
+    else codes "  try: cafile identify " ++ (escaped path ++ 10 ∷ [])
+claims_remedy_line fault path bytes = []

@@ -6,13 +6,16 @@ ghost use Rattle.std.specs.List.{list_all, flat_map};
 ghost use Rattle.ca_plane.specs.Puts.{Puts};
 ghost use Rattle.ca_tool.specs.Catalog.{version_line, rule_line, is_identified};
 ghost use Rattle.ca_tool.specs.Catalog.{catalog_status, entry_explanation, catalog_explanation};
+ghost use Rattle.ca_tool.specs.Catalog.{catalog_has_explanation};
 ghost use Rattle.ca_tool.specs.CatalogSays.{SaysItsClaims};
 ghost use Rattle.ca_tool.specs.Writing.{Sends};
 ghost use Rattle.ca_tool.specs.inner.Pieces.{pieces_text};
 
 use crate::entry::{Entry, Outcome};
 use crate::entry_lines::push_rule;
-use crate::explanation::{outcome_explanation_pieces, outcome_remedy_pieces};
+use crate::explanation::{
+    outcome_explanation_pieces, outcome_has_explanation, outcome_remedy_pieces,
+};
 use crate::pieces::{Piece, in_pieces, send_both};
 use ca_claims::File;
 use ca_plane::{Dev, Memory, WriteFault};
@@ -50,6 +53,13 @@ impl<'a> Catalog<'a> {
         catalog_status(&self.entries)
     }
 
+    /// Whether there is something to explain of some file.
+    pub fn has_explanation(&self) -> bool
+        ensures { result ≡ catalog_has_explanation self.now }
+    {
+        have_explanation(&self.entries)
+    }
+
     /// Writes a line for each file that isn't identified because it or its rule file is faulty: which file that is,
     /// and what is known of its fault; and then what helps, where something does. `files` are those whose bytes are
     /// known, by which that may go.
@@ -65,6 +75,14 @@ impl<'a> Catalog<'a> {
     {
         explain_entries(&self.entries, files, device)
     }
+}
+
+fn have_explanation(entries: &[Entry<'_>]) -> bool
+    ensures { result ≡ catalog_has_explanation entries.now }
+{
+    entries
+        .iter()
+        .any(|entry| outcome_has_explanation(&entry.outcome))
 }
 
 // Writes the lines that explain what came of the files, where there is something to tell.

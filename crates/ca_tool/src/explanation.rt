@@ -1,8 +1,9 @@
 //! The lines that explain why nothing is made of a pattern file, and what helps.
 
 ghost use Rattle.std.specs.Prelude.{◌≡◌};
-ghost use Rattle.ca_tool.specs.Printed.{pattern_line, fault_line, run_remedy_line, explanation, cause_explanation};
-ghost use Rattle.ca_tool.specs.Catalog.{outcome_explanation, outcome_remedy_line};
+ghost use Rattle.ca_tool.specs.Printed.{pattern_line, fault_line, run_remedy_line, has_explanation, explanation};
+ghost use Rattle.ca_tool.specs.Printed.{cause_explanation, is_in_file};
+ghost use Rattle.ca_tool.specs.Catalog.{outcome_explanation, outcome_has_explanation, outcome_remedy_line};
 ghost use Rattle.ca_tool.specs.Writing.{Sends};
 ghost use Rattle.ca_tool.specs.inner.Pieces.{pieces_text};
 
@@ -48,6 +49,27 @@ fn cause_explanation_pieces<'a>(
     pattern_pieces(path, refused.line, &refused.rule_text)
 }
 
+// Whether the cause lies in the file.
+fn is_in_file(cause: Cause) -> bool
+    ensures { result ≡ is_in_file cause }
+{
+    matches!(
+        cause,
+        Cause::BadPattern(_) | Cause::BadRule(_) | Cause::StateTooLarge
+    )
+}
+
+/// Whether there is a line that explains what came of a file that was to be identified.
+pub(crate) fn outcome_has_explanation(outcome: &Outcome<'_>) -> bool
+    ensures { result ≡ outcome_has_explanation outcome.now }
+{
+    match outcome {
+        Outcome::Refused(why) => is_in_file(why.fault),
+        Outcome::FaultyRule(_) => true,
+        Outcome::Unnameable | Outcome::Identified(_) => false,
+    }
+}
+
 /// The line that explains what came of the file of a path that was to be identified, where there is something to
 /// tell.
 pub(crate) fn outcome_explanation_pieces<'a>(
@@ -82,10 +104,7 @@ pub(crate) fn outcome_remedy_pieces<'a>(
 }
 
 // The line that explains a fault, where there is something to tell.
-fn fault_pieces<'a>(
-    refused: &'a DetailedFault<ToolFault>,
-    files: &RunFiles<'a>,
-) -> [Piece<'a>; 16]
+fn fault_pieces<'a>(refused: &'a DetailedFault<ToolFault>, files: &RunFiles<'a>) -> [Piece<'a>; 16]
     ensures { pieces_text result ≡ fault_line refused.now files.now }
 {
     match refused.fault {
@@ -101,11 +120,18 @@ fn fault_pieces<'a>(
     }
 }
 
+/// Whether there is a line that explains a fault of a run over a pattern file.
+pub fn has_explanation(fault: ToolFault) -> bool
+    ensures { result ≡ has_explanation fault }
+{
+    !matches!(
+        fault,
+        ToolFault::Input(_) | ToolFault::Write | ToolFault::Memory
+    )
+}
+
 // The line that says what helps against a fault, where something does.
-fn run_remedy_pieces<'a>(
-    refused: &'a DetailedFault<ToolFault>,
-    file: File<'a>,
-) -> [Piece<'a>; 6]
+fn run_remedy_pieces<'a>(refused: &'a DetailedFault<ToolFault>, file: File<'a>) -> [Piece<'a>; 6]
     ensures { pieces_text result ≡ run_remedy_line refused.now file.entry }
 {
     let remedy = run_remedy(refused.fault, file.bytes, &refused.rule_text);

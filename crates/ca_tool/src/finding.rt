@@ -1,9 +1,9 @@
 //! What is printed for a claim: the line of its answer, a second line that explains it, and one that says what helps.
 
-ghost use Rattle.std.specs.Prelude.{◌≡◌, ◌++◌, Some, OnOk};
+ghost use Rattle.std.specs.Prelude.{◌≡◌, ◌||◌, ◌++◌, Some, OnOk};
 ghost use Rattle.ca_tool.specs.Printed.{generations_word, cell_line, at_line, file_line, rule_file_line};
 ghost use Rattle.ca_tool.specs.Printed.{rule_words, faulty_named, faulty_words, faulty_rule_words, noted_line};
-ghost use Rattle.ca_tool.specs.Printed.{cause_line, note_text, noted_remedy, verdict_remedy_line};
+ghost use Rattle.ca_tool.specs.Printed.{cause_line, note_text, is_noted_refusal, noted_remedy, verdict_remedy_line};
 ghost use Rattle.ca_tool.specs.Printed.{second_line, last_line, finding_text};
 ghost use Rattle.ca_tool.specs.Writing.{Sends};
 ghost use Rattle.ca_tool.specs.inner.Pieces.{pieces_text};
@@ -211,6 +211,28 @@ fn note_pieces<'a>(style: &ReportStyle<'a>, verdict: Verdict, note: &'a Note<'a>
             )
         }
         _ => [NOTHING; 16],
+    }
+}
+
+// Whether a claim is refused, and there is a line of a note on that.
+fn is_noted_refusal(verdict: Verdict, note: &Note<'_>) -> bool
+    ensures { result ≡ is_noted_refusal verdict note.now }
+{
+    matches!(
+        (verdict, note),
+        (
+            Verdict::Refused(_),
+            Note::Pattern { .. } | Note::RuleFile { .. }
+        )
+    )
+}
+
+/// Remembers that a claim is refused for which there is a second line.
+pub(crate) fn remember_note(has_note: &mut bool, finding: &Finding<'_>)
+    ensures { has_note.new ≡ (has_note.old || is_noted_refusal finding.now.answer.verdict finding.now.note) }
+{
+    if is_noted_refusal(finding.answer.verdict, &finding.note) {
+        *has_note = true;
     }
 }
 

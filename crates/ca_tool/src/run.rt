@@ -9,7 +9,7 @@ ghost use Rattle.ca_tool.specs.Runs.{all_claims, IsReport, NeedsMemory, WritesRe
 ghost use Rattle.ca_tool.specs.inner.Judged.{WereJudged, IsReportPart, WereAllJudged};
 
 use crate::fault::ToolFault;
-use crate::finding::{Finding, ReportStyle, send_finding};
+use crate::finding::{Finding, ReportStyle, remember_note, send_finding};
 use crate::printing::worse_status;
 use ca_claims::{Claims, File, Judge, Limits, Observer};
 use ca_plane::Dev;
@@ -46,7 +46,14 @@ pub fn verify_run<W: Write>(
     let Ok(mut judge) = Judge::new(alloc, claims, files, limits) else {
         return Err(ToolFault::Memory);
     };
-    let result = report_all(alloc, &mut judge, &PLAIN, device, &mut Unwatched);
+    let result = report_all(
+        alloc,
+        &mut judge,
+        &PLAIN,
+        device,
+        &mut Unwatched,
+        &mut false,
+    );
     judge_rest(&mut judge);
     result
 }
@@ -55,7 +62,8 @@ pub fn verify_run<W: Write>(
 /// the next is judged. It answers the exit status: 2 where a claim is refused, else 1 where one is false, else 0.
 ///
 /// Where memory is refused to the list of the files or to the rule tables, nothing is written. A text without
-/// claims needs neither. After a failed write no other claim is judged.
+/// claims needs neither. After a failed write no other claim is judged. `has_note` becomes true where a claim is refused
+/// of which an explained report tells more.
 pub fn verify_watched<W: Write, O: Observer>(
     alloc: Global,
     claims: &Claims,
@@ -64,6 +72,7 @@ pub fn verify_watched<W: Write, O: Observer>(
     style: &ReportStyle<'_>,
     device: &mut Dev<W>,
     observer: &mut O,
+    has_note: &mut bool,
 ) -> Result<u8, ToolFault>
     requires limits { AreGoodLimits limits }
     ensures tells { WritesReport W.contents device.old device.new
@@ -72,7 +81,7 @@ pub fn verify_watched<W: Write, O: Observer>(
     let Ok(mut judge) = Judge::new(alloc, claims, files, limits) else {
         return Err(ToolFault::Memory);
     };
-    report_all(alloc, &mut judge, style, device, observer)
+    report_all(alloc, &mut judge, style, device, observer, has_note)
 }
 
 // Judges the claims that are left, and writes the lines for each, up to a write that fails.
@@ -82,6 +91,7 @@ fn report_all<W: Write, O: Observer>(
     style: &ReportStyle<'_>,
     device: &mut Dev<W>,
     observer: &mut O,
+    has_note: &mut bool,
 ) -> Result<u8, ToolFault>
     ensures { WritesOneOf W.contents device.old device.new (IsReport judge.old style.now)
         (IsReportPart judge.old judge.new style.now) (NeedsMemory judge.old) result }
@@ -89,6 +99,7 @@ fn report_all<W: Write, O: Observer>(
     let mut text = Vec::new(alloc);
     let mut code = 0;
     'claims: while let Some(finding) = next_finding(judge, observer) {
+        remember_note(has_note, &finding);
         if send_finding(device, &mut text, style, &finding).is_err() {
             return Err(ToolFault::Write);
         }

@@ -6,14 +6,14 @@ use crate::progress::{Heading, Progress};
 use crate::streams::Streams;
 use crate::words::IdentifyExtras;
 use ca_claims::{Cause, DetailedFault, File, rule_text_of};
-use ca_plane::{Dev, Memory};
+use ca_plane::Memory;
 use ca_rule::{RuleFault, Table, TableFault, resolve};
 use ca_tool::{
     Catalog, Content, Fault, InputFault, RunFiles, Subject, ToolFault, complain, explain,
-    identify_run, is_claim_path,
+    has_explanation, identify_run, is_claim_path,
 };
 use std::alloc::Global;
-use std::rt::{Clock, Files, Stderr};
+use std::rt::{Clock, Files};
 
 // What the file of a path gave.
 #[derive(Drop)]
@@ -57,9 +57,7 @@ pub fn identify_files<R: Files + Clock + AllocGlobal>(
         Ok(status) => status,
         Err(Failure { fault, path }) => {
             let _ = complain(&fault, path.as_bytes(), &mut streams.errors);
-            if extras.extras.explained {
-                explain_failure(fault, &extras.rule, &mut streams.errors);
-            }
+            explain_failure(fault, extras, streams);
             FAULT
         }
     }
@@ -91,6 +89,8 @@ fn write_claims<'a, R: Files + Clock + AllocGlobal>(
     };
     if extras.extras.explained {
         let _ = catalog.explain(&files, &mut streams.errors);
+    } else if catalog.has_explanation() {
+        streams.suggest_explain();
     }
     Ok(catalog.status())
 }
@@ -326,9 +326,15 @@ fn read_files<'a>(
     Ok(files)
 }
 
-// Tells the line of a faulty rule file that the words name.
-fn explain_failure(fault: Fault, rule: &Option<String>, errors: &mut Dev<Stderr>) {
-    if let (Fault::Tool(fault), Some(rule)) = (fault, rule) {
+// Tells the line of a faulty rule file that the words name, where that is asked for.
+fn explain_failure(fault: Fault, extras: &IdentifyExtras, streams: &mut Streams) {
+    if let (Fault::Tool(fault), Some(rule)) = (fault, &extras.rule) {
+        if !extras.extras.explained {
+            if has_explanation(fault) {
+                streams.suggest_explain();
+            }
+            return;
+        }
         let files = RunFiles {
             pattern: File {
                 path: b"",
@@ -336,6 +342,6 @@ fn explain_failure(fault: Fault, rule: &Option<String>, errors: &mut Dev<Stderr>
             },
             rule_path: rule.as_bytes(),
         };
-        let _ = explain(&DetailedFault::of(fault), &files, errors);
+        let _ = explain(&DetailedFault::of(fault), &files, &mut streams.errors);
     }
 }

@@ -10,12 +10,12 @@ use crate::files::{
 use crate::progress::{Heading, Progress};
 use crate::streams::Streams;
 use crate::words::{Extras, Folders};
-use ca_claims::{Claims, read_claims};
+use ca_claims::{ClaimFault, Claims, File, read_claims};
 use ca_plane::Memory;
 use ca_plane::text::push_text;
 use ca_tool::{
-    Fault, InputFault, ReportStyle, ToolFault, complain, complain_with_path, push_escaped,
-    verify_watched,
+    Fault, InputFault, ReportStyle, ToolFault, complain, complain_with_path, explain_claims,
+    push_escaped, verify_watched,
 };
 use std::alloc::Global;
 use std::rt::{Clock, Files};
@@ -24,7 +24,7 @@ use std::rt::{Clock, Files};
 ///
 /// Rule files that no rule line gives are looked for in the folder of rules, if there is one, and the paths of the texts
 /// in the root, if there is one. A text that can't be read or has a fault is reported on standard error, and the others are still judged. Nothing more is judged after a
-/// failed write.
+/// failed write. Where a terminal shows that a claim is refused, and `--explain` says more, that is told at the end.
 pub fn verify_files<R: Files + Clock + AllocGlobal>(
     rt: &R,
     paths: &[String],
@@ -34,29 +34,49 @@ pub fn verify_files<R: Files + Clock + AllocGlobal>(
 ) -> u8 {
     let are_named = paths.len() > 1;
     let mut greatest = 0;
+    let mut has_note = false;
     'paths: for path in paths {
         let path = path.as_str();
-        match verify_text(rt, path, are_named, folders, extras, streams) {
+        match verify_text(rt, path, are_named, folders, extras, streams, &mut has_note) {
             Ok(status) => greatest = greatest.max(status),
             Err(Fault::Tool(ToolFault::Write)) => {
                 let _ = complain(&Fault::Tool(ToolFault::Write), b"", &mut streams.errors);
                 return FAULT;
             }
             Err(fault) => {
-                report_fault(&fault, path, are_named, streams);
+                report_fault(&fault, path.as_bytes(), are_named, streams);
                 greatest = FAULT;
             }
         }
     }
+    if has_note && !extras.explained {
+        streams.suggest_explain();
+    }
     greatest
 }
 
-fn report_fault(fault: &Fault, path: &str, is_named: bool, streams: &mut Streams) {
+fn report_fault(fault: &Fault, path: &[u8], is_named: bool, streams: &mut Streams) {
     let _ = if is_named {
-        complain_with_path(fault, path.as_bytes(), &mut streams.errors)
+        complain_with_path(fault, path, &mut streams.errors)
     } else {
-        complain(fault, path.as_bytes(), &mut streams.errors)
+        complain(fault, path, &mut streams.errors)
     };
+}
+
+// Reports the fault of a claim text, and answers the exit status. On a terminal, and where that is asked for, it tells
+// what helps too.
+fn refuse_text(
+    fault: ClaimFault,
+    text: File<'_>,
+    is_named: bool,
+    is_explained: bool,
+    streams: &mut Streams,
+) -> u8 {
+    report_fault(&Fault::Claims(fault), text.path, is_named, streams);
+    if is_explained || streams.is_terminal() {
+        let _ = explain_claims(fault, text, &mut streams.errors);
+    }
+    FAULT
 }
 
 // Judges one claim text. Where it is named, its path stands before each line.
@@ -67,9 +87,19 @@ fn verify_text<R: Files + Clock + AllocGlobal>(
     folders: &Folders,
     extras: Extras,
     streams: &mut Streams,
+    has_note: &mut bool,
 ) -> Result<u8, Fault> {
     let text = read_source(rt, path, streams.input).map_err(Fault::Input)?;
-    let claims = read_claims(rt.alloc(), &text).map_err(Fault::Claims)?;
+    let claims = match read_claims(rt.alloc(), &text) {
+        Ok(claims) => claims,
+        Err(fault) => {
+            let text = File {
+                path: path.as_bytes(),
+                bytes: &text,
+            };
+            return Ok(refuse_text(fault, text, is_named, extras.explained, streams));
+        }
+    };
     let Ok(before) = line_prefix(rt.alloc(), path, is_named) else {
         return Err(Fault::Input(InputFault::Memory));
     };
@@ -92,7 +122,7 @@ fn verify_text<R: Files + Clock + AllocGlobal>(
         missing: &missing,
         files: &files,
     };
-    judge(rt, &text.claims, &style, extras, streams)
+    judge(rt, &text.claims, &style, extras, streams, has_note)
 }
 
 // The claims, and the files that they need. Where there is a folder of rules, rules are looked for there.
@@ -134,6 +164,7 @@ fn judge<R: Files + Clock + AllocGlobal>(
     style: &ReportStyle<'_>,
     extras: Extras,
     streams: &mut Streams,
+    has_note: &mut bool,
 ) -> Result<u8, Fault> {
     let limits = extras.limits();
     let output = &mut streams.output;
@@ -149,6 +180,7 @@ fn judge<R: Files + Clock + AllocGlobal>(
         style,
         output,
         &mut observer,
+        has_note,
     );
     result.map_err(Fault::Tool)
 }

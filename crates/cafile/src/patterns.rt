@@ -11,8 +11,8 @@ use ca_plane::{Dev, Memory};
 use ca_rule::RuleFault;
 use ca_run::Unwatched;
 use ca_tool::{
-    Fault, InputFault, RunFiles, TextForm, ToolFault, complain, draw_bytes, explain, read_all,
-    write_form, write_form_after,
+    Fault, InputFault, RunFiles, TextForm, ToolFault, complain, draw_bytes, explain,
+    has_explanation, read_all, write_form, write_form_after,
 };
 use std::rt::{Clock, Files, Stderr, Stdin};
 
@@ -196,6 +196,8 @@ fn exit_status(
     let _ = complain(&fault, pattern.path, &mut streams.errors);
     if extras.explained {
         explain_fault(&refused, pattern, rule, &mut streams.errors);
+    } else if has_explanation(refused.fault) {
+        streams.suggest_explain();
     }
     FAULT
 }

@@ -1,8 +1,8 @@
 //! The standard streams, and files that are read like standard input.
 
-use ca_plane::Dev;
+use ca_plane::{Dev, send};
 use std::io;
-use std::io::Read;
+use std::io::{IsTerminal, Read};
 use std::rt::{Stderr, Stdin, Stdout};
 
 /// Standard input, output and error.
@@ -11,6 +11,20 @@ pub struct Streams {
     pub input: Stdin,
     pub output: Dev<Stdout>,
     pub errors: Dev<Stderr>,
+}
+
+impl Streams {
+    /// Whether standard error is a terminal.
+    pub fn is_terminal(&self) -> bool {
+        self.errors.inner().is_terminal()
+    }
+
+    /// Tells on a terminal that `--explain` says more of what was refused.
+    pub fn suggest_explain(&mut self) {
+        if self.is_terminal() {
+            let _ = send(&mut self.errors, b"cafile: --explain says more\n");
+        }
+    }
 }
 
 /// An opened file, or standard input.

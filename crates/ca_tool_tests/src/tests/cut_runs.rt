@@ -117,7 +117,16 @@ fn end_of(alloc: Global, run: &Run<'_>, out: &mut Dev<Narrow>) -> Result<u8, Too
         Run::Verify(claims) => verify_run(alloc, claims, FILES, Limits::default(), out),
         Run::Explain(claims) => {
             let limits = Limits::default();
-            verify_watched(alloc, claims, FILES, limits, &STYLE, out, &mut Unwatched)
+            verify_watched(
+                alloc,
+                claims,
+                FILES,
+                limits,
+                &STYLE,
+                out,
+                &mut Unwatched,
+                &mut false,
+            )
         }
         Run::Show => show(alloc, out),
         Run::Convert(target) => convert_run(alloc, &mut Dev::new(RLE), *target, None, out),
