@@ -379,6 +379,28 @@ def try_names(tally, files):
         os.chdir(ROOT)
 
 
+def try_odd_paths(tally, files):
+    """Paths that aren't UTF-8 are told as those of files that aren't there, and the other files are identified."""
+    good, other, folder = files.path("good.rle", BLOCK), files.path("other.rle", BLOCK), files.folder.encode()
+    odd = {b"\xff.rle": (b"\xff", b"\xff.rle"), b"a\x1b\xc3.rle": (b"a\\x1b\xc3", b"a\\x1b\xc3.rle"), b"\xc2\x80\xfe": (b"\\xc2\\x80\xfe", b"\\xc2\\x80\xfe"), b"\xed\xa0\x80.rle": (b"\xed\xa0\x80", b"\xed\xa0\x80.rle"),
+           b"x" * 300 + b"\xff": (b"x" * 300 + b"\xff", b"x" * 300 + b"\xff")}
+    ends = entry("good", good, "still").encode(), entry("other", other, "still").encode()
+    for name, (own, told) in odd.items():
+        path, comment = os.path.join(folder, name), b"# %s: %s: no file\n" % (own, os.path.join(folder, told))
+        wanted = Outcome(b"claims 2\n" + ends[0] + comment + ends[1], b"", 2)
+        for words in ([good, path, other], ["--explain", good, path, other], ["--", good, path, other], ["--limit", "9", good, path, "--memo", "9", other]):
+            tally.expect(f"a path that isn't UTF-8, {told[:20]}, {words[0]}", run(["identify", *words]), wanted)
+        tally.expect(f"and verify reads the text, {told[:20]}", run(["verify", "-"], input=wanted.printed), ample(b"line 3: yes\nline 6: yes\n"))
+    first, second = os.path.join(folder, b"\xff.rle"), os.path.join(folder, b"\xfe.rle")
+    with open(first, "wb") as file:
+        file.write(BLOCK.encode())
+    wanted = b"claims 2\n# \xff: %s: no file\n# \xfe: %s: no file\n# \xff-2: %s: no file\n" % (first, second, first)
+    tally.expect("one that is there, and another, and the first again", run(["identify", first, second, first]), Outcome(wanted, b"", 2))
+    tally.expect("one with a blank", run(["identify", b"\xff a.rle"]), Outcome(b"claims 2\n# \xff_a: \xff a.rle: no claim text can name this path\n", b"", 2))
+    tally.expect("one that begins as an option does", run(["identify", "--", b"-\xff.rle", "examples/block.rle"]),
+                 Outcome(b"claims 2\n# -\xff: -\xff.rle: no file\n" + entry("block", "examples/block.rle", "still").encode(), b"", 2))
+
+
 def try_refused(tally, files):
     """Files that are refused, among others: their comments, and the status."""
     bad = {"lost.rle": (None, "no file"), "syntax.rle": ("x = 1, y = 1\nz!", "bad pattern: rle syntax, line 2"), "end.rle": ("x = 1, y = 1\no", "bad pattern: rle no end, line 2"),
@@ -509,7 +531,7 @@ def main():
     try_known(tally)
     try_true_claims(tally)
     try_limits(tally)
-    for trial in (try_squares, try_growth, try_many_squares, try_long_periods, try_after, try_all, try_names, try_refused, try_rules, try_given_rule, try_many):
+    for trial in (try_squares, try_growth, try_many_squares, try_long_periods, try_after, try_all, try_names, try_odd_paths, try_refused, try_rules, try_given_rule, try_many):
         with tempfile.TemporaryDirectory() as folder:
             trial(tally, Folder(folder))
     tally.finish()

@@ -79,7 +79,9 @@ def try_words(tally):
         outcome = run(words)
         well = outcome.complaint and (outcome.printed, outcome.status) == (b"", 2)
         tally.tell(f"faulty words: {' '.join(words)}", [] if well else [str(outcome)])
-    for words in (["verify", b"\xff.claims"], ["show", b"\xff.rle"], ["show", block, "--rule", b"\xff"], ["show", block, "--rules", b"\xff"], ["identify", block, b"\xff.rle"], ["identify", block, "--rule", b"\xff"], ["verify", "examples/block.claims", "--rules", b"\xff"], ["convert", block, "--to", b"\xff"], ["draw", block, "--at", b"\xff"]):
+    for words in (["verify", b"\xff.claims"], ["show", b"\xff.rle"], ["show", block, "--rule", b"\xff"], ["show", block, "--rules", b"\xff"], ["identify", block, "--rule", b"\xff"], ["identify", block, "--rules", b"\xff"], ["identify", block, "--limit", b"\xff"], ["identify", block, b"--limit=\xff"], ["identify", b"-\xff.rle"],
+                  ["identify", b"\xff.rle", "--fast"], ["identify", b"\xff.rle", "--help"], ["identify", b"\xff.rle", "--rule", b"\xff"], ["identify", "--rule", "--", b"-\xff.rle"], [b"identify\xff", block], [b"\xff"],
+                  ["show", block, b"\xff"], ["verify", b"\xff", "--help"], ["verify", "examples/block.claims", "--rules", b"\xff"], ["convert", block, "--to", b"\xff"], ["draw", block, "--at", b"\xff"]):
         tally.expect(f"words that aren't UTF-8, {words[0]}", run(words), fault("usage"))
 
 

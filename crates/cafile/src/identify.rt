@@ -49,7 +49,7 @@ const OUT_OF_MEMORY: Fault = Fault::Tool(ToolFault::Memory);
 /// Identifies the patterns of the files of these paths, writes the claim text on them, and answers the exit status.
 pub fn identify_files<R: Files + Clock + AllocGlobal>(
     rt: &R,
-    paths: &[String],
+    paths: &[Vec<u8>],
     extras: &IdentifyExtras,
     streams: &mut Streams,
 ) -> u8 {
@@ -66,7 +66,7 @@ pub fn identify_files<R: Files + Clock + AllocGlobal>(
 // Reads the files, writes the claim text, and explains what is refused, where that is asked for.
 fn write_claims<'a, R: Files + Clock + AllocGlobal>(
     rt: &R,
-    paths: &[String],
+    paths: &[Vec<u8>],
     extras: &'a IdentifyExtras,
     streams: &mut Streams,
 ) -> Result<u8, Failure<'a>> {
@@ -164,23 +164,27 @@ impl RuleFiles {
     }
 }
 
-// What the files of the paths gave, in order. A file that no claim text can name isn't opened.
+// What the files of the paths gave, in order. A file that no claim text can name isn't opened, nor is one whose path isn't
+// UTF-8.
 fn load_contents<R: Files + AllocGlobal>(
     rt: &R,
-    paths: &[String],
+    paths: &[Vec<u8>],
 ) -> Result<Vec<FileContent>, Memory> {
     let mut contents = Vec::new(rt.alloc());
     'paths: for path in paths {
-        contents.push(load_content(rt, path.as_str()))?;
+        contents.push(load_content(rt, path))?;
     }
     Ok(contents)
 }
 
-fn load_content<R: Files + AllocGlobal>(rt: &R, path: &str) -> FileContent {
-    if !is_claim_path(path.as_bytes()) {
+fn load_content<R: Files + AllocGlobal>(rt: &R, path: &[u8]) -> FileContent {
+    if !is_claim_path(path) {
         return FileContent::Missing(Cause::NoFile);
     }
-    match read_file(rt, path) {
+    let Ok(text) = str::from_utf8(path) else {
+        return FileContent::Missing(Cause::NoFile);
+    };
+    match read_file(rt, text) {
         Ok(bytes) => FileContent::Bytes(bytes),
         Err(InputFault::Memory) => FileContent::Missing(Cause::Memory),
         Err(InputFault::Read | InputFault::TooLong) => FileContent::Missing(Cause::NoFile),
@@ -256,7 +260,7 @@ fn add_rule<R: Files + AllocGlobal>(
 // Writes the claim text, and answers what came of the files.
 fn run<'a, R: Files + Clock + AllocGlobal>(
     rt: &R,
-    paths: &'a [String],
+    paths: &'a [Vec<u8>],
     contents: &'a [FileContent],
     rules: &RuleFiles,
     extras: &IdentifyExtras,
@@ -290,7 +294,7 @@ fn run<'a, R: Files + Clock + AllocGlobal>(
 // The files as `identify_run` takes them.
 fn subjects<'a>(
     alloc: Global,
-    paths: &'a [String],
+    paths: &'a [Vec<u8>],
     contents: &'a [FileContent],
 ) -> Result<Vec<Subject<'a>>, Memory> {
     let mut subjects = Vec::new(alloc);
@@ -300,10 +304,7 @@ fn subjects<'a>(
             FileContent::Missing(cause) => Content::Missing(*cause),
             FileContent::FaultyRule(faulty) => Content::FaultyRule(faulty.view()),
         };
-        subjects.push(Subject {
-            path: path.as_bytes(),
-            content,
-        })?;
+        subjects.push(Subject { path, content })?;
     }
     Ok(subjects)
 }
@@ -311,16 +312,13 @@ fn subjects<'a>(
 // The files that were read.
 fn read_files<'a>(
     alloc: Global,
-    paths: &'a [String],
+    paths: &'a [Vec<u8>],
     contents: &'a [FileContent],
 ) -> Result<Vec<File<'a>>, Memory> {
     let mut files = Vec::new(alloc);
     'paths: for (path, content) in paths.iter().zip(contents.iter()) {
         if let FileContent::Bytes(bytes) = content {
-            files.push(File {
-                path: path.as_bytes(),
-                bytes,
-            })?;
+            files.push(File { path, bytes })?;
         }
     }
     Ok(files)

@@ -32,7 +32,7 @@ pub enum Heading<'a> {
     /// The files of these paths, of which each is looked at for as many generations as the limit says, so many on.
     /// They have numbers, counted from 1, in place of lines.
     Files {
-        paths: &'a [String],
+        paths: &'a [Vec<u8>],
         after: u64,
         limit: u64,
     },
@@ -141,7 +141,7 @@ impl<'a, R: Clock + AllocGlobal> Progress<'a, R> {
             }
             Heading::Run { path } => push_escaped(text, path),
             Heading::Files { paths, .. } => match paths.get(self.line.saturating_sub(1) as usize) {
-                Some(path) => push_escaped(text, path.as_bytes()),
+                Some(path) => push_escaped(text, path),
                 None => Ok(()),
             },
         }

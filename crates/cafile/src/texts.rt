@@ -203,7 +203,7 @@ file that can't be identified, with the reason as `cafile verify` tells it.
 
 NAME is the file's name without its ending, with _ for blanks and for a # that it begins with. Where that is taken,
 it is followed by -2, -3 and so on. A path with a blank, and -, can't be in a claim text: such a file has a comment
-that says so.
+that says so. One whose path isn't UTF-8 can't be opened, and has the comment of a file that isn't there.
 
 --limit N looks for periods and deaths of up to N generations. --memo N and --work N are as for verify, for each
 pattern.

@@ -5,6 +5,7 @@ mod drawing;
 mod extras;
 mod identification;
 mod pattern;
+mod raw;
 mod values;
 mod verification;
 
@@ -20,9 +21,9 @@ pub use identification::IdentifyExtras;
 use identification::{identify_command, identify_request};
 pub use pattern::PatternExtras;
 use pattern::{convert_command, convert_request, show_command, show_request};
+use raw::{ProgramWords, program_words};
 use std::alloc::{AllocError, Global};
 use std::rt::Env;
-use std::{env, io};
 pub use verification::Folders;
 use verification::{verify_command, verify_request};
 
@@ -53,9 +54,10 @@ pub enum Request {
         folders: Folders,
         extras: Extras,
     },
-    /// What is true of the patterns of the files at these paths, and what more is given and asked for.
+    /// What is true of the patterns of the files at these paths, which needn't be UTF-8, and what more is given and asked
+    /// for.
     Identify {
-        paths: Vec<String>,
+        paths: Vec<Vec<u8>>,
         extras: IdentifyExtras,
     },
     /// This text, the help or the version.
@@ -100,8 +102,8 @@ fn path_text(path: &Option<String>) -> Option<&str> {
 /// Why the words ask for nothing.
 #[derive(Drop)]
 pub enum WordsFault {
-    /// They aren't UTF-8. (That they hold no command, or lack one of its words, can't come, since clap asks
-    /// for those.)
+    /// One that isn't a FILE of `identify` isn't UTF-8. (That they hold no command, or lack one of its words, can't
+    /// come, since clap asks for those.)
     Usage,
     /// They fit no command, for the reason that this text gives.
     Misfit { text: String },
@@ -111,26 +113,17 @@ pub enum WordsFault {
 
 /// What the words after the program's name ask for.
 pub fn read_words<R: Env + AllocGlobal>(rt: &R) -> Result<Request, WordsFault> {
-    let words = program_words(rt)?;
+    let ProgramWords { texts, raw } = program_words(rt)?;
     let Ok(command) = command(rt.alloc()) else {
         return Err(WordsFault::Memory);
     };
-    match command.try_get_matches_from(words.as_slice()) {
-        Ok(matches) => request_of(rt.alloc(), &matches),
-        Err(error) => help_or_fault(rt.alloc(), &error),
+    let are_texts = raw.is_empty();
+    match command.try_get_matches_from(texts.as_slice()) {
+        Ok(matches) => request_of(rt.alloc(), &matches, raw),
+        Err(error) if are_texts => help_or_fault(rt.alloc(), &error),
+        Err(error) if error.kind() == ErrorKind::OutOfMemory => Err(WordsFault::Memory),
+        Err(_) => Err(WordsFault::Usage),
     }
-}
-
-fn program_words<R: Env + AllocGlobal>(rt: &R) -> Result<Vec<String>, WordsFault> {
-    let words = match env::args(rt) {
-        Ok(words) => words,
-        Err(error) if error.kind() == io::ErrorKind::OutOfMemory => return Err(WordsFault::Memory),
-        Err(_) => return Err(WordsFault::Usage),
-    };
-    let Ok(words) = words.collect(rt.alloc()) else {
-        return Err(WordsFault::Memory);
-    };
-    Ok(words)
 }
 
 fn command<'a>(alloc: Global) -> Result<Command<'a>, AllocError> {
@@ -156,8 +149,19 @@ fn with_command<'a>(
     program.subcommand(command?)
 }
 
-// The command and its words are required, so that clap finds them wherever it finds no fault.
-fn request_of(alloc: Global, matches: &ArgMatches<'_>) -> Result<Request, WordsFault> {
+// The command and its words are required, so that clap finds them wherever it finds no fault. Words that aren't UTF-8 are
+// paths that `identify` tells of, or a fault.
+fn request_of(
+    alloc: Global,
+    matches: &ArgMatches<'_>,
+    raw: Vec<Vec<u8>>,
+) -> Result<Request, WordsFault> {
+    if let Some(words) = matches.subcommand_matches("identify") {
+        return identify_request(alloc, words, raw);
+    }
+    if !raw.is_empty() {
+        return Err(WordsFault::Usage);
+    }
     if let Some(words) = matches.subcommand_matches("show") {
         return show_request(alloc, words);
     }
@@ -169,9 +173,6 @@ fn request_of(alloc: Global, matches: &ArgMatches<'_>) -> Result<Request, WordsF
     }
     if let Some(words) = matches.subcommand_matches("verify") {
         return verify_request(alloc, words);
-    }
-    if let Some(words) = matches.subcommand_matches("identify") {
-        return identify_request(alloc, words);
     }
     Err(WordsFault::Usage)
 }

@@ -8,6 +8,7 @@ use crate::texts;
 use crate::words::arguments::{path_words, value_word, with_rule_words};
 use crate::words::extras::{Extras, extras_of, with_extras};
 use crate::words::pattern::after_word;
+use crate::words::raw::path_bytes;
 use crate::words::values::{number_value, path_value, values_of};
 use crate::words::{Request, WordsFault};
 use ca_plane::limits::{LONGEST_PERIOD, MOST_GENERATIONS};
@@ -78,9 +79,14 @@ fn limit_word<'a>(alloc: Global) -> Arg<'a> {
     .value_parser(value_parser!(u64).range(1..=LONGEST_PERIOD as i64))
 }
 
-/// What the words of `identify` ask for.
-pub fn identify_request(alloc: Global, words: &ArgMatches<'_>) -> Result<Request, WordsFault> {
+/// What the words of `identify` ask for, where these of them aren't UTF-8.
+pub fn identify_request(
+    alloc: Global,
+    words: &ArgMatches<'_>,
+    raw: Vec<Vec<u8>>,
+) -> Result<Request, WordsFault> {
     let paths = values_of(alloc, words, "FILE")?;
+    let paths = path_bytes(alloc, &paths, raw)?;
     let extras = identify_extras(alloc, words)?;
     Ok(Request::Identify { paths, extras })
 }
