@@ -40,7 +40,7 @@ WORDS = ("show_rle", "show_macrocell", "show_table", "show_no_table", "show_bad_
          "convert_empty_to_macrocell", "convert_too_many_cells", "convert_full_square", "convert_gun_to_macrocell", "convert_gun_to_rle",
          "convert_generations_to_macrocell", "identify_bad_table", "show_rules", "convert_rules", "show_rules_bad_table", "convert_explain_bad_table",
          "draw_glider", "draw_window", "draw_after", "draw_generations", "draw_table", "draw_full_square", "draw_empty", "draw_pgm", "draw_too_large",
-         "draw_out_of_range",
+         "draw_out_of_range", "draw_zoom",
          "show_after", "show_after_long", "show_after_work", "convert_after", "convert_after_gen_too_large")
 
 # The same with a note on the pattern's file, which may be without its faulty line or its rule.

@@ -75,21 +75,26 @@ def grey(state, told, states):
     return min(255 * (state - 1) // (states - 1), 254) if told else 0
 
 
-def picture(squares, window, states, to="text"):
-    """The picture of a window whose squares with live cells are these."""
+def picture(squares, window, states, to="text", zoom=None):
+    """The picture of a window whose squares with live cells are these. A zoom is one of an image."""
     told = window.scale == 0 and states > 2
     lines = [[squares.get((window.column + x, window.row + y), 0) for x in range(window.width)] for y in range(window.height)]
     if to == "text":
         return "".join("".join(character(it, told) for it in line) + "\n" for line in lines).encode()
-    return f"P5\n{window.width} {window.height}\n255\n".encode() + bytes(grey(it, told, states) for line in lines for it in line)
+    greys, times = [[grey(it, told, states) for it in line] for line in lines], zoom or 1
+    pixels = b"".join(bytes(it for it in line for _ in range(times)) * times for line in greys)
+    return f"P5\n{window.width * times} {window.height * times}\n255\n".encode() + pixels
 
 
-def wanted_window(box, at=None, size=None, scale=None, to="text"):
+def wanted_window(box, at=None, size=None, scale=None, to="text", zoom=None):
     """The window that these words ask for, of a plane with this box, or None where it is empty."""
+    if zoom is not None:
+        scale = 0
+    usual = USUAL[to] if at or scale is None else (MOST_SIDE, MOST_SIDE)
+    width, height = (it // (zoom or 1) for it in size or usual)
     if at:
-        width, height = size or USUAL[to]
         return Window(scale or 0, at[0] >> (scale or 0), at[1] >> (scale or 0), width, height)
-    return fitting(box or (0, 0, 1, 1), size or ((MOST_SIDE, MOST_SIDE) if scale is not None else USUAL[to]), scale)
+    return fitting(box or (0, 0, 1, 1), (width, height), scale)
 
 
 def drawn(cells, states):

@@ -1,7 +1,8 @@
 -- What is drawn of a file, and why nothing is.
-use Rattle.std.proofs.Common.{◌≡◌, ◌≢◌, ℕ, ◌+◌, ◌<◌, ℤ, List, None, inl, inr, refl, subst, sym, ◌∙◌, arith}
+use Rattle.std.proofs.Common.{◌≡◌, ◌≢◌, ℕ, ◌+◌, ◌<◌, ℤ, List, Option, None, Some, inl, inr, refl, subst, sym, ◌∙◌, arith}
 use Rattle.ca_quad.specs.declared.tree.WideBounds.{WideBounds}
-use Rattle.ca_quad.specs.Boxes.{IsLeastWideBox}
+use Rattle.std.specs.Prelude.{MatchOption}
+use Rattle.ca_quad.specs.Boxes.{IsDead, IsLeastWideBox}
 use Rattle.ca_quad.specs.Trees.{cell}
 use Rattle.ca_rule.specs.TableNext.{TableRule}
 use Rattle.ca_rule.specs.Rule.{rule_value, states_of, next_of}
@@ -17,7 +18,9 @@ use Rattle.ca_tool.specs.declared.fault.ToolFault.TheVariants.{Convert, Window, 
 use Rattle.ca_tool.specs.declared.view.WindowFault.{WindowFault}
 use Rattle.ca_tool.specs.Details.{IsRunDetailOf}
 use Rattle.ca_tool.specs.Views.{IsBoxShown}
-use Rattle.ca_tool.specs.Drawn.{IsPictureOf, HasNoWindow, IsDrawn, IsDrawFault}
+use Rattle.ca_tool.specs.Drawn.{IsPictureOf, IsCaptionOf, HasNoWindow, IsDrawn, IsDrawnCaption, IsDrawFault}
+use Rattle.ca_tool.specs.Runs.{IsRuleFileFault, IsBytesFault}
+use Rattle.ca_tool.proofs.OfFiles.{table_not_write}
 use Rattle.ca_tool.specs.inner.Refusals.{IsUndrawn}
 
 -- ---- cells that are the same everywhere
@@ -46,7 +49,21 @@ module _ (one other : ℤ → ℤ → ℕ) (same : (x y : ℤ) → one x y ≡ o
     window = h.window;
     is_box = box_shown h.box h.is_box;
     is_window = h.is_window;
-    drawn = h.drawn ∙ same_drawing (record { format = request.format; states = states }) one other h.window same;
+    drawn = h.drawn ∙ same_drawing (record { format = request.format; states = states; zoom = request.view.zoom }) one other h.window same;
+  }
+
+  bounds_too : (bounds : Option WideBounds) → MatchOption bounds (IsDead one) (IsLeastWideBox one) → MatchOption bounds (IsDead other) (IsLeastWideBox other)
+  bounds_too None dead = λ x y. sym (same x y) ∙ dead x y
+  bounds_too (Some box) least = least_box box least
+
+  -- captions
+  pub caption_too : (request : DrawRequest) (generation : ℕ) (text : List ℕ) → IsCaptionOf request generation one text → IsCaptionOf request generation other text
+  caption_too request generation text h = record {
+    bounds = h.bounds;
+    window = h.window;
+    is_bounds = bounds_too h.bounds h.is_bounds;
+    is_window = h.is_window;
+    captioned = h.captioned;
   }
 
   -- and windows
@@ -72,6 +89,19 @@ drawn_of bytes tables request reached states text h same pictured = record {
       (subst (λ n. IsPictureOf request n (cell reached.store reached.tree) text) same pictured);
 }
 
+-- and the caption of that is its caption
+pub caption_of : (bytes : List ℕ) (tables : List TableRule) (request : DrawRequest) (reached : Reached) (text : List ℕ) → IsReached bytes tables request.generations reached
+    → IsCaptionOf request reached.generation (cell reached.store reached.tree) text → IsDrawnCaption bytes tables request text
+caption_of bytes tables request reached text h captioned = record {
+  cells = h.cells;
+  rule = rule_value reached.rule;
+  generation = h.begun;
+  begins = h.begins;
+  low = reached_low h.begun reached.generation request.generations h.added h.low;
+  holds = caption_too (cell reached.store reached.tree) (after (next_of (rule_value reached.rule)) h.cells request.generations) h.shows request (h.begun + request.generations) text
+      (subst (λ generation. IsCaptionOf request generation (cell reached.store reached.tree) text) h.added captioned);
+}
+
 -- and why there is none is why nothing is drawn
 pub undrawn_of : (bytes : List ℕ) (tables : List TableRule) (request : DrawRequest) (reached : Reached) (fault : ToolFault) → IsReached bytes tables request.generations reached
     → IsUndrawn request (cell reached.store reached.tree) fault → IsDrawFault bytes tables request fault
@@ -95,3 +125,7 @@ undrawn_plainly bytes request cells told h = (refl, refl)
 pub draw_not_write : (bytes : List ℕ) (tables : List TableRule) (request : DrawRequest) (told : ToolFault) → IsDrawFault bytes tables request told → told ≢ Write
 draw_not_write bytes tables request Write none = absurd none
 draw_not_write bytes tables request told h = λ is. cc
+
+pub draw_told : (rule : Option (List ℕ)) (bytes : List ℕ) (request : DrawRequest) (told : ToolFault) → IsBytesFault rule (λ tables. IsDrawFault bytes tables request) told → told ≢ Write
+draw_told rule bytes request told (inl table) = table_not_write (IsRuleFileFault rule) told table
+draw_told rule bytes request told (inr of) = draw_not_write bytes of.tables request told of.holds

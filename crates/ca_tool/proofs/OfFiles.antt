@@ -36,7 +36,7 @@ reach_told IsFault fault told tells is =
     convert_more (λ f. reach_fault.Convert f ≡ fault) (λ f. IsFault (reach_fault.Convert f)) (λ f same. subst IsFault (sym same) is) told tells
 
 -- none of it is a failed write
-table_not_write : (IsFault : TableFault → Type 0) (told : ToolFault) → TellsTable IsFault told → told ≢ Write
+pub table_not_write : (IsFault : TableFault → Type 0) (told : ToolFault) → TellsTable IsFault told → told ≢ Write
 table_not_write IsFault Write none = absurd none
 table_not_write IsFault told tells = λ is. cc
 

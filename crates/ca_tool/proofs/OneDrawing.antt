@@ -1,11 +1,11 @@
 -- One picture is drawn of a file, as it is asked for, or none for one cause; out of work and memory apart.
-use Rattle.std.proofs.Common.{◌≡◌, ◌≢◌, ℕ, List, Option, None, Some, inl, inr, refl, sym, ap, subst, ◌∙◌, arith}
-use Rattle.std.specs.Prelude.{ℤ, ◌≤ℤ◌}
+use Rattle.std.proofs.Common.{◌≡◌, ◌≢◌, ℕ, ◌+◌, List, Option, None, Some, inl, inr, refl, sym, ap, subst, ◌∙◌, arith}
+use Rattle.std.specs.Prelude.{ℤ, ◌≤ℤ◌, MatchOption}
 use Rattle.std.proofs.lemmas.Int.{ints}
 use Rattle.ca_plane.specs.Generations.{after}
 use Rattle.ca_quad.specs.declared.tree.Spot.{Spot}
 use Rattle.ca_quad.specs.declared.tree.WideBounds.{WideBounds}
-use Rattle.ca_quad.specs.Boxes.{IsLeastWideBox}
+use Rattle.ca_quad.specs.Boxes.{IsDead, IsLeastWideBox}
 use Rattle.ca_rule.specs.TableNext.{TableRule}
 use Rattle.ca_rule.specs.Rule.{states_of, next_of}
 use Rattle.ca_draw.specs.declared.window.Window.{Window}
@@ -22,10 +22,11 @@ use Rattle.ca_tool.specs.declared.fault.ToolFault.TheVariants.{Input, BadTable, 
 use Rattle.ca_tool.specs.declared.view.Size.{Size}
 use Rattle.ca_tool.specs.declared.view.WindowFault.{WindowFault}
 use Rattle.ca_tool.specs.declared.view.WindowFault.TheVariants as window_fault
-use Rattle.ca_tool.specs.Drawn.{IsPictureOf, HasNoWindow, HoldsOfLater, IsDrawn, IsDrawFault}
+use Rattle.ca_tool.specs.Captions.{caption_text}
+use Rattle.ca_tool.specs.Drawn.{IsPictureOf, IsCaptionOf, HasNoWindow, HoldsOfLater, IsDrawn, IsDrawnCaption, IsDrawFault}
 use Rattle.ca_tool.specs.Runs.{TellsReach}
-use Rattle.ca_tool.specs.Views.{IsBoxShown, ShowsWhole, HasScale, size_of, IsWindowFrom, IsNoWindowFrom}
-use Rattle.ca_tool.proofs.DrawnFiles.{picture_too, no_window_too}
+use Rattle.ca_tool.specs.Views.{IsBoxShown, box_shown, ShowsWhole, HasScale, size_of, IsWindowFrom, IsNoWindowFrom}
+use Rattle.ca_tool.proofs.DrawnFiles.{picture_too, caption_too, no_window_too}
 
 -- ---- boxes
 
@@ -103,7 +104,21 @@ module _ (request : DrawRequest) (cells : ℤ → ℤ → ℕ) where
       let size = size_of view request.format in
       let box = one_box cells a.box b.box a.is_box b.is_box in
       let window = one_window size b.box view.corner view.scale a.window b.window (subst (λ c. IsWindowFrom view.corner view.scale size c a.window) box a.is_window) b.is_window in
-      a.drawn ∙ ap (drawing (record { format = request.format; states = states }) cells) window ∙ sym b.drawn
+      a.drawn ∙ ap (drawing (record { format = request.format; states = states; zoom = request.view.zoom }) cells) window ∙ sym b.drawn
+
+  one_bounds : (b c : Option WideBounds) → MatchOption b (IsDead cells) (IsLeastWideBox cells) → MatchOption c (IsDead cells) (IsLeastWideBox cells) → b ≡ c
+  one_bounds None None dead too = refl
+  one_bounds (Some b) (Some c) least too = ap Some (one_least cells b c least too)
+  one_bounds None (Some c) dead least = absurd (least.left.1 (dead c.x0 least.left.0))
+  one_bounds (Some b) None least dead = absurd (least.left.1 (dead b.x0 least.left.0))
+
+  one_caption : (generation : ℕ) (t u : List ℕ) → IsCaptionOf request generation cells t → IsCaptionOf request generation cells u → t ≡ u
+  one_caption generation t u a b =
+      let view = request.view in
+      let size = size_of view request.format in
+      let bounds = one_bounds a.bounds b.bounds a.is_bounds b.is_bounds in
+      let window = one_window size (box_shown b.bounds) view.corner view.scale a.window b.window (subst (λ c. IsWindowFrom view.corner view.scale size (box_shown c) a.window) bounds a.is_window) b.is_window in
+      a.captioned ∙ ap (λ c. caption_text c a.window.scale generation) bounds ∙ ap (λ w. caption_text b.bounds w.scale generation) window ∙ sym b.captioned
 
   picture_or_none : (states : ℕ) (text : List ℕ) (fault : WindowFault) → IsPictureOf request states cells text → HasNoWindow request cells fault → ⊥
   picture_or_none states text fault a (box, shown, none) =
@@ -157,8 +172,17 @@ module _ (bytes : List ℕ) (tables : List TableRule) (request : DrawRequest) wh
       let ruled = subst (λ r. IsPictureOf request (states_of r) (after (next_of b.rule) b.cells n) t) one.1 shown in
       one_picture request (after (next_of b.rule) b.cells n) (states_of b.rule) t u ruled b.holds
 
+  -- with one caption
+  pub one_drawn_caption : (t u : List ℕ) → IsDrawnCaption bytes tables request t → IsDrawnCaption bytes tables request u → t ≡ u
+  one_drawn_caption t u a b =
+      let one = one_start bytes tables a.cells b.cells a.rule b.rule a.generation b.generation a.begins b.begins in
+      let same = one_plane bytes tables n a.cells b.cells a.rule b.rule a.generation b.generation a.begins b.begins in
+      let told = caption_too (after (next_of a.rule) a.cells n) (after (next_of b.rule) b.cells n) same request (a.generation + n) t a.holds in
+      let timed = subst (λ g. IsCaptionOf request (g + n) (after (next_of b.rule) b.cells n) t) one.2 told in
+      one_caption request (after (next_of b.rule) b.cells n) (b.generation + n) t u timed b.holds
+
   -- no plane that is reached has a cause for which it isn't
-  later_or_fault : (Holds : ℕ → (ℤ → ℤ → ℕ) → Type 0) (told : ToolFault) → told ≢ Memory → told ≢ Work → HoldsOfLater bytes tables n Holds
+  later_or_fault : (Holds : (states generation : ℕ) → (ℤ → ℤ → ℕ) → Type 0) (told : ToolFault) → told ≢ Memory → told ≢ Work → HoldsOfLater bytes tables n Holds
       → TellsReach (IsReachFault bytes tables n request.limits.work) told → ⊥
   later_or_fault Holds told m w a wrong =
       let (fault, other, nor_work, is, same) = reach_fault_of told m w (IsReachFault bytes tables n request.limits.work) wrong in

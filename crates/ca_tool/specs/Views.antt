@@ -1,5 +1,5 @@
 -- Which window of a plane is drawn.
-use Rattle.std.specs.Prelude.{◌≡◌, ◌⊎◌, ℕ, ◌≤◌, ℤ, pos, ◌+ℤ◌, ◌-ℤ◌, Option, None, Some, unwrap_or}
+use Rattle.std.specs.Prelude.{◌≡◌, ◌⊎◌, ℕ, ◌≤◌, ◌/◌, ◌==◌, if◌then◌else◌, ℤ, pos, ◌+ℤ◌, ◌-ℤ◌, Option, None, Some, unwrap_or}
 use Rattle.ca_quad.specs.declared.tree.Spot.{Spot}
 use Rattle.ca_quad.specs.declared.tree.WideBounds.{WideBounds}
 use Rattle.ca_quad.specs.Boxes.{IsDead, IsLeastWideBox}
@@ -17,6 +17,10 @@ abbrev pub IsBoxShown : (ℤ → ℤ → ℕ) → WideBounds → Type 0
 IsBoxShown cells box = IsLeastWideBox cells box
     ⊎ (IsDead cells × (box ≡ record { x0 = pos 0; y0 = pos 0; x1 = pos 0; y1 = pos 0 }))
 
+-- the same of the least box round the live cells, if there are any
+abbrev pub box_shown : Option WideBounds → WideBounds
+box_shown bounds = unwrap_or bounds (record { x0 = pos 0; y0 = pos 0; x1 = pos 0; y1 = pos 0 })
+
 -- the size that is taken where none is asked for (our own): 80 by 40 characters, or 1024 by 1024 pixels
 abbrev pub usual_size : ImageFormat → Size
 usual_size Text = record { width = 80; height = 40 }
@@ -32,9 +36,15 @@ other_size None (Some scale) format = most_size
 other_size None None format = usual_size format
 other_size (Some corner) scale format = usual_size format
 
--- the size that a window has, or at most has
+-- how many squares lie side by side in so many characters or pixels, where each takes as many as the zoom says
+abbrev pub squares_in : (zoom side : ℕ) → ℕ
+squares_in zoom side = if zoom == 0 then 0 else side / zoom
+
+-- the size in squares that a window has, or at most has: what is asked for in characters or pixels has room for them
 abbrev pub size_of : View → ImageFormat → Size
-size_of view format = unwrap_or view.size (other_size view.corner view.scale format)
+size_of view format =
+    let size = unwrap_or view.size (other_size view.corner view.scale format) in
+    record { width = squares_in view.zoom size.width; height = squares_in view.zoom size.height }
 
 -- the window shows the whole box in a size at most, and has no column and no row without a cell of the box
 pub record ShowsWhole (box : WideBounds) (size : Size) (window : Window) : Type 0 where

@@ -1,18 +1,20 @@
 //! The run of `draw`: a pattern file in, a picture of a window of its plane out.
 
-ghost use Rattle.std.specs.Prelude.{◌≡◌, ◌≤◌, IfOk, IfErr};
+ghost use Rattle.std.specs.Prelude.{◌≡◌, ◌≤◌, IfSome, IfOk, IfErr, MatchOption};
 ghost use Rattle.std.specs.Option.{option_copied};
 ghost use Rattle.ca_quad.specs.Trees.{IsTree, cell};
-ghost use Rattle.ca_draw.specs.Windows.{IsBox};
+ghost use Rattle.ca_quad.specs.Boxes.{IsDead, IsLeastWideBox};
+ghost use Rattle.ca_draw.specs.Windows.{IsBox, IsTreeBox};
 ghost use Rattle.ca_claims.specs.Limited.{AreGoodLimits};
 ghost use Rattle.ca_plane.specs.Limits.{most_generations};
 ghost use Rattle.ca_tool.specs.Details.{HasRunDetail, fault_alone};
-ghost use Rattle.ca_tool.specs.Views.{IsBoxShown};
-ghost use Rattle.ca_tool.specs.Drawn.{IsPictureOf, IsDrawn, IsDrawFault};
-ghost use Rattle.ca_tool.specs.Runs.{WritesUnder};
+ghost use Rattle.ca_tool.specs.Views.{IsBoxShown, box_shown};
+ghost use Rattle.ca_tool.specs.Drawn.{IsPictureOf, IsCaptionOf, IsDrawn, IsDrawnCaption, IsDrawFault};
+ghost use Rattle.ca_tool.specs.Runs.{HoldsOfTables, IsBytesFault, WritesUnder};
 ghost use Rattle.ca_tool.specs.inner.Refusals.{IsUndrawn};
 
 use crate::ahead_run::reach_refusal;
+use crate::caption::caption;
 use crate::fault::ToolFault;
 use crate::pattern_run::{known_table, table_slice, write};
 use crate::view::View;
@@ -36,6 +38,15 @@ pub struct DrawRequest {
     pub generations: u64,
     /// How much that may take.
     pub limits: Limits,
+}
+
+/// A picture of a pattern file, and the line that tells of it.
+#[derive(Drop)]
+pub struct CaptionedPicture {
+    /// The bytes of the text or the image.
+    pub picture: Vec<u8>,
+    /// The box of the live cells, if there are any, the scale and the generation, with an LF at the end.
+    pub caption: Vec<u8>,
 }
 
 /// The box that is drawn of an empty plane.
@@ -66,28 +77,58 @@ pub fn draw_bytes<W: Write, O: Observer>(
         (λ tables. IsDrawFault bytes.now tables request) (fault_alone result) }
     ensures detail { IfErr result (HasRunDetail bytes.now) }
 {
+    let drawn = match draw_with_caption(alloc, bytes, request, table, observer) {
+        Ok(drawn) => drawn,
+        Err(refused) => return Err(refused),
+    };
+    write(output, &drawn.picture)
+}
+
+/// The picture that `draw_bytes` writes, and its caption.
+///
+/// # Errors
+///
+/// As for `draw_bytes`, but no write fails.
+pub fn draw_with_caption<O: Observer>(
+    alloc: Global,
+    bytes: &[u8],
+    request: DrawRequest,
+    table: Option<&[u8]>,
+    observer: &mut O,
+) -> Result<CaptionedPicture, DetailedFault<ToolFault>>
+    requires limits { AreGoodLimits request.limits }
+    requires few { request.generations ≤ most_generations }
+    ensures drawn { IfOk result (λ drawn. HoldsOfTables (option_copied table.entry)
+        (λ tables. IsDrawn bytes.now tables request drawn.picture.items)) }
+    ensures caption { IfOk result (λ drawn. HoldsOfTables (option_copied table.entry)
+        (λ tables. IsDrawnCaption bytes.now tables request drawn.caption.items)) }
+    ensures fault { IfErr result (λ refused. IsBytesFault (option_copied table.entry)
+        (λ tables. IsDrawFault bytes.now tables request) refused.fault) }
+    ensures detail { IfErr result (HasRunDetail bytes.now) }
+{
     let table = match known_table(alloc, table) {
         Ok(table) => table,
         Err(refused) => return Err(refused),
     };
-    let text = match picture(alloc, bytes, table_slice(&table), request, observer) {
-        Ok(text) => text,
-        Err(refused) => return Err(refused),
-    };
-    write(output, &text)
+    match picture(alloc, bytes, table_slice(&table), request, observer) {
+        Ok(drawn) => Ok(drawn),
+        Err(refused) => Err(refused),
+    }
 }
 
-// The picture of a pattern file.
+// The picture of a pattern file, and its caption.
 fn picture<O: Observer>(
     alloc: Global,
     bytes: &[u8],
     tables: &[Table],
     request: DrawRequest,
     observer: &mut O,
-) -> Result<Vec<u8>, DetailedFault<ToolFault>>
+) -> Result<CaptionedPicture, DetailedFault<ToolFault>>
     requires limits { AreGoodLimits request.limits }
     requires few { request.generations ≤ most_generations }
-    ensures drawn { IfOk result (λ text. IsDrawn bytes.now tables.now request text.items) }
+    ensures drawn { IfOk result (λ drawn. IsDrawn bytes.now tables.now request drawn.picture.items) }
+    ensures caption { IfOk result
+        (λ drawn. IsDrawnCaption bytes.now tables.now request drawn.caption.items) }
     ensures fault { IfErr result (λ refused. IsDrawFault bytes.now tables.now request refused.fault) }
     ensures detail { IfErr result (HasRunDetail bytes.now) }
 {
@@ -98,49 +139,79 @@ fn picture<O: Observer>(
         Err(refused) => return Err(reach_refusal(refused)),
     };
     let states = reached.rule.states();
-    match picture_of(alloc, &reached.store, &reached.tree, states, request) {
-        Ok(text) => Ok(text),
+    let generation = reached.generation;
+    match picture_of(
+        alloc,
+        &reached.store,
+        &reached.tree,
+        states,
+        generation,
+        request,
+    ) {
+        Ok(drawn) => Ok(drawn),
         Err(fault) => Err(DetailedFault::of(fault)),
     }
 }
 
-// The picture of a tree's cells, of so many states.
+// The picture of a tree's cells, of so many states, and its caption, at this generation.
 fn picture_of(
     alloc: Global,
     store: &Store,
     tree: &Tree,
     states: u16,
+    generation: u64,
     request: DrawRequest,
-) -> Result<Vec<u8>, ToolFault>
+) -> Result<CaptionedPicture, ToolFault>
     requires { IsTree store.now tree.now }
-    ensures drawn { IfOk result (λ text. IsPictureOf request states (cell store.now tree.now) text.items) }
+    ensures drawn { IfOk result
+        (λ drawn. IsPictureOf request states (cell store.now tree.now) drawn.picture.items) }
+    ensures caption { IfOk result
+        (λ drawn. IsCaptionOf request generation (cell store.now tree.now) drawn.caption.items) }
     ensures fault { IfErr result (IsUndrawn request (cell store.now tree.now)) }
 {
-    let Ok(bounds) = box_shown(alloc, store, tree) else {
+    let Ok(bounds) = bounds_of(alloc, store, tree) else {
         return Err(ToolFault::Memory);
     };
     let format = request.format;
-    let window = match request.view.window(format, bounds) {
+    let window = match request.view.window(format, box_shown(bounds)) {
         Ok(window) => window,
         Err(fault) => return Err(ToolFault::Window(fault)),
     };
-    match draw(alloc, store, copy(tree), window, Style { format, states }) {
-        Ok(text) => Ok(text),
+    let Ok(caption) = caption(alloc, bounds, window.scale, generation) else {
+        return Err(ToolFault::Memory);
+    };
+    let style = Style {
+        format,
+        states,
+        zoom: request.view.zoom,
+    };
+    match draw(alloc, store, copy(tree), window, style) {
+        Ok(picture) => Ok(CaptionedPicture { picture, caption }),
         Err(_) => Err(ToolFault::Memory),
     }
 }
 
-// The box that is drawn of a tree's cells.
-fn box_shown(alloc: Global, store: &Store, tree: &Tree) -> Result<WideBounds, Memory>
+// The least box round a tree's live cells, if there are any.
+fn bounds_of(alloc: Global, store: &Store, tree: &Tree) -> Result<Option<WideBounds>, Memory>
     requires { IsTree store.now tree.now }
-    ensures shown { IfOk result (IsBoxShown (cell store.now tree.now)) }
-    ensures cells { IfOk result IsBox }
+    ensures least { IfOk result (λ bounds. MatchOption bounds (IsDead (cell store.now tree.now))
+        (IsLeastWideBox (cell store.now tree.now))) }
+    ensures reach { IfOk result (λ bounds. IfSome bounds (λ box. IsBox box × IsTreeBox box)) }
+    ensures shown { IfOk result (λ bounds. IsBoxShown (cell store.now tree.now) (box_shown bounds)) }
+    ensures cells { IfOk result (λ bounds. IsBox (box_shown bounds)) }
 {
     least_boxes(store, copy(tree));
     match store.bounds(alloc, copy(tree))? {
-        Some(bounds) => Ok(bounds),
-        None => Ok(ORIGIN),
+        Some(bounds) => Ok(Some(bounds)),
+        None => Ok(None),
     }
+}
+
+// The box that is drawn.
+fn box_shown(bounds: Option<WideBounds>) -> WideBounds
+    ensures { result ≡ box_shown bounds }
+{
+    bounds.unwrap_or(ORIGIN)
 }
 
 // The same tree.

@@ -6,14 +6,17 @@ ghost use Rattle.ca_rule.specs.TableNext.{TableRule};
 ghost use Rattle.ca_tool.specs.declared.drawing.DrawRequest.{DrawRequest};
 ghost use Rattle.ca_tool.specs.declared.fault.ToolFault.{ToolFault};
 ghost use Rattle.ca_tool.specs.declared.fault.ToolFault.TheVariants.{Work, Memory};
-ghost use Rattle.ca_tool.specs.Drawn.{IsDrawn, IsDrawFault};
+ghost use Rattle.ca_tool.specs.Drawn.{IsDrawn, IsDrawnCaption, IsDrawFault};
 ghost use Rattle.ca_tool.specs.Runs.{HoldsOfTables, IsBytesFault};
 
-/// As it is asked for, one picture at most is drawn of a file, or none for one cause, and not both; out of
-/// work and memory apart.
+/// As it is asked for, one picture at most is drawn of a file, with one caption, or none for one cause, and not
+/// both; out of work and memory apart.
 pub fn one_kind_of_drawing()
     ensures one_picture { (bytes : List ℕ) (tables : List TableRule) (request : DrawRequest)
         (one two : List ℕ) → IsDrawn bytes tables request one → IsDrawn bytes tables request two → one ≡ two }
+    ensures one_caption { (bytes : List ℕ) (tables : List TableRule) (request : DrawRequest)
+        (one two : List ℕ) → IsDrawnCaption bytes tables request one
+        → IsDrawnCaption bytes tables request two → one ≡ two }
     ensures picture_or_fault { (bytes : List ℕ) (tables : List TableRule) (request : DrawRequest)
         (text : List ℕ) (told : ToolFault) → told ≢ Memory → told ≢ Work
         → IsDrawn bytes tables request text → IsDrawFault bytes tables request told → ⊥ }
@@ -27,6 +30,9 @@ pub fn one_kind_of_drawing_run()
     ensures one_picture { (bytes : List ℕ) (rule : Option (List ℕ)) (request : DrawRequest)
         (one two : List ℕ) → HoldsOfTables rule (λ tables. IsDrawn bytes tables request one)
         → HoldsOfTables rule (λ tables. IsDrawn bytes tables request two) → one ≡ two }
+    ensures one_caption { (bytes : List ℕ) (rule : Option (List ℕ)) (request : DrawRequest)
+        (one two : List ℕ) → HoldsOfTables rule (λ tables. IsDrawnCaption bytes tables request one)
+        → HoldsOfTables rule (λ tables. IsDrawnCaption bytes tables request two) → one ≡ two }
     ensures picture_or_fault { (bytes : List ℕ) (rule : Option (List ℕ)) (request : DrawRequest)
         (text : List ℕ) (told : ToolFault) → told ≢ Memory → told ≢ Work
         → HoldsOfTables rule (λ tables. IsDrawn bytes tables request text)

@@ -3,6 +3,7 @@
 
 mod absence;
 mod ahead_run;
+mod caption;
 mod catalog;
 mod claims_remedy;
 mod complaint;
@@ -35,7 +36,7 @@ pub use ahead_run::write_form_after;
 pub use catalog::{Catalog, says_its_claims};
 pub use claims_remedy::explain_claims;
 pub use complaint::{complain, complain_with_path};
-pub use drawing::{DrawRequest, draw_bytes};
+pub use drawing::{CaptionedPicture, DrawRequest, draw_bytes, draw_with_caption};
 pub use entry::{Content, Subject};
 pub use escaped::push_escaped;
 pub use explanation::{RunFiles, explain, has_explanation};

@@ -2,36 +2,39 @@
 
 ghost use Rattle.std.specs.Prelude.{◌≡◌, MatchResult};
 ghost use Rattle.ca_draw.specs.Windows.{IsBox};
-ghost use Rattle.ca_tool.specs.Views.{usual_size, other_size, size_of, IsWindowFor, IsNoWindowFor};
-ghost use Rattle.ca_tool.specs.Views.{IsWindowFrom, IsNoWindowFrom};
+ghost use Rattle.ca_tool.specs.Views.{usual_size, other_size, squares_in, size_of};
+ghost use Rattle.ca_tool.specs.Views.{IsWindowFor, IsNoWindowFor, IsWindowFrom, IsNoWindowFrom};
 
 use ca_draw::{ImageFormat, MOST_SIDE, Window};
 use ca_quad::{Spot, WideBounds};
 use thiserror::Error;
 
-/// The numbers of columns and of rows of a window.
+/// How wide and high a window or its picture is.
 #[derive(Clone, Copy, Debug, PartialEq, Eq, Drop)]
 pub struct Size {
-    /// How many squares are in a row.
+    /// How many squares, characters or pixels are in a row.
     pub width: u16,
-    /// How many rows there are.
+    /// How many rows of them there are.
     pub height: u16,
 }
 
 /// What is asked for of a window.
 ///
 /// With a corner it is the window that begins there, at scale 0 unless another is asked for. Without one it
-/// shows the whole box of the live cells, and has the size at most: at the scale that is asked for, or else at
-/// the smallest at which the box fits.
+/// shows the whole box of the live cells, and its picture has the size at most: at the scale that is asked for,
+/// or else at the smallest at which the box fits.
 #[derive(Clone, Copy, Debug, PartialEq, Eq)]
 pub struct View {
     /// A cell of the square in the north-west.
     pub corner: Option<Spot>,
-    /// The size. Where none is asked for it is 80 by 40 for a text and 1024 by 1024 for an image; but 8192 by
-    /// 8192 where a scale is asked for, and no corner.
+    /// The size in characters or pixels. Where none is asked for it is 80 by 40 for a text and 1024 by 1024 for
+    /// an image; but 8192 by 8192 where a scale is asked for, and no corner.
     pub size: Option<Size>,
     /// The scale.
     pub scale: Option<u8>,
+    /// How many characters or pixels wide and high a square is drawn. The window has as many squares as the size
+    /// has room for, so none at a zoom of 0.
+    pub zoom: u8,
 }
 
 /// Why there is no such window.
@@ -62,13 +65,28 @@ impl View {
         }
     }
 
-    // The size that a window has, or at most has.
+    // The size in squares that a window has, or at most has.
     fn size(self, format: ImageFormat) -> Size
         ensures { result ≡ size_of self format }
     {
-        self.size
-            .unwrap_or(other_size(self.corner, self.scale, format))
+        let size = self
+            .size
+            .unwrap_or(other_size(self.corner, self.scale, format));
+        Size {
+            width: squares_in(self.zoom, size.width),
+            height: squares_in(self.zoom, size.height),
+        }
     }
+}
+
+// How many squares lie side by side in so many characters or pixels.
+fn squares_in(zoom: u8, side: u16) -> u16
+    ensures { result ≡ squares_in zoom side }
+{
+    if zoom == 0 {
+        return 0;
+    }
+    side / u16::from(zoom)
 }
 
 // The size that is taken where none is asked for.

@@ -1,9 +1,15 @@
 -- What the words of a command line are taken for.
-use Rattle.std.specs.Prelude.{◌≡◌, ℕ, ◌<◌, ◌^◌, min, max, List, Option, None, Some, option_map, unwrap_or, String, string_bytes}
+use Rattle.std.specs.Prelude.{◌≡◌, ℕ, ◌-◌, ◌<◌, ◌^◌, min, max, List, Option, None, Some, option_map, unwrap_or, String, string_bytes}
+use Rattle.std.specs.Option.{option_or}
 use Rattle.std.specs.Str.Parse.{IsNumeral, digits_value, without_leading_plus}
 use Rattle.clap.specs.Matches.{found_of, one_text, first_value}
 use Rattle.clap.specs.declared.parser.matches.ArgMatches.{ArgMatches}
 use Rattle.ca_plane.specs.Limits.{most_memo, longest_period, most_generations}
+use Rattle.ca_quad.specs.declared.tree.Spot.{Spot}
+use Rattle.ca_draw.specs.declared.drawing.ImageFormat.{ImageFormat}
+use Rattle.ca_draw.specs.declared.drawing.ImageFormat.TheVariants.{Text, Pgm}
+use Rattle.ca_tool.specs.declared.view.Size.{Size}
+use Rattle.ca_tool.specs.declared.view.View.{View}
 
 -- the text after a word, none where the word isn't there
 abbrev pub IsTextAfter : {A : Type 0} → ArgMatches → (name : List ℕ) → Option (String A) → Type 0
@@ -33,3 +39,31 @@ limit_of set = max 1 (min (unwrap_or set 65536) longest_period)
 -- how many generations on a pattern is taken: none unless set
 abbrev pub generations_of : Option ℕ → ℕ
 generations_of set = min (unwrap_or set 0) most_generations
+
+-- the scale of a picture: 0 where a zoom is asked for
+abbrev pub scale_of : (zoom scale : Option ℕ) → Option ℕ
+scale_of None scale = scale
+scale_of (Some zoom) scale = Some 0
+
+-- the word is so many columns or lines: a number above 0
+abbrev pub IsCountText : List ℕ → ℕ → Type 0
+IsCountText word count = IsNumberText word count × (0 < count)
+
+-- so many columns or lines, brought within the limits of a picture
+abbrev pub terminal_side : ℕ → ℕ
+terminal_side count = max 1 (min count 8192)
+
+-- the size of a picture that fits a terminal with so many columns and lines: two lines are left, one for the caption and one for the prompt
+abbrev pub room_in : (columns lines : ℕ) → Size
+room_in columns lines = record { width = terminal_side columns; height = terminal_side (lines - 2) }
+
+-- the size that a terminal with this room gives a picture in place of the usual one: none to an image, nor to a whole box at a scale that is asked for
+abbrev pub room_for : ImageFormat → Option Spot → (scale : Option ℕ) → Option Size → Option Size
+room_for Pgm corner scale room = None
+room_for Text None (Some scale) room = None
+room_for Text None None room = room
+room_for Text (Some corner) scale room = room
+
+-- the size of a picture: the one that is asked for, or else the one that the terminal gives
+abbrev pub size_on : ImageFormat → View → (room : Option Size) → Option Size
+size_on format view room = option_or view.size (room_for format view.corner view.scale room)

@@ -7,12 +7,12 @@ use crate::streams::Streams;
 use crate::words::{DrawWords, PatternExtras};
 use ca_claims::{ConvertFault, DetailedFault, File};
 use ca_plane::limits::MOST_GENERATIONS;
-use ca_plane::{Dev, Memory};
+use ca_plane::{Dev, Memory, send};
 use ca_rule::RuleFault;
 use ca_run::Unwatched;
 use ca_tool::{
-    Fault, InputFault, RunFiles, TextForm, ToolFault, complain, draw_bytes, explain,
-    has_explanation, read_all, write_form, write_form_after,
+    CaptionedPicture, Fault, InputFault, RunFiles, TextForm, ToolFault, complain, draw_bytes,
+    draw_with_caption, explain, has_explanation, read_all, write_form, write_form_after,
 };
 use std::rt::{Clock, Files, Stderr, Stdin};
 
@@ -21,8 +21,8 @@ use std::rt::{Clock, Files, Stderr, Stdin};
 pub enum Form {
     /// The lines that tell what it holds, or a file of a format.
     Text(TextForm),
-    /// The picture that these words ask for.
-    Picture(DrawWords),
+    /// The picture that these words ask for, and on standard error its caption, where that is wanted.
+    Picture { words: DrawWords, captioned: bool },
 }
 
 /// Writes what is asked of the pattern file of a path, and answers the exit status.
@@ -132,9 +132,14 @@ fn run<R: Clock + AllocGlobal>(
     let Some(generations) = extras.after else {
         return match form {
             Form::Text(form) => write_form(alloc, bytes, form, table, output),
-            Form::Picture(words) => {
+            Form::Picture { words, captioned } => {
                 let request = words.request(0, limits);
-                draw_bytes(alloc, bytes, request, table, &mut Unwatched, output)
+                let watched = &mut Unwatched;
+                if captioned {
+                    let drawn = draw_with_caption(alloc, bytes, request, table, watched);
+                    return write_captioned(drawn, streams);
+                }
+                draw_bytes(alloc, bytes, request, table, watched, output)
             }
         };
     };
@@ -156,11 +161,28 @@ fn run<R: Clock + AllocGlobal>(
                 output,
             )
         }
-        Form::Picture(words) => {
+        Form::Picture { words, captioned } => {
             let request = words.request(generations, limits);
+            if captioned {
+                let drawn = draw_with_caption(alloc, bytes, request, table, observer);
+                return write_captioned(drawn, streams);
+            }
             draw_bytes(alloc, bytes, request, table, observer, output)
         }
     }
+}
+
+// Writes the caption of a picture to standard error, and the picture to standard output.
+fn write_captioned(
+    drawn: Result<CaptionedPicture, DetailedFault<ToolFault>>,
+    streams: &mut Streams,
+) -> Result<u8, DetailedFault<ToolFault>> {
+    let drawn = drawn?;
+    let _ = send(&mut streams.errors, &drawn.caption);
+    if send(&mut streams.output, &drawn.picture).is_err() {
+        return Err(DetailedFault::of(ToolFault::Write));
+    }
+    Ok(0)
 }
 
 // The rule file that has the name of the pattern's rule, where a run knew no such rule.

@@ -98,11 +98,15 @@ stands for 2^K by 2^K cells, and is `o` if one of them is live; the squares begi
   --scale K       all live cells at scale K, in at most 8192 by 8192; with --size, in at most W by H
   --at X,Y        80 by 40 characters at scale 0, with the cell X,Y in the upper left one; with --size, W by H;
                   with --scale, at scale K. X grows to the right, and Y downward.
+On a terminal, its columns and all but two of its lines stand in place of 80 by 40, and a line on standard error
+tells the box of the live cells, the scale and the generation, as `box 0 0 36 9, scale 0, gen 0`.
+
 An empty plane is drawn as the cell 0,0 alone. `window too large` says that the cells don't fit, and `window
 out of range` that the window reaches beyond the columns and rows from -2^124 to 2^124 - 1 of its scale.
 
 --to pgm writes an image that most viewers open: all live cells in at most 1024 by 1024 pixels, or 1024 by 1024
-with --at. White is no live cell, black is a live one, and states above 1 are lighter greys.
+with --at. White is no live cell, black is a live one, and states above 1 are lighter greys. --zoom K draws each
+cell as K by K pixels, at scale 0: all live cells in at most 8192 by 8192 pixels, or W by H with --size.
 
 --after N draws the plane N generations later. --memo and --work are limits for that, as for verify: a run that
 needs more than --work units of work ends as `work`.
@@ -117,6 +121,7 @@ Examples:
   cafile draw examples/glider.rle --at -2,-2 --size 10,6
   cafile draw examples/tables/wireworld_clock.rle --rule examples/tables/wireworld.rule
   cafile draw examples/macrocell/gun.mc --to pgm --scale 0 --after 1000
+  cafile draw examples/glider.rle --to pgm --zoom 16
   cat examples/glider.rle | cafile draw -"
 );
 

@@ -29,8 +29,11 @@ const PAIR: &[Cell] = &[
 /// there, and the picture.
 type View = (u8, (i128, i128, u8, u16, u16), &'static [u8]);
 
+/// The format of a picture, the number of states, and the zoom.
+type Look = (ImageFormat, u16, u8);
+
 /// Cells, how they are drawn, and pictures of them.
-type Drawing = (&'static [Cell], (ImageFormat, u16), &'static [View]);
+type Drawing = (&'static [Cell], Look, &'static [View]);
 
 const GLIDER_TEXTS: &[View] = &[
     (1, (0, 0, 0, 3, 3), b".o.\n..o\nooo\n"),
@@ -47,6 +50,14 @@ const GLIDER_IMAGES: &[View] = &[(
     (0, 0, 0, 3, 3),
     b"P5\n3 3\n255\n\xff\x00\xff\xff\xff\x00\x00\x00\x00",
 )];
+
+const GLIDER_TWICE: &[View] = &[(
+    1,
+    (0, 0, 0, 3, 2),
+    b"P5\n6 4\n255\n\xff\xff\x00\x00\xff\xff\xff\xff\x00\x00\xff\xff\xff\xff\xff\xff\x00\x00\xff\xff\xff\xff\x00\x00",
+)];
+
+const BLOCK_THRICE: &[View] = &[(1, (-2, -1, 0, 2, 1), b"...ooo\n...ooo\n...ooo\n")];
 
 const BLOCK_TEXTS: &[View] = &[
     (1, (-2, -2, 0, 4, 4), b"....\n.oo.\n.oo.\n....\n"),
@@ -69,6 +80,14 @@ const STATE_IMAGES: &[View] = &[(
 
 const THREE_STATE_IMAGES: &[View] = &[(1, (0, 0, 0, 2, 1), b"P5\n2 1\n255\n\x00\x7f")];
 
+const THREE_STATES_TWICE: &[View] = &[(
+    1,
+    (0, 0, 0, 2, 1),
+    b"P5\n4 2\n255\n\x00\x00\x7f\x7f\x00\x00\x7f\x7f",
+)];
+
+const NO_PIXELS: &[View] = &[(1, (0, 0, 0, 2, 1), b"P5\n0 0\n255\n")];
+
 const PAIR_TEXTS: &[View] = &[(
     1,
     (-1000000000000, -1000000000000, 39, 4, 4),
@@ -76,24 +95,23 @@ const PAIR_TEXTS: &[View] = &[(
 )];
 
 const DRAWINGS: &[Drawing] = &[
-    (GLIDER, (ImageFormat::Text, 2), GLIDER_TEXTS),
-    (GLIDER, (ImageFormat::Pgm, 2), GLIDER_IMAGES),
-    (BLOCK, (ImageFormat::Text, 2), BLOCK_TEXTS),
-    (STATES, (ImageFormat::Text, 256), STATE_TEXTS),
-    (STATES, (ImageFormat::Text, 2), LIVE_TEXTS),
-    (STATES, (ImageFormat::Pgm, 256), STATE_IMAGES),
-    (STATES, (ImageFormat::Pgm, 3), THREE_STATE_IMAGES),
-    (PAIR, (ImageFormat::Text, 2), PAIR_TEXTS),
+    (GLIDER, (ImageFormat::Text, 2, 1), GLIDER_TEXTS),
+    (GLIDER, (ImageFormat::Pgm, 2, 1), GLIDER_IMAGES),
+    (GLIDER, (ImageFormat::Pgm, 2, 2), GLIDER_TWICE),
+    (BLOCK, (ImageFormat::Text, 2, 1), BLOCK_TEXTS),
+    (BLOCK, (ImageFormat::Text, 2, 3), BLOCK_THRICE),
+    (STATES, (ImageFormat::Text, 256, 1), STATE_TEXTS),
+    (STATES, (ImageFormat::Text, 2, 1), LIVE_TEXTS),
+    (STATES, (ImageFormat::Pgm, 256, 1), STATE_IMAGES),
+    (STATES, (ImageFormat::Pgm, 3, 1), THREE_STATE_IMAGES),
+    (STATES, (ImageFormat::Pgm, 3, 2), THREE_STATES_TWICE),
+    (STATES, (ImageFormat::Pgm, 3, 0), NO_PIXELS),
+    (PAIR, (ImageFormat::Text, 2, 1), PAIR_TEXTS),
 ];
 
 /// The picture of these cells in a view.
-fn picture(
-    alloc: Global,
-    cells: &[Cell],
-    style: (ImageFormat, u16),
-    view: &View,
-) -> Result<Vec<u8>, Memory> {
-    let (format, states) = style;
+fn picture(alloc: Global, cells: &[Cell], look: Look, view: &View) -> Result<Vec<u8>, Memory> {
+    let (format, states, zoom) = look;
     let &(level, (x, y, scale, width, height), _) = view;
     let mut store = Store::new(alloc);
     let small = store.from_plane(&plane_of(alloc, cells)?)?;
@@ -101,14 +119,19 @@ fn picture(
     let Some(window) = Window::at(Spot { x, y }, scale, width, height) else {
         return Err(Memory);
     };
-    draw(alloc, &store, tree, window, Style { format, states })
+    let style = Style {
+        format,
+        states,
+        zoom,
+    };
+    draw(alloc, &store, tree, window, style)
 }
 
 /// Whether the cells are drawn so in each view.
 fn shows_views(alloc: Global, drawing: &Drawing) -> bool {
-    let &(cells, style, views) = drawing;
+    let &(cells, look, views) = drawing;
     'views: for view in views {
-        let Ok(found) = picture(alloc, cells, style, view) else {
+        let Ok(found) = picture(alloc, cells, look, view) else {
             return false;
         };
         if found.as_slice() != view.2 {
@@ -139,6 +162,7 @@ fn large_picture(alloc: Global) -> Result<Vec<u8>, Memory> {
     let style = Style {
         format: ImageFormat::Text,
         states: 2,
+        zoom: 1,
     };
     draw(alloc, &store, tree, window, style)
 }

@@ -1,6 +1,7 @@
 //! The words of `draw`.
 
-ghost use Rattle.std.specs.Prelude.{◌≡◌, ◌≢◌, ℕ, ◌≤◌, pos, MatchOption};
+ghost use Rattle.std.specs.Prelude.{◌≡◌, ◌≢◌, ℕ, ◌≤◌, pos, unwrap_or, MatchOption};
+ghost use Rattle.cafile.specs.Words.{scale_of, room_for, size_on};
 
 use crate::texts;
 use crate::words::arguments::{file_word, value_word, with_rule_words};
@@ -38,6 +39,40 @@ impl DrawWords {
             limits,
         }
     }
+
+    /// The same on a terminal that has this room, if that is known: a text fits it, unless another size or the
+    /// scale of a whole box is asked for.
+    pub fn on_terminal(self, room: Option<Size>) -> DrawWords
+        ensures size { result.view.size ≡ size_on self.format self.view room }
+        ensures corner { result.view.corner ≡ self.view.corner }
+        ensures scale { result.view.scale ≡ self.view.scale }
+        ensures zoom { result.view.zoom ≡ self.view.zoom }
+        ensures format { result.format ≡ self.format }
+    {
+        let view = self.view;
+        let room = room_for(self.format, view.corner, view.scale, room);
+        let size = view.size.or(room);
+        DrawWords {
+            view: View { size, ..view },
+            format: self.format,
+        }
+    }
+}
+
+// The size that a terminal with this room gives a picture in place of the usual one.
+fn room_for(
+    format: ImageFormat,
+    corner: Option<Spot>,
+    scale: Option<u8>,
+    room: Option<Size>,
+) -> Option<Size>
+    ensures { result ≡ room_for format corner scale room }
+{
+    match (format, corner, scale) {
+        (ImageFormat::Pgm, _, _) => None,
+        (ImageFormat::Text, None, Some(_)) => None,
+        (ImageFormat::Text, _, _) => room,
+    }
 }
 
 /// The command `draw`.
@@ -50,6 +85,7 @@ pub fn draw_command<'a>(alloc: Global) -> Result<Command<'a>, AllocError> {
             corner_word(alloc),
             size_word(alloc),
             scale_word(alloc),
+            zoom_word(alloc),
             format_word(alloc),
             after_word(alloc),
         ]?)?;
@@ -86,6 +122,16 @@ fn scale_word<'a>(alloc: Global) -> Arg<'a> {
     .value_parser(value_parser!(u64).range(0..=124))
 }
 
+fn zoom_word<'a>(alloc: Global) -> Arg<'a> {
+    value_word(
+        alloc,
+        "zoom",
+        "K",
+        "Each cell is K by K pixels of an image: 1 to 64",
+    )
+    .value_parser(value_parser!(u64).range(1..=64))
+}
+
 fn format_word<'a>(alloc: Global) -> Arg<'a> {
     value_word(
         alloc,
@@ -109,17 +155,55 @@ pub fn draw_request(alloc: Global, words: &ArgMatches<'_>) -> Result<Request, Wo
 }
 
 fn draw_words(alloc: Global, words: &ArgMatches<'_>) -> Result<DrawWords, WordsFault> {
+    let format = format_of(words);
     let scale: Option<u8> = words.get_one("scale");
-    let view = View {
-        corner: corner_value(alloc, words)?,
-        size: size_of(alloc, words)?,
-        scale,
-    };
-    let format = match words.get_str("to") {
+    let zoom: Option<u8> = words.get_one("zoom");
+    if zoom.is_some() {
+        check_zoom(alloc, format, scale)?;
+    }
+    let corner = corner_value(alloc, words)?;
+    let size = size_of(alloc, words)?;
+    Ok(DrawWords {
+        view: view_of(corner, size, scale, zoom),
+        format,
+    })
+}
+
+fn format_of(words: &ArgMatches<'_>) -> ImageFormat {
+    match words.get_str("to") {
         Some("pgm") => ImageFormat::Pgm,
         _ => ImageFormat::Text,
+    }
+}
+
+// A zoom is one of an image at scale 0.
+fn check_zoom(alloc: Global, format: ImageFormat, scale: Option<u8>) -> Result<(), WordsFault> {
+    if format != ImageFormat::Pgm {
+        return Err(misplaced_zoom(alloc, "without '--to pgm'"));
+    }
+    if scale.unwrap_or(0) > 0 {
+        return Err(misplaced_zoom(alloc, "with a '--scale <K>' above 0"));
+    }
+    Ok(())
+}
+
+// What is asked for of a window.
+fn view_of(corner: Option<Spot>, size: Option<Size>, scale: Option<u8>, zoom: Option<u8>) -> View
+    ensures corner { result.corner ≡ corner }
+    ensures size { result.size ≡ size }
+    ensures scale { result.scale ≡ scale_of zoom scale }
+    ensures zoom { result.zoom ≡ unwrap_or zoom 1 }
+{
+    let scale = match zoom {
+        Some(_) => Some(0),
+        None => scale,
     };
-    Ok(DrawWords { view, format })
+    View {
+        corner,
+        size,
+        scale,
+        zoom: zoom.unwrap_or(1),
+    }
 }
 
 // The cell of `--at X,Y`, where that stands there.
@@ -183,9 +267,20 @@ fn two_numbers(word: &str) -> Option<(i128, i128)> {
 
 // The fault of a value that clap doesn't know, told as it tells those that it does.
 fn misfit(alloc: Global, value: &str, word: &str, wanted: &str) -> WordsFault {
-    let text = format!(in alloc;
+    fault_of(format!(in alloc;
         "error: invalid value '{value}' for '{word}': not {wanted}\n\nFor more information, try '--help'.\n"
-    );
+    ))
+}
+
+// The fault of a zoom beside words that it doesn't go with.
+fn misplaced_zoom(alloc: Global, beside: &str) -> WordsFault {
+    fault_of(format!(in alloc;
+        "error: the argument '--zoom <K>' cannot be used {beside}\n\nFor more information, try '--help'.\n"
+    ))
+}
+
+// The fault that a text tells, where there was memory for it.
+fn fault_of(text: Result<String, AllocError>) -> WordsFault {
     match text {
         Ok(text) => WordsFault::Misfit { text },
         Err(_) => WordsFault::Memory,

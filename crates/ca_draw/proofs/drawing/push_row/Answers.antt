@@ -2,12 +2,12 @@ use Rattle.std.proofs.Common.{[], ◌∷◌, ap, arith}
 use Rattle.std.proofs.lemmas.Result.{on_ok_weaker}
 use Rattle.ca_plane.specs.Puts.{Puts}
 use Rattle.ca_quad.specs.Trees.{cell}
-use Rattle.ca_draw.specs.Drawings.{drawing_row, row_end}
+use Rattle.ca_draw.specs.Drawings.{drawing_row, repeated, row_end}
 use Rattle.ca_draw.proofs.Rows.{texts_more, texts_all}
 use Rattle.ca_draw.proofs.drawing.push_row.Goals as goal
 
 pub columns-preserved : goal.columns-preserved
-columns-preserved c = texts_more c.args.out.now.items c.columns.out.items c.push_text.new.out.items (c.byte_at.result ∷ []) c.columns.column _ c.columns.invariant c.in_ok-push_text.ensures (ap (λ b. b ∷ []) c.byte_at.ensures)
+columns-preserved c = texts_more c.args.out.now.items c.columns.out.items c.push_times.new.out.items (repeated c.args.style.zoom (c.byte_at-byte.result ∷ [])) c.columns.column _ c.columns.invariant c.in_ok-push_times.ensures (ap (λ b. repeated c.args.style.zoom (b ∷ [])) c.byte_at-byte.ensures)
 
 pub returns : goal.returns
 returns c =

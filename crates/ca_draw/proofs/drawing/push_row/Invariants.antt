@@ -2,11 +2,11 @@ use Rattle.std.proofs.Common.{[], ◌∷◌, pos, ◌+ℤ◌}
 use Rattle.ca_plane.specs.Puts.{Puts}
 use Rattle.ca_quad.specs.Trees.{cell}
 use Rattle.ca_draw.specs.Marks.{mark_of}
-use Rattle.ca_draw.specs.Drawings.{byte_of_mark, texts_below}
+use Rattle.ca_draw.specs.Drawings.{byte_of_mark, repeated, texts_below}
 use Rattle.ca_draw.proofs.drawing.push_row.Given as goal
 
 -- the bytes of the columns so far follow the text
 abbrev pub invariant-columns : goal.invariant-columns
 invariant-columns l =
     Puts l.fn.out.items l.out.items
-    (texts_below l.column (λ column. byte_of_mark l.style (mark_of (cell l.store l.tree) l.style.states l.window.scale (l.window.column +ℤ pos column) (l.window.row +ℤ pos l.row)) ∷ []))
+    (texts_below l.column (λ column. repeated l.style.zoom (byte_of_mark l.style (mark_of (cell l.store l.tree) l.style.states l.window.scale (l.window.column +ℤ pos column) (l.window.row +ℤ pos l.row)) ∷ [])))

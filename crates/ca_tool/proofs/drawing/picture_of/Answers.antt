@@ -5,4 +5,4 @@ use Rattle.ca_tool.proofs.drawing.picture_of.Goals as goal
 -- the window that is asked for is one
 pub draw-requires-clause-window : goal.draw-requires-clause-window
 draw-requires-clause-window c = let view = c.args.request.view in
-    within_limits view.corner view.scale (size_of view c.args.request.format) c.in-Ok.bounds c.in-Ok-window.window c.in-Ok-window.ensures
+    within_limits view.corner view.scale (size_of view c.args.request.format) c.box_shown.result c.in-Ok-window.window c.in-Ok-window.ensures

@@ -1,11 +1,15 @@
-use Rattle.ca_tool.specs.Drawn.{IsDrawn, IsDrawFault}
-use Rattle.ca_tool.proofs.OneDrawing.{one_drawn, drawn_or_fault, one_draw_fault}
+use Rattle.ca_tool.specs.Drawn.{IsDrawn, IsDrawnCaption, IsDrawFault}
+use Rattle.ca_tool.proofs.OneDrawing.{one_drawn, one_drawn_caption, drawn_or_fault, one_draw_fault}
 use Rattle.ca_tool.proofs.RuleFiles.{one_text_under, text_or_fault_under, one_fault_under}
 use Rattle.ca_tool.proofs.drawing_laws.one_kind_of_drawing_run.Goals as goal
 
 pub returns-clause-one_picture : goal.returns-clause-one_picture
 returns-clause-one_picture c = λ bytes rule request one two h k.
     one_text_under rule (λ tables. IsDrawn bytes tables request) (λ tables. one_drawn bytes tables request) one two h k
+
+pub returns-clause-one_caption : goal.returns-clause-one_caption
+returns-clause-one_caption c = λ bytes rule request one two h k.
+    one_text_under rule (λ tables. IsDrawnCaption bytes tables request) (λ tables. one_drawn_caption bytes tables request) one two h k
 
 pub returns-clause-picture_or_fault : goal.returns-clause-picture_or_fault
 returns-clause-picture_or_fault c = λ bytes rule request text told m w h k.

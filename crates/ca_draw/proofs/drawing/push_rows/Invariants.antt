@@ -1,0 +1,8 @@
+use Rattle.ca_plane.specs.Puts.{Puts}
+use Rattle.ca_quad.specs.Trees.{cell}
+use Rattle.ca_draw.specs.Drawings.{drawing_row, repeated}
+use Rattle.ca_draw.proofs.drawing.push_rows.Given as goal
+
+-- the row so many times follows the text
+abbrev pub invariant-times : goal.invariant-times
+invariant-times l = Puts l.fn.out.items l.out.items (repeated l.counter (drawing_row l.style (cell l.store l.tree) l.window l.row))

@@ -1,0 +1,8 @@
+use Rattle.std.proofs.Common.{[], ◌∷◌}
+use Rattle.ca_plane.specs.Puts.{Puts}
+use Rattle.ca_draw.specs.Drawings.{repeated}
+use Rattle.ca_draw.proofs.drawing.push_times.Given as goal
+
+-- the byte so many times follows the text
+abbrev pub invariant-times : goal.invariant-times
+invariant-times l = Puts l.fn.out.items l.out.items (repeated l.counter (l.byte ∷ []))
