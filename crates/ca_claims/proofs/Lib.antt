@@ -43,6 +43,7 @@ pub mod LaterPlanes
 pub mod Starts
 pub mod Stages
 pub mod Identities
+pub mod Strides
 pub mod IdentityRefusals
 pub mod UnknownRules
 pub mod AddedTables

@@ -236,8 +236,9 @@ steps_as old new stages others limit n same takes level some holds = takes level
 parts_of_product : (a b x : ℕ) → (a + b) * x ≡ a * x + b * x
 parts_of_product a b x = omega arith
 
--- a search: the first steps, leaps, and the steps that are left
-pub whole_search : (old mid leapt new : ℕ) (stages : ℕ → ℤ → ℤ → ℕ) (early limit : ℕ) → early ≤ limit → TakesSteps old mid stages early early → leapt ≤ mid + leap_work limit
+-- a search: the first steps, leaps and strides, and the steps that are left
+pub whole_search : (old mid leapt new : ℕ) (stages : ℕ → ℤ → ℤ → ℕ) (early limit : ℕ) → early ≤ limit → TakesSteps old mid stages early early
+    → leapt ≤ mid + leap_work limit + leap_work limit
     → TakesSteps leapt new stages limit (limit - early) → TakesSearch old new stages limit
 whole_search old mid leapt new stages early limit few first leaps rest level some holds =
     let x = 14 ^ (level + 2) in

@@ -14,12 +14,14 @@ ghost use Rattle.ca_claims.specs.inner.Spending.{HasLimits};
 ghost use Rattle.ca_claims.specs.inner.Stages.{TakesRunAndSearch};
 ghost use Rattle.ca_claims.specs.inner.Subjects.{ShowsTree, IsPattern};
 
+mod early;
 mod ending;
 mod growth;
 mod later;
 mod leaps;
 mod search;
 mod stage;
+mod strides;
 mod walk;
 
 use crate::conversion::ConvertFault;

@@ -1,5 +1,5 @@
 -- What a live pattern's plane shows some generations on, and what work it takes to see it.
-use Rattle.std.specs.Prelude.{◌≡◌, ℕ, ◌+◌, ◌*◌, ◌^◌, ◌≤◌, ◌<◌, ℤ, List}
+use Rattle.std.specs.Prelude.{◌≡◌, ℕ, ◌+◌, ◌*◌, ◌^◌, ◌≤◌, ◌<◌, ℤ, List, Some, slice_get}
 use Rattle.ca_plane.specs.declared.point.Bounds.{Bounds}
 use Rattle.ca_plane.specs.Plane.{Picture, IsLive, shifted}
 use Rattle.ca_plane.specs.Generations.{cells_after, IsAfter}
@@ -16,6 +16,8 @@ use Rattle.ca_claims.specs.declared.identification.ending.Ending.TheVariants.{De
 use Rattle.ca_claims.specs.declared.identification.stage.First.{First}
 use Rattle.ca_claims.specs.declared.identification.stage.Stage.{Stage}
 use Rattle.ca_claims.specs.declared.identification.stage.Stage.TheVariants.{Empty, Back, Other}
+use Rattle.ca_claims.specs.declared.identification.strides.Stride.{Stride}
+use Rattle.ca_claims.specs.declared.identification.strides.Stride.TheVariants.{On, Never, Perhaps}
 use Rattle.ca_claims.specs.declared.identification.walk.Walk.{Walk}
 use Rattle.ca_claims.specs.declared.identity.Growth.{Growth}
 use Rattle.ca_claims.specs.Identified.{IsGrowth, run_work}
@@ -109,9 +111,10 @@ step_work level = 13 * 14 ^ (level + 2)
 abbrev pub TakesSteps : (old new : ℕ) → (stages : ℕ → ℤ → ℤ → ℕ) → (limit n : ℕ) → Type 0
 TakesSteps old new stages limit n = (level : ℕ) → 1 ≤ level → ((m : ℕ) → m < limit → HoldsAll level (stages m)) → new ≤ old + n * step_work level
 
--- what leaps may take of the work of a search: what is left of a tree of level 1, the lowest, where each step takes its most
+-- what leaps may take of the work of a search, and strides once more: together no more than what is left of a tree of level 1, the lowest, where each step
+-- takes its most
 abbrev pub leap_work : (limit : ℕ) → ℕ
-leap_work limit = limit * 14 ^ 3
+leap_work limit = limit * 1024
 
 -- from the old count of work to the new one it is at most what as many runs of one generation as the limit may need, each of a tree of a level that holds
 -- the live cells before it: steps and leaps together
@@ -165,3 +168,23 @@ pub record IsWalk (next : List ℕ → ℕ) (first : ℤ → ℤ → ℕ) (nodes
 -- the same box, as one of a picture
 abbrev pub box_of : WideBounds → Bounds
 box_of box = record { x0 = box.x0; y0 = box.y0; x1 = box.x1; y1 = box.y1 }
+
+-- the plane k generations after the first cells, live and near enough to the origin to be looked at as a pattern's
+pub record IsEarly (next : List ℕ → ℕ) (first : ℤ → ℤ → ℕ) (nodes : List Node) (k : ℕ) (plane : First) : Type 0 where
+  pub is_first : IsFirst nodes plane
+  pub shows : (x y : ℤ) → cell nodes plane.tree x y ≡ cells_after next first k x y
+
+-- the planes of the first generations, from the first cells on
+abbrev pub AreEarly : (List ℕ → ℕ) → (ℤ → ℤ → ℕ) → List Node → List First → Type 0
+AreEarly next first nodes planes = (k : ℕ) (plane : First) → slice_get planes k ≡ Some plane → IsEarly next first nodes k plane
+
+-- later cells are those of the plane with this number, moved
+abbrev pub IsMovedFromPlane : List Node → List First → (ℤ → ℤ → ℕ) → ℕ → Type 0
+IsMovedFromPlane nodes planes later k = (plane : First) × (slice_get planes k ≡ Some plane) × (dx : ℤ) × (dy : ℤ) × AreMoved (cell nodes plane.tree) later dx dy
+
+-- what a stride up to n generations shows: after none of these the plane is dead, or the first cells are there again, moved, and the tree is that of
+-- the last one; or they are there again at no time; or nothing
+abbrev pub IsStride : (List ℕ → ℕ) → (ℤ → ℤ → ℕ) → (n : ℕ) → List Node → Stride → Type 0
+IsStride next first n nodes (On tree) = IsLaterTree next first n nodes tree × AreOtherUpTo next first n
+IsStride next first n nodes Never = (m : ℕ) → 1 ≤ m → AreMovedNowhere first (cells_after next first m)
+IsStride next first n nodes Perhaps = Unit {0}

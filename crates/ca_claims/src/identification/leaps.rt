@@ -33,7 +33,7 @@ const FAR: u64 = 64;
 // more than a quarter of what is left.
 const SHARE: u64 = 1024;
 
-const MOST_SHARE: u64 = 1 << 23;
+const MOST_SHARE: u64 = 1 << 17;
 
 /// How far the plane of a pattern has grown after as many generations as the limit, where leaps show that the
 /// pattern is none of what can be claimed up to then, and a share of the work is enough for them. It is known
@@ -95,6 +95,26 @@ fn growth_if_not_back<A: Automaton>(
     if !has_no_return(alloc, leaper, first, seen, limit, NEAR)? {
         return Ok(None);
     }
+    growth_after(alloc, leaper, first, limit)
+}
+
+/// How far the plane of a pattern that isn't back up to the limit has grown after as many generations, if it isn't
+/// dead then.
+pub(super) fn growth_after<A: Automaton>(
+    alloc: Global,
+    leaper: &mut Leaper<A>,
+    first: &First,
+    limit: u64,
+) -> Result<Option<Growth>, LeapFault>
+    requires first { IsFirst leaper.old.nodes first.now }
+    requires most { limit ≤ longest_period }
+    ensures growth { (cells : Picture) → ShowsTree leaper.old.nodes first.now.tree cells
+        → HasNoReturn (A.next_of leaper.old.rule) cells limit → IfOk result (λ found. IfSome found
+        (λ growth. IsIdentity (A.next_of leaper.old.rule) cells limit (Unknown growth))) }
+    ensures goes_on { LeaperGrows A leaper.old leaper.new }
+{
+    // Says what holds of every leaper.
+    let _ = leaper.store();
     let last = later_tree(leaper, first.tree, limit, &mut Unwatched)?;
     if is_dead(leaper.store(), &last) {
         return Ok(None);

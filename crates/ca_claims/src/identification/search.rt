@@ -1,5 +1,6 @@
-//! What a live pattern is: the first generations are looked at one by one, then leaps are made, and where these
-//! don't settle it all generations that are left are looked at.
+//! What a live pattern is: the first generations are looked at one by one, then leaps are made, and where these don't
+//! settle it the other generations are looked at by strides; those of a stride in which something may be found, one by
+//! one.
 
 ghost use Rattle.std.specs.Prelude.{◌≤◌, IfOk};
 ghost use Rattle.ca_plane.specs.Plane.{Picture};
@@ -15,6 +16,7 @@ use super::ending::identity_of;
 use super::growth::growth_of;
 use super::leaps::growth_by_leaps;
 use super::stage::First;
+use super::strides::growth_by_strides;
 use super::walk::{Walk, look_on};
 use crate::identity::Identity;
 use crate::observer::Observer;
@@ -58,6 +60,10 @@ pub(super) fn search<A: Automaton, O: Observer>(
     }
     let grown = growth_by_leaps(alloc, leaper, &first, early, limit)?;
     if let Some(growth) = grown {
+        return Ok(Identity::Unknown { growth });
+    }
+    let strided = growth_by_strides(alloc, leaper, &first, &mut walk, limit, observer)?;
+    if let Some(growth) = strided {
         return Ok(Identity::Unknown { growth });
     }
     let late = look_on(alloc, leaper, &first, &mut walk, limit, observer)?;

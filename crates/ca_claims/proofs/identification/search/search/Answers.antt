@@ -1,4 +1,4 @@
-use Rattle.std.proofs.Common.{◌≡◌, ℕ, ◌+◌, ◌-◌, ◌≤◌, List, refl, sym, subst, arith}
+use Rattle.std.proofs.Common.{◌≡◌, ℕ, ◌+◌, ◌-◌, ◌≤◌, List, refl, sym, subst, ◌∙◌, arith}
 use Rattle.std.specs.Prelude.{ℤ}
 use Rattle.ca_plane.specs.Generations.{cells_after}
 use Rattle.ca_plane.specs.Plane.{Picture}
@@ -17,7 +17,7 @@ use Rattle.ca_claims.proofs.LeaptTrees.{shows_stays}
 use Rattle.ca_claims.proofs.Starts.{start_is_low}
 use Rattle.ca_claims.proofs.Stages.{first_walk, first_stays, walk_as, walk_stays, no_step, fewer_steps, steps_as, whole_search}
 use Rattle.ca_claims.proofs.identification.search.search.Goals as goal
-use Rattle.ca_claims.proofs.identification.search.search.Goals.{In_ok-soon, In_default-grown, In_default-late}
+use Rattle.ca_claims.proofs.identification.search.search.Goals.{In_ok-soon, In_default-grown, In_default-strided, In_default-late}
 
 -- ---- the first generations
 
@@ -44,7 +44,7 @@ early_takes old mid stages early begun limit few takes =
 leaps_take : (old mid leapt : ℕ) (stages : ℕ → ℤ → ℤ → ℕ) (early begun limit : ℕ) → early ≤ limit → TakesSteps old mid stages early (early - begun) → leapt ≤ mid + leap_work limit
     → TakesSearch old leapt stages limit
 leaps_take old mid leapt stages early begun limit few takes leaps =
-    whole_search old mid leapt leapt stages early limit few (fewer_steps old mid stages early (early - begun) early (omega arith) takes) leaps (no_step leapt leapt stages limit (limit - early) refl)
+    whole_search old mid leapt leapt stages early limit few (fewer_steps old mid stages early (early - begun) early (omega arith) takes) (omega (arith, leaps)) (no_step leapt leapt stages limit (limit - early) refl)
 
 pub look_on-requires-clause-walk : goal.look_on-requires-clause-walk
 look_on-requires-clause-walk g c =
@@ -95,7 +95,7 @@ returns-in-Some-grown-clause-takes g c =
     leaps_take _ _ _ (cells_after (g.A.Automaton.next_of c.args.leaper.now.rule) (cell c.args.leaper.now.nodes c.args.first.tree)) c.min-early.result c.from-walk.result.generations c.args.limit
     (omega (arith, c.min-early.ensures)) c.in_ok-soon.ensures.takes c.in_ok-grown.ensures.takes
 
--- ---- the generations that are left
+-- ---- strides
 
 module _ (g : _) (c : In_default-grown g) where
   -- how the leaper goes on till then
@@ -105,32 +105,26 @@ module _ (g : _) (c : In_default-grown g) where
   same_first : (x y : ℤ) → cell c.growth_by_leaps.new.leaper.nodes c.args.first.tree x y ≡ cell c.args.leaper.now.nodes c.args.first.tree x y
   same_first = trees_stay c.args.leaper.now.nodes c.growth_by_leaps.new.leaper.nodes c.store.ensures.sound on.grows c.args.first.tree c.requires.first.start.is_tree
 
-  -- what all takes, with the last steps
-  all_take : (new : ℕ) → TakesSteps c.growth_by_leaps.new.leaper.spent.used new (cells_after (g.A.Automaton.next_of c.growth_by_leaps.new.leaper.rule) (cell c.growth_by_leaps.new.leaper.nodes c.args.first.tree)) c.args.limit (c.args.limit - c.look_on.new.walk.generations)
+  -- what all takes, with strides
+  strides_take : (new : ℕ) → new ≤ c.growth_by_leaps.new.leaper.spent.used + leap_work c.args.limit
       → TakesSearch c.args.leaper.now.spent.used new (cells_after (g.A.Automaton.next_of c.args.leaper.now.rule) (cell c.args.leaper.now.nodes c.args.first.tree)) c.args.limit
-  all_take new takes =
-      let rules = g.A.Automaton.next_of in
-      let next = rules c.args.leaper.now.rule in
-      let p = cell c.args.leaper.now.nodes c.args.first.tree in
-      let q = cell c.growth_by_leaps.new.leaper.nodes c.args.first.tree in
+  strides_take new takes =
+      let stages = cells_after (g.A.Automaton.next_of c.args.leaper.now.rule) (cell c.args.leaper.now.nodes c.args.first.tree) in
       let limit = c.args.limit in
       let early = c.min-early.result in
-      let leapt = c.growth_by_leaps.new.leaper.spent.used in
-      let end = c.in_ok-soon.ensures.end c.in_default.is in
-      let here = subst (λ r. TakesSteps leapt new (cells_after (rules r) q) limit (limit - c.look_on.new.walk.generations)) on.rule takes in
-      let rest = steps_as leapt new (cells_after next p) (cells_after next q) limit (limit - c.look_on.new.walk.generations) (λ m x y. after_same next q p m same_first x y) here in
-      whole_search _ c.look_on.new.leaper.spent.used leapt new (cells_after next p) early limit (omega (arith, c.min-early.ensures))
-      (fewer_steps _ _ (cells_after next p) early (early - c.from-walk.result.generations) early (omega arith) c.in_ok-soon.ensures.takes) c.in_ok-grown.ensures.takes
-      (fewer_steps leapt new (cells_after next p) limit (limit - c.look_on.new.walk.generations) (limit - early) (omega (arith, end)) rest)
+      let leaps = c.in_ok-grown.ensures.takes in
+      whole_search _ c.look_on.new.leaper.spent.used new new stages early limit (omega (arith, c.min-early.ensures))
+      (fewer_steps _ _ stages early (early - c.from-walk.result.generations) early (omega arith) c.in_ok-soon.ensures.takes) (omega (arith, leaps, takes))
+      (no_step new new stages limit (limit - early) refl)
 
-pub look_on-requires-2-clause-first : goal.look_on-requires-2-clause-first
-look_on-requires-2-clause-first g c =
-    let a = (goal.at.look_on-requires-2-clause-first g c).In_default-grown in
+pub growth_by_strides-requires-clause-first : goal.growth_by_strides-requires-clause-first
+growth_by_strides-requires-clause-first g c =
+    let a = (goal.at.growth_by_strides-requires-clause-first g c).In_default-grown in
     first_stays c.args.leaper.now.nodes c.growth_by_leaps.new.leaper.nodes c.store.ensures.sound (on g a).grows c.args.first c.requires.first
 
-pub look_on-requires-2-clause-walk : goal.look_on-requires-2-clause-walk
-look_on-requires-2-clause-walk g c =
-    let a = (goal.at.look_on-requires-2-clause-walk g c).In_default-grown in
+pub growth_by_strides-requires-clause-walk : goal.growth_by_strides-requires-clause-walk
+growth_by_strides-requires-clause-walk g c =
+    let a = (goal.at.growth_by_strides-requires-clause-walk g c).In_default-grown in
     let rules = g.A.Automaton.next_of in
     let s1 = c.look_on.new.leaper.nodes in
     let s2 = c.growth_by_leaps.new.leaper.nodes in
@@ -140,37 +134,129 @@ look_on-requires-2-clause-walk g c =
     let stays = walk_stays (rules c.args.leaper.now.rule) p s1 s2 c.in_ok-soon.ensures.goes_on.grows.sound c.in_ok-grown.ensures.goes_on.grows walk (c.in_ok-soon.ensures.walk c.in_default.is) in
     subst (λ r. IsWalk (rules r) (cell s2 tree) s2 walk) (sym (on g a).rule) (walk_as (rules c.args.leaper.now.rule) p (cell s2 tree) s2 walk (λ x y. sym (same_first g a x y)) stays)
 
+pub growth_by_strides-requires-clause-within : goal.growth_by_strides-requires-clause-within
+growth_by_strides-requires-clause-within g c =
+    let end = c.in_ok-soon.ensures.end c.in_default.is in
+    omega (arith, end, c.min-early.ensures)
+
+pub returns-in_err-strided-clause-takes : goal.returns-in_err-strided-clause-takes
+returns-in_err-strided-clause-takes g c =
+    strides_take g (goal.at.returns-in_err-strided-clause-takes g c).In_default-grown c.growth_by_strides.new.leaper.spent.used c.growth_by_strides.ensures.takes
+
+pub returns-in-Some-strided-clause-takes : goal.returns-in-Some-strided-clause-takes
+returns-in-Some-strided-clause-takes g c =
+    strides_take g (goal.at.returns-in-Some-strided-clause-takes g c).In_default-grown c.growth_by_strides.new.leaper.spent.used c.growth_by_strides.ensures.takes
+
+pub returns-in-Some-strided-clause-identity : goal.returns-in-Some-strided-clause-identity
+returns-in-Some-strided-clause-identity g c = λ cells shows.
+    let a = (goal.at.returns-in-Some-strided-clause-identity g c).In_default-grown in
+    let rules = g.A.Automaton.next_of in
+    let shown = shows_stays c.args.leaper.now.nodes c.growth_by_leaps.new.leaper.nodes c.store.ensures.sound (on g a).grows c.args.first.tree cells c.requires.first.start.is_tree shows in
+    let told = rw c.in-Some-strided.is at (c.in_ok-strided.ensures.growth cells shown) in
+    subst (λ r. IsIdentity (rules r) cells c.args.limit (Unknown c.in-Some-strided.growth)) (on g a).rule told
+
+-- ---- the generations that are left
+
+module _ (g : _) (c : In_default-strided g) where
+  -- how the leaper goes on till then
+  pub on_strides : LeaperGrows _ c.args.leaper.now c.growth_by_strides.new.leaper
+  on_strides =
+      goes_on_again _ c.args.leaper.now c.growth_by_leaps.new.leaper c.growth_by_strides.new.leaper
+      (goes_on_again _ c.args.leaper.now c.look_on.new.leaper c.growth_by_leaps.new.leaper c.in_ok-soon.ensures.goes_on c.in_ok-grown.ensures.goes_on) c.in_ok-strided.ensures.goes_on
+
+  pub first_then : (x y : ℤ) → cell c.growth_by_strides.new.leaper.nodes c.args.first.tree x y ≡ cell c.args.leaper.now.nodes c.args.first.tree x y
+  first_then = trees_stay c.args.leaper.now.nodes c.growth_by_strides.new.leaper.nodes c.store.ensures.sound on_strides.grows c.args.first.tree c.requires.first.start.is_tree
+
+  -- what all takes, with the last steps
+  all_take : (new : ℕ)
+      → TakesSteps c.growth_by_strides.new.leaper.spent.used new
+      (cells_after (g.A.Automaton.next_of c.growth_by_strides.new.leaper.rule) (cell c.growth_by_strides.new.leaper.nodes c.args.first.tree)) c.args.limit
+      (c.args.limit - c.growth_by_strides.new.walk.generations)
+      → TakesSearch c.args.leaper.now.spent.used new (cells_after (g.A.Automaton.next_of c.args.leaper.now.rule) (cell c.args.leaper.now.nodes c.args.first.tree)) c.args.limit
+  all_take new takes =
+      let rules = g.A.Automaton.next_of in
+      let next = rules c.args.leaper.now.rule in
+      let p = cell c.args.leaper.now.nodes c.args.first.tree in
+      let q = cell c.growth_by_strides.new.leaper.nodes c.args.first.tree in
+      let limit = c.args.limit in
+      let early = c.min-early.result in
+      let leapt = c.growth_by_strides.new.leaper.spent.used in
+      let left = limit - c.growth_by_strides.new.walk.generations in
+      let end = c.in_ok-soon.ensures.end c.in_default.is in
+      let begun = c.in_ok-strided.ensures.begun in
+      let leaps = c.in_ok-grown.ensures.takes in
+      let strides = c.in_ok-strided.ensures.takes in
+      let here = subst (λ r. TakesSteps leapt new (cells_after (rules r) q) limit left) on_strides.rule takes in
+      let rest = steps_as leapt new (cells_after next p) (cells_after next q) limit left (λ m x y. after_same next q p m first_then x y) here in
+      whole_search _ c.look_on.new.leaper.spent.used leapt new (cells_after next p) early limit (omega (arith, c.min-early.ensures))
+      (fewer_steps _ _ (cells_after next p) early (early - c.from-walk.result.generations) early (omega arith) c.in_ok-soon.ensures.takes) (omega (arith, leaps, strides))
+      (fewer_steps leapt new (cells_after next p) limit left (limit - early) (omega (arith, end, begun)) rest)
+
+pub look_on-requires-2-clause-first : goal.look_on-requires-2-clause-first
+look_on-requires-2-clause-first g c =
+    let a = (goal.at.look_on-requires-2-clause-first g c).In_default-strided in
+    first_stays c.args.leaper.now.nodes c.growth_by_strides.new.leaper.nodes c.store.ensures.sound (on_strides g a).grows c.args.first c.requires.first
+
+pub look_on-requires-2-clause-walk : goal.look_on-requires-2-clause-walk
+look_on-requires-2-clause-walk g c =
+    let a = (goal.at.look_on-requires-2-clause-walk g c).In_default-strided in
+    let b = (goal.at.look_on-requires-2-clause-walk g c).In_default-grown in
+    let rules = g.A.Automaton.next_of in
+    let tree = c.args.first.tree in
+    let s2 = c.growth_by_leaps.new.leaper.nodes in
+    let s3 = c.growth_by_strides.new.leaper.nodes in
+    let walk = c.growth_by_strides.new.walk in
+    let told = subst (λ r. IsWalk (rules r) (cell s2 tree) s3 walk) (on g b).rule c.in_ok-strided.ensures.walk in
+    subst (λ r. IsWalk (rules r) (cell s3 tree) s3 walk) (sym (on_strides g a).rule)
+    (walk_as (rules c.args.leaper.now.rule) (cell s2 tree) (cell s3 tree) s3 walk (λ x y. same_first g b x y ∙ sym (first_then g a x y)) told)
+
 pub returns-in_err-late-clause-takes : goal.returns-in_err-late-clause-takes
-returns-in_err-late-clause-takes g c = all_take g (goal.at.returns-in_err-late-clause-takes g c).In_default-grown c.look_on-2.new.leaper.spent.used c.in_err-late.ensures.takes
+returns-in_err-late-clause-takes g c = all_take g (goal.at.returns-in_err-late-clause-takes g c).In_default-strided c.look_on-2.new.leaper.spent.used c.in_err-late.ensures.takes
 
 pub returns-in-Some-late-clause-takes : goal.returns-in-Some-late-clause-takes
-returns-in-Some-late-clause-takes g c = all_take g (goal.at.returns-in-Some-late-clause-takes g c).In_default-grown c.look_on-2.new.leaper.spent.used c.in_ok-late.ensures.takes
+returns-in-Some-late-clause-takes g c = all_take g (goal.at.returns-in-Some-late-clause-takes g c).In_default-strided c.look_on-2.new.leaper.spent.used c.in_ok-late.ensures.takes
 
 pub returns-in_err-growth-clause-takes : goal.returns-in_err-growth-clause-takes
-returns-in_err-growth-clause-takes g c = all_take g (goal.at.returns-in_err-growth-clause-takes g c).In_default-grown c.look_on-2.new.leaper.spent.used c.in_ok-late.ensures.takes
+returns-in_err-growth-clause-takes g c = all_take g (goal.at.returns-in_err-growth-clause-takes g c).In_default-strided c.look_on-2.new.leaper.spent.used c.in_ok-late.ensures.takes
+
+pub returns-in-Some-strided-clause-goes_on : goal.returns-in-Some-strided-clause-goes_on
+returns-in-Some-strided-clause-goes_on g c =
+    goes_on_again _ c.args.leaper.now c.growth_by_leaps.new.leaper c.growth_by_strides.new.leaper (on g (goal.at.returns-in-Some-strided-clause-goes_on g c).In_default-grown) c.growth_by_strides.ensures.goes_on
+
+pub returns-in_err-late-clause-goes_on : goal.returns-in_err-late-clause-goes_on
+returns-in_err-late-clause-goes_on g c =
+    goes_on_again _ c.args.leaper.now c.growth_by_strides.new.leaper c.look_on-2.new.leaper (on_strides g (goal.at.returns-in_err-late-clause-goes_on g c).In_default-strided) c.look_on-2.ensures.goes_on
+
+pub returns-in-Some-late-clause-goes_on : goal.returns-in-Some-late-clause-goes_on
+returns-in-Some-late-clause-goes_on g c =
+    goes_on_again _ c.args.leaper.now c.growth_by_strides.new.leaper c.look_on-2.new.leaper (on_strides g (goal.at.returns-in-Some-late-clause-goes_on g c).In_default-strided) c.look_on-2.ensures.goes_on
+
+pub returns-in_err-growth-clause-goes_on : goal.returns-in_err-growth-clause-goes_on
+returns-in_err-growth-clause-goes_on g c =
+    goes_on_again _ c.args.leaper.now c.growth_by_strides.new.leaper c.look_on-2.new.leaper (on_strides g (goal.at.returns-in_err-growth-clause-goes_on g c).In_default-strided) c.look_on-2.ensures.goes_on
 
 pub returns-clause-takes : goal.returns-clause-takes
-returns-clause-takes g c = all_take g (goal.at.returns-clause-takes g c).In_default-grown c.look_on-2.new.leaper.spent.used c.in_ok-late.ensures.takes
+returns-clause-takes g c = all_take g (goal.at.returns-clause-takes g c).In_default-strided c.look_on-2.new.leaper.spent.used c.in_ok-late.ensures.takes
 
 pub returns-in-Some-late-clause-identity : goal.returns-in-Some-late-clause-identity
 returns-in-Some-late-clause-identity g c = λ cells shows.
-    let a = (goal.at.returns-in-Some-late-clause-identity g c).In_default-grown in
+    let a = (goal.at.returns-in-Some-late-clause-identity g c).In_default-strided in
     let rules = g.A.Automaton.next_of in
-    let shown = shows_stays c.args.leaper.now.nodes c.growth_by_leaps.new.leaper.nodes c.store.ensures.sound (on g a).grows c.args.first.tree cells c.requires.first.start.is_tree shows in
+    let shown = shows_stays c.args.leaper.now.nodes c.growth_by_strides.new.leaper.nodes c.store.ensures.sound (on_strides g a).grows c.args.first.tree cells c.requires.first.start.is_tree shows in
     let ending = rw c.in-Some-late.is at (c.in_ok-late.ensures.ending cells shown) in
     c.identity_of-in-Some-late.ensures (rules c.args.leaper.now.rule) cells c.args.limit (rw c.in-Some-late.is at c.in_ok-late.ensures.time) c.requires.most
-    (subst (λ r. IsEnding (rules r) cells c.in-Some-late.ending) (on g a).rule ending)
+    (subst (λ r. IsEnding (rules r) cells c.in-Some-late.ending) (on_strides g a).rule ending)
 
 -- ---- none of all generations
 
-module _ (g : _) (c : In_default-late g) (on_till : LeaperGrows _ c.args.leaper.now c.growth_by_leaps.new.leaper) where
+module _ (g : _) (c : In_default-late g) (on_till : LeaperGrows _ c.args.leaper.now c.growth_by_strides.new.leaper) where
   -- what was looked at, over the first cells as they were
   pub last_walk : IsWalk (g.A.Automaton.next_of c.args.leaper.now.rule) (cell c.args.leaper.now.nodes c.args.first.tree) c.look_on-2.new.leaper.nodes c.look_on-2.new.walk
   last_walk =
       let rules = g.A.Automaton.next_of in
       let tree = c.args.first.tree in
       let s0 = c.args.leaper.now.nodes in
-      let s2 = c.growth_by_leaps.new.leaper.nodes in
+      let s2 = c.growth_by_strides.new.leaper.nodes in
       let s3 = c.look_on-2.new.leaper.nodes in
       let walk = c.look_on-2.new.walk in
       walk_as (rules c.args.leaper.now.rule) (cell s2 tree) (cell s0 tree) s3 walk (trees_stay s0 s2 c.store.ensures.sound on_till.grows tree c.requires.first.start.is_tree)
@@ -180,7 +266,7 @@ pub growth_of-requires-clause-low : goal.growth_of-requires-clause-low
 growth_of-requires-clause-low g c =
     let a = goal.at.growth_of-requires-clause-low g c in
     let next = g.A.Automaton.next_of c.args.leaper.now.rule in
-    let walk = last_walk g a.In_default-late (on g a.In_default-grown) in
+    let walk = last_walk g a.In_default-late (on_strides g a.In_default-strided) in
     let end = c.in_ok-late.ensures.end c.in_default-late.is in
     let quiet = g.met.A.Automaton.quiet c.args.leaper.now.rule c.store.ensures.rule in
     let tree = c.look_on-2.new.walk.tree in
@@ -191,7 +277,7 @@ pub growth_of-requires-clause-live : goal.growth_of-requires-clause-live
 growth_of-requires-clause-live g c =
     let a = goal.at.growth_of-requires-clause-live g c in
     let next = g.A.Automaton.next_of c.args.leaper.now.rule in
-    let walk = last_walk g a.In_default-late (on g a.In_default-grown) in
+    let walk = last_walk g a.In_default-late (on_strides g a.In_default-strided) in
     let end = c.in_ok-late.ensures.end c.in_default-late.is in
     let tree = c.look_on-2.new.walk.tree in
     subst (λ s. HasLive (cell s tree)) (sym c.store-3.ensures.nodes)
@@ -202,7 +288,7 @@ returns-clause-identity g c = λ cells shows.
     let a = goal.at.returns-clause-identity g c in
     let next = g.A.Automaton.next_of c.args.leaper.now.rule in
     let p = cell c.args.leaper.now.nodes c.args.first.tree in
-    let walk = last_walk g a.In_default-late (on g a.In_default-grown) in
+    let walk = last_walk g a.In_default-late (on_strides g a.In_default-strided) in
     let end = c.in_ok-late.ensures.end c.in_default-late.is in
     let new = c.look_on-2.new.leaper.nodes in
     let tree = c.look_on-2.new.walk.tree in
@@ -211,4 +297,4 @@ returns-clause-identity g c = λ cells shows.
 
 pub returns-clause-goes_on : goal.returns-clause-goes_on
 returns-clause-goes_on g c =
-    goes_on_again _ c.args.leaper.now c.growth_by_leaps.new.leaper c.look_on-2.new.leaper (on g (goal.at.returns-clause-goes_on g c).In_default-grown) c.look_on-2.ensures.goes_on
+    goes_on_again _ c.args.leaper.now c.growth_by_strides.new.leaper c.look_on-2.new.leaper (on_strides g (goal.at.returns-clause-goes_on g c).In_default-strided) c.look_on-2.ensures.goes_on

@@ -1,0 +1,229 @@
+//! How a pattern's plane is looked at by strides of many generations. Where the pattern is back within one, the
+//! plane at the stride's end is one of the first planes, moved: so one leap and some comparisons stand for a look
+//! at each of its generations.
+
+ghost use Rattle.std.specs.Prelude.{◌≡◌, ◌+◌, ◌≤◌, ◌<◌, ℕ, length, slice_get, Some, IfOk, IfSome, OnOk};
+ghost use Rattle.std.specs.Prelude.{IsFalse, MatchOption};
+ghost use Rattle.ca_plane.specs.Plane.{Picture};
+ghost use Rattle.ca_plane.specs.Generations.{cells_after};
+ghost use Rattle.ca_plane.specs.Limits.{longest_period};
+ghost use Rattle.ca_quad.specs.Boxes.{AreSquareBoxes};
+ghost use Rattle.ca_quad.specs.Trees.{cell};
+ghost use Rattle.ca_run.specs.Leaping.{LeaperGrows, EndsAtLimit};
+ghost use Rattle.ca_claims.specs.Identified.{IsIdentity};
+ghost use Rattle.ca_claims.specs.declared.identity.Identity.TheVariants.{Unknown};
+ghost use Rattle.ca_claims.specs.declared.identification.stage.First.{First};
+ghost use Rattle.ca_claims.specs.inner.Stages.{IsFirst, AreEarly, AreMovedNowhere, IsMovedFromPlane};
+ghost use Rattle.ca_claims.specs.inner.Stages.{IsStride, IsWalk, leap_work};
+ghost use Rattle.ca_claims.specs.inner.Subjects.{IsNearTree, HasLive, ShowsTree};
+
+use super::early::early_planes;
+use super::later::later_tree;
+use super::leaps::growth_after;
+use super::stage::{First, Stage, stage_of};
+use super::walk::Walk;
+use crate::decide::is_dead;
+use crate::identity::Growth;
+use crate::observer::Observer;
+use ca_plane::Automaton;
+use ca_quad::{SquareBoxes, Tree};
+use ca_run::{LeapFault, Leaper, Unwatched};
+use std::alloc::Global;
+
+// How many units of work strides may take for each generation up to the limit. They take no more than half of what
+// is left.
+const SHARE: u64 = 1024;
+
+/// What a stride shows.
+#[derive(Drop)]
+pub(super) enum Stride {
+    /// The tree at its end: after none of its generations the plane was dead, or the pattern there again.
+    On(Tree),
+    /// The pattern is there again at no time.
+    Never,
+    /// After some of its generations it may be, or the plane may be dead.
+    Perhaps,
+}
+
+/// Goes on from where a walk is by strides, as far as these show that the pattern isn't back and the plane isn't
+/// dead, and a share of the work is enough for them. Where they show that the pattern is never back, it gives how far
+/// the plane has grown after as many generations as the limit.
+pub(super) fn growth_by_strides<A: Automaton, O: Observer>(
+    alloc: Global,
+    leaper: &mut Leaper<A>,
+    first: &First,
+    walk: &mut Walk,
+    limit: u64,
+    observer: &mut O,
+) -> Result<Option<Growth>, LeapFault>
+    requires first { IsFirst leaper.old.nodes first.now }
+    requires walk { IsWalk (A.next_of leaper.old.rule) (cell leaper.old.nodes first.now.tree)
+        leaper.old.nodes walk.old }
+    requires within { walk.old.generations ≤ limit }
+    requires most { limit ≤ longest_period }
+    ensures growth { (cells : Picture) → ShowsTree leaper.old.nodes first.now.tree cells
+        → IfOk result (λ found. IfSome found
+        (λ growth. IsIdentity (A.next_of leaper.old.rule) cells limit (Unknown growth))) }
+    ensures walk { IsWalk (A.next_of leaper.old.rule) (cell leaper.old.nodes first.now.tree)
+        leaper.new.nodes walk.new }
+    ensures begun { walk.old.generations ≤ walk.new.generations }
+    ensures within { walk.new.generations ≤ limit }
+    ensures goes_on { LeaperGrows A leaper.old leaper.new }
+    ensures takes { leaper.new.spent.used ≤ leaper.old.spent.used + leap_work limit }
+    ensures work { EndsAtLimit leaper.new.spent result }
+{
+    // Says what holds of every leaper.
+    let _ = leaper.store();
+    let most = leaper.work_limit();
+    let used = leaper.used();
+    let share = (limit * SHARE).min((most - used) / 2);
+    leaper.limit_work(used + share);
+    let grown = stride_on(alloc, leaper, first, walk, limit, observer);
+    leaper.limit_work(most);
+    match grown {
+        Err(LeapFault::Work) => Ok(None),
+        other => other,
+    }
+}
+
+// The same, as far as the work goes.
+fn stride_on<A: Automaton, O: Observer>(
+    alloc: Global,
+    leaper: &mut Leaper<A>,
+    first: &First,
+    walk: &mut Walk,
+    limit: u64,
+    observer: &mut O,
+) -> Result<Option<Growth>, LeapFault>
+    requires first { IsFirst leaper.old.nodes first.now }
+    requires walk { IsWalk (A.next_of leaper.old.rule) (cell leaper.old.nodes first.now.tree)
+        leaper.old.nodes walk.old }
+    requires within { walk.old.generations ≤ limit }
+    requires most { limit ≤ longest_period }
+    ensures growth { (cells : Picture) → ShowsTree leaper.old.nodes first.now.tree cells
+        → IfOk result (λ found. IfSome found
+        (λ growth. IsIdentity (A.next_of leaper.old.rule) cells limit (Unknown growth))) }
+    ensures walk { IsWalk (A.next_of leaper.old.rule) (cell leaper.old.nodes first.now.tree)
+        leaper.new.nodes walk.new }
+    ensures begun { walk.old.generations ≤ walk.new.generations }
+    ensures within { walk.new.generations ≤ limit }
+    ensures goes_on { LeaperGrows A leaper.old leaper.new }
+{
+    // Says what holds of every leaper.
+    let _ = leaper.store();
+    let early = early_planes(alloc, leaper, first, walk.generations)?;
+    if early.is_empty() {
+        return Ok(None);
+    }
+    let mut boxes = SquareBoxes::new(alloc);
+    'strides: while walk.generations < limit {
+        let end = (walk.generations + early.len() as u64).min(limit);
+        observer.goes_to(end);
+        match stride_to(alloc, leaper, first, &early, walk, end, &mut boxes)? {
+            Stride::On(tree) => {
+                walk.tree = tree;
+                walk.generations = end;
+            }
+            Stride::Never => return growth_after(alloc, leaper, first, limit),
+            Stride::Perhaps => return Ok(None),
+        }
+    }
+    Ok(None)
+}
+
+// What a stride from where a walk is shows, of no more generations than there are first planes.
+fn stride_to<A: Automaton>(
+    alloc: Global,
+    leaper: &mut Leaper<A>,
+    first: &First,
+    early: &[First],
+    walk: &Walk,
+    end: u64,
+    boxes: &mut SquareBoxes,
+) -> Result<Stride, LeapFault>
+    requires first { IsFirst leaper.old.nodes first.now }
+    requires early { AreEarly (A.next_of leaper.old.rule) (cell leaper.old.nodes first.now.tree)
+        leaper.old.nodes early.now }
+    requires walk { IsWalk (A.next_of leaper.old.rule) (cell leaper.old.nodes first.now.tree)
+        leaper.old.nodes walk.now }
+    requires more { walk.now.generations < end }
+    requires near { end ≤ walk.now.generations + length early.now }
+    requires most { end ≤ longest_period }
+    requires boxes { AreSquareBoxes leaper.old.nodes boxes.old }
+    ensures stride { IfOk result (IsStride (A.next_of leaper.old.rule)
+        (cell leaper.old.nodes first.now.tree) end leaper.new.nodes) }
+    ensures boxes { OnOk result (AreSquareBoxes leaper.new.nodes boxes.new) }
+    ensures goes_on { LeaperGrows A leaper.old leaper.new }
+{
+    // Says what holds of every leaper.
+    let _ = leaper.store();
+    let steps = end - walk.generations;
+    let later = later_tree(leaper, walk.tree, steps, &mut Unwatched)?;
+    if is_dead(leaper.store(), &later) {
+        return Ok(Stride::Perhaps);
+    }
+    let Some(before) = plane_before(alloc, leaper, &early[..steps as usize], &later, boxes)? else {
+        return Ok(Stride::On(later));
+    };
+    if may_be_back(alloc, leaper, first, end - before as u64, boxes)? {
+        return Ok(Stride::Perhaps);
+    }
+    Ok(Stride::Never)
+}
+
+// By which of some planes, counted from 0, a live tree's plane is that plane, moved, if it is one of them.
+fn plane_before<A: Automaton>(
+    alloc: Global,
+    leaper: &mut Leaper<A>,
+    early: &[First],
+    later: &Tree,
+    boxes: &mut SquareBoxes,
+) -> Result<Option<usize>, LeapFault>
+    requires early { (k : ℕ) (plane : First) → slice_get early.now k ≡ Some plane → IsFirst leaper.old.nodes plane }
+    requires later { IsNearTree leaper.old.nodes later.now }
+    requires live { HasLive (cell leaper.old.nodes later.now) }
+    requires boxes { AreSquareBoxes leaper.old.nodes boxes.old }
+    ensures before { IfOk result (λ found. MatchOption found
+        ((k : ℕ) (plane : First) → slice_get early.now k ≡ Some plane
+        → AreMovedNowhere (cell leaper.old.nodes plane.tree) (cell leaper.old.nodes later.now))
+        (IsMovedFromPlane leaper.old.nodes early.now (cell leaper.old.nodes later.now))) }
+    ensures boxes { OnOk result (AreSquareBoxes leaper.new.nodes boxes.new) }
+    ensures goes_on { LeaperGrows A leaper.old leaper.new }
+{
+    // Says what holds of every leaper.
+    let _ = leaper.store();
+    'planes: for index in 0..early.len() {
+        match stage_of(alloc, leaper, &early[index], later, boxes)? {
+            Stage::Other => {}
+            Stage::Back { .. } => return Ok(Some(index)),
+            Stage::Empty => unreachable!(),
+        }
+    }
+    Ok(None)
+}
+
+// Whether a pattern may be back after so many generations: where not, it isn't.
+fn may_be_back<A: Automaton>(
+    alloc: Global,
+    leaper: &mut Leaper<A>,
+    first: &First,
+    generations: u64,
+    boxes: &mut SquareBoxes,
+) -> Result<bool, LeapFault>
+    requires first { IsFirst leaper.old.nodes first.now }
+    requires few { generations ≤ longest_period }
+    requires boxes { AreSquareBoxes leaper.old.nodes boxes.old }
+    ensures nowhere { IfOk result (λ back. IsFalse back
+        → AreMovedNowhere (cell leaper.old.nodes first.now.tree)
+        (cells_after (A.next_of leaper.old.rule) (cell leaper.old.nodes first.now.tree) generations)) }
+    ensures boxes { OnOk result (AreSquareBoxes leaper.new.nodes boxes.new) }
+    ensures goes_on { LeaperGrows A leaper.old leaper.new }
+{
+    // Says what holds of every leaper.
+    let _ = leaper.store();
+    let tree = later_tree(leaper, first.tree, generations, &mut Unwatched)?;
+    match stage_of(alloc, leaper, first, &tree, boxes)? {
+        Stage::Other => Ok(false),
+        Stage::Empty | Stage::Back { .. } => Ok(true),
+    }
+}
