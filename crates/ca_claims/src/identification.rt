@@ -1,4 +1,4 @@
-//! What a pattern is: its first generations are looked at one by one, then leaps are made.
+//! What a pattern is: its first generations are looked at one by one, then leaps are made, then strides.
 
 ghost use Rattle.std.specs.Prelude.{◌≡◌, ◌≤◌, IfOk, IfErr};
 ghost use Rattle.ca_plane.specs.Plane.{Picture};
@@ -52,7 +52,7 @@ const OUT_OF_MEMORY: DetailedFault<Cause> = DetailedFault {
 /// claim about it that is true of those that name one pattern (`still`, `oscillator`, `spaceship`, `dies`);
 /// or that none is whose period or generations are from 1 to the limit, and how far the plane has grown then.
 /// The limit is from 1 to 4294967295 generations. The observer sees each generation of the pattern that is
-/// looked at by itself, no leap, and no line.
+/// looked at by itself, and the end of each stride; no leap, and no line.
 ///
 /// # Errors
 ///
