@@ -39,9 +39,13 @@ SOUPS = (
 # Patterns of examples/ that are back at no time, the cells and the box that they have after 65536 generations (by Golly), and the units of work by which
 # `identify` tells so. It leaps: one that looks at each generation takes many times as many, and those that leaps may take are a quarter of what is left.
 NEVER_BACK = (
-    ("gun", "10964 cells, in a box of 16402 by 16389", 22200),
-    ("r_pentomino", "116 cells, in a box of 32717 by 32741", 45243),
+    ("gun", "10964 cells, in a box of 16402 by 16389", 14038),
+    ("r_pentomino", "116 cells, in a box of 32717 by 32741", 35247),
 )
+
+# A pattern of examples/ whose period is long, as it is known, and the units of work by which `identify` finds it. It goes by strides: one that looks at each
+# generation takes many times as many.
+LONG_PERIOD = ("period_57960", 57960, 24566)
 
 
 def judge(tally, name, text, memo, units):
@@ -74,12 +78,17 @@ def try_soups(tally, folder):
 
 
 def try_identification(tally):
-    """What is back at no time."""
+    """What is back at no time, and what is back late."""
     for name, grown, units in NEVER_BACK:
         path = f"examples/{name}.rle"
         words = ["identify", "--work", str(units + units // 10), path]
         told = f"claims 2\nload {name} {path}\n# {name}: none of these within 65536 generations: {grown}, after 65536\n"
         tally.expect(f"{name} is back at no time: {units} units", run(words), Outcome(told.encode(), b"", 0))
+    name, period, units = LONG_PERIOD
+    path = f"examples/{name}.rle"
+    words = ["identify", "--work", str(units + units // 10), path]
+    told = f"claims 2\nload {name} {path}\noscillator {name} {period}\n"
+    tally.expect(f"{name} is back late: {units} units", run(words), Outcome(told.encode(), b"", 0))
 
 
 def main():

@@ -33,7 +33,7 @@ const FAR: u64 = 64;
 // more than a quarter of what is left.
 const SHARE: u64 = 1024;
 
-const MOST_SHARE: u64 = 1 << 17;
+const MOST_SHARE: u64 = 1 << 20;
 
 /// How far the plane of a pattern has grown after as many generations as the limit, where leaps show that the
 /// pattern is none of what can be claimed up to then, and a share of the work is enough for them. It is known
