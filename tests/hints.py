@@ -64,10 +64,9 @@ def try_texts(tally, files):
     several = Outcome(b"examples/block.claims: line 2: yes\n", f"cafile: {path}: claims line 1: syntax\n  try: cafile identify {path}\n".encode(), 2)
     tally.expect("with another text", run(["verify", "--explain", path, "examples/block.claims"]), several)
     tally.expect("with another text, on a terminal", on_a_terminal(["verify", path, "examples/block.claims"]), several)
-    for name, spelled in (("a\x1b[2J.rle", "a\\x1b[2J.rle"), ("b\u0085.rle", "b\\xc2\\x85.rle")):
-        path = files.path(name, GLIDER)
-        told = f"cafile: claims line 1: syntax\n  try: cafile identify {os.path.join(files.folder, spelled)}\n"
-        tally.expect(f"a path that is spelled out, {spelled}", run(["verify", "--explain", path]), Outcome(b"", told.encode(), 2))
+    for name in ("a\x1b[2J.rle", "b\u0085.rle", "c;reboot", "$(d)"):
+        told = b"cafile: claims line 1: syntax\n  try: cafile identify FILE\n"
+        tally.expect(f"a path that a shell would take otherwise, {name!r}", run(["verify", "--explain", files.path(name, GLIDER)]), Outcome(b"", told, 2))
     # `identify` takes no such path
     for path in (files.path("my glider.rle", GLIDER), "-"):
         tally.expect(f"a path that no claim text names, {os.path.basename(path)}", run(["verify", "--explain", path], input=GLIDER), fault("claims line 1: syntax"))

@@ -8,7 +8,7 @@ import subprocess
 import tempfile
 
 from lib import remedies
-from lib.program import Folder, Outcome, Tally, escaped, fault as refused, lines_outcome, run
+from lib.program import Folder, Outcome, Tally, escaped, fault as refused, file_word, lines_outcome, run
 
 GOOD = b"x = 3, y = 3, rule = B3/S23\nbo$2bo$3o!\n"
 
@@ -94,7 +94,7 @@ def try_mistake(tally, folder, name, data, fault, mended):
 
 def last_line(path, words):
     """The line that says what helps, of the file of a path."""
-    return b"" if words is None else b"  try: " + words.replace(b"FILE", escaped(os.fsencode(path))) + b"\n"
+    return b"" if words is None else b"  try: " + words.replace(b"FILE", file_word(os.fsencode(path))) + b"\n"
 
 
 def try_explained(tally, name, path, fault, words):
@@ -131,8 +131,8 @@ def try_seeming(tally, folder):
 
 
 def try_paths(tally, folder):
-    """Control characters of a path are spelled out in what helps."""
-    for name in (b"a\x1b[2J", b"b\x7f", b"c\xc2\x9b", b"\xc3\xa9", b"d\\x1b"):
+    """A path with a byte that a shell doesn't take as it stands is the word FILE in what helps."""
+    for name in (b"a\x1b[2J", b"b\x7f", b"c\xc2\x9b", b"\xc3\xa9", b"d\\x1b", b"e;f", b"$(g)", b"`h`", b"i*", b"j'", b"k&l", b"m>n", b"o~p", b"{q,r}", b"-s,t:u=v@w_x.y+Z"):
         path = os.path.join(folder, os.fsdecode(name))
         for data, words in ((gzip.compress(GOOD), b"gunzip -c FILE"), (b"\xef\xbb\xbf" + GOOD, rb"sed '1s/^\xef\xbb\xbf//' FILE"), (b"#C\rx", rb"tr '\r' '\n' < FILE")):
             put(path, data)

@@ -39,6 +39,11 @@ def escaped(text):
     return re.sub(rb"\xc2[\x80-\x9f]|[\x00-\x1f\x7f]", lambda found: b"".join(b"\\x%02x" % it for it in found[0]), text)
 
 
+def file_word(path):
+    """A path as it stands in a command that the program tells: itself where a shell takes each of its bytes as it stands, and else FILE."""
+    return path if re.fullmatch(rb"[0-9A-Za-z+,./:=@_-]*", path) else b"FILE"
+
+
 def ample(text):
     """The outcome of a run that prints this."""
     return Outcome(text, b"", 0)

@@ -3,7 +3,7 @@ import functools
 import os
 import re
 
-from lib.program import ROOT, escaped
+from lib.program import ROOT, escaped, file_word
 
 
 @functools.cache
@@ -65,7 +65,7 @@ def line(told, path, data=b"", rule=b"", before=b""):
     remedy = words(told, data, rule)
     if remedy is None:
         return b""
-    return before + b"  try: " + remedy.encode().replace(b"FILE", escaped(path)).replace(b"NAME", escaped(rule)) + b"\n"
+    return before + b"  try: " + remedy.encode().replace(b"FILE", file_word(path)).replace(b"NAME", escaped(rule)) + b"\n"
 
 
 def line_of(verdict, note, before=b""):

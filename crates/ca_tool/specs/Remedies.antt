@@ -1,6 +1,6 @@
 -- What helps where a file is refused: the line `  try: ` that ends an explanation (our own; the table of docs/CLAIMS.md, "What to do").
-use Rattle.std.specs.Prelude.{ℕ, List, [], ◌∷◌, ◌++◌, Bool, not, ◌&&◌, ◌||◌, codes, nat_eq, if◌then◌else◌, Option, None, Some, Vec}
-use Rattle.std.specs.List.{list_any, starts_with}
+use Rattle.std.specs.Prelude.{ℕ, List, [], ◌∷◌, ◌++◌, Bool, not, ◌&&◌, ◌||◌, codes, nat_eq, nat_le, if◌then◌else◌, Option, None, Some, Vec}
+use Rattle.std.specs.List.{list_all, list_any, starts_with}
 use Rattle.std.specs.Str.{bytes_eq}
 use Rattle.std.specs.declared.alloc.Global.{Global}
 use Rattle.ca_rle.specs.declared.fault.RleFault.TheVariants as rle
@@ -79,12 +79,20 @@ abbrev pub rule_name : Option (Vec ℕ Global) → List ℕ
 rule_name None = []
 rule_name (Some text) = text.items
 
+-- a byte that a shell takes as it stands: a letter, a digit or one of `+ , - . / : = @ _`
+abbrev pub is_plain_byte : ℕ → Bool
+is_plain_byte b = (nat_le 43 b && nat_le b 58) || (nat_eq b 61 || (nat_le 64 b && nat_le b 90) || (nat_eq b 95 || (nat_le 97 b && nat_le b 122)))
+
+-- a path as it may stand in a command that a reader may copy: where a shell takes each of its bytes as it stands; else the word FILE
+abbrev pub file_word : List ℕ → List ℕ
+file_word path = if list_all is_plain_byte path then path else codes "FILE"
+
 -- what helps in words, for the file of a path, whose rule text is this
 abbrev pub remedy_text : Remedy → List ℕ → Option (Vec ℕ Global) → List ℕ
-remedy_text DropMark path text = codes "sed '1s/^\\xef\\xbb\\xbf//' " ++ escaped path
-remedy_text Unpack path text = codes "gunzip -c " ++ escaped path
+remedy_text DropMark path text = codes "sed '1s/^\\xef\\xbb\\xbf//' " ++ file_word path
+remedy_text Unpack path text = codes "gunzip -c " ++ file_word path
 remedy_text SaveAsRle path text = codes "open it in Golly and save it as RLE"
-remedy_text BreakLines path text = codes "tr '\\r' '\\n' < " ++ escaped path
+remedy_text BreakLines path text = codes "tr '\\r' '\\n' < " ++ file_word path
 remedy_text WriteHeader path text = codes "write the header as x = 3, y = 3, rule = B3/S23"
 remedy_text WriteEnd path text = codes "get the file again, or put ! at its end"
 remedy_text FindByte path text = codes "look for bytes other than b o . $ !, A to X, p to y and digits"
@@ -124,5 +132,5 @@ seems_pattern bytes = begins bytes (codes "[M2]") || (begins bytes (codes "x =")
 -- the line that says what helps against a fault of a claim text at a path, with these bytes, where something does: to identify it
 abbrev pub claims_remedy_line : ClaimFault → List ℕ → List ℕ → List ℕ
 claims_remedy_line (claims.Syntax line) path bytes = if not (is_claim_path path) || not (seems_pattern bytes) then []
-    else codes "  try: cafile identify " ++ (escaped path ++ 10 ∷ [])
+    else codes "  try: cafile identify " ++ (file_word path ++ 10 ∷ [])
 claims_remedy_line fault path bytes = []

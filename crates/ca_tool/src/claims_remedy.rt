@@ -7,6 +7,7 @@ ghost use Rattle.ca_tool.specs.inner.Pieces.{pieces_text};
 
 use crate::names::is_claim_path;
 use crate::pieces::{NOTHING, Piece, in_pieces, send_pieces};
+use crate::remedy::file_word;
 use ca_claims::{ClaimFault, File};
 use ca_plane::{Dev, WriteFault};
 use std::io::Write;
@@ -34,7 +35,7 @@ fn claims_remedy_pieces<'a>(fault: ClaimFault, text: File<'a>) -> [Piece<'a>; 3]
     if !is_claim_path(text.path) || !seems_pattern(text.bytes) {
         return [NOTHING; 3];
     }
-    in_pieces![text b"  try: cafile identify ", escaped text.path, text b"\n"]
+    in_pieces![text b"  try: cafile identify ", text file_word(text.path), text b"\n"]
 }
 
 /// Writes the line that says what helps against a fault of a claim text, where something does: to identify it, where

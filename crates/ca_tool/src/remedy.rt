@@ -1,8 +1,10 @@
 //! What helps where a file is refused.
 
 ghost use Rattle.std.specs.Prelude.{◌≡◌};
+ghost use Rattle.std.specs.List.{list_all};
 ghost use Rattle.ca_tool.specs.Remedies.{unread_remedy, pattern_remedy, rule_remedy, cause_remedy, run_remedy};
 ghost use Rattle.ca_tool.specs.Remedies.{file_at, bytes_of, rule_name, remedy_text, remedy_line};
+ghost use Rattle.ca_tool.specs.Remedies.{is_plain_byte, file_word};
 ghost use Rattle.ca_tool.specs.inner.Pieces.{pieces_text};
 
 use crate::fault::ToolFault;
@@ -143,6 +145,30 @@ fn rule_name<'a>(rule_text: &'a Option<Vec<u8>>) -> &'a [u8]
     }
 }
 
+// Whether a shell takes a byte as it stands.
+fn is_plain_byte(byte: u8) -> bool
+    ensures { result ≡ is_plain_byte byte }
+{
+    matches!(byte, b'+'..=b':' | b'=' | b'@'..=b'Z' | b'_' | b'a'..=b'z')
+}
+
+/// A path as it may stand in a command that a reader may copy: where a shell takes each of its bytes as it stands; else
+/// the word FILE.
+pub(crate) fn file_word(path: &[u8]) -> &[u8]
+    ensures { result.now ≡ file_word path.now }
+{
+    if is_plain(path) {
+        return path;
+    }
+    b"FILE"
+}
+
+fn is_plain(path: &[u8]) -> bool
+    ensures { result ≡ list_all is_plain_byte path.now }
+{
+    path.iter().all(|byte| is_plain_byte(*byte))
+}
+
 // What helps, for the file of this path, whose rule text is this.
 fn remedy_pieces<'a>(
     remedy: Remedy,
@@ -153,11 +179,11 @@ fn remedy_pieces<'a>(
 {
     let text: &[u8] = match remedy {
         Remedy::DropMark => {
-            return in_pieces![3; text b"sed '1s/^\\xef\\xbb\\xbf//' ", escaped path];
+            return in_pieces![3; text b"sed '1s/^\\xef\\xbb\\xbf//' ", text file_word(path)];
         }
-        Remedy::Unpack => return in_pieces![3; text b"gunzip -c ", escaped path],
+        Remedy::Unpack => return in_pieces![3; text b"gunzip -c ", text file_word(path)],
         Remedy::SaveAsRle => b"open it in Golly and save it as RLE",
-        Remedy::BreakLines => return in_pieces![3; text b"tr '\\r' '\\n' < ", escaped path],
+        Remedy::BreakLines => return in_pieces![3; text b"tr '\\r' '\\n' < ", text file_word(path)],
         Remedy::WriteHeader => b"write the header as x = 3, y = 3, rule = B3/S23",
         Remedy::WriteEnd => b"get the file again, or put ! at its end",
         Remedy::FindByte => { b"look for bytes other than b o . $ !, A to X, p to y and digits" }
