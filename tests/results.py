@@ -37,11 +37,15 @@ SOUPS = (
 )
 
 # Patterns of examples/ that are back at no time, the cells and the box that they have after 65536 generations (by Golly), and the units of work by which
-# `identify` tells so. It leaps: one that looks at each generation takes many times as many, and those that leaps may take are a quarter of what is left.
+# `identify` tells so. It leaps or strides: one that looks at each generation takes many times as many.
 NEVER_BACK = (
     ("gun", "10964 cells, in a box of 16402 by 16389", 14038),
     ("r_pentomino", "116 cells, in a box of 32717 by 32741", 35247),
 )
+
+# The gun within so many generations: 60 times a number more than Golly's figures are of, in which two gliders of five cells come each 60, and fly 15 cells
+# away. No stride comes so far: it leaps.
+FAR = ("gun", 100000036, "16666714 cells, in a box of 25000027 by 25000014", 49072)
 
 # A pattern of examples/ whose period is long, as it is known, and the units of work by which `identify` finds it. It goes by strides: one that looks at each
 # generation takes many times as many.
@@ -84,6 +88,11 @@ def try_identification(tally):
         words = ["identify", "--work", str(units + units // 10), path]
         told = f"claims 2\nload {name} {path}\n# {name}: none of these within 65536 generations: {grown}, after 65536\n"
         tally.expect(f"{name} is back at no time: {units} units", run(words), Outcome(told.encode(), b"", 0))
+    name, limit, grown, units = FAR
+    path = f"examples/{name}.rle"
+    words = ["identify", "--limit", str(limit), "--work", str(units + units // 10), path]
+    told = f"claims 2\nload {name} {path}\n# {name}: none of these within {limit} generations: {grown}, after {limit}\n"
+    tally.expect(f"{name} is back at no time up to {limit}: {units} units", run(words), Outcome(told.encode(), b"", 0))
     name, period, units = LONG_PERIOD
     path = f"examples/{name}.rle"
     words = ["identify", "--work", str(units + units // 10), path]
