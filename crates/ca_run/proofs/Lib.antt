@@ -13,6 +13,7 @@ pub mod Trees
 pub mod PlaneLevels
 pub mod Spreading
 pub mod Vectors
+pub mod Primes
 pub mod Returns
 pub mod Returning
 pub mod Reading

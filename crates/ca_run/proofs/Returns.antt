@@ -1,15 +1,18 @@
 -- Pictures that are moved, and times at which a picture is back.
-use Rattle.std.proofs.Common.{◌≡◌, ℕ, zero, suc, ◌+◌, ◌*◌, ◌-◌, ◌≤◌, List, sym, ap, ap₂, ◌∙◌, subst, inl, inr, arith}
+use Rattle.std.proofs.Common.{◌≡◌, ℕ, zero, suc, ◌+◌, ◌*◌, ◌-◌, ◌/◌, ◌%◌, ◌≤◌, ◌<◌, List, sym, ap, ap₂, ◌∙◌, subst, inl, inr, arith}
 use Rattle.std.specs.Prelude.{ℤ, pos, neg_ℤ, ◌+ℤ◌, ◌-ℤ◌, ◌*ℤ◌}
 use Rattle.std.specs.Int.{◌∣◌}
-use Rattle.std.proofs.Math.Nat.{dvd_refl, dvd-add, zero-mul, suc-mul}
+use Rattle.std.proofs.Math.Nat.{dvd_refl, dvd-add, zero-mul, suc-mul, dvd_of_mod-eq-zero, div-add-mod, mod-lt, mul_comm, mul-le-mul}
+use Rattle.std.proofs.lemmas.Nat.{le-div}
 use Rattle.std.proofs.Math.IntN.{suc_ℤ-*ℤ, zero-*ℤ}
-use Rattle.std.proofs.lemmas.Bool.{cases_eq}
+use Rattle.std.proofs.lemmas.Bool.{cases_eq, cases_lt}
 use Rattle.std.proofs.lemmas.Int.{ints}
 use Rattle.ca_plane.specs.Plane.{Picture, cell, IsSame, shifted, IsLive}
 use Rattle.ca_plane.specs.Generations.{after, IsAfter}
 use Rattle.ca_plane.proofs.Shifts.{cell-shifted}
 use Rattle.ca_run.specs.Later.{IsBackInPlace, IsBackAnywhere, IsLeast}
+use Rattle.ca_run.specs.Primes.{IsPrime}
+use Rattle.ca_run.proofs.Primes.{times_by_prime}
 use Rattle.ca_run.proofs.After.{after_same, after_seen, after_again}
 use Rattle.ca_run.proofs.Vectors.{no_vector}
 
@@ -88,6 +91,13 @@ multiples_anywhere next p m n least back =
     multiples (IsBackAnywhere next p) m first.0 least
     (λ r some again. (some, again.1 -ℤ first.1, again.2 -ℤ first.2, moved_between next p m r first.1 first.2 again.1 again.2 first.3 again.3)) n n (omega arith) back
 
+-- after a multiple of the generations after which a picture is back in its place it's there again
+in_place_times : (next : List ℕ → ℕ) (p : Picture) (m k : ℕ) → IsAfter next p m p → IsAfter next p (k * m) p
+in_place_times next p m zero back x y = ap (λ j. after next p j x y) (zero-mul m)
+in_place_times next p m (suc k) back x y =
+    let sum : suc k * m ≡ m + k * m = rw (suc-mul k m) (omega arith) in
+    ap (λ j. after next p j x y) sum ∙ sym (after_stands next p p m (k * m) back x y) ∙ in_place_times next p m k back x y
+
 -- ---- the vector
 
 -- one more of a number is that number more
@@ -123,3 +133,51 @@ one_vector p dx dy u v live same =
 pub vector_times : (next : List ℕ → ℕ) (p : Picture) (m k : ℕ) (dx dy u v : ℤ) → IsLive p → IsAfter next p m (shifted p dx dy) → IsAfter next p (k * m) (shifted p u v) → (u ≡ pos k *ℤ dx) × (v ≡ pos k *ℤ dy)
 vector_times next p m k dx dy u v live back again =
     one_vector p (pos k *ℤ dx) (pos k *ℤ dy) u v live (λ x y. sym (back_times next p m k dx dy back x y) ∙ again x y)
+
+-- ---- the least time, by primes
+
+-- times from 1 on whose multiples, and whose differences, are times too
+module _ (IsTime : ℕ → Type 0) (some : (n : ℕ) → IsTime n → 1 ≤ n) (times : (m k : ℕ) → 1 ≤ k → IsTime m → IsTime (k * m)) (between : (m n : ℕ) → 1 ≤ n → IsTime m → IsTime (m + n) → IsTime n) where
+  -- where there's one before another, there's one at a divisor of that
+  at_divisor : (n : ℕ) → IsTime n → (limit k : ℕ) → k ≤ limit → IsTime k → k < n → (m : ℕ) × IsTime m × (m ∣ n) × (m < n)
+  at_divisor n time zero k within early less = let least = some k early in absurd (omega (arith, within, least))
+  at_divisor n time (suc limit) k within early less =
+      let least = some k early in
+      elim (cases_eq (n % k) 0) [
+        | inl whole ↦ (k, early, dvd_of_mod-eq-zero k whole, less)
+        | inr rest ↦
+            let split : n ≡ (n / k) * k + n % k = sym (div-add-mod n k) ∙ ap (λ a. a + n % k) (mul_comm k (n / k)) in
+            let below : n % k < k = mod-lt n (omega (arith, least)) in
+            let once : 1 ≤ n / k = le-div 1 n k (omega (arith, least)) (omega (arith, less)) in
+            at_divisor n time limit (n % k) (omega (arith, below, within)) (between ((n / k) * k) (n % k) (omega (arith, rest)) (times k (n / k) once early) (subst IsTime split time)) (omega (arith, below, less))
+      ]
+
+  -- one that isn't after n divided by a prime
+  pub least_by_primes : (n : ℕ) → IsTime n → ((q : ℕ) → IsPrime q → q ∣ n → IsTime (n / q) → ⊥) → IsLeast IsTime n
+  least_by_primes n time none = record {
+    one = time;
+    least = λ k early.
+        elim (cases_lt k n) [
+          | inr from ↦ from
+          | inl less ↦
+              let found = at_divisor n time k k (omega arith) early less in
+              let by = times_by_prime n found.0 (some found.0 found.1) found.2 found.3 in
+              absurd (none by.0 by.1 by.2 (subst IsTime by.5 (times found.0 by.3 by.4 found.1)))
+        ];
+  }
+
+-- a multiple of a number from 1 on
+many : (m k : ℕ) → 1 ≤ m → 1 ≤ k → 1 ≤ k * m
+many m k some once = let most : 1 * 1 ≤ k * m = mul-le-mul once some in omega (arith, most)
+
+-- so of times at which a picture is back in its place,
+pub least_in_place : (next : List ℕ → ℕ) (p : Picture) (n : ℕ) → IsBackInPlace next p n → ((q : ℕ) → IsPrime q → q ∣ n → IsBackInPlace next p (n / q) → ⊥) → IsLeast (IsBackInPlace next p) n
+least_in_place next p =
+    least_by_primes (IsBackInPlace next p) (λ n back. back.0) (λ m k once back. (many m k back.0 once, in_place_times next p m k back.1))
+    (λ m n once back again. (once, in_place_between next p m n back.1 again.1))
+
+-- and of those at which it's back by some vector
+pub least_anywhere : (next : List ℕ → ℕ) (p : Picture) (n : ℕ) → IsBackAnywhere next p n → ((q : ℕ) → IsPrime q → q ∣ n → IsBackAnywhere next p (n / q) → ⊥) → IsLeast (IsBackAnywhere next p) n
+least_anywhere next p =
+    least_by_primes (IsBackAnywhere next p) (λ n back. back.0) (λ m k once back. (many m k back.0 once, pos k *ℤ back.1, pos k *ℤ back.2, back_times next p m k back.1 back.2 back.3))
+    (λ m n once back again. (once, again.1 -ℤ back.1, again.2 -ℤ back.2, moved_between next p m n back.1 back.2 again.1 again.2 back.3 again.3))

@@ -1,5 +1,6 @@
 pub mod Reach
 pub mod Later
+pub mod Primes
 pub mod Centre
 pub mod Leaping
 pub mod Advanced

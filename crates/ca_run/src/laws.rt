@@ -1,12 +1,13 @@
 //! Laws of the plane after n generations, over the definitions alone.
 
-ghost use Rattle.std.specs.Prelude.{◌≡◌, ◌≢◌, ℕ, ◌+◌, ◌-◌, ◌*◌, ℤ, pos, ◌+ℤ◌, ◌*ℤ◌};
+ghost use Rattle.std.specs.Prelude.{◌≡◌, ◌≢◌, ℕ, ◌+◌, ◌-◌, ◌*◌, ◌/◌, ℤ, pos, ◌+ℤ◌, ◌*ℤ◌};
 ghost use Rattle.std.specs.Int.{◌∣◌};
 ghost use Rattle.ca_plane.specs.declared.point.Bounds.{Bounds};
 ghost use Rattle.ca_plane.specs.Plane.{Picture, cell, IsSame, shifted, IsLive};
 ghost use Rattle.ca_plane.specs.Generations.{after, IsAfter};
 ghost use Rattle.ca_plane.specs.Box.{IsInBox, IsLeastBox};
 ghost use Rattle.ca_run.specs.Later.{AgreeWithin, IsBackInPlace, IsBackAnywhere, IsLeast};
+ghost use Rattle.ca_run.specs.Primes.{IsPrime};
 ghost use Rattle.ca_run.specs.Reach.{grown_box, IsWiderByAtMost};
 
 use ca_plane::Automaton;
@@ -74,6 +75,19 @@ pub fn l6<A: Automaton>(rule: &A)
         → IsAfter (A.next_of rule.now) cells m (shifted cells dx dy)
         → IsAfter (A.next_of rule.now) cells (k * m) (shifted cells u v)
         → (u ≡ pos k *ℤ dx) × (v ≡ pos k *ℤ dy) }
+{
+    let _ = rule;
+}
+
+/// A picture that is back after n generations, and for no prime that divides n after n divided by it, is back
+/// at no earlier time, whether it has to be back in its place or may be moved by any vector.
+pub fn primes_tell_the_least_return<A: Automaton>(rule: &A)
+    ensures in_place { (cells : Picture) (n : ℕ) → IsBackInPlace (A.next_of rule.now) cells n
+        → ((q : ℕ) → IsPrime q → q ∣ n → IsBackInPlace (A.next_of rule.now) cells (n / q) → ⊥)
+        → IsLeast (IsBackInPlace (A.next_of rule.now) cells) n }
+    ensures anywhere { (cells : Picture) (n : ℕ) → IsBackAnywhere (A.next_of rule.now) cells n
+        → ((q : ℕ) → IsPrime q → q ∣ n → IsBackAnywhere (A.next_of rule.now) cells (n / q) → ⊥)
+        → IsLeast (IsBackAnywhere (A.next_of rule.now) cells) n }
 {
     let _ = rule;
 }
