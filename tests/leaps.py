@@ -5,12 +5,13 @@ bounded beside those of known work.
 What the patterns of leaps/ become was computed by Golly (leaps/README.md says how). The other verdicts are known from what the patterns are made of.
 """
 import itertools
+import math
 import os
 import random
 import resource
 import tempfile
 
-from lib import macrocell
+from lib import macrocell, rle
 from lib.claim_text import ClaimText, outcome
 from lib.planes import distinct_squares
 from lib.program import ROOT, Folder, Tally, contents
@@ -58,6 +59,12 @@ RETURNS = (
     ("examples/queen_bee_shuttle.rle", 30, 0, 0),
     ("examples/period_840.rle", 840, 0, 0),
 )
+
+# How many times over a period is claimed: by a prime, by powers of one, by several, and by large ones.
+TIMES = (2, 3, 4, 6, 8, 9, 30, 49, 65521, 65537)
+
+# How many states the largest circle has.
+CIRCLES = 20
 
 # Squares of 8 by 8 cells, repeated over a square of any level.
 BLOCKS = "**..**..$**..**..$$$**..**..$**..**..$"
@@ -156,19 +163,37 @@ def claim_of(name, period, times, dx, dy):
 
 
 def try_returns(claims, path, period, dx, dy):
-    """Multiples of a period, up to the longest, forty claims about one file."""
+    """Multiples of a period, up to the longest, fifty-four claims about one file."""
     text = claims.text()
     text.load_path("p", path)
     again = f"no, the same after {period}, shifted by {dx},{dy}"
     most = LONGEST // period
     text.claim(claim_of("p", period, 1, dx, dy), "yes")
     chance = random.Random(period)
-    for times in (2, 3, 4, 1 << (most.bit_length() - 1), most, *(chance.randrange(5, most) for _ in range(14))):
+    for times in (*TIMES, 1 << (most.bit_length() - 1), most, *(chance.randrange(5, most) for _ in range(14))):
         text.claim(claim_of("p", period, times, dx, dy), again)
         other = f"spaceship p {period * times} {dx * times + 1} {dy * times}" if (dx, dy) != (0, 0) else f"oscillator p {period * times - 1}"
         text.claim(other, f"no, cells differ after {period * times - (not dx and not dy)}")
     text.claim("becomes p 0 p", "yes")
     claims.judge(f"{path}, {len(text.answers)} claims", text)
+
+
+def try_circles(claims):
+    """Cells that go round circles of 1 to 20 states, one or two of them: a multiple of their period is that of it alone, and no other number is one."""
+    first, turns, starts = 1, [], {}
+    for length in range(1, CIRCLES + 1):
+        starts[length] = first
+        turns += [f"{first + step},0,0,0,0,{first + (step + 1) % length}" for step in range(length)]
+        first += length
+    text = claims.text()
+    text.rule(f"@RULE Turns\n@TABLE\nn_states:{first}\nneighborhood:vonNeumann\nsymmetries:none\n" + "\n".join([*turns, ""]))
+    for pair in itertools.combinations_with_replacement(starts, 2):
+        name, period = "c{}_{}".format(*pair), math.lcm(*pair)
+        text.load(name, rle.tidy({(3 * at, 0): starts[length] for at, length in enumerate(pair)}, "Turns", 0, first))
+        for count in sorted({max(2, period), *(period * times for times in TIMES), period + 1, 2 * period + 1}):
+            verdict = "yes" if count == period else f"no, the same after {period}, shifted by 0,0" if count % period == 0 else f"no, cells differ after {count}"
+            text.claim(f"oscillator {name} {count}", verdict)
+    claims.judge(f"circles of states, {len(text.answers)} claims", text)
 
 
 def glider_at(x, y):
@@ -411,7 +436,7 @@ def main():
             try_after(claims, *it)
         for it in RETURNS:
             try_returns(claims, *it)
-        for it in (try_far_gliders, try_squares, try_one_cell, try_most_cells, try_slides, try_many_squares, try_stepped, try_a_million_squares,
+        for it in (try_circles, try_far_gliders, try_squares, try_one_cell, try_most_cells, try_slides, try_many_squares, try_stepped, try_a_million_squares,
                    try_beside_many_squares, try_dense_beside_sparse, try_settled, try_want_of_memory):
             it(claims)
     tally.finish()

@@ -1,26 +1,28 @@
--- The first return of a pattern, looked for at the proper divisors of a time at which it's back.
-use Rattle.std.proofs.Common.{◌≡◌, ◌≢◌, ℕ, ◌+◌, ◌≤◌, ◌<◌, List, [], ◌∷◌, length, Option, Some, None, MatchOption, inl, inr, refl, sym, subst, ◌∙◌, arith}
-use Rattle.std.specs.Prelude.{ℤ, pos, ◌-ℤ◌}
+-- The first return of a pattern, looked for at a time at which it's back divided by the primes that divide that.
+use Rattle.std.proofs.Common.{◌≡◌, ◌≢◌, ℕ, ◌*◌, ◌/◌, ◌%◌, ◌≤◌, ◌<◌, List, Option, Some, None, MatchOption, inl, inr, refl, sym, ap, subst, ◌∙◌, arith}
+use Rattle.std.specs.Prelude.{ℤ, pos, ◌-ℤ◌, ◌*ℤ◌}
 use Rattle.std.specs.Int.{◌∣◌}
-use Rattle.std.proofs.Math.Nat.{dvd_trans}
+use Rattle.std.proofs.Math.Nat.{dvd_refl, dvd_trans, dvd-mul_right, dvd_of_mod-eq-zero, dvd_iff_mod-eq-zero, dvd_of_mul-dvd-mul_right, eq-one_of_dvd-one, eq-zero_of_zero-dvd, div-mul_cancel, mul-div_cancel, div-lt_self}
+use Rattle.std.proofs.lemmas.Bool.{cases_eq}
 use Rattle.ca_plane.specs.Plane.{Picture, cell, shifted}
 use Rattle.ca_plane.specs.Generations.{after, IsAfter}
 use Rattle.ca_plane.proofs.Shifts.{cell-shifted}
 use Rattle.ca_quad.specs.declared.node.Node.{Node}
 use Rattle.ca_quad.specs.declared.tree.Tree.{Tree}
 use Rattle.ca_quad.specs.Trees as trees
-use Rattle.ca_quad.proofs.Growth.{below_or_not}
+use Rattle.ca_run.specs.Primes.{IsPrime}
+use Rattle.ca_run.proofs.Primes.{quotient_some, swapped}
+use Rattle.ca_run.proofs.Returns.{back_times}
 use Rattle.ca_claims.specs.declared.verdict.Why.TheVariants.{Earlier}
 use Rattle.ca_claims.specs.declared.claims.asks.Barred.{Barred}
 use Rattle.ca_claims.specs.declared.claims.asks.Barred.TheVariants.{Nothing, InPlace, Anywhere, EmptyPlane}
 use Rattle.ca_claims.specs.Truth.{ShowsNothingBarred, MayReturnBy}
 use Rattle.ca_claims.specs.inner.Decided.{BarsReturns}
-use Rattle.ca_claims.specs.inner.Divisors.{AreDivisors}
 use Rattle.ca_claims.specs.inner.Returns.{IsSparedBefore, IsFirstReturn}
 use Rattle.ca_claims.specs.declared.decide.Case.{Case}
-use Rattle.ca_claims.specs.inner.Subjects.{ShowsTree, BarsReturn, IsEndTree, IsMove, IsNoMove, AreLeft, IsBackBy}
+use Rattle.ca_claims.specs.inner.Subjects.{ShowsTree, BarsReturn, IsEndTree, IsMove, IsNoMove, IsBackBy, IsNarrowed}
 use Rattle.ca_claims.proofs.Times.{unmoved}
-use Rattle.ca_claims.proofs.ReturnsAtDivisors.{changed_before, nowhere_before}
+use Rattle.ca_claims.proofs.ReturnsAtDivisors.{changed_once, changed_before, nowhere_before}
 use Rattle.ca_claims.proofs.LeaptTrees.{shows_after}
 
 -- a pattern that is back at n, and at no proper divisor of n, is back at no time before n
@@ -75,69 +77,115 @@ module _ (next : List ℕ → ℕ) (s0 s1 : List Node) (case : Case) (bars : Bar
   back_there place told =
       subst (λ b. MatchOption back (ShowsNothingBarred next cells b m) (IsBackBy next cells b m)) (sym place) (anywhere next cells m s1 end pattern back ends later told)
 
--- ---- the divisors of the time
+-- ---- the primes of the time
+
+-- what is shown at no multiple of a time isn't shown at that time
+spared_once : (next : List ℕ → ℕ) (p : Picture) (barred : Barred) (k m : ℕ) → BarsReturns barred → ShowsNothingBarred next p barred (k * m) → ShowsNothingBarred next p barred m
+spared_once next p Nothing k m some spared = absurd some
+spared_once next p EmptyPlane k m some spared = absurd some
+spared_once next p InPlace k m some spared = changed_once next p k m spared.0 spared.1 spared.2
+spared_once next p Anywhere k m some spared = λ dx dy back. spared (pos k *ℤ dx) (pos k *ℤ dy) (back_times next p m k dx dy back)
+
+-- what bars a return bars something
+pub return_is_some : (barred : Barred) → BarsReturns barred → barred ≢ Nothing
+return_is_some Nothing some nothing = some
+return_is_some InPlace some nothing = cc
+return_is_some Anywhere some nothing = cc
+return_is_some EmptyPlane some nothing = some
 
 module _ (next : List ℕ → ℕ) (nodes : List Node) (case : Case) where
-  -- at first all the proper divisors are left
-  pub all_left : (left : List ℕ) → AreDivisors case.asks.generations 1 case.asks.generations left → AreLeft next nodes case left
-  all_left left are = record {
-    low = 1;
-    some = omega arith;
-    are = are;
-    before = λ cells shows d some less _. absurd (omega (arith, some, less));
+  -- at first the pattern is back at the claim's time, and all of it is left
+  pub all_left : 1 ≤ case.asks.generations → IsNarrowed next nodes case case.asks.generations case.asks.generations None
+  all_left some = record {
+    some = some;
+    within = omega arith;
+    part = dvd_refl case.asks.generations;
+    back = λ cells shows. refl;
+    before = λ cells shows k m whole. inr (subst (λ j. k ∣ j) whole (dvd-mul_right k m));
   }
 
-  pub all_left_from : (left : List ℕ) (are : AreDivisors case.asks.generations 1 case.asks.generations left) → (all_left left are).low ≡ 1
-  unfolding all_left
-  all_left_from left are = refl
+  module _ (time left q : ℕ) (found : Option (ℤ × ℤ)) (prime : IsPrime q) (divides : q ∣ left) (h : IsNarrowed next nodes case time left found) where
+    abbrev pub in_time : q ∣ time
+    in_time = dvd_trans q divides h.part
 
-  -- one fewer is left where the pattern isn't back at the first
-  pub one_fewer : (d : ℕ) (left : List ℕ) → AreLeft next nodes case (d ∷ left) → ((cells : Picture) → ShowsTree nodes case.subject.pattern cells → ShowsNothingBarred next cells case.asks.barred d)
-      → AreLeft next nodes case left
-  one_fewer d left h tried = record {
-    low = d + 1;
-    some = omega arith;
-    are = h.are.4;
-    before = λ cells shows e some less divides.
-        elim (below_or_not e d) [
-          | inr high ↦
-              let same : d ≡ e = omega (arith, high, less) in
-              subst (ShowsNothingBarred next cells case.asks.barred) same (tried cells shows)
-          | inl below ↦ elim (below_or_not e h.low) [
-            | inl lower ↦ h.before cells shows e some lower divides
-            | inr from ↦ absurd (h.are.3 e from below divides)
-          ]
-        ];
-  }
+    -- at the time divided by a prime that is left the pattern is back,
+    pub back_sooner : (v : ℤ × ℤ) → ((cells : Picture) → ShowsTree nodes case.subject.pattern cells → IsBackBy next cells case.asks.barred (time / q) v)
+        → IsNarrowed next nodes case (time / q) (left / q) (Some v)
+    back_sooner v tried =
+        let above = prime.above in
+        let less : time / q < time = div-lt_self h.some prime.above in
+        let within = h.within in
+        let rest : (left / q) * q ≡ left = div-mul_cancel q divides in
+        let whole : (time / q) * q ≡ time = div-mul_cancel q in_time in
+        record {
+          some = quotient_some time q h.some prime in_time;
+          within = omega (arith, less, within);
+          part = dvd_of_mul-dvd-mul_right (left / q) (omega (arith, above)) (subst (λ j. j ∣ (time / q) * q) (sym rest) (subst (λ j. left ∣ j) (sym whole) h.part));
+          back = λ cells shows. (omega (arith, less, within), tried cells shows);
+          before = λ cells shows k m product.
+              elim (h.before cells shows (k * q) m (swapped k q m ∙ ap (λ j. j * q) product ∙ whole)) [
+                | inl spared ↦ inl spared
+                | inr part ↦ inr (dvd_of_mul-dvd-mul_right k (omega (arith, above)) (subst (λ j. k * q ∣ j) (sym rest) part))
+              ];
+        }
 
-  pub one_fewer_from : (d : ℕ) (left : List ℕ) (h : AreLeft next nodes case (d ∷ left))
-      (tried : (cells : Picture) → ShowsTree nodes case.subject.pattern cells → ShowsNothingBarred next cells case.asks.barred d) → (one_fewer d left h tried).low ≡ d + 1
-  unfolding one_fewer
-  one_fewer_from d left h tried = refl
+    -- or it isn't
+    pub not_sooner : BarsReturns case.asks.barred → (rest : ℕ) → rest ∣ left → ((m : ℕ) → m ∣ left → (q ∣ m → ⊥) → m ∣ rest)
+        → ((cells : Picture) → ShowsTree nodes case.subject.pattern cells → ShowsNothingBarred next cells case.asks.barred (time / q)) → IsNarrowed next nodes case time rest found
+    not_sooner bars rest part keeps tried = record {
+      some = h.some;
+      within = h.within;
+      part = dvd_trans rest part h.part;
+      back = h.back;
+      before = λ cells shows k m product.
+          elim (h.before cells shows k m product) [
+            | inl spared ↦ inl spared
+            | inr all ↦
+                elim (cases_eq (k % q) 0) [
+                  | inr other ↦ inr (keeps k all (λ whole. other ((dvd_iff_mod-eq-zero q).0 whole)))
+                  | inl none ↦
+                      let above = prime.above in
+                      let exact : (k / q) * q ≡ k = div-mul_cancel q (dvd_of_mod-eq-zero q none) in
+                      let again : ((k / q) * m) * q ≡ time = swapped (k / q) m q ∙ ap (λ j. j * m) exact ∙ product in
+                      let sooner : time / q ≡ (k / q) * m = ap (λ j. j / q) (sym again) ∙ mul-div_cancel ((k / q) * m) (omega (arith, above)) in
+                      inl (spared_once next cells case.asks.barred (k / q) m bars (subst (ShowsNothingBarred next cells case.asks.barred) sooner (tried cells shows)))
+                ]
+          ];
+    }
 
-  -- where none is left, the pattern is back at no time before case.asks.generations
-  pub none_left : (left : List ℕ) → length left ≡ 0 → AreLeft next nodes case left → (cells : Picture) → ShowsTree nodes case.subject.pattern cells → (u v : ℤ) → MayReturnBy case.asks.barred u v → IsAfter next cells case.asks.generations (shifted cells u v)
-      → IsSparedBefore next cells case.asks.barred case.asks.generations
-  none_left (d ∷ left) none h cells shows u v may back = absurd (omega (arith, none))
-  none_left [] none h cells shows u v may back =
-      not_before next cells case.asks.barred case.asks.generations u v may back (λ d some less divides.
-      elim (below_or_not d h.low) [
-        | inl lower ↦ h.before cells shows d some lower divides
-        | inr from ↦ absurd (h.are d from less divides)
+  -- where nothing is left, the pattern is back at no time before this one
+  pub none_left : (time left : ℕ) (found : Option (ℤ × ℤ)) → left ≤ 1 → IsNarrowed next nodes case time left found → (cells : Picture) → ShowsTree nodes case.subject.pattern cells → (u v : ℤ)
+      → MayReturnBy case.asks.barred u v → IsAfter next cells time (shifted cells u v) → IsSparedBefore next cells case.asks.barred time
+  none_left time left found few h cells shows u v may back =
+      not_before next cells case.asks.barred time u v may back (λ d some less divides.
+      let whole : (time / d) * d ≡ time = div-mul_cancel d divides in
+      elim (h.before cells shows (time / d) d whole) [
+        | inl spared ↦ spared
+        | inr part ↦
+            let positive = h.some in
+            let one : left ≡ 1 =
+            elim (cases_eq left 0) [
+              | inr other ↦ omega (arith, few, other)
+              | inl none ↦
+                  let zero_time : time ≡ 0 = eq-zero_of_zero-dvd (subst (λ j. j ∣ time) none h.part) in
+                  absurd (omega (arith, positive, zero_time))
+            ] in
+            let once : time / d ≡ 1 = eq-one_of_dvd-one (subst (λ j. time / d ∣ j) one part) in
+            let same : 1 * d ≡ time = ap (λ j. j * d) (sym once) ∙ whole in
+            absurd (omega (arith, same, less))
       ])
 
-  -- where it's back at the first that is left, that is its first return
-  pub found_first : (d : ℕ) (left : List ℕ) (v : ℤ × ℤ) → AreLeft next nodes case (d ∷ left) → (cells : Picture) → ShowsTree nodes case.subject.pattern cells
-      → IsBackBy next cells case.asks.barred d v → IsFirstReturn next cells case.asks.barred case.asks.generations (Earlier d v.0 v.1)
-  found_first d left v h cells shows back = (
-    omega (arith, h.some, h.are.0),
-    h.are.1,
-    back.0,
-    back.1,
-    not_before next cells case.asks.barred d v.0 v.1 back.0 back.1 (λ e some less divides.
-        let all : e ∣ case.asks.generations = dvd_trans e divides h.are.2 in
-        elim (below_or_not e h.low) [
-          | inl lower ↦ h.before cells shows e some lower all
-          | inr from ↦ absurd (h.are.3 e from less all)
-        ]),
-  )
+  -- that is the claim's time, where none was found,
+  pub none_sooner : (time left : ℕ) → left ≤ 1 → IsNarrowed next nodes case time left None → (cells : Picture) → ShowsTree nodes case.subject.pattern cells → (u v : ℤ)
+      → MayReturnBy case.asks.barred u v → IsAfter next cells case.asks.generations (shifted cells u v) → IsSparedBefore next cells case.asks.barred case.asks.generations
+  none_sooner time left few h cells shows u v may back =
+      let same : time ≡ case.asks.generations = h.back cells shows in
+      subst (IsSparedBefore next cells case.asks.barred) same
+      (none_left time left None few h cells shows u v may (subst (λ n. IsAfter next cells n (shifted cells u v)) (sym same) back))
+
+  -- and else the first return
+  pub first_found : (time left : ℕ) (v : ℤ × ℤ) → left ≤ 1 → IsNarrowed next nodes case time left (Some v) → (cells : Picture) → ShowsTree nodes case.subject.pattern cells
+      → IsFirstReturn next cells case.asks.barred case.asks.generations (Earlier time v.0 v.1)
+  first_found time left v few h cells shows =
+      let back = h.back cells shows in
+      (h.some, back.0, back.1.0, back.1.1, none_left time left (Some v) few h cells shows v.0 v.1 back.1.0 back.1.1)

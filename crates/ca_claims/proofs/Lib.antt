@@ -29,7 +29,7 @@ pub mod OneText
 pub mod RleFiles
 pub mod Searches
 pub mod ReturnsAtDivisors
-pub mod DivisorLists
+pub mod PrimeFactors
 pub mod Nearby
 pub mod LeaptTrees
 pub mod Empties

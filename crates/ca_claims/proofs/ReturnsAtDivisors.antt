@@ -25,7 +25,7 @@ module _ (next : List ℕ → ℕ) (p : Picture) where
       ]
 
   -- a pattern that has changed after q times k generations has changed after k
-  changed_once : (q k : ℕ) (x y : ℤ) → after next p (q * k) x y ≢ cell p x y → IsChanged next p k
+  pub changed_once : (q k : ℕ) (x y : ℤ) → after next p (q * k) x y ≢ cell p x y → IsChanged next p k
   changed_once zero k x y other = absurd (other (ap (λ n. after next p n x y) (zero-mul k)))
   changed_once (suc q) k x y other =
       elim (cases_eq (after next p (q * k) x y) (cell p x y)) [

@@ -14,6 +14,5 @@ pub mod Spending
 pub mod Stages
 pub mod Tables
 pub mod Tasks
-pub mod Divisors
 pub mod Subjects
 pub mod Unknown

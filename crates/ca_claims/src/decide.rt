@@ -21,7 +21,7 @@ ghost use Rattle.ca_claims.specs.inner.Subjects.{ShowsTree, IsPattern, IsRun, Is
 ghost use Rattle.ca_claims.specs.inner.Subjects.{HasLive, IsEndTree, IsMoved, IsDifference};
 
 mod deaths;
-mod divisors;
+mod primes;
 mod returns;
 
 use crate::claims::{Asks, Barred, Wanted};

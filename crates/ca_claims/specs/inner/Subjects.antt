@@ -1,5 +1,5 @@
 -- What a claim is judged on: squares of a leaper's store, and how the verdict follows from them.
-use Rattle.std.specs.Prelude.{◌≡◌, ◌≢◌, ℕ, ◌≤◌, ◌<◌, ℤ, List, []}
+use Rattle.std.specs.Prelude.{◌≡◌, ◌≢◌, ◌⊎◌, ℕ, ◌*◌, ◌≤◌, ◌<◌, ℤ, List, [], Option, MatchOption}
 use Rattle.std.specs.Int.{◌∣◌}
 use Rattle.ca_plane.specs.Plane.{Picture, shifted}
 use Rattle.ca_plane.specs.Plane as plane
@@ -20,7 +20,6 @@ use Rattle.ca_claims.specs.declared.verdict.Why.TheVariants.{Differs}
 use Rattle.ca_plane.specs.Limits.{most_generations}
 use Rattle.ca_claims.specs.Truth.{MayReturnBy, IsLiveAfter, ShowsNothingBarred}
 use Rattle.ca_claims.specs.inner.Decided.{BarsReturns, IsBounded}
-use Rattle.ca_claims.specs.inner.Divisors.{AreDivisors}
 
 -- a picture shows the cells of a tree
 abbrev pub ShowsTree : List Node → Tree → Picture → Type 0
@@ -115,10 +114,14 @@ pub record AreLifeBounds (next : List ℕ → ℕ) (nodes : List Node) (case : C
 abbrev pub IsBackBy : (List ℕ → ℕ) → Picture → Barred → ℕ → ℤ × ℤ → Type 0
 IsBackBy next cells barred n v = MayReturnBy barred v.0 v.1 × IsAfter next cells n (shifted cells v.0 v.1)
 
--- the divisors of the claim's generations that are still to be tried: at those below them the pattern isn't back
-pub record AreLeft (next : List ℕ → ℕ) (nodes : List Node) (case : Case) (left : List ℕ) : Type 0 where
-  pub low : ℕ
-  pub some : 1 ≤ low
-  pub are : AreDivisors case.asks.generations low case.asks.generations left
-  pub before : (cells : Picture) → ShowsTree nodes case.subject.pattern cells → (d : ℕ) → 1 ≤ d → d < low → d ∣ case.asks.generations
-      → ShowsNothingBarred next cells case.asks.barred d
+-- how far the first return is found: the pattern is back at this time, which is the claim's or, by this vector, an earlier one; and where
+-- k times m generations make the time, nothing that is barred is shown at m, or k divides what is left of the time to be tried
+pub record IsNarrowed (next : List ℕ → ℕ) (nodes : List Node) (case : Case) (time left : ℕ)
+    (found : Option (ℤ × ℤ)) : Type 0 where
+  pub some : 1 ≤ time
+  pub within : time ≤ case.asks.generations
+  pub part : left ∣ time
+  pub back : (cells : Picture) → ShowsTree nodes case.subject.pattern cells
+      → MatchOption found (time ≡ case.asks.generations) (λ v. (time < case.asks.generations) × IsBackBy next cells case.asks.barred time v)
+  pub before : (cells : Picture) → ShowsTree nodes case.subject.pattern cells → (k m : ℕ) → k * m ≡ time
+      → ShowsNothingBarred next cells case.asks.barred m ⊎ (k ∣ left)

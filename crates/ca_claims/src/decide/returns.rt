@@ -12,7 +12,7 @@ ghost use Rattle.ca_claims.specs.inner.Returns.{IsSparedBefore, IsFirstReturn, I
 ghost use Rattle.ca_claims.specs.inner.Subjects.{ShowsTree, IsNearTree, IsPattern, BarsReturn, HasLive};
 ghost use Rattle.ca_claims.specs.inner.Subjects.{IsMove, IsNoMove, IsOnlyMove, IsBackBy};
 
-use super::divisors::proper_divisors;
+use super::primes::{prime_factor, without_prime};
 use super::{Case, moved_inside, tree_after};
 use crate::claims::Barred;
 use crate::observer::Observer;
@@ -23,7 +23,8 @@ use ca_run::{LeapFault, Leaper};
 use std::alloc::Global;
 
 /// The first return of the pattern before the claim's generations are over. Where the pattern is back then,
-/// moved by a vector that is barred, it is back for the first time at a divisor of their number.
+/// moved by a vector that is barred, and for no prime that divides their number after the number divided by
+/// it, it is back at no earlier time. Where it is for one, that is a smaller number of the same kind.
 pub(super) fn first_return<A: Automaton, O: Observer>(
     leaper: &mut Leaper<A>,
     case: &Case,
@@ -43,16 +44,24 @@ pub(super) fn first_return<A: Automaton, O: Observer>(
 {
     // Says what holds of every leaper.
     let _ = leaper.store();
-    let divisors = proper_divisors(case.alloc, case.asks.generations)?;
-    let mut rest = divisors.as_slice();
-    'divisors: while let Some((first, later)) = rest.split_first() {
-        let m = *first;
-        if let Some((dx, dy)) = return_at(leaper, case, m, observer)? {
-            return Ok(Some(Why::Earlier { m, dx, dy }));
+    let mut time = case.asks.generations;
+    let mut left = time;
+    let mut found = None;
+    'primes: while left > 1 {
+        let prime = prime_factor(left);
+        match return_at(leaper, case, time / prime, observer)? {
+            Some(vector) => {
+                found = Some(vector);
+                time /= prime;
+                left /= prime;
+            }
+            None => left = without_prime(left, prime),
         }
-        rest = later;
     }
-    Ok(None)
+    let Some((dx, dy)) = found else {
+        return Ok(None);
+    };
+    Ok(Some(Why::Earlier { m: time, dx, dy }))
 }
 
 // The vector by which the pattern is there again after m generations, if it is and that is barred.

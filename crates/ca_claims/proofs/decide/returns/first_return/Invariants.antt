@@ -1,17 +1,18 @@
-use Rattle.std.proofs.Common.{◌-◌, ◌≤◌, length}
+use Rattle.std.proofs.Common.{◌-◌, ◌≤◌}
 use Rattle.ca_run.specs.Leaping.{LeaperGrows}
 use Rattle.ca_claims.specs.inner.Spending.{Takes}
-use Rattle.ca_claims.specs.inner.Subjects.{AreLeft}
+use Rattle.ca_claims.specs.inner.Subjects.{IsNarrowed}
 use Rattle.ca_claims.proofs.decide.returns.first_return.Given as goal
 
--- the divisors that are still to be tried, and what those before them took
-abbrev pub invariant-divisors : goal.invariant-divisors
-invariant-divisors g l = record {
+-- how far the first return is found, and what it took
+abbrev pub invariant-primes : goal.invariant-primes
+invariant-primes g l = record {
   goes_on : LeaperGrows _ l.fn.leaper l.leaper;
-  left : AreLeft (g.A.Automaton.next_of l.fn.leaper.rule) l.fn.leaper.nodes l.fn.case l.rest;
-  early : left.low - 1 ≤ l.fn.case.asks.generations - 1;
-  takes : Takes l.fn.leaper.spent.used l.leaper.spent.used (left.low - 1) l.fn.case.subject.pattern.level l.fn.case.asks.generations;
+  narrowed : IsNarrowed (g.A.Automaton.next_of l.fn.leaper.rule) l.fn.leaper.nodes l.fn.case l.time l.left l.found;
+  some : 1 ≤ l.left;
+  within : l.left ≤ l.fn.case.asks.generations;
+  takes : Takes l.fn.leaper.spent.used l.leaper.spent.used (l.fn.case.asks.generations - l.left) l.fn.case.subject.pattern.level l.fn.case.asks.generations;
 }
 
-abbrev pub decreases-divisors : goal.decreases-divisors
-decreases-divisors g l = length l.rest
+abbrev pub decreases-primes : goal.decreases-primes
+decreases-primes g l = l.left
