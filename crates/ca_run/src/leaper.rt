@@ -301,14 +301,11 @@ impl<A: Automaton> Leaper<A> {
     }
 }
 
-// How many of a memo's entries are slots for results that cost little, and how many for those by the parts of
-// squares: a leaper uses but one of these tables.
+// How many of a memo's entries are slots for results that cost little, which rules with masks alone have, and how
+// many for those by the parts of squares, which spare most looks into the store.
 fn table_slots(memo: usize, by_masks: bool) -> (usize, usize)
-    ensures { result.0 + result.1 ≤ memo / 8 }
+    ensures { result.0 + result.1 ≤ memo / 2 }
 {
-    if by_masks {
-        (memo / 16, 0)
-    } else {
-        (0, memo / 8)
-    }
+    let centres = if by_masks { memo / 16 } else { 0 };
+    (centres, memo / 4)
 }

@@ -37,10 +37,11 @@ impl<A: Automaton> Leaper<A> {
         ensures work { EndsAtLimit self.new.spent result }
     {
         let _ = &self.store;
-        if let Some(half) = self.empty_centre(id, grain, j) {
+        if let Some(half) = self.recall(id, grain, j) {
             return Ok(half);
         }
-        if let Some(half) = self.recall(id, grain, j) {
+        if let Some(half) = self.empty_centre(id, grain, j) {
+            self.remember(id, grain, j, half)?;
             return Ok(half);
         }
         self.charge_watched(watch)?;
@@ -243,7 +244,7 @@ impl<A: Automaton> Leaper<A> {
         match first {
             None => Ok(self.inner_of_four(nw, ne, sw, se, grain)?),
             Some(j) => {
-                if j == grain && self.masks.is_none() {
+                if j == grain {
                     return self.leap_of_four(nw, ne, sw, se, grain, watch);
                 }
                 let id = self.join(nw, ne, sw, se, grain)?;

@@ -17,7 +17,8 @@ use Rattle.ca_run.proofs.Costs.{at_cost_none, at_cost_more, at_cost_as, at_both_
 use Rattle.ca_run.proofs.leaper.Leaper.+leap.Goals as goal
 
 pub centre-returns-in-Some-clause-at_cost : goal.centre-returns-in-Some-clause-at_cost
-centre-returns-in-Some-clause-at_cost g t c = at_cost_none c.args.self.now (subst (λ l. IsSoundStore l.nodes) c.self.view_is c.self.invariant.squares)
+centre-returns-in-Some-clause-at_cost g t c =
+    at_cost_as refl c.recall.ensures.same (at_cost_none c.args.self.now (subst (λ l. IsSoundStore l.nodes) c.self.view_is c.self.invariant.squares))
 
 pub first_centre-returns-in-Some-clause-shows : goal.first_centre-returns-in-Some-clause-shows
 first_centre-returns-in-Some-clause-shows g t c = λ next p a b e shows.
@@ -245,13 +246,17 @@ centre-returns-in_err-half-clause-at_cost g t c =
 
 pub centre-returns-in_err-remember-clause-at_cost : goal.centre-returns-in_err-remember-clause-at_cost
 centre-returns-in_err-remember-clause-at_cost g t c =
+    at_cost_as refl (c.remember.ensures ∙ c.recall.ensures.same) (at_cost_none c.args.self.now (subst (λ l. IsSoundStore l.nodes) c.self.view_is c.self.invariant.squares))
+
+pub centre-returns-in_err-remember-2-clause-at_cost : goal.centre-returns-in_err-remember-2-clause-at_cost
+centre-returns-in_err-remember-2-clause-at_cost g t c =
     let charged = c.in_ok-charge_watched.ensures in
-    at_cost_of_centre c.args.grain c.recall.ensures.same c.remember.ensures charged.at_cost charged.counts charged.same c.new_centre.ensures.at_cost
+    at_cost_of_centre c.args.grain c.recall.ensures.same c.remember-2.ensures charged.at_cost charged.counts charged.same c.new_centre.ensures.at_cost
 
 pub centre-returns-clause-at_cost : goal.centre-returns-clause-at_cost
 centre-returns-clause-at_cost g t c =
     let charged = c.in_ok-charge_watched.ensures in
-    at_cost_of_centre c.args.grain c.recall.ensures.same c.remember.ensures charged.at_cost charged.counts charged.same c.new_centre.ensures.at_cost
+    at_cost_of_centre c.args.grain c.recall.ensures.same c.remember-2.ensures charged.at_cost charged.counts charged.same c.new_centre.ensures.at_cost
 
 pub new_centre-returns-then-j-grain-clause-at_cost : goal.new_centre-returns-then-j-grain-clause-at_cost
 new_centre-returns-then-j-grain-clause-at_cost g t c = at_cost_of_nine c.args.grain (grind (arith, nat_tests, c.if-grain-eq0.false)) c.centre_of_nine.ensures.at_cost
@@ -274,8 +279,8 @@ first_inner-returns-in_ok-id-in-Some-clause-shows g t c = λ next p a b e four.
 pub first_inner-returns-in_ok-id-in-Some-clause-at_cost : goal.first_inner-returns-in_ok-id-in-Some-clause-at_cost
 first_inner-returns-in_ok-id-in-Some-clause-at_cost g t c = at_cost_more (at_both_costs c.in_ok-id-in-Some.ensures.at_cost c.centre.ensures.at_cost) (omega arith) (omega arith)
 
-pub first_inner-returns-then-is_none-clause-shows : goal.first_inner-returns-then-is_none-clause-shows
-first_inner-returns-then-is_none-clause-shows g t c = λ next p a b e four.
+pub first_inner-returns-then-j-grain-clause-shows : goal.first_inner-returns-then-j-grain-clause-shows
+first_inner-returns-then-j-grain-clause-shows g t c = λ next p a b e four.
     let k = c.args.grain in
     let all : k ≡ c.in-Some.j = grind (arith, nat_tests) in
     let sound = subst (λ l. IsSoundStore l.nodes) c.self.view_is c.self.invariant.squares in
@@ -286,8 +291,8 @@ first_inner-returns-then-is_none-clause-shows g t c = λ next p a b e four.
     (leap_shows next c.args.self.now.nodes new sound c.leap_of_four.ensures.at_cost.goes_on.grows r k c.args.nw c.args.ne c.args.sw c.args.se p a b four
     (subst (λ f. IfOk r (IsLeap f new k c.args.nw c.args.ne c.args.sw c.args.se)) (sym e) c.leap_of_four.ensures.leap)))
 
-pub first_inner-returns-then-is_none-clause-square : goal.first_inner-returns-then-is_none-clause-square
-first_inner-returns-then-is_none-clause-square g t c =
+pub first_inner-returns-then-j-grain-clause-square : goal.first_inner-returns-then-j-grain-clause-square
+first_inner-returns-then-j-grain-clause-square g t c =
     leap_square (g.A.Automaton.next_of c.args.self.now.rule) c.leap_of_four.new.self.nodes c.leap_of_four.result c.args.grain c.args.nw c.args.ne c.args.sw c.args.se c.leap_of_four.ensures.leap
 
 pub leap_of_four-remember_leap-requires : goal.leap_of_four-remember_leap-requires
