@@ -307,5 +307,5 @@ fn table_slots(memo: usize, by_masks: bool) -> (usize, usize)
     ensures { result.0 + result.1 ≤ memo / 2 }
 {
     let centres = if by_masks { memo / 16 } else { 0 };
-    (centres, memo / 4)
+    (slots::of_entries(centres), slots::of_entries(memo / 4))
 }

@@ -11,6 +11,13 @@ use std::marker::Model;
 // How many slots there are at first.
 const FIRST: usize = 1024;
 
+/// How many slots so many entries of a memo make: none, if they are too few for a table.
+pub(super) fn of_entries(entries: usize) -> usize
+    ensures { result ≤ entries }
+{
+    if entries < FIRST { 0 } else { entries }
+}
+
 /// Squares that are results, by their keys. A result has the slot of its key's hash until another comes
 /// there.
 #[derive(Drop)]
