@@ -1,5 +1,5 @@
 -- What is found of the plane of a file's pattern, and what finding it may need.
-use Rattle.std.proofs.Common.{◌≡◌, ℕ, ◌+◌, ◌≤◌, List, Option, Result, Ok, Err, refl, sym, subst, ◌∙◌, arith}
+use Rattle.std.proofs.Common.{◌≡◌, ℕ, ◌+◌, ◌≤◌, List, Option, None, Some, Result, Ok, Err, inl, inr, refl, ap, sym, subst, ◌∙◌, arith}
 use Rattle.std.specs.Prelude.{ℤ, ◌-ℤ◌, IfOk, IfErr}
 use Rattle.ca_plane.specs.Plane.{Picture, IsLive, shifted}
 use Rattle.ca_plane.specs.Plane as plane
@@ -8,6 +8,7 @@ use Rattle.ca_plane.proofs.Shifts.{cell-shifted}
 use Rattle.ca_quad.specs.declared.node.Node.{Node}
 use Rattle.ca_quad.specs.Trees as trees
 use Rattle.ca_quad.specs.Trees.{HoldsAll}
+use Rattle.ca_quad.proofs.Growth.{below_or_not}
 use Rattle.ca_rule.specs.TableNext.{TableRule}
 use Rattle.ca_rule.specs.Rule.{next_of}
 use Rattle.ca_run.proofs.After.{after_same}
@@ -19,11 +20,13 @@ use Rattle.ca_claims.specs.declared.claims.asks.Barred.TheVariants.{Nothing, InP
 use Rattle.ca_claims.specs.declared.claims.line.Kind.{Kind}
 use Rattle.ca_claims.specs.declared.identity.Identity.{Identity}
 use Rattle.ca_claims.specs.declared.identity.Identity.TheVariants.{Empty, StillLife, Oscillator, Spaceship, Dies, Unknown}
+use Rattle.ca_claims.specs.declared.scope.Scope.{Scope}
+use Rattle.ca_claims.specs.declared.scope.Look.{Look}
 use Rattle.ca_claims.specs.declared.detailed_fault.DetailedFault.{DetailedFault}
 use Rattle.ca_claims.specs.declared.ruled.RuledPattern.{RuledPattern}
 use Rattle.ca_claims.specs.declared.verdict.Cause.{Cause}
 use Rattle.ca_claims.specs.declared.verdict.Cause.TheVariants.{NoFile, BadTable, BadPattern, BadRule, StateTooLarge, MixedRules, TooManyCells, Work, Memory}
-use Rattle.ca_claims.specs.Identified.{IsTrueWithin, IsIdentity, IsIdentified, IsIdentifiedAfter, HoldsSmallPattern, MayNeedWork, MayNeedWorkAfter, IsUnidentifiedFor, IsUnidentified, IsUnidentifiedAfterFor, IsUnidentifiedAfter}
+use Rattle.ca_claims.specs.Identified.{IsTrueWithin, IsIdentity, IsIdentified, IsIdentifiedAfter, IsLookAt, HoldsSmallPattern, MayNeedWork, MayNeedWorkAfter, IsUnidentifiedFor, IsUnidentified, IsUnidentifiedAfterFor, IsUnidentifiedAfter}
 use Rattle.ca_claims.specs.Truth.{asks_of, wanted_cells, IsTrueClaim, ShowsNothingBarred}
 use Rattle.ca_claims.specs.inner.Patterns.{rule_of}
 use Rattle.ca_claims.specs.inner.Ready.{IsReady}
@@ -111,6 +114,22 @@ module _ (next : List ℕ → ℕ) (p q : Picture) (same : (x y : ℤ) → plane
 pub identified_now : (bytes : List ℕ) (tables : List TableRule) (limit : ℕ) (result : Result Identity (DetailedFault Cause)) → IfOk result (IsIdentifiedAfter bytes tables 0 limit) → IfOk result (IsIdentified bytes tables limit)
 identified_now bytes tables limit (Ok identity) (cells, rule, holds, (later, stands, is)) = (cells, rule, holds, same_identity (next_of rule) later cells (λ x y. sym (stands x y)) limit identity is)
 identified_now bytes tables limit (Err why) none = tt
+
+-- and what a look finds that has no end to its patience is found within its limit
+pub identified_whole : (bytes : List ℕ) (tables : List TableRule) (n limit : ℕ) (scope : Scope) (look : Look) → scope ≡ record { limit = limit; patience = None }
+    → IsLookAt bytes tables n scope look → IsIdentifiedAfter bytes tables n limit look.identity
+identified_whole bytes tables n limit scope look whole (cells, rule, holds, (later, stands, is)) =
+    let most = is.most in
+    let at_end : scope.limit ≡ limit = ap (λ (s : Scope). s.limit) whole in
+    let none : scope.patience ≡ None = ap (λ (s : Scope). s.patience) whole in
+    let all : look.limit ≡ limit = elim (below_or_not look.limit scope.limit) [
+      | inl less ↦ let early = is.early less in absurd (some_or_none scope.patience early.2 early.3 none)
+      | inr from ↦ omega (arith, most, from, at_end)
+    ] in
+    (cells, rule, holds, (later, stands, subst (λ k. IsIdentity (next_of rule) later k look.identity) all is.identity))
+  where
+    some_or_none : (patience : Option ℕ) (units : ℕ) → patience ≡ Some units → patience ≡ None → ⊥
+    some_or_none patience units some none = cc
 
 -- steps alone may need what they may need after no generations
 needs_now : (work : ℕ) (stages : ℕ → ℤ → ℤ → ℕ) (limit : ℕ) → 1 ≤ limit → MayNeedWorkAfter work 0 stages limit → MayNeedWork work stages limit

@@ -19,10 +19,11 @@ use Rattle.ca_claims.specs.declared.identification.stage.Stage.TheVariants.{Othe
 use Rattle.ca_claims.specs.declared.identity.Growth.{Growth}
 use Rattle.ca_claims.specs.declared.identity.Identity.{Identity}
 use Rattle.ca_claims.specs.declared.identity.Identity.TheVariants.{Unknown}
-use Rattle.ca_claims.specs.Identified.{IsIdentity, IsIdentityAfter, IsTrueWithin, HasNoTrueClaim}
+use Rattle.ca_claims.specs.declared.scope.Scope.{Scope}
+use Rattle.ca_claims.specs.Identified.{IsIdentity, IsTrueWithin, HasNoTrueClaim, IsLook, MayNeedWork}
 use Rattle.ca_plane.specs.Limits.{longest_period}
 use Rattle.ca_claims.specs.Truth.{IsChanged, IsNowhere, IsLiveAfter}
-use Rattle.ca_claims.specs.inner.Stages.{IsFirst, IsStage, IsReturn, IsLaterTree, IsGrowthOf, AreMoved, AreMovedNowhere, AreOtherUpTo, IsEnding, HasNoReturn}
+use Rattle.ca_claims.specs.inner.Stages.{IsFirst, IsStage, IsReturn, IsLaterTree, IsGrowthOf, AreMoved, AreMovedNowhere, AreOtherUpTo, IsEnding, HasNoReturn, TakesSearch}
 use Rattle.ca_claims.specs.inner.Subjects.{ShowsTree, HasLive}
 use Rattle.ca_claims.proofs.Deaths.{live_at_all}
 use Rattle.ca_claims.proofs.LaterPlanes.{tree_picture}
@@ -176,10 +177,24 @@ module _ (next : List ℕ → ℕ) (quiet : next (replicate 9 0) ≡ 0) (nodes :
 -- ---- a plane some generations on
 
 -- what is found of its tree is found of the plane
-pub found_later : (next : List ℕ → ℕ) (p : ℤ → ℤ → ℕ) (cells : Picture) (n : ℕ) (nodes : List Node) (start : Tree) (limit : ℕ) (result : Result Identity LeapFault)
+pub found_later : {T : Type 0} (next : List ℕ → ℕ) (p : ℤ → ℤ → ℕ) (cells : Picture) (n : ℕ) (nodes : List Node) (start : Tree) (IsFound : Picture → T → Type 0) (result : Result T LeapFault)
     → ((x y : ℤ) → plane.cell cells x y ≡ p x y) → IsLaterTree next p n nodes start
-    → ((later : Picture) → ShowsTree nodes start later → IfOk result (IsIdentity next later limit)) → IfOk result (IsIdentityAfter next cells n limit)
-found_later next p cells n nodes start limit result shows is told =
+    → ((later : Picture) → ShowsTree nodes start later → IfOk result (IsFound later)) → IfOk result (λ found. (later : Picture) × IsAfter next cells n later × IsFound later found)
+found_later next p cells n nodes start IsFound result shows is told =
     let (last, same) = tree_picture nodes start in
     let shown : ShowsTree nodes start last = λ x y. sym (same x y) in
     ok_as result _ _ (λ identity found. (last, picture_after next p cells last n nodes start shows is shown, found)) (told last shown)
+
+-- ---- looks
+
+-- one that goes to the end of its scope
+pub whole_look : (next : List ℕ → ℕ) (cells : Picture) (scope : Scope) (identity : Identity) → 1 ≤ scope.limit → IsIdentity next cells scope.limit identity
+    → IsLook next cells scope (record { identity = identity; limit = scope.limit })
+whole_look next cells scope identity some is = record { some = some; most = omega arith; identity = is; early = λ less. absurd (omega (arith, less)) }
+
+-- a search of some cells' tree may need as much work as is used up
+pub search_needs : (next : List ℕ → ℕ) (p : ℤ → ℤ → ℕ) (cells : Picture) → ((x y : ℤ) → plane.cell cells x y ≡ p x y) → (old mid new units limit : ℕ) → old ≤ mid → mid + units ≤ new
+    → TakesSearch old new (cells_after next p) limit → MayNeedWork units (after next cells) limit
+search_needs next p cells shows old mid new units limit rises used takes level some holds =
+    let most = takes level some (λ m less x y live. holds m less x y (λ none. live (sym (later next p cells shows m x y) ∙ none))) in
+    omega (arith, rises, used, most)

@@ -1,6 +1,6 @@
 -- Trees as a leaper goes on: what was known of them stays, and what the pictures that they show have after some generations.
 use Rattle.std.proofs.Common.{◌≡◌, ℕ, List, Option, Some, None, Result, Ok, Err, MatchOption, refl, sym, subst, ◌∙◌}
-use Rattle.std.specs.Prelude.{ℤ, ◌-ℤ◌, IfOk, IsNone}
+use Rattle.std.specs.Prelude.{ℤ, ◌-ℤ◌, IfOk, OnErr, IsNone}
 use Rattle.ca_plane.specs.Plane.{Picture, shifted}
 use Rattle.ca_plane.specs.Plane as plane
 use Rattle.ca_plane.proofs.Shifts.{cell-shifted}
@@ -80,6 +80,11 @@ module _ (old new : List Node) (sound : IsSoundStore old) (grows : Grows old new
 pub ok_as : {T E : Type 0} (r : Result T E) (P Q : T → Type 0) → ((t : T) → P t → Q t) → IfOk r P → IfOk r Q
 ok_as (Ok t) P Q turn h = turn t h
 ok_as (Err e) P Q turn h = tt
+
+-- what holds anyhow holds where it fails
+pub on_err : {T E : Type 0} (r : Result T E) (P : Type 0) → P → OnErr r P
+on_err (Ok t) P is = tt
+on_err (Err e) P is = is
 
 -- a tree that shows another one's cells, moved, shows a picture of that one, moved
 pub moved_shown : (old new : List Node) (other tree : Tree) (p : Picture) (dx dy : ℤ) → ShowsTree old other p → ((x y : ℤ) → cell new tree x y ≡ shifted_cells (cell old other) dx dy x y)

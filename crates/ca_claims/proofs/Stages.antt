@@ -24,7 +24,7 @@ use Rattle.ca_claims.specs.declared.identification.stage.Stage.{Stage}
 use Rattle.ca_claims.specs.declared.identification.walk.Walk.{Walk}
 use Rattle.ca_claims.specs.declared.identification.stage.Stage.TheVariants.{Empty, Back, Other}
 use Rattle.ca_claims.specs.inner.Spending.{Takes}
-use Rattle.ca_claims.specs.inner.Stages.{IsWithinPlane, IsStart, CanGoOn, IsFirst, AreMoved, AreMovedNowhere, IsStage, IsLaterTree, AreOtherUpTo, IsWalk, TakesSteps, TakesSearch, TakesRun, TakesRunAndSearch, step_work, leap_work}
+use Rattle.ca_claims.specs.inner.Stages.{IsWithinPlane, IsStart, CanGoOn, IsFirst, AreMoved, AreMovedNowhere, IsStage, IsLaterTree, AreOtherUpTo, IsWalk, IsHalted, TakesSteps, TakesSearch, TakesSearchFrom, TakesRun, TakesRunAndSearch, step_work, leap_work}
 use Rattle.ca_claims.proofs.Corners.{live_after}
 use Rattle.ca_claims.proofs.CellsNearMiddle.{live_near, trimmed_low}
 use Rattle.ca_claims.proofs.LeaptTrees.{near_stays}
@@ -206,6 +206,28 @@ walk_stays next p old new sound grows walk is = record {
   boxes = boxes_stay old new sound grows walk.boxes is.boxes;
 }
 
+-- ---- walks that are halted
+
+-- one that goes on is, where it is
+pub halted_here : (next : List ℕ → ℕ) (p : ℤ → ℤ → ℕ) (nodes : List Node) (walk : Walk) (begun end : ℕ) → begun ≤ walk.generations → walk.generations ≤ end → IsWalk next p nodes walk → IsHalted next p nodes begun end walk
+halted_here next p nodes walk begun end some few is = record { now = is.now; others = is.others; later = some; within = few }
+
+-- one that began later, up to a nearer end
+pub halted_within : (next : List ℕ → ℕ) (p : ℤ → ℤ → ℕ) (nodes : List Node) (walk : Walk) (first begun end last : ℕ) → first ≤ begun → end ≤ last → IsHalted next p nodes begun end walk → IsHalted next p nodes first last walk
+halted_within next p nodes walk first begun end last more few is =
+    let begins = is.later in
+    let ends = is.within in
+    record { now = is.now; others = is.others; later = omega (arith, more, begins); within = omega (arith, few, ends) }
+
+-- one over the same first cells
+pub halted_as : (next : List ℕ → ℕ) (p q : ℤ → ℤ → ℕ) (nodes : List Node) (walk : Walk) (begun end : ℕ) → ((x y : ℤ) → p x y ≡ q x y) → IsHalted next p nodes begun end walk → IsHalted next q nodes begun end walk
+halted_as next p q nodes walk begun end same is = record {
+  now = later_as next p q walk.generations nodes walk.tree same is.now;
+  others = λ m some within. stage_as p (cells_after next p m) q (cells_after next q m) same (λ x y. after_same next p q m same x y) Other (is.others m some within);
+  later = is.later;
+  within = is.within;
+}
+
 -- ---- the work that steps take
 
 -- none
@@ -233,28 +255,51 @@ fewer_steps old new stages limit n k few takes level some holds =
 pub steps_as : (old new : ℕ) (stages others : ℕ → ℤ → ℤ → ℕ) (limit n : ℕ) → ((m : ℕ) (x y : ℤ) → others m x y ≡ stages m x y) → TakesSteps old new others limit n → TakesSteps old new stages limit n
 steps_as old new stages others limit n same takes level some holds = takes level some (λ m less x y live. holds m less x y (λ none. live (same m x y ∙ none)))
 
-parts_of_product : (a b x : ℕ) → (a + b) * x ≡ a * x + b * x
-parts_of_product a b x = omega arith
+three_parts : (a b c x : ℕ) → (a + b + c) * x ≡ a * x + b * x + c * x
+three_parts a b c x = omega arith
 
--- a search: the first steps, leaps and strides, and the steps that are left
-pub whole_search : (old mid leapt new : ℕ) (stages : ℕ → ℤ → ℤ → ℕ) (early limit : ℕ) → early ≤ limit → TakesSteps old mid stages early early
+-- a search from where some steps were taken: the other ones of the first steps, leaps and strides, and the steps that are left
+pub whole_search : (old mid leapt new : ℕ) (stages : ℕ → ℤ → ℤ → ℕ) (begun early limit : ℕ) → begun ≤ early → early ≤ limit → TakesSteps old mid stages early (early - begun)
     → leapt ≤ mid + leap_work limit + leap_work limit
-    → TakesSteps leapt new stages limit (limit - early) → TakesSearch old new stages limit
-whole_search old mid leapt new stages early limit few first leaps rest level some holds =
+    → TakesSteps leapt new stages limit (limit - early) → TakesSearchFrom old new stages begun limit
+whole_search old mid leapt new stages begun early limit later few first leaps rest level some holds =
     let x = 14 ^ (level + 2) in
-    let begun = first level some (λ m less. holds m (omega (arith, less, few))) in
+    let started = first level some (λ m less. holds m (omega (arith, less, few))) in
     let ended = rest level some holds in
-    let all : early + (limit - early) ≡ limit = omega (arith, few) in
-    let parts = parts_of_product early (limit - early) (13 * x) in
-    let both : limit * (13 * x) ≡ early * (13 * x) + (limit - early) * (13 * x) = subst (λ n. n * (13 * x) ≡ early * (13 * x) + (limit - early) * (13 * x)) all parts in
+    let all : begun + (early - begun) + (limit - early) ≡ limit = omega (arith, few, later) in
+    let parts = three_parts begun (early - begun) (limit - early) (13 * x) in
+    let both : limit * (13 * x) ≡ begun * (13 * x) + (early - begun) * (13 * x) + (limit - early) * (13 * x) =
+    subst (λ n. n * (13 * x) ≡ begun * (13 * x) + (early - begun) * (13 * x) + (limit - early) * (13 * x)) all parts in
     let power = power_more 3 (level + 2) (omega (arith, some)) in
     let share : limit * 14 ^ 3 ≤ limit * x = mul-le-mul_left limit power in
     let up : 14 ^ (level + 3) ≡ 14 * x = power_next (level + 2) (level + 3) (omega arith) in
     let top : limit * 14 ^ (level + 3) ≡ limit * (13 * x) + limit * x = subst (λ k. limit * k ≡ limit * (13 * x) + limit * x) (sym up) (omega arith) in
-    omega (arith, begun, leaps, ended, both, share, top)
+    omega (arith, started, leaps, ended, both, share, top)
   where
     power_next : (g h : ℕ) → h ≡ suc g → 14 ^ h ≡ 14 * 14 ^ g
     power_next g h e = subst (λ k. 14 ^ k ≡ 14 * 14 ^ g) (sym e) (power_suc g)
+
+-- its first steps alone
+pub early_search : (old new : ℕ) (stages : ℕ → ℤ → ℤ → ℕ) (begun early limit : ℕ) → begun ≤ early → early ≤ limit → TakesSteps old new stages early (early - begun) → TakesSearchFrom old new stages begun limit
+early_search old new stages begun early limit later few takes =
+    whole_search old new new new stages begun early limit later few takes (omega arith) (no_step new new stages limit (limit - early) refl)
+
+-- where steps were taken before is of no account
+pub search_alone : (old new : ℕ) (stages : ℕ → ℤ → ℤ → ℕ) (begun limit : ℕ) → TakesSearchFrom old new stages begun limit → TakesSearch old new stages limit
+search_alone old new stages begun limit takes level some holds =
+    let most = takes level some holds in
+    omega (arith, most)
+
+-- the same over the same planes
+pub search_as : (old new : ℕ) (stages others : ℕ → ℤ → ℤ → ℕ) (begun limit : ℕ) → ((m : ℕ) (x y : ℤ) → others m x y ≡ stages m x y) → TakesSearchFrom old new others begun limit → TakesSearchFrom old new stages begun limit
+search_as old new stages others begun limit same takes level some holds = takes level some (λ m less x y live. holds m less x y (λ none. live (same m x y ∙ none)))
+
+-- one step, and a search from there
+pub step_then_search : (old mid new : ℕ) (stages : ℕ → ℤ → ℤ → ℕ) (begun limit : ℕ) → 1 ≤ limit → TakesSteps old mid stages 1 (1 - begun) → TakesSearchFrom mid new stages 1 limit → TakesSearch old new stages limit
+step_then_search old mid new stages begun limit more first rest level some holds =
+    let one = fewer_steps old mid stages 1 (1 - begun) 1 (omega arith) first level some (λ m less. holds m (omega (arith, less, more))) in
+    let most = rest level some holds in
+    omega (arith, one, most)
 
 -- a run of some generations
 pub some_run : (old new level n : ℕ) → (n ≡ 0 → ⊥) → Takes old new 1 level n → TakesRun old new level n

@@ -13,6 +13,8 @@ use Rattle.ca_claims.specs.declared.claims.line.Kind.TheVariants as kind
 use Rattle.ca_claims.specs.declared.identity.Identity.{Identity}
 use Rattle.ca_claims.specs.declared.identity.Identity.TheVariants.{Empty, StillLife, Oscillator, Spaceship, Dies, Unknown}
 use Rattle.ca_claims.specs.declared.identity.Growth.{Growth}
+use Rattle.ca_claims.specs.declared.scope.Scope.{Scope}
+use Rattle.ca_claims.specs.declared.scope.Look.{Look}
 use Rattle.ca_claims.specs.declared.detailed_fault.DetailedFault.{DetailedFault}
 use Rattle.ca_claims.specs.declared.verdict.Cause.{Cause}
 use Rattle.ca_claims.specs.declared.verdict.Cause.TheVariants.{BadPattern, BadRule, StateTooLarge, Work, Memory}
@@ -62,6 +64,29 @@ IsIdentity next cells limit (Unknown growth) = IsLive cells × HasNoTrueClaim ne
 abbrev pub IsIdentityAfter : (List ℕ → ℕ) → Picture → (n limit : ℕ) → Identity → Type 0
 IsIdentityAfter next cells n limit identity = (later : Picture) × IsAfter next cells n later × IsIdentity next later limit identity
 
+-- the work is no more than so many steps of one generation may need, of a tree of a level that holds every live cell before each of them:
+-- 14 to the power of the level and 3
+abbrev pub MayNeedWork : ℕ → (ℕ → ℤ → ℤ → ℕ) → (limit : ℕ) → Type 0
+MayNeedWork work stages limit = (level : ℕ) → 1 ≤ level → ((n : ℕ) → n < limit → HoldsAll level (stages n)) → work ≤ limit * 14 ^ (level + 3)
+
+-- a look with this scope may end before its limit: nothing is found, and the units of work for which it has patience are no more than a look up to the
+-- limit may need
+abbrev pub MayEndEarly : (List ℕ → ℕ) → Picture → Scope → Identity → Type 0
+MayEndEarly next cells scope identity = (growth : Growth) × (identity ≡ Unknown growth)
+    × (units : ℕ) × (scope.patience ≡ Some units) × MayNeedWork units (after next cells) scope.limit
+
+-- what a look at the cells with this scope finds: what they are within the generations that were looked at, one at least. These are all up to the limit
+-- of the scope, but where patience ended the look
+pub record IsLook (next : List ℕ → ℕ) (cells : Picture) (scope : Scope) (look : Look) : Type 0 where
+  pub some : 1 ≤ look.limit
+  pub most : look.limit ≤ scope.limit
+  pub identity : IsIdentity next cells look.limit look.identity
+  pub early : look.limit < scope.limit → MayEndEarly next cells scope look.identity
+
+-- the same of the plane n generations on from these cells
+abbrev pub IsLookAfter : (List ℕ → ℕ) → Picture → (n : ℕ) → Scope → Look → Type 0
+IsLookAfter next cells n scope look = (later : Picture) × IsAfter next cells n later × IsLook next later scope look
+
 -- the bytes are a file whose pattern has these cells, of small states, under the rule that its rule text names, at some generation
 abbrev pub HoldsSmallPattern : List ℕ → List TableRule → Picture → RuleValue → Type 0
 HoldsSmallPattern bytes tables cells rule = (generation : ℕ) × HoldsSmallRuledPattern bytes tables cells rule generation
@@ -76,10 +101,10 @@ abbrev pub IsIdentifiedAfter : List ℕ → List TableRule → (n limit : ℕ) �
 IsIdentifiedAfter bytes tables n limit identity = (cells : Picture) × (rule : RuleValue) × HoldsSmallPattern bytes tables cells rule
     × IsIdentityAfter (next_of rule) cells n limit identity
 
--- the work is no more than so many steps of one generation may need, of a tree of a level that holds every live cell before each of them:
--- 14 to the power of the level and 3
-abbrev pub MayNeedWork : ℕ → (ℕ → ℤ → ℤ → ℕ) → (limit : ℕ) → Type 0
-MayNeedWork work stages limit = (level : ℕ) → 1 ≤ level → ((n : ℕ) → n < limit → HoldsAll level (stages n)) → work ≤ limit * 14 ^ (level + 3)
+-- it is that of a look with this scope at that plane
+abbrev pub IsLookAt : List ℕ → List TableRule → (n : ℕ) → Scope → Look → Type 0
+IsLookAt bytes tables n scope look = (cells : Picture) × (rule : RuleValue) × HoldsSmallPattern bytes tables cells rule
+    × IsLookAfter (next_of rule) cells n scope look
 
 -- what a run of n generations may need: nothing where n is 0, and else 14 to the power of a level that holds the first cells, the binary digits of n, and 2
 abbrev pub run_work : (n level digits : ℕ) → ℕ

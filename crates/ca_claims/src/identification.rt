@@ -6,7 +6,8 @@ ghost use Rattle.ca_plane.specs.Generations.{cells_after};
 ghost use Rattle.ca_quad.specs.Trees.{cell};
 ghost use Rattle.ca_run.specs.Leaping.{LeaperGrows, EndsAtLimit};
 ghost use Rattle.ca_claims.specs.Identified.{IsIdentified, IsUnidentified};
-ghost use Rattle.ca_claims.specs.Identified.{IsIdentityAfter, IsIdentifiedAfter, IsUnidentifiedAfter};
+ghost use Rattle.ca_claims.specs.Identified.{IsIdentifiedAfter, IsUnidentifiedAfter};
+ghost use Rattle.ca_claims.specs.Identified.{IsLookAfter, IsLookAt};
 ghost use Rattle.ca_claims.specs.Limited.{AreGoodLimits};
 ghost use Rattle.ca_plane.specs.Limits.{longest_period, most_generations};
 ghost use Rattle.ca_claims.specs.inner.Patterns.{cause_of};
@@ -19,6 +20,7 @@ mod ending;
 mod growth;
 mod later;
 mod leaps;
+mod patience;
 mod search;
 mod stage;
 mod strides;
@@ -31,13 +33,14 @@ use crate::leaper::leaper_of;
 use crate::limits::Limits;
 use crate::observer::Observer;
 use crate::ruled::{RuledPattern, read_ruled};
+use crate::scope::{Look, Scope};
 use crate::verdict::Cause;
 use ca_plane::Automaton;
 use ca_quad::{Store, Tree};
 use ca_rule::Table;
 use ca_run::{LeapFault, Leaper};
 use later::later_tree;
-use search::search;
+use patience::look;
 use stage::First;
 use std::alloc::Global;
 
@@ -100,6 +103,35 @@ pub fn identify_after<O: Observer>(
     ensures unidentified { IfErr result
         (IsUnidentifiedAfter bytes.now tables.now limits.work generations limit) }
 {
+    let scope = Scope::whole(limit);
+    let look = look_after(alloc, bytes, tables, generations, limits, scope, observer)?;
+    Ok(look.identity)
+}
+
+/// The same as far as the scope says: where it has patience for so many units of work, they bound what the generations
+/// from there on take, after the first of them. Where they are used up before it is found what the plane is, the look
+/// ends with the generations that were looked at by then, one at least.
+///
+/// # Errors
+///
+/// As for `identify_after`. Where patience ends a look, that is no error.
+pub fn look_after<O: Observer>(
+    alloc: Global,
+    bytes: &[u8],
+    tables: &[Table],
+    generations: u64,
+    limits: Limits,
+    scope: Scope,
+    observer: &mut O,
+) -> Result<Look, DetailedFault<Cause>>
+    requires limits { AreGoodLimits limits }
+    requires few { generations ≤ most_generations }
+    requires some { 1 ≤ scope.limit }
+    requires most { scope.limit ≤ longest_period }
+    ensures look { IfOk result (IsLookAt bytes.now tables.now generations scope) }
+    ensures unidentified { IfErr result
+        (IsUnidentifiedAfter bytes.now tables.now limits.work generations scope.limit) }
+{
     let mut store = Store::new(alloc);
     let RuledPattern { pattern, rule } = match read_ruled(alloc, &mut store, bytes, tables) {
         Ok(ruled) => ruled,
@@ -111,16 +143,16 @@ pub fn identify_after<O: Observer>(
     let Ok(mut leaper) = leaper_of(alloc, store, rule, limits) else {
         return Err(OUT_OF_MEMORY);
     };
-    match identity_after(
+    match look_at_plane(
         alloc,
         &mut leaper,
         limits,
         pattern.tree,
         generations,
-        limit,
+        scope,
         observer,
     ) {
-        Ok(identity) => Ok(identity),
+        Ok(look) => Ok(look),
         Err(LeapFault::Memory) => Err(OUT_OF_MEMORY),
         Err(LeapFault::Work) => Err(DetailedFault::of(Cause::Work)),
     }
@@ -139,26 +171,26 @@ fn cause_of(fault: ConvertFault) -> Cause
     }
 }
 
-/// What the plane of a pattern's tree is so many generations on, within the limit from there.
-fn identity_after<A: Automaton, O: Observer>(
+/// What the plane of a pattern's tree is so many generations on, as far from there as the scope says.
+fn look_at_plane<A: Automaton, O: Observer>(
     alloc: Global,
     leaper: &mut Leaper<A>,
     limits: Limits,
     pattern: Tree,
     generations: u64,
-    limit: u64,
+    scope: Scope,
     observer: &mut O,
-) -> Result<Identity, LeapFault>
+) -> Result<Look, LeapFault>
     requires limits { HasLimits limits leaper.old }
     requires pattern { IsPattern leaper.old.nodes pattern }
     requires few { generations ≤ most_generations }
-    requires some { 1 ≤ limit }
-    requires most { limit ≤ longest_period }
-    ensures identity { (cells : Picture) → ShowsTree leaper.old.nodes pattern cells
-        → IfOk result (IsIdentityAfter (A.next_of leaper.old.rule) cells generations limit) }
+    requires some { 1 ≤ scope.limit }
+    requires most { scope.limit ≤ longest_period }
+    ensures look { (cells : Picture) → ShowsTree leaper.old.nodes pattern cells
+        → IfOk result (IsLookAfter (A.next_of leaper.old.rule) cells generations scope) }
     ensures goes_on { LeaperGrows A leaper.old leaper.new }
     ensures takes { TakesRunAndSearch leaper.old.spent.used leaper.new.spent.used pattern.level generations
-        (cells_after (A.next_of leaper.old.rule) (cell leaper.old.nodes pattern)) limit }
+        (cells_after (A.next_of leaper.old.rule) (cell leaper.old.nodes pattern)) scope.limit }
     ensures work { EndsAtLimit leaper.new.spent result }
 {
     // Says what holds of every leaper.
@@ -167,11 +199,14 @@ fn identity_after<A: Automaton, O: Observer>(
     let start = later_tree(leaper, pattern, generations, observer)?;
     let tree = &start;
     let Some(bounds) = leaper.store().bounds(alloc, *tree)? else {
-        return Ok(Identity::Empty);
+        return Ok(Look {
+            identity: Identity::Empty,
+            limit: scope.limit,
+        });
     };
     let first = First {
         tree: *tree,
         bounds,
     };
-    search(alloc, leaper, first, limit, observer)
+    look(alloc, leaper, first, scope, observer)
 }

@@ -17,6 +17,7 @@ use Rattle.ca_claims.specs.declared.claims.line.Kind.TheVariants as kind
 use Rattle.ca_claims.specs.declared.file.File.{File}
 use Rattle.ca_claims.specs.declared.identity.Identity.{Identity}
 use Rattle.ca_claims.specs.declared.identity.Growth.{Growth}
+use Rattle.ca_claims.specs.declared.scope.Scope.{Scope}
 use Rattle.ca_claims.specs.declared.verdict.Cause.{Cause}
 use Rattle.ca_claims.specs.declared.verdict.Cause.TheVariants as causes
 use Rattle.ca_claims.specs.declared.identity.Identity.TheVariants.{Empty, StillLife, Oscillator, Spaceship, Dies, Unknown}
@@ -148,34 +149,34 @@ refused_said earlier name path cause line word fits =
     (line_more (cause_text cause) _ (cause_inner cause) (line_more (at_line line) _ (at_inner line) line_end))))))
 
 -- the lines on a file say its name and its claim, after lines that begin with the version and don't load the name
-outcome_said : (tables : List TableRule) (work n limit : ℕ) (earlier : List ClaimTextLine) (name path : List ℕ) (content : Content) (outcome : Outcome)
-    → is_claim_path path ≡ true → IsContentOutcome tables work n limit content outcome → IsWord name → path_of earlier name ≡ None → is_second earlier ≡ true
-    → TextSays earlier (outcome_lines n limit name path outcome) (outcome_says n name path outcome)
-outcome_said tables work n limit earlier name path content Unnameable fits is word free second = absurd is
-outcome_said tables work n limit earlier name path content (Refused why) fits is word free second = refused_said earlier name path why.fault why.line word fits
-outcome_said tables work n limit earlier name path content (outcomes.FaultyRule rule) fits is word free second = refused_said earlier name path (causes.BadTable rule.fault) None word fits
-outcome_said tables work n limit earlier name path (Missing cause) (Identified identity) fits is word free second = absurd is
-outcome_said tables work n limit earlier name path (FaultyRule rule) (Identified identity) fits is word free second = absurd is
-outcome_said tables work n limit earlier name path (Bytes bytes) (Identified identity) fits (cells, rule, holds, (later, stands, is)) word free second =
-    says_then earlier _ _ (Load name path ∷ []) (found_says n name identity)
+outcome_said : (tables : List TableRule) (work n : ℕ) (scope : Scope) (earlier : List ClaimTextLine) (name path : List ℕ) (content : Content) (outcome : Outcome)
+    → is_claim_path path ≡ true → IsContentOutcome tables work n scope content outcome → IsWord name → path_of earlier name ≡ None → is_second earlier ≡ true
+    → TextSays earlier (outcome_lines n name path outcome) (outcome_says n name path outcome)
+outcome_said tables work n scope earlier name path content Unnameable fits is word free second = absurd is
+outcome_said tables work n scope earlier name path content (Refused why) fits is word free second = refused_said earlier name path why.fault why.line word fits
+outcome_said tables work n scope earlier name path content (outcomes.FaultyRule rule) fits is word free second = refused_said earlier name path (causes.BadTable rule.fault) None word fits
+outcome_said tables work n scope earlier name path (Missing cause) (Identified look) fits is word free second = absurd is
+outcome_said tables work n scope earlier name path (FaultyRule rule) (Identified look) fits is word free second = absurd is
+outcome_said tables work n scope earlier name path (Bytes bytes) (Identified look) fits (cells, rule, holds, (later, stands, is)) word free second =
+    says_then earlier _ _ (Load name path ∷ []) (found_says n name look.identity)
     (says_words earlier (codes "load" ∷ name ∷ path ∷ []) (Load name path) (refl, (word, (path_word path fits, tt))) refl refl free)
-    (found_said _ later n limit (earlier ++ Load name path ∷ []) name identity is word (loaded_now earlier name path free) (second_stays earlier (Load name path ∷ []) second))
+    (found_said _ later n look.limit (earlier ++ Load name path ∷ []) name look.identity is.identity word (loaded_now earlier name path free) (second_stays earlier (Load name path ∷ []) second))
 
 -- the comment on a file that can't be named says nothing
-unnameable_said : (n limit : ℕ) (earlier : List ClaimTextLine) (name path : List ℕ) (outcome : Outcome) → outcome ≡ Unnameable → IsWord name
-    → TextSays earlier (outcome_lines n limit name path outcome) (outcome_says n name path outcome)
-unnameable_said n limit earlier name path outcome e word =
-    subst (λ (o : Outcome). TextSays earlier (outcome_lines n limit name path o) (outcome_says n name path o)) (sym e)
+unnameable_said : (n : ℕ) (earlier : List ClaimTextLine) (name path : List ℕ) (outcome : Outcome) → outcome ≡ Unnameable → IsWord name
+    → TextSays earlier (outcome_lines n name path outcome) (outcome_says n name path outcome)
+unnameable_said n earlier name path outcome e word =
+    subst (λ (o : Outcome). TextSays earlier (outcome_lines n name path o) (outcome_says n name path o)) (sym e)
     (says_comment earlier _ (line_more (escaped name) _ (escaped_inner name) (line_more (codes ": ") _ refl (line_more (escaped path) _ (escaped_inner path)
     (line_more (codes ": no claim text can name this path") _ refl line_end)))))
 
-entry_said : (tables : List TableRule) (work n limit : ℕ) (taken : List (List ℕ)) (earlier : List ClaimTextLine) (subject : Subject) (entry : Entry) → IsEntry tables work n limit taken subject entry
-    → path_of earlier entry.name.items ≡ None → is_second earlier ≡ true → TextSays earlier (entry_lines n limit entry) (entry_says n entry)
-entry_said tables work n limit taken earlier subject entry is free second =
+entry_said : (tables : List TableRule) (work n : ℕ) (scope : Scope) (taken : List (List ℕ)) (earlier : List ClaimTextLine) (subject : Subject) (entry : Entry) → IsEntry tables work n scope taken subject entry
+    → path_of earlier entry.name.items ≡ None → is_second earlier ≡ true → TextSays earlier (entry_lines n entry) (entry_says n entry)
+entry_said tables work n scope taken earlier subject entry is free second =
     let word = free_word taken subject.path.now entry.name.items is.name in
     elim is.outcome [
-      | inl (none, e) ↦ unnameable_said n limit earlier entry.name.items entry.path.now entry.outcome e word
-      | inr (fits, of) ↦ outcome_said tables work n limit earlier entry.name.items entry.path.now subject.content entry.outcome (ap is_claim_path is.path ∙ fits) of word free second
+      | inl (none, e) ↦ unnameable_said n earlier entry.name.items entry.path.now entry.outcome e word
+      | inr (fits, of) ↦ outcome_said tables work n scope earlier entry.name.items entry.path.now subject.content entry.outcome (ap is_claim_path is.path ∙ fits) of word free second
     ]
 
 -- equal bytes are so in either order
@@ -211,16 +212,16 @@ free_after taken name other h =
     (parts.0, (or_parts (bytes_eq other name) false parts.1).0)
 
 -- the text of entries says their names and claims, after lines that begin with the version and load none of their names
-entries_said : (tables : List TableRule) (work n limit : ℕ) (taken : List (List ℕ)) (earlier : List ClaimTextLine) (subjects : List Subject) (entries : List Entry)
-    → AreEntries tables work n limit taken subjects entries → ((name : List ℕ) → is_taken taken name ≡ false → path_of earlier name ≡ None)
-    → is_second earlier ≡ true → TextSays earlier (flat_map (entry_lines n limit) entries) (flat_map (entry_says n) entries)
-entries_said tables work n limit taken earlier [] [] all free second = says_none earlier
-entries_said tables work n limit taken earlier [] (e ∷ es) all free second = absurd all
-entries_said tables work n limit taken earlier (s ∷ ss) [] all free second = absurd all
-entries_said tables work n limit taken earlier (s ∷ ss) (e ∷ es) all free second =
-    let one = entry_said tables work n limit taken earlier s e all.0 (free e.name.items all.0.name.new) second in
+entries_said : (tables : List TableRule) (work n : ℕ) (scope : Scope) (taken : List (List ℕ)) (earlier : List ClaimTextLine) (subjects : List Subject) (entries : List Entry)
+    → AreEntries tables work n scope taken subjects entries → ((name : List ℕ) → is_taken taken name ≡ false → path_of earlier name ≡ None)
+    → is_second earlier ≡ true → TextSays earlier (flat_map (entry_lines n) entries) (flat_map (entry_says n) entries)
+entries_said tables work n scope taken earlier [] [] all free second = says_none earlier
+entries_said tables work n scope taken earlier [] (e ∷ es) all free second = absurd all
+entries_said tables work n scope taken earlier (s ∷ ss) [] all free second = absurd all
+entries_said tables work n scope taken earlier (s ∷ ss) (e ∷ es) all free second =
+    let one = entry_said tables work n scope taken earlier s e all.0 (free e.name.items all.0.name.new) second in
     says_then earlier _ _ (entry_says n e) (flat_map (entry_says n) es) one
-    (entries_said tables work n limit (taken ++ e.name.items ∷ []) (earlier ++ entry_says n e) ss es all.1
+    (entries_said tables work n scope (taken ++ e.name.items ∷ []) (earlier ++ entry_says n e) ss es all.1
     (λ name new.
     let parts = free_after taken e.name.items name new in
     path_of-append earlier (entry_says n e) name ∙ ap (λ p. option_or p (path_of (entry_says n e) name)) (free name parts.0)
@@ -248,12 +249,12 @@ version_said = says_words [] (codes "claims" ∷ codes "2" ∷ []) Version (refl
 
 -- the whole text says all that
 pub catalog_said : SaysItsClaims
-catalog_said subjects rules work n limit text entries words catalog =
+catalog_said subjects rules work n scope text entries words catalog =
     let version = Version ∷ [] in
     let before = version ++ rules_say rules in
     let head = says_then [] version_line (flat_map rule_line rules) version (rules_say rules) version_said (rules_said version rules words) in
-    let all = says_then [] (catalog_head rules) (flat_map (entry_lines n limit) entries) before (flat_map (entry_says n) entries) head
-    (entries_said catalog.tables work n limit [] before subjects entries catalog.holds (λ name new. rules_load rules name) refl) in
+    let all = says_then [] (catalog_head rules) (flat_map (entry_lines n) entries) before (flat_map (entry_says n) entries) head
+    (entries_said catalog.tables work n scope [] before subjects entries catalog.holds (λ name new. rules_load rules name) refl) in
     let here : lines_of text ≡ all.lines =
-    ap lines_of catalog.lines ∙ ap lines_of (sym (append-nil (catalog_text n limit rules entries))) ∙ all.split [] ∙ append-nil all.lines in
+    ap lines_of catalog.lines ∙ ap lines_of (sym (append-nil (catalog_text n rules entries))) ∙ all.split [] ∙ append-nil all.lines in
     record { said = all.said; reads = subst (λ ls. ClaimLinesSay [] ls all.said) (sym here) all.good; says = all.all }

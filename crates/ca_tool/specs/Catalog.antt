@@ -9,10 +9,11 @@ use Rattle.ca_claims.specs.declared.file.File.{File}
 use Rattle.ca_claims.specs.declared.identity.Identity.{Identity}
 use Rattle.ca_claims.specs.declared.identity.Identity.TheVariants.{Empty, StillLife, Oscillator, Spaceship, Dies, Unknown}
 use Rattle.ca_claims.specs.declared.identity.Growth.{Growth}
+use Rattle.ca_claims.specs.declared.scope.Scope.{Scope}
 use Rattle.ca_claims.specs.declared.verdict.Cause.{Cause}
 use Rattle.ca_claims.specs.declared.verdict.Cause.TheVariants as causes
 use Rattle.ca_claims.specs.Answers.{IsQuietTable, IsTableFault, FirstBad}
-use Rattle.ca_claims.specs.Identified.{IsIdentifiedAfter, IsUnidentifiedAfter}
+use Rattle.ca_claims.specs.Identified.{IsLookAt, IsUnidentifiedAfter}
 use Rattle.ca_tool.specs.declared.entry.Content.{Content}
 use Rattle.ca_tool.specs.declared.entry.Content.TheVariants.{Bytes, Missing, FaultyRule}
 use Rattle.ca_tool.specs.declared.entry.Subject.{Subject}
@@ -83,14 +84,14 @@ abbrev pub unnameable_line : List ℕ → List ℕ → List ℕ
 unnameable_line name path = codes "# " ++ (escaped name ++ (codes ": " ++ (escaped path ++ (codes ": no claim text can name this path" ++ 10 ∷ []))))
 
 -- the lines on a file by what came of it
-abbrev pub outcome_lines : (n limit : ℕ) → List ℕ → List ℕ → Outcome → List ℕ
-outcome_lines n limit name path Unnameable = unnameable_line name path
-outcome_lines n limit name path (Refused why) = refused_line name path why.fault why.line
-outcome_lines n limit name path (outcomes.FaultyRule rule) = refused_line name path (causes.BadTable rule.fault) None
-outcome_lines n limit name path (Identified identity) = load_line name path ++ found_line n limit name identity
+abbrev pub outcome_lines : (n : ℕ) → List ℕ → List ℕ → Outcome → List ℕ
+outcome_lines n name path Unnameable = unnameable_line name path
+outcome_lines n name path (Refused why) = refused_line name path why.fault why.line
+outcome_lines n name path (outcomes.FaultyRule rule) = refused_line name path (causes.BadTable rule.fault) None
+outcome_lines n name path (Identified look) = load_line name path ++ found_line n look.limit name look.identity
 
-abbrev pub entry_lines : (n limit : ℕ) → Entry → List ℕ
-entry_lines n limit entry = outcome_lines n limit entry.name.items entry.path.now entry.outcome
+abbrev pub entry_lines : (n : ℕ) → Entry → List ℕ
+entry_lines n entry = outcome_lines n entry.name.items entry.path.now entry.outcome
 
 -- the line that gives the table of a rule file to the text
 abbrev pub rule_line : File → List ℕ
@@ -105,12 +106,12 @@ abbrev pub catalog_head : List File → List ℕ
 catalog_head rules = version_line ++ flat_map rule_line rules
 
 -- the whole text: its head, and the lines on each file
-abbrev pub catalog_text : (n limit : ℕ) → List File → List Entry → List ℕ
-catalog_text n limit rules entries = catalog_head rules ++ flat_map (entry_lines n limit) entries
+abbrev pub catalog_text : (n : ℕ) → List File → List Entry → List ℕ
+catalog_text n rules entries = catalog_head rules ++ flat_map (entry_lines n) entries
 
 -- the file is identified
 abbrev pub is_identified : Outcome → Bool
-is_identified (Identified identity) = true
+is_identified (Identified look) = true
 is_identified outcome = false
 
 -- the exit status: 2 where a file isn't identified, else 0
@@ -146,65 +147,65 @@ entry_explanation files entry = outcome_explanation entry.path.now entry.outcome
 abbrev pub catalog_explanation : List File → List Entry → List ℕ
 catalog_explanation files entries = flat_map (entry_explanation files) entries
 
--- what came of a file that gave this is true of it: n generations on its plane is this, or that isn't found out for this reason; or there are no bytes of it,
+-- what came of a file that gave this is true of it: a look at its plane n generations on finds this, or that isn't found out for this reason; or there are no bytes of it,
 -- for this cause; or this rule file of its isn't good
-abbrev pub IsContentOutcome : List TableRule → (work n limit : ℕ) → Content → Outcome → Type 0
-IsContentOutcome tables work n limit content Unnameable = ⊥
-IsContentOutcome tables work n limit (Bytes bytes) (Identified identity) = IsIdentifiedAfter bytes.now tables n limit identity
-IsContentOutcome tables work n limit (Bytes bytes) (Refused why) = IsUnidentifiedAfter bytes.now tables work n limit why
-IsContentOutcome tables work n limit (Missing cause) (Refused why) = why ≡ record { fault = cause; line = None; rule_text = None }
-IsContentOutcome tables work n limit (FaultyRule rule) (outcomes.FaultyRule told) = told ≡ rule
-IsContentOutcome tables work n limit content outcome = ⊥
+abbrev pub IsContentOutcome : List TableRule → (work n : ℕ) → Scope → Content → Outcome → Type 0
+IsContentOutcome tables work n scope content Unnameable = ⊥
+IsContentOutcome tables work n scope (Bytes bytes) (Identified look) = IsLookAt bytes.now tables n scope look
+IsContentOutcome tables work n scope (Bytes bytes) (Refused why) = IsUnidentifiedAfter bytes.now tables work n scope.limit why
+IsContentOutcome tables work n scope (Missing cause) (Refused why) = why ≡ record { fault = cause; line = None; rule_text = None }
+IsContentOutcome tables work n scope (FaultyRule rule) (outcomes.FaultyRule told) = told ≡ rule
+IsContentOutcome tables work n scope content outcome = ⊥
 
 -- no claim text can name the file's path; or one can, and what came of the file is true of what it gave
-abbrev pub IsOutcome : List TableRule → (work n limit : ℕ) → Subject → Outcome → Type 0
-IsOutcome tables work n limit subject outcome =
+abbrev pub IsOutcome : List TableRule → (work n : ℕ) → Scope → Subject → Outcome → Type 0
+IsOutcome tables work n scope subject outcome =
     ((is_claim_path subject.path.now ≡ false) × (outcome ≡ Unnameable))
-    ⊎ ((is_claim_path subject.path.now ≡ true) × IsContentOutcome tables work n limit subject.content outcome)
+    ⊎ ((is_claim_path subject.path.now ≡ true) × IsContentOutcome tables work n scope subject.content outcome)
 
 -- an entry on a file, whose name is none of those taken
-pub record IsEntry (tables : List TableRule) (work n limit : ℕ) (taken : List (List ℕ)) (subject : Subject)
+pub record IsEntry (tables : List TableRule) (work n : ℕ) (scope : Scope) (taken : List (List ℕ)) (subject : Subject)
     (entry : Entry) : Type 0 where
   pub path : entry.path.now ≡ subject.path.now
   pub name : IsFreeName taken (claim_name subject.path.now) entry.name.items
-  pub outcome : IsOutcome tables work n limit subject entry.outcome
+  pub outcome : IsOutcome tables work n scope subject entry.outcome
 
 -- an entry on each file, in order, whose names are different, and none of those taken before
-abbrev pub AreEntries : List TableRule → (work n limit : ℕ) → (taken : List (List ℕ)) → List Subject
+abbrev pub AreEntries : List TableRule → (work n : ℕ) → Scope → (taken : List (List ℕ)) → List Subject
     → List Entry → Type 0
-AreEntries tables work n limit taken [] [] = Unit {0}
-AreEntries tables work n limit taken [] (e ∷ es) = ⊥
-AreEntries tables work n limit taken (s ∷ ss) [] = ⊥
-AreEntries tables work n limit taken (s ∷ ss) (e ∷ es) =
-    IsEntry tables work n limit taken s e × AreEntries tables work n limit (taken ++ e.name.items ∷ []) ss es
+AreEntries tables work n scope taken [] [] = Unit {0}
+AreEntries tables work n scope taken [] (e ∷ es) = ⊥
+AreEntries tables work n scope taken (s ∷ ss) [] = ⊥
+AreEntries tables work n scope taken (s ∷ ss) (e ∷ es) =
+    IsEntry tables work n scope taken s e × AreEntries tables work n scope (taken ++ e.name.items ∷ []) ss es
 
 -- the rule files hold these tables
 abbrev pub AreRuleTables : List File → List TableRule → Type 0
 AreRuleTables rules tables = AllZip (λ file table. IsQuietTable file.bytes.now table) rules tables
 
 -- these are true entries on these files, under the tables of the rule files, and the text has their lines
-pub record IsCatalog (rules : List File) (work n limit : ℕ) (subjects : List Subject) (text : List ℕ)
+pub record IsCatalog (rules : List File) (work n : ℕ) (scope : Scope) (subjects : List Subject) (text : List ℕ)
     (entries : List Entry) : Type 0 where
   pub tables : List TableRule
   pub known : AreRuleTables rules tables
-  pub holds : AreEntries tables work n limit [] subjects entries
-  pub lines : text ≡ catalog_text n limit rules entries
+  pub holds : AreEntries tables work n scope [] subjects entries
+  pub lines : text ≡ catalog_text n rules entries
 
 -- this is the fault of the first rule file that is no good table
 abbrev pub IsFirstBadTable : List File → TableFault → Type 0
 IsFirstBadTable rules fault = FirstBad (λ file. (table : TableRule) × IsQuietTable file.bytes.now table) (λ file. IsTableFault file.bytes.now fault) rules
 
 -- the whole text on these files is written, with these entries
-abbrev pub WritesCatalog : {W : Type 0} → (W → Option (List ℕ)) → Counted W → Counted W → List File → (work n limit : ℕ) → List Subject
+abbrev pub WritesCatalog : {W : Type 0} → (W → Option (List ℕ)) → Counted W → Counted W → List File → (work n : ℕ) → Scope → List Subject
     → List Entry → Type 0
-WritesCatalog contents old new rules work n limit subjects entries = WritesOn contents old new (IsCatalog rules work n limit) subjects entries
+WritesCatalog contents old new rules work n scope subjects entries = WritesOn contents old new (IsCatalog rules work n scope) subjects entries
 
 -- why it isn't, and what is written: a write failed, after a first part of the text on the first so many files; memory is out for the lines on a file, and the
 -- text on those before it is written, or it is out for the rule files, and nothing is; or nothing is, for the fault of the first one that is no good table
-abbrev pub EndsCatalog : {W : Type 0} → (W → Option (List ℕ)) → Counted W → Counted W → List File → (work n limit : ℕ) → List Subject
+abbrev pub EndsCatalog : {W : Type 0} → (W → Option (List ℕ)) → Counted W → Counted W → List File → (work n : ℕ) → Scope → List Subject
     → ToolFault → Type 0
-EndsCatalog contents old new rules work n limit subjects tools.Write = WritesPartOn contents old new (IsCatalog rules work n limit) subjects
-EndsCatalog contents old new rules work n limit subjects tools.Memory =
-    WritesOnFirst contents old new (IsCatalog rules work n limit) subjects ⊎ ((rules ≢ []) × (new ≡ old))
-EndsCatalog contents old new rules work n limit subjects (tools.BadTable fault) = IsFirstBadTable rules fault × (new ≡ old)
-EndsCatalog contents old new rules work n limit subjects told = ⊥
+EndsCatalog contents old new rules work n scope subjects tools.Write = WritesPartOn contents old new (IsCatalog rules work n scope) subjects
+EndsCatalog contents old new rules work n scope subjects tools.Memory =
+    WritesOnFirst contents old new (IsCatalog rules work n scope) subjects ⊎ ((rules ≢ []) × (new ≡ old))
+EndsCatalog contents old new rules work n scope subjects (tools.BadTable fault) = IsFirstBadTable rules fault × (new ≡ old)
+EndsCatalog contents old new rules work n scope subjects told = ⊥

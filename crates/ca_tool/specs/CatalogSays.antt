@@ -6,6 +6,7 @@ use Rattle.ca_claims.specs.declared.claims.line.Kind.TheVariants as kind
 use Rattle.ca_claims.specs.declared.file.File.{File}
 use Rattle.ca_claims.specs.declared.identity.Identity.{Identity}
 use Rattle.ca_claims.specs.declared.identity.Identity.TheVariants.{Empty, StillLife, Oscillator, Spaceship, Dies, Unknown}
+use Rattle.ca_claims.specs.declared.scope.Scope.{Scope}
 use Rattle.ca_claims.specs.Text.{ClaimTextLine, Version, Rule, Load, Claims, IsClaimText, said_lines}
 use Rattle.ca_tool.specs.declared.entry.Outcome.{Outcome}
 use Rattle.ca_tool.specs.declared.entry.Outcome.TheVariants.{Identified}
@@ -33,7 +34,7 @@ found_says n name identity = if nat_eq n 0 then identity_says name identity else
 
 -- the name of a file that is identified, and its claim; nothing of any other file
 abbrev pub outcome_says : ℕ → List ℕ → List ℕ → Outcome → List ClaimTextLine
-outcome_says n name path (Identified identity) = Load name path ∷ found_says n name identity
+outcome_says n name path (Identified look) = Load name path ∷ found_says n name look.identity
 outcome_says n name path outcome = []
 
 abbrev pub entry_says : ℕ → Entry → List ClaimTextLine
@@ -56,5 +57,5 @@ AreRuleWords rules = AllByRecursion (λ file. is_word file.path.now ≡ true) ru
 -- the text that `identify` prints says just the claims that are true of the patterns, and so does what is printed of it after each file, which is the text on
 -- the first so many of the files; after some generations it makes no claim
 abbrev pub SaysItsClaims : Type 0
-SaysItsClaims = (subjects : List Subject) (rules : List File) (work n limit : ℕ) (text : List ℕ) (entries : List Entry) → AreRuleWords rules
-    → IsCatalog rules work n limit subjects text entries → SaysOf text (catalog_says n rules entries)
+SaysItsClaims = (subjects : List Subject) (rules : List File) (work n : ℕ) (scope : Scope) (text : List ℕ) (entries : List Entry) → AreRuleWords rules
+    → IsCatalog rules work n scope subjects text entries → SaysOf text (catalog_says n rules entries)

@@ -1,7 +1,7 @@
 //! Files that are to be identified, and what came of them.
 
 use crate::rule_folder::FaultyRule;
-use ca_claims::{Cause, DetailedFault, Identity};
+use ca_claims::{Cause, DetailedFault, Look};
 
 /// What a file that is to be identified gave.
 #[derive(Clone, Copy, Debug)]
@@ -30,8 +30,8 @@ pub(crate) enum Outcome<'a> {
     Refused(DetailedFault<Cause>),
     /// The rule file of its rule isn't good.
     FaultyRule(FaultyRule<'a>),
-    /// Its pattern is this.
-    Identified(Identity),
+    /// Its pattern is this, within so many generations.
+    Identified(Look),
 }
 
 /// A file of a claim text: its name there, its path, and what came of it.

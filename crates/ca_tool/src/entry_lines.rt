@@ -9,6 +9,7 @@ ghost use Rattle.ca_tool.specs.Catalog.{load_line, identity_line, refused_line, 
 ghost use Rattle.ca_tool.specs.Catalog.{later_text, later_line};
 ghost use Rattle.ca_tool.specs.Catalog.{outcome_lines, entry_lines, rule_line};
 ghost use Rattle.ca_tool.specs.inner.Pieces.{pieces_text};
+ghost use Rattle.ca_tool.specs.inner.Searches.{IsWithin};
 
 use crate::entry::{Entry, Outcome};
 use crate::escaped::push_escaped;
@@ -16,7 +17,7 @@ use crate::finding::{at_pieces, generations_word};
 use crate::growth::{push_counted, push_none};
 use crate::pieces::{Piece, in_pieces, push_pieces};
 use crate::printing::cause_pieces;
-use ca_claims::{Cause, File, Growth, Identity};
+use ca_claims::{Cause, File, Growth, Identity, Look};
 use ca_plane::Memory;
 use ca_plane::text::push_text;
 
@@ -158,15 +159,15 @@ fn unnameable_pieces<'a>(name: &'a [u8], path: &'a [u8]) -> [Piece<'a>; 5]
 fn push_identified(
     out: &mut Vec<u8>,
     generations: u64,
-    limit: u64,
     name: &[u8],
     path: &[u8],
-    identity: Identity,
+    look: Look,
 ) -> Result<(), Memory>
-    requires { generations + limit < 2 ^ 64 }
+    requires { generations + look.limit < 2 ^ 64 }
     ensures { OnOk result (Puts out.old.items out.new.items
-        (outcome_lines generations limit name.now path.now (Identified identity))) }
+        (outcome_lines generations name.now path.now (Identified look))) }
 {
+    let Look { identity, limit } = look;
     push_pieces(out, &load_pieces(name, path))?;
     if generations == 0 {
         return push_identity(out, limit, name, identity);
@@ -174,8 +175,7 @@ fn push_identified(
     push_later(out, generations, limit, name, identity)
 }
 
-/// Puts the lines on a file after what `out` holds: `limit` is the number of generations that were looked at, from
-/// so many `generations` on.
+/// Puts the lines on a file after what `out` holds; it was looked at from so many generations on.
 ///
 /// # Errors
 ///
@@ -183,11 +183,10 @@ fn push_identified(
 pub(crate) fn push_entry(
     out: &mut Vec<u8>,
     generations: u64,
-    limit: u64,
     entry: &Entry<'_>,
 ) -> Result<(), Memory>
-    requires { generations + limit < 2 ^ 64 }
-    ensures { OnOk result (Puts out.old.items out.new.items (entry_lines generations limit entry.now)) }
+    requires { IsWithin generations entry.now.outcome }
+    ensures { OnOk result (Puts out.old.items out.new.items (entry_lines generations entry.now)) }
 {
     match &entry.outcome {
         Outcome::Unnameable => push_pieces(out, &unnameable_pieces(&entry.name, entry.path)),
@@ -199,8 +198,8 @@ pub(crate) fn push_entry(
             out,
             &refused_pieces(&entry.name, entry.path, Cause::BadTable(rule.fault), None),
         ),
-        Outcome::Identified(identity) => {
-            push_identified(out, generations, limit, &entry.name, entry.path, *identity)
+        Outcome::Identified(look) => {
+            push_identified(out, generations, &entry.name, entry.path, *look)
         }
     }
 }

@@ -10,7 +10,7 @@ ghost use Rattle.ca_plane.specs.Limits.{longest_period, most_generations};
 ghost use Rattle.ca_tool.specs.Catalog.{entry_lines, IsOutcome, IsEntry};
 ghost use Rattle.ca_tool.specs.Catalog.{AreRuleTables, WritesCatalog, EndsCatalog};
 ghost use Rattle.ca_tool.specs.Writing.{WritesOn};
-ghost use Rattle.ca_tool.specs.inner.Searches.{IsGoodSearch, AreLines, EndsLines};
+ghost use Rattle.ca_tool.specs.inner.Searches.{IsGoodSearch, IsWithin, AreLines, EndsLines};
 
 use crate::catalog::{Catalog, head_pieces, rules_text};
 use crate::entry::{Content, Entry, Outcome, Subject};
@@ -19,7 +19,7 @@ use crate::fault::ToolFault;
 use crate::names::{add_name, is_claim_path};
 use crate::pieces::send_pieces;
 use crate::taken_names::TakenNames;
-use ca_claims::{DetailedFault, File, Limits, Observer, identify_after};
+use ca_claims::{DetailedFault, File, Limits, Observer, Scope, look_after};
 use ca_plane::{Dev, Memory, send};
 use ca_rule::{Table, TableFault};
 use std::alloc::Global;
@@ -31,8 +31,8 @@ use std::io::Write;
 /// 1152921504606846976, the planes that the patterns have then are identified in place of them, and the text says of
 /// these in comments alone.
 ///
-/// The patterns are looked at for as many generations as the limit says, from 1 to 4294967295, and each within the
-/// limits. Rules are looked for among the tables of the rule files, which the text names too, before the files. No
+/// The patterns are looked at as far as the scope says, whose limit is from 1 to 4294967295 generations, and each within
+/// the limits. Rules are looked for among the tables of the rule files, which the text names too, before the files. No
 /// two files have one name in the text. The observer hears of each file by its number, counted from 1, in place of
 /// a line; of its end before its lines are written.
 ///
@@ -47,18 +47,18 @@ pub fn identify_run<'a, W: Write, O: Observer>(
     rules: &[File<'_>],
     generations: u64,
     limits: Limits,
-    limit: u64,
+    scope: Scope,
     device: &mut Dev<W>,
     observer: &mut O,
 ) -> Result<Catalog<'a>, ToolFault>
     requires few { generations ≤ most_generations }
     requires limits { AreGoodLimits limits }
-    requires some { 1 ≤ limit }
-    requires most { limit ≤ longest_period }
+    requires some { 1 ≤ scope.limit }
+    requires most { scope.limit ≤ longest_period }
     ensures writes { IfOk result (WritesCatalog W.contents device.old device.new
-        rules.now limits.work generations limit subjects.now) }
+        rules.now limits.work generations scope subjects.now) }
     ensures ends { IfErr result (EndsCatalog W.contents device.old device.new
-        rules.now limits.work generations limit subjects.now) }
+        rules.now limits.work generations scope subjects.now) }
 {
     let tables = match parse_tables(alloc, rules) {
         Ok(tables) => tables,
@@ -75,7 +75,7 @@ pub fn identify_run<'a, W: Write, O: Observer>(
         tables: &tables,
         generations,
         limits,
-        limit,
+        scope,
     };
     let entries = match write_entries(alloc, subjects, &search, device, observer) {
         Ok(entries) => entries,
@@ -105,14 +105,14 @@ fn parse_tables(alloc: Global, rules: &[File<'_>]) -> Result<Vec<Table>, TableFa
     Ok(tables)
 }
 
-// What is looked for in files: what their planes are some generations on, in as many more generations as the
-// limit says, under these tables and within these limits.
+// What is looked for in files: what their planes are some generations on, as far from there as the scope says,
+// under these tables and within these limits.
 #[derive(Clone, Copy)]
 struct Search<'a> {
     tables: &'a [Table],
     generations: u64,
     limits: Limits,
-    limit: u64,
+    scope: Scope,
 }
 
 // Writes the lines on each file, in order, before the next one is identified, and answers the entries.
@@ -148,11 +148,11 @@ fn write_entries<'a, W: Write, O: Observer>(
 
 // Puts the lines on a file in place of what `out` holds.
 fn put_entry(out: &mut Vec<u8>, search: &Search<'_>, entry: &Entry<'_>) -> Result<(), Memory>
-    requires { IsGoodSearch search.now }
-    ensures { OnOk result (out.new.items ≡ entry_lines search.now.generations search.now.limit entry.now) }
+    requires { IsWithin search.now.generations entry.now.outcome }
+    ensures { OnOk result (out.new.items ≡ entry_lines search.now.generations entry.now) }
 {
     out.clear();
-    push_entry(out, search.generations, search.limit, entry)
+    push_entry(out, search.generations, entry)
 }
 
 // The entry on the file of this number, under a name that is put after the others. The observer hears of its end in
@@ -167,7 +167,7 @@ fn entry_of<'a, O: Observer>(
 ) -> Result<Entry<'a>, Memory>
     requires { IsGoodSearch search.now }
     ensures entry { IfOk result (IsEntry search.now.tables.now search.now.limits.work
-        search.now.generations search.now.limit names.old subject.now) }
+        search.now.generations search.now.scope names.old subject.now) }
     ensures names { IfOk result (λ entry. names.new ≡ names.old ++ entry.name.items ∷ []) }
 {
     observer.begins(number);
@@ -190,7 +190,7 @@ fn outcome_of<'a, O: Observer>(
 ) -> Outcome<'a>
     requires { IsGoodSearch search.now }
     ensures { IsOutcome search.now.tables.now search.now.limits.work
-        search.now.generations search.now.limit subject.now result }
+        search.now.generations search.now.scope subject.now result }
 {
     if !is_claim_path(subject.path) {
         return Outcome::Unnameable;
@@ -204,10 +204,10 @@ fn outcome_of<'a, O: Observer>(
         tables,
         generations,
         limits,
-        limit,
+        scope,
     } = *search;
-    match identify_after(alloc, bytes, tables, generations, limits, limit, observer) {
-        Ok(identity) => Outcome::Identified(identity),
+    match look_after(alloc, bytes, tables, generations, limits, scope, observer) {
+        Ok(look) => Outcome::Identified(look),
         Err(why) => Outcome::Refused(why),
     }
 }

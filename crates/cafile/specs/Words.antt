@@ -8,6 +8,7 @@ use Rattle.ca_plane.specs.Limits.{most_memo, longest_period, most_generations}
 use Rattle.ca_quad.specs.declared.tree.Spot.{Spot}
 use Rattle.ca_draw.specs.declared.drawing.ImageFormat.{ImageFormat}
 use Rattle.ca_draw.specs.declared.drawing.ImageFormat.TheVariants.{Text, Pgm}
+use Rattle.ca_claims.specs.declared.scope.Scope.{Scope}
 use Rattle.ca_tool.specs.declared.view.Size.{Size}
 use Rattle.ca_tool.specs.declared.view.View.{View}
 
@@ -32,9 +33,14 @@ memo_of set = max 1 (min (unwrap_or set 262144) most_memo)
 abbrev pub work_of : Option ℕ → ℕ
 work_of set = unwrap_or set 18446744073709551615
 
--- how many generations are looked at: 65536 unless set
-abbrev pub limit_of : Option ℕ → ℕ
-limit_of set = max 1 (min (unwrap_or set 65536) longest_period)
+-- how many units of work a look at a pattern may take where no number of generations is set
+abbrev pub usual_patience : ℕ
+usual_patience = 4194304
+
+-- how far a pattern is looked at: as many generations as are set, whatever they take; or 65536, while patience for this many units of work lasts
+abbrev pub scope_of : Option ℕ → Scope
+scope_of None = record { limit = 65536; patience = Some usual_patience }
+scope_of (Some limit) = record { limit = max 1 (min limit longest_period); patience = None }
 
 -- how many generations on a pattern is taken: none unless set
 abbrev pub generations_of : Option ℕ → ℕ

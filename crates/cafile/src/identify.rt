@@ -272,11 +272,11 @@ fn run<'a, R: Files + Clock + AllocGlobal>(
     let Ok(files) = views(rt.alloc(), &rules.files) else {
         return Err(ToolFault::Memory);
     };
-    let limit = extras.limit();
+    let scope = extras.scope();
     let heading = Heading::Files {
         paths,
         after: extras.after(),
-        limit,
+        limit: scope.limit,
     };
     let mut observer = Progress::new(rt, &mut streams.errors, heading, extras.extras.progress);
     identify_run(
@@ -285,7 +285,7 @@ fn run<'a, R: Files + Clock + AllocGlobal>(
         &files,
         extras.after(),
         extras.extras.limits(),
-        limit,
+        scope,
         &mut streams.output,
         &mut observer,
     )

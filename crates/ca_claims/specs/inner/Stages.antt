@@ -121,6 +121,11 @@ leap_work limit = limit * 1024
 abbrev pub TakesSearch : (old new : ℕ) → (stages : ℕ → ℤ → ℤ → ℕ) → (limit : ℕ) → Type 0
 TakesSearch old new stages limit = (level : ℕ) → 1 ≤ level → ((m : ℕ) → m < limit → HoldsAll level (stages m)) → new ≤ old + limit * 14 ^ (level + 3)
 
+-- the same where so many steps were taken before
+abbrev pub TakesSearchFrom : (old new : ℕ) → (stages : ℕ → ℤ → ℤ → ℕ) → (begun limit : ℕ) → Type 0
+TakesSearchFrom old new stages begun limit =
+    (level : ℕ) → 1 ≤ level → ((m : ℕ) → m < limit → HoldsAll level (stages m)) → new + begun * step_work level ≤ old + limit * 14 ^ (level + 3)
+
 -- from the old count of work to the new one it is at most a run of n generations of a tree of this level
 abbrev pub TakesRun : (old new level n : ℕ) → Type 0
 TakesRun old new level n = (digits : ℕ) → n < 2 ^ digits → new ≤ old + run_work n level digits
@@ -164,6 +169,14 @@ pub record IsWalk (next : List ℕ → ℕ) (first : ℤ → ℤ → ℕ) (nodes
   pub now : IsLaterTree next first walk.generations nodes walk.tree
   pub others : AreOtherUpTo next first walk.generations
   pub boxes : AreSquareBoxes nodes walk.boxes
+
+-- a walk that began after so many generations was halted at a later one, up to some end: its tree then, and after no generation, starting at 1, was the plane
+-- dead or the pattern, moved. Nothing is said of its boxes
+pub record IsHalted (next : List ℕ → ℕ) (first : ℤ → ℤ → ℕ) (nodes : List Node) (begun end : ℕ) (walk : Walk) : Type 0 where
+  pub now : IsLaterTree next first walk.generations nodes walk.tree
+  pub others : AreOtherUpTo next first walk.generations
+  pub later : begun ≤ walk.generations
+  pub within : walk.generations ≤ end
 
 -- the same box, as one of a picture
 abbrev pub box_of : WideBounds → Bounds

@@ -1,15 +1,15 @@
 //! What a live pattern is: the first generations are looked at one by one, then leaps are made, and where these don't
 //! settle it the other generations are looked at by strides; those of a stride in which something may be found, one by
-//! one.
+//! one. Where it fails, it's known up to which generation the pattern was looked at.
 
-ghost use Rattle.std.specs.Prelude.{◌≤◌, IfOk};
+ghost use Rattle.std.specs.Prelude.{◌≤◌, IfOk, OnErr};
 ghost use Rattle.ca_plane.specs.Plane.{Picture};
 ghost use Rattle.ca_plane.specs.Generations.{cells_after};
 ghost use Rattle.ca_plane.specs.Limits.{longest_period};
 ghost use Rattle.ca_quad.specs.Trees.{cell};
 ghost use Rattle.ca_run.specs.Leaping.{LeaperGrows, EndsAtLimit};
 ghost use Rattle.ca_claims.specs.Identified.{IsIdentity};
-ghost use Rattle.ca_claims.specs.inner.Stages.{IsFirst, TakesSearch};
+ghost use Rattle.ca_claims.specs.inner.Stages.{IsFirst, IsWalk, IsHalted, TakesSearchFrom};
 ghost use Rattle.ca_claims.specs.inner.Subjects.{ShowsTree};
 
 use super::ending::identity_of;
@@ -32,41 +32,47 @@ const LEAST_EARLY: u64 = 32;
 
 const EARLY_SQUARES: usize = 1 << 20;
 
-/// What a live pattern is, within so many generations.
+/// What a live pattern is, within so many generations, of which a walk has seen one at most.
 pub(super) fn search<A: Automaton, O: Observer>(
     alloc: Global,
     leaper: &mut Leaper<A>,
-    first: First,
+    first: &First,
+    walk: &mut Walk,
     limit: u64,
     observer: &mut O,
 ) -> Result<Identity, LeapFault>
-    requires first { IsFirst leaper.old.nodes first }
+    requires first { IsFirst leaper.old.nodes first.now }
+    requires walk { IsWalk (A.next_of leaper.old.rule) (cell leaper.old.nodes first.now.tree)
+        leaper.old.nodes walk.old }
+    requires begun { walk.old.generations ≤ 1 }
     requires some { 1 ≤ limit }
     requires most { limit ≤ longest_period }
-    ensures identity { (cells : Picture) → ShowsTree leaper.old.nodes first.tree cells
+    ensures identity { (cells : Picture) → ShowsTree leaper.old.nodes first.now.tree cells
         → IfOk result (IsIdentity (A.next_of leaper.old.rule) cells limit) }
+    ensures halted { OnErr result (IsHalted (A.next_of leaper.old.rule)
+        (cell leaper.old.nodes first.now.tree) leaper.new.nodes walk.old.generations limit walk.new) }
     ensures goes_on { LeaperGrows A leaper.old leaper.new }
-    ensures takes { TakesSearch leaper.old.spent.used leaper.new.spent.used
-        (cells_after (A.next_of leaper.old.rule) (cell leaper.old.nodes first.tree)) limit }
+    ensures takes { TakesSearchFrom leaper.old.spent.used leaper.new.spent.used
+        (cells_after (A.next_of leaper.old.rule) (cell leaper.old.nodes first.now.tree))
+        walk.old.generations limit }
     ensures work { EndsAtLimit leaper.new.spent result }
 {
     // Says what holds of every leaper.
     let _ = leaper.store();
-    let mut walk = Walk::from(alloc, first.tree);
     let early = early_generations(leaper.store().count()).min(limit);
-    let soon = look_on(alloc, leaper, &first, &mut walk, early, observer)?;
+    let soon = look_on(alloc, leaper, first, walk, early, observer)?;
     if let Some(ending) = soon {
         return Ok(identity_of(ending));
     }
-    let grown = growth_by_leaps(alloc, leaper, &first, early, limit)?;
+    let grown = growth_by_leaps(alloc, leaper, first, early, limit)?;
     if let Some(growth) = grown {
         return Ok(Identity::Unknown { growth });
     }
-    let strided = growth_by_strides(alloc, leaper, &first, &mut walk, limit, observer)?;
+    let strided = growth_by_strides(alloc, leaper, first, walk, limit, observer)?;
     if let Some(growth) = strided {
         return Ok(Identity::Unknown { growth });
     }
-    let late = look_on(alloc, leaper, &first, &mut walk, limit, observer)?;
+    let late = look_on(alloc, leaper, first, walk, limit, observer)?;
     if let Some(ending) = late {
         return Ok(identity_of(ending));
     }

@@ -1,6 +1,6 @@
 //! A pattern's plane, looked at after one generation after the other.
 
-ghost use Rattle.std.specs.Prelude.{◌≡◌, ◌+◌, ◌-◌, ◌≤◌, ◌<◌, List, None, IfOk, OnOk, IfSome};
+ghost use Rattle.std.specs.Prelude.{◌≡◌, ◌+◌, ◌-◌, ◌≤◌, ◌<◌, List, None, IfOk, OnOk, OnErr, IfSome};
 ghost use Rattle.ca_quad.specs.declared.node.Node.{Node};
 ghost use Rattle.ca_plane.specs.Plane.{Picture};
 ghost use Rattle.ca_plane.specs.Generations.{cells_after};
@@ -8,7 +8,7 @@ ghost use Rattle.ca_plane.specs.Limits.{longest_period};
 ghost use Rattle.ca_quad.specs.Boxes.{AreSquareBoxes};
 ghost use Rattle.ca_quad.specs.Trees.{cell};
 ghost use Rattle.ca_run.specs.Leaping.{LeaperGrows, EndsAtLimit};
-ghost use Rattle.ca_claims.specs.inner.Stages.{IsFirst, IsStage, IsLaterTree, IsWalk, IsEnding};
+ghost use Rattle.ca_claims.specs.inner.Stages.{IsFirst, IsStage, IsLaterTree, IsWalk, IsHalted, IsEnding};
 ghost use Rattle.ca_claims.specs.inner.Stages.{TakesSteps, generations_of, step_work};
 ghost use Rattle.ca_claims.specs.inner.Subjects.{ShowsTree};
 
@@ -45,7 +45,8 @@ impl Walk {
     }
 }
 
-/// Goes on to so many generations after the pattern, and gives how the pattern ends by then, if it does.
+/// Goes on to so many generations after the pattern, and gives how the pattern ends by then, if it does. Where it fails,
+/// the walk is at the last generation that was looked at.
 pub(super) fn look_on<A: Automaton, O: Observer>(
     alloc: Global,
     leaper: &mut Leaper<A>,
@@ -66,6 +67,8 @@ pub(super) fn look_on<A: Automaton, O: Observer>(
         → IsWalk (A.next_of leaper.old.rule) (cell leaper.old.nodes first.now.tree)
         leaper.new.nodes walk.new) }
     ensures end { IfOk result (λ found. found ≡ None → walk.new.generations ≡ end) }
+    ensures halted { OnErr result (IsHalted (A.next_of leaper.old.rule)
+        (cell leaper.old.nodes first.now.tree) leaper.new.nodes walk.old.generations end walk.new) }
     ensures goes_on { LeaperGrows A leaper.old leaper.new }
     ensures takes { TakesSteps leaper.old.spent.used leaper.new.spent.used
         (cells_after (A.next_of leaper.old.rule) (cell leaper.old.nodes first.now.tree)) end
@@ -74,13 +77,17 @@ pub(super) fn look_on<A: Automaton, O: Observer>(
 {
     // Says what holds of every leaper.
     let _ = leaper.store();
-    let mut now = walk.tree;
-    let mut generations = walk.generations;
-    'generations: while generations < end {
-        observer.goes_to(generations + 1);
-        let later = step(alloc, leaper, first, now, generations, &mut walk.boxes)?;
-        now = later.tree;
-        generations += 1;
+    'generations: while walk.generations < end {
+        let generations = walk.generations + 1;
+        observer.goes_to(generations);
+        let later = step(
+            alloc,
+            leaper,
+            first,
+            walk.tree,
+            walk.generations,
+            &mut walk.boxes,
+        )?;
         match later.stage {
             Stage::Empty => return Ok(Some(Ending::Death { generations })),
             Stage::Back { dx, dy } => {
@@ -92,9 +99,9 @@ pub(super) fn look_on<A: Automaton, O: Observer>(
             }
             Stage::Other => {}
         }
+        walk.tree = later.tree;
+        walk.generations = generations;
     }
-    walk.tree = now;
-    walk.generations = generations;
     Ok(None)
 }
 

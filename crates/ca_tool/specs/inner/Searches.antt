@@ -1,11 +1,13 @@
 -- What is looked for in files that are to be identified, and what is written of them.
-use Rattle.std.specs.Prelude.{◌≡◌, ◌≤◌, ℕ, List, [], Option}
+use Rattle.std.specs.Prelude.{◌≡◌, ◌+◌, ◌^◌, ◌≤◌, ◌<◌, ℕ, List, [], Option}
 use Rattle.std.specs.List.{flat_map}
 use Rattle.ca_plane.specs.Device.{Counted}
 use Rattle.ca_plane.specs.Limits.{longest_period, most_generations}
 use Rattle.ca_claims.specs.Limited.{AreGoodLimits}
 use Rattle.ca_tool.specs.declared.identification_run.Search.{Search}
 use Rattle.ca_tool.specs.declared.entry.Entry.{Entry}
+use Rattle.ca_tool.specs.declared.entry.Outcome.{Outcome}
+use Rattle.ca_tool.specs.declared.entry.Outcome.TheVariants.{Identified}
 use Rattle.ca_tool.specs.declared.entry.Subject.{Subject}
 use Rattle.ca_tool.specs.declared.fault.ToolFault.{ToolFault}
 use Rattle.ca_tool.specs.declared.fault.ToolFault.TheVariants as tools
@@ -16,13 +18,18 @@ use Rattle.ca_tool.specs.Writing.{WritesOnFirst, WritesPartOn}
 pub record IsGoodSearch (search : Search) : Type 0 where
   pub few : search.generations ≤ most_generations
   pub limits : AreGoodLimits search.limits
-  pub some : 1 ≤ search.limit
-  pub most : search.limit ≤ longest_period
+  pub some : 1 ≤ search.scope.limit
+  pub most : search.scope.limit ≤ longest_period
+
+-- the last generation that was looked at has a number that fits, where the look began after n
+abbrev pub IsWithin : (n : ℕ) → Outcome → Type 0
+IsWithin n (Identified look) = n + look.limit < 2 ^ 64
+IsWithin n outcome = Unit {0}
 
 -- these are true entries on these files, and the text is their lines
 pub record AreLines (search : Search) (subjects : List Subject) (text : List ℕ) (entries : List Entry) : Type 0 where
-  pub holds : AreEntries search.tables.now search.limits.work search.generations search.limit [] subjects entries
-  pub lines : text ≡ flat_map (entry_lines search.generations search.limit) entries
+  pub holds : AreEntries search.tables.now search.limits.work search.generations search.scope [] subjects entries
+  pub lines : text ≡ flat_map (entry_lines search.generations) entries
 
 -- why not all lines on some files are written, and what is written of them
 abbrev pub EndsLines : {W : Type 0} → (W → Option (List ℕ)) → Counted W → Counted W → Search → List Subject → ToolFault → Type 0

@@ -2,7 +2,7 @@
 
 ghost use Rattle.std.specs.Prelude.{◌≡◌, ◌≤◌, codes, IfOk};
 ghost use Rattle.ca_plane.specs.Limits.{longest_period, most_generations};
-ghost use Rattle.cafile.specs.Words.{IsTextAfter, IsNumberAfter, limit_of, generations_of};
+ghost use Rattle.cafile.specs.Words.{IsTextAfter, IsNumberAfter, scope_of, generations_of};
 
 use crate::texts;
 use crate::words::arguments::{path_words, value_word, with_rule_words};
@@ -11,12 +11,16 @@ use crate::words::pattern::after_word;
 use crate::words::raw::path_bytes;
 use crate::words::values::{number_value, path_value, values_of};
 use crate::words::{Request, WordsFault};
+use ca_claims::Scope;
 use ca_plane::limits::{LONGEST_PERIOD, MOST_GENERATIONS};
 use clap::{Arg, ArgMatches, Command, value_parser};
 use std::alloc::{AllocError, Global};
 
 /// How many generations of a pattern are looked at, unless that is set.
 const USUAL_LIMIT: u64 = 65536;
+
+/// How many units of work they may take then, after the first. That is a second or two on a usual machine.
+const USUAL_PATIENCE: u64 = 4194304;
 
 /// What a run of `identify` is given and asked for besides its pattern files.
 #[derive(Drop)]
@@ -34,14 +38,20 @@ pub struct IdentifyExtras {
 }
 
 impl IdentifyExtras {
-    /// How many generations of each pattern are looked at. The words keep them within their limits, and a number
-    /// outside is brought within.
-    pub fn limit(&self) -> u64
-        ensures some { 1 ≤ result }
-        ensures most { result ≤ longest_period }
-        ensures value { result ≡ limit_of self.now.limit }
+    /// How far each pattern is looked at: as many generations as the words set, which keep them within their limits
+    /// (a number outside is brought within), whatever they take; or the usual number, while patience lasts.
+    pub fn scope(&self) -> Scope
+        ensures some { 1 ≤ result.limit }
+        ensures most { result.limit ≤ longest_period }
+        ensures value { result ≡ scope_of self.now.limit }
     {
-        self.limit.unwrap_or(USUAL_LIMIT).clamp(1, LONGEST_PERIOD)
+        match self.limit {
+            Some(limit) => Scope::whole(limit.clamp(1, LONGEST_PERIOD)),
+            None => Scope {
+                limit: USUAL_LIMIT,
+                patience: Some(USUAL_PATIENCE),
+            },
+        }
     }
 
     /// How many generations on that begins. The words keep them within their limit, and more are brought within.

@@ -10,12 +10,12 @@ use Rattle.ca_run.proofs.ShownPlanes.{goes_on_again}
 use Rattle.ca_claims.specs.declared.identity.Identity.TheVariants.{Unknown}
 use Rattle.ca_claims.specs.Identified.{IsIdentity}
 use Rattle.ca_claims.specs.inner.Glance.{IsLowTree}
-use Rattle.ca_claims.specs.inner.Stages.{IsWalk, IsEnding, IsGrowthOf, AreOtherUpTo, IsLaterTree, HasNoReturn, TakesSteps, TakesSearch, leap_work}
+use Rattle.ca_claims.specs.inner.Stages.{IsWalk, IsEnding, IsGrowthOf, AreOtherUpTo, IsLaterTree, IsHalted, HasNoReturn, TakesSteps, TakesSearchFrom, leap_work}
 use Rattle.ca_claims.specs.inner.Subjects.{ShowsTree, HasLive}
 use Rattle.ca_claims.proofs.Identities.{picture_nowhere, last_live, found_none}
-use Rattle.ca_claims.proofs.LeaptTrees.{shows_stays}
+use Rattle.ca_claims.proofs.LeaptTrees.{shows_stays, on_err}
 use Rattle.ca_claims.proofs.Starts.{start_is_low}
-use Rattle.ca_claims.proofs.Stages.{first_walk, first_stays, walk_as, walk_stays, no_step, fewer_steps, steps_as, whole_search}
+use Rattle.ca_claims.proofs.Stages.{first_stays, walk_as, walk_stays, halted_here, halted_within, halted_as, no_step, fewer_steps, steps_as, whole_search, early_search}
 use Rattle.ca_claims.proofs.identification.search.search.Goals as goal
 use Rattle.ca_claims.proofs.identification.search.search.Goals.{In_ok-soon, In_default-grown, In_default-strided, In_default-late}
 
@@ -26,35 +26,32 @@ module _ (g : _) (c : In_ok-soon g) where
   next = g.A.Automaton.next_of c.args.leaper.now.rule
 
   abbrev first : ℤ → ℤ → ℕ
-  first = cell c.args.leaper.now.nodes c.args.first.tree
+  first = cell c.args.leaper.now.nodes c.args.first.now.tree
 
   few : c.min-early.result ≤ c.args.limit
   few = omega (arith, c.min-early.ensures)
 
   -- the same picture of the first tree
-  shows_then : (cells : Picture) → ShowsTree c.args.leaper.now.nodes c.args.first.tree cells → ShowsTree c.look_on.new.leaper.nodes c.args.first.tree cells
-  shows_then cells shows = shows_stays c.args.leaper.now.nodes c.look_on.new.leaper.nodes c.store.ensures.sound c.in_ok-soon.ensures.goes_on.grows c.args.first.tree cells c.requires.first.start.is_tree shows
+  shows_then : (cells : Picture) → ShowsTree c.args.leaper.now.nodes c.args.first.now.tree cells → ShowsTree c.look_on.new.leaper.nodes c.args.first.now.tree cells
+  shows_then cells shows = shows_stays c.args.leaper.now.nodes c.look_on.new.leaper.nodes c.store.ensures.sound c.in_ok-soon.ensures.goes_on.grows c.args.first.now.tree cells c.requires.first.start.is_tree shows
 
--- what they take, and no more
-early_takes : (old mid : ℕ) (stages : ℕ → ℤ → ℤ → ℕ) (early begun limit : ℕ) → early ≤ limit → TakesSteps old mid stages early (early - begun) → TakesSearch old mid stages limit
-early_takes old mid stages early begun limit few takes =
-    whole_search old mid mid mid stages early limit few (fewer_steps old mid stages early (early - begun) early (omega arith) takes) (omega arith) (no_step mid mid stages limit (limit - early) refl)
+  -- there is one at least, and no more than one was seen before
+  later : c.args.walk.now.generations ≤ c.min-early.result
+  later = omega (arith, c.min-early.ensures, c.early_generations.ensures, c.requires.begun, c.requires.some)
 
 -- what they and leaps take
-leaps_take : (old mid leapt : ℕ) (stages : ℕ → ℤ → ℤ → ℕ) (early begun limit : ℕ) → early ≤ limit → TakesSteps old mid stages early (early - begun) → leapt ≤ mid + leap_work limit
-    → TakesSearch old leapt stages limit
-leaps_take old mid leapt stages early begun limit few takes leaps =
-    whole_search old mid leapt leapt stages early limit few (fewer_steps old mid stages early (early - begun) early (omega arith) takes) (omega (arith, leaps)) (no_step leapt leapt stages limit (limit - early) refl)
+leaps_take : (old mid leapt : ℕ) (stages : ℕ → ℤ → ℤ → ℕ) (begun early limit : ℕ) → begun ≤ early → early ≤ limit → TakesSteps old mid stages early (early - begun) → leapt ≤ mid + leap_work limit
+    → TakesSearchFrom old leapt stages begun limit
+leaps_take old mid leapt stages begun early limit later few takes leaps =
+    whole_search old mid leapt leapt stages begun early limit later few takes (omega (arith, leaps)) (no_step leapt leapt stages limit (limit - early) refl)
 
-pub look_on-requires-clause-walk : goal.look_on-requires-clause-walk
-look_on-requires-clause-walk g c =
-    first_walk (g.A.Automaton.next_of c.args.leaper.now.rule) c.args.leaper.now.nodes c.args.first.tree c.requires.first.start c.from-walk.result c.from-walk.ensures.tree c.from-walk.ensures.generations
-    (c.from-walk.ensures.boxes c.args.leaper.now.nodes)
+pub look_on-requires-clause-within : goal.look_on-requires-clause-within
+look_on-requires-clause-within g c = omega (arith, c.min-early.ensures, c.early_generations.ensures, c.requires.begun, c.requires.some)
 
 pub returns-in_err-soon-clause-takes : goal.returns-in_err-soon-clause-takes
 returns-in_err-soon-clause-takes g c =
-    early_takes _ _ (cells_after (g.A.Automaton.next_of c.args.leaper.now.rule) (cell c.args.leaper.now.nodes c.args.first.tree)) c.min-early.result c.from-walk.result.generations c.args.limit
-    (omega (arith, c.min-early.ensures)) c.in_err-soon.ensures.takes
+    early_search _ _ (cells_after (g.A.Automaton.next_of c.args.leaper.now.rule) (cell c.args.leaper.now.nodes c.args.first.now.tree)) c.args.walk.now.generations c.min-early.result c.args.limit
+    (omega (arith, c.min-early.ensures, c.early_generations.ensures, c.requires.begun, c.requires.some)) (omega (arith, c.min-early.ensures)) c.in_err-soon.ensures.takes
 
 pub returns-in-Some-clause-identity : goal.returns-in-Some-clause-identity
 returns-in-Some-clause-identity g c = λ cells shows.
@@ -65,19 +62,19 @@ returns-in-Some-clause-identity g c = λ cells shows.
 
 pub returns-in-Some-clause-takes : goal.returns-in-Some-clause-takes
 returns-in-Some-clause-takes g c =
-    early_takes _ _ (cells_after (g.A.Automaton.next_of c.args.leaper.now.rule) (cell c.args.leaper.now.nodes c.args.first.tree)) c.min-early.result c.from-walk.result.generations c.args.limit
-    (omega (arith, c.min-early.ensures)) c.in_ok-soon.ensures.takes
+    early_search _ _ (cells_after (g.A.Automaton.next_of c.args.leaper.now.rule) (cell c.args.leaper.now.nodes c.args.first.now.tree)) c.args.walk.now.generations c.min-early.result c.args.limit
+    (omega (arith, c.min-early.ensures, c.early_generations.ensures, c.requires.begun, c.requires.some)) (omega (arith, c.min-early.ensures)) c.in_ok-soon.ensures.takes
 
 -- ---- leaps
 
 pub growth_by_leaps-requires-clause-first : goal.growth_by_leaps-requires-clause-first
 growth_by_leaps-requires-clause-first g c =
-    first_stays c.args.leaper.now.nodes c.look_on.new.leaper.nodes c.store.ensures.sound c.in_ok-soon.ensures.goes_on.grows c.args.first c.requires.first
+    first_stays c.args.leaper.now.nodes c.look_on.new.leaper.nodes c.store.ensures.sound c.in_ok-soon.ensures.goes_on.grows c.args.first.now c.requires.first
 
 pub returns-in_err-grown-clause-takes : goal.returns-in_err-grown-clause-takes
 returns-in_err-grown-clause-takes g c =
-    leaps_take _ _ _ (cells_after (g.A.Automaton.next_of c.args.leaper.now.rule) (cell c.args.leaper.now.nodes c.args.first.tree)) c.min-early.result c.from-walk.result.generations c.args.limit
-    (omega (arith, c.min-early.ensures)) c.in_ok-soon.ensures.takes c.in_err-grown.ensures.takes
+    leaps_take _ _ _ (cells_after (g.A.Automaton.next_of c.args.leaper.now.rule) (cell c.args.leaper.now.nodes c.args.first.now.tree)) c.args.walk.now.generations c.min-early.result c.args.limit
+    (omega (arith, c.min-early.ensures, c.early_generations.ensures, c.requires.begun, c.requires.some)) (omega (arith, c.min-early.ensures)) c.in_ok-soon.ensures.takes c.in_err-grown.ensures.takes
 
 pub returns-in-Some-grown-clause-identity : goal.returns-in-Some-grown-clause-identity
 returns-in-Some-grown-clause-identity g c = λ cells shows.
@@ -92,8 +89,8 @@ returns-in-Some-grown-clause-identity g c = λ cells shows.
 
 pub returns-in-Some-grown-clause-takes : goal.returns-in-Some-grown-clause-takes
 returns-in-Some-grown-clause-takes g c =
-    leaps_take _ _ _ (cells_after (g.A.Automaton.next_of c.args.leaper.now.rule) (cell c.args.leaper.now.nodes c.args.first.tree)) c.min-early.result c.from-walk.result.generations c.args.limit
-    (omega (arith, c.min-early.ensures)) c.in_ok-soon.ensures.takes c.in_ok-grown.ensures.takes
+    leaps_take _ _ _ (cells_after (g.A.Automaton.next_of c.args.leaper.now.rule) (cell c.args.leaper.now.nodes c.args.first.now.tree)) c.args.walk.now.generations c.min-early.result c.args.limit
+    (omega (arith, c.min-early.ensures, c.early_generations.ensures, c.requires.begun, c.requires.some)) (omega (arith, c.min-early.ensures)) c.in_ok-soon.ensures.takes c.in_ok-grown.ensures.takes
 
 -- ---- strides
 
@@ -102,25 +99,25 @@ module _ (g : _) (c : In_default-grown g) where
   on : LeaperGrows _ c.args.leaper.now c.growth_by_leaps.new.leaper
   on = goes_on_again _ c.args.leaper.now c.look_on.new.leaper c.growth_by_leaps.new.leaper c.in_ok-soon.ensures.goes_on c.in_ok-grown.ensures.goes_on
 
-  same_first : (x y : ℤ) → cell c.growth_by_leaps.new.leaper.nodes c.args.first.tree x y ≡ cell c.args.leaper.now.nodes c.args.first.tree x y
-  same_first = trees_stay c.args.leaper.now.nodes c.growth_by_leaps.new.leaper.nodes c.store.ensures.sound on.grows c.args.first.tree c.requires.first.start.is_tree
+  same_first : (x y : ℤ) → cell c.growth_by_leaps.new.leaper.nodes c.args.first.now.tree x y ≡ cell c.args.leaper.now.nodes c.args.first.now.tree x y
+  same_first = trees_stay c.args.leaper.now.nodes c.growth_by_leaps.new.leaper.nodes c.store.ensures.sound on.grows c.args.first.now.tree c.requires.first.start.is_tree
 
   -- what all takes, with strides
   strides_take : (new : ℕ) → new ≤ c.growth_by_leaps.new.leaper.spent.used + leap_work c.args.limit
-      → TakesSearch c.args.leaper.now.spent.used new (cells_after (g.A.Automaton.next_of c.args.leaper.now.rule) (cell c.args.leaper.now.nodes c.args.first.tree)) c.args.limit
+      → TakesSearchFrom c.args.leaper.now.spent.used new (cells_after (g.A.Automaton.next_of c.args.leaper.now.rule) (cell c.args.leaper.now.nodes c.args.first.now.tree)) c.args.walk.now.generations c.args.limit
   strides_take new takes =
-      let stages = cells_after (g.A.Automaton.next_of c.args.leaper.now.rule) (cell c.args.leaper.now.nodes c.args.first.tree) in
+      let stages = cells_after (g.A.Automaton.next_of c.args.leaper.now.rule) (cell c.args.leaper.now.nodes c.args.first.now.tree) in
       let limit = c.args.limit in
       let early = c.min-early.result in
       let leaps = c.in_ok-grown.ensures.takes in
-      whole_search _ c.look_on.new.leaper.spent.used new new stages early limit (omega (arith, c.min-early.ensures))
-      (fewer_steps _ _ stages early (early - c.from-walk.result.generations) early (omega arith) c.in_ok-soon.ensures.takes) (omega (arith, leaps, takes))
+      whole_search _ c.look_on.new.leaper.spent.used new new stages c.args.walk.now.generations early limit
+      (omega (arith, c.min-early.ensures, c.early_generations.ensures, c.requires.begun, c.requires.some)) (omega (arith, c.min-early.ensures)) c.in_ok-soon.ensures.takes (omega (arith, leaps, takes))
       (no_step new new stages limit (limit - early) refl)
 
 pub growth_by_strides-requires-clause-first : goal.growth_by_strides-requires-clause-first
 growth_by_strides-requires-clause-first g c =
     let a = (goal.at.growth_by_strides-requires-clause-first g c).In_default-grown in
-    first_stays c.args.leaper.now.nodes c.growth_by_leaps.new.leaper.nodes c.store.ensures.sound (on g a).grows c.args.first c.requires.first
+    first_stays c.args.leaper.now.nodes c.growth_by_leaps.new.leaper.nodes c.store.ensures.sound (on g a).grows c.args.first.now c.requires.first
 
 pub growth_by_strides-requires-clause-walk : goal.growth_by_strides-requires-clause-walk
 growth_by_strides-requires-clause-walk g c =
@@ -129,7 +126,7 @@ growth_by_strides-requires-clause-walk g c =
     let s1 = c.look_on.new.leaper.nodes in
     let s2 = c.growth_by_leaps.new.leaper.nodes in
     let walk = c.look_on.new.walk in
-    let tree = c.args.first.tree in
+    let tree = c.args.first.now.tree in
     let p = cell c.args.leaper.now.nodes tree in
     let stays = walk_stays (rules c.args.leaper.now.rule) p s1 s2 c.in_ok-soon.ensures.goes_on.grows.sound c.in_ok-grown.ensures.goes_on.grows walk (c.in_ok-soon.ensures.walk c.in_default.is) in
     subst (λ r. IsWalk (rules r) (cell s2 tree) s2 walk) (sym (on g a).rule) (walk_as (rules c.args.leaper.now.rule) p (cell s2 tree) s2 walk (λ x y. sym (same_first g a x y)) stays)
@@ -151,7 +148,7 @@ pub returns-in-Some-strided-clause-identity : goal.returns-in-Some-strided-claus
 returns-in-Some-strided-clause-identity g c = λ cells shows.
     let a = (goal.at.returns-in-Some-strided-clause-identity g c).In_default-grown in
     let rules = g.A.Automaton.next_of in
-    let shown = shows_stays c.args.leaper.now.nodes c.growth_by_leaps.new.leaper.nodes c.store.ensures.sound (on g a).grows c.args.first.tree cells c.requires.first.start.is_tree shows in
+    let shown = shows_stays c.args.leaper.now.nodes c.growth_by_leaps.new.leaper.nodes c.store.ensures.sound (on g a).grows c.args.first.now.tree cells c.requires.first.start.is_tree shows in
     let told = rw c.in-Some-strided.is at (c.in_ok-strided.ensures.growth cells shown) in
     subst (λ r. IsIdentity (rules r) cells c.args.limit (Unknown c.in-Some-strided.growth)) (on g a).rule told
 
@@ -164,20 +161,20 @@ module _ (g : _) (c : In_default-strided g) where
       goes_on_again _ c.args.leaper.now c.growth_by_leaps.new.leaper c.growth_by_strides.new.leaper
       (goes_on_again _ c.args.leaper.now c.look_on.new.leaper c.growth_by_leaps.new.leaper c.in_ok-soon.ensures.goes_on c.in_ok-grown.ensures.goes_on) c.in_ok-strided.ensures.goes_on
 
-  pub first_then : (x y : ℤ) → cell c.growth_by_strides.new.leaper.nodes c.args.first.tree x y ≡ cell c.args.leaper.now.nodes c.args.first.tree x y
-  first_then = trees_stay c.args.leaper.now.nodes c.growth_by_strides.new.leaper.nodes c.store.ensures.sound on_strides.grows c.args.first.tree c.requires.first.start.is_tree
+  pub first_then : (x y : ℤ) → cell c.growth_by_strides.new.leaper.nodes c.args.first.now.tree x y ≡ cell c.args.leaper.now.nodes c.args.first.now.tree x y
+  first_then = trees_stay c.args.leaper.now.nodes c.growth_by_strides.new.leaper.nodes c.store.ensures.sound on_strides.grows c.args.first.now.tree c.requires.first.start.is_tree
 
   -- what all takes, with the last steps
   all_take : (new : ℕ)
       → TakesSteps c.growth_by_strides.new.leaper.spent.used new
-      (cells_after (g.A.Automaton.next_of c.growth_by_strides.new.leaper.rule) (cell c.growth_by_strides.new.leaper.nodes c.args.first.tree)) c.args.limit
+      (cells_after (g.A.Automaton.next_of c.growth_by_strides.new.leaper.rule) (cell c.growth_by_strides.new.leaper.nodes c.args.first.now.tree)) c.args.limit
       (c.args.limit - c.growth_by_strides.new.walk.generations)
-      → TakesSearch c.args.leaper.now.spent.used new (cells_after (g.A.Automaton.next_of c.args.leaper.now.rule) (cell c.args.leaper.now.nodes c.args.first.tree)) c.args.limit
+      → TakesSearchFrom c.args.leaper.now.spent.used new (cells_after (g.A.Automaton.next_of c.args.leaper.now.rule) (cell c.args.leaper.now.nodes c.args.first.now.tree)) c.args.walk.now.generations c.args.limit
   all_take new takes =
       let rules = g.A.Automaton.next_of in
       let next = rules c.args.leaper.now.rule in
-      let p = cell c.args.leaper.now.nodes c.args.first.tree in
-      let q = cell c.growth_by_strides.new.leaper.nodes c.args.first.tree in
+      let p = cell c.args.leaper.now.nodes c.args.first.now.tree in
+      let q = cell c.growth_by_strides.new.leaper.nodes c.args.first.now.tree in
       let limit = c.args.limit in
       let early = c.min-early.result in
       let leapt = c.growth_by_strides.new.leaper.spent.used in
@@ -188,21 +185,71 @@ module _ (g : _) (c : In_default-strided g) where
       let strides = c.in_ok-strided.ensures.takes in
       let here = subst (λ r. TakesSteps leapt new (cells_after (rules r) q) limit left) on_strides.rule takes in
       let rest = steps_as leapt new (cells_after next p) (cells_after next q) limit left (λ m x y. after_same next q p m first_then x y) here in
-      whole_search _ c.look_on.new.leaper.spent.used leapt new (cells_after next p) early limit (omega (arith, c.min-early.ensures))
-      (fewer_steps _ _ (cells_after next p) early (early - c.from-walk.result.generations) early (omega arith) c.in_ok-soon.ensures.takes) (omega (arith, leaps, strides))
+      whole_search _ c.look_on.new.leaper.spent.used leapt new (cells_after next p) c.args.walk.now.generations early limit
+      (omega (arith, c.min-early.ensures, c.early_generations.ensures, c.requires.begun, c.requires.some)) (omega (arith, c.min-early.ensures)) c.in_ok-soon.ensures.takes (omega (arith, leaps, strides))
       (fewer_steps leapt new (cells_after next p) limit left (limit - early) (omega (arith, end, begun)) rest)
+
+-- ---- where it ends by a fault
+
+pub returns-in_err-soon-clause-halted : goal.returns-in_err-soon-clause-halted
+returns-in_err-soon-clause-halted g c =
+    on_err _ _ (halted_within (g.A.Automaton.next_of c.args.leaper.now.rule) (cell c.args.leaper.now.nodes c.args.first.now.tree) c.look_on.new.leaper.nodes c.look_on.new.walk
+    c.args.walk.now.generations c.args.walk.now.generations c.min-early.result c.args.limit (omega arith) (omega (arith, c.min-early.ensures)) c.in_err-soon.ensures.halted)
+
+pub returns-in_err-grown-clause-halted : goal.returns-in_err-grown-clause-halted
+returns-in_err-grown-clause-halted g c =
+    let next = g.A.Automaton.next_of c.args.leaper.now.rule in
+    let p = cell c.args.leaper.now.nodes c.args.first.now.tree in
+    let walk = c.look_on.new.walk in
+    let end = c.in_ok-soon.ensures.end c.in_default.is in
+    on_err _ _ (halted_here next p c.growth_by_leaps.new.leaper.nodes walk c.args.walk.now.generations c.args.limit
+    (omega (arith, end, c.min-early.ensures, c.early_generations.ensures, c.requires.begun, c.requires.some)) (omega (arith, end, c.min-early.ensures))
+    (walk_stays next p c.look_on.new.leaper.nodes c.growth_by_leaps.new.leaper.nodes c.in_ok-soon.ensures.goes_on.grows.sound c.growth_by_leaps.ensures.goes_on.grows walk (c.in_ok-soon.ensures.walk c.in_default.is)))
+
+pub returns-in_err-strided-clause-halted : goal.returns-in_err-strided-clause-halted
+returns-in_err-strided-clause-halted g c =
+    let b = (goal.at.returns-in_err-strided-clause-halted g c).In_default-grown in
+    let rules = g.A.Automaton.next_of in
+    let tree = c.args.first.now.tree in
+    let s2 = c.growth_by_leaps.new.leaper.nodes in
+    let s3 = c.growth_by_strides.new.leaper.nodes in
+    let walk = c.growth_by_strides.new.walk in
+    let end = c.in_ok-soon.ensures.end c.in_default.is in
+    let begun = c.growth_by_strides.ensures.begun in
+    let told = subst (λ r. IsWalk (rules r) (cell s2 tree) s3 walk) (on g b).rule c.growth_by_strides.ensures.walk in
+    on_err _ _ (halted_here (rules c.args.leaper.now.rule) (cell c.args.leaper.now.nodes tree) s3 walk c.args.walk.now.generations c.args.limit
+    (omega (arith, begun, end, c.min-early.ensures, c.early_generations.ensures, c.requires.begun, c.requires.some)) c.growth_by_strides.ensures.within
+    (walk_as (rules c.args.leaper.now.rule) (cell s2 tree) (cell c.args.leaper.now.nodes tree) s3 walk (same_first g b) told))
+
+pub returns-in_err-late-clause-halted : goal.returns-in_err-late-clause-halted
+returns-in_err-late-clause-halted g c =
+    let a = (goal.at.returns-in_err-late-clause-halted g c).In_default-strided in
+    let rules = g.A.Automaton.next_of in
+    let tree = c.args.first.now.tree in
+    let s3 = c.growth_by_strides.new.leaper.nodes in
+    let s4 = c.look_on-2.new.leaper.nodes in
+    let walk = c.look_on-2.new.walk in
+    let middle = c.growth_by_strides.new.walk.generations in
+    let end = c.in_ok-soon.ensures.end c.in_default.is in
+    let begun = c.in_ok-strided.ensures.begun in
+    let limit = c.args.limit in
+    let next = rules c.args.leaper.now.rule in
+    let told = subst (λ r. IsHalted (rules r) (cell s3 tree) s4 middle limit walk) (on_strides g a).rule c.in_err-late.ensures.halted in
+    on_err _ _ (halted_within next (cell c.args.leaper.now.nodes tree) s4 walk c.args.walk.now.generations middle limit limit
+    (omega (arith, begun, end, c.min-early.ensures, c.early_generations.ensures, c.requires.begun, c.requires.some)) (omega arith)
+    (halted_as next (cell s3 tree) (cell c.args.leaper.now.nodes tree) s4 walk middle limit (first_then g a) told))
 
 pub look_on-requires-2-clause-first : goal.look_on-requires-2-clause-first
 look_on-requires-2-clause-first g c =
     let a = (goal.at.look_on-requires-2-clause-first g c).In_default-strided in
-    first_stays c.args.leaper.now.nodes c.growth_by_strides.new.leaper.nodes c.store.ensures.sound (on_strides g a).grows c.args.first c.requires.first
+    first_stays c.args.leaper.now.nodes c.growth_by_strides.new.leaper.nodes c.store.ensures.sound (on_strides g a).grows c.args.first.now c.requires.first
 
 pub look_on-requires-2-clause-walk : goal.look_on-requires-2-clause-walk
 look_on-requires-2-clause-walk g c =
     let a = (goal.at.look_on-requires-2-clause-walk g c).In_default-strided in
     let b = (goal.at.look_on-requires-2-clause-walk g c).In_default-grown in
     let rules = g.A.Automaton.next_of in
-    let tree = c.args.first.tree in
+    let tree = c.args.first.now.tree in
     let s2 = c.growth_by_leaps.new.leaper.nodes in
     let s3 = c.growth_by_strides.new.leaper.nodes in
     let walk = c.growth_by_strides.new.walk in
@@ -242,7 +289,7 @@ pub returns-in-Some-late-clause-identity : goal.returns-in-Some-late-clause-iden
 returns-in-Some-late-clause-identity g c = λ cells shows.
     let a = (goal.at.returns-in-Some-late-clause-identity g c).In_default-strided in
     let rules = g.A.Automaton.next_of in
-    let shown = shows_stays c.args.leaper.now.nodes c.growth_by_strides.new.leaper.nodes c.store.ensures.sound (on_strides g a).grows c.args.first.tree cells c.requires.first.start.is_tree shows in
+    let shown = shows_stays c.args.leaper.now.nodes c.growth_by_strides.new.leaper.nodes c.store.ensures.sound (on_strides g a).grows c.args.first.now.tree cells c.requires.first.start.is_tree shows in
     let ending = rw c.in-Some-late.is at (c.in_ok-late.ensures.ending cells shown) in
     c.identity_of-in-Some-late.ensures (rules c.args.leaper.now.rule) cells c.args.limit (rw c.in-Some-late.is at c.in_ok-late.ensures.time) c.requires.most
     (subst (λ r. IsEnding (rules r) cells c.in-Some-late.ending) (on_strides g a).rule ending)
@@ -251,10 +298,10 @@ returns-in-Some-late-clause-identity g c = λ cells shows.
 
 module _ (g : _) (c : In_default-late g) (on_till : LeaperGrows _ c.args.leaper.now c.growth_by_strides.new.leaper) where
   -- what was looked at, over the first cells as they were
-  pub last_walk : IsWalk (g.A.Automaton.next_of c.args.leaper.now.rule) (cell c.args.leaper.now.nodes c.args.first.tree) c.look_on-2.new.leaper.nodes c.look_on-2.new.walk
+  pub last_walk : IsWalk (g.A.Automaton.next_of c.args.leaper.now.rule) (cell c.args.leaper.now.nodes c.args.first.now.tree) c.look_on-2.new.leaper.nodes c.look_on-2.new.walk
   last_walk =
       let rules = g.A.Automaton.next_of in
-      let tree = c.args.first.tree in
+      let tree = c.args.first.now.tree in
       let s0 = c.args.leaper.now.nodes in
       let s2 = c.growth_by_strides.new.leaper.nodes in
       let s3 = c.look_on-2.new.leaper.nodes in
@@ -270,7 +317,7 @@ growth_of-requires-clause-low g c =
     let end = c.in_ok-late.ensures.end c.in_default-late.is in
     let quiet = g.met.A.Automaton.quiet c.args.leaper.now.rule c.store.ensures.rule in
     let tree = c.look_on-2.new.walk.tree in
-    let low = start_is_low next (cell c.args.leaper.now.nodes c.args.first.tree) c.look_on-2.new.walk.generations quiet c.requires.first.start.within (omega (arith, end, c.requires.most)) c.look_on-2.new.leaper.nodes tree walk.now.trimmed walk.now.shows in
+    let low = start_is_low next (cell c.args.leaper.now.nodes c.args.first.now.tree) c.look_on-2.new.walk.generations quiet c.requires.first.start.within (omega (arith, end, c.requires.most)) c.look_on-2.new.leaper.nodes tree walk.now.trimmed walk.now.shows in
     subst (λ s. IsLowTree s tree) (sym c.store-3.ensures.nodes) (record { is_tree = walk.now.near.is_tree; low = low })
 
 pub growth_of-requires-clause-live : goal.growth_of-requires-clause-live
@@ -281,18 +328,26 @@ growth_of-requires-clause-live g c =
     let end = c.in_ok-late.ensures.end c.in_default-late.is in
     let tree = c.look_on-2.new.walk.tree in
     subst (λ s. HasLive (cell s tree)) (sym c.store-3.ensures.nodes)
-    (last_live next (cell c.args.leaper.now.nodes c.args.first.tree) c.look_on-2.new.walk.generations c.look_on-2.new.leaper.nodes tree walk.now walk.others (omega (arith, end, c.requires.some)))
+    (last_live next (cell c.args.leaper.now.nodes c.args.first.now.tree) c.look_on-2.new.walk.generations c.look_on-2.new.leaper.nodes tree walk.now walk.others (omega (arith, end, c.requires.some)))
+
+pub returns-in_err-growth-clause-halted : goal.returns-in_err-growth-clause-halted
+returns-in_err-growth-clause-halted g c =
+    let a = goal.at.returns-in_err-growth-clause-halted g c in
+    let next = g.A.Automaton.next_of c.args.leaper.now.rule in
+    let end = c.in_ok-late.ensures.end c.in_default-late.is in
+    on_err _ _ (halted_here next (cell c.args.leaper.now.nodes c.args.first.now.tree) c.look_on-2.new.leaper.nodes c.look_on-2.new.walk c.args.walk.now.generations c.args.limit
+    (omega (arith, end, c.requires.begun, c.requires.some)) (omega (arith, end)) (last_walk g a.In_default-late (on_strides g a.In_default-strided)))
 
 pub returns-clause-identity : goal.returns-clause-identity
 returns-clause-identity g c = λ cells shows.
     let a = goal.at.returns-clause-identity g c in
     let next = g.A.Automaton.next_of c.args.leaper.now.rule in
-    let p = cell c.args.leaper.now.nodes c.args.first.tree in
+    let p = cell c.args.leaper.now.nodes c.args.first.now.tree in
     let walk = last_walk g a.In_default-late (on_strides g a.In_default-strided) in
     let end = c.in_ok-late.ensures.end c.in_default-late.is in
     let new = c.look_on-2.new.leaper.nodes in
     let tree = c.look_on-2.new.walk.tree in
-    found_none next (g.met.A.Automaton.quiet c.args.leaper.now.rule c.store.ensures.rule) c.args.leaper.now.nodes c.args.first c.requires.first cells shows c.args.limit (subst (AreOtherUpTo next p) end walk.others) new tree
+    found_none next (g.met.A.Automaton.quiet c.args.leaper.now.rule c.store.ensures.rule) c.args.leaper.now.nodes c.args.first.now c.requires.first cells shows c.args.limit (subst (AreOtherUpTo next p) end walk.others) new tree
     (subst (λ n. IsLaterTree next p n new tree) end walk.now) c.in_ok-growth.growth (subst (λ s. IsGrowthOf s tree c.in_ok-growth.growth) c.store-3.ensures.nodes c.in_ok-growth.ensures)
 
 pub returns-clause-goes_on : goal.returns-clause-goes_on

@@ -1,0 +1,113 @@
+//! What a live pattern is, as far as patience goes: the first generation is looked at in any case, and the others while
+//! the units of work that are allowed for them last.
+
+ghost use Rattle.std.specs.Prelude.{◌≡◌, ◌+◌, ◌≤◌, ℕ, None, IfOk, IfSome};
+ghost use Rattle.ca_plane.specs.Plane.{Picture};
+ghost use Rattle.ca_plane.specs.Generations.{cells_after};
+ghost use Rattle.ca_plane.specs.Limits.{longest_period};
+ghost use Rattle.ca_quad.specs.Trees.{cell};
+ghost use Rattle.ca_run.specs.Leaping.{LeaperGrows, EndsAtLimit};
+ghost use Rattle.ca_claims.specs.Identified.{IsIdentity, IsLook};
+ghost use Rattle.ca_claims.specs.inner.Stages.{IsFirst, IsWalk, IsHalted, TakesSearch, TakesSearchFrom};
+ghost use Rattle.ca_claims.specs.inner.Subjects.{ShowsTree};
+
+use super::ending::identity_of;
+use super::growth::growth_of;
+use super::search::search;
+use super::stage::First;
+use super::walk::{Walk, look_on};
+use crate::identity::Identity;
+use crate::observer::Observer;
+use crate::scope::{Look, Scope};
+use ca_plane::Automaton;
+use ca_run::{LeapFault, Leaper};
+use std::alloc::Global;
+
+/// What a live pattern is, as far as the scope says.
+pub(super) fn look<A: Automaton, O: Observer>(
+    alloc: Global,
+    leaper: &mut Leaper<A>,
+    first: First,
+    scope: Scope,
+    observer: &mut O,
+) -> Result<Look, LeapFault>
+    requires first { IsFirst leaper.old.nodes first }
+    requires some { 1 ≤ scope.limit }
+    requires most { scope.limit ≤ longest_period }
+    ensures look { (cells : Picture) → ShowsTree leaper.old.nodes first.tree cells
+        → IfOk result (IsLook (A.next_of leaper.old.rule) cells scope) }
+    ensures goes_on { LeaperGrows A leaper.old leaper.new }
+    ensures takes { TakesSearch leaper.old.spent.used leaper.new.spent.used
+        (cells_after (A.next_of leaper.old.rule) (cell leaper.old.nodes first.tree)) scope.limit }
+    ensures work { EndsAtLimit leaper.new.spent result }
+{
+    // Says what holds of every leaper.
+    let _ = leaper.store();
+    let Scope { limit, patience } = scope;
+    let mut walk = Walk::from(alloc, first.tree);
+    let Some(units) = patience else {
+        let identity = search(alloc, leaper, &first, &mut walk, limit, observer)?;
+        return Ok(Look { identity, limit });
+    };
+    let soon = look_on(alloc, leaper, &first, &mut walk, 1, observer)?;
+    if let Some(ending) = soon {
+        let identity = identity_of(ending);
+        return Ok(Look { identity, limit });
+    }
+    let found = patient_search(alloc, leaper, &first, &mut walk, limit, units, observer)?;
+    if let Some(identity) = found {
+        return Ok(Look { identity, limit });
+    }
+    let growth = growth_of(alloc, leaper.store(), &walk.tree)?;
+    Ok(Look {
+        identity: Identity::Unknown { growth },
+        limit: walk.generations,
+    })
+}
+
+// What a live pattern is, if no more than so many units of work are needed to find it out. Else the walk is at the last
+// generation that was looked at.
+fn patient_search<A: Automaton, O: Observer>(
+    alloc: Global,
+    leaper: &mut Leaper<A>,
+    first: &First,
+    walk: &mut Walk,
+    limit: u64,
+    units: u64,
+    observer: &mut O,
+) -> Result<Option<Identity>, LeapFault>
+    requires first { IsFirst leaper.old.nodes first.now }
+    requires walk { IsWalk (A.next_of leaper.old.rule) (cell leaper.old.nodes first.now.tree)
+        leaper.old.nodes walk.old }
+    requires begun { walk.old.generations ≤ 1 }
+    requires some { 1 ≤ limit }
+    requires most { limit ≤ longest_period }
+    ensures identity { (cells : Picture) → ShowsTree leaper.old.nodes first.now.tree cells
+        → IfOk result (λ found. IfSome found (IsIdentity (A.next_of leaper.old.rule) cells limit)) }
+    ensures halted { IfOk result (λ found. found ≡ None → IsHalted (A.next_of leaper.old.rule)
+        (cell leaper.old.nodes first.now.tree) leaper.new.nodes walk.old.generations limit walk.new) }
+    ensures used { IfOk result
+        (λ found. found ≡ None → leaper.old.spent.used + units ≤ leaper.new.spent.used) }
+    ensures goes_on { LeaperGrows A leaper.old leaper.new }
+    ensures takes { TakesSearchFrom leaper.old.spent.used leaper.new.spent.used
+        (cells_after (A.next_of leaper.old.rule) (cell leaper.old.nodes first.now.tree))
+        walk.old.generations limit }
+    ensures work { EndsAtLimit leaper.new.spent result }
+{
+    // Says what holds of every leaper.
+    let _ = leaper.store();
+    let most = leaper.work_limit();
+    let used = leaper.used();
+    if units >= most - used {
+        let identity = search(alloc, leaper, first, walk, limit, observer)?;
+        return Ok(Some(identity));
+    }
+    leaper.limit_work(used + units);
+    let found = search(alloc, leaper, first, walk, limit, observer);
+    leaper.limit_work(most);
+    match found {
+        Ok(identity) => Ok(Some(identity)),
+        Err(LeapFault::Work) => Ok(None),
+        Err(LeapFault::Memory) => Err(LeapFault::Memory),
+    }
+}
