@@ -1,6 +1,6 @@
 #!/usr/bin/env -S python3 -B
 """`identify`: the claim text that it prints, of files whose claims are known, of soups that are run here, and of all files of examples/, whose text is proved by
-`verify`; how far patterns grow of which no claim is true; names, paths and rule files; files that are refused; and how far it looks."""
+`verify`; how far patterns grow of which no claim is true; names, paths and rule files; files that are refused; and how far it looks, with a limit and while patience lasts."""
 import os
 import random
 import re
@@ -213,6 +213,26 @@ def try_limits(tally):
     tally.expect("the R-pentomino, as far as usual", run(["identify", path]), whole(entry("r_pentomino", path, none_of(end, 65536))))
     path = "examples/blinker.rle"
     tally.expect("as far as can be", run(["identify", path, "--limit", "4294967295"]), whole(entry("blinker", path, "oscillator 2")))
+
+
+def try_patience(tally, files):
+    """A soup that patience doesn't outlast: what is told of it is true of the generations that are named, of its own plane and of a later one. With a limit that
+    is set it is looked at as far as that, and a bound of the work that is no larger than patience is a bound as ever."""
+    chance = random.Random(7)
+    path = files.path("soup.rle", rle.tidy({(x, y): 1 for y in range(400) for x in range(400) if chance.random() < 0.375}, "B3/S23", 0, 2))
+    told, seconds = timed(["identify", path])
+    found = re.search(rb"none of these within (\d+) generations", told.printed)
+    limit = int(found[1]) if found else 1
+    tally.tell("a soup is looked at while patience lasts", ([] if 100 < limit < 60000 else [str(told)]) + excess(seconds, 100))
+    tally.expect(f"within {limit} generations", told, whole(entry("soup", path, shown_after(path, limit))))
+    tally.expect("no fewer than a limit that is set", run(["identify", path, "--limit", str(limit + limit // 2)]), whole(entry("soup", path, shown_after(path, limit + limit // 2))))
+    tally.expect("fewer than patience allows", run(["identify", path, "--limit", str(limit // 2)]), whole(entry("soup", path, shown_after(path, limit // 2))))
+    later = run(["identify", path, "--after", "100"])
+    found = re.search(rb"none of these within (\d+) generations", later.printed)
+    limit = int(found[1]) if found else 1
+    tally.tell("its plane 100 generations on", [] if 100 < limit < 60000 else [str(later)])
+    tally.expect(f"that plane within {limit} generations", later, whole(later_entry("soup", path, 100, shown_after(path, limit, begun=100))))
+    tally.expect("a bound of the work", run(["identify", path, "--work", "100000"]), whole(f"# soup: {path}: work\n", status=2))
 
 
 def try_growth(tally, files):
@@ -531,7 +551,7 @@ def main():
     try_known(tally)
     try_true_claims(tally)
     try_limits(tally)
-    for trial in (try_squares, try_growth, try_many_squares, try_long_periods, try_after, try_all, try_names, try_odd_paths, try_refused, try_rules, try_given_rule, try_many):
+    for trial in (try_squares, try_patience, try_growth, try_many_squares, try_long_periods, try_after, try_all, try_names, try_odd_paths, try_refused, try_rules, try_given_rule, try_many):
         with tempfile.TemporaryDirectory() as folder:
             trial(tally, Folder(folder))
     tally.finish()

@@ -203,7 +203,7 @@ no_other : (n : ℕ) (name path other : List ℕ) (outcome : Outcome) → bytes_
 no_other n name path other Unnameable h = refl
 no_other n name path other (Refused why) h = refl
 no_other n name path other (outcomes.FaultyRule rule) h = refl
-no_other n name path other (Identified identity) h = rw h (found_loads n name other identity)
+no_other n name path other (Identified look) h = rw h (found_loads n name other look.identity)
 
 -- a name that is none of those taken and of one more
 free_after : (taken : List (List ℕ)) (name other : List ℕ) → is_taken (taken ++ name ∷ []) other ≡ false → (is_taken taken other ≡ false) × (bytes_eq other name ≡ false)

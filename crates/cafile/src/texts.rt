@@ -211,8 +211,9 @@ NAME is the file's name without its ending, with _ for blanks and for a # that i
 it is followed by -2, -3 and so on. A path with a blank, and -, can't be in a claim text: such a file has a comment
 that says so. One whose path isn't UTF-8 can't be opened, and has the comment of a file that isn't there.
 
---limit N looks for periods and deaths of up to N generations. --memo N and --work N are as for verify, for each
-pattern.
+Up to 65536 generations of a pattern are looked at, while patience lasts: a second or two. Where it ends before, the
+comment says `within` fewer. --limit N looks for periods and deaths of up to N generations, however long that takes.
+--memo N and --work N are as for verify, for each pattern.
 
 --after N identifies the plane that each pattern has N generations on. No claim about the file says what that is, so
 there are comments alone: `# NAME after 1103 generations: still`, and so on.

@@ -19,8 +19,8 @@ use std::alloc::{AllocError, Global};
 /// How many generations of a pattern are looked at, unless that is set.
 const USUAL_LIMIT: u64 = 65536;
 
-/// How many units of work they may take then, after the first. That is a second or two on a usual machine.
-const USUAL_PATIENCE: u64 = 4194304;
+/// How many units of work they may take then, after the first. That is a second or two on most machines.
+const USUAL_PATIENCE: u64 = 786432;
 
 /// What a run of `identify` is given and asked for besides its pattern files.
 #[derive(Drop)]
@@ -84,7 +84,7 @@ fn limit_word<'a>(alloc: Global) -> Arg<'a> {
         alloc,
         "limit",
         "N",
-        "The longest period or life that is looked for: 1 to 4294967295; unless set, 65536",
+        "The longest period or life that is looked for: 1 to 4294967295; unless set, 65536 while patience lasts",
     )
     .value_parser(value_parser!(u64).range(1..=LONGEST_PERIOD as i64))
 }
