@@ -13,7 +13,7 @@ ghost use Rattle.ca_claims.specs.inner.Subjects.{ShowsTree};
 
 use super::ending::identity_of;
 use super::growth::growth_of;
-use super::search::search;
+use super::search::{early_generations, search};
 use super::stage::First;
 use super::walk::{Walk, look_on};
 use crate::identity::Identity;
@@ -44,9 +44,10 @@ pub(super) fn look<A: Automaton, O: Observer>(
     // Says what holds of every leaper.
     let _ = leaper.store();
     let Scope { limit, patience } = scope;
+    let early = early_generations(leaper.store().count()).min(limit);
     let mut walk = Walk::from(alloc, first.tree);
     let Some(units) = patience else {
-        let identity = search(alloc, leaper, &first, &mut walk, limit, observer)?;
+        let identity = search(alloc, leaper, &first, &mut walk, early, limit, observer)?;
         return Ok(Look { identity, limit });
     };
     let soon = look_on(alloc, leaper, &first, &mut walk, 1, observer)?;
@@ -54,7 +55,12 @@ pub(super) fn look<A: Automaton, O: Observer>(
         let identity = identity_of(ending);
         return Ok(Look { identity, limit });
     }
-    let found = patient_search(alloc, leaper, &first, &mut walk, limit, units, observer)?;
+    let span = Span {
+        early,
+        limit,
+        units,
+    };
+    let found = patient_search(alloc, leaper, &first, &mut walk, span, observer)?;
     if let Some(identity) = found {
         return Ok(Look { identity, limit });
     }
@@ -65,6 +71,15 @@ pub(super) fn look<A: Automaton, O: Observer>(
     })
 }
 
+// How far a search with patience goes: how many generations are looked at one by one, how many are at all, and for how
+// many units of work.
+#[derive(Clone, Copy)]
+struct Span {
+    early: u64,
+    limit: u64,
+    units: u64,
+}
+
 // What a live pattern is, if no more than so many units of work are needed to find it out. Else the walk is at the last
 // generation that was looked at.
 fn patient_search<A: Automaton, O: Observer>(
@@ -72,38 +87,43 @@ fn patient_search<A: Automaton, O: Observer>(
     leaper: &mut Leaper<A>,
     first: &First,
     walk: &mut Walk,
-    limit: u64,
-    units: u64,
+    span: Span,
     observer: &mut O,
 ) -> Result<Option<Identity>, LeapFault>
     requires first { IsFirst leaper.old.nodes first.now }
     requires walk { IsWalk (A.next_of leaper.old.rule) (cell leaper.old.nodes first.now.tree)
         leaper.old.nodes walk.old }
     requires begun { walk.old.generations ≤ 1 }
-    requires some { 1 ≤ limit }
-    requires most { limit ≤ longest_period }
+    requires some { 1 ≤ span.early }
+    requires within { span.early ≤ span.limit }
+    requires most { span.limit ≤ longest_period }
     ensures identity { (cells : Picture) → ShowsTree leaper.old.nodes first.now.tree cells
-        → IfOk result (λ found. IfSome found (IsIdentity (A.next_of leaper.old.rule) cells limit)) }
+        → IfOk result (λ found. IfSome found (IsIdentity (A.next_of leaper.old.rule) cells span.limit)) }
     ensures halted { IfOk result (λ found. found ≡ None → IsHalted (A.next_of leaper.old.rule)
-        (cell leaper.old.nodes first.now.tree) leaper.new.nodes walk.old.generations limit walk.new) }
+        (cell leaper.old.nodes first.now.tree) leaper.new.nodes walk.old.generations span.limit walk.new) }
     ensures used { IfOk result
-        (λ found. found ≡ None → leaper.old.spent.used + units ≤ leaper.new.spent.used) }
+        (λ found. found ≡ None → leaper.old.spent.used + span.units ≤ leaper.new.spent.used) }
     ensures goes_on { LeaperGrows A leaper.old leaper.new }
     ensures takes { TakesSearchFrom leaper.old.spent.used leaper.new.spent.used
         (cells_after (A.next_of leaper.old.rule) (cell leaper.old.nodes first.now.tree))
-        walk.old.generations limit }
+        walk.old.generations span.limit }
     ensures work { EndsAtLimit leaper.new.spent result }
 {
     // Says what holds of every leaper.
     let _ = leaper.store();
+    let Span {
+        early,
+        limit,
+        units,
+    } = span;
     let most = leaper.work_limit();
     let used = leaper.used();
     if units >= most - used {
-        let identity = search(alloc, leaper, first, walk, limit, observer)?;
+        let identity = search(alloc, leaper, first, walk, early, limit, observer)?;
         return Ok(Some(identity));
     }
     leaper.limit_work(used + units);
-    let found = search(alloc, leaper, first, walk, limit, observer);
+    let found = search(alloc, leaper, first, walk, early, limit, observer);
     leaper.limit_work(most);
     match found {
         Ok(identity) => Ok(Some(identity)),

@@ -32,12 +32,14 @@ const LEAST_EARLY: u64 = 32;
 
 const EARLY_SQUARES: usize = 1 << 20;
 
-/// What a live pattern is, within so many generations, of which a walk has seen one at most.
+/// What a live pattern is, within so many generations, of which a walk has seen one at most. So many early ones are
+/// looked at one by one.
 pub(super) fn search<A: Automaton, O: Observer>(
     alloc: Global,
     leaper: &mut Leaper<A>,
     first: &First,
     walk: &mut Walk,
+    early: u64,
     limit: u64,
     observer: &mut O,
 ) -> Result<Identity, LeapFault>
@@ -45,7 +47,8 @@ pub(super) fn search<A: Automaton, O: Observer>(
     requires walk { IsWalk (A.next_of leaper.old.rule) (cell leaper.old.nodes first.now.tree)
         leaper.old.nodes walk.old }
     requires begun { walk.old.generations ≤ 1 }
-    requires some { 1 ≤ limit }
+    requires some { 1 ≤ early }
+    requires within { early ≤ limit }
     requires most { limit ≤ longest_period }
     ensures identity { (cells : Picture) → ShowsTree leaper.old.nodes first.now.tree cells
         → IfOk result (IsIdentity (A.next_of leaper.old.rule) cells limit) }
@@ -59,7 +62,6 @@ pub(super) fn search<A: Automaton, O: Observer>(
 {
     // Says what holds of every leaper.
     let _ = leaper.store();
-    let early = early_generations(leaper.store().count()).min(limit);
     let soon = look_on(alloc, leaper, first, walk, early, observer)?;
     if let Some(ending) = soon {
         return Ok(identity_of(ending));
@@ -80,8 +82,8 @@ pub(super) fn search<A: Automaton, O: Observer>(
     Ok(Identity::Unknown { growth })
 }
 
-// How many generations of a pattern in a store of so many squares are looked at before the first leap.
-fn early_generations(squares: usize) -> u64
+/// How many generations of a pattern in a store of so many squares are looked at before the first leap.
+pub(super) fn early_generations(squares: usize) -> u64
     ensures { 1 ≤ result }
 {
     let generations = EARLY_SQUARES / squares.max(1);

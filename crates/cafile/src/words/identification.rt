@@ -20,7 +20,7 @@ use std::alloc::{AllocError, Global};
 const USUAL_LIMIT: u64 = 65536;
 
 /// How many units of work they may take then, after the first. That is a second or two on most machines.
-const USUAL_PATIENCE: u64 = 786432;
+const USUAL_PATIENCE: u64 = 655360;
 
 /// What a run of `identify` is given and asked for besides its pattern files.
 #[derive(Drop)]

@@ -135,7 +135,7 @@ growth_of-requires-clause-low g c =
     let tree = c.patient_search.new.walk.tree in
     let low = start_is_low next (cell c.args.leaper.now.nodes c.args.first.tree) c.patient_search.new.walk.generations (g.met.A.Automaton.quiet c.args.leaper.now.rule c.store.ensures.rule)
     c.requires.first.start.within (omega (arith, within, c.requires.most)) c.patient_search.new.leaper.nodes tree walk.now.trimmed walk.now.shows in
-    subst (λ s. IsLowTree s tree) (sym c.store-2.ensures.nodes) (record { is_tree = walk.now.near.is_tree; low = low })
+    subst (λ s. IsLowTree s tree) (sym c.store-3.ensures.nodes) (record { is_tree = walk.now.near.is_tree; low = low })
 
 pub growth_of-requires-clause-live : goal.growth_of-requires-clause-live
 growth_of-requires-clause-live g c =
@@ -145,7 +145,7 @@ growth_of-requires-clause-live g c =
     let later = walk.later in
     let one = c.in_ok-soon.ensures.end c.in_default-soon.is in
     let tree = c.patient_search.new.walk.tree in
-    subst (λ s. HasLive (cell s tree)) (sym c.store-2.ensures.nodes)
+    subst (λ s. HasLive (cell s tree)) (sym c.store-3.ensures.nodes)
     (last_live next (cell c.args.leaper.now.nodes c.args.first.tree) c.patient_search.new.walk.generations c.patient_search.new.leaper.nodes tree walk.now walk.others (omega (arith, later, one)))
 
 pub returns-in_err-growth-clause-takes : goal.returns-in_err-growth-clause-takes
@@ -179,7 +179,7 @@ returns-clause-look g c = λ cells shows.
       some = omega (arith, later, one);
       most = walk.within;
       identity = found_none next quiet nodes c.args.first c.requires.first cells shows last.generations walk.others new last.tree walk.now c.in_ok-growth.growth
-          (subst (λ s. IsGrowthOf s last.tree c.in_ok-growth.growth) c.store-2.ensures.nodes c.in_ok-growth.ensures);
+          (subst (λ s. IsGrowthOf s last.tree c.in_ok-growth.growth) c.store-3.ensures.nodes c.in_ok-growth.ensures);
       early = λ less. (
         c.in_ok-growth.growth,
         refl,

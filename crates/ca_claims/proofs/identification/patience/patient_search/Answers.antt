@@ -10,6 +10,6 @@ pub returns-in-Ok-clause-identity : goal.returns-in-Ok-clause-identity
 returns-in-Ok-clause-identity g c = λ cells shows.
     let next = g.A.Automaton.next_of in
     let tree = c.args.first.now.tree in
-    let told = subst (λ (l : LeaperView _). (cells : Picture) → ShowsTree l.nodes tree cells → IfOk c.search-found.result (IsIdentity (next l.rule) cells c.args.limit))
+    let told = subst (λ (l : LeaperView _). (cells : Picture) → ShowsTree l.nodes tree cells → IfOk c.search-found.result (IsIdentity (next l.rule) cells c.args.span.limit))
     c.limit_work.ensures.limited c.search-found.ensures.identity cells shows in
     rw c.in-Ok.is at told

@@ -28,16 +28,16 @@ module _ (g : _) (c : In_ok-soon g) where
   abbrev first : ℤ → ℤ → ℕ
   first = cell c.args.leaper.now.nodes c.args.first.now.tree
 
-  few : c.min-early.result ≤ c.args.limit
-  few = omega (arith, c.min-early.ensures)
+  few : c.args.early ≤ c.args.limit
+  few = omega (arith, c.requires.within)
 
   -- the same picture of the first tree
   shows_then : (cells : Picture) → ShowsTree c.args.leaper.now.nodes c.args.first.now.tree cells → ShowsTree c.look_on.new.leaper.nodes c.args.first.now.tree cells
   shows_then cells shows = shows_stays c.args.leaper.now.nodes c.look_on.new.leaper.nodes c.store.ensures.sound c.in_ok-soon.ensures.goes_on.grows c.args.first.now.tree cells c.requires.first.start.is_tree shows
 
   -- there is one at least, and no more than one was seen before
-  later : c.args.walk.now.generations ≤ c.min-early.result
-  later = omega (arith, c.min-early.ensures, c.early_generations.ensures, c.requires.begun, c.requires.some)
+  later : c.args.walk.now.generations ≤ c.args.early
+  later = omega (arith, c.requires.begun, c.requires.some)
 
 -- what they and leaps take
 leaps_take : (old mid leapt : ℕ) (stages : ℕ → ℤ → ℤ → ℕ) (begun early limit : ℕ) → begun ≤ early → early ≤ limit → TakesSteps old mid stages early (early - begun) → leapt ≤ mid + leap_work limit
@@ -46,12 +46,12 @@ leaps_take old mid leapt stages begun early limit later few takes leaps =
     whole_search old mid leapt leapt stages begun early limit later few takes (omega (arith, leaps)) (no_step leapt leapt stages limit (limit - early) refl)
 
 pub look_on-requires-clause-within : goal.look_on-requires-clause-within
-look_on-requires-clause-within g c = omega (arith, c.min-early.ensures, c.early_generations.ensures, c.requires.begun, c.requires.some)
+look_on-requires-clause-within g c = omega (arith, c.requires.begun, c.requires.some)
 
 pub returns-in_err-soon-clause-takes : goal.returns-in_err-soon-clause-takes
 returns-in_err-soon-clause-takes g c =
-    early_search _ _ (cells_after (g.A.Automaton.next_of c.args.leaper.now.rule) (cell c.args.leaper.now.nodes c.args.first.now.tree)) c.args.walk.now.generations c.min-early.result c.args.limit
-    (omega (arith, c.min-early.ensures, c.early_generations.ensures, c.requires.begun, c.requires.some)) (omega (arith, c.min-early.ensures)) c.in_err-soon.ensures.takes
+    early_search _ _ (cells_after (g.A.Automaton.next_of c.args.leaper.now.rule) (cell c.args.leaper.now.nodes c.args.first.now.tree)) c.args.walk.now.generations c.args.early c.args.limit
+    (omega (arith, c.requires.begun, c.requires.some)) (omega (arith, c.requires.within)) c.in_err-soon.ensures.takes
 
 pub returns-in-Some-clause-identity : goal.returns-in-Some-clause-identity
 returns-in-Some-clause-identity g c = λ cells shows.
@@ -62,8 +62,8 @@ returns-in-Some-clause-identity g c = λ cells shows.
 
 pub returns-in-Some-clause-takes : goal.returns-in-Some-clause-takes
 returns-in-Some-clause-takes g c =
-    early_search _ _ (cells_after (g.A.Automaton.next_of c.args.leaper.now.rule) (cell c.args.leaper.now.nodes c.args.first.now.tree)) c.args.walk.now.generations c.min-early.result c.args.limit
-    (omega (arith, c.min-early.ensures, c.early_generations.ensures, c.requires.begun, c.requires.some)) (omega (arith, c.min-early.ensures)) c.in_ok-soon.ensures.takes
+    early_search _ _ (cells_after (g.A.Automaton.next_of c.args.leaper.now.rule) (cell c.args.leaper.now.nodes c.args.first.now.tree)) c.args.walk.now.generations c.args.early c.args.limit
+    (omega (arith, c.requires.begun, c.requires.some)) (omega (arith, c.requires.within)) c.in_ok-soon.ensures.takes
 
 -- ---- leaps
 
@@ -73,8 +73,8 @@ growth_by_leaps-requires-clause-first g c =
 
 pub returns-in_err-grown-clause-takes : goal.returns-in_err-grown-clause-takes
 returns-in_err-grown-clause-takes g c =
-    leaps_take _ _ _ (cells_after (g.A.Automaton.next_of c.args.leaper.now.rule) (cell c.args.leaper.now.nodes c.args.first.now.tree)) c.args.walk.now.generations c.min-early.result c.args.limit
-    (omega (arith, c.min-early.ensures, c.early_generations.ensures, c.requires.begun, c.requires.some)) (omega (arith, c.min-early.ensures)) c.in_ok-soon.ensures.takes c.in_err-grown.ensures.takes
+    leaps_take _ _ _ (cells_after (g.A.Automaton.next_of c.args.leaper.now.rule) (cell c.args.leaper.now.nodes c.args.first.now.tree)) c.args.walk.now.generations c.args.early c.args.limit
+    (omega (arith, c.requires.begun, c.requires.some)) (omega (arith, c.requires.within)) c.in_ok-soon.ensures.takes c.in_err-grown.ensures.takes
 
 pub returns-in-Some-grown-clause-identity : goal.returns-in-Some-grown-clause-identity
 returns-in-Some-grown-clause-identity g c = λ cells shows.
@@ -83,14 +83,14 @@ returns-in-Some-grown-clause-identity g c = λ cells shows.
     let rules = g.A.Automaton.next_of in
     let walk = c.in_ok-soon.ensures.walk c.in_default.is in
     let end = c.in_ok-soon.ensures.end c.in_default.is in
-    let without : HasNoReturn (next g a) cells c.min-early.result = λ m some within. picture_nowhere (next g a) (first g a) cells shows m (walk.others m some (omega (arith, within, end))).1 in
-    let told = c.in_ok-grown.ensures.growth cells (shows_then g a cells shows) (subst (λ r. HasNoReturn (rules r) cells c.min-early.result) (sym on.rule) without) in
+    let without : HasNoReturn (next g a) cells c.args.early = λ m some within. picture_nowhere (next g a) (first g a) cells shows m (walk.others m some (omega (arith, within, end))).1 in
+    let told = c.in_ok-grown.ensures.growth cells (shows_then g a cells shows) (subst (λ r. HasNoReturn (rules r) cells c.args.early) (sym on.rule) without) in
     subst (λ r. IsIdentity (rules r) cells c.args.limit (Unknown c.in-Some-grown.growth)) on.rule (rw c.in-Some-grown.is at told)
 
 pub returns-in-Some-grown-clause-takes : goal.returns-in-Some-grown-clause-takes
 returns-in-Some-grown-clause-takes g c =
-    leaps_take _ _ _ (cells_after (g.A.Automaton.next_of c.args.leaper.now.rule) (cell c.args.leaper.now.nodes c.args.first.now.tree)) c.args.walk.now.generations c.min-early.result c.args.limit
-    (omega (arith, c.min-early.ensures, c.early_generations.ensures, c.requires.begun, c.requires.some)) (omega (arith, c.min-early.ensures)) c.in_ok-soon.ensures.takes c.in_ok-grown.ensures.takes
+    leaps_take _ _ _ (cells_after (g.A.Automaton.next_of c.args.leaper.now.rule) (cell c.args.leaper.now.nodes c.args.first.now.tree)) c.args.walk.now.generations c.args.early c.args.limit
+    (omega (arith, c.requires.begun, c.requires.some)) (omega (arith, c.requires.within)) c.in_ok-soon.ensures.takes c.in_ok-grown.ensures.takes
 
 -- ---- strides
 
@@ -108,10 +108,10 @@ module _ (g : _) (c : In_default-grown g) where
   strides_take new takes =
       let stages = cells_after (g.A.Automaton.next_of c.args.leaper.now.rule) (cell c.args.leaper.now.nodes c.args.first.now.tree) in
       let limit = c.args.limit in
-      let early = c.min-early.result in
+      let early = c.args.early in
       let leaps = c.in_ok-grown.ensures.takes in
       whole_search _ c.look_on.new.leaper.spent.used new new stages c.args.walk.now.generations early limit
-      (omega (arith, c.min-early.ensures, c.early_generations.ensures, c.requires.begun, c.requires.some)) (omega (arith, c.min-early.ensures)) c.in_ok-soon.ensures.takes (omega (arith, leaps, takes))
+      (omega (arith, c.requires.begun, c.requires.some)) (omega (arith, c.requires.within)) c.in_ok-soon.ensures.takes (omega (arith, leaps, takes))
       (no_step new new stages limit (limit - early) refl)
 
 pub growth_by_strides-requires-clause-first : goal.growth_by_strides-requires-clause-first
@@ -134,7 +134,7 @@ growth_by_strides-requires-clause-walk g c =
 pub growth_by_strides-requires-clause-within : goal.growth_by_strides-requires-clause-within
 growth_by_strides-requires-clause-within g c =
     let end = c.in_ok-soon.ensures.end c.in_default.is in
-    omega (arith, end, c.min-early.ensures)
+    omega (arith, end, c.requires.within)
 
 pub returns-in_err-strided-clause-takes : goal.returns-in_err-strided-clause-takes
 returns-in_err-strided-clause-takes g c =
@@ -176,7 +176,7 @@ module _ (g : _) (c : In_default-strided g) where
       let p = cell c.args.leaper.now.nodes c.args.first.now.tree in
       let q = cell c.growth_by_strides.new.leaper.nodes c.args.first.now.tree in
       let limit = c.args.limit in
-      let early = c.min-early.result in
+      let early = c.args.early in
       let leapt = c.growth_by_strides.new.leaper.spent.used in
       let left = limit - c.growth_by_strides.new.walk.generations in
       let end = c.in_ok-soon.ensures.end c.in_default.is in
@@ -186,7 +186,7 @@ module _ (g : _) (c : In_default-strided g) where
       let here = subst (λ r. TakesSteps leapt new (cells_after (rules r) q) limit left) on_strides.rule takes in
       let rest = steps_as leapt new (cells_after next p) (cells_after next q) limit left (λ m x y. after_same next q p m first_then x y) here in
       whole_search _ c.look_on.new.leaper.spent.used leapt new (cells_after next p) c.args.walk.now.generations early limit
-      (omega (arith, c.min-early.ensures, c.early_generations.ensures, c.requires.begun, c.requires.some)) (omega (arith, c.min-early.ensures)) c.in_ok-soon.ensures.takes (omega (arith, leaps, strides))
+      (omega (arith, c.requires.begun, c.requires.some)) (omega (arith, c.requires.within)) c.in_ok-soon.ensures.takes (omega (arith, leaps, strides))
       (fewer_steps leapt new (cells_after next p) limit left (limit - early) (omega (arith, end, begun)) rest)
 
 -- ---- where it ends by a fault
@@ -194,7 +194,7 @@ module _ (g : _) (c : In_default-strided g) where
 pub returns-in_err-soon-clause-halted : goal.returns-in_err-soon-clause-halted
 returns-in_err-soon-clause-halted g c =
     on_err _ _ (halted_within (g.A.Automaton.next_of c.args.leaper.now.rule) (cell c.args.leaper.now.nodes c.args.first.now.tree) c.look_on.new.leaper.nodes c.look_on.new.walk
-    c.args.walk.now.generations c.args.walk.now.generations c.min-early.result c.args.limit (omega arith) (omega (arith, c.min-early.ensures)) c.in_err-soon.ensures.halted)
+    c.args.walk.now.generations c.args.walk.now.generations c.args.early c.args.limit (omega arith) (omega (arith, c.requires.within)) c.in_err-soon.ensures.halted)
 
 pub returns-in_err-grown-clause-halted : goal.returns-in_err-grown-clause-halted
 returns-in_err-grown-clause-halted g c =
@@ -203,7 +203,7 @@ returns-in_err-grown-clause-halted g c =
     let walk = c.look_on.new.walk in
     let end = c.in_ok-soon.ensures.end c.in_default.is in
     on_err _ _ (halted_here next p c.growth_by_leaps.new.leaper.nodes walk c.args.walk.now.generations c.args.limit
-    (omega (arith, end, c.min-early.ensures, c.early_generations.ensures, c.requires.begun, c.requires.some)) (omega (arith, end, c.min-early.ensures))
+    (omega (arith, end, c.requires.begun, c.requires.some, c.requires.within)) (omega (arith, end, c.requires.within))
     (walk_stays next p c.look_on.new.leaper.nodes c.growth_by_leaps.new.leaper.nodes c.in_ok-soon.ensures.goes_on.grows.sound c.growth_by_leaps.ensures.goes_on.grows walk (c.in_ok-soon.ensures.walk c.in_default.is)))
 
 pub returns-in_err-strided-clause-halted : goal.returns-in_err-strided-clause-halted
@@ -218,7 +218,7 @@ returns-in_err-strided-clause-halted g c =
     let begun = c.growth_by_strides.ensures.begun in
     let told = subst (λ r. IsWalk (rules r) (cell s2 tree) s3 walk) (on g b).rule c.growth_by_strides.ensures.walk in
     on_err _ _ (halted_here (rules c.args.leaper.now.rule) (cell c.args.leaper.now.nodes tree) s3 walk c.args.walk.now.generations c.args.limit
-    (omega (arith, begun, end, c.min-early.ensures, c.early_generations.ensures, c.requires.begun, c.requires.some)) c.growth_by_strides.ensures.within
+    (omega (arith, begun, end, c.requires.begun, c.requires.some)) c.growth_by_strides.ensures.within
     (walk_as (rules c.args.leaper.now.rule) (cell s2 tree) (cell c.args.leaper.now.nodes tree) s3 walk (same_first g b) told))
 
 pub returns-in_err-late-clause-halted : goal.returns-in_err-late-clause-halted
@@ -236,7 +236,7 @@ returns-in_err-late-clause-halted g c =
     let next = rules c.args.leaper.now.rule in
     let told = subst (λ r. IsHalted (rules r) (cell s3 tree) s4 middle limit walk) (on_strides g a).rule c.in_err-late.ensures.halted in
     on_err _ _ (halted_within next (cell c.args.leaper.now.nodes tree) s4 walk c.args.walk.now.generations middle limit limit
-    (omega (arith, begun, end, c.min-early.ensures, c.early_generations.ensures, c.requires.begun, c.requires.some)) (omega arith)
+    (omega (arith, begun, end, c.requires.begun, c.requires.some)) (omega arith)
     (halted_as next (cell s3 tree) (cell c.args.leaper.now.nodes tree) s4 walk middle limit (first_then g a) told))
 
 pub look_on-requires-2-clause-first : goal.look_on-requires-2-clause-first
@@ -318,7 +318,7 @@ growth_of-requires-clause-low g c =
     let quiet = g.met.A.Automaton.quiet c.args.leaper.now.rule c.store.ensures.rule in
     let tree = c.look_on-2.new.walk.tree in
     let low = start_is_low next (cell c.args.leaper.now.nodes c.args.first.now.tree) c.look_on-2.new.walk.generations quiet c.requires.first.start.within (omega (arith, end, c.requires.most)) c.look_on-2.new.leaper.nodes tree walk.now.trimmed walk.now.shows in
-    subst (λ s. IsLowTree s tree) (sym c.store-3.ensures.nodes) (record { is_tree = walk.now.near.is_tree; low = low })
+    subst (λ s. IsLowTree s tree) (sym c.store-2.ensures.nodes) (record { is_tree = walk.now.near.is_tree; low = low })
 
 pub growth_of-requires-clause-live : goal.growth_of-requires-clause-live
 growth_of-requires-clause-live g c =
@@ -327,8 +327,8 @@ growth_of-requires-clause-live g c =
     let walk = last_walk g a.In_default-late (on_strides g a.In_default-strided) in
     let end = c.in_ok-late.ensures.end c.in_default-late.is in
     let tree = c.look_on-2.new.walk.tree in
-    subst (λ s. HasLive (cell s tree)) (sym c.store-3.ensures.nodes)
-    (last_live next (cell c.args.leaper.now.nodes c.args.first.now.tree) c.look_on-2.new.walk.generations c.look_on-2.new.leaper.nodes tree walk.now walk.others (omega (arith, end, c.requires.some)))
+    subst (λ s. HasLive (cell s tree)) (sym c.store-2.ensures.nodes)
+    (last_live next (cell c.args.leaper.now.nodes c.args.first.now.tree) c.look_on-2.new.walk.generations c.look_on-2.new.leaper.nodes tree walk.now walk.others (omega (arith, end, c.requires.some, c.requires.within)))
 
 pub returns-in_err-growth-clause-halted : goal.returns-in_err-growth-clause-halted
 returns-in_err-growth-clause-halted g c =
@@ -336,7 +336,7 @@ returns-in_err-growth-clause-halted g c =
     let next = g.A.Automaton.next_of c.args.leaper.now.rule in
     let end = c.in_ok-late.ensures.end c.in_default-late.is in
     on_err _ _ (halted_here next (cell c.args.leaper.now.nodes c.args.first.now.tree) c.look_on-2.new.leaper.nodes c.look_on-2.new.walk c.args.walk.now.generations c.args.limit
-    (omega (arith, end, c.requires.begun, c.requires.some)) (omega (arith, end)) (last_walk g a.In_default-late (on_strides g a.In_default-strided)))
+    (omega (arith, end, c.requires.begun, c.requires.some, c.requires.within)) (omega (arith, end)) (last_walk g a.In_default-late (on_strides g a.In_default-strided)))
 
 pub returns-clause-identity : goal.returns-clause-identity
 returns-clause-identity g c = λ cells shows.
@@ -348,7 +348,7 @@ returns-clause-identity g c = λ cells shows.
     let new = c.look_on-2.new.leaper.nodes in
     let tree = c.look_on-2.new.walk.tree in
     found_none next (g.met.A.Automaton.quiet c.args.leaper.now.rule c.store.ensures.rule) c.args.leaper.now.nodes c.args.first.now c.requires.first cells shows c.args.limit (subst (AreOtherUpTo next p) end walk.others) new tree
-    (subst (λ n. IsLaterTree next p n new tree) end walk.now) c.in_ok-growth.growth (subst (λ s. IsGrowthOf s tree c.in_ok-growth.growth) c.store-3.ensures.nodes c.in_ok-growth.ensures)
+    (subst (λ n. IsLaterTree next p n new tree) end walk.now) c.in_ok-growth.growth (subst (λ s. IsGrowthOf s tree c.in_ok-growth.growth) c.store-2.ensures.nodes c.in_ok-growth.ensures)
 
 pub returns-clause-goes_on : goal.returns-clause-goes_on
 returns-clause-goes_on g c =

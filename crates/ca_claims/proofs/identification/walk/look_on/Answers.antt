@@ -67,7 +67,7 @@ returns-in_err-later-clause-halted g c =
     let p = cell c.args.leaper.now.nodes c.args.first.now.tree in
     let n = c.generations.walk.generations in
     let halted : IsHalted next p c.step.new.leaper.nodes c.args.walk.now.generations c.args.end
-        (record { tree = c.generations.walk.tree; generations = c.generations.walk.generations; boxes = c.step.new.boxes }) = record {
+    (record { tree = c.generations.walk.tree; generations = c.generations.walk.generations; boxes = c.step.new.boxes }) = record {
       now = later_stays next p n c.generations.leaper.nodes c.step.new.leaper.nodes inv.goes_on.grows.sound c.in_err-later.ensures.goes_on.grows c.generations.walk.tree inv.walk.now;
       others = inv.walk.others;
       later = inv.begun;
