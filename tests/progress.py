@@ -99,10 +99,10 @@ def claims(files):
     text.long_claim("becomes r 1102 s", "no, cells differ after 1102", digits(1102))
     text.long_claim("becomes r 0 s", "no, cells differ after 0", (0, [0]))
     text.long_claim("becomes r 65535 s", "no, cells differ after 65535", digits(65535))
-    # after the claim's own generations those of earlier times are told, at which the pattern may be back
-    text.long_claim("oscillator blinker 6", "no, the same after 2, shifted by 0,0", digits(6), digits(1), digits(2))
+    # after the claim's own generations those of earlier times are told, at which the pattern may be back: the time divided by a prime, the largest first
+    text.long_claim("oscillator blinker 6", "no, the same after 2, shifted by 0,0", digits(6), digits(2), digits(1))
     text.long_claim("oscillator blinker 2", "yes", digits(2), digits(1))
-    text.long_claim("spaceship glider 4 1 1", "yes", digits(4), digits(1), digits(2))
+    text.long_claim("spaceship glider 4 1 1", "yes", digits(4), digits(2))
     text.long_claim("spaceship glider 4 1 0", "no, cells differ after 4", digits(4))
     text.long_claim("becomes glider 4 glider shift 1 1", "yes", digits(4))
     # and those of times at which it may be dead
@@ -365,7 +365,7 @@ def try_results(tally, refusing, files):
     for step in (1000, 100):
         got, _ = refusing.run(["verify", "--progress", text.write()], {"CLOCK_STEP": step})
         # of the next claim no results are told: it took too few
-        next_one = shown_of(b"line 4", [digits(4), digits(1), digits(2)], step)
+        next_one = shown_of(b"line 4", [digits(4), digits(2)], step)
         told = [line.fullmatch(it) for it in got.complaint.removesuffix(next_one).split(WIPE)[1:-1]]
         results = [10 * int(it[2]) + int(it[3]) for it in told if it and it[2]]
         well = got.printed == printed and got.complaint.endswith(WIPE + next_one) and all(told) and [int(it[1]) for it in told] == [0] * (len(told) - 1) + [1024] and results == sorted(results) and results[-1] > 2
