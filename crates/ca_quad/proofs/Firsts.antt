@@ -23,8 +23,19 @@ module _ (n : ℕ) (nodes : List Node) (sound : IsSoundStore nodes) where
             (sym (first_same n nodes i (omega (arith, h, count))) ∙ (e ∙ first_same n nodes j (omega (arith, k, count))));
       }
 
+  -- and with the others it has more
+  pub firsts_grow : Grows (take n nodes) nodes
+  firsts_grow =
+      let count = length-take n nodes in
+      record {
+        sound = sound;
+        longer = omega (arith, count);
+        kept = λ place h. sym (first_same n nodes place (omega (arith, h, count)));
+      }
+
 module _ (old new : List Node) (grows : Grows old new) where
-  firsts_same : (i : ℕ) → i ≤ length old → take i new ≡ take i old
+  -- the first squares are the same as before
+  pub firsts_same : (i : ℕ) → i ≤ length old → take i new ≡ take i old
   firsts_same zero h = refl
   firsts_same (suc i) h =
       let one : suc i ≡ i + 1 = omega arith in

@@ -1,8 +1,9 @@
 -- Runs in a store of their own.
-use Rattle.std.proofs.Common.{ℕ, ◌+◌, ◌-◌, ◌*◌, ◌<◌, ◌≤◌, inl, inr, Result, Ok, Err, IfOk, List, ◌∙◌, arith}
+use Rattle.std.proofs.Common.{ℕ, ◌+◌, ◌-◌, ◌*◌, ◌<◌, ◌≤◌, inl, inr, Result, Ok, Err, IfOk, List, refl, ◌∙◌, arith}
 use Rattle.ca_quad.specs.declared.node.Node.{Node}
 use Rattle.ca_quad.specs.declared.tree.Tree.{Tree}
 use Rattle.ca_quad.specs.Sound.{Grows}
+use Rattle.ca_quad.specs.Trees.{IsTree}
 use Rattle.ca_run.specs.Advanced.{IsAdvanced}
 use Rattle.ca_run.specs.Leaping.{LeaperView, LeaperGrows}
 use Rattle.ca_run.specs.declared.leaper.dense.ReachedTree.{ReachedTree}
@@ -22,6 +23,10 @@ module _ {Rule : Type 0} where
   -- and one that goes on keeps on
   pub keeps_of : {a d : LeaperView Rule} → LeaperGrows Rule a d → KeepsOn Rule a d
   keeps_of on = record { rule = on.rule; memo = on.memo; sound = on.grows.sound; spends = on.spends }
+
+-- where nothing is copied, the tree is the same
+pub copy_of_itself : (nodes : List Node) (tree : Tree) → IsTree nodes tree → IsCopyOfTree nodes tree nodes tree
+copy_of_itself nodes tree is = record { is_tree = is; level = refl; cells = λ x y. refl }
 
 -- a tree that is taken from another store shows the same plane
 pub advanced_moved : {E : Type 0} (next : List ℕ → ℕ) (s0 s1 s2 : List Node) (first : Tree) (n : ℕ) (tree : Tree) (r : Result Tree E) → IsAdvanced next s0 first n s1 tree

@@ -1,5 +1,5 @@
 -- Runs in a store of their own (our own).
-use Rattle.std.specs.Prelude.{◌≡◌, ℕ, ℤ, ◌+◌, ◌-◌, ◌*◌, ◌^◌, ◌<◌, ◌⊎◌, List}
+use Rattle.std.specs.Prelude.{◌≡◌, ℕ, ℤ, ◌+◌, ◌-◌, ◌*◌, ◌^◌, ◌<◌, ◌⊎◌, List, if◌then◌else◌}
 use Rattle.ca_quad.specs.declared.node.Node.{Node}
 use Rattle.ca_quad.specs.declared.tree.Tree.{Tree}
 use Rattle.ca_quad.specs.Sound.{IsSoundStore}
@@ -21,13 +21,13 @@ pub record KeepsOn (Rule : Type 0) (old new : LeaperView Rule) : Type 0 where
   pub sound : IsSoundStore new.nodes
   pub spends : Spends old.spent new.spent
 
--- what may still be tried before a leap succeeds: the room may grow, or leaps become shorter
+-- what may still be tried before a leap succeeds: memory may be refused for the first time, the room may grow, or leaps become shorter
 abbrev pub tries : Pace → ℕ
-tries pace = (2 ^ 64 - pace.room) * 256 + pace.digit
+tries pace = (if pace.refused then 0 else 2 ^ 73) + (2 ^ 64 - pace.room) * 256 + pace.digit
 
 -- more than may ever be tried
 abbrev pub most_tries : ℕ
-most_tries = 2 ^ 73
+most_tries = 2 ^ 74
 
 -- a run is nearer to its end: it has reached more generations, or as many, and less may still be tried
 abbrev pub IsNearer : ReachedTree → Pace → ReachedTree → Pace → Type 0

@@ -10,7 +10,7 @@ ghost use Rattle.ca_run.specs.inner.Dense.{HasReached, HasLeapt, HasParted};
 ghost use Rattle.ca_run.specs.inner.Padded.{IsPadded};
 
 use super::dense::ReachedTree;
-use super::pace::{self, is_long};
+use super::pace::{self, is_long, is_much};
 use super::{Leaper, Milestone};
 use crate::fault::LeapFault;
 use crate::watch::{Unwatched, Watch};
@@ -80,19 +80,20 @@ impl<A: Automaton> Leaper<A> {
         self.set_room(if long { room } else { usize::MAX });
         match self.leap_on(first, &mut reached, n, watch) {
             Ok(()) => Ok(reached.tree),
-            Err(LeapFault::Memory) if long && self.is_full() => {
-                let end = self.leap_apart(first, reached, squares, n, watch);
-                // No more than can be counted.
-                let _used = self.used();
-                end
-            }
+            Err(LeapFault::Memory) if long && is_much(self.store.count().saturating_sub(squares)) =>
+                {
+                    let end = self.leap_apart(first, reached, squares, n, watch);
+                    // No more than can be counted.
+                    let _used = self.used();
+                    end
+                }
             Err(fault) => Err(fault),
         }
     }
 
     // Goes on from what was reached of n generations, by a leap for each binary digit of those that are left.
     // Each tree is trimmed, so that its level is no more than what n generations may need.
-    fn leap_on<W: Watch>(
+    pub(super) fn leap_on<W: Watch>(
         &mut self,
         first: &Tree,
         reached: &mut ReachedTree,

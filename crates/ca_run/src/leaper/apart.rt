@@ -1,7 +1,8 @@
 //! Runs that make too many squares for the leaper's store: they go on in a store of their own, whose squares
 //! are left behind from time to time but for those of the tree.
 
-ghost use Rattle.std.specs.Prelude.{◌≡◌, ◌+◌, ◌*◌, ◌/◌, ◌≤◌, ◌<◌, length, take, IfOk, OnErr};
+ghost use Rattle.std.specs.Prelude.{◌≡◌, ◌+◌, ◌-◌, ◌*◌, ◌/◌, ◌≤◌, ◌<◌, ◌^◌, true, length, take};
+ghost use Rattle.std.specs.Prelude.{IfOk, OnOk, OnErr};
 ghost use Rattle.ca_quad.specs.Sound.{Grows};
 ghost use Rattle.ca_quad.specs.Trees.{IsTree};
 ghost use Rattle.ca_run.specs.Advanced.{CanAdvance, IsAdvanced};
@@ -35,6 +36,7 @@ impl<A: Automaton> Leaper<A> {
         requires first { CanAdvance (take squares self.old.nodes) first.now n }
         requires reached { HasReached (A.next_of self.old.rule) (take squares self.old.nodes) first.now n
             self.old.nodes reached }
+        requires few { squares ≤ length self.old.nodes }
         ensures advanced { IfOk result
             (IsAdvanced (A.next_of self.old.rule) (take squares self.old.nodes) first.now n self.new.nodes) }
         ensures keeps { KeepsOn A self.old self.new }
@@ -44,11 +46,100 @@ impl<A: Automaton> Leaper<A> {
         ensures work { EndsAtLimit self.new.spent result }
     {
         let _ = &self.store;
-        let (tree, origin) = self.part(reached.tree, squares)?;
+        let mut pace = Pace::new(squares);
+        match self.part_late(first, reached, squares, n, &mut pace, watch) {
+            Ok((reached, origin)) => {
+                let end = self.leap_until(&origin, first, reached, n, pace, watch);
+                let apart = self.exchange(origin);
+                self.take(&apart, end?)
+            }
+            Err(fault) => {
+                self.keep_first(squares);
+                Err(fault)
+            }
+        }
+    }
+
+    // Goes on in the store that there is as long as it pays, and then parts: what is reached by then, in a new store,
+    // and the first squares of the one before.
+    fn part_late<W: Watch>(
+        &mut self,
+        first: &Tree,
+        mut reached: ReachedTree,
+        squares: usize,
+        n: u64,
+        pace: &mut Pace,
+        watch: &mut W,
+    ) -> Result<(ReachedTree, Store), LeapFault>
+        requires first { CanAdvance (take squares self.old.nodes) first.now n }
+        requires reached { HasReached (A.next_of self.old.rule) (take squares self.old.nodes) first.now n
+            self.old.nodes reached }
+        requires few { squares ≤ length self.old.nodes }
+        ensures reached { IfOk result (λ both. HasReached (A.next_of self.old.rule)
+            (take squares self.old.nodes) first.now n self.new.nodes both.0) }
+        ensures before { IfOk result (λ both. both.1 ≡ take squares self.old.nodes) }
+        ensures grows { OnErr result (Grows self.old.nodes self.new.nodes) }
+        ensures keeps { KeepsOn A self.old self.new }
+        ensures work { EndsAtLimit self.new.spent result }
+    {
+        let _ = &self.store;
+        self.leap_in_more_room(first, &mut reached, n, pace, watch)?;
+        let (tree, before) = self.part(reached.tree, squares)?;
         let generations = reached.generations;
-        let end = self.leap_until(&origin, first, ReachedTree { tree, generations }, n, watch);
-        let apart = self.exchange(origin);
-        self.take(&apart, end?)
+        Ok((ReachedTree { tree, generations }, before))
+    }
+
+    // Goes on from what was reached, each time with twice the room, as long as the run repeats: nothing is forgotten, and
+    // the same leap is tried again.
+    fn leap_in_more_room<W: Watch>(
+        &mut self,
+        first: &Tree,
+        reached: &mut ReachedTree,
+        n: u64,
+        pace: &mut Pace,
+        watch: &mut W,
+    ) -> Result<(), LeapFault>
+        requires first { CanAdvance self.old.nodes first.now n }
+        requires reached { HasReached (A.next_of self.old.rule)
+            self.old.nodes first.now n self.old.nodes reached.old }
+        ensures reached { HasReached (A.next_of self.old.rule)
+            self.old.nodes first.now n self.new.nodes reached.new }
+        ensures goes_on { LeaperGrows A self.old self.new }
+        ensures work { EndsAtLimit self.new.spent result }
+    {
+        let _ = &self.store;
+        'rooms: while self.is_full() && self.is_worth_growing(pace) {
+            pace.grow();
+            self.set_room(pace.room());
+            match self.leap_on(first, reached, n, watch) {
+                Ok(()) => return Ok(()),
+                Err(LeapFault::Work) => return Err(LeapFault::Work),
+                Err(LeapFault::Memory) => {}
+            }
+        }
+        if !self.is_full() {
+            pace.note_refusal(self.store.count());
+        }
+        Ok(())
+    }
+
+    // Whether the store had better keep its squares and have room for more.
+    fn is_worth_growing(&self, pace: &Pace) -> bool
+        ensures { result ≡ true → pace.now.room < 2 ^ 64 - 1 }
+    {
+        pace.is_worth_growing(self.store.count(), self.memo.looked_up())
+    }
+
+    // Of the squares that there are, only so many of the first ones stay, and nothing is remembered.
+    fn keep_first(&mut self, squares: usize)
+        ensures nodes { self.new.nodes ≡ take squares self.old.nodes }
+        ensures keeps { KeepsOn A self.old self.new }
+        ensures spent { self.new.spent ≡ self.old.spent }
+    {
+        let alloc = self.recent_centres.allocator();
+        let mut before = self.exchange(Store::new(alloc));
+        before.keep_first(squares);
+        self.exchange(before);
     }
 
     // The same tree in a new store, which takes the place of the one before, and the first squares of that
@@ -105,6 +196,7 @@ impl<A: Automaton> Leaper<A> {
         first: &Tree,
         reached: ReachedTree,
         n: u64,
+        mut pace: Pace,
         watch: &mut W,
     ) -> Result<Tree, LeapFault>
         requires first { CanAdvance origin.now first.now n }
@@ -117,11 +209,11 @@ impl<A: Automaton> Leaper<A> {
     {
         let _known = origin.count();
         let mut reached = reached;
-        let mut pace = Pace::new(self.store.count());
+        pace.note_copy(self.store.count());
         'leaps: while reached.generations < n {
             reached = self.leap_once(origin, first, reached, n, &mut pace, watch)?;
             if pace.is_late(self.store.count()) {
-                reached.tree = self.leave_squares(reached.tree, &mut pace)?;
+                reached.tree = self.make_room(reached.tree, &mut pace)?;
             }
         }
         Ok(reached.tree)
@@ -159,16 +251,61 @@ impl<A: Automaton> Leaper<A> {
                 pace.note_leap(digit, self.store.count() - before);
                 Ok(ReachedTree { tree, generations })
             }
-            Err(LeapFault::Memory) if pace.is_full(self.store.count()) => {
-                pace.note_abandoned_leap();
-                let tree = self.leave_squares(reached.tree, pace)?;
+            Err(LeapFault::Memory) => {
+                let tree = self.make_another_try(reached.tree, before, pace)?;
                 Ok(ReachedTree {
                     tree,
                     generations: reached.generations,
                 })
             }
-            Err(fault) => Err(fault),
+            Err(LeapFault::Work) => Err(LeapFault::Work),
         }
+    }
+
+    // The tree from which a leap is tried again that was given up, in a store that had so many squares before it: with more
+    // room, or a shorter one, or none where memory is refused for the shortest.
+    fn make_another_try(
+        &mut self,
+        tree: Tree,
+        before: usize,
+        pace: &mut Pace,
+    ) -> Result<Tree, Memory>
+        requires { IsTree self.old.nodes tree }
+        ensures moved { IfOk result (IsCopyOfTree self.old.nodes tree self.new.nodes) }
+        ensures keeps { KeepsOn A self.old self.new }
+        ensures spent { self.new.spent ≡ self.old.spent }
+        ensures tries { OnOk result (tries pace.new < tries pace.old) }
+    {
+        let squares = self.store.count();
+        if pace.is_full(squares) {
+            if self.is_worth_growing(pace) {
+                pace.grow();
+                return Ok(tree);
+            }
+            pace.note_abandoned_leap();
+        } else if pace.may_leap_less(squares.saturating_sub(before)) {
+            pace.note_refused_leap(squares);
+        } else {
+            return Err(Memory);
+        }
+        self.leave_squares(tree, pace)
+    }
+
+    // Where there are so many squares that the next leap likely has too few: the same tree, with more room for others, or in
+    // a new store.
+    fn make_room(&mut self, tree: Tree, pace: &mut Pace) -> Result<Tree, Memory>
+        requires { IsTree self.old.nodes tree }
+        ensures moved { IfOk result (IsCopyOfTree self.old.nodes tree self.new.nodes) }
+        ensures keeps { KeepsOn A self.old self.new }
+        ensures spent { self.new.spent ≡ self.old.spent }
+        ensures tries { tries pace.new ≤ tries pace.old }
+    {
+        let _ = &self.store;
+        if self.is_worth_growing(pace) {
+            pace.grow();
+            return Ok(tree);
+        }
+        self.leave_squares(tree, pace)
     }
 
     // The same tree in a new store: all other squares are left behind.

@@ -29,6 +29,8 @@ const SPARED: u32 = 64;
 pub(crate) struct Memo {
     pages: Vec<Option<Page>>,
     order: LruCache<Key, Option<Id>>,
+    // How many results at full leap were looked up.
+    looked_up: usize,
 }
 
 impl Model for Memo {
@@ -51,12 +53,18 @@ impl Memo {
         Ok(Memo {
             pages: Vec::new(alloc),
             order,
+            looked_up: 0,
         })
     }
 
     /// Whether no result at full leap was remembered yet.
     pub(crate) fn is_empty(&self) -> bool {
         self.pages.is_empty()
+    }
+
+    /// How many results at full leap were looked up since all was forgotten, each counted once while its page stands.
+    pub(crate) fn looked_up(&self) -> usize {
+        self.looked_up
     }
 
     /// Forgets all, so that as much may be remembered as at first.
@@ -67,6 +75,7 @@ impl Memo {
         let alloc = *self.pages.allocator();
         self.pages = Vec::new(alloc);
         self.order.clear();
+        self.looked_up = 0;
     }
 
     /// What is remembered for a square at full leap.
@@ -82,7 +91,13 @@ impl Memo {
         }
         let page = self.pages[number].as_mut()?;
         page.used = true;
-        page.slots[place % SQUARES]
+        let half = page.slots[place % SQUARES]?;
+        let bit = 1u64 << (place % SQUARES);
+        if page.looked_up & bit == 0 {
+            page.looked_up |= bit;
+            self.looked_up = self.looked_up.saturating_add(1);
+        }
+        Some(half)
     }
 
     /// What is remembered for a square and another time.

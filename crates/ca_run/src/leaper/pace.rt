@@ -8,9 +8,20 @@ const ROOM: usize = 4 << 20;
 
 const MORE: usize = 1 << 20;
 
+// How many squares a store may have where it pays to keep them, unless memory ends before.
+const MOST_ROOM: usize = 16 << 20;
+
+// What part of a store's squares have results that were looked up again, at least, where a run repeats.
+const REPEATED: usize = 4;
+
 /// With how many squares a leap is given up in a store that had so many before.
 pub(super) fn room_beside(squares: usize) -> usize {
     squares.saturating_add(MORE).max(ROOM)
+}
+
+/// Whether it helps a run for which memory was refused to leave so many squares behind.
+pub(super) fn is_much(squares: usize) -> bool {
+    squares >= MORE
 }
 
 /// Whether the cells of a run, of so many generations from a tree of this level, may be many.
@@ -26,6 +37,8 @@ pub(super) fn is_long(level: u8, n: u64) -> bool
 pub(super) struct Pace {
     digit: u8,
     room: usize,
+    // Whether memory was refused where there were fewer squares than might be.
+    refused: bool,
 }
 
 impl Pace {
@@ -34,6 +47,7 @@ impl Pace {
         Pace {
             digit: 0,
             room: room_after(squares),
+            refused: false,
         }
     }
 
@@ -68,15 +82,57 @@ impl Pace {
         squares >= self.room && self.room < usize::MAX
     }
 
+    /// Whether a store that has so many squares had better keep them, and have room for twice as many: where so many results
+    /// were looked up again since all was forgotten, the run repeats, and would work them out once more.
+    pub(super) fn is_worth_growing(self, squares: usize, looked_up: usize) -> bool
+        ensures { result ≡ true → self.room < 2 ^ 64 - 1 }
+    {
+        !self.refused && self.room < MOST_ROOM && looked_up >= squares / REPEATED
+    }
+
+    /// Twice as many squares.
+    pub(super) fn grow(&mut self)
+        ensures least { tries self.new ≤ tries self.old }
+        ensures less { self.old.room < 2 ^ 64 - 1 → tries self.new < tries self.old }
+    {
+        self.room = self.room.max(room_after(self.room));
+    }
+
     /// After a leap that was given up: half as long, or with twice as many squares.
     pub(super) fn note_abandoned_leap(&mut self)
         requires { self.old.room < 2 ^ 64 - 1 }
         ensures { tries self.new < tries self.old }
     {
         if self.digit == 0 {
-            self.room = room_after(self.room);
+            self.grow();
         } else {
             self.digit -= 1;
+        }
+    }
+
+    /// Whether a leap for which memory was refused may be tried again: a shorter one, where it made many squares.
+    pub(super) fn may_leap_less(self, made: usize) -> bool
+        ensures { result ≡ true → 1 ≤ self.digit }
+    {
+        self.digit > 0 && is_much(made)
+    }
+
+    /// After a leap for which memory was refused where there were so many squares: half as long.
+    pub(super) fn note_refused_leap(&mut self, squares: usize)
+        requires { 1 ≤ self.old.digit }
+        ensures { tries self.new < tries self.old }
+    {
+        self.digit -= 1;
+        self.note_refusal(squares);
+    }
+
+    /// Memory was refused where there were so many squares. The first time there may be half as many from then on.
+    pub(super) fn note_refusal(&mut self, squares: usize)
+        ensures { tries self.new ≤ tries self.old }
+    {
+        if !self.refused {
+            self.refused = true;
+            self.room = (squares / 2).max(1);
         }
     }
 

@@ -13,6 +13,8 @@ pub(crate) const SQUARES: usize = 64;
 pub(crate) struct Page {
     pub(crate) slots: [Option<Id>; SQUARES],
     pub(crate) used: bool,
+    // Which of the slots were looked up.
+    pub(crate) looked_up: u64,
 }
 
 impl Page {
@@ -23,6 +25,7 @@ impl Page {
         Page {
             slots: [None; SQUARES],
             used: false,
+            looked_up: 0,
         }
     }
 }

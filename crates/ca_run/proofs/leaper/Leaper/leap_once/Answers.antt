@@ -51,7 +51,7 @@ returns-in_ok-tree-in-Err-Memory-clause-reached g c =
     let first = c.args.first.now in
     let mid = c.leap.new.self.nodes in
     let kept = reached_kept next s0 c.args.self.now.nodes mid first c.args.n c.args.reached (subst (λ l. IsSoundStore l.nodes) c.self.view_is c.self.invariant.squares) (subst (λ l. Grows l.nodes mid) c.set_room.ensures c.in-Err-Memory.ensures.at_cost.goes_on.grows) c.requires.reached in
-    reached_moved next s0 mid first c.args.n c.args.reached kept c.leave_squares.new.self.nodes c.in_ok-tree-in-Err-Memory.tree c.in_ok-tree-in-Err-Memory.ensures.moved
+    reached_moved next s0 mid first c.args.n c.args.reached kept c.make_another_try.new.self.nodes c.in_ok-tree-in-Err-Memory.tree c.in_ok-tree-in-Err-Memory.ensures.moved
 
 pub returns-in-Ok-clause-nearer : goal.returns-in-Ok-clause-nearer
 returns-in-Ok-clause-nearer g c =
@@ -60,4 +60,4 @@ returns-in-Ok-clause-nearer g c =
     inl (omega (arith, power, some), c.note_leap.ensures)
 
 pub returns-in_ok-tree-in-Err-Memory-clause-nearer : goal.returns-in_ok-tree-in-Err-Memory-clause-nearer
-returns-in_ok-tree-in-Err-Memory-clause-nearer g c = inr (refl, omega (arith, c.note_abandoned_leap.ensures, c.leave_squares.ensures.tries))
+returns-in_ok-tree-in-Err-Memory-clause-nearer g c = inr (refl, c.in_ok-tree-in-Err-Memory.ensures.tries)

@@ -28,7 +28,7 @@ leaps-preserved-then-is_late g c =
     let reached = c.in_ok-reached.reached in
     let run = subst (λ r. HasReached (next r) s0 first c.args.n s2 reached) inv.keeps.rule c.in_ok-reached.ensures.reached in
     record {
-      reached = reached_moved (next c.args.self.now.rule) s0 s2 first c.args.n reached run c.leave_squares.new.self.nodes c.in_ok-reached-2.field-0 c.in_ok-reached-2.ensures.moved;
+      reached = reached_moved (next c.args.self.now.rule) s0 s2 first c.args.n reached run c.make_room.new.self.nodes c.in_ok-reached-2.field-0 c.in_ok-reached-2.ensures.moved;
       keeps = keeps_then (keeps_then inv.keeps c.in_ok-reached.ensures.keeps) c.in_ok-reached-2.ensures.keeps;
     }
 
@@ -42,7 +42,7 @@ leaps-preserved g c =
     }
 
 pub leaps-smaller-then-is_late : goal.leaps-smaller-then-is_late
-leaps-smaller-then-is_late g c = less_to_do c.args.n c.leaps.reached c.leaps.pace c.in_ok-reached.reached c.leap_once.new.pace c.leave_squares.new.pace c.in_ok-reached.ensures.nearer c.in_ok-reached.ensures.reached.most c.leave_squares.ensures.tries
+leaps-smaller-then-is_late g c = less_to_do c.args.n c.leaps.reached c.leaps.pace c.in_ok-reached.reached c.leap_once.new.pace c.make_room.new.pace c.in_ok-reached.ensures.nearer c.in_ok-reached.ensures.reached.most c.make_room.ensures.tries
 
 pub leaps-smaller : goal.leaps-smaller
 leaps-smaller g c = less_to_do c.args.n c.leaps.reached c.leaps.pace c.in_ok-reached.reached c.leap_once.new.pace c.leap_once.new.pace c.in_ok-reached.ensures.nearer c.in_ok-reached.ensures.reached.most (omega arith)
