@@ -3,7 +3,9 @@
 ghost use Rattle.std.specs.Prelude.{◌≡◌, ℕ, ◌<◌, ◌≤◌, List, length, replicate, IfSome};
 ghost use Rattle.std.specs.List.{All};
 ghost use Rattle.ca_plane.specs.Moore.{IsMoore};
+ghost use Rattle.ca_plane.specs.Counting.{GoesByCounting};
 
+use crate::counting::{Counting, Neighbourhood};
 use crate::point::Nine;
 
 /// A rule of a cellular automaton: all cells change at once, each by this one rule on itself and its eight
@@ -34,6 +36,20 @@ pub trait Automaton {
         ensures { IfSome result (λ masks. IsMoore (state_count self.now) (next_of self.now) masks.0 masks.1) }
     {
         None
+    }
+
+    /// How a rule of two states goes by the number of live cells among some neighbours of a cell. What makes
+    /// many cells at once asks for it. A rule that goes by none, or does not tell it, answers `None`. Where
+    /// a rule does not say otherwise, it is that of its masks, with all eight neighbours counted.
+    fn counting(&self) -> Option<Counting>
+        ensures { IfSome result (GoesByCounting (state_count self.now) (next_of self.now)) }
+    {
+        let (birth, survival) = self.masks()?;
+        Some(Counting {
+            neighbourhood: Neighbourhood::Moore,
+            birth,
+            survival,
+        })
     }
 
     // states below the count lead to states below it

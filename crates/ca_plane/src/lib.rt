@@ -5,6 +5,7 @@
 mod automaton;
 mod bit_plane;
 pub mod bytes;
+mod counting;
 mod device;
 pub mod limits;
 mod memory;
@@ -16,6 +17,7 @@ pub mod text;
 
 pub use automaton::Automaton;
 pub use bit_plane::{BitPlane, CellWord};
+pub use counting::{Counting, Neighbourhood};
 pub use device::{Dev, Failed};
 pub use memory::{Memory, MoveFault, WriteFault};
 pub use plane::{Cells, Plane};
