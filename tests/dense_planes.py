@@ -18,7 +18,8 @@ EDGE, WIDE, HIGH, AT_A_TIME = 1 << 60, 64, 16, 1024
 SHORT = (1, 2, 3, 31, 32, 33, 63, 64, 65, 127, 128, 129, 255, 256, 257)
 LONG = tuple(many + more for many in (AT_A_TIME, AT_A_TIME + 32, 2 * AT_A_TIME) for more in (-1, 0, 1))
 
-# Rules, the side of a soup under each, and the generations that it goes. Under B2/S and B1357/S1357 it grows by a cell each generation on all sides.
+# Rules, the side of a soup under each, and the generations that it goes. Under B2/S and B1357/S1357 it grows by a cell each generation on all sides. V rules
+# count four neighbours, H rules six.
 RULES = (
     ("B3/S23", 100, SHORT + LONG),
     ("B36/S23", 90, SHORT + LONG),
@@ -34,6 +35,13 @@ RULES = (
     ("B8/S8", 70, SHORT),
     ("B/S8", 70, SHORT),
     ("B2/S", 30, (AT_A_TIME + 33,)),
+    ("B13/S012V", 70, SHORT),
+    ("B2/S013V", 100, SHORT + LONG[:2]),
+    ("B23/S23V", 100, SHORT + LONG[:2]),
+    ("B2/S2H", 100, SHORT + LONG[:2]),
+    ("B24/S34H", 100, SHORT + LONG[:2]),
+    ("B3/S1256H", 90, SHORT),
+    ("B1/S4V", 60, SHORT),
 )
 
 # The upper left corners of soups: at each alignment of some to bricks in each quarter, round the origin, and far away.
@@ -43,7 +51,8 @@ CORNERS = (
     *((x, y) for x in (-64, -35, -1) for y in (-50, -16, -1)),
     *((x << 59, y << 59) for x in (-1, 0, 1) for y in (-1, 0, 1)),
 )
-PLACED = (("B3/S23", 32), ("B36/S23", 65), ("B3678/S34678", 129), ("B3/S23", AT_A_TIME + 1), ("B2/S", 63), ("B1357/S1357", 33), ("B38/S12378", 64))
+PLACED = (("B3/S23", 32), ("B36/S23", 65), ("B3678/S34678", 129), ("B3/S23", AT_A_TIME + 1), ("B2/S", 63), ("B1357/S1357", 33), ("B38/S12378", 64),
+          ("B2/S013V", 65), ("B24/S34H", 33), ("B2/S2H", 129), ("B13/S012V", 32))
 
 # A glider that goes down and to the right, and what rests beside others: still lifes and oscillators of period 2, each in all its phases and ways to lie.
 GLIDER = rows.Rows(0, 0, (0b010, 0b100, 0b111))
@@ -66,7 +75,7 @@ NEAR = ((370, 0), (-20, -380))
 
 # Soups of as many columns and rows, and the generations that they go.
 LARGE = (("B3/S23", 700, 700, (64, 65)), ("B3/S23", 700, 700, (321,)), ("B36/S23", 512, 512, (200,)), ("B3678/S34678", 700, 700, (64, 129)),
-         ("B2/S", 700, 700, (65,)), ("B3/S23", 5000, 20, (129,)), ("B3/S23", 20, 5000, (129,)), ("B3/S012345678", 640, 640, (99,)))
+         ("B2/S013V", 700, 700, (99,)), ("B2/S2H", 700, 700, (99,)), ("B2/S", 700, 700, (65,)), ("B3/S23", 5000, 20, (129,)), ("B3/S23", 20, 5000, (129,)), ("B3/S012345678", 640, 640, (99,)))
 
 # Rules under which soups of as many cells a side die.
 DEADLY = (("B3/S", 100), ("B35/S", 100), ("B678/S5678", 100), ("B5678/S5678", 100), ("B35678/S5678", 33), ("B35678/S5678", 60), ("B35678/S5678", 54),

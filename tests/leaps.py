@@ -306,15 +306,20 @@ def try_slides(claims):
 
 
 EIGHT = [(x, y) for x in (-1, 0, 1) for y in (-1, 0, 1) if (x, y) != (0, 0)]
+FOUR = [(x, y) for x, y in EIGHT if 0 in (x, y)]
+SIX = [(x, y) for x, y in EIGHT if (x, y) not in ((1, -1), (-1, 1))]
 
 # The places of the neighbours of a cell, of which a cell under a rule of odd counts takes the parity; the side of a soup, generations, few
-# beside it and many, and how far west and north of the origin the soup begins. The last rule has no masks for the kernel.
+# beside it and many, and how far west and north of the origin the soup begins.
 PARITIES = (
     ("B1357/S1357", EIGHT, 500, 511, 0),
     ("B1357/S1357", EIGHT, 300, 65, 0),
     ("B1357/S1357", EIGHT, 301, 130, 147),
     ("B1357/S1357", EIGHT, 60, 1023, 0),
-    ("B13/S13V", [(0, -1), (-1, 0), (1, 0), (0, 1)], 160, 255, 0),
+    ("B13/S13V", FOUR, 160, 255, 0),
+    ("B13/S13V", FOUR, 60, 1023, 40),
+    ("B135/S135H", SIX, 160, 255, 0),
+    ("B135/S135H", SIX, 61, 513, 147),
 )
 
 

@@ -61,34 +61,48 @@ class Rows:
         plane = self.fitted()
         while generations and plane.rows:
             count = min(generations, AT_A_TIME)
-            plane, generations = stepped(plane.roomy(count), counts_of(rule), count).fitted(), generations - count
+            plane, generations = stepped(plane.roomy(count), Rule.of(rule), count).fitted(), generations - count
         return plane
 
 
-def counts_of(rule):
-    """The numbers of live neighbours with which a cell is born, and those with which it survives."""
-    birth, survival = re.fullmatch(r"B(\d*)/S(\d*)", rule).groups()
-    return {int(digit) for digit in birth}, {int(digit) for digit in survival}
+# The neighbours that a rule counts, by the suffix of its text: how many columns and rows away they lie. Each counts with the one opposite.
+NEIGHBOURS = {"": ((1, 0), (-1, 1), (0, 1), (1, 1)), "V": ((1, 0), (0, 1)), "H": ((1, 0), (0, 1), (1, 1))}
 
 
-def stepped(plane, counts, generations):
+@dataclass(frozen=True)
+class Rule:
+    """The numbers of live neighbours with which a cell is born, those with which it survives, and half of the neighbours."""
+
+    birth: frozenset
+    survival: frozenset
+    neighbours: tuple
+
+    @staticmethod
+    def of(text):
+        """The rule of a text."""
+        birth, survival, suffix = re.fullmatch(r"B(\d*)/S(\d*)([VH]?)", text).groups()
+        return Rule(frozenset(map(int, birth)), frozenset(map(int, survival)), NEIGHBOURS[suffix])
+
+
+def stepped(plane, rule, generations):
     """The plane after so few generations that no live cell comes to an edge of its rows."""
     wide, high = (plane.width() + generations + 7) // 8 * 8, len(plane.rows)
     cells = int.from_bytes(b"".join(row.to_bytes(wide // 8, "little") for row in plane.rows), "little")
     for _ in range(generations):
-        cells = next_cells(cells, wide, (1 << (wide * high)) - 1, counts)
+        cells = next_cells(cells, wide, (1 << (wide * high)) - 1, rule)
     content = cells.to_bytes(wide * high // 8, "little")
     return Rows(plane.x, plane.y, tuple(int.from_bytes(content[at:at + wide // 8], "little") for at in range(0, len(content), wide // 8)))
 
 
-def next_cells(cells, wide, every, counts):
+def next_cells(cells, wide, every, rule):
     """The cells one generation on, where a row has so many columns. `every` has all places."""
     binary = [0, 0, 0, 0]
-    for distance in (1, wide - 1, wide, wide + 1):
+    for across, down in rule.neighbours:
+        distance = wide * down + across
         for carry in (cells << distance, cells >> distance):
             for digit in range(4):
                 binary[digit], carry = binary[digit] ^ carry, binary[digit] & carry
-    birth, survival = (places_with(numbers, binary, every) for numbers in counts)
+    birth, survival = (places_with(numbers, binary, every) for numbers in (rule.birth, rule.survival))
     return (birth & (cells ^ every)) | (survival & cells)
 
 

@@ -1,13 +1,15 @@
--- A B/S rule that counts all eight neighbours goes by the masks of its counts.
+-- A B/S rule goes by the masks of its counts.
 use Rattle.std.proofs.Common.{◌≡◌, ℕ, zero, suc, ◌+◌, ◌*◌, ◌/◌, ◌%◌, ◌<◌, List, [], ◌∷◌, slice_index, slice_index_or, Bool, true, false, refl, sym, ap, ◌∙◌, arith, ◌==◌, if◌then◌else◌}
 use Rattle.std.specs.Int.{bit_at}
 use Rattle.std.proofs.lemmas.List.Elements.{All-get_or}
 use Rattle.std.proofs.lemmas.Nat.Bits.{bit_at-zero, bit_at_lowest, bit_at-suc}
+use Rattle.ca_plane.specs.Counting.{counted_sum, GoesByCounting}
 use Rattle.ca_plane.specs.Moore.{eight_sum, IsMoore}
-use Rattle.ca_rule.specs.Masks.{mask_of}
-use Rattle.ca_rule.specs.Next.{bs_next_state, bs_next}
+use Rattle.ca_rule.specs.Masks.{mask_of, neighbourhood_of, counting_by_hood}
+use Rattle.ca_rule.specs.Next.{neighbour_count, bs_next_state, bs_next}
 use Rattle.ca_rule.specs.declared.counts.Counts.{Counts}
-use Rattle.ca_rule.specs.declared.hood.Hood.TheVariants.{Moore}
+use Rattle.ca_rule.specs.declared.hood.Hood.{Hood}
+use Rattle.ca_rule.specs.declared.hood.Hood.TheVariants.{Moore, VonNeumann, Hex}
 
 lowest : (held : Bool) (more : ℕ) → ((if held then 1 else 0) + 2 * more) % 2 ≡ (if held then 1 else 0)
 lowest true more = omega arith
@@ -33,4 +35,18 @@ pub goes_by_masks : (birth survival : Counts) → IsMoore 2 (bs_next Moore birth
 goes_by_masks birth survival = record {
   two_states = refl;
   goes_by = λ nine long low. next_masked birth survival (slice_index nine 4) (eight_sum nine) (All-get_or (λ s. s < 2) nine 4 0 (omega arith) low);
+}
+
+-- the neighbours of a hood are those of its neighbourhood
+counted_alike : (hood : Hood) (nine : List ℕ) → neighbour_count hood nine ≡ counted_sum (neighbourhood_of hood) nine
+counted_alike Moore nine = refl
+counted_alike VonNeumann nine = refl
+counted_alike Hex nine = refl
+
+pub goes_by_counting : (hood : Hood) (birth survival : Counts) → GoesByCounting 2 (bs_next hood birth survival) (counting_by_hood hood birth survival)
+goes_by_counting hood birth survival = record {
+  two_states = refl;
+  goes_by = λ nine long low.
+      next_masked birth survival (slice_index nine 4) (neighbour_count hood nine) (All-get_or (λ s. s < 2) nine 4 0 (omega arith) low)
+      ∙ ap (bit_at (if slice_index nine 4 == 0 then mask_of birth.holds else mask_of survival.holds)) (counted_alike hood nine);
 }

@@ -1,7 +1,8 @@
 //! Rules in B/S notation.
 
-ghost use Rattle.std.specs.Prelude.{◌≡◌, ◌↔◌, false, IsTrue, IfOk, IfErr, IfSome};
+ghost use Rattle.std.specs.Prelude.{◌≡◌, ◌↔◌, false, Some, IsTrue, IfOk, IfErr, IfSome};
 ghost use Rattle.ca_plane.specs.Bytes.{IsWord};
+ghost use Rattle.ca_plane.specs.Counting.{GoesByCounting};
 ghost use Rattle.ca_plane.specs.Moore.{IsMoore};
 ghost use Rattle.ca_rule.specs.Counts.{is_count, FitsHood};
 ghost use Rattle.std.proofs.Common.{arith, rules};
@@ -11,7 +12,7 @@ use crate::counts::Counts;
 use crate::fault::RuleFault;
 use crate::hood::Hood;
 use crate::notation::counts_named;
-use ca_plane::{Automaton, Memory, Nine};
+use ca_plane::{Automaton, Counting, Memory, Nine};
 use std::alloc::Global;
 
 /// A two-state rule in B/S notation (Golly Help, QuickLife): a dead cell with a birth count of live
@@ -72,7 +73,7 @@ impl BsRule {
 }
 
 impl Automaton for BsRule {
-    ghost use Rattle.ca_rule.specs.Masks.{masks_by_hood};
+    ghost use Rattle.ca_rule.specs.Masks.{masks_by_hood, counting_by_hood};
     ghost use Rattle.ca_rule.specs.Next.{bs_next};
 
     ghost state_count = { λ _. 2 };
@@ -105,6 +106,20 @@ impl Automaton for BsRule {
             Hood::Moore => Some((self.birth.mask(), self.survival.mask())),
             Hood::VonNeumann | Hood::Hex => None,
         }
+    }
+
+    /// Its birth and survival counts as masks, and which neighbours it counts.
+    #[tactic(auto, using(crate::proofs::RuleMasks::goes_by_counting))]
+    fn counting(&self) -> Option<Counting>
+        ensures goes_by { IfSome result
+            (GoesByCounting 2 (bs_next self.now.hood self.now.birth self.now.survival)) }
+        ensures counting { result ≡ Some (counting_by_hood self.now.hood self.now.birth self.now.survival) }
+    {
+        Some(Counting {
+            neighbourhood: self.hood.neighbourhood(),
+            birth: self.birth.mask(),
+            survival: self.survival.mask(),
+        })
     }
 
     ghost closed = { λ rule nine _ _ _. Prim.grind (arith, nat_tests) };

@@ -2,7 +2,7 @@
 
 ghost use Rattle.std.specs.Prelude.{◌≡◌, ◌++◌, OnOk};
 
-use ca_plane::{Memory, Nine};
+use ca_plane::{Memory, Neighbourhood, Nine};
 
 /// Which of a cell's neighbours a rule counts (Golly Help, QuickLife).
 #[derive(Clone, Copy, Debug, PartialEq, Eq)]
@@ -17,6 +17,7 @@ pub enum Hood {
 
 impl Hood {
     ghost use Rattle.ca_rule.specs.Counts.{most_of};
+    ghost use Rattle.ca_rule.specs.Masks.{neighbourhood_of};
     ghost use Rattle.ca_rule.specs.Next.{neighbour_count};
     ghost use Rattle.ca_rule.specs.Spelling.{suffix_of};
 
@@ -28,6 +29,17 @@ impl Hood {
             Hood::Moore => 8,
             Hood::VonNeumann => 4,
             Hood::Hex => 6,
+        }
+    }
+
+    /// The neighbourhood that is counted.
+    pub(crate) fn neighbourhood(self) -> Neighbourhood
+        ensures { result ≡ neighbourhood_of self }
+    {
+        match self {
+            Hood::Moore => Neighbourhood::Moore,
+            Hood::VonNeumann => Neighbourhood::VonNeumann,
+            Hood::Hex => Neighbourhood::Hexagonal,
         }
     }
 

@@ -3,9 +3,11 @@
 
 ghost use Rattle.std.specs.Prelude.{◌≡◌, ◌↔◌, ℕ, List, [], ◌∷◌, true, false, codes, Some, None};
 ghost use Rattle.std.specs.List.{AllByRecursion};
+ghost use Rattle.ca_plane.specs.Counting.{counting_next};
 ghost use Rattle.ca_plane.specs.Moore.{moore_next};
+ghost use Rattle.ca_plane.specs.declared.counting.Neighbourhood.TheVariants as counted;
 ghost use Rattle.ca_rule.specs.Counts.{is_count, counts_of};
-ghost use Rattle.ca_rule.specs.Masks.{masks_by_hood};
+ghost use Rattle.ca_rule.specs.Masks.{masks_by_hood, counting_by_hood};
 ghost use Rattle.ca_rule.specs.OneMeaning.{HasAtMostOne, NeverHasBoth};
 ghost use Rattle.ca_rule.specs.Rule.{Bs, IsSameRule, printed_form};
 ghost use Rattle.ca_rule.specs.Spelling.{SpellsBsRule, NamesBsRule, IsBsRuleFault, printed_bs_rule};
@@ -100,4 +102,22 @@ pub fn worked_masks()
     ensures life_goes_by_its_masks { moore_next 8 12 (digits (codes "000111000")) ≡ 1 }
     ensures dead_cells_are_born_on_three { moore_next 8 12 (digits (codes "000000111")) ≡ 1 }
     ensures dead_cells_are_not_born_on_two { moore_next 8 12 (digits (codes "000101000")) ≡ 0 }
+{}
+
+/// Some countings, and some cells by them.
+pub fn worked_countings()
+    ensures four_neighbours_are_counted { counting_by_hood VonNeumann (counts_of (codes "1"))
+        (counts_of (codes "04"))
+        ≡ record { neighbourhood = counted.VonNeumann; birth = 2; survival = 17 } }
+    ensures six_neighbours_are_counted { counting_by_hood Hex (counts_of (codes "2")) (counts_of (codes "34"))
+        ≡ record { neighbourhood = counted.Hexagonal; birth = 4; survival = 24 } }
+    ensures north_is_among_four { counting_next
+        (record { neighbourhood = counted.VonNeumann; birth = 2; survival = 0 })
+        (digits (codes "110000000")) ≡ 1 }
+    ensures north_east_is_not_among_six { counting_next
+        (record { neighbourhood = counted.Hexagonal; birth = 2; survival = 0 })
+        (digits (codes "001000100")) ≡ 0 }
+    ensures south_east_is_among_six { counting_next
+        (record { neighbourhood = counted.Hexagonal; birth = 2; survival = 0 })
+        (digits (codes "000000001")) ≡ 1 }
 {}

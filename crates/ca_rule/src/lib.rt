@@ -24,8 +24,8 @@ pub use gen_rule::{
 };
 pub use hood::Hood;
 pub use laws::{
-    alike, names_itself, one_rule, rule_or_fault, worked_examples, worked_faults, worked_masks,
-    worked_next_cells,
+    alike, names_itself, one_rule, rule_or_fault, worked_countings, worked_examples, worked_faults,
+    worked_masks, worked_next_cells,
 };
 pub use rule::{Rule, resolve};
 pub use rule_laws::{named_rules, same_rules, worked_names};

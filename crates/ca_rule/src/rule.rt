@@ -2,6 +2,7 @@
 
 ghost use Rattle.std.specs.Prelude.{◌≡◌, ◌↔◌, None, Some, IsTrue, IfOk, IfErr, MatchOption, IfSome};
 ghost use Rattle.ca_plane.specs.Bytes.{IsWord};
+ghost use Rattle.ca_plane.specs.Counting.{GoesByCounting};
 ghost use Rattle.ca_plane.specs.Moore.{IsMoore};
 ghost use Rattle.ca_rule.specs.Rule.{rule_value, first_named, NamesRule, IsRuleFault, printed_form};
 ghost use Rattle.ca_rule.specs.Rule.{IsSameRule};
@@ -10,7 +11,7 @@ use crate::bs_rule::BsRule;
 use crate::fault::RuleFault;
 use crate::gen_rule::GenRule;
 use crate::table::Table;
-use ca_plane::{Automaton, Memory, Nine};
+use ca_plane::{Automaton, Counting, Memory, Nine};
 use std::alloc::Global;
 
 /// A rule of any kind.
@@ -109,7 +110,8 @@ impl Rule<'_> {
 impl Automaton for Rule<'_> {
     ghost use Rattle.std.proofs.Common.{arith, rules};
     ghost use Rattle.std.proofs.lemmas.Bool.Decides.{nat_tests};
-    ghost use Rattle.ca_rule.specs.Rule.{rule_value, states_of, next_of, masks_of, IsSoundRule};
+    ghost use Rattle.ca_rule.specs.Rule.{rule_value, states_of, next_of, IsSoundRule};
+    ghost use Rattle.ca_rule.specs.Rule.{masks_of, counting_of};
     ghost use Rattle.ca_rule.specs.declared.rule.Rule.TheVariants.{Bs, Gen, Tab};
 
     ghost state_count = { λ rule. states_of (rule_value rule) };
@@ -145,6 +147,18 @@ impl Automaton for Rule<'_> {
             Rule::Bs(bs) => bs.masks(),
             Rule::Gen(generations) => generations.masks(),
             Rule::Tab(table) => table.masks(),
+        }
+    }
+
+    /// The birth and survival counts of a B/S rule as masks, and which neighbours it counts; else `None`.
+    fn counting(&self) -> Option<Counting>
+        ensures goes_by { IfSome result
+            (GoesByCounting (states_of (rule_value self.now)) (next_of (rule_value self.now))) }
+        ensures counting { result ≡ counting_of (rule_value self.now) }
+    {
+        match *self {
+            Rule::Bs(bs) => bs.counting(),
+            Rule::Gen(_) | Rule::Tab(_) => None,
         }
     }
 

@@ -4,6 +4,7 @@ use Rattle.std.specs.Prelude.{bit_and, bit_or, bit_xor}
 use Rattle.std.specs.Int.{bit_at}
 use Rattle.std.proofs.lemmas.Bool.{cond_below, cond_above}
 use Rattle.std.proofs.lemmas.Nat.Bits.{bit_at-zero, bit_at-suc, bit_at-lt, bit_at_and, bit_at_or, bit_at_xor, bit_at_cat_low, bit_at_cat_high, bit_at_above, bit_at_ones}
+use Rattle.ca_plane.specs.declared.counting.Counting.{Counting}
 use Rattle.ca_quad.proofs.Growth.{below_or_not}
 use Rattle.ca_run.specs.inner.Tiles.{next_by_count}
 use Rattle.ca_run.specs.declared.bricks.word.WordMasks.{WordMasks}
@@ -86,11 +87,11 @@ told_by_bit told (suc zero) low high n there elsewhere bit h is e t none one = i
 told_by_bit told (suc (suc which)) low high n there elsewhere bit h is e t none one = absurd (omega arith)
 
 -- two words of the masks tell what the masks do
-pub words_tell : (words : WordMasks) (masks : ℕ × ℕ) (centre n x : ℕ) → AreWords words masks → n ≤ 8 → x < 64
-    → (if centre == 0 then bit_at (slice_index words.born n) x else bit_at (slice_index words.stays n) x) ≡ next_by_count masks.0 masks.1 centre n
-words_tell words masks centre n x are low h = ap₂ (λ b s. if centre == 0 then b else s) (are.born n x low h) (are.stays n x low h) ∙ either (centre == 0)
+pub words_tell : (words : WordMasks) (counting : Counting) (centre n x : ℕ) → AreWords words counting → n ≤ 8 → x < 64
+    → (if centre == 0 then bit_at (slice_index words.born n) x else bit_at (slice_index words.stays n) x) ≡ next_by_count counting.birth counting.survival centre n
+words_tell words counting centre n x are low h = ap₂ (λ b s. if centre == 0 then b else s) (are.born n x low h) (are.stays n x low h) ∙ either (centre == 0)
   where
-    either : (dead : Bool) → (if dead then bit_at masks.0 n else bit_at masks.1 n) ≡ bit_at (if dead then masks.0 else masks.1) n
+    either : (dead : Bool) → (if dead then bit_at counting.birth n else bit_at counting.survival n) ≡ bit_at (if dead then counting.birth else counting.survival) n
     either true = refl
     either false = refl
 

@@ -5,10 +5,12 @@ use Rattle.std.proofs.lemmas.Bool.{cases_eq}
 use Rattle.std.proofs.lemmas.List.{get_or-set_other}
 use Rattle.std.proofs.lemmas.Grind.{get_or-set_at}
 use Rattle.std.proofs.lemmas.Nat.Bits.{bit_at-lt}
+use Rattle.ca_plane.specs.declared.counting.Neighbourhood.{Neighbourhood}
 use Rattle.ca_quad.specs.Trees.{row_cells}
-use Rattle.ca_run.specs.inner.Tiles.{next_by_count}
+use Rattle.ca_run.specs.inner.Tiles.{next_by_count, sum_round}
+use Rattle.ca_run.proofs.NeighbourSums.{sum_round-le}
 use Rattle.ca_run.specs.declared.bricks.round.Round.{Round}
-use Rattle.ca_run.specs.inner.Bricks.{wide_bit, round_cells, sum_round}
+use Rattle.ca_run.specs.inner.Bricks.{wide_bit, round_cells}
 use Rattle.ca_run.proofs.BrickBits.{middle_bit}
 
 -- one row more
@@ -28,18 +30,14 @@ wide_bit-lt west row east (suc x) = either (nat_lt x 64)
     either true = bit_at-lt row x
     either false = bit_at-lt east 0
 
-pub sum_round-le : (round : Round) (x y : ℕ) → sum_round (round_cells round) x y ≤ 8
-sum_round-le round x y =
-    let bit : (u v : ℕ) → round_cells round u v < 2 = λ u v. wide_bit-lt (slice_index round.west v) (slice_index round.here v) (slice_index round.east v) u in
-    omega (arith, bit x y, bit (suc x) y, bit (suc (suc x)) y, bit x (suc y), bit (suc (suc x)) (suc y), bit x (suc (suc y)), bit (suc x) (suc (suc y)), bit (suc (suc x)) (suc (suc y)))
-
 -- what comes next by the sums of three rows comes next by the sum round each cell
-pub row_made : (round : Round) (birth survive y word row : ℕ) (count : ℕ → ℕ) (f : ℕ → ℕ → ℕ) → row ≡ slice_index round.here (suc y)
-    → ((x : ℕ) → x < 64 → count x ≡ sum_round (round_cells round) x y)
+pub row_made : (counted : Neighbourhood) (round : Round) (birth survive y word row : ℕ) (count : ℕ → ℕ) (f : ℕ → ℕ → ℕ) → row ≡ slice_index round.here (suc y)
+    → ((x : ℕ) → x < 64 → count x ≡ sum_round counted (round_cells round) x y)
     → ((x : ℕ) → x < 64 → count x ≤ 8 → bit_at word x ≡ next_by_count birth survive (bit_at row x) (count x))
-    → (x : ℕ) → x < 64 → bit_at word x ≡ next_by_count birth survive (round_cells round (suc x) (suc y)) (sum_round (round_cells round) x y)
-row_made round birth survive y word row count f is counted made x h =
-    let e = counted x h in
+    → (x : ℕ) → x < 64 → bit_at word x ≡ next_by_count birth survive (round_cells round (suc x) (suc y)) (sum_round counted (round_cells round) x y)
+row_made counted round birth survive y word row count f is sums made x h =
+    let e = sums x h in
+    let low = sum_round-le counted (round_cells round) x y (λ u v. wide_bit-lt (slice_index round.west v) (slice_index round.here v) (slice_index round.east v) u) in
     let own : bit_at row x ≡ round_cells round (suc x) (suc y)
     = ap (λ r. bit_at r x) is ∙ sym (middle_bit (slice_index round.west (suc y)) (slice_index round.here (suc y)) (slice_index round.east (suc y)) x h) in
-    made x h (omega (arith, e, sum_round-le round x y)) ∙ ap₂ (next_by_count birth survive) own e
+    made x h (omega (arith, e, low)) ∙ ap₂ (next_by_count birth survive) own e

@@ -3,10 +3,11 @@ use Rattle.std.proofs.Common.{◌≡◌, ℕ, suc, ◌+◌, ◌-◌, ◌<◌, Bo
 use Rattle.std.specs.Prelude.{ℤ, replicate}
 use Rattle.std.proofs.lemmas.List.{get_or_past}
 use Rattle.ca_plane.specs.Generations.{cells_after}
+use Rattle.ca_plane.specs.declared.counting.Counting.{Counting}
 use Rattle.ca_quad.specs.Trees.{row_cells}
 use Rattle.ca_quad.proofs.Growth.{below_or_not}
 use Rattle.ca_run.specs.declared.bricks.wall.Wall.{Wall}
-use Rattle.ca_run.specs.Masks.{GoesBy}
+use Rattle.ca_run.specs.Counting.{GoesBy}
 use Rattle.ca_run.specs.inner.Bricks.{WallShows, IsInPlace, HasNeighbours, AllHaveNeighbours, IsNextBrick, HasBlankEdge, QueueGrows}
 use Rattle.ca_run.proofs.After.{after_again}
 use Rattle.ca_run.proofs.BrickEdges.{bricks_go_on, edge_dead}
@@ -24,11 +25,11 @@ edge_blank wall m p shows t not x y h k = elim (below_or_not t (length wall.bric
 ]
 
 -- the wall a generation on, of a run that has reached so many
-pub wall_later : (next : List ℕ → ℕ) (masks : ℕ × ℕ) → GoesBy next masks → next (replicate 9 0) ≡ 0 → (wall later : Wall) (n k reached : ℕ) (first : ℤ → ℤ → ℕ) → k < n
+pub wall_later : (next : List ℕ → ℕ) (counting : Counting) → GoesBy next counting → next (replicate 9 0) ≡ 0 → (wall later : Wall) (n k reached : ℕ) (first : ℤ → ℤ → ℕ) → k < n
     → WallShows wall (n - k) (cells_after next first (reached + k)) → IsInPlace wall later → length later.bricks.items ≡ length wall.bricks.items
-    → ((t : ℕ) → HasNeighbours wall.across (length wall.bricks.items) t → IsNextBrick masks wall.across wall.bricks.items later.bricks.items t) → HasBlankEdge wall.across later.bricks.items
+    → ((t : ℕ) → HasNeighbours wall.across (length wall.bricks.items) t → IsNextBrick counting wall.across wall.bricks.items later.bricks.items t) → HasBlankEdge wall.across later.bricks.items
     → WallShows later (n - (k + 1)) (cells_after next first (reached + (k + 1)))
-wall_later next masks goes_by quiet wall later n k reached first low shows place same came blank =
+wall_later next counting goes_by quiet wall later n k reached first low shows place same came blank =
     let p = cells_after next first (reached + k) in
     let m = n - (k + 1) in
     let more : n - k ≡ suc m = omega (arith, low) in
@@ -36,7 +37,7 @@ wall_later next masks goes_by quiet wall later n k reached first low shows place
     let wide = shows.is_wall in
     let before = subst (λ r. WallShows wall r p) more shows in
     let after = margin_shrinks next quiet m wall.across wall.down p wall.x wall.y before.margin in
-    let made = bricks_go_on next masks goes_by wall.across wall.down wall.bricks.items later.bricks.items p wall.x wall.y wide.wide wide.high wide.size same
+    let made = bricks_go_on next counting goes_by wall.across wall.down wall.bricks.items later.bricks.items p wall.x wall.y wide.wide wide.high wide.size same
     (margin_less (suc m) 0 wall.across wall.down p wall.x wall.y (omega arith) before.margin) (margin_less m 0 wall.across wall.down (cells_after next p 1) wall.x wall.y (omega arith) after)
     shows.bricks came blank in
     wall_as later m (cells_after next p 1) (cells_after next first (reached + (k + 1)))
@@ -48,14 +49,14 @@ wall_later next masks goes_by quiet wall later n k reached first low shows place
     }))
 
 -- the same, as it is reported
-pub wall_seen : (next : List ℕ → ℕ) (masks : ℕ × ℕ) → GoesBy next masks → next (replicate 9 0) ≡ 0 → (wall later : Wall) (n k reached : ℕ) (first : ℤ → ℤ → ℕ) → k < n
+pub wall_seen : (next : List ℕ → ℕ) (counting : Counting) → GoesBy next counting → next (replicate 9 0) ≡ 0 → (wall later : Wall) (n k reached : ℕ) (first : ℤ → ℤ → ℕ) → k < n
     → WallShows wall (n - k) (cells_after next first (reached + k)) → IsInPlace wall later → length later.bricks.items ≡ length wall.bricks.items
-    → ((t : ℕ) → HasNeighbours wall.across (length wall.bricks.items) t → IsNextBrick masks wall.across wall.bricks.items later.bricks.items t) → HasBlankEdge wall.across later.bricks.items
+    → ((t : ℕ) → HasNeighbours wall.across (length wall.bricks.items) t → IsNextBrick counting wall.across wall.bricks.items later.bricks.items t) → HasBlankEdge wall.across later.bricks.items
     → WallShows later 0 (cells_after next first ((reached + k) + 1))
-wall_seen next masks goes_by quiet wall later n k reached first low shows place same came blank =
+wall_seen next counting goes_by quiet wall later n k reached first low shows place same came blank =
     let time : reached + (k + 1) ≡ (reached + k) + 1 = omega arith in
     subst (λ r. WallShows later 0 (cells_after next first r)) time
-    (wall_less later (n - (k + 1)) 0 (cells_after next first (reached + (k + 1))) (omega arith) (wall_later next masks goes_by quiet wall later n k reached first low shows place same came blank))
+    (wall_less later (n - (k + 1)) 0 (cells_after next first (reached + (k + 1))) (omega arith) (wall_later next counting goes_by quiet wall later n k reached first low shows place same came blank))
 
 -- which bricks are awake: what holds of the list that was, or of the queue, holds of the one that is taken
 pub by_first : (P : List ℕ → Type 0) (is_first : Bool) (old queue new : List ℕ) → new ≡ (if is_first then old else queue) → (is_first ≡ true → P old) → (is_first ≡ false → P queue) → P new

@@ -24,6 +24,7 @@ pub mod WrittenGenerations
 pub mod ReachedTree
 pub mod BitRows
 pub mod NextStates
+pub mod NeighbourSums
 pub mod TileCells
 pub mod BrickMargins
 pub mod LiveFrames

@@ -6,6 +6,7 @@ use Rattle.std.proofs.lemmas.List.{get_or_default}
 use Rattle.std.proofs.Math.Nat.{two-pow-succ}
 use Rattle.std.proofs.Math.Pow.{pow_mono}
 use Rattle.ca_plane.specs.Generations.{cells_after}
+use Rattle.ca_plane.specs.declared.counting.Counting.{Counting}
 use Rattle.ca_quad.specs.declared.node.Node.{Node}
 use Rattle.ca_quad.specs.Squares.{IsOf, joined_cells, cell_of}
 use Rattle.ca_quad.specs.Sound.{IsSoundStore, Grows}
@@ -123,14 +124,14 @@ module _ (old new : List Node) (sound : IsSoundStore old) (grows : Grows old new
   result_stays next (LeapOfFour nw ne sw se middle) h = (h.0, leap_stays next h.0 nw ne sw se middle h.1)
 
 -- a leaper stays one as its store grows
-pub leaper_stays : {old new : List Node} {next : List ℕ → ℕ} {S : Type 0} {memo : MemoView} {slots : SlotsView (ℕ × ℕ)} {leaps : SlotsView (ℕ × ℕ × ℕ × ℕ)} {capacity : ℕ} {masks : Option (ℕ × ℕ)}
-    → IsLeaper next S old memo slots leaps capacity masks → Grows old new → IsLeaper next S new memo slots leaps capacity masks
+pub leaper_stays : {old new : List Node} {next : List ℕ → ℕ} {S : Type 0} {memo : MemoView} {slots : SlotsView (ℕ × ℕ)} {leaps : SlotsView (ℕ × ℕ × ℕ × ℕ)} {capacity : ℕ} {counting : Option Counting}
+    → IsLeaper next S old memo slots leaps capacity counting → Grows old new → IsLeaper next S new memo slots leaps capacity counting
 leaper_stays h grows = record {
   rule = h.rule;
   squares = grows.sound;
   remembers = record { true_results = λ result c. result_stays _ _ h.squares grows _ result (h.remembers.true_results result c); most = h.remembers.most };
   bounded = h.bounded;
-  by_masks = h.by_masks;
+  by_counting = h.by_counting;
 }
 
 -- four squares that were made one after another
@@ -332,8 +333,8 @@ pub singles_more : (next : List ℕ → ℕ) (nodes : List Node) (old new : Memo
 singles_more next nodes old new id k j half all this more = centres_more next nodes (HasSingle old) (HasSingle new) id k j half all this more
 
 -- what a look-up leaves
-pub leaper_looked : {next : List ℕ → ℕ} {S : Type 0} {nodes : List Node} {old new : MemoView} {slots : SlotsView (ℕ × ℕ)} {leaps : SlotsView (ℕ × ℕ × ℕ × ℕ)} {capacity : ℕ} {masks : Option (ℕ × ℕ)}
-    → RemembersNoMore old new → IsBoundedMemo new.pages new.order → IsLeaper next S nodes old slots leaps capacity masks → IsLeaper next S nodes new slots leaps capacity masks
+pub leaper_looked : {next : List ℕ → ℕ} {S : Type 0} {nodes : List Node} {old new : MemoView} {slots : SlotsView (ℕ × ℕ)} {leaps : SlotsView (ℕ × ℕ × ℕ × ℕ)} {capacity : ℕ} {counting : Option Counting}
+    → RemembersNoMore old new → IsBoundedMemo new.pages new.order → IsLeaper next S nodes old slots leaps capacity counting → IsLeaper next S nodes new slots leaps capacity counting
 leaper_looked {next} {nodes} {old} {new} {slots} {leaps} f bounded h =
     let all = h.remembers.true_results in
     leaper_with h new slots leaps (λ id half e. full_leaps_of next nodes old slots leaps all id half (f.full_leaps id half e)) (λ id j half e. singles_of next nodes old slots leaps all id j half (f.singles id j half e))

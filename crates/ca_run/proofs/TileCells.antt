@@ -7,11 +7,13 @@ use Rattle.std.proofs.lemmas.Int.{ints}
 use Rattle.std.proofs.lemmas.List.{get_or-replicate, get_or-append-add}
 use Rattle.std.proofs.lemmas.Nat.Bits.{bit_at-zero, bit_at-suc, bit_at-lt, bit_at_ones, bit_at_ones_above}
 use Rattle.ca_plane.specs.Generations.{around}
-use Rattle.ca_plane.specs.Moore.{moore_next}
+use Rattle.ca_plane.specs.Counting.{counting_next}
+use Rattle.ca_plane.specs.declared.counting.Counting.{Counting}
 use Rattle.ca_quad.specs.Trees.{row_cells}
 use Rattle.ca_quad.proofs.Growth.{below_or_not}
 use Rattle.ca_run.specs.Lanes.{tile_cell, IsWithinEdge}
-use Rattle.ca_run.specs.inner.Tiles.{next_by_count, neighbour_sum}
+use Rattle.ca_run.specs.inner.Tiles.{next_by_count, sum_round}
+use Rattle.ca_run.proofs.NeighbourSums.{sum_counted, sum_round-le}
 
 -- the nine cells round a place that isn't in the first row or column
 pub around-suc : (f : ℤ → ℤ → ℕ) (x y : ℕ) → around f (pos (suc x)) (pos (suc y))
@@ -60,28 +62,25 @@ inner_edge x (suc y) out = elim (below_or_not y 14) [
   | inr b ↦ ap (λ r. bit_at r x) (later_row y b) ∙ bit_at-zero x
 ]
 
--- no more than eight are live
-neighbour_sum-le : (rows : List ℕ) (x y : ℕ) → neighbour_sum rows x y ≤ 8
-neighbour_sum-le rows x y =
-    let bit : (u v : ℕ) → row_cells rows u v < 2 = λ u v. bit_at-lt (slice_index rows v) u in
-    omega (arith, bit x y, bit (suc x) y, bit (suc (suc x)) y, bit x (suc y), bit (suc (suc x)) (suc y), bit x (suc (suc y)), bit (suc x) (suc (suc y)), bit (suc (suc x)) (suc (suc y)))
-
 -- what is counted and decided at each place is the next generation within the edge
-pub next_within : (birth survive : ℕ) (rows next : List ℕ) (count : ℕ → ℕ → ℕ)
-    → ((x y : ℕ) → x < 14 → y < 14 → count (suc x) (suc y) ≡ neighbour_sum rows x y)
-    → ((x y : ℕ) → x < 16 → y < 16 → count x y ≤ 8 → row_cells next x y ≡ next_by_count birth survive (row_cells rows x y) (count x y))
-    → (x y : ℤ) → IsWithinEdge x y → tile_cell next x y ≡ moore_next birth survive (around (tile_cell rows) x y)
-next_within birth survive rows next count counted lives_next (negsuc x) y within = absurd (omega (arith, ints, within.0))
-next_within birth survive rows next count counted lives_next (pos x) (negsuc y) within = absurd (omega (arith, ints, within.2))
-next_within birth survive rows next count counted lives_next (pos zero) (pos y) within = absurd (omega (arith, ints, within.0))
-next_within birth survive rows next count counted lives_next (pos (suc x)) (pos zero) within = absurd (omega (arith, ints, within.2))
-next_within birth survive rows next count counted lives_next (pos (suc x)) (pos (suc y)) within =
+pub next_within : (counting : Counting) (rows next : List ℕ) (count : ℕ → ℕ → ℕ)
+    → ((x y : ℕ) → x < 14 → y < 14 → count (suc x) (suc y) ≡ sum_round counting.neighbourhood (row_cells rows) x y)
+    → ((x y : ℕ) → x < 16 → y < 16 → count x y ≤ 8 → row_cells next x y ≡ next_by_count counting.birth counting.survival (row_cells rows x y) (count x y))
+    → (x y : ℤ) → IsWithinEdge x y → tile_cell next x y ≡ counting_next counting (around (tile_cell rows) x y)
+next_within counting rows next count counted lives_next (negsuc x) y within = absurd (omega (arith, ints, within.0))
+next_within counting rows next count counted lives_next (pos x) (negsuc y) within = absurd (omega (arith, ints, within.2))
+next_within counting rows next count counted lives_next (pos zero) (pos y) within = absurd (omega (arith, ints, within.0))
+next_within counting rows next count counted lives_next (pos (suc x)) (pos zero) within = absurd (omega (arith, ints, within.2))
+next_within counting rows next count counted lives_next (pos (suc x)) (pos (suc y)) within =
     let h : x < 14 = omega (arith, ints, within.1) in
     let k : y < 14 = omega (arith, ints, within.3) in
-    let n : count (suc x) (suc y) ≡ neighbour_sum rows x y = counted x y h k in
-    let most : count (suc x) (suc y) ≤ 8 = omega (arith, n, neighbour_sum-le rows x y) in
-    lives_next (suc x) (suc y) (omega arith) (omega arith) most ∙ ap (next_by_count birth survive (row_cells rows (suc x) (suc y))) n
-    ∙ sym (ap (moore_next birth survive) (around-suc (tile_cell rows) x y))
+    let cells = row_cells rows in
+    let n : count (suc x) (suc y) ≡ sum_round counting.neighbourhood cells x y = counted x y h k in
+    let low = sum_round-le counting.neighbourhood cells x y (λ u v. bit_at-lt (slice_index rows v) u) in
+    let most : count (suc x) (suc y) ≤ 8 = omega (arith, n, low) in
+    lives_next (suc x) (suc y) (omega arith) (omega arith) most
+    ∙ ap (next_by_count counting.birth counting.survival (cells (suc x) (suc y))) (n ∙ sum_counted counting.neighbourhood cells x y)
+    ∙ sym (ap (counting_next counting) (around-suc (tile_cell rows) x y))
 
 -- what is cut at the edge stays within it
 pub cut_within : (next result : List ℕ) → ((x y : ℕ) → row_cells result x y ≡ min (row_cells next x y) (row_cells inner x y))

@@ -6,6 +6,6 @@ pub mod Leaping
 pub mod Advanced
 pub mod Stepped
 pub mod Lanes
-pub mod Masks
+pub mod Counting
 pub mod Memo
 pub mod inner

@@ -8,11 +8,13 @@ ghost use Rattle.std.specs.List.{All};
 ghost use Rattle.std.specs.Int.{bit_at};
 ghost use Rattle.ca_quad.specs.Trees.{row_cells};
 ghost use Rattle.ca_run.specs.Lanes.{tile_cell, IsWithinEdge, IsNextTile};
-ghost use Rattle.ca_run.specs.inner.Tiles.{lives_next, next_by_count, number};
+ghost use Rattle.ca_run.specs.inner.Tiles.{lives_next, next_by_count, number, IsCountedTile};
 
 use crate::count::Count;
+use crate::neighbours::EightNeighbours;
 pub(crate) use bits::Bits;
-use count::neighbours;
+use ca_plane::{Counting, Neighbourhood};
+pub(crate) use count::CountInTile;
 use std::simd::prelude::*;
 
 // All cells but those on the edge.
@@ -32,19 +34,25 @@ pub fn kernel16(rows: &[u16; 16], birth: u16, survive: u16) -> [u16; 16]
     ensures within { IsNextTile birth survive rows.now result }
     ensures edge { (x y : ℤ) → (IsWithinEdge x y → ⊥) → tile_cell result x y ≡ 0 }
 {
-    let next = next_tile(Bits::of(rows), birth, survive);
+    let counting = Counting {
+        neighbourhood: Neighbourhood::Moore,
+        birth,
+        survival: survive,
+    };
+    let next = next_tile::<EightNeighbours>(Bits::of(rows), counting);
     next.and(Bits::of(&INNER)).rows.to_array()
 }
 
 /// The next generation of those cells of a tile that aren't on its edge.
 #[inline(always)]
-pub(crate) fn next_tile(alive: Bits, birth: u16, survive: u16) -> Bits
-    ensures { IsNextTile birth survive alive.rows result.rows }
+pub(crate) fn next_tile<C: CountInTile>(alive: Bits, counting: Counting) -> Bits
+    requires { C.counted ≡ counting.neighbourhood }
+    ensures { IsCountedTile counting alive.rows result.rows }
 {
-    next_bits(alive, neighbours(alive), birth, survive)
+    next_bits(alive, C::count(alive), counting.birth, counting.survival)
 }
 
-// The next state of each cell, from the number of live cells round it.
+// The next state of each cell, from the number of live cells among its counted neighbours.
 #[inline(always)]
 fn next_bits(alive: Bits, count: Count<Bits>, birth: u16, survive: u16) -> Bits
     ensures { (x y : ℕ) → x < 16 → y < 16 → number count x y ≤ 8

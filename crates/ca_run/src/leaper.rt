@@ -7,7 +7,7 @@ ghost use Rattle.ca_quad.specs.Trees.{AreFour, ShowsSquare};
 ghost use Rattle.ca_run.specs.Centre.{IsCentre, IsLeap};
 ghost use Rattle.ca_run.specs.Leaping.{EndsAtLimit};
 ghost use Rattle.ca_run.specs.inner.AtCost.{GoesOnAtCost};
-ghost use Rattle.ca_run.specs.Masks.{GoesBy};
+ghost use Rattle.ca_run.specs.Counting.{GoesBy};
 ghost use Rattle.ca_run.specs.inner.Shown.{ShowsAt, FourShow};
 ghost use Rattle.ca_plane.specs.Limits.{most_memo};
 
@@ -37,7 +37,7 @@ mod words;
 use crate::fault::LeapFault;
 use crate::watch::Watch;
 use crate::work::Work;
-use ca_plane::{Automaton, Memory};
+use ca_plane::{Automaton, Counting, Memory};
 use ca_quad::{Id, Store};
 use memo::Memo;
 pub use milestone::Milestone;
@@ -54,7 +54,7 @@ const TOLD: u64 = 65536;
 pub struct Leaper<A: Automaton> {
     store: Store,
     rule: A,
-    masks: Option<(u16, u16)>,
+    counting: Option<Counting>,
     memo: Memo,
     // Centres of squares after 2^j generations, by the square and the j.
     recent_centres: Slots<(Id, u8)>,
@@ -76,7 +76,7 @@ impl<A: Automaton> Model for Leaper<A> {
     ghost view = { λ l. record { rule = l.rule; nodes = l.store; memo = l.capacity; spent = l.work } };
 
     ghost invariant = { λ l. IsLeaper (A.next_of l.rule) (A.sound l.rule) l.store l.memo l.recent_centres
-        l.recent_leaps l.capacity l.masks };
+        l.recent_leaps l.capacity l.counting };
 }
 
 impl<A: Automaton> Leaper<A> {
@@ -101,13 +101,13 @@ impl<A: Automaton> Leaper<A> {
     {
         let _states = rule.states();
         let _squares = store.count();
-        let masks = rule.masks();
-        let (centres, leaps) = table_slots(memo, masks.is_some());
+        let counting = rule.counting();
+        let (centres, leaps) = table_slots(memo, counting.is_some());
         let entries = NonZeroUsize::new(memo - (centres + leaps)).unwrap_or(NonZeroUsize::MIN);
         Ok(Leaper {
             store,
             rule,
-            masks,
+            counting,
             memo: Memo::new(alloc, entries)?,
             recent_centres: Slots::new(alloc, centres),
             recent_leaps: Slots::new(alloc, leaps),
@@ -208,11 +208,11 @@ impl<A: Automaton> Leaper<A> {
         &self.store
     }
 
-    // The masks by which the rule goes, where there are some.
-    fn masks(&self) -> Option<(u16, u16)>
+    // The counting by which the rule goes, where there is one.
+    fn counting(&self) -> Option<Counting>
         ensures { IfSome result (GoesBy (A.next_of self.now.rule)) }
     {
-        self.masks
+        self.counting
     }
 
     // What is remembered for a square.
@@ -271,12 +271,12 @@ impl<A: Automaton> Leaper<A> {
 
     // Whether a square is a tile, whose centre costs less to work out again than to remember.
     fn is_tile(&self, grain: u8) -> bool {
-        grain == 2 && self.masks.is_some()
+        grain == 2 && self.counting.is_some()
     }
 
     // Whether the centre of a square is worked out on words, which costs little.
     fn is_cheap(&self, grain: u8) -> bool {
-        grain == 3 && self.masks.is_some()
+        grain == 3 && self.counting.is_some()
     }
 
     // The 2 by 2 square of these cells.
@@ -301,11 +301,11 @@ impl<A: Automaton> Leaper<A> {
     }
 }
 
-// How many of a memo's entries are slots for results that cost little, which rules with masks alone have, and how
+// How many of a memo's entries are slots for results that cost little, which rules that go by a counting alone have, and how
 // many for those by the parts of squares, which spare most looks into the store.
-fn table_slots(memo: usize, by_masks: bool) -> (usize, usize)
+fn table_slots(memo: usize, by_counting: bool) -> (usize, usize)
     ensures { result.0 + result.1 ≤ memo / 2 }
 {
-    let centres = if by_masks { memo / 16 } else { 0 };
+    let centres = if by_counting { memo / 16 } else { 0 };
     (slots::of_entries(centres), slots::of_entries(memo / 4))
 }

@@ -8,6 +8,7 @@ mod generations;
 mod kernel;
 pub mod laws;
 mod leaper;
+mod neighbours;
 mod points;
 mod row;
 mod watch;

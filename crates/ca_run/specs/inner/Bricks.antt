@@ -3,6 +3,7 @@
 use Rattle.std.specs.Prelude.{◌≡◌, ℕ, zero, suc, ◌+◌, ◌-◌, ◌*◌, ◌/◌, ◌%◌, ◌<◌, ◌≤◌, ℤ, pos, ◌+ℤ◌, ◌≤ℤ◌, ◌<ℤ◌, ◌^◌, neg_ℤ, List, [], length, replicate, get_or, if◌then◌else◌, nat_lt, ◌⊎◌, slice_index, bit_and, bit_or}
 use Rattle.std.specs.Int.{bit_at}
 use Rattle.ca_plane.specs.Generations.{cells_after}
+use Rattle.ca_plane.specs.declared.counting.Counting.{Counting}
 use Rattle.ca_quad.specs.Trees.{row_cells}
 use Rattle.ca_run.specs.declared.bricks.round.Round.{Round}
 use Rattle.ca_run.specs.declared.bricks.wall.Wall.{Wall}
@@ -11,8 +12,8 @@ use Rattle.ca_run.specs.declared.bricks.word.WordMasks.{WordMasks}
 use Rattle.ca_run.specs.declared.bricks.word.WordPair.{WordPair}
 use Rattle.ca_run.specs.declared.bricks.wall.WordPlace.{WordPlace}
 use Rattle.ca_run.specs.inner.Words.{eight}
-use Rattle.ca_run.specs.inner.Tiles.{next_by_count}
-use Rattle.ca_run.specs.Masks.{GoesBy}
+use Rattle.ca_run.specs.inner.Tiles.{next_by_count, sum_round}
+use Rattle.ca_run.specs.Counting.{GoesBy}
 
 -- ---- bricks on the plane
 
@@ -58,11 +59,11 @@ pub record IsInPlace (before later : Wall) : Type 0 where
   pub across : later.across ≡ before.across
   pub down : later.down ≡ before.down
 
--- a wall shows what came of the first cells after so many generations, under a rule that goes by the masks, and has a
+-- a wall shows what came of the first cells after so many generations, under a rule that goes by the counting, and has a
 -- margin for n more
-pub record CanStepFor (next : List ℕ → ℕ) (masks : ℕ × ℕ) (first : ℤ → ℤ → ℕ) (reached n : ℕ)
+pub record CanStepFor (next : List ℕ → ℕ) (counting : Counting) (first : ℤ → ℤ → ℕ) (reached n : ℕ)
     (wall : Wall) : Type 0 where
-  pub by_masks : GoesBy next masks
+  pub by_counting : GoesBy next counting
   pub quiet : next (replicate 9 0) ≡ 0
   pub shows : WallShows wall n (cells_after next first reached)
   pub room : wall.across + length wall.bricks.items < 2 ^ 63
@@ -106,17 +107,6 @@ column_at across bricks t (suc y) = if nat_lt y 16 then slice_index (get_or bric
 abbrev pub round_at : ℕ → List (List ℕ) → ℕ → ℕ → ℕ → ℕ
 round_at across bricks t x y = wide_bit (column_at across bricks (t - 1) y) (column_at across bricks t y) (column_at across bricks (t + 1) y) x
 
--- the sum of three cells side by side, from (x, y) on, and that of the two outer ones
-abbrev pub sum_of_three : (ℕ → ℕ → ℕ) → ℕ → ℕ → ℕ
-sum_of_three at x y = at x y + at (suc x) y + at (suc (suc x)) y
-
-abbrev pub sum_of_two : (ℕ → ℕ → ℕ) → ℕ → ℕ → ℕ
-sum_of_two at x y = at x y + at (suc (suc x)) y
-
--- the sum of the eight cells round (x + 1, y + 1)
-abbrev pub sum_round : (ℕ → ℕ → ℕ) → ℕ → ℕ → ℕ
-sum_round at x y = sum_of_three at x y + sum_of_two at x (suc y) + sum_of_three at x (suc (suc y))
-
 -- the number at a place of a word, in binary
 abbrev pub pair_at : WordPair → ℕ → ℕ
 pair_at n x = bit_at n.ones x + 2 * bit_at n.twos x
@@ -129,8 +119,8 @@ abbrev pub round_cells : Round → ℕ → ℕ → ℕ
 round_cells round x y = wide_bit (slice_index round.west y) (slice_index round.here y) (slice_index round.east y) x
 
 -- the next state of the cell at (x + 1, y + 1)
-abbrev pub next_cell_at : ℕ × ℕ → (ℕ → ℕ → ℕ) → ℕ → ℕ → ℕ
-next_cell_at masks at x y = next_by_count masks.0 masks.1 (at (suc x) (suc y)) (sum_round at x y)
+abbrev pub next_cell_at : Counting → (ℕ → ℕ → ℕ) → ℕ → ℕ → ℕ
+next_cell_at counting at x y = next_by_count counting.birth counting.survival (at (suc x) (suc y)) (sum_round counting.neighbourhood at x y)
 
 -- ---- masks as words
 
@@ -138,14 +128,14 @@ next_cell_at masks at x y = next_by_count masks.0 masks.1 (at (suc x) (suc y)) (
 abbrev pub IsWordOfEach : ℕ → List ℕ → Type 0
 IsWordOfEach mask words = (n x : ℕ) → n ≤ 8 → x < 64 → bit_at (slice_index words n) x ≡ bit_at mask n
 
--- the words of both masks
-pub record AreWords (words : WordMasks) (masks : ℕ × ℕ) : Type 0 where
-  pub born : IsWordOfEach masks.0 words.born
-  pub stays : IsWordOfEach masks.1 words.stays
+-- the words of the masks of births and survivals
+pub record AreWords (words : WordMasks) (counting : Counting) : Type 0 where
+  pub born : IsWordOfEach counting.birth words.born
+  pub stays : IsWordOfEach counting.survival words.stays
 
 -- neither mask has a number but 2 and 3: 499 is the mask of the others up to 8
-abbrev pub HasTwoAndThreeAlone : ℕ × ℕ → Type 0
-HasTwoAndThreeAlone masks = bit_and (bit_or masks.0 masks.1) 499 ≡ 0
+abbrev pub HasTwoAndThreeAlone : Counting → Type 0
+HasTwoAndThreeAlone counting = bit_and (bit_or counting.birth counting.survival) 499 ≡ 0
 
 -- ---- generations
 
@@ -155,8 +145,8 @@ pub record HasNeighbours (across count t : ℕ) : Type 0 where
   pub behind : t + across + 1 < count
 
 -- the brick of the new ones is the next generation of the one there and of those round it
-pub record IsNextBrick (masks : ℕ × ℕ) (across : ℕ) (old new : List (List ℕ)) (t : ℕ) : Type 0 where
-  pub cells : (x y : ℕ) → x < 64 → y < 16 → row_cells (get_or new t []) x y ≡ next_cell_at masks (round_at across old t) x y
+pub record IsNextBrick (counting : Counting) (across : ℕ) (old new : List (List ℕ)) (t : ℕ) : Type 0 where
+  pub cells : (x y : ℕ) → x < 64 → y < 16 → row_cells (get_or new t []) x y ≡ next_cell_at counting (round_at across old t) x y
 
 -- the brick and the cells round it are the same
 pub record IsSameRound (across : ℕ) (old new : List (List ℕ)) (t : ℕ) : Type 0 where
@@ -211,23 +201,23 @@ pub record HasMarks (marks : List ℕ) (mark : ℕ) (list : List ℕ) : Type 0 w
   pub most : (t : ℕ) → slice_index marks t ≤ mark
 
 -- the bricks that aren't in the list rest: what they were before is what they will be next
-abbrev pub BricksRest : ℕ × ℕ → ℕ → (now before : List (List ℕ)) → List ℕ → Type 0
-BricksRest masks across now before list = (t : ℕ) → HasNeighbours across (length now) t → IsNotIn list t → IsNextBrick masks across now before t
+abbrev pub BricksRest : Counting → ℕ → (now before : List (List ℕ)) → List ℕ → Type 0
+BricksRest counting across now before list = (t : ℕ) → HasNeighbours across (length now) t → IsNotIn list t → IsNextBrick counting across now before t
 
 -- ---- a generation of bricks
 
 -- there are as many bricks before as now, those of the list have others on all sides, and those that aren't in it rest
-pub record CanStep (masks : ℕ × ℕ) (across : ℕ) (now before : List (List ℕ)) (awake : List ℕ) : Type 0 where
+pub record CanStep (counting : Counting) (across : ℕ) (now before : List (List ℕ)) (awake : List ℕ) : Type 0 where
   pub room : across + length now < 2 ^ 63
   pub size : length before ≡ length now
   pub inside : AllHaveNeighbours across (length now) awake
-  pub rest : BricksRest masks across now before awake
+  pub rest : BricksRest counting across now before awake
 
 -- each brick with others on all sides is one generation on, the others are as before, and the queue has those that see other cells
 -- than two generations before
-pub record AreStepped (masks : ℕ × ℕ) (across : ℕ) (now before later : List (List ℕ))
+pub record AreStepped (counting : Counting) (across : ℕ) (now before later : List (List ℕ))
     (old new : List ℕ) : Type 0 where
-  pub next : (t : ℕ) → HasNeighbours across (length now) t → IsNextBrick masks across now later t
+  pub next : (t : ℕ) → HasNeighbours across (length now) t → IsNextBrick counting across now later t
   pub same : (t : ℕ) → HasNeighbours across (length now) t → IsNotIn new t → IsSameRound across before later t
   pub grows : QueueGrows across (length now) old new
   pub others : (t : ℕ) → (HasNeighbours across (length now) t → ⊥) → get_or later t [] ≡ get_or before t []

@@ -1,12 +1,13 @@
 -- The tables of a leaper, and what they remember as one list (our own).
 use Rattle.std.specs.Prelude.{ℕ, zero, suc, ◌+◌, ◌*◌, ◌≤◌, List, [], ◌∷◌, ◌++◌, length, Option, Some, None, IfSome}
 use Rattle.std.specs.List.{filter_map}
+use Rattle.ca_plane.specs.declared.counting.Counting.{Counting}
 use Rattle.ca_quad.specs.declared.node.Node.{Node}
 use Rattle.ca_quad.specs.Sound.{IsSoundStore}
 use Rattle.ca_run.specs.declared.leaper.key.Key.{Key}
 use Rattle.ca_run.specs.declared.leaper.key.Key.TheVariants.{Page as OfPage, Single}
 use Rattle.ca_run.specs.declared.leaper.page.Page.{Page}
-use Rattle.ca_run.specs.Masks.{GoesBy}
+use Rattle.ca_run.specs.Counting.{GoesBy}
 use Rattle.ca_run.specs.Memo.{LeapResult, FullLeap, Centre, LeapOfFour, Remembers}
 use Rattle.ca_run.specs.inner.Pages.{MemoView, IsBoundedMemo}
 use Rattle.ca_run.specs.inner.Slots.{SlotsView}
@@ -56,12 +57,12 @@ pub record AreBounded (memo : MemoView) (centres : SlotsView (ℕ × ℕ)) (leap
   pub few_leaps : length leaps.slots ≤ leaps.most
 
 -- the rule and the squares are sound, the results that are remembered are true and no more than may be, and the rule
--- goes by the masks, if there are some
+-- goes by the counting, if there is one
 pub record IsLeaper (next : List ℕ → ℕ) (RuleIsSound : Type 0) (nodes : List Node) (memo : MemoView)
     (centres : SlotsView (ℕ × ℕ)) (leaps : SlotsView (ℕ × ℕ × ℕ × ℕ)) (capacity : ℕ)
-    (masks : Option (ℕ × ℕ)) : Type 0 where
+    (counting : Option Counting) : Type 0 where
   pub rule : RuleIsSound
   pub squares : IsSoundStore nodes
   pub remembers : Remembers next nodes (results_of memo centres leaps) capacity
   pub bounded : AreBounded memo centres leaps capacity
-  pub by_masks : IfSome masks (GoesBy next)
+  pub by_counting : IfSome counting (GoesBy next)

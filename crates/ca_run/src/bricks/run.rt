@@ -16,7 +16,7 @@ use crate::fault::LeapFault;
 use crate::leaper::{Leaper, Milestone};
 use crate::watch::Watch;
 use crate::work::Work;
-use ca_plane::{Automaton, Memory};
+use ca_plane::{Automaton, Counting, Memory};
 use ca_quad::Tree;
 use std::alloc::Global;
 
@@ -74,7 +74,7 @@ impl Wall {
     pub(crate) fn later<A: Automaton, W: Watch>(
         mut self,
         alloc: Global,
-        masks: (u16, u16),
+        counting: Counting,
         n: u64,
         leaper: &Leaper<A>,
         first: &Tree,
@@ -82,7 +82,7 @@ impl Wall {
         work: &mut Work,
         watch: &mut W,
     ) -> Result<Wall, LeapFault>
-        requires begins { CanStepFor (A.next_of leaper.now.rule) masks
+        requires begins { CanStepFor (A.next_of leaper.now.rule) counting
             (cell leaper.now.nodes first.now) reached n self }
         requires time { reached + n ≤ most_generations }
         requires fresh { self.work ≡ 0 }
@@ -107,7 +107,7 @@ impl Wall {
                 &mut before,
                 &awake,
                 &mut queue,
-                masks,
+                counting,
             )?;
             wake_next(k == 0, alloc, &mut queue, &mut awake);
             watch.reached(Milestone::with_wall(leaper, first, &self, reached + k + 1));

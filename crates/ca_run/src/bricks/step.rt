@@ -8,8 +8,9 @@ ghost use Rattle.ca_run.specs.inner.Bricks.{QueueGrows, BricksRest, column_at, r
 
 use super::queue::Queue;
 use super::round::Round;
-use super::word::{ByAll, ByTwoAndThree, NextCells, has_two_and_three_alone};
-use ca_plane::Memory;
+use super::word::{ByAll, ByTwoAndThree, CountInRow, NextCells, has_two_and_three_alone};
+use crate::neighbours::{EightNeighbours, FourNeighbours, SixNeighbours};
+use ca_plane::{Counting, Memory, Neighbourhood};
 
 // One generation: what was now is then before. Those bricks of the list are stepped which may have changed.
 pub(super) fn generation(
@@ -18,23 +19,23 @@ pub(super) fn generation(
     before: &mut Vec<[u64; 16]>,
     awake: &[usize],
     queue: &mut Queue,
-    masks: (u16, u16),
+    counting: Counting,
 ) -> Result<(), Memory>
     requires room { across + length now.old.items < 2 ^ 63 }
     requires size { length before.old.items ≡ length now.old.items }
     requires inside { AllHaveNeighbours across (length now.old.items) awake.now }
-    requires rest { BricksRest masks across now.old.items before.old.items awake.now }
+    requires rest { BricksRest counting across now.old.items before.old.items awake.now }
     ensures before { OnOk result (before.new.items ≡ now.old.items) }
     ensures size { OnOk result (length now.new.items ≡ length now.old.items) }
     ensures next { OnOk result ((t : ℕ) → HasNeighbours across (length now.old.items) t
-        → IsNextBrick masks across now.old.items now.new.items t) }
+        → IsNextBrick counting across now.old.items now.new.items t) }
     ensures rest { ((t : ℕ) → HasNeighbours across (length now.old.items) t
-        → IsNextBrick masks across before.old.items now.old.items t)
-        → OnOk result (BricksRest masks across now.new.items now.old.items queue.new) }
+        → IsNextBrick counting across before.old.items now.old.items t)
+        → OnOk result (BricksRest counting across now.new.items now.old.items queue.new) }
     ensures grows { OnOk result (QueueGrows across (length now.old.items) queue.old queue.new) }
     ensures edge { HasBlankEdge across before.old.items → OnOk result (HasBlankEdge across now.new.items) }
 {
-    step(across, now, before, awake, queue, masks)?;
+    step(across, now, before, awake, queue, counting)?;
     std::mem::swap(now, before);
     Ok(())
 }
@@ -46,33 +47,60 @@ fn step(
     old: &mut [[u64; 16]],
     awake: &[usize],
     queue: &mut Queue,
-    masks: (u16, u16),
+    counting: Counting,
 ) -> Result<(), Memory>
-    requires { CanStep masks across now.now old.old awake.now }
-    ensures { OnOk result (AreStepped masks across now.now old.old old.new queue.old queue.new) }
+    requires { CanStep counting across now.now old.old awake.now }
+    ensures { OnOk result (AreStepped counting across now.now old.old old.new queue.old queue.new) }
 {
-    if has_two_and_three_alone(masks) {
-        return step_by::<ByTwoAndThree>(across, now, old, awake, queue, masks);
+    match counting.neighbourhood {
+        Neighbourhood::Moore => {
+            step_counted::<EightNeighbours>(across, now, old, awake, queue, counting)
+        }
+        Neighbourhood::VonNeumann => {
+            step_counted::<FourNeighbours>(across, now, old, awake, queue, counting)
+        }
+        Neighbourhood::Hexagonal => {
+            step_counted::<SixNeighbours>(across, now, old, awake, queue, counting)
+        }
     }
-    step_by::<ByAll>(across, now, old, awake, queue, masks)
 }
 
-// The same, where the masks suit how next cells are told.
-fn step_by<N: NextCells>(
+// The same, where the neighbours that are counted are those of the type.
+fn step_counted<C: CountInRow>(
     across: usize,
     now: &[[u64; 16]],
     old: &mut [[u64; 16]],
     awake: &[usize],
     queue: &mut Queue,
-    masks: (u16, u16),
+    counting: Counting,
 ) -> Result<(), Memory>
-    requires can_step { CanStep masks across now.now old.old awake.now }
-    requires suits { N.suits masks }
-    ensures { OnOk result (AreStepped masks across now.now old.old old.new queue.old queue.new) }
+    requires can_step { CanStep counting across now.now old.old awake.now }
+    requires counted { C.counted ≡ counting.neighbourhood }
+    ensures { OnOk result (AreStepped counting across now.now old.old old.new queue.old queue.new) }
 {
-    let cells = N::of(masks);
+    if has_two_and_three_alone(counting) {
+        return step_by::<ByTwoAndThree, C>(across, now, old, awake, queue, counting);
+    }
+    step_by::<ByAll, C>(across, now, old, awake, queue, counting)
+}
+
+// The same, where the counting suits how next cells are told.
+fn step_by<N: NextCells, C: CountInRow>(
+    across: usize,
+    now: &[[u64; 16]],
+    old: &mut [[u64; 16]],
+    awake: &[usize],
+    queue: &mut Queue,
+    counting: Counting,
+) -> Result<(), Memory>
+    requires can_step { CanStep counting across now.now old.old awake.now }
+    requires counted { C.counted ≡ counting.neighbourhood }
+    requires suits { N.suits counting }
+    ensures { OnOk result (AreStepped counting across now.now old.old old.new queue.old queue.new) }
+{
+    let cells = N::of(counting);
     'bricks: for &s in awake {
-        let next = round_of(now, across, s).next(&cells);
+        let next = round_of(now, across, s).next::<N, C>(&cells);
         wake_round(queue, s, across, now.len(), &next, &old[s])?;
         old[s] = next;
     }

@@ -3,12 +3,17 @@
 ghost use Rattle.std.specs.Prelude.{◌≡◌, ◌↔◌, ◌+◌, ◌-◌, ◌*◌, ◌<◌, ◌≤◌, ℕ};
 ghost use Rattle.std.specs.Prelude.{suc, ⊤, IsTrue, ◌==◌, if◌then◌else◌};
 ghost use Rattle.std.specs.Int.{bit_at};
+ghost use Rattle.ca_plane.specs.declared.counting.Counting.{Counting};
+ghost use Rattle.ca_plane.specs.declared.counting.Neighbourhood.{Neighbourhood};
+ghost use Rattle.ca_plane.specs.declared.counting.Neighbourhood.TheVariants.{Moore, VonNeumann, Hexagonal};
 ghost use Rattle.ca_run.specs.inner.Bricks.{wide_bit, pair_at, count_at};
 ghost use Rattle.ca_run.specs.inner.Bricks.{IsWordOfEach, AreWords, HasTwoAndThreeAlone};
-ghost use Rattle.ca_run.specs.inner.Tiles.{next_by_count};
+ghost use Rattle.ca_run.specs.inner.Tiles.{next_by_count, sum_above, sum_beside, sum_below};
 
 use crate::count::Count;
 use crate::kernel::{FEW_OR_MANY, is_in};
+use crate::neighbours::{EightNeighbours, FourNeighbours, SixNeighbours};
+use ca_plane::Counting;
 
 // A number for each cell, up to 3, in binary.
 #[derive(Clone, Copy)]
@@ -17,41 +22,82 @@ pub(super) struct WordPair {
     pub(super) twos: u64,
 }
 
-// For each cell the sum of three cells side by side, and that of the two outer ones.
+// For each cell the sums of its counted neighbours in a row: where that is the row above it, where it is its
+// own, and where it is the row below it.
 #[derive(Clone, Copy)]
 pub(super) struct WordSums {
-    pub(super) three: WordPair,
-    pub(super) two: WordPair,
+    pub(super) above: WordPair,
+    pub(super) beside: WordPair,
+    pub(super) below: WordPair,
 }
 
-impl WordSums {
+// How the counted neighbours of the cells of a brick are added up.
+pub(super) trait CountInRow {
+    // Which neighbours are counted.
+    ghost counted: { Neighbourhood };
+
     // The sums of a row.
+    fn sums(west: u64, row: u64, east: u64) -> WordSums
+        ensures above { (x : ℕ) → x < 64
+            → pair_at result.above x ≡ sum_above counted (wide_bit west row east) x }
+        ensures beside { (x : ℕ) → x < 64 → pair_at result.beside x ≡ sum_beside (wide_bit west row east) x }
+        ensures below { (x : ℕ) → x < 64
+            → pair_at result.below x ≡ sum_below counted (wide_bit west row east) x };
+}
+
+impl CountInRow for EightNeighbours {
+    ghost counted = { Moore };
+
     #[inline(always)]
-    pub(super) fn of(west: u64, row: u64, east: u64) -> WordSums
-        ensures three { (x : ℕ) → x < 64 → pair_at result.three x
-            ≡ wide_bit west row east x + wide_bit west row east (suc x)
-            + wide_bit west row east (suc (suc x)) }
-        ensures two { (x : ℕ) → x < 64 → pair_at result.two x
-            ≡ wide_bit west row east x + wide_bit west row east (suc (suc x)) }
-    {
+    fn sums(west: u64, row: u64, east: u64) -> WordSums {
         let left = west_bits(west, row);
         let right = east_bits(row, east);
+        let three = add3(left, row, right);
         WordSums {
-            three: add3(left, row, right),
-            two: add2(left, right),
+            above: three,
+            beside: add2(left, right),
+            below: three,
         }
     }
 }
 
-// The number of live cells among the eight round each cell of the row in the middle of three.
+impl CountInRow for FourNeighbours {
+    ghost counted = { VonNeumann };
+
+    #[inline(always)]
+    fn sums(west: u64, row: u64, east: u64) -> WordSums {
+        let own = WordPair { ones: row, twos: 0 };
+        WordSums {
+            above: own,
+            beside: add2(west_bits(west, row), east_bits(row, east)),
+            below: own,
+        }
+    }
+}
+
+impl CountInRow for SixNeighbours {
+    ghost counted = { Hexagonal };
+
+    #[inline(always)]
+    fn sums(west: u64, row: u64, east: u64) -> WordSums {
+        let west = west_bits(west, row);
+        let east = east_bits(row, east);
+        WordSums {
+            above: add2(west, row),
+            beside: add2(west, east),
+            below: add2(row, east),
+        }
+    }
+}
+
+// The number of live cells among the counted neighbours of each cell, from their sums in three rows.
 #[inline(always)]
-pub(super) fn neighbours(above: WordSums, here: WordSums, below: WordSums) -> Count<u64>
-    ensures { (x : ℕ) → count_at result x
-        ≡ pair_at above.three x + pair_at here.two x + pair_at below.three x }
+pub(super) fn neighbours(above: WordPair, beside: WordPair, below: WordPair) -> Count<u64>
+    ensures { (x : ℕ) → count_at result x ≡ pair_at above x + pair_at beside x + pair_at below x }
 {
-    let ones = add3(above.three.ones, here.two.ones, below.three.ones);
-    let outer = add2(above.three.twos, below.three.twos);
-    let inner = add2(here.two.twos, ones.twos);
+    let ones = add3(above.ones, beside.ones, below.ones);
+    let outer = add2(above.twos, below.twos);
+    let inner = add2(beside.twos, ones.twos);
     let twos = add2(outer.ones, inner.ones);
     let fours = add3(outer.twos, inner.twos, twos.twos);
     Count {
@@ -135,13 +181,13 @@ struct WordMasks {
 }
 
 impl WordMasks {
-    // The words of the masks.
-    fn of(masks: (u16, u16)) -> WordMasks
-        ensures { AreWords result masks }
+    // The words of the masks of births and survivals.
+    fn of(counting: Counting) -> WordMasks
+        ensures { AreWords result counting }
     {
         WordMasks {
-            born: mask_words(masks.0),
-            stays: mask_words(masks.1),
+            born: mask_words(counting.birth),
+            stays: mask_words(counting.survival),
         }
     }
 
@@ -149,8 +195,8 @@ impl WordMasks {
     #[inline(always)]
     fn next(&self, alive: u64, n: usize) -> u64
         requires { n ≤ 8 }
-        ensures { (masks : ℕ × ℕ) (x : ℕ) → AreWords self.now masks → x < 64
-            → bit_at result x ≡ next_by_count masks.0 masks.1 (bit_at alive x) n }
+        ensures { (counting : Counting) (x : ℕ) → AreWords self.now counting → x < 64
+            → bit_at result x ≡ next_by_count counting.birth counting.survival (bit_at alive x) n }
     {
         select_bits(alive, self.stays[n], self.born[n])
     }
@@ -159,8 +205,8 @@ impl WordMasks {
     #[inline(always)]
     fn next_of_two(&self, alive: u64, ones: u64, n: usize) -> u64
         requires { n ≤ 7 }
-        ensures { (masks : ℕ × ℕ) (x : ℕ) → AreWords self.now masks → x < 64
-            → bit_at result x ≡ next_by_count masks.0 masks.1 (bit_at alive x) (n + bit_at ones x) }
+        ensures { (counting : Counting) (x : ℕ) → AreWords self.now counting → x < 64
+            → bit_at result x ≡ next_by_count counting.birth counting.survival (bit_at alive x) (n + bit_at ones x) }
     {
         select_bits(ones, self.next(alive, n + 1), self.next(alive, n))
     }
@@ -170,8 +216,8 @@ impl WordMasks {
     #[inline(always)]
     fn next_of_four(&self, alive: u64, count: Count<u64>, n: usize) -> u64
         requires { n ≤ 5 }
-        ensures { (masks : ℕ × ℕ) (x : ℕ) → AreWords self.now masks → x < 64
-            → bit_at result x ≡ next_by_count masks.0 masks.1 (bit_at alive x)
+        ensures { (counting : Counting) (x : ℕ) → AreWords self.now counting → x < 64
+            → bit_at result x ≡ next_by_count counting.birth counting.survival (bit_at alive x)
             (n + bit_at count.ones x + 2 * bit_at count.twos x) }
     {
         select_bits(
@@ -195,20 +241,20 @@ fn mask_words(mask: u16) -> [u64; 9]
 
 // How the next states of 64 cells are told.
 pub(super) trait NextCells: Copy {
-    // The masks that it can go by.
-    ghost suits: { ℕ × ℕ → Type 0 };
-    // Whether it goes by the masks.
-    ghost goes_by: { Self → ℕ × ℕ → Type 0 };
+    // The countings that it can go by.
+    ghost suits: { Counting → Type 0 };
+    // Whether it goes by the counting.
+    ghost goes_by: { Self → Counting → Type 0 };
 
-    // That which goes by these masks.
-    fn of(masks: (u16, u16)) -> Self
-        requires { suits masks }
-        ensures { goes_by result masks };
+    // That which goes by this counting.
+    fn of(counting: Counting) -> Self
+        requires { suits counting }
+        ensures { goes_by result counting };
 
     // The next state of each cell, from the number of live cells round it.
     fn next_word(&self, alive: u64, count: Count<u64>) -> u64
-        ensures { (masks : ℕ × ℕ) (x : ℕ) → goes_by self.now masks → x < 64 → count_at count x ≤ 8
-            → bit_at result x ≡ next_by_count masks.0 masks.1 (bit_at alive x) (count_at count x) };
+        ensures { (counting : Counting) (x : ℕ) → goes_by self.now counting → x < 64 → count_at count x ≤ 8
+            → bit_at result x ≡ next_by_count counting.birth counting.survival (bit_at alive x) (count_at count x) };
 }
 
 // By the words for 2 and 3, where no cell is live next by another number.
@@ -220,11 +266,11 @@ pub(super) struct ByTwoAndThree {
 impl NextCells for ByTwoAndThree {
     ghost suits = { HasTwoAndThreeAlone };
 
-    ghost goes_by = { λ by masks. HasTwoAndThreeAlone masks × AreWords by.words masks };
+    ghost goes_by = { λ by counting. HasTwoAndThreeAlone counting × AreWords by.words counting };
 
-    fn of(masks: (u16, u16)) -> ByTwoAndThree {
+    fn of(counting: Counting) -> ByTwoAndThree {
         ByTwoAndThree {
-            words: WordMasks::of(masks),
+            words: WordMasks::of(counting),
         }
     }
 
@@ -241,13 +287,13 @@ pub(super) struct ByAll {
 }
 
 impl NextCells for ByAll {
-    ghost suits = { λ masks. ⊤ };
+    ghost suits = { λ counting. ⊤ };
 
-    ghost goes_by = { λ by masks. AreWords by.words masks };
+    ghost goes_by = { λ by counting. AreWords by.words counting };
 
-    fn of(masks: (u16, u16)) -> ByAll {
+    fn of(counting: Counting) -> ByAll {
         ByAll {
-            words: WordMasks::of(masks),
+            words: WordMasks::of(counting),
         }
     }
 
@@ -261,8 +307,8 @@ impl NextCells for ByAll {
 }
 
 // Whether no cell is live next by another number than 2 and 3.
-pub(super) fn has_two_and_three_alone(masks: (u16, u16)) -> bool
-    ensures { IsTrue result ↔ HasTwoAndThreeAlone masks }
+pub(super) fn has_two_and_three_alone(counting: Counting) -> bool
+    ensures { IsTrue result ↔ HasTwoAndThreeAlone counting }
 {
-    (masks.0 | masks.1) & FEW_OR_MANY == 0
+    (counting.birth | counting.survival) & FEW_OR_MANY == 0
 }

@@ -7,7 +7,7 @@ ghost use Rattle.ca_plane.specs.Limits.{most_generations};
 ghost use Rattle.ca_quad.specs.Trees.{IsTree, cell};
 ghost use Rattle.ca_run.specs.Leaping.{LeaperGrows, EndsAtLimit};
 ghost use Rattle.ca_run.specs.inner.AtCost.{GoesOnAtCost};
-ghost use Rattle.ca_run.specs.Masks.{GoesBy};
+ghost use Rattle.ca_run.specs.Counting.{GoesBy};
 ghost use Rattle.ca_run.specs.inner.Bricks.{WallShows, IsInPlace, LiesNearOrigin, IsAligned};
 ghost use Rattle.ca_run.specs.inner.Dense.{HasReached, IsIdle, IsDense};
 
@@ -15,7 +15,7 @@ use super::Leaper;
 use crate::bricks::{Wall, frame_of};
 use crate::fault::LeapFault;
 use crate::watch::Watch;
-use ca_plane::{Automaton, Memory};
+use ca_plane::{Automaton, Counting, Memory};
 use ca_quad::{Tree, WideBounds};
 use std::alloc::Global;
 
@@ -82,7 +82,7 @@ impl<A: Automaton> Leaper<A> {
             tree: *tree,
             generations: 0,
         };
-        let Some(masks) = self.masks else {
+        let Some(counting) = self.counting else {
             return Ok(reached);
         };
         if n < FEWEST || tree.level < LEAST || !self.memo.is_empty() {
@@ -91,13 +91,13 @@ impl<A: Automaton> Leaper<A> {
         if !self.is_dense(tree)? {
             return Ok(reached);
         }
-        self.step_walls(masks, tree, reached, n, watch)
+        self.step_walls(counting, tree, reached, n, watch)
     }
 
     // What is reached by one wall after another, until few of the bricks of one are stepped.
     fn step_walls<W: Watch>(
         &mut self,
-        masks: (u16, u16),
+        counting: Counting,
         first: &Tree,
         mut reached: ReachedTree,
         n: u64,
@@ -107,7 +107,7 @@ impl<A: Automaton> Leaper<A> {
         requires least { 7 ≤ first.now.level }
         requires many { 32 ≤ n }
         requires time { n ≤ most_generations }
-        requires masks { GoesBy (A.next_of self.old.rule) masks }
+        requires counting { GoesBy (A.next_of self.old.rule) counting }
         requires reached { HasReached (A.next_of self.old.rule)
             self.old.nodes first.now n self.old.nodes reached }
         ensures reached { IfOk result (HasReached (A.next_of self.old.rule)
@@ -119,7 +119,7 @@ impl<A: Automaton> Leaper<A> {
         let _ = &self.store;
         let mut most = 0;
         'walls: for _ in 0..MOST_WALLS {
-            let Some(stretch) = self.step_wall(masks, first, &reached, n, watch)? else {
+            let Some(stretch) = self.step_wall(counting, first, &reached, n, watch)? else {
                 return Ok(reached);
             };
             let Stretch {
@@ -157,7 +157,7 @@ impl<A: Automaton> Leaper<A> {
     // What is reached by one wall more, where the plane is not too large.
     fn step_wall<W: Watch>(
         &mut self,
-        masks: (u16, u16),
+        counting: Counting,
         first: &Tree,
         reached: &ReachedTree,
         n: u64,
@@ -166,7 +166,7 @@ impl<A: Automaton> Leaper<A> {
         requires first { IsTree self.old.nodes first.now }
         requires least { 7 ≤ first.now.level }
         requires time { n ≤ most_generations }
-        requires masks { GoesBy (A.next_of self.old.rule) masks }
+        requires counting { GoesBy (A.next_of self.old.rule) counting }
         requires reached { HasReached (A.next_of self.old.rule)
             self.old.nodes first.now n self.old.nodes reached.now }
         ensures reached { IfOk result (λ found. IfSome found (λ stretch. HasReached (A.next_of self.old.rule)
@@ -184,7 +184,7 @@ impl<A: Automaton> Leaper<A> {
         if reach > first.level + MOST_GROWTH {
             return Ok(None);
         }
-        let later = self.later_wall(wall, masks, left, first, reached.generations, watch)?;
+        let later = self.later_wall(wall, counting, left, first, reached.generations, watch)?;
         let tree = self.tree_of(&later, reach)?;
         let tree = self.trim(tree)?;
         Ok(Some(Stretch {
@@ -202,13 +202,13 @@ impl<A: Automaton> Leaper<A> {
     fn later_wall<W: Watch>(
         &mut self,
         wall: Wall,
-        masks: (u16, u16),
+        counting: Counting,
         generations: u64,
         first: &Tree,
         reached: u64,
         watch: &mut W,
     ) -> Result<Wall, LeapFault>
-        requires masks { GoesBy (A.next_of self.old.rule) masks }
+        requires counting { GoesBy (A.next_of self.old.rule) counting }
         requires shows { WallShows wall generations
             (cells_after (A.next_of self.old.rule) (cell self.old.nodes first.now) reached) }
         requires room { wall.across + length wall.bricks.items < 2 ^ 63 }
@@ -229,7 +229,7 @@ impl<A: Automaton> Leaper<A> {
         let mut spent = self.work;
         let later = wall.later(
             alloc,
-            masks,
+            counting,
             generations,
             self,
             first,

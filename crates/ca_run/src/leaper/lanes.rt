@@ -20,21 +20,21 @@ pub(super) enum CentreWords {
 // A square's grain is the level of its sixteen parts: its own level is that and 2.
 impl<A: Automaton> Leaper<A> {
     // The words of a square's centre after 2^j generations: of 16 by 16 or of 32 by 32 cells, none of them
-    // above 1, where the rule has masks.
+    // above 1, where the rule goes by a counting.
     pub(super) fn centre_words(&self, id: Id, grain: u8, j: u8) -> Option<CentreWords>
         requires { HasCentre self.now.nodes id grain j }
         ensures { IfSome result (ShowsCentre (A.next_of self.now.rule) self.now.nodes id grain j) }
     {
-        let masks = self.masks()?;
+        let counting = self.counting()?;
         match grain {
             2 => {
                 let words = self.words(id)?;
-                Some(CentreWords::One(words.centre(masks, leap_length(j))))
+                Some(CentreWords::One(words.centre(counting, leap_length(j))))
             }
             3 => {
                 let wide = self.wide_square(id)?;
                 let (first, more) = split_leap(j);
-                Some(CentreWords::Four(wide.centre(masks, first, more)))
+                Some(CentreWords::Four(wide.centre(counting, first, more)))
             }
             _ => None,
         }

@@ -3,10 +3,12 @@
 ghost use Rattle.std.specs.Prelude.{◌≡◌, ℕ, ◌/◌, ◌%◌, ◌<◌, ℤ, pos, ◌+ℤ◌, List, length, slice_index};
 ghost use Rattle.ca_plane.specs.Generations.{cells_after};
 ghost use Rattle.ca_run.specs.inner.Words.{WordShows, WordsShow, TileShows, word_bytes_at};
-ghost use Rattle.ca_run.specs.Masks.{GoesBy};
+ghost use Rattle.ca_run.specs.Counting.{GoesBy};
 
 use super::words::Words;
-use crate::kernel::{Bits, next_tile};
+use crate::kernel::{Bits, CountInTile, next_tile};
+use crate::neighbours::{EightNeighbours, FourNeighbours, SixNeighbours};
+use ca_plane::{Counting, Neighbourhood};
 use std::simd::prelude::*;
 
 // The tile of a square.
@@ -30,16 +32,29 @@ fn bytes_of(north: u64, south: u64) -> u16x16
     u64x2::from_array([north, south]).to_le_bytes().cast()
 }
 
-// The tile so many generations on, as far from its edge as they reach. The rule goes by these masks.
+// The tile so many generations on, as far from its edge as they reach. The rule goes by this counting.
 #[inline(always)]
-pub(super) fn later_tile(tile: Bits, masks: (u16, u16), n: u8) -> Bits
-    ensures { (next : List ℕ → ℕ) (p : ℤ → ℤ → ℕ) (a b : ℤ) → GoesBy next masks → TileShows tile.rows 0 p a b
-        → TileShows result.rows n (cells_after next p n) a b }
+pub(super) fn later_tile(tile: Bits, counting: Counting, n: u8) -> Bits
+    ensures { (next : List ℕ → ℕ) (p : ℤ → ℤ → ℕ) (a b : ℤ) → GoesBy next counting
+        → TileShows tile.rows 0 p a b → TileShows result.rows n (cells_after next p n) a b }
 {
-    let (birth, survive) = masks;
+    match counting.neighbourhood {
+        Neighbourhood::Moore => later_counted::<EightNeighbours>(tile, counting, n),
+        Neighbourhood::VonNeumann => later_counted::<FourNeighbours>(tile, counting, n),
+        Neighbourhood::Hexagonal => later_counted::<SixNeighbours>(tile, counting, n),
+    }
+}
+
+// The same, where the neighbours that are counted are those of the type.
+#[inline(always)]
+fn later_counted<C: CountInTile>(tile: Bits, counting: Counting, n: u8) -> Bits
+    requires { C.counted ≡ counting.neighbourhood }
+    ensures { (next : List ℕ → ℕ) (p : ℤ → ℤ → ℕ) (a b : ℤ) → GoesBy next counting
+        → TileShows tile.rows 0 p a b → TileShows result.rows n (cells_after next p n) a b }
+{
     let mut now = tile;
     'generations: for _ in 0..n {
-        now = next_tile(now, birth, survive);
+        now = next_tile::<C>(now, counting);
     }
     now
 }

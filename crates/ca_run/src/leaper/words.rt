@@ -3,9 +3,10 @@
 ghost use Rattle.std.specs.Prelude.{ℕ, ◌≤◌, ℤ, pos, ◌+ℤ◌, List};
 ghost use Rattle.ca_plane.specs.Generations.{cells_after};
 ghost use Rattle.ca_run.specs.inner.Words.{WordShows, WordsShow};
-ghost use Rattle.ca_run.specs.Masks.{GoesBy};
+ghost use Rattle.ca_run.specs.Counting.{GoesBy};
 
 use super::tile::{later_tile, middle, tile_of};
+use ca_plane::Counting;
 
 /// The four quarters of a square of 16 by 16 cells: bit `8 * y + x` of each is its cell at (x, y).
 #[derive(Clone, Copy, Drop, PartialEq, Eq)]
@@ -17,13 +18,13 @@ pub(crate) struct Words {
 }
 
 impl Words {
-    // The 8 by 8 cells in the middle, so many generations on, at most 4. The rule goes by these masks.
-    pub(super) fn centre(&self, masks: (u16, u16), n: u8) -> u64
+    // The 8 by 8 cells in the middle, so many generations on, at most 4. The rule goes by this counting.
+    pub(super) fn centre(&self, counting: Counting, n: u8) -> u64
         requires { n ≤ 4 }
-        ensures { (next : List ℕ → ℕ) (p : ℤ → ℤ → ℕ) (a b : ℤ) → GoesBy next masks → WordsShow self.now p a b
+        ensures { (next : List ℕ → ℕ) (p : ℤ → ℤ → ℕ) (a b : ℤ) → GoesBy next counting → WordsShow self.now p a b
             → WordShows result (cells_after next p n) (a +ℤ pos 4) (b +ℤ pos 4) }
     {
-        middle(&later_tile(tile_of(self), masks, n).rows.to_array())
+        middle(&later_tile(tile_of(self), counting, n).rows.to_array())
     }
 
     // The square in the middle between two that lie side by side.

@@ -15,7 +15,7 @@ returns-clause-rest c = λ is_next t has not_in.
     let same : IsSameRound c.args.across before.items c.swap.new.x.items t =
     subst (λ l. IsSameRound c.args.across before.items l t) (sym items)
     (subst (λ l. IsSameRound c.args.across l c.step.new.old t) c.deref_mut.ensures.value (c.in_ok-step.ensures.same t inside not_in)) in
-    next_again c.args.masks c.args.across before.items c.swap.new.x.items c.args.now.now.items t (is_next t has_now) same
+    next_again c.args.counting c.args.across before.items c.swap.new.x.items c.args.now.now.items t (is_next t has_now) same
 
 pub returns-clause-edge : goal.returns-clause-edge
 returns-clause-edge c = λ blank t outer.

@@ -25,8 +25,8 @@ bricks-preserved g c =
     let inside : HasNeighbours c.args.across (length now) s = c.requires.can_step.inside k c.bricks-test.true in
     let long : s < length mid = omega (arith, inside.behind, inv.size) in
     record {
-      next = next_more c.args.masks c.args.across now mid c.args.awake.now k s (length now) rows long refl
-          (next_of_round c.args.masks c.args.across now s c.round_of.result rows c.round_of.ensures (λ x y. c.next-next.ensures c.args.masks x y c.of-cells.ensures)) inv.next;
+      next = next_more c.args.counting c.args.across now mid c.args.awake.now k s (length now) rows long refl
+          (next_of_round c.args.counting c.args.across now s c.round_of.result rows c.round_of.ensures (λ x y. c.next-next.ensures c.args.counting x y c.of-cells.ensures c.requires.counted)) inv.next;
       same = λ t has not_in.
           same_again c.args.across _ mid _ t (inv.same t has (c.in_ok-wake_round.ensures.grows.not_in t not_in))
           (same_where_unseen c.args.across s mid rows long t (c.in_ok-wake_round.ensures.unseen t has not_in));

@@ -7,7 +7,7 @@ use Rattle.ca_run.proofs.leaper.Leaper.later_wall.Goals as goal
 
 pub later-later-requires-clause-begins : goal.later-later-requires-clause-begins
 later-later-requires-clause-begins g c = record {
-  by_masks = c.requires.masks;
+  by_counting = c.requires.counting;
   quiet = subst (λ l. g.A.Automaton.next_of l.rule (replicate 9 0) ≡ 0) c.self.view_is (g.met.A.Automaton.quiet c.self.inside.rule c.self.invariant.rule);
   shows = c.requires.shows;
   room = c.requires.room;

@@ -58,7 +58,7 @@ generations-preserved g c =
     let has_old = λ (t : ℕ) (has : HasNeighbours across (length new) t). subst (λ n. HasNeighbours across n t) made.size has in
     let p = cell c.args.leaper.now.nodes c.args.first.now in
     record {
-      shows = wall_later (g.A.Automaton.next_of c.args.leaper.now.rule) c.args.masks begins.by_masks begins.quiet c.generations.self _ c.args.n k c.args.reached p (omega (arith, c.generations-test.true))
+      shows = wall_later (g.A.Automaton.next_of c.args.leaper.now.rule) c.args.counting begins.by_counting begins.quiet c.generations.self _ c.args.n k c.args.reached p (omega (arith, c.generations-test.true))
           inv.shows (record { x = refl; y = refl; across = refl; down = refl }) made.size made.next (made.edge inv.edge_before);
       place = record { x = inv.place.x; y = inv.place.y; across = inv.place.across; down = inv.place.down };
       count = made.size ∙ inv.count;
@@ -67,10 +67,10 @@ generations-preserved g c =
           (λ _. subst (λ n. AllHaveNeighbours across n c.generations.awake.items) (sym made.size) inv.inside)
           (λ _. subst (λ n. AllHaveNeighbours across n c.generation.new.queue) (sym made.size) (queue_inside across (length old) c.generations.queue c.generation.new.queue inv.empty made.grows));
       empty = c.wake_next.ensures.empty;
-      rest = by_first (BricksRest c.args.masks across new before) (nat_eq k 0) _ _ _ c.wake_next.ensures.awake
+      rest = by_first (BricksRest c.args.counting across new before) (nat_eq k 0) _ _ _ c.wake_next.ensures.awake
           (λ e t has not_in. absurd (inv.all (grind (arith, nat_tests, e)) t (has_old t has) not_in))
-          (λ e. subst (λ l. BricksRest c.args.masks across new l c.generation.new.queue) (sym made.before) (made.rest (inv.next (grind (arith, nat_tests, e)))));
-      next = λ _ t has. subst (λ l. IsNextBrick c.args.masks across l new t) (sym made.before) (made.next t (has_old t has));
+          (λ e. subst (λ l. BricksRest c.args.counting across new l c.generation.new.queue) (sym made.before) (made.rest (inv.next (grind (arith, nat_tests, e)))));
+      next = λ _ t has. subst (λ l. IsNextBrick c.args.counting across l new t) (sym made.before) (made.next t (has_old t has));
       edge = made.edge inv.edge_before;
       edge_before = subst (λ l. HasBlankEdge across l) (sym made.before) inv.edge;
       all = λ e. absurd (omega (arith, e));
@@ -115,7 +115,7 @@ with_wall-requires g c =
     let begins = c.requires.begins in
     let inv = c.generations.invariant in
     let made = c.in_ok-generation.ensures in
-    wall_seen (g.A.Automaton.next_of c.args.leaper.now.rule) c.args.masks begins.by_masks begins.quiet c.generations.self _ c.args.n c.generations.k c.args.reached
+    wall_seen (g.A.Automaton.next_of c.args.leaper.now.rule) c.args.counting begins.by_counting begins.quiet c.generations.self _ c.args.n c.generations.k c.args.reached
     (cell c.args.leaper.now.nodes c.args.first.now) (omega (arith, c.generations-test.true)) inv.shows (record { x = refl; y = refl; across = refl; down = refl }) made.size made.next (made.edge inv.edge_before)
 
 pub returns-clause-shows : goal.returns-clause-shows

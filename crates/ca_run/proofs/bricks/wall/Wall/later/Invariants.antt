@@ -14,8 +14,8 @@ invariant-generations g l = record {
   size : length l.before.items ≡ length l.self.bricks.items;
   inside : AllHaveNeighbours l.self.across (length l.self.bricks.items) l.awake.items;
   empty : l.queue ≡ [];
-  rest : BricksRest l.fn.masks l.self.across l.self.bricks.items l.before.items l.awake.items;
-  next : 1 ≤ l.k → (t : ℕ) → HasNeighbours l.self.across (length l.self.bricks.items) t → IsNextBrick l.fn.masks l.self.across l.before.items l.self.bricks.items t;
+  rest : BricksRest l.fn.counting l.self.across l.self.bricks.items l.before.items l.awake.items;
+  next : 1 ≤ l.k → (t : ℕ) → HasNeighbours l.self.across (length l.self.bricks.items) t → IsNextBrick l.fn.counting l.self.across l.before.items l.self.bricks.items t;
   edge : HasBlankEdge l.self.across l.self.bricks.items;
   edge_before : HasBlankEdge l.self.across l.before.items;
   all : l.k ≡ 0 → (t : ℕ) → HasNeighbours l.self.across (length l.self.bricks.items) t → IsNotIn l.awake.items t → ⊥;

@@ -4,4 +4,4 @@ use Rattle.ca_run.proofs.BrickBits.{words_tell}
 use Rattle.ca_run.proofs.bricks.word.WordMasks.next.Goals as goal
 
 pub returns : goal.returns
-returns c = λ masks x are h. c.select_bits.ensures x ∙ words_tell c.args.self.now masks (bit_at c.args.alive x) c.args.n x are c.requires h
+returns c = λ counting x are h. c.select_bits.ensures x ∙ words_tell c.args.self.now counting (bit_at c.args.alive x) c.args.n x are c.requires h

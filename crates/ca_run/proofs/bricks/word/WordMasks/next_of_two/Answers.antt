@@ -6,8 +6,8 @@ use Rattle.ca_run.proofs.BrickBits.{told_by_bit}
 use Rattle.ca_run.proofs.bricks.word.WordMasks.next_of_two.Goals as goal
 
 pub returns : goal.returns
-returns c = λ masks x are h.
+returns c = λ counting x are h.
     let n = c.args.n in
     let one = bit_at c.args.ones x in
-    told_by_bit (next_by_count masks.0 masks.1 (bit_at c.args.alive x)) one n (n + 1) (n + one) _ _ _ (bit_at-lt c.args.ones x) (c.select_bits.ensures x)
-    (c.next-2.ensures masks x are h) (c.next.ensures masks x are h) (λ e. omega (arith, e)) (λ e. omega (arith, e))
+    told_by_bit (next_by_count counting.birth counting.survival (bit_at c.args.alive x)) one n (n + 1) (n + one) _ _ _ (bit_at-lt c.args.ones x) (c.select_bits.ensures x)
+    (c.next-2.ensures counting x are h) (c.next.ensures counting x are h) (λ e. omega (arith, e)) (λ e. omega (arith, e))
