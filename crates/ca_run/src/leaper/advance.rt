@@ -80,15 +80,19 @@ impl<A: Automaton> Leaper<A> {
         self.set_room(if long { room } else { usize::MAX });
         match self.leap_on(first, &mut reached, n, watch) {
             Ok(()) => Ok(reached.tree),
-            Err(LeapFault::Memory) if long && is_much(self.store.count().saturating_sub(squares)) =>
-                {
-                    let end = self.leap_apart(first, reached, squares, n, watch);
-                    // No more than can be counted.
-                    let _used = self.used();
-                    end
-                }
+            Err(LeapFault::Memory) if long && self.has_much_beyond(squares) => {
+                let end = self.leap_apart(first, reached, squares, n, watch);
+                // No more than can be counted.
+                let _used = self.used();
+                end
+            }
             Err(fault) => Err(fault),
         }
+    }
+
+    // Whether there are so many more squares than these that it helps to leave them behind.
+    fn has_much_beyond(&self, squares: usize) -> bool {
+        is_much(self.store.count().saturating_sub(squares))
     }
 
     // Goes on from what was reached of n generations, by a leap for each binary digit of those that are left.
