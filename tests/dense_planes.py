@@ -1,7 +1,7 @@
 #!/usr/bin/env -S python3 -B
-"""What dense planes become, beside the naive steps of lib/rows.py: soups under rules of few and of many counts, by fewer and more generations than are stepped
-at a time, at borders of bricks, in all quarters of the plane and at its far ends; planes at rest that gliders wake, and such as never rest; soups that die; and
-large soups.
+"""What dense planes become, beside the naive steps of lib/rows.py: soups under rules of few and of many counts, of eight neighbours, four and six, by fewer and
+more generations than are stepped at a time, at borders of bricks, in all quarters of the plane and at its far ends; planes at rest that gliders wake, and such
+as never rest; soups that die; large soups; and how many cells Golly tells of soups under rules that count four neighbours and six.
 
 Each plane is claimed to become what it does, which is true, and the same with one cell changed, where the verdict has to name that cell.
 """
@@ -75,7 +75,18 @@ NEAR = ((370, 0), (-20, -380))
 
 # Soups of as many columns and rows, and the generations that they go.
 LARGE = (("B3/S23", 700, 700, (64, 65)), ("B3/S23", 700, 700, (321,)), ("B36/S23", 512, 512, (200,)), ("B3678/S34678", 700, 700, (64, 129)),
-         ("B2/S013V", 700, 700, (99,)), ("B2/S2H", 700, 700, (99,)), ("B2/S", 700, 700, (65,)), ("B3/S23", 5000, 20, (129,)), ("B3/S23", 20, 5000, (129,)), ("B3/S012345678", 640, 640, (99,)))
+         ("B2/S", 700, 700, (65,)), ("B3/S23", 5000, 20, (129,)), ("B3/S23", 20, 5000, (129,)), ("B3/S012345678", 640, 640, (99,)),
+         ("B2/S013V", 700, 700, (99,)), ("B2/S2H", 700, 700, (99,)))
+
+# What bgolly 3.3 tells by QuickLife of soups of 100 by 100 cells: the rule, the generations, the live cells, and the columns and rows that they take.
+GOLLY = (
+    ("B13/S012V", 33, 13530, 166, 166), ("B13/S012V", 64, 22650, 228, 228), ("B13/S012V", 500, 337074, 1100, 1100),
+    ("B2/S013V", 33, 3812, 100, 100), ("B2/S013V", 64, 3281, 100, 100), ("B2/S013V", 500, 1813, 100, 100),
+    ("B23/S23V", 33, 6268, 100, 100), ("B23/S23V", 64, 6345, 100, 100), ("B23/S23V", 500, 6480, 100, 100),
+    ("B2/S2H", 33, 3698, 123, 121), ("B2/S2H", 64, 4306, 131, 141), ("B2/S2H", 500, 21636, 324, 327),
+    ("B24/S34H", 33, 6193, 122, 119), ("B24/S34H", 64, 7025, 132, 133), ("B24/S34H", 500, 28074, 285, 274),
+    ("B3/S23", 33, 1699, 120, 116), ("B3/S23", 64, 1425, 127, 128), ("B3/S23", 500, 1406, 295, 250),
+)
 
 # Rules under which soups of as many cells a side die.
 DEADLY = (("B3/S", 100), ("B35/S", 100), ("B678/S5678", 100), ("B5678/S5678", 100), ("B35678/S5678", 33), ("B35678/S5678", 60), ("B35678/S5678", 54),
@@ -269,10 +280,20 @@ def try_large(tally, files):
         text.judge(tally, f"{wide} by {high} cells, {rule}, from {before.population()} live cells to {later.population()}")
 
 
+def try_golly(tally, files):
+    """Soups of 100 by 100 cells have as many live cells as Golly tells, and these take as many columns and rows."""
+    for rule, count, population, wide, high in GOLLY:
+        path = files.path("golly.rle", rows.text_of(rule, rows.soup(random.Random(100), 100, 100)))
+        came = run(["show", "--after", str(count), path]).printed.decode().splitlines()
+        told = [*(line.split() for line in came if line.startswith(("cells", "box")))]
+        wanted = [["cells", str(population)], [str(wide), str(high)]]
+        tally.tell(f"as Golly: {rule} by {count}", [] if told and [told[0], told[-1][-2:]] == wanted else [f"wanted {wanted}, got {came}"])
+
+
 def main():
     tally = Tally()
     with tempfile.TemporaryDirectory() as folder:
-        for it in (try_rules, try_places, try_rest, try_busy, try_waking, try_gliders, try_deaths, try_apart, try_large):
+        for it in (try_rules, try_places, try_rest, try_busy, try_waking, try_gliders, try_deaths, try_apart, try_large, try_golly):
             it(tally, Folder(folder))
     tally.finish()
 

@@ -49,12 +49,13 @@ pub(crate) fn next_tile<C: CountInTile>(alive: Bits, counting: Counting) -> Bits
     requires { C.counted ≡ counting.neighbourhood }
     ensures { IsCountedTile counting alive.rows result.rows }
 {
-    next_bits(alive, C::count(alive), counting.birth, counting.survival)
+    next_bits::<C>(alive, C::count(alive), counting.birth, counting.survival)
 }
 
-// The next state of each cell, from the number of live cells among its counted neighbours.
+// The next state of each cell, from the number of live cells among its counted neighbours. It is made for each
+// way to count, as that is called from one place alone, and so stands in its loop.
 #[inline(always)]
-fn next_bits(alive: Bits, count: Count<Bits>, birth: u16, survive: u16) -> Bits
+fn next_bits<C: CountInTile>(alive: Bits, count: Count<Bits>, birth: u16, survive: u16) -> Bits
     ensures { (x y : ℕ) → x < 16 → y < 16 → number count x y ≤ 8
         → row_cells result.rows x y
         ≡ next_by_count birth survive (row_cells alive.rows x y) (number count x y) }

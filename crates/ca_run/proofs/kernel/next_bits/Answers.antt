@@ -6,7 +6,7 @@ use Rattle.ca_run.proofs.NextStates.{told_decided, next_by_count-lt, all_told, f
 use Rattle.ca_run.proofs.kernel.next_bits.Goals as goal
 
 pub returns-then-birth-survive-eq0 : goal.returns-then-birth-survive-eq0
-returns-then-birth-survive-eq0 c = λ x y h k most.
+returns-then-birth-survive-eq0 g c = λ x y h k most.
     let count = c.args.count in
     few_told c.args.birth c.args.survive (row_cells c.args.alive.rows x y)
     (row_cells count.ones.rows x y) (row_cells count.twos.rows x y) (row_cells count.fours.rows x y) (row_cells count.eights.rows x y) (number count x y)
@@ -15,7 +15,7 @@ returns-then-birth-survive-eq0 c = λ x y h k most.
     (c.all-none.ensures x y h k) (c.and_not-two_or_three.ensures x y) (c.with_pair-next.ensures x y)
 
 pub returns : goal.returns
-returns c = λ x y h k most.
+returns g c = λ x y h k most.
     let count = c.args.count in
     let centre = row_cells c.args.alive.rows x y in
     all_told (next_by_count c.args.birth c.args.survive centre) (next_by_count-lt c.args.birth c.args.survive centre)

@@ -126,3 +126,8 @@ returns-clause-shows g c =
     let time : c.args.reached + c.generations.k ≡ c.args.reached + c.args.n = omega (arith, all) in
     wall_less c.generations.self (c.args.n - c.generations.k) 0 (cells_after next p (c.args.reached + c.args.n)) (omega arith)
     (subst (λ r. WallShows c.generations.self (c.args.n - c.generations.k) (cells_after next p r)) time c.generations.invariant.shows)
+
+pub generation-requires-clause-rest : goal.generation-requires-clause-rest
+generation-requires-clause-rest g c =
+    let wall = c.generations.self in
+    subst (BricksRest c.args.counting wall.across wall.bricks.items c.generations.before.items) (sym c.deref-in-generations.ensures.value) c.generations.invariant.rest
