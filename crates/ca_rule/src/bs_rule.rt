@@ -109,7 +109,6 @@ impl Automaton for BsRule {
     }
 
     /// Its birth and survival counts as masks, and which neighbours it counts.
-    #[tactic(auto, using(crate::proofs::RuleMasks::goes_by_counting))]
     fn counting(&self) -> Option<Counting>
         ensures goes_by { IfSome result
             (GoesByCounting 2 (bs_next self.now.hood self.now.birth self.now.survival)) }
