@@ -170,9 +170,8 @@ million squares`. It is wiped before the verdict's line is printed. --progress s
 is no terminal.
 
 --memo N gives each claim's memo N entries. An entry is one result, or up to 64 results at full leap of squares
-with neighbouring numbers; a quarter of the entries, and a sixteenth more under B/S rules that count all eight
-neighbours, is kept for results that are found quickly and may be dropped. A smaller memo takes less memory, and a
-claim may take longer, and more work.
+with neighbouring numbers; a quarter of the entries, and a sixteenth more under B/S rules, is kept for results that
+are found quickly and may be dropped. A smaller memo takes less memory, and a claim may take longer, and more work.
 
 --work N refuses a claim that needs more than N units of work: `line 2: refused, work`. A unit is the centre of
 one square after some generations that wasn't remembered, or one brick of 64 by 16 cells of a dense plane, one
