@@ -1,5 +1,5 @@
 -- Sums of the counted neighbours of a cell.
-use Rattle.std.proofs.Common.{◌≡◌, ℕ, suc, ◌+◌, ◌<◌, ◌≤◌, List, [], ◌∷◌, sym, ap, ◌∙◌, arith}
+use Rattle.std.proofs.Common.{◌≡◌, ℕ, suc, ◌<◌, ◌≤◌, List, [], ◌∷◌, sym, ap, ◌∙◌, arith}
 use Rattle.ca_plane.specs.Counting.{counted_sum}
 use Rattle.ca_plane.specs.declared.counting.Neighbourhood.{Neighbourhood}
 use Rattle.ca_plane.specs.declared.counting.Neighbourhood.TheVariants.{Moore, VonNeumann, Hexagonal}

@@ -130,11 +130,21 @@ impl<A: Automaton> Leaper<A> {
             reached = next;
             most = work.max(most);
             let least = (most / 4).max(bricks / MOST_RESTING);
-            if work < least {
+            if work < least || self.are_alike(&reached.tree, work)? {
                 return Ok(reached);
             }
         }
         Ok(reached)
+    }
+
+    // Whether so many bricks of a tree's plane, which were stepped in a generation, are likely copies of few: where each is
+    // unlike the others, the tree has several squares for each.
+    fn are_alike(&self, tree: &Tree, bricks: u64) -> Result<bool, Memory>
+        requires { IsTree self.now.nodes tree.now }
+    {
+        let alloc = self.recent_centres.allocator();
+        let squares = self.store.looked_at(alloc, *tree)?;
+        Ok((squares as u64) < bricks)
     }
 
     // Whether the squares of a tree hardly repeat: in a box of squares of 16 by 16 cells that are all unlike

@@ -67,3 +67,9 @@ returns-then-work-least-clause-costs g c =
 pub returns-clause-costs : goal.returns-clause-costs
 returns-clause-costs g c =
     walls_done c.args.first.now c.args.n c.walls.counter c.requires.least c.requires.many (omega (arith, c.walls.auto.counter-end)) c.walls.invariant.costs
+
+pub returns-in_err-are_alike-clause-costs : goal.returns-in_err-are_alike-clause-costs
+returns-in_err-are_alike-clause-costs g c =
+    let i = c.walls.counter in
+    walls_done c.args.first.now c.args.n (i + 1) c.requires.least c.requires.many (omega (arith, c.walls-test.true))
+    (wall_more c.args.first.now i c.walls.invariant.costs c.in_ok-stretch.ensures.at_cost.costs)
