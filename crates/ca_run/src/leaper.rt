@@ -301,8 +301,8 @@ impl<A: Automaton> Leaper<A> {
     }
 }
 
-// How many of a memo's entries are slots for results that cost little, which rules that go by a counting alone have, and how
-// many for those by the parts of squares, which spare most looks into the store.
+// How many of a memo's entries are slots for results that cost little, which only rules that go by a counting
+// have, and how many for those by the parts of squares, which spare most looks into the store.
 fn table_slots(memo: usize, by_counting: bool) -> (usize, usize)
     ensures { result.0 + result.1 ≤ memo / 2 }
 {
