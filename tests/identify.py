@@ -1,6 +1,7 @@
 #!/usr/bin/env -S python3 -B
 """`identify`: the claim text that it prints, of files whose claims are known, of soups that are run here, and of all files of examples/, whose text is proved by
 `verify`; how far patterns grow of which no claim is true; names, paths and rule files; files that are refused; and how far it looks, with a limit and while patience lasts."""
+import math
 import os
 import random
 import re
@@ -191,6 +192,34 @@ def try_long_periods(tally, files):
         tally.expect(f"a period of {period}", run(words), whole(f"rule {rule}\n{entry('turns', path, f'oscillator {period}')}"))
         none = none_within(period - 1, len(cells), 3 * len(cells) - 2, 1)
         tally.expect(f"a limit of {period - 1}", run([*words[:4], "--limit", str(period - 1)]), whole(f"rule {rule}\n{entry('turns', path, none)}"))
+
+
+def turning(lengths, goes):
+    """A rule by which cells go through states of their own in turn, as many as told for each, and its cells, one above the other, which are back together after the
+    product of these numbers, where no two have a common divisor. The cells stay where they are, or go one place to the east each generation."""
+    first, lines, cells = 1, [], {}
+    for at, length in enumerate(lengths):
+        states = range(first, first + length)
+        lines += [f"0,0,0,0,{state},{first + (state + 1 - first) % length}" if goes else f"{state},0,0,0,0,{first + (state + 1 - first) % length}" for state in states]
+        lines += [f"{state},0,0,0,0,0" for state in states if goes]
+        cells[0, 3 * at] = first
+        first += length
+    return f"@RULE Turns\n@TABLE\nn_states:{first}\nneighborhood:vonNeumann\nsymmetries:none\n" + "\n".join([*lines, ""]), cells, first
+
+
+def try_late_returns(tally, files):
+    """Oscillators and spaceships that are back late: a generation or three after the first 512, one before and one after as many again, and much later; as far as
+    their period, and as far as the generation before it."""
+    for goes in (False, True):
+        for lengths in ((19, 27), (5, 103), (11, 93), (25, 41), (39, 40, 41)):
+            period = math.prod(lengths)
+            text, cells, states = turning(lengths, goes)
+            rule = files.path(f"turns_{period}.rule", text.replace("Turns", f"Turns_{period}"))
+            path = files.path(f"turns_{period}.rle", rle.tidy(cells, f"Turns_{period}", 0, states))
+            told = f"spaceship {period} {period} 0" if goes else f"oscillator {period}"
+            none = none_within(period - 1, len(cells), 1, 3 * len(cells) - 2)
+            for words, what in (((), told), (("--limit", str(period)), told), (("--limit", str(period - 1)), none)):
+                tally.expect(f"{told} {words}", run(["identify", path, "--rule", rule, *words]), whole(f"rule {rule}\n{entry(f'turns_{period}', path, what)}"))
 
 
 def try_limits(tally):
@@ -551,7 +580,7 @@ def main():
     try_known(tally)
     try_true_claims(tally)
     try_limits(tally)
-    for trial in (try_squares, try_patience, try_growth, try_many_squares, try_long_periods, try_after, try_all, try_names, try_odd_paths, try_refused, try_rules, try_given_rule, try_many):
+    for trial in (try_squares, try_patience, try_growth, try_many_squares, try_long_periods, try_late_returns, try_after, try_all, try_names, try_odd_paths, try_refused, try_rules, try_given_rule, try_many):
         with tempfile.TemporaryDirectory() as folder:
             trial(tally, Folder(folder))
     tally.finish()

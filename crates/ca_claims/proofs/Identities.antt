@@ -1,5 +1,5 @@
 -- Which claims are true of pictures, by what their planes show after one generation after the other.
-use Rattle.std.proofs.Common.{◌≡◌, ◌≢◌, ℕ, zero, suc, ◌+◌, ◌≤◌, ◌<◌, List, [], Result, sym, subst, ◌∙◌, arith}
+use Rattle.std.proofs.Common.{◌≡◌, ◌≢◌, ℕ, zero, suc, ◌+◌, ◌-◌, ◌≤◌, ◌<◌, List, [], Result, sym, subst, ◌∙◌, arith}
 use Rattle.std.specs.Prelude.{ℤ, pos, ◌-ℤ◌, replicate, IfOk}
 use Rattle.std.proofs.lemmas.Int.{ints}
 use Rattle.ca_plane.specs.Plane.{Picture, shifted, IsLive}
@@ -23,7 +23,7 @@ use Rattle.ca_claims.specs.declared.scope.Scope.{Scope}
 use Rattle.ca_claims.specs.Identified.{IsIdentity, IsTrueWithin, HasNoTrueClaim, IsLook, MayNeedWork}
 use Rattle.ca_plane.specs.Limits.{longest_period}
 use Rattle.ca_claims.specs.Truth.{IsChanged, IsNowhere, IsLiveAfter}
-use Rattle.ca_claims.specs.inner.Stages.{IsFirst, IsStage, IsReturn, IsLaterTree, IsGrowthOf, AreMoved, AreMovedNowhere, AreOtherUpTo, IsEnding, HasNoReturn, TakesSearch}
+use Rattle.ca_claims.specs.inner.Stages.{IsFirst, IsStage, IsReturn, IsLaterTree, IsGrowthOf, AreMoved, AreMovedNowhere, AreOtherUpTo, IsFirstAgain, IsEnding, HasNoReturn, TakesSearch}
 use Rattle.ca_claims.specs.inner.Subjects.{ShowsTree, HasLive}
 use Rattle.ca_claims.proofs.Deaths.{live_at_all}
 use Rattle.ca_claims.proofs.LaterPlanes.{tree_picture}
@@ -173,6 +173,14 @@ module _ (next : List ℕ → ℕ) (quiet : next (replicate 9 0) ≡ 0) (nodes :
               (changes p (cells_after next p m) near (start_near next p m quiet is.start.within (omega (arith, before, less, short))) (others m some (omega (arith, before))).1);
           nowhere = λ m some before. picture_nowhere next p cells shows m (others m some (omega (arith, before))).1;
         }
+
+  -- where it is the pattern, moved, after some generations for the first time, it is back then for the first time
+  pub found_again : (n limit : ℕ) (dx dy : ℤ) → n ≤ limit → limit ≤ longest_period → IsFirstAgain next p n dx dy → IsReturn next cells n dx dy
+  found_again n limit dx dy within short again =
+      let some = again.some in
+      let last : n - 1 + 1 ≡ n = omega (arith, some) in
+      subst (λ k. IsReturn next cells k dx dy) last
+      (found_return (n - 1) again.before limit (omega (arith, some, within)) short dx dy (subst (λ k. AreMoved p (cells_after next p k) dx dy) (sym last) again.moved))
 
 -- ---- a plane some generations on
 

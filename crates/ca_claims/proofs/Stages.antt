@@ -24,7 +24,7 @@ use Rattle.ca_claims.specs.declared.identification.stage.Stage.{Stage}
 use Rattle.ca_claims.specs.declared.identification.walk.Walk.{Walk}
 use Rattle.ca_claims.specs.declared.identification.stage.Stage.TheVariants.{Empty, Back, Other}
 use Rattle.ca_claims.specs.inner.Spending.{Takes}
-use Rattle.ca_claims.specs.inner.Stages.{IsWithinPlane, IsStart, CanGoOn, IsFirst, AreMoved, AreMovedNowhere, IsStage, IsLaterTree, AreOtherUpTo, IsWalk, IsHalted, TakesSteps, TakesSearch, TakesSearchFrom, TakesRun, TakesRunAndSearch, step_work, leap_work}
+use Rattle.ca_claims.specs.inner.Stages.{IsWithinPlane, IsStart, CanGoOn, IsFirst, AreMoved, AreMovedNowhere, IsStage, IsLaterTree, AreOtherUpTo, IsWalk, IsHalted, TakesSteps, TakesSearch, TakesSearchFrom, TakesEarly, TakesRun, TakesRunAndSearch, step_work, early_work, leap_work}
 use Rattle.ca_claims.proofs.Corners.{live_after}
 use Rattle.ca_claims.proofs.CellsNearMiddle.{live_near, trimmed_low}
 use Rattle.ca_claims.proofs.LeaptTrees.{near_stays}
@@ -258,18 +258,24 @@ steps_as old new stages others limit n same takes level some holds = takes level
 three_parts : (a b c x : ℕ) → (a + b + c) * x ≡ a * x + b * x + c * x
 three_parts a b c x = omega arith
 
--- a search from where some steps were taken: the other ones of the first steps, leaps and strides, and the steps that are left
-pub whole_search : (old mid leapt new : ℕ) (stages : ℕ → ℤ → ℤ → ℕ) (begun early limit : ℕ) → begun ≤ early → early ≤ limit → TakesSteps old mid stages early (early - begun)
-    → leapt ≤ mid + leap_work limit + leap_work limit
-    → TakesSteps leapt new stages limit (limit - early) → TakesSearchFrom old new stages begun limit
-whole_search old mid leapt new stages begun early limit later few first leaps rest level some holds =
+-- the first step, unless it was taken before, and what the early ones may take
+pub step_then_early : (old mid new : ℕ) (stages : ℕ → ℤ → ℤ → ℕ) (begun limit : ℕ) → 1 ≤ limit → TakesSteps old mid stages 1 (1 - begun) → new ≤ mid + early_work limit → TakesEarly old new stages begun limit
+step_then_early old mid new stages begun limit more takes early level some holds =
+    let first = takes level some (λ m less. holds m (omega (arith, less, more))) in
+    omega (arith, first, early)
+
+-- a search from where no more than one step was taken: the first one, the early ones, leaps and strides, and the steps that are left
+pub whole_search : (old mid leapt new : ℕ) (stages : ℕ → ℤ → ℤ → ℕ) (begun limit : ℕ) → begun ≤ 1 → 1 ≤ limit → TakesEarly old mid stages begun limit
+    → leapt ≤ mid + early_work limit + leap_work limit + leap_work limit
+    → TakesSteps leapt new stages limit (limit - 1) → TakesSearchFrom old new stages begun limit
+whole_search old mid leapt new stages begun limit begins more early leaps rest level some holds =
     let x = 14 ^ (level + 2) in
-    let started = first level some (λ m less. holds m (omega (arith, less, few))) in
+    let started = early level some holds in
     let ended = rest level some holds in
-    let all : begun + (early - begun) + (limit - early) ≡ limit = omega (arith, few, later) in
-    let parts = three_parts begun (early - begun) (limit - early) (13 * x) in
-    let both : limit * (13 * x) ≡ begun * (13 * x) + (early - begun) * (13 * x) + (limit - early) * (13 * x) =
-    subst (λ n. n * (13 * x) ≡ begun * (13 * x) + (early - begun) * (13 * x) + (limit - early) * (13 * x)) all parts in
+    let all : begun + (1 - begun) + (limit - 1) ≡ limit = omega (arith, begins, more) in
+    let parts = three_parts begun (1 - begun) (limit - 1) (13 * x) in
+    let both : limit * (13 * x) ≡ begun * (13 * x) + (1 - begun) * (13 * x) + (limit - 1) * (13 * x) =
+    subst (λ n. n * (13 * x) ≡ begun * (13 * x) + (1 - begun) * (13 * x) + (limit - 1) * (13 * x)) all parts in
     let power = power_more 3 (level + 2) (omega (arith, some)) in
     let share : limit * 14 ^ 3 ≤ limit * x = mul-le-mul_left limit power in
     let up : 14 ^ (level + 3) ≡ 14 * x = power_next (level + 2) (level + 3) (omega arith) in
@@ -279,10 +285,14 @@ whole_search old mid leapt new stages begun early limit later few first leaps re
     power_next : (g h : ℕ) → h ≡ suc g → 14 ^ h ≡ 14 * 14 ^ g
     power_next g h e = subst (λ k. 14 ^ k ≡ 14 * 14 ^ g) (sym e) (power_suc g)
 
--- its first steps alone
-pub early_search : (old new : ℕ) (stages : ℕ → ℤ → ℤ → ℕ) (begun early limit : ℕ) → begun ≤ early → early ≤ limit → TakesSteps old new stages early (early - begun) → TakesSearchFrom old new stages begun limit
-early_search old new stages begun early limit later few takes =
-    whole_search old new new new stages begun early limit later few takes (omega arith) (no_step new new stages limit (limit - early) refl)
+-- its early ones alone
+pub early_search : (old new : ℕ) (stages : ℕ → ℤ → ℤ → ℕ) (begun limit : ℕ) → begun ≤ 1 → 1 ≤ limit → TakesEarly old new stages begun limit → TakesSearchFrom old new stages begun limit
+early_search old new stages begun limit begins more takes =
+    whole_search old new new new stages begun limit begins more takes (omega arith) (no_step new new stages limit (limit - 1) refl)
+
+-- its first step alone
+pub first_search : (old new : ℕ) (stages : ℕ → ℤ → ℤ → ℕ) (begun limit : ℕ) → begun ≤ 1 → 1 ≤ limit → TakesSteps old new stages 1 (1 - begun) → TakesSearchFrom old new stages begun limit
+first_search old new stages begun limit begins more takes = early_search old new stages begun limit begins more (step_then_early old new new stages begun limit more takes (omega arith))
 
 -- where steps were taken before is of no account
 pub search_alone : (old new : ℕ) (stages : ℕ → ℤ → ℤ → ℕ) (begun limit : ℕ) → TakesSearchFrom old new stages begun limit → TakesSearch old new stages limit

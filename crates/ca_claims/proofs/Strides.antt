@@ -20,7 +20,7 @@ use Rattle.ca_run.proofs.Returning.{settles_alike}
 use Rattle.ca_claims.specs.declared.identification.stage.First.{First}
 use Rattle.ca_claims.specs.declared.identification.stage.Stage.TheVariants.{Other}
 use Rattle.ca_claims.specs.declared.identification.strides.Stride.{Stride}
-use Rattle.ca_claims.specs.declared.identification.strides.Stride.TheVariants.{On, Never, Perhaps}
+use Rattle.ca_claims.specs.declared.identification.strides.Stride.TheVariants.{On, Again, Never, Dead}
 use Rattle.ca_claims.specs.inner.Stages.{CanGoOn, IsLaterTree, AreMoved, AreMovedNowhere, AreOtherUpTo, IsEarly, AreEarly, IsStride}
 use Rattle.ca_claims.specs.inner.Subjects.{HasLive}
 use Rattle.ca_claims.proofs.Identities.{picture_moved, picture_nowhere}
@@ -49,16 +49,17 @@ module _ (next : List ℕ → ℕ) (p : ℤ → ℤ → ℕ) where
           | inr found ↦ found
         ]
 
-    -- where a plane is live, and none of the first planes, moved, as many of these as it is generations later, none between was dead or the first one, moved
-    pub stride_others : (n end : ℕ) → AreOtherUpTo next p n → HasLive (cells_after next p end)
-        → ((j : ℕ) → j < end - n → AreMovedNowhere (cells_after next p j) (cells_after next p end)) → AreOtherUpTo next p end
-    stride_others n end others live nowhere = λ m some within.
-        let sum : end ≡ m + (end - m) = omega (arith, within) in
+    -- where a plane is live, and none of the first planes, moved, from some number on, of as many as it is generations later, none was dead or the first one,
+    -- moved, up to that many generations before
+    pub stride_others : (n end last : ℕ) → last ≤ end → AreOtherUpTo next p n → HasLive (cells_after next p end)
+        → ((j : ℕ) → j < end - n → end - last ≤ j → AreMovedNowhere (cells_after next p j) (cells_after next p end)) → AreOtherUpTo next p last
+    stride_others n end last short others live nowhere = λ m some within.
+        let sum : end ≡ m + (end - m) = omega (arith, within, short) in
         elim (below_or_not n m) [
           | inr early ↦ others m some early
           | inl late ↦ (
             lived m (end - m) (subst (λ k. HasLive (cells_after next p k)) sum live),
-            λ dx dy moved. nowhere (end - m) (omega (arith, late, within)) dx dy
+            λ dx dy moved. nowhere (end - m) (omega (arith, late, within, short)) (omega (arith, within)) dx dy
                 (subst (λ k. AreMoved (cells_after next p (end - m)) (cells_after next p k) dx dy) (sym sum) (moved_on m (end - m) dx dy moved)),
           )
         ]
@@ -167,5 +168,13 @@ stride_as next p q n nodes same (On tree) told = (
   later_as next p q n nodes tree same told.0,
   λ m some within. stage_as p (cells_after next p m) q (cells_after next q m) same (λ x y. after_same next p q m same x y) Other (told.1 m some within),
 )
+stride_as next p q n nodes same (Again m dx dy) told = (
+  told.0,
+  record {
+    some = told.1.some;
+    before = λ k some within. stage_as p (cells_after next p k) q (cells_after next q k) same (λ x y. after_same next p q k same x y) Other (told.1.before k some within);
+    moved = moved_as p (cells_after next p m) q (cells_after next q m) same (λ x y. after_same next p q m same x y) dx dy told.1.moved;
+  },
+)
 stride_as next p q n nodes same Never told = λ m some. nowhere_as p (cells_after next p m) q (cells_after next q m) same (λ x y. after_same next p q m same x y) (told m some)
-stride_as next p q n nodes same Perhaps told = tt
+stride_as next p q n nodes same Dead told = λ x y. sym (after_same next p q n same x y) ∙ told x y

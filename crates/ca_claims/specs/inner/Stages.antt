@@ -1,5 +1,5 @@
 -- What a live pattern's plane shows some generations on, and what work it takes to see it.
-use Rattle.std.specs.Prelude.{◌≡◌, ℕ, ◌+◌, ◌*◌, ◌^◌, ◌≤◌, ◌<◌, ℤ, List, Some, slice_get}
+use Rattle.std.specs.Prelude.{◌≡◌, ℕ, ◌+◌, ◌-◌, ◌*◌, ◌^◌, ◌≤◌, ◌<◌, ℤ, List, Some, slice_get}
 use Rattle.ca_plane.specs.declared.point.Bounds.{Bounds}
 use Rattle.ca_plane.specs.Plane.{Picture, IsLive, shifted}
 use Rattle.ca_plane.specs.Generations.{cells_after, IsAfter}
@@ -17,7 +17,7 @@ use Rattle.ca_claims.specs.declared.identification.stage.First.{First}
 use Rattle.ca_claims.specs.declared.identification.stage.Stage.{Stage}
 use Rattle.ca_claims.specs.declared.identification.stage.Stage.TheVariants.{Empty, Back, Other}
 use Rattle.ca_claims.specs.declared.identification.strides.Stride.{Stride}
-use Rattle.ca_claims.specs.declared.identification.strides.Stride.TheVariants.{On, Never, Perhaps}
+use Rattle.ca_claims.specs.declared.identification.strides.Stride.TheVariants.{On, Again, Never, Dead}
 use Rattle.ca_claims.specs.declared.identification.walk.Walk.{Walk}
 use Rattle.ca_claims.specs.declared.identity.Growth.{Growth}
 use Rattle.ca_claims.specs.Identified.{IsGrowth, run_work}
@@ -111,8 +111,12 @@ step_work level = 13 * 14 ^ (level + 2)
 abbrev pub TakesSteps : (old new : ℕ) → (stages : ℕ → ℤ → ℤ → ℕ) → (limit n : ℕ) → Type 0
 TakesSteps old new stages limit n = (level : ℕ) → 1 ≤ level → ((m : ℕ) → m < limit → HoldsAll level (stages m)) → new ≤ old + n * step_work level
 
--- what leaps may take of the work of a search, and strides once more: together no more than what is left of a tree of level 1, the lowest, where each step
--- takes its most
+-- what the generations that are looked at first, one by one, may take of the work of a search, but the first of all; and their planes once more
+abbrev pub early_work : (limit : ℕ) → ℕ
+early_work limit = limit * 256
+
+-- what leaps may take of it, and strides once more: together, with the early generations, no more than what is left of a tree of level 1, the lowest, where
+-- each step takes its most
 abbrev pub leap_work : (limit : ℕ) → ℕ
 leap_work limit = limit * 1024
 
@@ -125,6 +129,11 @@ TakesSearch old new stages limit = (level : ℕ) → 1 ≤ level → ((m : ℕ) 
 abbrev pub TakesSearchFrom : (old new : ℕ) → (stages : ℕ → ℤ → ℤ → ℕ) → (begun limit : ℕ) → Type 0
 TakesSearchFrom old new stages begun limit =
     (level : ℕ) → 1 ≤ level → ((m : ℕ) → m < limit → HoldsAll level (stages m)) → new + begun * step_work level ≤ old + limit * 14 ^ (level + 3)
+
+-- from the old count of work to the new one it is at most the first step, if so many steps weren't taken before, and then what early generations may take
+abbrev pub TakesEarly : (old new : ℕ) → (stages : ℕ → ℤ → ℤ → ℕ) → (begun limit : ℕ) → Type 0
+TakesEarly old new stages begun limit =
+    (level : ℕ) → 1 ≤ level → ((m : ℕ) → m < limit → HoldsAll level (stages m)) → new ≤ old + (1 - begun) * step_work level + early_work limit
 
 -- from the old count of work to the new one it is at most a run of n generations of a tree of this level
 abbrev pub TakesRun : (old new level n : ℕ) → Type 0
@@ -195,9 +204,21 @@ AreEarly next first nodes planes = (k : ℕ) (plane : First) → slice_get plane
 abbrev pub IsMovedFromPlane : List Node → List First → (ℤ → ℤ → ℕ) → ℕ → Type 0
 IsMovedFromPlane nodes planes later k = (plane : First) × (slice_get planes k ≡ Some plane) × (dx : ℤ) × (dy : ℤ) × AreMoved (cell nodes plane.tree) later dx dy
 
+-- the same, and of no later one of the planes
+abbrev pub IsLastMovedFrom : List Node → List First → (ℤ → ℤ → ℕ) → ℕ → Type 0
+IsLastMovedFrom nodes planes later k = IsMovedFromPlane nodes planes later k
+    × ((j : ℕ) (plane : First) → k < j → slice_get planes j ≡ Some plane → AreMovedNowhere (cell nodes plane.tree) later)
+
+-- after these generations, for the first time, the first cells are there again, moved by this vector, and they weren't dead before
+pub record IsFirstAgain (next : List ℕ → ℕ) (first : ℤ → ℤ → ℕ) (n : ℕ) (dx dy : ℤ) : Type 0 where
+  pub some : 1 ≤ n
+  pub before : AreOtherUpTo next first (n - 1)
+  pub moved : AreMoved first (cells_after next first n) dx dy
+
 -- what a stride up to n generations shows: after none of these the plane is dead, or the first cells are there again, moved, and the tree is that of
--- the last one; or they are there again at no time; or nothing
+-- the last one; or they are there again, after one of them for the first time; or they are at no time; or the plane is dead at last
 abbrev pub IsStride : (List ℕ → ℕ) → (ℤ → ℤ → ℕ) → (n : ℕ) → List Node → Stride → Type 0
 IsStride next first n nodes (On tree) = IsLaterTree next first n nodes tree × AreOtherUpTo next first n
+IsStride next first n nodes (Again m dx dy) = (m ≤ n) × IsFirstAgain next first m dx dy
 IsStride next first n nodes Never = (m : ℕ) → 1 ≤ m → AreMovedNowhere first (cells_after next first m)
-IsStride next first n nodes Perhaps = Unit {0}
+IsStride next first n nodes Dead = IsDead (cells_after next first n)

@@ -1,9 +1,9 @@
 //! How a pattern's plane is looked at by strides of many generations. Where the pattern is back within one, the
-//! plane at the stride's end is one of the first planes, moved: so one leap and some comparisons stand for a look
-//! at each of its generations.
+//! plane at the stride's end is one of the first planes, moved, and which one tells when it is back: so one leap, or
+//! two, and some comparisons stand for a look at each of its generations.
 
 ghost use Rattle.std.specs.Prelude.{◌≡◌, ◌+◌, ◌≤◌, ◌<◌, ℕ, length, slice_get, Some, IfOk, IfSome, OnOk};
-ghost use Rattle.std.specs.Prelude.{IsFalse, MatchOption};
+ghost use Rattle.std.specs.Prelude.{MatchOption};
 ghost use Rattle.ca_plane.specs.Plane.{Picture};
 ghost use Rattle.ca_plane.specs.Generations.{cells_after};
 ghost use Rattle.ca_plane.specs.Limits.{longest_period};
@@ -11,27 +11,25 @@ ghost use Rattle.ca_quad.specs.Boxes.{AreSquareBoxes};
 ghost use Rattle.ca_quad.specs.Trees.{cell};
 ghost use Rattle.ca_run.specs.Leaping.{LeaperGrows, EndsAtLimit};
 ghost use Rattle.ca_claims.specs.Identified.{IsIdentity};
-ghost use Rattle.ca_claims.specs.declared.identity.Identity.TheVariants.{Unknown};
 ghost use Rattle.ca_claims.specs.declared.identification.stage.First.{First};
-ghost use Rattle.ca_claims.specs.inner.Stages.{IsFirst, AreEarly, AreMovedNowhere, IsMovedFromPlane};
-ghost use Rattle.ca_claims.specs.inner.Stages.{IsStride, IsWalk, leap_work};
+ghost use Rattle.ca_claims.specs.inner.Stages.{IsFirst, AreEarly, AreMovedNowhere, IsLastMovedFrom, IsStage};
+ghost use Rattle.ca_claims.specs.inner.Stages.{IsStride, IsWalk, HasNoReturn, leap_work};
 ghost use Rattle.ca_claims.specs.inner.Subjects.{IsNearTree, HasLive, ShowsTree};
 
-use super::early::early_planes;
+use super::ending::{Ending, identity_of};
 use super::later::later_tree;
 use super::leaps::growth_after;
 use super::stage::{First, Stage, stage_of};
 use super::walk::Walk;
 use crate::decide::is_dead;
-use crate::identity::Growth;
+use crate::identity::Identity;
 use crate::observer::Observer;
 use ca_plane::Automaton;
 use ca_quad::{SquareBoxes, Tree};
 use ca_run::{LeapFault, Leaper, Unwatched};
 use std::alloc::Global;
 
-// How many units of work strides may take for each generation up to the limit. They take no more than half of what
-// is left.
+// How many units of work strides may take for each generation up to the limit.
 const SHARE: u64 = 1024;
 
 /// What a stride shows.
@@ -39,31 +37,35 @@ const SHARE: u64 = 1024;
 pub(super) enum Stride {
     /// The tree at its end: after none of its generations the plane was dead, or the pattern there again.
     On(Tree),
+    /// The pattern is there again, after so many generations for the first time, moved by this vector.
+    Again { generations: u64, dx: i64, dy: i64 },
     /// The pattern is there again at no time.
     Never,
-    /// After some of its generations it may be, or the plane may be dead.
-    Perhaps,
+    /// The plane is dead at its end.
+    Dead,
 }
 
-/// Goes on from where a walk is by strides, as far as these show that the pattern isn't back and the plane isn't
-/// dead, and a share of the work is enough for them. Where they show that the pattern is never back, it gives how far
-/// the plane has grown after as many generations as the limit.
-pub(super) fn growth_by_strides<A: Automaton, O: Observer>(
+/// Goes on from where a walk is by strides, each of as many generations as there are first planes, as far as the plane
+/// isn't dead and a share of the work is enough for them.
+/// Where they show that the pattern is back, or that it never is, it gives what the pattern is.
+pub(super) fn identity_by_strides<A: Automaton, O: Observer>(
     alloc: Global,
     leaper: &mut Leaper<A>,
     first: &First,
+    early: &[First],
     walk: &mut Walk,
     limit: u64,
     observer: &mut O,
-) -> Result<Option<Growth>, LeapFault>
+) -> Result<Option<Identity>, LeapFault>
     requires first { IsFirst leaper.old.nodes first.now }
+    requires early { AreEarly (A.next_of leaper.old.rule) (cell leaper.old.nodes first.now.tree)
+        leaper.old.nodes early.now }
     requires walk { IsWalk (A.next_of leaper.old.rule) (cell leaper.old.nodes first.now.tree)
         leaper.old.nodes walk.old }
     requires within { walk.old.generations ≤ limit }
     requires most { limit ≤ longest_period }
-    ensures growth { (cells : Picture) → ShowsTree leaper.old.nodes first.now.tree cells
-        → IfOk result (λ found. IfSome found
-        (λ growth. IsIdentity (A.next_of leaper.old.rule) cells limit (Unknown growth))) }
+    ensures identity { (cells : Picture) → ShowsTree leaper.old.nodes first.now.tree cells
+        → IfOk result (λ found. IfSome found (IsIdentity (A.next_of leaper.old.rule) cells limit)) }
     ensures walk { IsWalk (A.next_of leaper.old.rule) (cell leaper.old.nodes first.now.tree)
         leaper.new.nodes walk.new }
     ensures begun { walk.old.generations ≤ walk.new.generations }
@@ -76,11 +78,11 @@ pub(super) fn growth_by_strides<A: Automaton, O: Observer>(
     let _ = leaper.store();
     let most = leaper.work_limit();
     let used = leaper.used();
-    let share = (limit * SHARE).min((most - used) / 2);
+    let share = (limit * SHARE).min(most - used);
     leaper.limit_work(used + share);
-    let grown = stride_on(alloc, leaper, first, walk, limit, observer);
+    let found = stride_on(alloc, leaper, first, early, walk, limit, observer);
     leaper.limit_work(most);
-    match grown {
+    match found {
         Err(LeapFault::Work) => Ok(None),
         other => other,
     }
@@ -91,18 +93,20 @@ fn stride_on<A: Automaton, O: Observer>(
     alloc: Global,
     leaper: &mut Leaper<A>,
     first: &First,
+    early: &[First],
     walk: &mut Walk,
     limit: u64,
     observer: &mut O,
-) -> Result<Option<Growth>, LeapFault>
+) -> Result<Option<Identity>, LeapFault>
     requires first { IsFirst leaper.old.nodes first.now }
+    requires early { AreEarly (A.next_of leaper.old.rule) (cell leaper.old.nodes first.now.tree)
+        leaper.old.nodes early.now }
     requires walk { IsWalk (A.next_of leaper.old.rule) (cell leaper.old.nodes first.now.tree)
         leaper.old.nodes walk.old }
     requires within { walk.old.generations ≤ limit }
     requires most { limit ≤ longest_period }
-    ensures growth { (cells : Picture) → ShowsTree leaper.old.nodes first.now.tree cells
-        → IfOk result (λ found. IfSome found
-        (λ growth. IsIdentity (A.next_of leaper.old.rule) cells limit (Unknown growth))) }
+    ensures identity { (cells : Picture) → ShowsTree leaper.old.nodes first.now.tree cells
+        → IfOk result (λ found. IfSome found (IsIdentity (A.next_of leaper.old.rule) cells limit)) }
     ensures walk { IsWalk (A.next_of leaper.old.rule) (cell leaper.old.nodes first.now.tree)
         leaper.new.nodes walk.new }
     ensures begun { walk.old.generations ≤ walk.new.generations }
@@ -111,7 +115,6 @@ fn stride_on<A: Automaton, O: Observer>(
 {
     // Says what holds of every leaper.
     let _ = leaper.store();
-    let early = early_planes(alloc, leaper, first, walk.generations)?;
     if early.is_empty() {
         return Ok(None);
     }
@@ -119,16 +122,48 @@ fn stride_on<A: Automaton, O: Observer>(
     'strides: while walk.generations < limit {
         let end = (walk.generations + early.len() as u64).min(limit);
         observer.goes_to(end);
-        match stride_to(alloc, leaper, first, &early, walk, end, &mut boxes)? {
+        match stride_to(alloc, leaper, first, early, walk, end, &mut boxes)? {
             Stride::On(tree) => {
                 walk.tree = tree;
                 walk.generations = end;
             }
-            Stride::Never => return growth_after(alloc, leaper, first, limit),
-            Stride::Perhaps => return Ok(None),
+            Stride::Again {
+                generations,
+                dx,
+                dy,
+            } => {
+                return Ok(Some(identity_of(Ending::Return {
+                    generations,
+                    dx,
+                    dy,
+                })));
+            }
+            Stride::Never => return unknown_after(alloc, leaper, first, limit),
+            Stride::Dead => return Ok(None),
         }
     }
     Ok(None)
+}
+
+// What a pattern is that isn't back up to the limit, if its plane isn't dead then.
+fn unknown_after<A: Automaton>(
+    alloc: Global,
+    leaper: &mut Leaper<A>,
+    first: &First,
+    limit: u64,
+) -> Result<Option<Identity>, LeapFault>
+    requires first { IsFirst leaper.old.nodes first.now }
+    requires most { limit ≤ longest_period }
+    ensures identity { (cells : Picture) → ShowsTree leaper.old.nodes first.now.tree cells
+        → HasNoReturn (A.next_of leaper.old.rule) cells limit
+        → IfOk result (λ found. IfSome found (IsIdentity (A.next_of leaper.old.rule) cells limit)) }
+    ensures goes_on { LeaperGrows A leaper.old leaper.new }
+{
+    let grown = growth_after(alloc, leaper, first, limit)?;
+    match grown {
+        Some(growth) => Ok(Some(Identity::Unknown { growth })),
+        None => Ok(None),
+    }
 }
 
 // What a stride from where a walk is shows, of no more generations than there are first planes.
@@ -160,18 +195,26 @@ fn stride_to<A: Automaton>(
     let steps = end - walk.generations;
     let later = later_tree(leaper, walk.tree, steps, &mut Unwatched)?;
     if is_dead(leaper.store(), &later) {
-        return Ok(Stride::Perhaps);
+        return Ok(Stride::Dead);
     }
     let Some(before) = plane_before(alloc, leaper, &early[..steps as usize], &later, boxes)? else {
         return Ok(Stride::On(later));
     };
-    if may_be_back(alloc, leaper, first, end - before as u64, boxes)? {
-        return Ok(Stride::Perhaps);
+    let generations = end - before as u64;
+    let stage = stage_after(alloc, leaper, first, walk, generations, boxes)?;
+    match stage {
+        Stage::Back { dx, dy } => Ok(Stride::Again {
+            generations,
+            dx,
+            dy,
+        }),
+        Stage::Other => Ok(Stride::Never),
+        Stage::Empty => unreachable!(),
     }
-    Ok(Stride::Never)
 }
 
-// By which of some planes, counted from 0, a live tree's plane is that plane, moved, if it is one of them.
+// The number of the last of some planes, counted from 0, of which a live tree's plane is that plane, moved, if it is
+// one of them.
 fn plane_before<A: Automaton>(
     alloc: Global,
     leaper: &mut Leaper<A>,
@@ -186,44 +229,49 @@ fn plane_before<A: Automaton>(
     ensures before { IfOk result (λ found. MatchOption found
         ((k : ℕ) (plane : First) → slice_get early.now k ≡ Some plane
         → AreMovedNowhere (cell leaper.old.nodes plane.tree) (cell leaper.old.nodes later.now))
-        (IsMovedFromPlane leaper.old.nodes early.now (cell leaper.old.nodes later.now))) }
+        (IsLastMovedFrom leaper.old.nodes early.now (cell leaper.old.nodes later.now))) }
     ensures boxes { OnOk result (AreSquareBoxes leaper.new.nodes boxes.new) }
     ensures goes_on { LeaperGrows A leaper.old leaper.new }
 {
     // Says what holds of every leaper.
     let _ = leaper.store();
-    'planes: for index in 0..early.len() {
+    let mut left = early.len();
+    'planes: while left > 0 {
+        let index = left - 1;
         match stage_of(alloc, leaper, &early[index], later, boxes)? {
             Stage::Other => {}
             Stage::Back { .. } => return Ok(Some(index)),
             Stage::Empty => unreachable!(),
         }
+        left = index;
     }
     Ok(None)
 }
 
-// Whether a pattern may be back after so many generations: where not, it isn't.
-fn may_be_back<A: Automaton>(
+// What the plane shows of the pattern after so many generations, from where a walk is.
+fn stage_after<A: Automaton>(
     alloc: Global,
     leaper: &mut Leaper<A>,
     first: &First,
+    walk: &Walk,
     generations: u64,
     boxes: &mut SquareBoxes,
-) -> Result<bool, LeapFault>
+) -> Result<Stage, LeapFault>
     requires first { IsFirst leaper.old.nodes first.now }
+    requires walk { IsWalk (A.next_of leaper.old.rule) (cell leaper.old.nodes first.now.tree)
+        leaper.old.nodes walk.now }
+    requires from { walk.now.generations ≤ generations }
     requires few { generations ≤ longest_period }
     requires boxes { AreSquareBoxes leaper.old.nodes boxes.old }
-    ensures nowhere { IfOk result (λ back. IsFalse back
-        → AreMovedNowhere (cell leaper.old.nodes first.now.tree)
+    ensures stage { IfOk result (IsStage (cell leaper.old.nodes first.now.tree)
         (cells_after (A.next_of leaper.old.rule) (cell leaper.old.nodes first.now.tree) generations)) }
     ensures boxes { OnOk result (AreSquareBoxes leaper.new.nodes boxes.new) }
     ensures goes_on { LeaperGrows A leaper.old leaper.new }
 {
     // Says what holds of every leaper.
     let _ = leaper.store();
-    let tree = later_tree(leaper, first.tree, generations, &mut Unwatched)?;
-    match stage_of(alloc, leaper, first, &tree, boxes)? {
-        Stage::Other => Ok(false),
-        Stage::Empty | Stage::Back { .. } => Ok(true),
-    }
+    let steps = generations - walk.generations;
+    let tree = later_tree(leaper, walk.tree, steps, &mut Unwatched)?;
+    let stage = stage_of(alloc, leaper, first, &tree, boxes)?;
+    Ok(stage)
 }

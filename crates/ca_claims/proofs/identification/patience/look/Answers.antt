@@ -13,7 +13,7 @@ use Rattle.ca_claims.specs.inner.Subjects.{HasLive}
 use Rattle.ca_claims.proofs.Identities.{last_live, found_none, whole_look, search_needs}
 use Rattle.ca_claims.proofs.LeaptTrees.{shows_stays}
 use Rattle.ca_claims.proofs.Starts.{start_is_low}
-use Rattle.ca_claims.proofs.Stages.{first_walk, first_stays, walk_as, halted_as, early_search, search_alone, search_as, step_then_search}
+use Rattle.ca_claims.proofs.Stages.{first_walk, first_stays, walk_as, halted_as, first_search, search_alone, search_as, step_then_search}
 use Rattle.ca_claims.proofs.identification.patience.look.Goals as goal
 use Rattle.ca_claims.proofs.identification.patience.look.Goals.{In_ok-soon, In_default-found}
 
@@ -38,13 +38,13 @@ look_on-requires-clause-walk g c =
 pub returns-in_err-soon-clause-takes : goal.returns-in_err-soon-clause-takes
 returns-in_err-soon-clause-takes g c =
     search_alone _ _ (cells_after (g.A.Automaton.next_of c.args.leaper.now.rule) (cell c.args.leaper.now.nodes c.args.first.tree)) c.from-walk.result.generations c.args.scope.limit
-    (early_search _ _ (cells_after (g.A.Automaton.next_of c.args.leaper.now.rule) (cell c.args.leaper.now.nodes c.args.first.tree)) c.from-walk.result.generations 1 c.args.scope.limit
+    (first_search _ _ (cells_after (g.A.Automaton.next_of c.args.leaper.now.rule) (cell c.args.leaper.now.nodes c.args.first.tree)) c.from-walk.result.generations c.args.scope.limit
     (omega (arith, c.from-walk.ensures.generations)) c.requires.some c.in_err-soon.ensures.takes)
 
 pub returns-in-Some-soon-clause-takes : goal.returns-in-Some-soon-clause-takes
 returns-in-Some-soon-clause-takes g c =
     search_alone _ _ (cells_after (g.A.Automaton.next_of c.args.leaper.now.rule) (cell c.args.leaper.now.nodes c.args.first.tree)) c.from-walk.result.generations c.args.scope.limit
-    (early_search _ _ (cells_after (g.A.Automaton.next_of c.args.leaper.now.rule) (cell c.args.leaper.now.nodes c.args.first.tree)) c.from-walk.result.generations 1 c.args.scope.limit
+    (first_search _ _ (cells_after (g.A.Automaton.next_of c.args.leaper.now.rule) (cell c.args.leaper.now.nodes c.args.first.tree)) c.from-walk.result.generations c.args.scope.limit
     (omega (arith, c.from-walk.ensures.generations)) c.requires.some c.in_ok-soon.ensures.takes)
 
 pub returns-in-Some-soon-clause-look : goal.returns-in-Some-soon-clause-look

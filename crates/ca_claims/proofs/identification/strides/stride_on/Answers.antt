@@ -1,37 +1,26 @@
-use Rattle.std.proofs.Common.{ℕ, List, sym, subst, arith}
+use Rattle.std.proofs.Common.{rules, ℕ, ◌≤◌, List, sym, subst, arith, w64, SFits, to_z, of_z}
 use Rattle.std.specs.Prelude.{ℤ, IfOk, IfSome}
+use Rattle.std.proofs.lemmas.Int.{to_z-of_z}
 use Rattle.ca_quad.specs.Trees.{cell}
 use Rattle.ca_quad.proofs.Measures.{boxes_stay}
 use Rattle.ca_quad.proofs.Trims.{trees_stay}
 use Rattle.ca_run.specs.Leaping.{LeaperGrows}
+use Rattle.ca_run.proofs.Leap.{goes_on_same}
 use Rattle.ca_run.proofs.ShownPlanes.{goes_on_again}
-use Rattle.ca_claims.specs.declared.identity.Identity.TheVariants.{Unknown}
 use Rattle.ca_claims.specs.Identified.{IsIdentity}
-use Rattle.ca_claims.specs.declared.identification.stage.First.{First}
-use Rattle.ca_claims.specs.inner.Stages.{IsWalk, AreEarly, IsStride, HasNoReturn}
-use Rattle.ca_claims.proofs.Identities.{picture_nowhere}
+use Rattle.ca_claims.specs.inner.Stages.{IsWalk, IsReturn, AreEarly, IsStride, HasNoReturn}
+use Rattle.ca_claims.proofs.Identities.{picture_nowhere, found_again}
 use Rattle.ca_claims.proofs.LeaptTrees.{shows_stays}
 use Rattle.ca_claims.proofs.Stages.{first_stays, walk_stays, walk_as}
 use Rattle.ca_claims.proofs.Strides.{early_stays, early_as, stride_as}
 use Rattle.ca_claims.proofs.identification.strides.stride_on.Goals as goal
 use Rattle.ca_claims.proofs.identification.strides.stride_on.Goals.{In_ok-tree}
 
-pub returns-in_err-early-clause-walk : goal.returns-in_err-early-clause-walk
-returns-in_err-early-clause-walk g c =
-    walk_stays (g.A.Automaton.next_of c.args.leaper.now.rule) (cell c.args.leaper.now.nodes c.args.first.now.tree) c.args.leaper.now.nodes c.early_planes.new.leaper.nodes c.store.ensures.sound c.early_planes.ensures.goes_on.grows
-    c.args.walk.now c.requires.walk
-
-pub returns-then-is_empty-clause-walk : goal.returns-then-is_empty-clause-walk
-returns-then-is_empty-clause-walk g c =
-    walk_stays (g.A.Automaton.next_of c.args.leaper.now.rule) (cell c.args.leaper.now.nodes c.args.first.now.tree) c.args.leaper.now.nodes c.early_planes.new.leaper.nodes c.store.ensures.sound c.early_planes.ensures.goes_on.grows
-    c.args.walk.now c.requires.walk
-
 pub strides-init : goal.strides-init
 strides-init g c = record {
-  goes_on = c.early_planes.ensures.goes_on;
-  walk = walk_stays (g.A.Automaton.next_of c.args.leaper.now.rule) (cell c.args.leaper.now.nodes c.args.first.now.tree) c.args.leaper.now.nodes c.early_planes.new.leaper.nodes c.store.ensures.sound c.early_planes.ensures.goes_on.grows
-      c.args.walk.now c.requires.walk;
-  early = c.in_ok-early.ensures.early;
+  goes_on = goes_on_same _ c.args.leaper.now c.store.ensures.sound;
+  walk = c.requires.walk;
+  early = c.requires.early;
   boxes = c.new-boxes.ensures _;
   begun = omega arith;
   within = c.requires.within;
@@ -49,9 +38,8 @@ stride_to-requires-clause-early g c =
     let inv = c.strides.invariant in
     let tree = c.args.first.now.tree in
     let back = trees_stay s0 s c.store.ensures.sound inv.goes_on.grows tree c.requires.first.start.is_tree in
-    let here = early_as (next c.args.leaper.now.rule) (cell s0 tree) (cell s tree) s (λ x y. sym (back x y)) c.in_ok-early.early.items inv.early in
-    subst (λ (l : List First). AreEarly (next c.strides.leaper.rule) (cell s tree) s l) (sym c.deref.ensures.value)
-    (subst (λ r. AreEarly (next r) (cell s tree) s c.in_ok-early.early.items) (sym inv.goes_on.rule) here)
+    let here = early_as (next c.args.leaper.now.rule) (cell s0 tree) (cell s tree) s (λ x y. sym (back x y)) c.args.early.now inv.early in
+    subst (λ r. AreEarly (next r) (cell s tree) s c.args.early.now) (sym inv.goes_on.rule) here
 
 pub stride_to-requires-clause-walk : goal.stride_to-requires-clause-walk
 stride_to-requires-clause-walk g c =
@@ -102,29 +90,57 @@ strides-preserved g c =
     record {
       goes_on = on_stride g a;
       walk = record { now = shown.0; others = shown.1; boxes = boxes_stay s s2 inv.goes_on.grows.sound c.in_ok-tree.ensures.goes_on.grows _ inv.walk.boxes };
-      early = early_stays (next g a) (first g a) s s2 inv.goes_on.grows.sound c.in_ok-tree.ensures.goes_on.grows c.in_ok-early.early.items inv.early;
+      early = early_stays (next g a) (first g a) s s2 inv.goes_on.grows.sound c.in_ok-tree.ensures.goes_on.grows c.args.early.now inv.early;
       boxes = c.in_ok-tree.ensures.boxes;
       begun = let begun = inv.begun in omega (arith, begun, c.min-end.ensures, c.strides-test.true);
       within = omega (arith, c.min-end.ensures);
     }
 
-pub growth_after-requires-clause-first : goal.growth_after-requires-clause-first
-growth_after-requires-clause-first g c =
-    let a = (goal.at.growth_after-requires-clause-first g c).In_ok-tree in
+-- ---- where the pattern is back
+
+pub returns-in-Again-clause-identity : goal.returns-in-Again-clause-identity
+returns-in-Again-clause-identity g c = λ cells shows.
+    let a = (goal.at.returns-in-Again-clause-identity g c).In_ok-tree in
+    let n = c.in-Again.generations in
+    let dx = c.in-Again.dx in
+    let dy = c.in-Again.dy in
+    let fits_x : SFits w64 dx = search rules in
+    let fits_y : SFits w64 dy = search rules in
+    let limit = c.args.limit in
+    let (within, again) = subst (IsStride (next g a) (first g a) c.min-end.result c.stride_to.new.leaper.nodes) c.in-Again.is (told g a) in
+    let short : n ≤ limit = omega (arith, within, c.min-end.ensures) in
+    let back = found_again (next g a) (g.met.A.Automaton.quiet c.args.leaper.now.rule c.store.ensures.rule) c.args.leaper.now.nodes c.args.first.now c.requires.first cells shows n limit dx dy short c.requires.most again in
+    c.identity_of.ensures (next g a) cells limit short c.requires.most
+    (subst (λ d. IsReturn (next g a) cells n d (to_z w64 (of_z w64 dy))) (sym (to_z-of_z w64 dx fits_x)) (subst (λ d. IsReturn (next g a) cells n dx d) (sym (to_z-of_z w64 dy fits_y)) back))
+
+pub returns-in-Again-clause-walk : goal.returns-in-Again-clause-walk
+returns-in-Again-clause-walk g c =
+    let inv = c.strides.invariant in
+    walk_stays (g.A.Automaton.next_of c.args.leaper.now.rule) (cell c.args.leaper.now.nodes c.args.first.now.tree) c.strides.leaper.nodes c.stride_to.new.leaper.nodes inv.goes_on.grows.sound c.in_ok-tree.ensures.goes_on.grows
+    c.strides.walk inv.walk
+
+pub returns-in-Again-clause-goes_on : goal.returns-in-Again-clause-goes_on
+returns-in-Again-clause-goes_on g c = on_stride g (goal.at.returns-in-Again-clause-goes_on g c).In_ok-tree
+
+-- ---- where it never is
+
+pub unknown_after-requires-clause-first : goal.unknown_after-requires-clause-first
+unknown_after-requires-clause-first g c =
+    let a = (goal.at.unknown_after-requires-clause-first g c).In_ok-tree in
     first_stays c.args.leaper.now.nodes c.stride_to.new.leaper.nodes c.store.ensures.sound (on_stride g a).grows c.args.first.now c.requires.first
 
-pub returns-in-Never-clause-growth : goal.returns-in-Never-clause-growth
-returns-in-Never-clause-growth g c = λ cells shows.
-    let a = (goal.at.returns-in-Never-clause-growth g c).In_ok-tree in
+pub returns-in-Never-clause-identity : goal.returns-in-Never-clause-identity
+returns-in-Never-clause-identity g c = λ cells shows.
+    let a = (goal.at.returns-in-Never-clause-identity g c).In_ok-tree in
     let rules = g.A.Automaton.next_of in
     let on = on_stride g a in
     let limit = c.args.limit in
     let never = subst (IsStride (next g a) (first g a) c.min-end.result c.stride_to.new.leaper.nodes) c.in-Never.is (told g a) in
     let without : HasNoReturn (next g a) cells limit = λ m some within. picture_nowhere (next g a) (first g a) cells shows m (never m some) in
     let shown = shows_stays c.args.leaper.now.nodes c.stride_to.new.leaper.nodes c.store.ensures.sound on.grows c.args.first.now.tree cells c.requires.first.start.is_tree shows in
-    let r = c.growth_after.result in
-    subst (λ r1. IfOk r (λ found. IfSome found (λ growth. IsIdentity (rules r1) cells limit (Unknown growth)))) on.rule
-    (c.growth_after.ensures.growth cells shown (subst (λ r1. HasNoReturn (rules r1) cells limit) (sym on.rule) without))
+    let r = c.unknown_after.result in
+    subst (λ r1. IfOk r (λ found. IfSome found (IsIdentity (rules r1) cells limit))) on.rule
+    (c.unknown_after.ensures.identity cells shown (subst (λ r1. HasNoReturn (rules r1) cells limit) (sym on.rule) without))
 
 pub returns-in-Never-clause-walk : goal.returns-in-Never-clause-walk
 returns-in-Never-clause-walk g c =
@@ -132,19 +148,21 @@ returns-in-Never-clause-walk g c =
     let inv = c.strides.invariant in
     let s = c.strides.leaper.nodes in
     let s2 = c.stride_to.new.leaper.nodes in
-    walk_stays (next g a) (first g a) s2 c.growth_after.new.leaper.nodes c.in_ok-tree.ensures.goes_on.grows.sound c.growth_after.ensures.goes_on.grows c.strides.walk
+    walk_stays (next g a) (first g a) s2 c.unknown_after.new.leaper.nodes c.in_ok-tree.ensures.goes_on.grows.sound c.unknown_after.ensures.goes_on.grows c.strides.walk
     (walk_stays (next g a) (first g a) s s2 inv.goes_on.grows.sound c.in_ok-tree.ensures.goes_on.grows c.strides.walk inv.walk)
 
 pub returns-in-Never-clause-goes_on : goal.returns-in-Never-clause-goes_on
 returns-in-Never-clause-goes_on g c =
     let a = (goal.at.returns-in-Never-clause-goes_on g c).In_ok-tree in
-    goes_on_again _ c.args.leaper.now c.stride_to.new.leaper c.growth_after.new.leaper (on_stride g a) c.growth_after.ensures.goes_on
+    goes_on_again _ c.args.leaper.now c.stride_to.new.leaper c.unknown_after.new.leaper (on_stride g a) c.unknown_after.ensures.goes_on
 
-pub returns-in-Perhaps-clause-walk : goal.returns-in-Perhaps-clause-walk
-returns-in-Perhaps-clause-walk g c =
+-- ---- where it is dead
+
+pub returns-in-Dead-clause-walk : goal.returns-in-Dead-clause-walk
+returns-in-Dead-clause-walk g c =
     let inv = c.strides.invariant in
     walk_stays (g.A.Automaton.next_of c.args.leaper.now.rule) (cell c.args.leaper.now.nodes c.args.first.now.tree) c.strides.leaper.nodes c.stride_to.new.leaper.nodes inv.goes_on.grows.sound c.in_ok-tree.ensures.goes_on.grows
     c.strides.walk inv.walk
 
-pub returns-in-Perhaps-clause-goes_on : goal.returns-in-Perhaps-clause-goes_on
-returns-in-Perhaps-clause-goes_on g c = on_stride g (goal.at.returns-in-Perhaps-clause-goes_on g c).In_ok-tree
+pub returns-in-Dead-clause-goes_on : goal.returns-in-Dead-clause-goes_on
+returns-in-Dead-clause-goes_on g c = on_stride g (goal.at.returns-in-Dead-clause-goes_on g c).In_ok-tree

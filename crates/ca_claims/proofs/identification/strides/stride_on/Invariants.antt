@@ -10,7 +10,7 @@ abbrev pub invariant-strides : goal.invariant-strides
 invariant-strides g l = record {
   goes_on : LeaperGrows _ l.fn.leaper l.leaper;
   walk : IsWalk (g.A.Automaton.next_of l.fn.leaper.rule) (cell l.fn.leaper.nodes l.fn.first.tree) l.leaper.nodes l.walk;
-  early : AreEarly (g.A.Automaton.next_of l.fn.leaper.rule) (cell l.fn.leaper.nodes l.fn.first.tree) l.leaper.nodes l.early.items;
+  early : AreEarly (g.A.Automaton.next_of l.fn.leaper.rule) (cell l.fn.leaper.nodes l.fn.first.tree) l.leaper.nodes l.early;
   boxes : AreSquareBoxes l.leaper.nodes l.boxes;
   begun : l.fn.walk.generations ≤ l.walk.generations;
   within : l.walk.generations ≤ l.fn.limit;
