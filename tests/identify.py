@@ -248,7 +248,7 @@ def try_patience(tally, files):
     """A soup that patience doesn't outlast: what is told of it is true of the generations that are named, of its own plane and of a later one. With a limit that
     is set it is looked at as far as that, and a bound of the work that is no larger than patience is a bound as ever."""
     chance = random.Random(7)
-    path = files.path("soup.rle", rle.tidy({(x, y): 1 for y in range(400) for x in range(400) if chance.random() < 0.375}, "B3/S23", 0, 2))
+    path = files.path("soup.rle", rle.tidy({(x, y): 1 for y in range(800) for x in range(800) if chance.random() < 0.375}, "B3/S23", 0, 2))
     told, seconds = timed(["identify", path])
     found = re.search(rb"none of these within (\d+) generations", told.printed)
     limit = int(found[1]) if found else 1

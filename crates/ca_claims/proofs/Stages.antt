@@ -258,24 +258,25 @@ steps_as old new stages others limit n same takes level some holds = takes level
 three_parts : (a b c x : ℕ) → (a + b + c) * x ≡ a * x + b * x + c * x
 three_parts a b c x = omega arith
 
--- the first step, unless it was taken before, and what the early ones may take
-pub step_then_early : (old mid new : ℕ) (stages : ℕ → ℤ → ℤ → ℕ) (begun limit : ℕ) → 1 ≤ limit → TakesSteps old mid stages 1 (1 - begun) → new ≤ mid + early_work limit → TakesEarly old new stages begun limit
-step_then_early old mid new stages begun limit more takes early level some holds =
-    let first = takes level some (λ m less. holds m (omega (arith, less, more))) in
+-- the first steps, some of which may have been taken before, and what the early ones may take
+pub step_then_early : (old mid new : ℕ) (stages : ℕ → ℤ → ℤ → ℕ) (begun sure limit : ℕ) → sure ≤ limit → TakesSteps old mid stages sure (sure - begun) → new ≤ mid + early_work limit
+    → TakesEarly old new stages begun sure limit
+step_then_early old mid new stages begun sure limit few takes early level some holds =
+    let first = takes level some (λ m less. holds m (omega (arith, less, few))) in
     omega (arith, first, early)
 
--- a search from where no more than one step was taken: the first one, the early ones, leaps and strides, and the steps that are left
-pub whole_search : (old mid leapt new : ℕ) (stages : ℕ → ℤ → ℤ → ℕ) (begun limit : ℕ) → begun ≤ 1 → 1 ≤ limit → TakesEarly old mid stages begun limit
+-- a search from where some of the first steps were taken: the other ones, the early ones and their planes, leaps and strides, and the steps that are left
+pub whole_search : (old mid leapt new : ℕ) (stages : ℕ → ℤ → ℤ → ℕ) (begun sure limit : ℕ) → begun ≤ sure → sure ≤ limit → TakesEarly old mid stages begun sure limit
     → leapt ≤ mid + early_work limit + leap_work limit + leap_work limit
-    → TakesSteps leapt new stages limit (limit - 1) → TakesSearchFrom old new stages begun limit
-whole_search old mid leapt new stages begun limit begins more early leaps rest level some holds =
+    → TakesSteps leapt new stages limit (limit - sure) → TakesSearchFrom old new stages begun limit
+whole_search old mid leapt new stages begun sure limit later few early leaps rest level some holds =
     let x = 14 ^ (level + 2) in
     let started = early level some holds in
     let ended = rest level some holds in
-    let all : begun + (1 - begun) + (limit - 1) ≡ limit = omega (arith, begins, more) in
-    let parts = three_parts begun (1 - begun) (limit - 1) (13 * x) in
-    let both : limit * (13 * x) ≡ begun * (13 * x) + (1 - begun) * (13 * x) + (limit - 1) * (13 * x) =
-    subst (λ n. n * (13 * x) ≡ begun * (13 * x) + (1 - begun) * (13 * x) + (limit - 1) * (13 * x)) all parts in
+    let all : begun + (sure - begun) + (limit - sure) ≡ limit = omega (arith, later, few) in
+    let parts = three_parts begun (sure - begun) (limit - sure) (13 * x) in
+    let both : limit * (13 * x) ≡ begun * (13 * x) + (sure - begun) * (13 * x) + (limit - sure) * (13 * x) =
+    subst (λ n. n * (13 * x) ≡ begun * (13 * x) + (sure - begun) * (13 * x) + (limit - sure) * (13 * x)) all parts in
     let power = power_more 3 (level + 2) (omega (arith, some)) in
     let share : limit * 14 ^ 3 ≤ limit * x = mul-le-mul_left limit power in
     let up : 14 ^ (level + 3) ≡ 14 * x = power_next (level + 2) (level + 3) (omega arith) in
@@ -286,13 +287,13 @@ whole_search old mid leapt new stages begun limit begins more early leaps rest l
     power_next g h e = subst (λ k. 14 ^ k ≡ 14 * 14 ^ g) (sym e) (power_suc g)
 
 -- its early ones alone
-pub early_search : (old new : ℕ) (stages : ℕ → ℤ → ℤ → ℕ) (begun limit : ℕ) → begun ≤ 1 → 1 ≤ limit → TakesEarly old new stages begun limit → TakesSearchFrom old new stages begun limit
-early_search old new stages begun limit begins more takes =
-    whole_search old new new new stages begun limit begins more takes (omega arith) (no_step new new stages limit (limit - 1) refl)
+pub early_search : (old new : ℕ) (stages : ℕ → ℤ → ℤ → ℕ) (begun sure limit : ℕ) → begun ≤ sure → sure ≤ limit → TakesEarly old new stages begun sure limit → TakesSearchFrom old new stages begun limit
+early_search old new stages begun sure limit later few takes =
+    whole_search old new new new stages begun sure limit later few takes (omega arith) (no_step new new stages limit (limit - sure) refl)
 
 -- its first step alone
 pub first_search : (old new : ℕ) (stages : ℕ → ℤ → ℤ → ℕ) (begun limit : ℕ) → begun ≤ 1 → 1 ≤ limit → TakesSteps old new stages 1 (1 - begun) → TakesSearchFrom old new stages begun limit
-first_search old new stages begun limit begins more takes = early_search old new stages begun limit begins more (step_then_early old new new stages begun limit more takes (omega arith))
+first_search old new stages begun limit later more takes = early_search old new stages begun 1 limit later more (step_then_early old new new stages begun 1 limit more takes (omega arith))
 
 -- where steps were taken before is of no account
 pub search_alone : (old new : ℕ) (stages : ℕ → ℤ → ℤ → ℕ) (begun limit : ℕ) → TakesSearchFrom old new stages begun limit → TakesSearch old new stages limit

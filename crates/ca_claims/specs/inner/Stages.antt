@@ -111,7 +111,7 @@ step_work level = 13 * 14 ^ (level + 2)
 abbrev pub TakesSteps : (old new : ℕ) → (stages : ℕ → ℤ → ℤ → ℕ) → (limit n : ℕ) → Type 0
 TakesSteps old new stages limit n = (level : ℕ) → 1 ≤ level → ((m : ℕ) → m < limit → HoldsAll level (stages m)) → new ≤ old + n * step_work level
 
--- what the generations that are looked at first, one by one, may take of the work of a search, but the first of all; and their planes once more
+-- what the generations that are looked at first, one by one, may take of the work of a search, but those that are in any case; and their planes once more
 abbrev pub early_work : (limit : ℕ) → ℕ
 early_work limit = limit * 256
 
@@ -130,10 +130,10 @@ abbrev pub TakesSearchFrom : (old new : ℕ) → (stages : ℕ → ℤ → ℤ �
 TakesSearchFrom old new stages begun limit =
     (level : ℕ) → 1 ≤ level → ((m : ℕ) → m < limit → HoldsAll level (stages m)) → new + begun * step_work level ≤ old + limit * 14 ^ (level + 3)
 
--- from the old count of work to the new one it is at most the first step, if so many steps weren't taken before, and then what early generations may take
-abbrev pub TakesEarly : (old new : ℕ) → (stages : ℕ → ℤ → ℤ → ℕ) → (begun limit : ℕ) → Type 0
-TakesEarly old new stages begun limit =
-    (level : ℕ) → 1 ≤ level → ((m : ℕ) → m < limit → HoldsAll level (stages m)) → new ≤ old + (1 - begun) * step_work level + early_work limit
+-- from the old count of work to the new one it is at most so many steps, of which some may have been taken before, and then what early generations may take
+abbrev pub TakesEarly : (old new : ℕ) → (stages : ℕ → ℤ → ℤ → ℕ) → (begun sure limit : ℕ) → Type 0
+TakesEarly old new stages begun sure limit =
+    (level : ℕ) → 1 ≤ level → ((m : ℕ) → m < limit → HoldsAll level (stages m)) → new ≤ old + (sure - begun) * step_work level + early_work limit
 
 -- from the old count of work to the new one it is at most a run of n generations of a tree of this level
 abbrev pub TakesRun : (old new level n : ℕ) → Type 0

@@ -35,7 +35,10 @@ const LEAST_EARLY: u64 = 32;
 
 const EARLY_SQUARES: usize = 1 << 20;
 
-// How many units of work those after the first may take for each generation up to the limit, and how many at most; and
+// How many of them are looked at whatever they take: most of what comes back is there again after one or two.
+const SURE: u64 = 2;
+
+// How many units of work those after these may take for each generation up to the limit, and how many at most; and
 // their planes once more.
 const EARLY_SHARE: u64 = 256;
 
@@ -71,7 +74,8 @@ pub(super) fn search<A: Automaton, O: Observer>(
 {
     // Says what holds of every leaper.
     let _ = leaper.store();
-    let soon = early_look(alloc, leaper, first, walk, early, limit, observer)?;
+    let sure = early.min(SURE);
+    let soon = early_look(alloc, leaper, first, walk, sure, early, limit, observer)?;
     if let Some(ending) = soon {
         return Ok(identity_of(ending));
     }
@@ -92,13 +96,14 @@ pub(super) fn search<A: Automaton, O: Observer>(
     Ok(Identity::Unknown { growth })
 }
 
-// Goes on to the first generation after the pattern, and then to so many while a share of the work lasts, and gives how
-// the pattern ends by then, if it does.
+// Goes on to the generations that are looked at in any case, and then to all early ones while a share of the work lasts,
+// and gives how the pattern ends by then, if it does.
 fn early_look<A: Automaton, O: Observer>(
     alloc: Global,
     leaper: &mut Leaper<A>,
     first: &First,
     walk: &mut Walk,
+    sure: u64,
     early: u64,
     limit: u64,
     observer: &mut O,
@@ -106,8 +111,8 @@ fn early_look<A: Automaton, O: Observer>(
     requires first { IsFirst leaper.old.nodes first.now }
     requires walk { IsWalk (A.next_of leaper.old.rule) (cell leaper.old.nodes first.now.tree)
         leaper.old.nodes walk.old }
-    requires begun { walk.old.generations ≤ 1 }
-    requires some { 1 ≤ early }
+    requires begun { walk.old.generations ≤ sure }
+    requires sure { sure ≤ early }
     requires within { early ≤ limit }
     requires most { limit ≤ longest_period }
     ensures ending { (cells : Picture) → ShowsTree leaper.old.nodes first.now.tree cells → IfOk result
@@ -116,19 +121,19 @@ fn early_look<A: Automaton, O: Observer>(
     ensures walk { IfOk result (λ found. found ≡ None
         → IsWalk (A.next_of leaper.old.rule) (cell leaper.old.nodes first.now.tree)
         leaper.new.nodes walk.new) }
-    ensures some { IfOk result (λ found. found ≡ None → 1 ≤ walk.new.generations) }
+    ensures sure { IfOk result (λ found. found ≡ None → sure ≤ walk.new.generations) }
     ensures end { IfOk result (λ found. found ≡ None → walk.new.generations ≤ early) }
     ensures halted { OnErr result (IsHalted (A.next_of leaper.old.rule)
         (cell leaper.old.nodes first.now.tree) leaper.new.nodes walk.old.generations early walk.new) }
     ensures goes_on { LeaperGrows A leaper.old leaper.new }
     ensures takes { TakesEarly leaper.old.spent.used leaper.new.spent.used
         (cells_after (A.next_of leaper.old.rule) (cell leaper.old.nodes first.now.tree))
-        walk.old.generations limit }
+        walk.old.generations sure limit }
     ensures work { EndsAtLimit leaper.new.spent result }
 {
     // Says what holds of every leaper.
     let _ = leaper.store();
-    let one = look_on(alloc, leaper, first, walk, 1, observer)?;
+    let one = look_on(alloc, leaper, first, walk, sure, observer)?;
     if let Some(ending) = one {
         return Ok(Some(ending));
     }
@@ -136,7 +141,7 @@ fn early_look<A: Automaton, O: Observer>(
     Ok(found)
 }
 
-// The same from where a walk is, after one generation at least.
+// The same from where a walk is.
 fn look_within_share<A: Automaton, O: Observer>(
     alloc: Global,
     leaper: &mut Leaper<A>,

@@ -1,9 +1,8 @@
-use Rattle.std.proofs.Common.{◌≡◌, ◌+◌, ◌≤◌, List, ℕ, refl, sym, subst, arith}
+use Rattle.std.proofs.Common.{◌≡◌, ◌+◌, ◌≤◌, ℕ, sym, subst, arith}
 use Rattle.std.specs.Prelude.{ℤ, IfSome}
 use Rattle.ca_plane.specs.Generations.{cells_after}
 use Rattle.ca_quad.specs.Trees.{cell}
 use Rattle.ca_quad.proofs.Trims.{trees_stay}
-use Rattle.ca_run.proofs.ShownPlanes.{goes_on_again}
 use Rattle.ca_claims.specs.inner.Stages.{IsWalk, IsHalted, IsEnding, TakesEarly, early_work}
 use Rattle.ca_claims.proofs.LeaptTrees.{shows_stays, on_err}
 use Rattle.ca_claims.proofs.Stages.{first_stays, walk_as, halted_within, halted_as, step_then_early}
@@ -16,25 +15,25 @@ module _ (g : _) (c : In_ok-one g) where
 
   -- what all takes
   pub all_take : (new : ℕ) → new ≤ c.look_on.new.leaper.spent.used + early_work c.args.limit
-      → TakesEarly c.args.leaper.now.spent.used new (cells_after (g.A.Automaton.next_of c.args.leaper.now.rule) (cell c.args.leaper.now.nodes c.args.first.now.tree)) c.args.walk.now.generations c.args.limit
+      → TakesEarly c.args.leaper.now.spent.used new (cells_after (g.A.Automaton.next_of c.args.leaper.now.rule) (cell c.args.leaper.now.nodes c.args.first.now.tree)) c.args.walk.now.generations c.args.sure c.args.limit
   all_take new takes =
-      step_then_early _ c.look_on.new.leaper.spent.used new (cells_after (g.A.Automaton.next_of c.args.leaper.now.rule) (cell c.args.leaper.now.nodes c.args.first.now.tree)) c.args.walk.now.generations c.args.limit
-      (omega (arith, c.requires.some, c.requires.within)) c.in_ok-one.ensures.takes takes
+      step_then_early _ c.look_on.new.leaper.spent.used new (cells_after (g.A.Automaton.next_of c.args.leaper.now.rule) (cell c.args.leaper.now.nodes c.args.first.now.tree)) c.args.walk.now.generations c.args.sure c.args.limit
+      (omega (arith, c.requires.sure, c.requires.within)) c.in_ok-one.ensures.takes takes
 
 pub returns-in_err-one-clause-takes : goal.returns-in_err-one-clause-takes
 returns-in_err-one-clause-takes g c =
-    step_then_early _ _ _ (cells_after (g.A.Automaton.next_of c.args.leaper.now.rule) (cell c.args.leaper.now.nodes c.args.first.now.tree)) c.args.walk.now.generations c.args.limit
-    (omega (arith, c.requires.some, c.requires.within)) c.in_err-one.ensures.takes (omega arith)
+    step_then_early _ _ _ (cells_after (g.A.Automaton.next_of c.args.leaper.now.rule) (cell c.args.leaper.now.nodes c.args.first.now.tree)) c.args.walk.now.generations c.args.sure c.args.limit
+    (omega (arith, c.requires.sure, c.requires.within)) c.in_err-one.ensures.takes (omega arith)
 
 pub returns-in_err-one-clause-halted : goal.returns-in_err-one-clause-halted
 returns-in_err-one-clause-halted g c =
     on_err _ _ (halted_within (g.A.Automaton.next_of c.args.leaper.now.rule) (cell c.args.leaper.now.nodes c.args.first.now.tree) c.look_on.new.leaper.nodes c.look_on.new.walk
-    c.args.walk.now.generations c.args.walk.now.generations 1 c.args.early (omega arith) c.requires.some c.in_err-one.ensures.halted)
+    c.args.walk.now.generations c.args.walk.now.generations c.args.sure c.args.early (omega arith) c.requires.sure c.in_err-one.ensures.halted)
 
 pub returns-in-Some-clause-time : goal.returns-in-Some-clause-time
 returns-in-Some-clause-time g c =
     let time = rw c.in-Some.is at c.in_ok-one.ensures.time in
-    omega (arith, time, c.requires.some)
+    omega (arith, time, c.requires.sure)
 
 pub returns-in-Some-clause-ending : goal.returns-in-Some-clause-ending
 returns-in-Some-clause-ending g c = λ cells shows. rw c.in-Some.is at (c.in_ok-one.ensures.ending cells shows)
@@ -59,7 +58,7 @@ look_within_share-requires-clause-walk g c =
 pub look_within_share-requires-clause-begun : goal.look_within_share-requires-clause-begun
 look_within_share-requires-clause-begun g c =
     let end = c.in_ok-one.ensures.end c.in_default.is in
-    omega (arith, end, c.requires.some)
+    omega (arith, end, c.requires.sure)
 
 pub returns-in_err-found-clause-halted : goal.returns-in_err-found-clause-halted
 returns-in_err-found-clause-halted g c =
@@ -101,8 +100,8 @@ returns-clause-walk g c = λ none.
     walk_as (rules c.args.leaper.now.rule) (cell s1 tree) (cell c.args.leaper.now.nodes tree) s2 walk (same_first g a)
     (subst (λ r. IsWalk (rules r) (cell s1 tree) s2 walk) c.in_ok-one.ensures.goes_on.rule (c.in_ok-found.ensures.walk none))
 
-pub returns-clause-some : goal.returns-clause-some
-returns-clause-some g c = λ none.
+pub returns-clause-sure : goal.returns-clause-sure
+returns-clause-sure g c = λ none.
     let end = c.in_ok-one.ensures.end c.in_default.is in
     let begun = c.in_ok-found.ensures.begun none in
     omega (arith, end, begun)

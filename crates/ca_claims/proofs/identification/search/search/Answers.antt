@@ -1,7 +1,6 @@
 use Rattle.std.proofs.Common.{◌≡◌, ℕ, ◌+◌, ◌-◌, ◌≤◌, List, refl, sym, subst, ◌∙◌, arith}
 use Rattle.std.specs.Prelude.{ℤ}
 use Rattle.ca_plane.specs.Generations.{cells_after}
-use Rattle.ca_plane.specs.Plane.{Picture}
 use Rattle.ca_quad.specs.Trees.{cell}
 use Rattle.ca_quad.proofs.Trims.{trees_stay}
 use Rattle.ca_run.specs.Leaping.{LeaperGrows}
@@ -12,7 +11,7 @@ use Rattle.ca_claims.specs.declared.identity.Identity.TheVariants.{Unknown}
 use Rattle.ca_claims.specs.Identified.{IsIdentity}
 use Rattle.ca_claims.specs.inner.Glance.{IsLowTree}
 use Rattle.ca_claims.specs.inner.Stages.{IsWalk, IsEnding, IsGrowthOf, AreOtherUpTo, IsLaterTree, IsHalted, HasNoReturn, AreEarly, TakesSteps, TakesEarly, TakesSearchFrom, early_work, leap_work}
-use Rattle.ca_claims.specs.inner.Subjects.{ShowsTree, HasLive}
+use Rattle.ca_claims.specs.inner.Subjects.{HasLive}
 use Rattle.ca_claims.proofs.Identities.{picture_nowhere, last_live, found_none}
 use Rattle.ca_claims.proofs.LeaptTrees.{shows_stays, on_err}
 use Rattle.ca_claims.proofs.Starts.{start_is_low}
@@ -31,15 +30,15 @@ module _ (g : _) (c : In_ok-soon g) where
   first = cell c.args.leaper.now.nodes c.args.first.now.tree
 
 -- what they, their planes and leaps take
-leaps_take : (old mid leapt : ℕ) (stages : ℕ → ℤ → ℤ → ℕ) (begun limit : ℕ) → begun ≤ 1 → 1 ≤ limit → TakesEarly old mid stages begun limit → leapt ≤ mid + early_work limit + leap_work limit
-    → TakesSearchFrom old leapt stages begun limit
-leaps_take old mid leapt stages begun limit begins more takes leaps =
-    whole_search old mid leapt leapt stages begun limit begins more takes (omega (arith, leaps)) (no_step leapt leapt stages limit (limit - 1) refl)
+leaps_take : (old mid leapt : ℕ) (stages : ℕ → ℤ → ℤ → ℕ) (begun sure limit : ℕ) → begun ≤ sure → sure ≤ limit → TakesEarly old mid stages begun sure limit
+    → leapt ≤ mid + early_work limit + leap_work limit → TakesSearchFrom old leapt stages begun limit
+leaps_take old mid leapt stages begun sure limit later few takes leaps =
+    whole_search old mid leapt leapt stages begun sure limit later few takes (omega (arith, leaps)) (no_step leapt leapt stages limit (limit - sure) refl)
 
 pub returns-in_err-soon-clause-takes : goal.returns-in_err-soon-clause-takes
 returns-in_err-soon-clause-takes g c =
-    early_search _ _ (cells_after (g.A.Automaton.next_of c.args.leaper.now.rule) (cell c.args.leaper.now.nodes c.args.first.now.tree)) c.args.walk.now.generations c.args.limit
-    c.requires.begun (omega (arith, c.requires.some, c.requires.within)) c.in_err-soon.ensures.takes
+    early_search _ _ (cells_after (g.A.Automaton.next_of c.args.leaper.now.rule) (cell c.args.leaper.now.nodes c.args.first.now.tree)) c.args.walk.now.generations c.min-sure.result c.args.limit
+    (omega (arith, c.requires.begun, c.requires.some, c.min-sure.ensures)) (omega (arith, c.requires.within, c.min-sure.ensures)) c.in_err-soon.ensures.takes
 
 pub returns-in-Some-clause-identity : goal.returns-in-Some-clause-identity
 returns-in-Some-clause-identity g c = λ cells shows.
@@ -49,8 +48,8 @@ returns-in-Some-clause-identity g c = λ cells shows.
 
 pub returns-in-Some-clause-takes : goal.returns-in-Some-clause-takes
 returns-in-Some-clause-takes g c =
-    early_search _ _ (cells_after (g.A.Automaton.next_of c.args.leaper.now.rule) (cell c.args.leaper.now.nodes c.args.first.now.tree)) c.args.walk.now.generations c.args.limit
-    c.requires.begun (omega (arith, c.requires.some, c.requires.within)) c.in_ok-soon.ensures.takes
+    early_search _ _ (cells_after (g.A.Automaton.next_of c.args.leaper.now.rule) (cell c.args.leaper.now.nodes c.args.first.now.tree)) c.args.walk.now.generations c.min-sure.result c.args.limit
+    (omega (arith, c.requires.begun, c.requires.some, c.min-sure.ensures)) (omega (arith, c.requires.within, c.min-sure.ensures)) c.in_ok-soon.ensures.takes
 
 -- ---- their planes
 
@@ -59,7 +58,9 @@ planes_within_share-requires-clause-first g c =
     first_stays c.args.leaper.now.nodes c.early_look.new.leaper.nodes c.store.ensures.sound c.in_ok-soon.ensures.goes_on.grows c.args.first.now c.requires.first
 
 pub planes_within_share-requires-clause-some : goal.planes_within_share-requires-clause-some
-planes_within_share-requires-clause-some g c = c.in_ok-soon.ensures.some c.in_default.is
+planes_within_share-requires-clause-some g c =
+    let sure = c.in_ok-soon.ensures.sure c.in_default.is in
+    omega (arith, sure, c.requires.some, c.min-sure.ensures)
 
 pub planes_within_share-requires-clause-few : goal.planes_within_share-requires-clause-few
 planes_within_share-requires-clause-few g c =
@@ -69,18 +70,18 @@ planes_within_share-requires-clause-few g c =
 pub returns-in_err-planes-clause-takes : goal.returns-in_err-planes-clause-takes
 returns-in_err-planes-clause-takes g c =
     let planes = c.in_err-planes.ensures.takes in
-    leaps_take _ _ _ (cells_after (g.A.Automaton.next_of c.args.leaper.now.rule) (cell c.args.leaper.now.nodes c.args.first.now.tree)) c.args.walk.now.generations c.args.limit
-    c.requires.begun (omega (arith, c.requires.some, c.requires.within)) c.in_ok-soon.ensures.takes (omega (arith, planes))
+    leaps_take _ _ _ (cells_after (g.A.Automaton.next_of c.args.leaper.now.rule) (cell c.args.leaper.now.nodes c.args.first.now.tree)) c.args.walk.now.generations c.min-sure.result c.args.limit
+    (omega (arith, c.requires.begun, c.requires.some, c.min-sure.ensures)) (omega (arith, c.requires.within, c.min-sure.ensures)) c.in_ok-soon.ensures.takes (omega (arith, planes))
 
 pub returns-in_err-planes-clause-halted : goal.returns-in_err-planes-clause-halted
 returns-in_err-planes-clause-halted g c =
     let next = g.A.Automaton.next_of c.args.leaper.now.rule in
     let p = cell c.args.leaper.now.nodes c.args.first.now.tree in
     let walk = c.early_look.new.walk in
-    let one = c.in_ok-soon.ensures.some c.in_default.is in
+    let one = c.in_ok-soon.ensures.sure c.in_default.is in
     let end = c.in_ok-soon.ensures.end c.in_default.is in
     on_err _ _ (halted_here next p c.planes_within_share.new.leaper.nodes walk c.args.walk.now.generations c.args.limit
-    (omega (arith, one, c.requires.begun)) (omega (arith, end, c.requires.within))
+    (omega (arith, one, c.requires.begun, c.requires.some, c.min-sure.ensures)) (omega (arith, end, c.requires.within))
     (walk_stays next p c.early_look.new.leaper.nodes c.planes_within_share.new.leaper.nodes c.in_ok-soon.ensures.goes_on.grows.sound c.planes_within_share.ensures.goes_on.grows walk (c.in_ok-soon.ensures.walk c.in_default.is)))
 
 pub returns-in_err-planes-clause-goes_on : goal.returns-in_err-planes-clause-goes_on
@@ -118,7 +119,9 @@ module _ (g : _) (c : In_ok-planes g) where
 -- ---- leaps
 
 pub growth_by_leaps-requires-clause-some : goal.growth_by_leaps-requires-clause-some
-growth_by_leaps-requires-clause-some g c = c.in_ok-soon.ensures.some c.in_default.is
+growth_by_leaps-requires-clause-some g c =
+    let sure = c.in_ok-soon.ensures.sure c.in_default.is in
+    omega (arith, sure, c.requires.some, c.min-sure.ensures)
 
 pub growth_by_leaps-requires-clause-within : goal.growth_by_leaps-requires-clause-within
 growth_by_leaps-requires-clause-within g c =
@@ -133,8 +136,8 @@ pub returns-in_err-grown-clause-takes : goal.returns-in_err-grown-clause-takes
 returns-in_err-grown-clause-takes g c =
     let planes = c.in_ok-planes.ensures.takes in
     let leaps = c.in_err-grown.ensures.takes in
-    leaps_take _ _ _ (cells_after (g.A.Automaton.next_of c.args.leaper.now.rule) (cell c.args.leaper.now.nodes c.args.first.now.tree)) c.args.walk.now.generations c.args.limit
-    c.requires.begun (omega (arith, c.requires.some, c.requires.within)) c.in_ok-soon.ensures.takes (omega (arith, planes, leaps))
+    leaps_take _ _ _ (cells_after (g.A.Automaton.next_of c.args.leaper.now.rule) (cell c.args.leaper.now.nodes c.args.first.now.tree)) c.args.walk.now.generations c.min-sure.result c.args.limit
+    (omega (arith, c.requires.begun, c.requires.some, c.min-sure.ensures)) (omega (arith, c.requires.within, c.min-sure.ensures)) c.in_ok-soon.ensures.takes (omega (arith, planes, leaps))
 
 pub returns-in_err-grown-clause-goes_on : goal.returns-in_err-grown-clause-goes_on
 returns-in_err-grown-clause-goes_on g c =
@@ -160,8 +163,8 @@ pub returns-in-Some-grown-clause-takes : goal.returns-in-Some-grown-clause-takes
 returns-in-Some-grown-clause-takes g c =
     let planes = c.in_ok-planes.ensures.takes in
     let leaps = c.in_ok-grown.ensures.takes in
-    leaps_take _ _ _ (cells_after (g.A.Automaton.next_of c.args.leaper.now.rule) (cell c.args.leaper.now.nodes c.args.first.now.tree)) c.args.walk.now.generations c.args.limit
-    c.requires.begun (omega (arith, c.requires.some, c.requires.within)) c.in_ok-soon.ensures.takes (omega (arith, planes, leaps))
+    leaps_take _ _ _ (cells_after (g.A.Automaton.next_of c.args.leaper.now.rule) (cell c.args.leaper.now.nodes c.args.first.now.tree)) c.args.walk.now.generations c.min-sure.result c.args.limit
+    (omega (arith, c.requires.begun, c.requires.some, c.min-sure.ensures)) (omega (arith, c.requires.within, c.min-sure.ensures)) c.in_ok-soon.ensures.takes (omega (arith, planes, leaps))
 
 -- ---- strides
 
@@ -183,9 +186,9 @@ module _ (g : _) (c : In_default-grown g) where
       let limit = c.args.limit in
       let planes = c.in_ok-planes.ensures.takes in
       let leaps = c.in_ok-grown.ensures.takes in
-      whole_search _ c.early_look.new.leaper.spent.used new new stages c.args.walk.now.generations limit
-      c.requires.begun (omega (arith, c.requires.some, c.requires.within)) c.in_ok-soon.ensures.takes (omega (arith, planes, leaps, takes))
-      (no_step new new stages limit (limit - 1) refl)
+      whole_search _ c.early_look.new.leaper.spent.used new new stages c.args.walk.now.generations c.min-sure.result limit
+      (omega (arith, c.requires.begun, c.requires.some, c.min-sure.ensures)) (omega (arith, c.requires.within, c.min-sure.ensures)) c.in_ok-soon.ensures.takes (omega (arith, planes, leaps, takes))
+      (no_step new new stages limit (limit - c.min-sure.result) refl)
 
 pub identity_by_strides-requires-clause-first : goal.identity_by_strides-requires-clause-first
 identity_by_strides-requires-clause-first g c =
@@ -269,16 +272,16 @@ module _ (g : _) (c : In_default-strided g) where
       let limit = c.args.limit in
       let leapt = c.identity_by_strides.new.leaper.spent.used in
       let left = limit - c.identity_by_strides.new.walk.generations in
-      let one = c.in_ok-soon.ensures.some c.in_default.is in
+      let one = c.in_ok-soon.ensures.sure c.in_default.is in
       let begun = c.in_ok-strided.ensures.begun in
       let leaps = c.in_ok-grown.ensures.takes in
       let planes = c.in_ok-planes.ensures.takes in
       let strides = c.in_ok-strided.ensures.takes in
       let here = subst (λ r. TakesSteps leapt new (cells_after (rules r) q) limit left) on_strides.rule takes in
       let rest = steps_as leapt new (cells_after next p) (cells_after next q) limit left (λ m x y. after_same next q p m first_then x y) here in
-      whole_search _ c.early_look.new.leaper.spent.used leapt new (cells_after next p) c.args.walk.now.generations limit
-      c.requires.begun (omega (arith, c.requires.some, c.requires.within)) c.in_ok-soon.ensures.takes (omega (arith, planes, leaps, strides))
-      (fewer_steps leapt new (cells_after next p) limit left (limit - 1) (omega (arith, one, begun)) rest)
+      whole_search _ c.early_look.new.leaper.spent.used leapt new (cells_after next p) c.args.walk.now.generations c.min-sure.result limit
+      (omega (arith, c.requires.begun, c.requires.some, c.min-sure.ensures)) (omega (arith, c.requires.within, c.min-sure.ensures)) c.in_ok-soon.ensures.takes (omega (arith, planes, leaps, strides))
+      (fewer_steps leapt new (cells_after next p) limit left (limit - c.min-sure.result) (omega (arith, one, begun)) rest)
 
 -- ---- where it ends by a fault
 
@@ -293,10 +296,10 @@ returns-in_err-grown-clause-halted g c =
     let p = cell c.args.leaper.now.nodes c.args.first.now.tree in
     let walk = c.early_look.new.walk in
     let b = (goal.at.returns-in_err-grown-clause-halted g c).In_ok-planes in
-    let one = c.in_ok-soon.ensures.some c.in_default.is in
+    let one = c.in_ok-soon.ensures.sure c.in_default.is in
     let end = c.in_ok-soon.ensures.end c.in_default.is in
     on_err _ _ (halted_here next p c.growth_by_leaps.new.leaper.nodes walk c.args.walk.now.generations c.args.limit
-    (omega (arith, one, c.requires.begun)) (omega (arith, end, c.requires.within))
+    (omega (arith, one, c.requires.begun, c.requires.some, c.min-sure.ensures)) (omega (arith, end, c.requires.within))
     (walk_stays next p c.planes_within_share.new.leaper.nodes c.growth_by_leaps.new.leaper.nodes (on_planes g b).grows.sound c.growth_by_leaps.ensures.goes_on.grows walk
     (walk_planes g b (c.in_ok-soon.ensures.walk c.in_default.is))))
 
@@ -308,11 +311,11 @@ returns-in_err-strided-clause-halted g c =
     let s2 = c.growth_by_leaps.new.leaper.nodes in
     let s3 = c.identity_by_strides.new.leaper.nodes in
     let walk = c.identity_by_strides.new.walk in
-    let one = c.in_ok-soon.ensures.some c.in_default.is in
+    let one = c.in_ok-soon.ensures.sure c.in_default.is in
     let begun = c.identity_by_strides.ensures.begun in
     let told = subst (λ r. IsWalk (rules r) (cell s2 tree) s3 walk) (on g b).rule c.identity_by_strides.ensures.walk in
     on_err _ _ (halted_here (rules c.args.leaper.now.rule) (cell c.args.leaper.now.nodes tree) s3 walk c.args.walk.now.generations c.args.limit
-    (omega (arith, begun, one, c.requires.begun)) c.identity_by_strides.ensures.within
+    (omega (arith, begun, one, c.requires.begun, c.requires.some, c.min-sure.ensures)) c.identity_by_strides.ensures.within
     (walk_as (rules c.args.leaper.now.rule) (cell s2 tree) (cell c.args.leaper.now.nodes tree) s3 walk (same_first g b) told))
 
 pub returns-in_err-late-clause-halted : goal.returns-in_err-late-clause-halted
@@ -324,13 +327,13 @@ returns-in_err-late-clause-halted g c =
     let s4 = c.look_on.new.leaper.nodes in
     let walk = c.look_on.new.walk in
     let middle = c.identity_by_strides.new.walk.generations in
-    let one = c.in_ok-soon.ensures.some c.in_default.is in
+    let one = c.in_ok-soon.ensures.sure c.in_default.is in
     let begun = c.in_ok-strided.ensures.begun in
     let limit = c.args.limit in
     let next = rules c.args.leaper.now.rule in
     let told = subst (λ r. IsHalted (rules r) (cell s3 tree) s4 middle limit walk) (on_strides g a).rule c.in_err-late.ensures.halted in
     on_err _ _ (halted_within next (cell c.args.leaper.now.nodes tree) s4 walk c.args.walk.now.generations middle limit limit
-    (omega (arith, begun, one, c.requires.begun)) (omega arith)
+    (omega (arith, begun, one, c.requires.begun, c.requires.some, c.min-sure.ensures)) (omega arith)
     (halted_as next (cell s3 tree) (cell c.args.leaper.now.nodes tree) s4 walk middle limit (first_then g a) told))
 
 pub look_on-requires-clause-first : goal.look_on-requires-clause-first

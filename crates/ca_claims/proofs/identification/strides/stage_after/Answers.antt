@@ -1,4 +1,3 @@
-use Rattle.std.proofs.Common.{◌≡◌, refl, sym, subst, arith}
 use Rattle.ca_plane.specs.Generations.{cells_after}
 use Rattle.ca_quad.specs.Trees.{cell}
 use Rattle.ca_quad.proofs.Measures.{boxes_stay}
