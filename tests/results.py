@@ -36,6 +36,10 @@ SOUPS = (
     ("B3/S23", 1000, USUAL, 87925),
 )
 
+# A rule under which each cell is the parity of its eight neighbours: after 2^k generations a plane's eight copies stand round its place, so far from it. The
+# side of a soup under it, the generations, and the units of work. It is stepped at first, and then leapt: one that goes on to step takes many times as many.
+COPIED = ("B1357/S1357", 64, 4096, 1066866)
+
 # Patterns of examples/ that are back at no time, the cells and the box that they have after 65536 generations (by Golly), and the units of work by which
 # `identify` tells so. It leaps or strides: one that looks at each generation takes many times as many.
 NEVER_BACK = (
@@ -81,6 +85,18 @@ def try_soups(tally, folder):
         judge(tally, f"a soup of {rule} by {count}", text, memo, units)
 
 
+def try_copies(tally, folder):
+    """A soup whose bricks soon are copies of few."""
+    rule, side, count, units = COPIED
+    soup = rows.soup(random.Random(side), side, side)
+    steps = (-count, 0, count)
+    text = ClaimText(Folder(folder))
+    text.load("soup", rows.text_of(rule, soup))
+    text.load("copies", rows.text_of(rule, *(soup.moved(x, y) for x in steps for y in steps if x or y)))
+    text.claim(f"becomes soup {count} copies", "yes")
+    judge(tally, f"a soup of {rule} by {count}", text, USUAL, units)
+
+
 def try_identification(tally):
     """What is back at no time, and what is back late."""
     for name, grown, units in NEVER_BACK:
@@ -105,6 +121,7 @@ def main():
     with tempfile.TemporaryDirectory() as folder:
         try_patterns(tally, folder)
         try_soups(tally, folder)
+        try_copies(tally, folder)
     try_identification(tally)
     tally.finish()
 
