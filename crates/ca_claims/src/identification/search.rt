@@ -74,7 +74,7 @@ pub(super) fn search<A: Automaton, O: Observer>(
 {
     // Says what holds of every leaper.
     let _ = leaper.store();
-    let sure = early.min(SURE);
+    let sure = sure_generations(early, limit);
     let soon = early_look(alloc, leaper, first, walk, sure, early, limit, observer)?;
     if let Some(ending) = soon {
         return Ok(identity_of(ending));
@@ -94,6 +94,18 @@ pub(super) fn search<A: Automaton, O: Observer>(
     }
     let growth = growth_of(alloc, leaper.store(), &walk.tree)?;
     Ok(Identity::Unknown { growth })
+}
+
+// How many generations are looked at in any case: all up to the limit, where these are the early ones.
+fn sure_generations(early: u64, limit: u64) -> u64
+    requires { 1 ≤ early }
+    ensures some { 1 ≤ result }
+    ensures within { result ≤ early }
+{
+    if early == limit {
+        return early;
+    }
+    early.min(SURE)
 }
 
 // Goes on to the generations that are looked at in any case, and then to all early ones while a share of the work lasts,
