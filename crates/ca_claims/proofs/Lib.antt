@@ -4,6 +4,7 @@ pub mod PathLists
 pub mod HeldNumbers
 pub mod PairedLists
 pub mod EqualCells
+pub mod MovedPopulations
 pub mod Spending
 pub mod PatternsRead
 pub mod Parts

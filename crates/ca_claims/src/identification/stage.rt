@@ -1,16 +1,16 @@
 //! What a pattern's plane shows some generations on.
 
-ghost use Rattle.std.specs.Prelude.{◌≡◌, ℕ, ℤ, IfOk, OnOk, MatchOption};
+ghost use Rattle.std.specs.Prelude.{◌≡◌, ◌≤◌, ℕ, ℤ, IfOk, IsFalse, OnOk, MatchOption};
 ghost use Rattle.ca_quad.specs.Boxes.{IsLeastWideBox, AreSquareBoxes};
-ghost use Rattle.ca_quad.specs.Trees.{cell};
+ghost use Rattle.ca_quad.specs.Trees.{IsTree, cell};
 ghost use Rattle.ca_run.specs.Leaping.{LeaperGrows, EndsAtLimit};
 ghost use Rattle.ca_claims.specs.inner.Subjects.{IsNearTree};
 ghost use Rattle.ca_claims.specs.inner.Stages.{IsFirst, IsFirstBox, IsWideBox, IsStage};
 ghost use Rattle.ca_claims.specs.inner.Stages.{AreMovedNowhere, AreMovedOnlyBy};
 
 use crate::decide::{distance, vector_if_back};
-use ca_plane::Automaton;
-use ca_quad::{SquareBoxes, Tree, WideBounds};
+use ca_plane::{Automaton, Memory};
+use ca_quad::{SquareBoxes, Store, Tree, WideBounds};
 use ca_run::{LeapFault, Leaper};
 use std::alloc::Global;
 
@@ -57,10 +57,28 @@ pub(super) fn stage_of<A: Automaton>(
     let Some((dx, dy)) = vector_between(&first.bounds, &bounds) else {
         return Ok(Stage::Other);
     };
+    if (dx != 0 || dy != 0) && !may_be_moved(alloc, leaper.store(), &first.tree, now)? {
+        return Ok(Stage::Other);
+    }
     match vector_if_back(leaper, *now, first.tree, dx, dy)? {
         Some((dx, dy)) => Ok(Stage::Back { dx, dy }),
         None => Ok(Stage::Other),
     }
+}
+
+// Whether two trees have as many live cells, as they have if one is the other, moved. That costs less than to move one. It
+// isn't counted for the largest trees.
+fn may_be_moved(alloc: Global, store: &Store, one: &Tree, other: &Tree) -> Result<bool, Memory>
+    requires one { IsTree store.now one.now }
+    requires other { IsTree store.now other.now }
+    ensures { IfOk result (λ may. IsFalse may
+        → AreMovedNowhere (cell store.now one.now) (cell store.now other.now)) }
+{
+    if one.level > 63 || other.level > 63 {
+        return Ok(true);
+    }
+    let cells = store.population(alloc, *one)?;
+    Ok(store.population(alloc, *other)? == cells)
 }
 
 // The vector from the corner of one box to that of another one, where they have the same size: no other can

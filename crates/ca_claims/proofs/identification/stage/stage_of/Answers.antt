@@ -4,6 +4,7 @@ use Rattle.ca_quad.specs.Boxes.{IsDead, IsLeastWideBox, AreSquareBoxes}
 use Rattle.ca_quad.specs.Shifted.{shifted_cells}
 use Rattle.ca_quad.specs.Trees.{cell}
 use Rattle.ca_quad.proofs.Measures.{boxes_stay}
+use Rattle.ca_claims.specs.inner.Stages.{AreMovedNowhere}
 use Rattle.ca_claims.proofs.Corners.{corner_broad, corner_wide, far_corner_wide}
 use Rattle.ca_claims.proofs.Starts.{near_start}
 use Rattle.ca_claims.proofs.identification.stage.stage_of.Goals as goal
@@ -84,3 +85,14 @@ returns-in-None-clause-stage g c =
     let box = subst (λ s. IsLeastWideBox (cell s c.args.now.now) c.in-Some.bounds) c.store.ensures.nodes (rw c.in-Some.is at c.in_ok-bounds.ensures.bounds) in
     let nowhere = rw c.in-None.is at c.in_ok-dx.ensures.back in
     ((c.in-Some.bounds.x0, box.left.0, box.left.1), nowhere)
+
+pub returns-then-not-branch-clause-stage : goal.returns-then-not-branch-clause-stage
+returns-then-not-branch-clause-stage g c =
+    let first = c.args.first.now.tree in
+    let now = c.args.now.now in
+    let box = subst (λ s. IsLeastWideBox (cell s now) c.in-Some.bounds) c.store.ensures.nodes (rw c.in-Some.is at c.in_ok-bounds.ensures.bounds) in
+    let nowhere = subst (λ s. AreMovedNowhere (cell s first) (cell s now)) c.store-then-dy-ne0.ensures.nodes (c.in_ok-may_be_moved.ensures c.if-not-branch.true) in
+    ((c.in-Some.bounds.x0, box.left.0, box.left.1), nowhere)
+
+pub returns-then-not-branch-clause-boxes : goal.returns-then-not-branch-clause-boxes
+returns-then-not-branch-clause-boxes g c = subst (λ s. AreSquareBoxes s c.bounds_with.new.boxes) c.store.ensures.nodes c.in_ok-bounds.ensures.boxes
