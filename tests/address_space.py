@@ -7,7 +7,8 @@
 - `show` and `convert` of such files print nothing and are out of memory, on standard input too.
 - Under an ample limit all is judged, and under each limit between, a line is the ample one or refused for lack of memory, or the text is out of
   memory.
-- A run that goes on in a store of its own, and needs more there, is given up, and not tried again.
+- A long run whose squares need more drops them and goes on, by shorter leaps, to the plane that is known.
+- A run that goes on in a store of its own, and needs more there for one generation, is given up, and not tried again.
 - `identify` remembers no more boxes of squares than may be, however many it measures.
 """
 import os
@@ -34,7 +35,10 @@ LEAST, RATIO = 4_000_000, 1.8
 
 # Gliders far apart, so many that a generation of theirs needs more squares than a store of its own has at first, and the bytes of address space that are enough
 # for these squares, but not for more. So many times the known work such a run may take.
-GLIDERS, ROOM, BOUND = 16000, 353_000_000, 1000
+GLIDERS, ROOM, BOUND = 16000, 353_000_000, 2000
+
+# The generations of a plane that grows in all directions, and the bytes of address space in which it is followed, though all its squares take twice as many.
+FOLLOWED, LITTLE = 800, 40_000_000
 
 # A line of progress that tells the squares that there are.
 SQUARES = re.compile(rb"(\d+)\.(\d) million squares")
@@ -172,6 +176,21 @@ def try_shown(tally, files, cells):
         tally.expect(f"show {name}, ample space", run(["show", path, *more], **within(AMPLE)), wanted)
 
 
+def try_less_memory(tally, files):
+    """A plane that is reached in ample space, in less, and a claim on another one that isn't."""
+    plane = full_store.explosion()
+    later = plane.after(full_store.RULE, FOLLOWED)
+    other, _ = later.with_changed(later.x, later.y)
+    text = ClaimText(files)
+    for name, it in (("first", plane), ("later", later), ("other", other)):
+        text.load(name, rows.text_of(full_store.RULE, it))
+    text.claim(f"becomes first {FOLLOWED} later", "yes")
+    text.claim(f"becomes first {FOLLOWED} other", f"no, cells differ after {FOLLOWED}")
+    path = text.write("less.claims")
+    for name, space in (("little space", LITTLE), ("ample space", AMPLE)):
+        tally.expect(f"a long run, {name}", run(["verify", path], **within(space)), outcome(text.answers, False))
+
+
 def try_a_store_of_its_own(tally, files):
     """A run that goes on in a store of its own has no memory for a generation there: it is given up."""
     text = ClaimText(files)
@@ -207,6 +226,7 @@ def main():
         try_claims(tally, files)
         try_texts(tally, files)
         try_shown(tally, files, cells)
+        try_less_memory(tally, files)
         try_a_store_of_its_own(tally, files)
         try_boxes(tally, files)
         missing = os.path.join(folder, "missing")

@@ -38,9 +38,9 @@ changed_more new old all y so_far x j h e =
       | inr other ↦ so_far x j (omega arith) (omega (arith, parts, e))
     ]
 
--- a brick that isn't in the list wasn't woken at its place: the word was 0
-pub not_woken : (across count : ℕ) (list : List ℕ) (place t word : ℕ) → place ≡ t → HasNeighbours across count t → IsNotIn list t → (HasNeighbours across count place → IsNotIn list place → word ≡ 0) → word ≡ 0
-not_woken across count list place t word e has not_in woken = woken (subst (HasNeighbours across count) (sym e) has) (subst (IsNotIn list) (sym e) not_in)
+-- what holds of a place holds of a brick that lies there: where it isn't in the list, a number is 0
+pub at_place : (across count : ℕ) (list : List ℕ) (place t n : ℕ) → place ≡ t → HasNeighbours across count t → IsNotIn list t → (HasNeighbours across count place → IsNotIn list place → n ≡ 0) → n ≡ 0
+at_place across count list place t n e has not_in none = none (subst (HasNeighbours across count) (sym e) has) (subst (IsNotIn list) (sym e) not_in)
 
 -- the rows of a brick, with one above and one below
 pub column_made : (across : ℕ) (bricks : List (List ℕ)) (t : ℕ) (column : List ℕ) (above below : ℕ) → length column ≡ 18

@@ -1,5 +1,5 @@
 -- Walls a generation on.
-use Rattle.std.proofs.Common.{◌≡◌, ℕ, suc, ◌+◌, ◌-◌, ◌<◌, Bool, true, false, if◌then◌else◌, inl, inr, List, [], length, refl, sym, ap, subst, ◌∙◌, arith}
+use Rattle.std.proofs.Common.{◌≡◌, ℕ, suc, ◌+◌, ◌-◌, ◌<◌, inl, inr, List, [], length, sym, ap, subst, ◌∙◌, arith}
 use Rattle.std.specs.Prelude.{ℤ, replicate}
 use Rattle.std.proofs.lemmas.List.{get_or_past}
 use Rattle.ca_plane.specs.Generations.{cells_after}
@@ -57,11 +57,6 @@ wall_seen next counting goes_by quiet wall later n k reached first low shows pla
     let time : reached + (k + 1) ≡ (reached + k) + 1 = omega arith in
     subst (λ r. WallShows later 0 (cells_after next first r)) time
     (wall_less later (n - (k + 1)) 0 (cells_after next first (reached + (k + 1))) (omega arith) (wall_later next counting goes_by quiet wall later n k reached first low shows place same came blank))
-
--- which bricks are awake: what holds of the list that was, or of the queue, holds of the one that is taken
-pub by_first : (P : List ℕ → Type 0) (is_first : Bool) (old queue new : List ℕ) → new ≡ (if is_first then old else queue) → (is_first ≡ true → P old) → (is_first ≡ false → P queue) → P new
-by_first P true old queue new e one other = subst P (sym e) (one refl)
-by_first P false old queue new e one other = subst P (sym e) (other refl)
 
 -- all that a queue has that began empty have others on all sides
 pub queue_inside : (across count : ℕ) (old new : List ℕ) → old ≡ [] → QueueGrows across count old new → AllHaveNeighbours across count new

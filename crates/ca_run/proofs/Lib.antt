@@ -29,6 +29,7 @@ pub mod TileCells
 pub mod BrickMargins
 pub mod LiveFrames
 pub mod BrickLists
+pub mod BrickBlanks
 pub mod LaterWalls
 pub mod WallBricks
 pub mod BrickBits

@@ -21,9 +21,9 @@ pub record KeepsOn (Rule : Type 0) (old new : LeaperView Rule) : Type 0 where
   pub sound : IsSoundStore new.nodes
   pub spends : Spends old.spent new.spent
 
--- what may still be tried before a leap succeeds: memory may be refused for the first time, the room may grow, or leaps become shorter
+-- what may still be tried before a leap succeeds: memory may be refused for the first time, the room may grow, leaps become shorter, or squares be dropped
 abbrev pub tries : Pace → ℕ
-tries pace = (if pace.refused then 0 else 2 ^ 73) + (2 ^ 64 - pace.room) * 256 + pace.digit
+tries pace = (if pace.refused then 0 else 2 ^ 73) + (2 ^ 64 - pace.room) * 256 + 2 * pace.digit + (if pace.fresh then 0 else 1)
 
 -- more than may ever be tried
 abbrev pub most_tries : ℕ

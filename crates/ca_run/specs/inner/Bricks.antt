@@ -168,6 +168,10 @@ pub record IsUnseen (across s : ℕ) (old new : List ℕ) (t : ℕ) : Type 0 whe
 abbrev pub IsBlank : List ℕ → Type 0
 IsBlank rows = (x y : ℕ) → x < 64 → y < 16 → row_cells rows x y ≡ 0
 
+-- no cell is live in the brick and round it
+abbrev pub IsBlankRound : ℕ → List (List ℕ) → ℕ → Type 0
+IsBlankRound across bricks t = (x y : ℕ) → x < 66 → y < 18 → round_at across bricks t x y ≡ 0
+
 -- each brick that has no others on some side is blank
 abbrev pub HasBlankEdge : ℕ → List (List ℕ) → Type 0
 HasBlankEdge across bricks = (t : ℕ) → (HasNeighbours across (length bricks) t → ⊥) → IsBlank (get_or bricks t [])

@@ -1,16 +1,16 @@
 //! Generations of a wall.
 
 ghost use Rattle.std.specs.Prelude.{◌≡◌, ℕ, ◌+◌, ◌*◌, ◌<◌, ◌≤◌, ◌^◌, []};
-ghost use Rattle.std.specs.Prelude.{length, min, if◌then◌else◌, IfOk, OnOk};
+ghost use Rattle.std.specs.Prelude.{length, get_or, min, true, IfOk, OnOk};
 ghost use Rattle.ca_plane.specs.Generations.{cells_after};
 ghost use Rattle.ca_plane.specs.Limits.{most_generations};
 ghost use Rattle.ca_quad.specs.Trees.{cell};
 ghost use Rattle.ca_run.specs.Leaping.{Spends, EndsAtLimit};
-ghost use Rattle.ca_run.specs.inner.Bricks.{WallShows, HasNeighbours, IsNotIn};
-ghost use Rattle.ca_run.specs.inner.Bricks.{AllHaveNeighbours, CanStepFor, IsInPlace, HasBlankEdge};
+ghost use Rattle.ca_run.specs.inner.Bricks.{WallShows, HasNeighbours, IsNotIn, IsBlank, IsBlankRound};
+ghost use Rattle.ca_run.specs.inner.Bricks.{AllHaveNeighbours, CanStepFor, IsInPlace, HasBlankEdge, QueueGrows};
 
 use super::queue::Queue;
-use super::step::generation;
+use super::step::{generation, wake_round};
 use super::wall::Wall;
 use crate::fault::LeapFault;
 use crate::leaper::{Leaper, Milestone};
@@ -20,38 +20,73 @@ use ca_plane::{Automaton, Counting, Memory};
 use ca_quad::Tree;
 use std::alloc::Global;
 
-// The bricks that have others on all sides.
-fn inner_bricks(alloc: Global, across: usize, count: usize) -> Result<Vec<usize>, Memory>
-    requires { across + count < 2 ^ 63 }
-    ensures inside { IfOk result (λ list. AllHaveNeighbours across count list.items) }
-    ensures all { IfOk result (λ list. (t : ℕ) → HasNeighbours across count t → IsNotIn list.items t → ⊥) }
+// The bricks that see a live cell. The others are blank next, as they are in a plane without a live cell before it.
+fn first_bricks(
+    alloc: Global,
+    across: usize,
+    bricks: &[[u64; 16]],
+    queue: &mut Queue,
+) -> Result<Vec<usize>, Memory>
+    requires room { across + length bricks.now < 2 ^ 63 }
+    requires edge { HasBlankEdge across bricks.now }
+    requires empty { queue.old ≡ [] }
+    ensures inside { IfOk result (λ list. AllHaveNeighbours across (length bricks.now) list.items) }
+    ensures others { IfOk result (λ list. (t : ℕ) → HasNeighbours across (length bricks.now) t
+        → IsNotIn list.items t → IsBlankRound across bricks.now t) }
+    ensures empty { OnOk result (queue.new ≡ []) }
 {
-    let mut list = Vec::new(alloc);
+    let count = bricks.len();
     'bricks: for t in across + 1..count.saturating_sub(across + 1) {
-        list.push(t)?;
+        wake_round(queue, t, across, count, &bricks[t], &[0; 16])?;
     }
+    let mut list = Vec::new(alloc);
+    queue.take(&mut list);
     Ok(list)
 }
 
 // So many bricks without a live cell.
 fn blank_bricks(alloc: Global, count: usize) -> Result<Vec<[u64; 16]>, Memory>
     ensures length { IfOk result (λ bricks. length bricks.items ≡ count) }
-    ensures blank { (across : ℕ) → IfOk result (λ bricks. HasBlankEdge across bricks.items) }
+    ensures blank { IfOk result (λ bricks. (t : ℕ) → IsBlank (get_or bricks.items t [])) }
 {
     Ok(vec![in alloc; [0; 16]; count]?)
 }
 
-// Says which bricks are awake next: after the first generation of a run all of them again, since nothing is
-// known of the one before it, and then those of the queue, which is empty afterwards.
-fn wake_next(is_first: bool, alloc: Global, queue: &mut Queue, awake: &mut Vec<usize>)
-    ensures empty { queue.new ≡ [] }
-    ensures awake { awake.new.items ≡ (if is_first then awake.old.items else queue.old) }
+// Says which bricks are awake next: those of the queue, which is empty afterwards. After the first generation of a run, before
+// which nothing is known, those that were awake then are so once more.
+fn wake_next(
+    is_first: bool,
+    across: usize,
+    count: usize,
+    queue: &mut Queue,
+    awake: &mut Vec<usize>,
+) -> Result<(), Memory>
+    requires room { across + count < 2 ^ 63 }
+    requires inside { AllHaveNeighbours across count queue.old }
+    ensures inside { OnOk result (AllHaveNeighbours across count awake.new.items) }
+    ensures queue { OnOk result ((t : ℕ) → IsNotIn awake.new.items t → IsNotIn queue.old t) }
+    ensures again { OnOk result (is_first ≡ true → (t : ℕ) → HasNeighbours across count t
+        → IsNotIn awake.new.items t → IsNotIn awake.old.items t) }
+    ensures empty { OnOk result (queue.new ≡ []) }
 {
     if is_first {
-        queue.take(&mut Vec::new(alloc));
-    } else {
-        queue.take(awake);
+        wake_again(across, count, awake, queue)?;
     }
+    queue.take(awake);
+    Ok(())
+}
+
+// Puts the bricks of a list into the queue.
+fn wake_again(across: usize, count: usize, list: &[usize], queue: &mut Queue) -> Result<(), Memory>
+    requires { across + count < 2 ^ 63 }
+    ensures grows { OnOk result (QueueGrows across count queue.old queue.new) }
+    ensures all { OnOk result ((t : ℕ) → HasNeighbours across count t → IsNotIn queue.new t
+        → IsNotIn list.now t) }
+{
+    'bricks: for &t in list {
+        queue.wake_if(1, t, across, count)?;
+    }
+    Ok(())
 }
 
 // Counts the bricks of a list before they are stepped, but no more than there are.
@@ -95,8 +130,8 @@ impl Wall {
         ensures work { EndsAtLimit work.new result }
     {
         let count = self.bricks.len();
-        let mut awake = inner_bricks(alloc, self.across, count)?;
         let mut queue = Queue::new(alloc, count)?;
+        let mut awake = first_bricks(alloc, self.across, &self.bricks, &mut queue)?;
         let mut before = blank_bricks(alloc, count)?;
         'generations: for k in 0..n {
             let steps = count_steps(work, &awake, count)?;
@@ -109,7 +144,7 @@ impl Wall {
                 &mut queue,
                 counting,
             )?;
-            wake_next(k == 0, alloc, &mut queue, &mut awake);
+            wake_next(k == 0, self.across, count, &mut queue, &mut awake)?;
             watch.reached(Milestone::with_wall(leaper, first, &self, reached + k + 1));
         }
         Ok(self)

@@ -1,9 +1,9 @@
 //! One generation of bricks, where those that rest are left as they are.
 
-ghost use Rattle.std.specs.Prelude.{◌≡◌, ◌+◌, ◌<◌, ◌≤◌, ◌^◌, ℕ, length, slice_index, OnOk};
+ghost use Rattle.std.specs.Prelude.{◌≡◌, ◌+◌, ◌-◌, ◌<◌, ◌≤◌, ◌^◌, ℕ, length, slice_index, OnOk};
 ghost use Rattle.std.specs.Int.{bit_at};
 ghost use Rattle.ca_run.specs.inner.Bricks.{CanStep, AreStepped, HasNeighbours, AllHaveNeighbours};
-ghost use Rattle.ca_run.specs.inner.Bricks.{HasBlankEdge, IsNotIn, IsNextBrick, IsUnseen};
+ghost use Rattle.ca_run.specs.inner.Bricks.{HasBlankEdge, IsNotIn, IsNextBrick, IsSameRound, IsUnseen};
 ghost use Rattle.ca_run.specs.inner.Bricks.{QueueGrows, BricksRest, column_at, round_at, round_cells};
 
 use super::queue::Queue;
@@ -29,6 +29,8 @@ pub(super) fn generation(
     ensures size { OnOk result (length now.new.items ≡ length now.old.items) }
     ensures next { OnOk result ((t : ℕ) → HasNeighbours across (length now.old.items) t
         → IsNextBrick counting across now.old.items now.new.items t) }
+    ensures same { OnOk result ((t : ℕ) → HasNeighbours across (length now.old.items) t → IsNotIn queue.new t
+        → IsSameRound across before.old.items now.new.items t) }
     ensures rest { ((t : ℕ) → HasNeighbours across (length now.old.items) t
         → IsNextBrick counting across before.old.items now.old.items t)
         → OnOk result (BricksRest counting across now.new.items now.old.items queue.new) }
@@ -138,7 +140,7 @@ fn column(bricks: &[[u64; 16]], across: usize, t: usize) -> [u64; 18]
 }
 
 // Wakes the bricks that see what changed of brick s.
-fn wake_round(
+pub(super) fn wake_round(
     queue: &mut Queue,
     s: usize,
     across: usize,
@@ -153,17 +155,40 @@ fn wake_round(
         → IsUnseen across s old.now new.now t) }
 {
     let any = changed_bits(new, old);
-    let top = new[0] ^ old[0];
-    let bottom = new[15] ^ old[15];
-    queue.wake_if(any, s, across, count)?;
-    queue.wake_if(any & 1, s - 1, across, count)?;
-    queue.wake_if(any >> 63, s + 1, across, count)?;
-    queue.wake_if(top, s - across, across, count)?;
-    queue.wake_if(top & 1, s - across - 1, across, count)?;
-    queue.wake_if(top >> 63, s - across + 1, across, count)?;
-    queue.wake_if(bottom, s + across, across, count)?;
-    queue.wake_if(bottom & 1, s + across - 1, across, count)?;
-    queue.wake_if(bottom >> 63, s + across + 1, across, count)?;
+    if any == 0 {
+        return Ok(());
+    }
+    wake_three(queue, any, s, across, count)?;
+    wake_three(queue, new[0] ^ old[0], s - across, across, count)?;
+    wake_three(queue, new[15] ^ old[15], s + across, across, count)?;
+    Ok(())
+}
+
+// Wakes brick s if the word has a bit, and those in the west and in the east of it if it has its first or its last one.
+#[inline(always)]
+fn wake_three(
+    queue: &mut Queue,
+    word: u64,
+    s: usize,
+    across: usize,
+    count: usize,
+) -> Result<(), Memory>
+    requires room { across + count < 2 ^ 63 }
+    requires some { 1 ≤ s }
+    requires few { s < 2 ^ 63 }
+    ensures grows { OnOk result (QueueGrows across count queue.old queue.new) }
+    ensures here { OnOk result (HasNeighbours across count s → IsNotIn queue.new s → word ≡ 0) }
+    ensures west { OnOk result (HasNeighbours across count (s - 1) → IsNotIn queue.new (s - 1)
+        → bit_at word 0 ≡ 0) }
+    ensures east { OnOk result (HasNeighbours across count (s + 1) → IsNotIn queue.new (s + 1)
+        → bit_at word 63 ≡ 0) }
+{
+    if word == 0 {
+        return Ok(());
+    }
+    queue.wake_if(word, s, across, count)?;
+    queue.wake_if(word & 1, s - 1, across, count)?;
+    queue.wake_if(word >> 63, s + 1, across, count)?;
     Ok(())
 }
 

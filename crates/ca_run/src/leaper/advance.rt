@@ -10,7 +10,7 @@ ghost use Rattle.ca_run.specs.inner.Dense.{HasReached, HasLeapt, HasParted};
 ghost use Rattle.ca_run.specs.inner.Padded.{IsPadded};
 
 use super::dense::ReachedTree;
-use super::pace::{self, is_long, is_much};
+use super::pace::{self, is_long};
 use super::{Leaper, Milestone};
 use crate::fault::LeapFault;
 use crate::watch::{Unwatched, Watch};
@@ -80,7 +80,7 @@ impl<A: Automaton> Leaper<A> {
         self.set_room(if long { room } else { usize::MAX });
         match self.leap_on(first, &mut reached, n, watch) {
             Ok(()) => Ok(reached.tree),
-            Err(LeapFault::Memory) if long && self.has_much_beyond(squares) => {
+            Err(LeapFault::Memory) if long && self.store.count() > squares => {
                 let end = self.leap_apart(first, reached, squares, n, watch);
                 // No more than can be counted.
                 let _used = self.used();
@@ -88,11 +88,6 @@ impl<A: Automaton> Leaper<A> {
             }
             Err(fault) => Err(fault),
         }
-    }
-
-    // Whether there are so many more squares than these that it helps to leave them behind.
-    fn has_much_beyond(&self, squares: usize) -> bool {
-        is_much(self.store.count().saturating_sub(squares))
     }
 
     // Goes on from what was reached of n generations, by a leap for each binary digit of those that are left.

@@ -143,7 +143,7 @@ impl<A: Automaton> Leaper<A> {
     }
 
     // The same tree in a new store, which takes the place of the one before, and the first squares of that
-    // one.
+    // one. What is remembered is forgotten first, so that its memory serves for the copy.
     fn part(&mut self, tree: Tree, squares: usize) -> Result<(Tree, Store), Memory>
         requires { IsTree self.old.nodes tree }
         ensures moved { IfOk result (λ both. IsCopyOfTree self.old.nodes tree self.new.nodes both.0) }
@@ -153,11 +153,17 @@ impl<A: Automaton> Leaper<A> {
         ensures err { OnErr result (self.new ≡ self.old) }
     {
         let alloc = self.recent_centres.allocator();
-        let mut apart = Store::new(alloc);
-        let copy = apart.import(&self.store, tree)?;
-        let mut before = self.exchange(apart);
-        before.keep_first(squares);
-        Ok((copy, before))
+        let mut before = self.exchange(Store::new(alloc));
+        match self.store.import(&before, tree) {
+            Ok(copy) => {
+                before.keep_first(squares);
+                Ok((copy, before))
+            }
+            Err(fault) => {
+                self.exchange(before);
+                Err(fault)
+            }
+        }
     }
 
     // Goes over to another store, of whose squares nothing is remembered yet, and gives the one before.
@@ -220,7 +226,7 @@ impl<A: Automaton> Leaper<A> {
     }
 
     // What is reached after one leap more. Where it made too many squares, it is given up, and they are left
-    // behind.
+    // behind. Where memory was refused, and there would be very many leaps, nothing.
     fn leap_once<W: Watch>(
         &mut self,
         origin: &Store,
@@ -242,7 +248,11 @@ impl<A: Automaton> Leaper<A> {
     {
         let _known = origin.count();
         let before = self.store.count();
-        let digit = pace.digit(n - reached.generations);
+        let left = n - reached.generations;
+        if pace.is_hopeless(left) {
+            return Err(LeapFault::Memory);
+        }
+        let digit = pace.digit(left);
         self.set_room(pace.room());
         match self.leap(reached.tree, digit, watch) {
             Ok(tree) => {
@@ -252,7 +262,7 @@ impl<A: Automaton> Leaper<A> {
                 Ok(ReachedTree { tree, generations })
             }
             Err(LeapFault::Memory) => {
-                let tree = self.make_another_try(reached.tree, before, pace)?;
+                let tree = self.make_another_try(reached.tree, pace)?;
                 Ok(ReachedTree {
                     tree,
                     generations: reached.generations,
@@ -262,14 +272,9 @@ impl<A: Automaton> Leaper<A> {
         }
     }
 
-    // The tree from which a leap is tried again that was given up, in a store that had so many squares before it: with more
-    // room, or a shorter one, or none where memory is refused for the shortest.
-    fn make_another_try(
-        &mut self,
-        tree: Tree,
-        before: usize,
-        pace: &mut Pace,
-    ) -> Result<Tree, Memory>
+    // The tree from which a leap is tried again that was given up: with more room, or where all other squares are dropped, a
+    // shorter one; none where memory is refused for one generation, and there is nothing to drop.
+    fn make_another_try(&mut self, tree: Tree, pace: &mut Pace) -> Result<Tree, Memory>
         requires { IsTree self.old.nodes tree }
         ensures moved { IfOk result (IsCopyOfTree self.old.nodes tree self.new.nodes) }
         ensures keeps { KeepsOn A self.old self.new }
@@ -283,7 +288,7 @@ impl<A: Automaton> Leaper<A> {
                 return Ok(tree);
             }
             pace.note_abandoned_leap();
-        } else if pace.may_leap_less(squares.saturating_sub(before)) {
+        } else if pace.may_try_again() {
             pace.note_refused_leap(squares);
         } else {
             return Err(Memory);

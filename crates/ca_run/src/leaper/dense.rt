@@ -40,7 +40,7 @@ const MOST_WALLS: u64 = 8;
 const MOST_GROWTH: u8 = 6;
 
 // How many bricks a wall has at most for each that is stepped in a generation.
-const MOST_RESTING: u64 = 128;
+const MOST_RESTING: u64 = 320;
 
 /// A tree that a run has reached, and after how many generations.
 #[derive(Clone, Copy)]

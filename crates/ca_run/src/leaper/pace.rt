@@ -11,17 +11,17 @@ const MORE: usize = 1 << 20;
 // How many squares a store may have where it pays to keep them, unless memory ends before.
 const MOST_ROOM: usize = 16 << 20;
 
+// How many leaps a run may try after memory was refused, where more than so many are left to it.
+const MOST_TRIES: u64 = 1 << 8;
+
+const MOST_LEAPS: u64 = 1 << 12;
+
 // What part of a store's squares have results that were looked up again, at least, where a run repeats.
 const REPEATED: usize = 4;
 
 /// With how many squares a leap is given up in a store that had so many before.
 pub(super) fn room_beside(squares: usize) -> usize {
     squares.saturating_add(MORE).max(ROOM)
-}
-
-/// Whether it helps a run for which memory was refused to leave so many squares behind.
-pub(super) fn is_much(squares: usize) -> bool {
-    squares >= MORE
 }
 
 /// Whether the cells of a run, of so many generations from a tree of this level, may be many.
@@ -39,6 +39,10 @@ pub(super) struct Pace {
     room: usize,
     // Whether memory was refused where there were fewer squares than might be.
     refused: bool,
+    // Whether no leap was made since all squares but the tree's were dropped.
+    fresh: bool,
+    // How many leaps were tried since memory was refused.
+    tried: u64,
 }
 
 impl Pace {
@@ -46,8 +50,10 @@ impl Pace {
     pub(super) fn new(squares: usize) -> Pace {
         Pace {
             digit: 0,
-            room: room_after(squares),
+            room: room_after(squares, ROOM),
             refused: false,
+            fresh: false,
+            tried: 0,
         }
     }
 
@@ -70,6 +76,8 @@ impl Pace {
     pub(super) fn note_leap(&mut self, digit: u8, made: usize)
         ensures { tries self.new < most_tries }
     {
+        self.fresh = false;
+        self.note_try();
         if digit == self.digit && digit < 60 && made < self.room / 8 {
             self.digit += 1;
         }
@@ -95,7 +103,14 @@ impl Pace {
         ensures least { tries self.new ≤ tries self.old }
         ensures less { self.old.room < 2 ^ 64 - 1 → tries self.new < tries self.old }
     {
-        self.room = self.room.max(room_after(self.room));
+        self.room = self.room.max(room_after(self.room, self.least()));
+    }
+
+    // How many squares there may be at least: where memory was refused, as few as it takes.
+    fn least(self) -> usize
+        ensures { 1 ≤ result }
+    {
+        if self.refused { 1 } else { ROOM }
     }
 
     /// After a leap that was given up: half as long, or with twice as many squares.
@@ -110,20 +125,38 @@ impl Pace {
         }
     }
 
-    /// Whether a leap for which memory was refused may be tried again: a shorter one, where it made many squares.
-    pub(super) fn may_leap_less(self, made: usize) -> bool
-        ensures { result ≡ true → 1 ≤ self.digit }
+    // One leap more was tried since memory was refused, if it was.
+    fn note_try(&mut self)
+        ensures { tries self.new ≡ tries self.old }
     {
-        self.digit > 0 && is_much(made)
+        if self.refused {
+            self.tried = self.tried.saturating_add(1);
+        }
     }
 
-    /// After a leap for which memory was refused where there were so many squares: half as long.
+    /// Whether a run that goes on with less memory is no use, where so many generations are left: it tried many leaps, and many
+    /// are left.
+    pub(super) fn is_hopeless(self, left: u64) -> bool {
+        self.tried > MOST_TRIES && left >> self.digit.min(60) > MOST_LEAPS
+    }
+
+    /// Whether a leap for which memory was refused may be tried again: a shorter one, or where there are squares to drop.
+    pub(super) fn may_try_again(self) -> bool
+        ensures { result ≡ true → self.fresh ≡ true → 1 ≤ self.digit }
+    {
+        self.digit > 0 || !self.fresh
+    }
+
+    /// After a leap for which memory was refused where there were so many squares, which are to be dropped: half as long, where
+    /// it can be.
     pub(super) fn note_refused_leap(&mut self, squares: usize)
-        requires { 1 ≤ self.old.digit }
+        requires { self.old.fresh ≡ true → 1 ≤ self.old.digit }
         ensures { tries self.new < tries self.old }
     {
-        self.digit -= 1;
+        self.digit = self.digit.saturating_sub(1);
+        self.fresh = true;
         self.note_refusal(squares);
+        self.note_try();
     }
 
     /// Memory was refused where there were so many squares. The first time there may be half as many from then on.
@@ -145,15 +178,17 @@ impl Pace {
     pub(super) fn note_copy(&mut self, squares: usize)
         ensures { tries self.new ≤ tries self.old }
     {
-        self.room = self.room.max(room_after(squares));
+        self.fresh = true;
+        self.room = self.room.max(room_after(squares, self.least()));
     }
 }
 
-// How many squares there may be in a store that has so many at first.
-fn room_after(squares: usize) -> usize
+// How many squares there may be in a store that has so many at first, and so many at least.
+fn room_after(squares: usize, least: usize) -> usize
+    requires { 1 ≤ least }
     ensures { squares < 2 ^ 64 - 1 → squares < result }
 {
-    squares.saturating_mul(2).max(ROOM)
+    squares.saturating_mul(2).max(least)
 }
 
 // The greatest power of two among the first ones that isn't more than a number.

@@ -1,14 +1,15 @@
-use Rattle.std.proofs.Common.{◌≡◌, ℕ, ◌+◌, ◌-◌, ◌*◌, ◌<◌, ◌≤◌, length, refl, sym, ap, subst, ◌∙◌, arith}
-use Rattle.std.specs.Prelude.{nat_eq}
+use Rattle.std.proofs.Common.{◌≡◌, ℕ, ◌+◌, ◌-◌, ◌*◌, ◌<◌, ◌≤◌, inl, inr, length, refl, sym, ap, subst, ◌∙◌, arith}
 use Rattle.std.proofs.Math.Nat.{mul-le-mul_right}
+use Rattle.std.proofs.lemmas.Bool.{cases_eq}
 use Rattle.std.proofs.lemmas.Bool.Decides.{nat_tests}
 use Rattle.ca_plane.specs.Generations.{cells_after}
 use Rattle.ca_quad.specs.Trees.{cell}
-use Rattle.ca_run.specs.inner.Bricks.{WallShows, HasNeighbours, AllHaveNeighbours, IsNotIn, IsNextBrick, BricksRest, HasBlankEdge}
+use Rattle.ca_run.specs.inner.Bricks.{WallShows, HasNeighbours, AllHaveNeighbours, IsNotIn, IsNextBrick, BricksRest, HasBlankEdge, IsBlankRound}
 use Rattle.ca_run.proofs.BrickMargins.{wall_less}
 use Rattle.ca_run.proofs.Costs.{one_more}
 use Rattle.ca_run.proofs.ShownPlanes.{spends_same, spends_again}
-use Rattle.ca_run.proofs.LaterWalls.{edge_blank, wall_later, wall_seen, by_first, queue_inside}
+use Rattle.ca_run.proofs.BrickBlanks.{blank_rests, blank_again}
+use Rattle.ca_run.proofs.LaterWalls.{edge_blank, wall_later, wall_seen, queue_inside}
 use Rattle.ca_run.proofs.bricks.wall.Wall.later.Goals as goal
 
 -- one generation more is charged: no more than all bricks
@@ -23,8 +24,10 @@ generations-init g c =
     let across = c.args.self.across in
     let bricks = c.args.self.bricks.items in
     let count : c.len-count.result ≡ length bricks = omega (arith, c.len-count.ensures, c.args.self.bricks.ok.0) in
-    let all : (t : ℕ) → HasNeighbours across (length bricks) t → IsNotIn c.in_ok-awake.awake.items t → ⊥
-    = λ t has. c.in_ok-awake.ensures.all t (subst (λ n. HasNeighbours across n t) (sym count) has) in
+    let made = c.in_ok-awake.ensures in
+    let awake = c.in_ok-awake.awake.items in
+    let others : (t : ℕ) → HasNeighbours across (length bricks) t → IsNotIn awake t → IsBlankRound across bricks t
+    = subst (λ l. (t : ℕ) → HasNeighbours across (length l) t → IsNotIn awake t → IsBlankRound across l t) c.deref.ensures.value made.others in
     let p = cells_after (g.A.Automaton.next_of c.args.leaper.now.rule) (cell c.args.leaper.now.nodes c.args.first.now) in
     let n : c.args.n ≡ c.args.n - 0 = omega arith in
     let r : c.args.reached ≡ c.args.reached + 0 = omega arith in
@@ -33,13 +36,15 @@ generations-init g c =
       place = record { x = refl; y = refl; across = refl; down = refl };
       count = refl;
       size = c.in_ok-before.ensures.length ∙ count;
-      inside = subst (λ n. AllHaveNeighbours across n c.in_ok-awake.awake.items) count c.in_ok-awake.ensures.inside;
-      empty = c.in_ok-queue.ensures;
-      rest = λ t has not_in. absurd (all t has not_in);
+      inside = subst (λ l. AllHaveNeighbours across (length l) awake) c.deref.ensures.value made.inside;
+      empty = made.empty;
+      rest = λ t has not_in. blank_rests (g.A.Automaton.next_of c.args.leaper.now.rule) c.args.counting begins.by_counting begins.quiet across bricks c.in_ok-before.before.items t
+          (others t has not_in) (c.in_ok-before.ensures.blank t);
       next = λ h t has. absurd (omega (arith, h));
       edge = edge_blank c.args.self c.args.n (p c.args.reached) begins.shows;
-      edge_before = c.in_ok-before.ensures.blank across;
-      all = λ _. all;
+      edge_before = λ t _. c.in_ok-before.ensures.blank t;
+      first = λ _. others;
+      blank = λ _. c.in_ok-before.ensures.blank;
       spends = spends_same c.args.work.now;
       counted = omega (arith, c.requires.fresh);
       most = omega arith;
@@ -55,6 +60,9 @@ generations-preserved g c =
     let new = c.generation.new.now.items in
     let before = c.generation.new.before.items in
     let made = c.in_ok-generation.ensures in
+    let woken = c.in_ok-wake_next.ensures in
+    let next = g.A.Automaton.next_of c.args.leaper.now.rule in
+    let count_now : c.len-count.result ≡ length old = omega (arith, c.len-count.ensures, c.args.self.bricks.ok.0, inv.count) in
     let has_old = λ (t : ℕ) (has : HasNeighbours across (length new) t). subst (λ n. HasNeighbours across n t) made.size has in
     let p = cell c.args.leaper.now.nodes c.args.first.now in
     record {
@@ -63,17 +71,20 @@ generations-preserved g c =
       place = record { x = inv.place.x; y = inv.place.y; across = inv.place.across; down = inv.place.down };
       count = made.size ∙ inv.count;
       size = ap length made.before ∙ sym made.size;
-      inside = by_first (AllHaveNeighbours across (length new)) (nat_eq k 0) _ _ _ c.wake_next.ensures.awake
-          (λ _. subst (λ n. AllHaveNeighbours across n c.generations.awake.items) (sym made.size) inv.inside)
-          (λ _. subst (λ n. AllHaveNeighbours across n c.generation.new.queue) (sym made.size) (queue_inside across (length old) c.generations.queue c.generation.new.queue inv.empty made.grows));
-      empty = c.wake_next.ensures.empty;
-      rest = by_first (BricksRest c.args.counting across new before) (nat_eq k 0) _ _ _ c.wake_next.ensures.awake
-          (λ e t has not_in. absurd (inv.all (grind (arith, nat_tests, e)) t (has_old t has) not_in))
-          (λ e. subst (λ l. BricksRest c.args.counting across new l c.generation.new.queue) (sym made.before) (made.rest (inv.next (grind (arith, nat_tests, e)))));
+      inside = subst (λ n. AllHaveNeighbours across n c.wake_next.new.awake.items) (count_now ∙ sym made.size) woken.inside;
+      empty = woken.empty;
+      rest = λ t has not_in. subst (λ l. IsNextBrick c.args.counting across new l t) (sym made.before) (elim (cases_eq k 0) [
+        | inl begun ↦
+            blank_again next c.args.counting begins.by_counting begins.quiet across c.generations.before.items old new t (inv.blank begun)
+            (inv.first begun t (has_old t has) (woken.again (grind (arith, nat_tests, begun)) t (subst (λ n. HasNeighbours across n t) (sym count_now) (has_old t has)) not_in))
+            (made.same t (has_old t has) (woken.queue t not_in))
+        | inr more ↦ made.rest (inv.next (omega (arith, more))) t has (woken.queue t not_in)
+      ]);
       next = λ _ t has. subst (λ l. IsNextBrick c.args.counting across l new t) (sym made.before) (made.next t (has_old t has));
       edge = made.edge inv.edge_before;
       edge_before = subst (λ l. HasBlankEdge across l) (sym made.before) inv.edge;
-      all = λ e. absurd (omega (arith, e));
+      first = λ e. absurd (omega (arith, e));
+      blank = λ e. absurd (omega (arith, e));
       spends = spends_again inv.spends c.count_steps.ensures.spends;
       counted = omega (arith, inv.counted, c.count_steps.ensures.fits, c.in_ok-steps.ensures.counts, c.in_ok-steps.ensures.steps, c.saturating_add.ensures);
       most = bricks_charged _ _ _ k (length c.args.self.bricks.items) c.len-count.result inv.most c.count_steps.ensures.most (omega (arith, c.len-count.ensures, c.args.self.bricks.ok.0));
@@ -127,7 +138,25 @@ returns-clause-shows g c =
     wall_less c.generations.self (c.args.n - c.generations.k) 0 (cells_after next p (c.args.reached + c.args.n)) (omega arith)
     (subst (λ r. WallShows c.generations.self (c.args.n - c.generations.k) (cells_after next p r)) time c.generations.invariant.shows)
 
+pub first_bricks-requires-clause-edge : goal.first_bricks-requires-clause-edge
+first_bricks-requires-clause-edge g c =
+    let p = cells_after (g.A.Automaton.next_of c.args.leaper.now.rule) (cell c.args.leaper.now.nodes c.args.first.now) in
+    subst (HasBlankEdge c.args.self.across) (sym c.deref.ensures.value) (edge_blank c.args.self c.args.n (p c.args.reached) c.requires.begins.shows)
+
+pub generation-requires-clause-inside : goal.generation-requires-clause-inside
+generation-requires-clause-inside g c =
+    let wall = c.generations.self in
+    subst (AllHaveNeighbours wall.across (length wall.bricks.items)) (sym c.deref-in-generations-2.ensures.value) c.generations.invariant.inside
+
 pub generation-requires-clause-rest : goal.generation-requires-clause-rest
 generation-requires-clause-rest g c =
     let wall = c.generations.self in
-    subst (BricksRest c.args.counting wall.across wall.bricks.items c.generations.before.items) (sym c.deref-in-generations.ensures.value) c.generations.invariant.rest
+    subst (BricksRest c.args.counting wall.across wall.bricks.items c.generations.before.items) (sym c.deref-in-generations-2.ensures.value) c.generations.invariant.rest
+
+pub wake_next-requires-clause-inside : goal.wake_next-requires-clause-inside
+wake_next-requires-clause-inside g c =
+    let inv = c.generations.invariant in
+    let across = c.generations.self.across in
+    let old = c.generations.self.bricks.items in
+    let count : length old ≡ c.len-count.result = omega (arith, c.len-count.ensures, c.args.self.bricks.ok.0, inv.count) in
+    subst (λ n. AllHaveNeighbours across n c.generation.new.queue) count (queue_inside across (length old) c.generations.queue c.generation.new.queue inv.empty c.in_ok-generation.ensures.grows)
