@@ -291,9 +291,9 @@ pub early_search : (old new : ℕ) (stages : ℕ → ℤ → ℤ → ℕ) (begun
 early_search old new stages begun sure limit later few takes =
     whole_search old new new new stages begun sure limit later few takes (omega arith) (no_step new new stages limit (limit - sure) refl)
 
--- its first step alone
-pub first_search : (old new : ℕ) (stages : ℕ → ℤ → ℤ → ℕ) (begun limit : ℕ) → begun ≤ 1 → 1 ≤ limit → TakesSteps old new stages 1 (1 - begun) → TakesSearchFrom old new stages begun limit
-first_search old new stages begun limit later more takes = early_search old new stages begun 1 limit later more (step_then_early old new new stages begun 1 limit more takes (omega arith))
+-- its first steps alone
+pub first_search : (old new : ℕ) (stages : ℕ → ℤ → ℤ → ℕ) (begun sure limit : ℕ) → begun ≤ sure → sure ≤ limit → TakesSteps old new stages sure (sure - begun) → TakesSearchFrom old new stages begun limit
+first_search old new stages begun sure limit later few takes = early_search old new stages begun sure limit later few (step_then_early old new new stages begun sure limit few takes (omega arith))
 
 -- where steps were taken before is of no account
 pub search_alone : (old new : ℕ) (stages : ℕ → ℤ → ℤ → ℕ) (begun limit : ℕ) → TakesSearchFrom old new stages begun limit → TakesSearch old new stages limit
@@ -305,10 +305,10 @@ search_alone old new stages begun limit takes level some holds =
 pub search_as : (old new : ℕ) (stages others : ℕ → ℤ → ℤ → ℕ) (begun limit : ℕ) → ((m : ℕ) (x y : ℤ) → others m x y ≡ stages m x y) → TakesSearchFrom old new others begun limit → TakesSearchFrom old new stages begun limit
 search_as old new stages others begun limit same takes level some holds = takes level some (λ m less x y live. holds m less x y (λ none. live (same m x y ∙ none)))
 
--- one step, and a search from there
-pub step_then_search : (old mid new : ℕ) (stages : ℕ → ℤ → ℤ → ℕ) (begun limit : ℕ) → 1 ≤ limit → TakesSteps old mid stages 1 (1 - begun) → TakesSearchFrom mid new stages 1 limit → TakesSearch old new stages limit
-step_then_search old mid new stages begun limit more first rest level some holds =
-    let one = fewer_steps old mid stages 1 (1 - begun) 1 (omega arith) first level some (λ m less. holds m (omega (arith, less, more))) in
+-- some steps, and a search from there
+pub step_then_search : (old mid new : ℕ) (stages : ℕ → ℤ → ℤ → ℕ) (begun sure limit : ℕ) → sure ≤ limit → TakesSteps old mid stages sure (sure - begun) → TakesSearchFrom mid new stages sure limit → TakesSearch old new stages limit
+step_then_search old mid new stages begun sure limit few first rest level some holds =
+    let one = fewer_steps old mid stages sure (sure - begun) sure (omega arith) first level some (λ m less. holds m (omega (arith, less, few))) in
     let most = rest level some holds in
     omega (arith, one, most)
 

@@ -109,7 +109,7 @@ pub fn identify_after<O: Observer>(
 }
 
 /// The same as far as the scope says: where it has patience for so many units of work, they bound what the generations
-/// from there on take, after the first of them. Where they are used up before it is found what the plane is, the look
+/// from there on take, after the first two of them. Where they are used up before it is found what the plane is, the look
 /// ends with the generations that were looked at by then, one at least.
 ///
 /// # Errors

@@ -9,7 +9,7 @@ use crate::identity::Identity;
 pub struct Scope {
     /// The longest period and the longest life that are looked for, in generations: 1 to 4294967295.
     pub limit: u64,
-    /// How many units of work the generations after the first may take together, if that is bounded. Where they
+    /// How many units of work the generations after the first two may take together, if that is bounded. Where they
     /// would take more, no more generations are looked at. The count of work is the same on every machine, so what
     /// is found doesn't depend on how fast that is.
     pub patience: Option<u64>,

@@ -35,7 +35,7 @@ work_of set = unwrap_or set 18446744073709551615
 
 -- how many units of work a look at a pattern may take where no number of generations is set
 abbrev pub usual_patience : ℕ
-usual_patience = 524288
+usual_patience = 300000
 
 -- how far a pattern is looked at: as many generations as are set, whatever they take; or 65536, while patience for this many units of work lasts
 abbrev pub scope_of : Option ℕ → Scope

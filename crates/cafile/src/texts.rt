@@ -210,7 +210,7 @@ NAME is the file's name without its ending, with _ for blanks and for a # that i
 it is followed by -2, -3 and so on. A path with a blank, and -, can't be in a claim text: such a file has a comment
 that says so. One whose path isn't UTF-8 can't be opened, and has the comment of a file that isn't there.
 
-Up to 65536 generations of a pattern are looked at, while patience lasts: a second or two. Where it ends before, the
+Up to 65536 generations of a pattern are looked at, while patience lasts: a second or so. Where it ends before, the
 comment says `within` fewer. --limit N looks for periods and deaths of up to N generations, however long that takes.
 --memo N and --work N are as for verify, for each pattern.
 

@@ -30,7 +30,7 @@ const NEAR: u64 = 4;
 const FAR: u64 = 64;
 
 // How many units of work leaps may take for each generation up to the limit, and how many at most. They take no
-// more than a quarter of what is left.
+// more than half of what is left.
 const SHARE: u64 = 1024;
 
 const MOST_SHARE: u64 = 1 << 20;
@@ -63,7 +63,7 @@ pub(super) fn growth_by_leaps<A: Automaton>(
     }
     let most = leaper.work_limit();
     let used = leaper.used();
-    let share = (limit * SHARE).min(MOST_SHARE).min((most - used) / 4);
+    let share = (limit * SHARE).min(MOST_SHARE).min((most - used) / 2);
     leaper.limit_work(used + share);
     let grown = growth_if_not_back(alloc, leaper, first, seen, limit);
     leaper.limit_work(most);

@@ -1,4 +1,4 @@
-//! What a live pattern is, as far as patience goes: the first generation is looked at in any case, and the others while
+//! What a live pattern is, as far as patience goes: the first two generations are looked at in any case, and the others while
 //! the units of work that are allowed for them last.
 
 ghost use Rattle.std.specs.Prelude.{◌≡◌, ◌+◌, ◌≤◌, ℕ, None, IfOk, IfSome};
@@ -13,7 +13,7 @@ ghost use Rattle.ca_claims.specs.inner.Subjects.{ShowsTree};
 
 use super::ending::identity_of;
 use super::growth::growth_of;
-use super::search::{early_generations, search};
+use super::search::{early_generations, first_generations, search};
 use super::stage::First;
 use super::walk::{Walk, look_on};
 use crate::identity::Identity;
@@ -50,7 +50,8 @@ pub(super) fn look<A: Automaton, O: Observer>(
         let identity = search(alloc, leaper, &first, &mut walk, early, limit, observer)?;
         return Ok(Look { identity, limit });
     };
-    let soon = look_on(alloc, leaper, &first, &mut walk, 1, observer)?;
+    let sure = first_generations(early);
+    let soon = look_on(alloc, leaper, &first, &mut walk, sure, observer)?;
     if let Some(ending) = soon {
         let identity = identity_of(ending);
         return Ok(Look { identity, limit });
@@ -93,7 +94,7 @@ fn patient_search<A: Automaton, O: Observer>(
     requires first { IsFirst leaper.old.nodes first.now }
     requires walk { IsWalk (A.next_of leaper.old.rule) (cell leaper.old.nodes first.now.tree)
         leaper.old.nodes walk.old }
-    requires begun { walk.old.generations ≤ 1 }
+    requires begun { walk.old.generations ≤ span.early }
     requires some { 1 ≤ span.early }
     requires within { span.early ≤ span.limit }
     requires most { span.limit ≤ longest_period }

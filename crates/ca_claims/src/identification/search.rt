@@ -35,16 +35,17 @@ const LEAST_EARLY: u64 = 32;
 
 const EARLY_SQUARES: usize = 1 << 20;
 
-// How many of them are looked at whatever they take: most of what comes back is there again after one or two.
+// How many of them are looked at whatever they take, also beyond what patience allows: most of what comes back is there again
+// after one or two.
 const SURE: u64 = 2;
 
 // How many units of work those after these may take for each generation up to the limit, and how many at most; and
 // their planes once more.
 const EARLY_SHARE: u64 = 256;
 
-const MOST_EARLY_SHARE: u64 = 1 << 17;
+const MOST_EARLY_SHARE: u64 = 1 << 16;
 
-/// What a live pattern is, within so many generations, of which a walk has seen one at most. So many early ones at
+/// What a live pattern is, within so many generations, of which a walk may have seen some early ones. So many of these at
 /// most are looked at one by one.
 pub(super) fn search<A: Automaton, O: Observer>(
     alloc: Global,
@@ -58,7 +59,7 @@ pub(super) fn search<A: Automaton, O: Observer>(
     requires first { IsFirst leaper.old.nodes first.now }
     requires walk { IsWalk (A.next_of leaper.old.rule) (cell leaper.old.nodes first.now.tree)
         leaper.old.nodes walk.old }
-    requires begun { walk.old.generations ≤ 1 }
+    requires begun { walk.old.generations ≤ early }
     requires some { 1 ≤ early }
     requires within { early ≤ limit }
     requires most { limit ≤ longest_period }
@@ -74,7 +75,7 @@ pub(super) fn search<A: Automaton, O: Observer>(
 {
     // Says what holds of every leaper.
     let _ = leaper.store();
-    let sure = sure_generations(early, limit);
+    let sure = sure_generations(walk.generations, early, limit);
     let soon = early_look(alloc, leaper, first, walk, sure, early, limit, observer)?;
     if let Some(ending) = soon {
         return Ok(identity_of(ending));
@@ -96,15 +97,26 @@ pub(super) fn search<A: Automaton, O: Observer>(
     Ok(Identity::Unknown { growth })
 }
 
-// How many generations are looked at in any case: all up to the limit, where these are the early ones.
-fn sure_generations(early: u64, limit: u64) -> u64
-    requires { 1 ≤ early }
+// How many generations are looked at in any case, of which some may have been: all up to the limit, where these are the early ones.
+fn sure_generations(begun: u64, early: u64, limit: u64) -> u64
+    requires some { 1 ≤ early }
+    requires within { begun ≤ early }
     ensures some { 1 ≤ result }
     ensures within { result ≤ early }
+    ensures begun { begun ≤ result }
 {
     if early == limit {
         return early;
     }
+    begun.max(first_generations(early))
+}
+
+/// How many of the early generations are looked at whatever they take.
+pub(super) fn first_generations(early: u64) -> u64
+    requires { 1 ≤ early }
+    ensures some { 1 ≤ result }
+    ensures within { result ≤ early }
+{
     early.min(SURE)
 }
 

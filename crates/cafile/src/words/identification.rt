@@ -19,8 +19,8 @@ use std::alloc::{AllocError, Global};
 /// How many generations of a pattern are looked at, unless that is set.
 const USUAL_LIMIT: u64 = 65536;
 
-/// How many units of work they may take then, after the first. That is a second or two on most machines.
-const USUAL_PATIENCE: u64 = 524288;
+/// How many units of work they may take then, after the first two. That is a second or less on most machines.
+const USUAL_PATIENCE: u64 = 300000;
 
 /// What a run of `identify` is given and asked for besides its pattern files.
 #[derive(Drop)]

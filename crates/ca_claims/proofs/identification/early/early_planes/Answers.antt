@@ -2,7 +2,9 @@ use Rattle.std.proofs.Common.{◌≡◌, List, ◌+◌, ◌++◌, ◌∷◌, [],
 use Rattle.std.proofs.lemmas.Option.{none-some}
 use Rattle.std.specs.Prelude.{slice_get, Some}
 use Rattle.ca_quad.specs.declared.tree.Tree.{Tree}
+use Rattle.ca_quad.specs.Boxes.{AreSquareBoxes}
 use Rattle.ca_quad.specs.Trees.{cell, IsTree, IsTrimmed}
+use Rattle.ca_quad.proofs.Measures.{boxes_stay}
 use Rattle.ca_run.proofs.Leap.{goes_on_same}
 use Rattle.ca_run.proofs.ShownPlanes.{goes_on_again}
 use Rattle.ca_claims.specs.declared.identification.stage.First.{First}
@@ -21,6 +23,7 @@ generations-init g c =
       goes_on = goes_on_same _ c.args.leaper.now c.store.ensures.sound;
       now = subst (λ (l : List First). IsLaterTree next (cell s0 tree) (length l) s0 tree) (sym none) (first_tree next s0 tree c.requires.first.start);
       early = λ k plane at. absurd (none-some plane (subst (λ (l : List First). slice_get l k ≡ Some plane) none at));
+      boxes = c.new-boxes.ensures _;
     }
 
 pub near_plane-requires-clause-tree : goal.near_plane-requires-clause-tree
@@ -28,6 +31,9 @@ near_plane-requires-clause-tree g c = subst (λ s. IsTree s c.generations.now) (
 
 pub near_plane-requires-clause-trimmed : goal.near_plane-requires-clause-trimmed
 near_plane-requires-clause-trimmed g c = subst (λ s. IsTrimmed s c.generations.now) (sym c.store-in-generations.ensures.nodes) c.generations.invariant.now.trimmed
+
+pub near_plane-requires-clause-boxes : goal.near_plane-requires-clause-boxes
+near_plane-requires-clause-boxes g c = subst (λ s. AreSquareBoxes s c.generations.boxes) (sym c.store-in-generations.ensures.nodes) c.generations.invariant.boxes
 
 pub later_tree-requires : goal.later_tree-requires
 later_tree-requires g c =
@@ -71,4 +77,9 @@ generations-preserved g c =
       goes_on = goes_on_again _ c.args.leaper.now c.generations.leaper c.later_tree.new.leaper inv.goes_on on;
       now = subst (λ (l : List First). IsLaterTree (next rule) first (length l) new c.in_ok-tree.tree) (sym pushed) (subst (λ k. IsLaterTree (next rule) first k new c.in_ok-tree.tree) (sym more) later);
       early = subst (λ (l : List First). AreEarly (next rule) first new l) (sym pushed) early;
+      boxes = boxes_stay s new inv.goes_on.grows.sound on.grows _ (subst (λ t. AreSquareBoxes t c.near_plane.new.boxes) c.store-in-generations.ensures.nodes c.in_ok-plane.ensures.boxes);
     }
+
+pub returns-in_err-push_plane-clause-goes_on : goal.returns-in_err-push_plane-clause-goes_on
+returns-in_err-push_plane-clause-goes_on g c =
+    goes_on_again _ c.args.leaper.now c.generations.leaper c.later_tree.new.leaper c.generations.invariant.goes_on c.in_ok-tree.ensures.goes_on

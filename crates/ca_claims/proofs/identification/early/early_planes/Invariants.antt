@@ -1,4 +1,5 @@
 use Rattle.std.proofs.Common.{◌-◌, length}
+use Rattle.ca_quad.specs.Boxes.{AreSquareBoxes}
 use Rattle.ca_quad.specs.Trees.{cell}
 use Rattle.ca_run.specs.Leaping.{LeaperGrows}
 use Rattle.ca_claims.specs.inner.Stages.{IsLaterTree, AreEarly}
@@ -10,6 +11,7 @@ invariant-generations g l = record {
   goes_on : LeaperGrows _ l.fn.leaper l.leaper;
   now : IsLaterTree (g.A.Automaton.next_of l.fn.leaper.rule) (cell l.fn.leaper.nodes l.fn.first.tree) (length l.planes.items) l.leaper.nodes l.now;
   early : AreEarly (g.A.Automaton.next_of l.fn.leaper.rule) (cell l.fn.leaper.nodes l.fn.first.tree) l.leaper.nodes l.planes.items;
+  boxes : AreSquareBoxes l.leaper.nodes l.boxes;
 }
 
 abbrev pub decreases-generations : goal.decreases-generations

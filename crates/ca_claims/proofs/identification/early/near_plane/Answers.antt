@@ -14,5 +14,5 @@ returns-clause-first c =
         trimmed = c.requires.trimmed;
         within = tree_holds nodes c.args.tree.now 62 (some_level nodes c.count.ensures.sound c.args.tree.now c.requires.tree) (omega (arith, low));
       };
-      box = rw c.in-Some.is at c.in_ok-bounds.ensures;
+      box = rw c.in-Some.is at c.in_ok-bounds.ensures.bounds;
     }

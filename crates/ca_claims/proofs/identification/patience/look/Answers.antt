@@ -28,7 +28,7 @@ pub returns-in_default-clause-look : goal.returns-in_default-clause-look
 returns-in_default-clause-look g c = λ cells shows.
     whole_look (g.A.Automaton.next_of c.args.leaper.now.rule) cells c.args.scope c.in_ok-identity.identity c.requires.some (c.in_ok-identity.ensures.identity cells shows)
 
--- ---- the first generation
+-- ---- the first generations
 
 pub look_on-requires-clause-walk : goal.look_on-requires-clause-walk
 look_on-requires-clause-walk g c =
@@ -38,20 +38,20 @@ look_on-requires-clause-walk g c =
 pub returns-in_err-soon-clause-takes : goal.returns-in_err-soon-clause-takes
 returns-in_err-soon-clause-takes g c =
     search_alone _ _ (cells_after (g.A.Automaton.next_of c.args.leaper.now.rule) (cell c.args.leaper.now.nodes c.args.first.tree)) c.from-walk.result.generations c.args.scope.limit
-    (first_search _ _ (cells_after (g.A.Automaton.next_of c.args.leaper.now.rule) (cell c.args.leaper.now.nodes c.args.first.tree)) c.from-walk.result.generations c.args.scope.limit
-    (omega (arith, c.from-walk.ensures.generations)) c.requires.some c.in_err-soon.ensures.takes)
+    (first_search _ _ (cells_after (g.A.Automaton.next_of c.args.leaper.now.rule) (cell c.args.leaper.now.nodes c.args.first.tree)) c.from-walk.result.generations c.first_generations-sure.result c.args.scope.limit
+    (omega (arith, c.from-walk.ensures.generations)) (omega (arith, c.first_generations-sure.ensures.within, c.min-early.ensures)) c.in_err-soon.ensures.takes)
 
 pub returns-in-Some-soon-clause-takes : goal.returns-in-Some-soon-clause-takes
 returns-in-Some-soon-clause-takes g c =
     search_alone _ _ (cells_after (g.A.Automaton.next_of c.args.leaper.now.rule) (cell c.args.leaper.now.nodes c.args.first.tree)) c.from-walk.result.generations c.args.scope.limit
-    (first_search _ _ (cells_after (g.A.Automaton.next_of c.args.leaper.now.rule) (cell c.args.leaper.now.nodes c.args.first.tree)) c.from-walk.result.generations c.args.scope.limit
-    (omega (arith, c.from-walk.ensures.generations)) c.requires.some c.in_ok-soon.ensures.takes)
+    (first_search _ _ (cells_after (g.A.Automaton.next_of c.args.leaper.now.rule) (cell c.args.leaper.now.nodes c.args.first.tree)) c.from-walk.result.generations c.first_generations-sure.result c.args.scope.limit
+    (omega (arith, c.from-walk.ensures.generations)) (omega (arith, c.first_generations-sure.ensures.within, c.min-early.ensures)) c.in_ok-soon.ensures.takes)
 
 pub returns-in-Some-soon-clause-look : goal.returns-in-Some-soon-clause-look
 returns-in-Some-soon-clause-look g c = λ cells shows.
     let time = rw c.in-Some-soon.is at c.in_ok-soon.ensures.time in
     whole_look (g.A.Automaton.next_of c.args.leaper.now.rule) cells c.args.scope c.identity_of-identity.result c.requires.some
-    (c.identity_of-identity.ensures (g.A.Automaton.next_of c.args.leaper.now.rule) cells c.args.scope.limit (omega (arith, time, c.requires.some)) c.requires.most
+    (c.identity_of-identity.ensures (g.A.Automaton.next_of c.args.leaper.now.rule) cells c.args.scope.limit (omega (arith, time, c.first_generations-sure.ensures.within, c.min-early.ensures)) c.requires.most
     (rw c.in-Some-soon.is at (c.in_ok-soon.ensures.ending cells shows)))
 
 -- ---- while patience lasts
@@ -60,8 +60,8 @@ module _ (g : _) (c : In_ok-soon g) where
   pub same_first : (x y : ℤ) → cell c.look_on.new.leaper.nodes c.args.first.tree x y ≡ cell c.args.leaper.now.nodes c.args.first.tree x y
   same_first = trees_stay c.args.leaper.now.nodes c.look_on.new.leaper.nodes c.store.ensures.sound c.in_ok-soon.ensures.goes_on.grows c.args.first.tree c.requires.first.start.is_tree
 
-  -- what all takes, with a search from the first generation
-  pub all_take : (new begun : ℕ) → begun ≡ 1
+  -- what all takes, with a search from the first generations on
+  pub all_take : (new begun : ℕ) → begun ≡ c.first_generations-sure.result
       → TakesSearchFrom c.look_on.new.leaper.spent.used new (cells_after (g.A.Automaton.next_of c.look_on.new.leaper.rule) (cell c.look_on.new.leaper.nodes c.args.first.tree)) begun c.args.scope.limit
       → TakesSearch c.args.leaper.now.spent.used new (cells_after (g.A.Automaton.next_of c.args.leaper.now.rule) (cell c.args.leaper.now.nodes c.args.first.tree)) c.args.scope.limit
   all_take new begun one takes =
@@ -73,7 +73,7 @@ module _ (g : _) (c : In_ok-soon g) where
       let limit = c.args.scope.limit in
       let here = subst (λ r. TakesSearchFrom mid new (cells_after (next_of r) q) begun limit) c.in_ok-soon.ensures.goes_on.rule takes in
       let rest = search_as mid new (cells_after next p) (cells_after next q) begun limit (λ m x y. after_same next q p m same_first x y) here in
-      step_then_search _ mid new (cells_after next p) c.from-walk.result.generations limit c.requires.some c.in_ok-soon.ensures.takes
+      step_then_search _ mid new (cells_after next p) c.from-walk.result.generations c.first_generations-sure.result limit (omega (arith, c.first_generations-sure.ensures.within, c.min-early.ensures)) c.in_ok-soon.ensures.takes
       (subst (λ k. TakesSearchFrom mid new (cells_after next p) k limit) one rest)
 
 pub patient_search-requires-clause-first : goal.patient_search-requires-clause-first
@@ -146,7 +146,7 @@ growth_of-requires-clause-live g c =
     let one = c.in_ok-soon.ensures.end c.in_default-soon.is in
     let tree = c.patient_search.new.walk.tree in
     subst (λ s. HasLive (cell s tree)) (sym c.store-3.ensures.nodes)
-    (last_live next (cell c.args.leaper.now.nodes c.args.first.tree) c.patient_search.new.walk.generations c.patient_search.new.leaper.nodes tree walk.now walk.others (omega (arith, later, one)))
+    (last_live next (cell c.args.leaper.now.nodes c.args.first.tree) c.patient_search.new.walk.generations c.patient_search.new.leaper.nodes tree walk.now walk.others (omega (arith, later, one, c.first_generations-sure.ensures.some)))
 
 pub returns-in_err-growth-clause-takes : goal.returns-in_err-growth-clause-takes
 returns-in_err-growth-clause-takes g c =
@@ -176,7 +176,7 @@ returns-clause-look g c = λ cells shows.
     let last = c.patient_search.new.walk in
     let takes = all_take g a.In_ok-soon _ _ one c.in_ok-found.ensures.takes in
     record {
-      some = omega (arith, later, one);
+      some = omega (arith, later, one, c.first_generations-sure.ensures.some);
       most = walk.within;
       identity = found_none next quiet nodes c.args.first c.requires.first cells shows last.generations walk.others new last.tree walk.now c.in_ok-growth.growth
           (subst (λ s. IsGrowthOf s last.tree c.in_ok-growth.growth) c.store-3.ensures.nodes c.in_ok-growth.ensures);

@@ -38,7 +38,7 @@ leaps_take old mid leapt stages begun sure limit later few takes leaps =
 pub returns-in_err-soon-clause-takes : goal.returns-in_err-soon-clause-takes
 returns-in_err-soon-clause-takes g c =
     early_search _ _ (cells_after (g.A.Automaton.next_of c.args.leaper.now.rule) (cell c.args.leaper.now.nodes c.args.first.now.tree)) c.args.walk.now.generations c.sure_generations-sure.result c.args.limit
-    (omega (arith, c.requires.begun, c.sure_generations-sure.ensures.some)) (omega (arith, c.requires.within, c.sure_generations-sure.ensures.within)) c.in_err-soon.ensures.takes
+    (omega (arith, c.sure_generations-sure.ensures.begun)) (omega (arith, c.requires.within, c.sure_generations-sure.ensures.within)) c.in_err-soon.ensures.takes
 
 pub returns-in-Some-clause-identity : goal.returns-in-Some-clause-identity
 returns-in-Some-clause-identity g c = λ cells shows.
@@ -49,7 +49,7 @@ returns-in-Some-clause-identity g c = λ cells shows.
 pub returns-in-Some-clause-takes : goal.returns-in-Some-clause-takes
 returns-in-Some-clause-takes g c =
     early_search _ _ (cells_after (g.A.Automaton.next_of c.args.leaper.now.rule) (cell c.args.leaper.now.nodes c.args.first.now.tree)) c.args.walk.now.generations c.sure_generations-sure.result c.args.limit
-    (omega (arith, c.requires.begun, c.sure_generations-sure.ensures.some)) (omega (arith, c.requires.within, c.sure_generations-sure.ensures.within)) c.in_ok-soon.ensures.takes
+    (omega (arith, c.sure_generations-sure.ensures.begun)) (omega (arith, c.requires.within, c.sure_generations-sure.ensures.within)) c.in_ok-soon.ensures.takes
 
 -- ---- their planes
 
@@ -71,7 +71,7 @@ pub returns-in_err-planes-clause-takes : goal.returns-in_err-planes-clause-takes
 returns-in_err-planes-clause-takes g c =
     let planes = c.in_err-planes.ensures.takes in
     leaps_take _ _ _ (cells_after (g.A.Automaton.next_of c.args.leaper.now.rule) (cell c.args.leaper.now.nodes c.args.first.now.tree)) c.args.walk.now.generations c.sure_generations-sure.result c.args.limit
-    (omega (arith, c.requires.begun, c.sure_generations-sure.ensures.some)) (omega (arith, c.requires.within, c.sure_generations-sure.ensures.within)) c.in_ok-soon.ensures.takes (omega (arith, planes))
+    (omega (arith, c.sure_generations-sure.ensures.begun)) (omega (arith, c.requires.within, c.sure_generations-sure.ensures.within)) c.in_ok-soon.ensures.takes (omega (arith, planes))
 
 pub returns-in_err-planes-clause-halted : goal.returns-in_err-planes-clause-halted
 returns-in_err-planes-clause-halted g c =
@@ -81,7 +81,7 @@ returns-in_err-planes-clause-halted g c =
     let one = c.in_ok-soon.ensures.sure c.in_default.is in
     let end = c.in_ok-soon.ensures.end c.in_default.is in
     on_err _ _ (halted_here next p c.planes_within_share.new.leaper.nodes walk c.args.walk.now.generations c.args.limit
-    (omega (arith, one, c.requires.begun, c.sure_generations-sure.ensures.some)) (omega (arith, end, c.requires.within))
+    (omega (arith, one, c.sure_generations-sure.ensures.begun)) (omega (arith, end, c.requires.within))
     (walk_stays next p c.early_look.new.leaper.nodes c.planes_within_share.new.leaper.nodes c.in_ok-soon.ensures.goes_on.grows.sound c.planes_within_share.ensures.goes_on.grows walk (c.in_ok-soon.ensures.walk c.in_default.is)))
 
 pub returns-in_err-planes-clause-goes_on : goal.returns-in_err-planes-clause-goes_on
@@ -137,7 +137,7 @@ returns-in_err-grown-clause-takes g c =
     let planes = c.in_ok-planes.ensures.takes in
     let leaps = c.in_err-grown.ensures.takes in
     leaps_take _ _ _ (cells_after (g.A.Automaton.next_of c.args.leaper.now.rule) (cell c.args.leaper.now.nodes c.args.first.now.tree)) c.args.walk.now.generations c.sure_generations-sure.result c.args.limit
-    (omega (arith, c.requires.begun, c.sure_generations-sure.ensures.some)) (omega (arith, c.requires.within, c.sure_generations-sure.ensures.within)) c.in_ok-soon.ensures.takes (omega (arith, planes, leaps))
+    (omega (arith, c.sure_generations-sure.ensures.begun)) (omega (arith, c.requires.within, c.sure_generations-sure.ensures.within)) c.in_ok-soon.ensures.takes (omega (arith, planes, leaps))
 
 pub returns-in_err-grown-clause-goes_on : goal.returns-in_err-grown-clause-goes_on
 returns-in_err-grown-clause-goes_on g c =
@@ -164,7 +164,7 @@ returns-in-Some-grown-clause-takes g c =
     let planes = c.in_ok-planes.ensures.takes in
     let leaps = c.in_ok-grown.ensures.takes in
     leaps_take _ _ _ (cells_after (g.A.Automaton.next_of c.args.leaper.now.rule) (cell c.args.leaper.now.nodes c.args.first.now.tree)) c.args.walk.now.generations c.sure_generations-sure.result c.args.limit
-    (omega (arith, c.requires.begun, c.sure_generations-sure.ensures.some)) (omega (arith, c.requires.within, c.sure_generations-sure.ensures.within)) c.in_ok-soon.ensures.takes (omega (arith, planes, leaps))
+    (omega (arith, c.sure_generations-sure.ensures.begun)) (omega (arith, c.requires.within, c.sure_generations-sure.ensures.within)) c.in_ok-soon.ensures.takes (omega (arith, planes, leaps))
 
 -- ---- strides
 
@@ -187,7 +187,7 @@ module _ (g : _) (c : In_default-grown g) where
       let planes = c.in_ok-planes.ensures.takes in
       let leaps = c.in_ok-grown.ensures.takes in
       whole_search _ c.early_look.new.leaper.spent.used new new stages c.args.walk.now.generations c.sure_generations-sure.result limit
-      (omega (arith, c.requires.begun, c.sure_generations-sure.ensures.some)) (omega (arith, c.requires.within, c.sure_generations-sure.ensures.within)) c.in_ok-soon.ensures.takes (omega (arith, planes, leaps, takes))
+      (omega (arith, c.sure_generations-sure.ensures.begun)) (omega (arith, c.requires.within, c.sure_generations-sure.ensures.within)) c.in_ok-soon.ensures.takes (omega (arith, planes, leaps, takes))
       (no_step new new stages limit (limit - c.sure_generations-sure.result) refl)
 
 pub identity_by_strides-requires-clause-first : goal.identity_by_strides-requires-clause-first
@@ -280,7 +280,7 @@ module _ (g : _) (c : In_default-strided g) where
       let here = subst (λ r. TakesSteps leapt new (cells_after (rules r) q) limit left) on_strides.rule takes in
       let rest = steps_as leapt new (cells_after next p) (cells_after next q) limit left (λ m x y. after_same next q p m first_then x y) here in
       whole_search _ c.early_look.new.leaper.spent.used leapt new (cells_after next p) c.args.walk.now.generations c.sure_generations-sure.result limit
-      (omega (arith, c.requires.begun, c.sure_generations-sure.ensures.some)) (omega (arith, c.requires.within, c.sure_generations-sure.ensures.within)) c.in_ok-soon.ensures.takes (omega (arith, planes, leaps, strides))
+      (omega (arith, c.sure_generations-sure.ensures.begun)) (omega (arith, c.requires.within, c.sure_generations-sure.ensures.within)) c.in_ok-soon.ensures.takes (omega (arith, planes, leaps, strides))
       (fewer_steps leapt new (cells_after next p) limit left (limit - c.sure_generations-sure.result) (omega (arith, one, begun)) rest)
 
 -- ---- where it ends by a fault
@@ -299,7 +299,7 @@ returns-in_err-grown-clause-halted g c =
     let one = c.in_ok-soon.ensures.sure c.in_default.is in
     let end = c.in_ok-soon.ensures.end c.in_default.is in
     on_err _ _ (halted_here next p c.growth_by_leaps.new.leaper.nodes walk c.args.walk.now.generations c.args.limit
-    (omega (arith, one, c.requires.begun, c.sure_generations-sure.ensures.some)) (omega (arith, end, c.requires.within))
+    (omega (arith, one, c.sure_generations-sure.ensures.begun)) (omega (arith, end, c.requires.within))
     (walk_stays next p c.planes_within_share.new.leaper.nodes c.growth_by_leaps.new.leaper.nodes (on_planes g b).grows.sound c.growth_by_leaps.ensures.goes_on.grows walk
     (walk_planes g b (c.in_ok-soon.ensures.walk c.in_default.is))))
 
@@ -315,7 +315,7 @@ returns-in_err-strided-clause-halted g c =
     let begun = c.identity_by_strides.ensures.begun in
     let told = subst (λ r. IsWalk (rules r) (cell s2 tree) s3 walk) (on g b).rule c.identity_by_strides.ensures.walk in
     on_err _ _ (halted_here (rules c.args.leaper.now.rule) (cell c.args.leaper.now.nodes tree) s3 walk c.args.walk.now.generations c.args.limit
-    (omega (arith, begun, one, c.requires.begun, c.sure_generations-sure.ensures.some)) c.identity_by_strides.ensures.within
+    (omega (arith, begun, one, c.sure_generations-sure.ensures.begun)) c.identity_by_strides.ensures.within
     (walk_as (rules c.args.leaper.now.rule) (cell s2 tree) (cell c.args.leaper.now.nodes tree) s3 walk (same_first g b) told))
 
 pub returns-in_err-late-clause-halted : goal.returns-in_err-late-clause-halted
@@ -333,7 +333,7 @@ returns-in_err-late-clause-halted g c =
     let next = rules c.args.leaper.now.rule in
     let told = subst (λ r. IsHalted (rules r) (cell s3 tree) s4 middle limit walk) (on_strides g a).rule c.in_err-late.ensures.halted in
     on_err _ _ (halted_within next (cell c.args.leaper.now.nodes tree) s4 walk c.args.walk.now.generations middle limit limit
-    (omega (arith, begun, one, c.requires.begun, c.sure_generations-sure.ensures.some)) (omega arith)
+    (omega (arith, begun, one, c.sure_generations-sure.ensures.begun)) (omega arith)
     (halted_as next (cell s3 tree) (cell c.args.leaper.now.nodes tree) s4 walk middle limit (first_then g a) told))
 
 pub look_on-requires-clause-first : goal.look_on-requires-clause-first
