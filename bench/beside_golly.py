@@ -1,6 +1,8 @@
-"""Runs of the built program and of Golly's command line, `bgolly`, by turns: seconds of a processor in user mode, and the greatest memory."""
+"""Runs of the built program and of Golly's command line, `bgolly`, by turns: seconds of a processor, and the greatest memory."""
+import gzip
 import os
 import resource
+import shutil
 import signal
 import subprocess
 import tempfile
@@ -18,12 +20,13 @@ SPACE, MEMORY = 12000, 6000
 
 @dataclass(frozen=True)
 class Ran:
-    """A run: its seconds in user mode, the peak of memory in KiB, what it printed last, and what stopped it, if something did."""
+    """A run: its seconds in user mode, the peak of memory in KiB, what it printed last, what stopped it, if something did, and its seconds in system mode."""
 
     seconds: float
     memory: int
     printed: str = ""
     stopped: str = ""
+    system: float = 0.0
 
     def told(self):
         """Seconds and memory, or what stopped it."""
@@ -46,7 +49,7 @@ def run(words, limit):
     late = child.returncode in (-signal.SIGXCPU, -signal.SIGKILL)
     # of status 1 is a run of ours whose claim is false
     stopped = f"> {limit}" if late else f"status {child.returncode}" if child.returncode not in (0, 1) else ""
-    return Ran(usage.ru_utime, usage.ru_maxrss, printed, stopped)
+    return Ran(usage.ru_utime, usage.ru_maxrss, printed, stopped, usage.ru_stime)
 
 
 def by_turns(commands, limit, times):
@@ -62,10 +65,20 @@ def by_turns(commands, limit, times):
     return best
 
 
-def golly_words(program, pattern, generations, algorithm, output=None):
-    """The words of a run of bgolly, which always name its generations: without them it never ends."""
+def golly_words(program, pattern, generations, algorithm, output=None, memory=MEMORY):
+    """The words of a run of bgolly, which always name its generations: without them it never ends. It is told to keep to so many MiB."""
     saved = ["-o", output] if output else []
-    return [program, "-q", "-q", "-M", str(MEMORY), "-m", str(generations), *algorithm, *saved, pattern]
+    return [program, "-q", "-q", "-M", str(memory), "-m", str(generations), *algorithm, *saved, pattern]
+
+
+def unpacked(path, room):
+    """A pattern's path, or that of a copy in a folder that isn't packed."""
+    if not path.endswith(".gz"):
+        return path
+    plain = os.path.join(room, os.path.basename(path[:-3]))
+    with gzip.open(path) as packed, open(plain, "wb") as file:
+        shutil.copyfileobj(packed, file)
+    return plain
 
 
 def ratio(ours, others):

@@ -6,12 +6,10 @@ It prints a table: for each pattern and each size the seconds of a processor in 
 becomes itself, which is false, so that all its generations are worked out and nothing else is. A run that takes longer than the limit is ended: `-`.
 """
 import argparse
-import gzip
 import os
-import shutil
 import tempfile
 
-from beside_golly import golly_words, run
+from beside_golly import golly_words, run, unpacked
 
 PROGRAM = os.path.abspath("crates/cafile/out/cafile")
 PATTERNS = "/usr/share/golly/Patterns"
@@ -36,16 +34,6 @@ TASKS = (
 def told(ran):
     """What the table has of a run."""
     return " | ".join(["-", ""] if ran.stopped else [f"{ran.seconds:.2f}", str(ran.memory >> 10)])
-
-
-def unpacked(path, room):
-    """The pattern's path, or that of a copy that isn't packed."""
-    if not path.endswith(".gz"):
-        return path
-    plain = os.path.join(room, os.path.basename(path[:-3]))
-    with gzip.open(path) as packed, open(plain, "wb") as file:
-        shutil.copyfileobj(packed, file)
-    return plain
 
 
 def main():

@@ -45,7 +45,7 @@ SQUARES = re.compile(rb"(\d+)\.(\d) million squares")
 
 # The side of a soup whose squares are measured in each of so many generations, and the bytes of address space that are enough for its squares and for as many
 # boxes as are remembered, but not for the boxes of all squares.
-MEASURED_SIDE, MEASURED, BOXES = 500, 400, 146_000_000
+MEASURED_SIDE, MEASURED, BOXES = 1000, 32, 95_000_000
 
 # Cells that lie far from each other, the side of a soup, the generations of a small one, leaves, transitions and claims.
 FAR_CELLS, SIDE, GENERATIONS, LEAVES, TRANSITIONS, CLAIMS = 10000, 2500, 700, 81920, 60000, 120000
