@@ -5,6 +5,7 @@
   macrocell and of a long run over a small file.
 - Where a file's bytes, a rule file's table or a claim text need more, the text is out of memory, and other texts are judged.
 - `show` and `convert` of such files print nothing and are out of memory, on standard input too.
+- A large RLE is told of and written anew in little more than its bytes and those that are written: its cells and its items aren't listed.
 - Under an ample limit all is judged, and under each limit between, a line is the ample one or refused for lack of memory, or the text is out of
   memory.
 - A long run whose squares need more drops them and goes on, by shorter leaps, to the plane that is known.
@@ -39,6 +40,10 @@ GLIDERS, ROOM, BOUND = 16000, 353_000_000, 2000
 
 # The generations of a plane that grows in all directions, and the bytes of address space in which it is followed, though all its squares take twice as many.
 FOLLOWED, LITTLE = 800, 40_000_000
+
+# The side of a soup whose RLE takes 11.6 million bytes, and the bytes of address space in which it is told of and written anew: its live cells take
+# 139 million as a list.
+LISTED_SIDE, UNLISTED = 3400, 60_000_000
 
 # A line of progress that tells the squares that there are.
 SQUARES = re.compile(rb"(\d+)\.(\d) million squares")
@@ -176,6 +181,17 @@ def try_shown(tally, files, cells):
         tally.expect(f"show {name}, ample space", run(["show", path, *more], **within(AMPLE)), wanted)
 
 
+def try_unlisted_cells(tally, files):
+    """`show` and `convert --to rle` of an RLE of some millions of cells, where there is no room for a list of them."""
+    text, cells = soup(LISTED_SIDE, "B3/S23")
+    path = files.path("unlisted.rle", text)
+    tally.expect("show, no room for a list of cells", run(["show", path], **within(UNLISTED)), figures(0, cells, f"0 0 {LISTED_SIDE} {LISTED_SIDE}", "rle"))
+    rows = [re.sub(r"(.)\1+", lambda run: f"{len(run[0])}{run[1]}", row.rstrip("b")) for row in text[:-2].split("\n", 1)[1].split("$\n")]
+    body = "\n".join(re.findall(r".{0,69}\D", "$".join(rows) + "!"))
+    wanted = f"#CXRLE Pos=0,0\nx = {LISTED_SIDE}, y = {LISTED_SIDE}, rule = B3/S23\n{body}\n"
+    tally.expect("convert, no room for a list of cells", run(["convert", path, "--to", "rle"], **within(UNLISTED)), ample(wanted.encode()))
+
+
 def try_less_memory(tally, files):
     """A plane that is reached in ample space, in less, and a claim on another one that isn't."""
     plane = full_store.explosion()
@@ -226,6 +242,7 @@ def main():
         try_claims(tally, files)
         try_texts(tally, files)
         try_shown(tally, files, cells)
+        try_unlisted_cells(tally, files)
         try_less_memory(tally, files)
         try_a_store_of_its_own(tally, files)
         try_boxes(tally, files)

@@ -260,12 +260,24 @@ def try_many_states(texts):
     texts.tally.expect("16777216 cells of three states, written anew", run(["convert", path, "--to", "rle"]), ample(text.encode()))
 
 
+def try_long_planes(texts):
+    """A run of a million cells of a third state that becomes squares, and squares of 4096 by 4096 cells whose text takes 17 million bytes."""
+    text = "#CXRLE Pos=0,0\nx = 1000000, y = 1, rule = 345/2/4\n1000000B!\n"
+    squares = run(["convert", texts.path("run.rle", text), "--to", "mc"]).printed.decode()
+    texts.tally.expect("1000000 cells of a third state, to mc and back", run(["convert", texts.path("run.mc", squares), "--to", "rle"]), ample(text.encode()))
+    rows = ["[M2] (cafile)", "#R B3/S23", "*.*.*.*$" * 8, *(f"{4 + up} {up + 1} {up + 1} {up + 1} {up + 1}" for up in range(9))]
+    body = "\n".join(re.findall(r".{1,70}", "$".join(["b".join("o" * 2048)] * 4096) + "!"))
+    text = f"#CXRLE Pos=-2048,-2048\nx = 4095, y = 4096, rule = B3/S23\n{body}\n"
+    path = texts.path("stripes.mc", "\n".join(rows) + "\n")
+    texts.tally.expect("stripes of 8388608 cells, from mc to rle", run(["convert", path, "--to", "rle"]), ample(text.encode()))
+
+
 def main():
     tally = Tally()
     with tempfile.TemporaryDirectory() as folder:
         texts = Texts(tally, folder)
         for it in (try_long_texts, try_kinds, try_rule_files, try_many_files, try_more_files, try_one_reading, try_periods, try_many_cells, try_ships,
-                   try_the_most_cells, try_many_states):
+                   try_the_most_cells, try_many_states, try_long_planes):
             it(texts)
     tally.finish()
 

@@ -1,8 +1,8 @@
 -- A file is converted to one text.
-use Rattle.std.proofs.Common.{◌≡◌, ◌↔◌, ℕ, List, Option, None, Some, refl, sym, ap, subst, ◌∙◌, inl, inr}
+use Rattle.std.proofs.Common.{◌≡◌, ℕ, List, Option, None, Some, sym, ap, subst, ◌∙◌, inl, inr}
 use Rattle.ca_plane.specs.declared.point.Point.{Point}
 use Rattle.ca_plane.specs.declared.point.Bounds.{Bounds}
-use Rattle.std.specs.Option.{MatchOption, IfSome, IsNone}
+use Rattle.std.specs.Option.{MatchOption}
 use Rattle.ca_plane.specs.Plane.{Picture, cell, IsSame, IsLive}
 use Rattle.ca_plane.specs.Box.{IsLeastBox}
 use Rattle.ca_rle.specs.Tidy as rle
@@ -49,9 +49,9 @@ module _ (p q : Picture) (same : IsSame p q) where
   tidy_as Mc text rule_text generation states tidy = tidy_shown (cell p) (cell q) same text rule_text generation states tidy
 
 -- the bounds of a picture are those of one that shows the same
-pub bounds_shown : (p q : Picture) → IsSame p q → (found : Option Bounds) → (IsNone found ↔ (IsLive p → ⊥)) → IfSome found (IsLeastBox p) → MatchOption found (IsLive q → ⊥) (IsLeastBox q)
-bounds_shown p q same None none some = λ live. none.0 refl (live.0, live.1, λ e. live.2 (sym (same live.0 live.1) ∙ e))
-bounds_shown p q same (Some box) none some = box_shown p q same box some
+pub match_shown : (p q : Picture) → IsSame p q → (found : Option Bounds) → MatchOption found (IsLive p → ⊥) (IsLeastBox p) → MatchOption found (IsLive q → ⊥) (IsLeastBox q)
+match_shown p q same None dead = λ live. dead (live.0, live.1, λ e. live.2 (sym (same live.0 live.1) ∙ e))
+match_shown p q same (Some box) least = box_shown p q same box least
 
 -- a picture has one tidy text in each format
 pub one_tidy_as : (format : Format) (t u : List ℕ) (p : Picture) (rule_text : List ℕ) (generation states : ℕ) → IsTidyAs format t p rule_text generation states

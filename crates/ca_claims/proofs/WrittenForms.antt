@@ -16,7 +16,7 @@ use Rattle.ca_claims.specs.declared.conversion.ConvertFault.TheVariants.{BadPatt
 use Rattle.ca_claims.specs.Means.{format_of, HoldsRuledPattern}
 use Rattle.ca_claims.specs.Ahead.{HoldsSmallRuledPattern}
 use Rattle.ca_claims.specs.declared.detailed_fault.DetailedFault.{DetailedFault}
-use Rattle.ca_claims.specs.DetailedFault.{IsDetailOf}
+use Rattle.ca_claims.specs.DetailedFault.{IsDetailOf, HasDetail}
 use Rattle.ca_claims.specs.Converted.{IsConverted, IsSummary, IsConvertFault}
 use Rattle.ca_claims.specs.inner.Glance.{IsSummaryOf}
 use Rattle.ca_claims.specs.inner.Patterns.{IsReadFrom, rule_of}
@@ -57,6 +57,10 @@ undetailed bytes f target (BadRule fault) h = absurd h
 undetailed bytes f target StateTooLarge h = (refl, refl)
 undetailed bytes f target TooManyCells h = (refl, refl)
 undetailed bytes f target Memory h = (refl, refl)
+
+pub undetailed_err : (bytes : List ℕ) (f : ℤ → ℤ → ℕ) (target : Format) (A : Type 0) (r : Result A ConvertFault) (w : Result A (DetailedFault ConvertFault)) → w ≡ with_no_detail r → IfErr r (AreUnwritten target f) → IfErr w (HasDetail bytes)
+undetailed_err bytes f target A (Ok a) w e h = rw e tt
+undetailed_err bytes f target A (Err fault) w e h = rw e (undetailed bytes f target fault h)
 
 module _ (bytes : List ℕ) (tables : List TableRule) (f : ℤ → ℤ → ℕ) (rule : RuleValue) (generation : ℕ) (file : HoldsCells bytes tables f rule generation) where
   -- why it isn't written is why its file isn't converted

@@ -1,12 +1,9 @@
 //! What is judged of cells, those of a tree or of a plane.
 
 ghost use Rattle.std.specs.Prelude.{◌≤◌, IsTrue, IsFalse, IfOk, MatchOption};
-ghost use Rattle.ca_plane.specs.Plane.{cell as plane_cell};
 ghost use Rattle.ca_quad.specs.Trees.{IsTree, cell};
 ghost use Rattle.ca_macro.specs.Pattern.{AreInRange};
 ghost use Rattle.ca_plane.specs.Population.{HasFewCells, HasTooManyCells};
-ghost use Rattle.ca_rule.specs.Rule.{rule_value};
-ghost use Rattle.ca_claims.specs.Answers.{HasLargeState, HasSmallStates};
 ghost use Rattle.ca_claims.specs.Ahead.{HasCellOutOfRange};
 ghost use Rattle.ca_claims.specs.inner.Patterns.{ShowsLarge, ShowsSmall};
 ghost use Rattle.ca_claims.specs.inner.Cells.{IsBoxInRange, IsBoxOutOfRange, IsPlaneOf};
@@ -15,7 +12,6 @@ use crate::ruled::RuledPattern;
 use ca_plane::limits::{MOST_CELLS, RANGE};
 use ca_plane::{Automaton, Memory, Plane};
 use ca_quad::{QuadFault, Store, Tree, WideBounds};
-use ca_rule::Rule;
 use std::alloc::Global;
 
 /// Whether some cell of the pattern has a state that its rule doesn't have.
@@ -30,20 +26,6 @@ pub(crate) fn has_large_state(
 {
     let greatest = store.greatest_state(alloc, ruled.pattern.tree)?;
     Ok(u16::from(greatest) >= ruled.rule.states())
-}
-
-/// Whether some cell of the plane has a state that the rule doesn't have.
-pub(crate) fn has_large_cell(cells: &Plane, rule: &Rule<'_>) -> bool
-    ensures large { IsTrue result → HasLargeState (rule_value rule.now) (plane_cell cells.now) }
-    ensures small { IsFalse result → HasSmallStates (rule_value rule.now) (plane_cell cells.now) }
-{
-    let states = rule.states();
-    'cells: for (_, state) in cells.cells() {
-        if u16::from(state) >= states {
-            return true;
-        }
-    }
-    false
 }
 
 /// Whether more cells of the tree, whose level is at most 63, are live than are handled one by one.

@@ -1,25 +1,29 @@
 //! Patterns that are written in another form.
 
-ghost use Rattle.std.specs.Prelude.{◌≡◌, IfOk, IfErr};
+ghost use Rattle.std.specs.Prelude.{◌≡◌, ℕ, List, IfOk, IfErr};
 ghost use Rattle.ca_plane.specs.Plane.{cell as plane_cell};
 ghost use Rattle.ca_quad.specs.Trees.{cell};
+ghost use Rattle.ca_rle.specs.declared.item.Item.{Item};
+ghost use Rattle.ca_rle.specs.Items.{Items};
+ghost use Rattle.ca_rle.specs.Shown.{picture_of_items};
 ghost use Rattle.ca_rule.specs.Rule.{rule_value};
+ghost use Rattle.ca_rule.specs.TableNext.{TableRule};
 ghost use Rattle.ca_claims.specs.declared.format.Format.TheVariants.{Rle};
 ghost use Rattle.ca_claims.specs.Converted.{IsConverted, IsConvertFault};
 ghost use Rattle.ca_claims.specs.DetailedFault.{HasDetail};
 ghost use Rattle.ca_claims.specs.inner.Ready.{IsWritableTree, IsWritablePlane, IsWrittenAs, AreUnwritten};
-ghost use Rattle.ca_claims.specs.inner.Ready.{with_no_detail};
+ghost use Rattle.ca_claims.specs.inner.Ready.{IsReadyText, with_no_detail};
 
 use crate::cells::plane_of;
 use crate::detailed_fault::DetailedFault;
 use crate::format::Format;
 use crate::read::format_of;
-use crate::ruled::{read_ruled, read_ruled_plane};
+use crate::ruled::{RuledText, judge_ruled, read_ruled};
 use crate::verdict::PatternFault;
 use ca_macro::write_macro;
 use ca_plane::{Automaton, Plane};
 use ca_quad::{Store, Tree};
-use ca_rle::write_rle;
+use ca_rle::{rewrite_rle, write_rle};
 use ca_rule::{Rule, RuleFault, Table};
 use std::alloc::Global;
 use thiserror::Error;
@@ -85,10 +89,10 @@ pub fn convert_with_detail(
     ensures detail { IfErr result (HasDetail bytes.now) }
 {
     match (format_of(bytes), target) {
-        // An RLE is written as RLE from the plane of its cells, without squares.
+        // An RLE is written as RLE from its items, without squares or a list of its cells.
         (Format::Rle, Format::Rle) => {
-            let ruled = read_ruled_plane(alloc, bytes, tables)?;
-            without_detail(rle_of_plane(alloc, &ruled.cells, &ruled.rule, ruled.generation))
+            let ruled = judge_ruled(alloc, bytes, tables)?;
+            without_detail(rle_of_text(alloc, ruled))
         }
         _ => {
             let mut store = Store::new(alloc);
@@ -115,6 +119,24 @@ fn without_detail(
     match text {
         Ok(text) => Ok(text),
         Err(fault) => Err(DetailedFault::of(fault)),
+    }
+}
+
+/// The tidy RLE of the cells of an RLE file, with the printed form of its rule.
+fn rle_of_text(alloc: Global, ruled: RuledText<'_, '_>) -> Result<Vec<u8>, ConvertFault>
+    requires { (bytes : List ℕ) × (tables : List TableRule) × IsReadyText bytes tables ruled }
+    ensures written { (items : List Item) → Items ruled.entry.text.body.now items → IfOk result (λ text.
+        IsWrittenAs Rle (plane_cell (picture_of_items ruled.entry.text.corner items))
+        (rule_value ruled.entry.rule) ruled.entry.text.generation text.items) }
+    ensures fault { (items : List Item) → IfErr result (AreUnwritten Rle
+        (plane_cell (picture_of_items ruled.entry.text.corner items))) }
+{
+    let Ok(rule_text) = ruled.rule.text(alloc) else {
+        return Err(ConvertFault::Memory);
+    };
+    match rewrite_rle(alloc, ruled.text, &rule_text, ruled.rule.states()) {
+        Ok(text) => Ok(text),
+        Err(_) => Err(ConvertFault::Memory),
     }
 }
 

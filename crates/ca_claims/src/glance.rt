@@ -15,7 +15,7 @@ use crate::detailed_fault::DetailedFault;
 use crate::format::Format;
 use crate::pattern::Summary;
 use crate::read::format_of;
-use crate::ruled::{read_ruled, read_ruled_plane};
+use crate::ruled::{judge_ruled, read_ruled};
 use ca_plane::{Bounds, Memory};
 use ca_quad::{Store, Tree, WideBounds};
 use ca_rule::{Rule, Table};
@@ -53,18 +53,18 @@ pub fn summary_with_detail(
     ensures detail { IfErr result (HasDetail bytes.now) }
 {
     match format_of(bytes) {
-        // An RLE is summed up from the plane of its cells, without squares.
+        // An RLE is summed up from its items, without squares or a list of its cells.
         Format::Rle => {
-            let ruled = read_ruled_plane(alloc, bytes, tables)?;
+            let ruled = judge_ruled(alloc, bytes, tables)?;
             let Ok(rule_text) = ruled.rule.text(alloc) else {
                 return Err(DetailedFault::of(ConvertFault::Memory));
             };
             Ok(Summary {
                 kind: Format::Rle,
                 rule_text,
-                generation: ruled.generation,
-                cells: ruled.cells.len() as u128,
-                bounds: ruled.cells.bounds(),
+                generation: ruled.text.generation,
+                cells: u128::from(ruled.text.cells),
+                bounds: ruled.text.bounds,
             })
         }
         Format::Mc => {

@@ -7,18 +7,19 @@ ghost use Rattle.ca_claims.specs.Converted.{IsSummaryFault};
 ghost use Rattle.ca_claims.specs.DetailedFault.{HasDetail};
 ghost use Rattle.ca_claims.specs.declared.format.Format.TheVariants.{Rle};
 ghost use Rattle.ca_claims.specs.Means.{format_of};
-ghost use Rattle.ca_claims.specs.inner.Ready.{IsReady, IsReadyPlane};
+ghost use Rattle.ca_claims.specs.inner.Ready.{IsReady, IsReadyText};
 ghost use Rattle.ca_claims.specs.inner.Patterns.{IsUnread, IsUnnamedFor, IsRuledAs};
 
-use crate::cells::{has_large_cell, has_large_state};
+use crate::cells::has_large_state;
 use crate::conversion::ConvertFault;
 use crate::detailed_fault::DetailedFault;
 use crate::pattern::Loaded;
 use crate::read::{BadPattern, bad_rle, read_with_line};
 use crate::verdict::PatternFault;
-use ca_plane::Plane;
+use ca_plane::Automaton;
+use ca_plane::text::rule_text;
 use ca_quad::Store;
-use ca_rle::{Pattern, read_rle_with_line};
+use ca_rle::{RleText, judge_rle};
 use ca_rule::{Rule, RuleFault, Table, resolve};
 use std::alloc::Global;
 
@@ -110,44 +111,38 @@ pub(crate) fn read_ruled<'t>(
     }
 }
 
-/// The cells of an RLE file as a plane, and the rule that its rule text names.
-#[derive(Drop)]
-pub(crate) struct RuledPlane<'t> {
-    pub cells: Plane,
+/// An RLE file whose cells stay in its bytes, and the rule that its rule text names.
+#[derive(Clone, Copy)]
+pub(crate) struct RuledText<'a, 't> {
+    pub text: RleText<'a>,
     pub rule: Rule<'t>,
-    pub generation: u64,
 }
 
-/// Reads an RLE file into a plane, without squares: a pattern of small states under a rule that its rule text
-/// names among the tables.
-pub(crate) fn read_ruled_plane<'t>(
+/// Judges an RLE file, without squares and without a list of cells: a pattern of small states under a rule
+/// that its rule text names among the tables.
+pub(crate) fn judge_ruled<'a, 't>(
     alloc: Global,
-    bytes: &[u8],
+    bytes: &'a [u8],
     tables: &'t [Table],
-) -> Result<RuledPlane<'t>, DetailedFault<ConvertFault>>
+) -> Result<RuledText<'a, 't>, DetailedFault<ConvertFault>>
     requires { format_of bytes.now ≡ Rle }
-    ensures ready { IfOk result (IsReadyPlane bytes.now tables.now) }
+    ensures ready { IfOk result (IsReadyText bytes.now tables.now) }
     ensures fault { IfErr result (λ refused. IsSummaryFault bytes.now tables.now refused.fault) }
     ensures detail { IfErr result (HasDetail bytes.now) }
 {
-    let Pattern {
-        cells,
-        rule_text,
-        generation,
-    } = match read_rle_with_line(alloc, bytes) {
-        Ok(pattern) => pattern,
+    let text = match judge_rle(bytes) {
+        Ok(text) => text,
         Err(found) => return Err(refusal_of_bad_pattern(bad_rle(found))),
+    };
+    let Ok(rule_text) = rule_text(alloc, text.rule) else {
+        return Err(DetailedFault::of(ConvertFault::Memory));
     };
     let rule = match resolve(&rule_text, tables) {
         Ok(rule) => rule,
         Err(fault) => return Err(refusal_of_unnamed_rule(UnnamedRule { fault, rule_text })),
     };
-    if has_large_cell(&cells, &rule) {
+    if u16::from(text.greatest) >= rule.states() {
         return Err(DetailedFault::of(ConvertFault::StateTooLarge));
     }
-    Ok(RuledPlane {
-        cells,
-        rule,
-        generation,
-    })
+    Ok(RuledText { text, rule })
 }

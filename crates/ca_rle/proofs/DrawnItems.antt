@@ -31,10 +31,10 @@ abbrev pub IsAhead : Point → ℤ → ℤ → Type 0
 IsAhead at x y = (at.y <ℤ y) ⊎ ((y ≡ at.y) × (at.x ≤ℤ x))
 
 -- the place after an item: further right, or below the corner further down
-abbrev next_place : Point → Point → Item → Point
+abbrev pub next_place : Point → Point → Item → Point
 next_place corner at i = if ends_row i.tag then record { y = at.y +ℤ pos i.count; x = corner.x } else record { y = at.y; x = at.x +ℤ pos i.count }
 
-place_after-push : (corner : Point) (is : List Item) (i : Item) → place_after corner (is ++ i ∷ []) ≡ next_place corner (place_after corner is) i
+pub place_after-push : (corner : Point) (is : List Item) (i : Item) → place_after corner (is ++ i ∷ []) ≡ next_place corner (place_after corner is) i
 place_after-push corner is i =
     elim (cases_Bool (ends_row i.tag)) [
       | inl e ↦
@@ -94,10 +94,11 @@ pub record IsNext (top : ℕ) (corner : Point) (items : List Item) (at : Offset)
   pub state : tag_state j.tag ≤ 255
   pub most : tag_state i.tag ≤ top
   pub room : tag_state i.tag ≢ 0 → HasRoomRight (point_from corner at) i.count
+  pub place : tag_state i.tag ≢ 0 → point_from corner at ≡ place_after corner items
   pub cells : cells_from (point_from corner at) i ≡ item_cells corner items j
 
 -- a kept offset is the offset, where the place is in range
-offset_is : (corner : Point) (items : List Item) (at : Offset) → IsInRange corner → IsOffsetOf items at → IsInRange (place_after corner items) → point_from corner at ≡ place_after corner items
+pub offset_is : (corner : Point) (items : List Item) (at : Offset) → IsInRange corner → IsOffsetOf items at → IsInRange (place_after corner items) → point_from corner at ≡ place_after corner items
 offset_is corner items at start offset range =
     point-same _ _ (omega (arith, ints, start.2, offset.rows, range.3)) (omega (arith, ints, start.0, offset.columns, range.1))
 
@@ -135,6 +136,7 @@ next_is most corner bytes rest more at all items i spelled range low run offset 
           omega (arith, low, whole, parts, last)
           );
       room = rw exact (λ ne. subst (λ p. HasRoomRight p j.count) (sym (place ne)) (live ne));
+      place = rw exact place;
       cells = rw exact (next_cells (point_from corner at) (place_after corner items) j.count j.count j.tag place refl);
     }
   where

@@ -12,6 +12,7 @@ use Rattle.ca_rle.specs.declared.item.Tag.TheVariants.{Cell, RowEnd}
 use Rattle.ca_rle.specs.Shown.{tag_state, row_count, columns_of, run_of, place_after, picture_of_items}
 use Rattle.ca_rle.specs.Tidy.{AreTidy}
 use Rattle.ca_rle.specs.inner.Written.{some_of, IsItemGap}
+use Rattle.ca_rle.specs.inner.RunByRun.{AreBefore}
 use Rattle.ca_rle.proofs.PushedItems.{row_count-push, columns_of-push, picture_after-push}
 
 -- so many of a tag
@@ -107,12 +108,6 @@ pub cells-run : (corner : Point) (is : List Item) (s n : ℕ) → 0 < s → pict
 cells-run corner is s n live = picture_after-push corner [] is (item_of (Cell s) n) ∙ rw (nonzero s live) refl
 
 -- ---- tidiness
-
--- items that may stand before one with this tag, in a tidy list
-abbrev pub AreBefore : List Item → Tag → Type 0
-AreBefore [] tag = Unit {0}
-AreBefore (i ∷ []) tag = (0 < i.count) × (i.tag ≢ tag) × (i.tag ≡ Cell 0 → tag ≢ RowEnd)
-AreBefore (i ∷ j ∷ is) tag = (0 < i.count) × (i.tag ≢ j.tag) × (i.tag ≡ Cell 0 → j.tag ≢ RowEnd) × AreBefore (j ∷ is) tag
 
 -- one more item that may stand there
 pub before-push : (is : List Item) (tag next : Tag) (n : ℕ) → AreBefore is tag → 0 < n → tag ≢ next → (tag ≡ Cell 0 → next ≢ RowEnd) → AreBefore (is ++ item_of tag n ∷ []) next

@@ -49,3 +49,9 @@ pub mod WholeTexts
 pub mod FileParts
 pub mod DrawnCells
 pub mod ReadParts
+pub mod RisingItems
+pub mod RunBoxes
+pub mod SpanItems
+pub mod JudgedTexts
+pub mod MergedRuns
+pub mod RewrittenItems

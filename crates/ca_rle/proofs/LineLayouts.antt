@@ -1,12 +1,12 @@
 -- Pieces laid out in lines of at most 70 characters, one after another.
-use Rattle.std.proofs.Common.{◌≡◌, ℕ, ◌+◌, ◌<◌, ◌≤◌, List, [], ◌∷◌, ◌++◌, length, ◌⊎◌, inl, inr, sym, ap, subst, ◌∙◌, append_assoc, length-append, arith}
+use Rattle.std.proofs.Common.{◌≡◌, ℕ, ◌+◌, ◌<◌, ◌≤◌, List, [], ◌∷◌, ◌++◌, length, inl, inr, sym, ap, subst, ◌∙◌, append_assoc, length-append, arith}
 use Rattle.std.specs.List.{flat_map, concat}
 use Rattle.std.proofs.lemmas.List.{append-nil}
 use Rattle.std.proofs.lemmas.List.Concat.{flat_map-append}
 use Rattle.std.proofs.lemmas.List.Folds.{concat-append}
 use Rattle.ca_rle.specs.File.{line_with_lf}
 use Rattle.ca_rle.specs.Tidy.{AreLines}
-use Rattle.ca_rle.specs.inner.Written.{IsPlaced, PutsLines}
+use Rattle.ca_rle.specs.inner.Written.{IsPlaced, PutsLines, IsOpen, IsLaid}
 
 -- a piece at a line's end
 concat-push : (line : List (List ℕ)) (piece : List ℕ) → concat (line ++ piece ∷ []) ≡ concat line ++ piece
@@ -31,20 +31,6 @@ lines_new [] line piece are full short =
     (are.0, are.1, full, (omega arith, omega (arith, alone), tt, tt))
 lines_new (l ∷ []) line piece are full short = (are.0, are.1, are.2, lines_new [] line piece are.3 full short)
 lines_new (l ∷ k ∷ ls) line piece are full short = (are.0, are.1, are.2, lines_new (k ∷ ls) line piece are.3 full short)
-
--- no line is open yet, or one is, which has a piece, and the lines are lines with it
-abbrev IsOpen : List (List (List ℕ)) → List (List ℕ) → Type 0
-IsOpen closed last = ((closed ≡ []) × (last ≡ [])) ⊎ ((0 < length last) × AreLines (closed ++ last ∷ []))
-
--- pieces stand after a text in lines, of which the last isn't ended yet and has so many characters
-pub record IsLaid (start text : List ℕ) (filled : ℕ) (pieces : List (List ℕ)) : Type 0 where
-  pub closed : List (List (List ℕ))
-  pub open_line : List (List ℕ)
-  pub lines_are : IsOpen closed open_line
-  pub whole : flat_map (λ line. line) closed ++ open_line ≡ pieces
-  pub filled_is : filled ≡ length (concat open_line)
-  pub short : filled ≤ 70
-  pub spelled : text ≡ start ++ (flat_map (λ line. line_with_lf (concat line)) closed ++ concat open_line)
 
 -- the last line with a piece that has room in it
 open_more : (closed : List (List (List ℕ))) (last : List (List ℕ)) (piece : List ℕ) → IsOpen closed last → length (concat last) + length piece ≤ 70

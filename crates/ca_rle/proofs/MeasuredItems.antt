@@ -74,13 +74,10 @@ pub record IsMeasured (bytes after : List ℕ) (at : Offset) (extent : Extent) (
   pub reach : IsItemsExtent items extent
 
 -- one more item
-pub measured_more : (bytes after more : List ℕ) (at next : Offset) (old new : Extent) (items : List Item) (i : Item) → IsMeasured bytes after at old items → IsItemAtFront after i more → IsNextOffset i at next → IsGrownBy i at old new
-    → (all : List Item) × IsMeasured bytes more next new all
-measured_more bytes after more at next old new items i m (j, item, same) n g = (
-  items ++ j ∷ [],
-  record {
-    run = Run-push bytes items j after more m.run item;
-    offset = offset_more items j at next m.offset (subst (λ i. IsNextOffset i at next) same n);
-    reach = extent_more items j at old new m.offset m.reach (subst (λ i. IsGrownBy i at old new) same g);
-  },
-)
+pub measured_more : (bytes after more : List ℕ) (at next : Offset) (old new : Extent) (items : List Item) (i : Item) → IsMeasured bytes after at old items → (item : IsItemAtFront after i more) → IsNextOffset i at next → IsGrownBy i at old new
+    → IsMeasured bytes more next new (items ++ item.0 ∷ [])
+measured_more bytes after more at next old new items i m (j, item, same) n g = record {
+  run = Run-push bytes items j after more m.run item;
+  offset = offset_more items j at next m.offset (subst (λ i. IsNextOffset i at next) same n);
+  reach = extent_more items j at old new m.offset m.reach (subst (λ i. IsGrownBy i at old new) same g);
+}

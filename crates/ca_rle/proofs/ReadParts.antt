@@ -18,7 +18,7 @@ use Rattle.ca_rle.proofs.TextJudgements.{bare_of}
 use Rattle.ca_rle.proofs.Prefixes.{item_state_low}
 
 -- no state of items is above 255
-run_low : (bytes rest : List ℕ) (items : List Item) → Run bytes items rest → greatest_state items ≤ 255
+pub run_low : (bytes rest : List ℕ) (items : List Item) → Run bytes items rest → greatest_state items ≤ 255
 run_low bytes rest [] run = omega arith
 run_low bytes rest (i ∷ is) (front, more, item, later, e) =
     let here = item_state_low bytes i more (front, more, item, refl, e) in

@@ -11,7 +11,7 @@ use Rattle.std.proofs.lemmas.List.FromFn.{map-range_with_len_more}
 use Rattle.std.proofs.lemmas.Map.Iter.{rest_more, rest_all}
 use Rattle.std.proofs.lemmas.Map.Keys.{sorted_head, sorted_tail}
 use Rattle.ca_plane.specs.declared.point.Point.{Point}
-use Rattle.ca_plane.specs.Plane.{Picture, cell}
+use Rattle.ca_plane.specs.Plane.{Picture}
 use Rattle.ca_plane.specs.Sparse.{IsSparse, point_cmp}
 use Rattle.ca_plane.proofs.Pictures.{IsListed-at, point-same}
 use Rattle.ca_rle.specs.declared.item.Item.{Item}
@@ -20,14 +20,10 @@ use Rattle.ca_rle.specs.declared.write.runs.Run.{Run}
 use Rattle.ca_rle.specs.Shown.{place_after, run_of, picture_of_items}
 use Rattle.ca_rle.specs.Tidy.{AreTidy}
 use Rattle.ca_rle.specs.inner.Written.{IsItemGap}
-use Rattle.ca_rle.proofs.Gaps.{PutsGap, item_of, AreBefore, place-cells, place-gap, cells-gap, cells-run, before-first, before-next, tidy-end}
+use Rattle.ca_rle.specs.inner.RunByRun.{IsAhead, IsReadTo, IsCorner}
+use Rattle.ca_rle.proofs.Gaps.{PutsGap, item_of, place-cells, place-gap, cells-gap, cells-run, before-first, before-next, tidy-end}
 
 -- ---- reading order
-
--- the point is at a place in reading order, or after it
-pub record IsAhead (at point : Point) : Type 0 where
-  pub row : at.y ≤ℤ point.y
-  pub column : point.y ≡ at.y → at.x ≤ℤ point.x
 
 orders_ahead : (r s : Ordering) (a b c d : ℤ) → ordering_then r s ≡ Less → MatchOrdering r (a <ℤ b) (a ≡ b) (b <ℤ a) → MatchOrdering s (c <ℤ d) (c ≡ d) (d <ℤ c)
     → (a ≤ℤ b) × (b ≡ a → (c +ℤ pos 1) ≤ℤ d)
@@ -70,18 +66,8 @@ ahead_after p xs u e at sparse split row column =
 
 -- ---- runs
 
--- the items before a run, and the run of so many cells, lead from the corner on and show these cells
-pub record IsReadTo (corner : Point) (items : List Item) (run : Run) (seen : Picture) : Type 0 where
-  pub count : ℕ
-  pub some : 0 < count
-  pub past : run.past ≡ run.from.x +ℤ pos count
-  pub live : 0 < run.state
-  pub place : place_after corner items ≡ run.from
-  pub before : AreBefore items (Cell run.state)
-  pub cells : seen ≡ picture_of_items corner items ++ run_of run.state run.from count
-
 -- runs with the same parts are the same
-run_same : (run next : Run) → run.from ≡ next.from → run.past ≡ next.past → run.state ≡ next.state → run ≡ next
+pub run_same : (run next : Run) → run.from ≡ next.from → run.past ≡ next.past → run.state ≡ next.state → run ≡ next
 run_same run next from past state = λ t. record { from = from t; past = past t; state = state t }
 
 -- a cell so far after the first of a run
@@ -153,7 +139,7 @@ run_item : (corner : Point) (items : List Item) (run : Run) (seen : Picture) (it
 run_item corner items run seen item read tag past = item_same item run.state read.count tag (omega (arith, ints, read.past, past))
 
 -- the picture of the items with the run's
-run_shown : (corner : Point) (items : List Item) (run : Run) (seen : Picture) (read : IsReadTo corner items run seen)
+pub run_shown : (corner : Point) (items : List Item) (run : Run) (seen : Picture) (read : IsReadTo corner items run seen)
     → picture_of_items corner (items ++ item_of (Cell run.state) read.count ∷ []) ≡ seen
 run_shown corner items run seen read =
     cells-run corner items run.state read.count read.live ∙ ap (λ (at : Point). picture_of_items corner items ++ run_of run.state at read.count) read.place ∙ sym read.cells
@@ -226,10 +212,6 @@ pub record IsReadBefore (p : Picture) (corner : Point) (items : List Item) (run 
   pub split : p ≡ seen ++ left
   pub read : IsReadTo corner items run seen
   pub ahead : AreAhead (record { y = run.from.y; x = run.past }) left
-
--- the plane's cells are right of the corner and below it
-abbrev pub IsCorner : Picture → Point → Type 0
-IsCorner p corner = (x y : ℤ) → cell p x y ≢ 0 → (corner.x ≤ℤ x) × (corner.y ≤ℤ y)
 
 -- what a turn knows of its cell
 pub record IsNext (corner : Point) (e : Point × ℕ) : Type 0 where

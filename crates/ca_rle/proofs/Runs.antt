@@ -57,7 +57,7 @@ cell-after-zero (e ∷ es) r x y states h =
     ]
 
 -- one that the earlier shows as another state is as in the earlier
-cell-front : (p r : Picture) (x y : ℤ) → cell p x y ≢ 0 → cell (p ++ r) x y ≡ cell p x y
+pub cell-front : (p r : Picture) (x y : ℤ) → cell p x y ≢ 0 → cell (p ++ r) x y ≡ cell p x y
 cell-front [] r x y h = absurd (h refl)
 cell-front (e ∷ es) r x y h =
     elim (cases_Bool (int_eq y e.0.y && int_eq x e.0.x)) [

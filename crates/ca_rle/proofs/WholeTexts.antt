@@ -9,8 +9,8 @@ use Rattle.ca_rle.specs.declared.item.Item.{Item}
 use Rattle.ca_rle.specs.File.{line_with_lf}
 use Rattle.ca_rle.specs.Shown.{picture_of_items}
 use Rattle.ca_rle.specs.Tidy.{AreTidy, HaveStates, IsFrame, corner_line, header_line, item_text, IsTidyRle}
-use Rattle.ca_rle.specs.inner.Written.{IsPlaced, PutsLines}
-use Rattle.ca_rle.proofs.LineLayouts.{IsLaid, laid_more, laid_end}
+use Rattle.ca_rle.specs.inner.Written.{IsPlaced, PutsLines, IsLaid}
+use Rattle.ca_rle.proofs.LineLayouts.{laid_more, laid_end}
 
 -- the texts of the first items, with one more
 pub texts_more : (states : ℕ) (items : List Item) (i : ℕ) (d : Item) → i < length items → map (item_text states) (take (i + 1) items) ≡ map (item_text states) (take i items) ++ item_text states (get_or items i d) ∷ []

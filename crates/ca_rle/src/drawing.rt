@@ -104,7 +104,7 @@ fn draw_item<C: Canvas>(canvas: &mut C, corner: Point, at: Offset, item: Item) -
 
 /// The item at the front of bytes that were judged to be good, and the bytes after it, or nothing where the
 /// pattern ends.
-fn good_item(bytes: &[u8]) -> Option<(Item, &[u8])>
+pub(crate) fn good_item(bytes: &[u8]) -> Option<(Item, &[u8])>
     requires { (f : RleFault) → item_fault bytes.now ≡ Some f → ⊥ }
     ensures { MatchOption result (IsEnd bytes.now) (λ r. IsItemAtFront bytes.now r.0 r.1.now) }
 {

@@ -1,9 +1,10 @@
 //! How far the items of an RLE text reach, which is judged before anything is drawn. Nothing here takes
 //! memory.
 
-ghost use Rattle.std.specs.Prelude.{◌≡◌, ℕ, ◌+◌, ◌≤◌, max, pos, neg_ℤ, ◌+ℤ◌, ◌≤ℤ◌, ◌<ℤ◌, List, [], Some};
-ghost use Rattle.std.specs.Prelude.{◌==◌, IsTrue, ◌↔◌, IfOk, IfErr, MatchOption, MatchResult, if◌then◌else◌};
+ghost use Rattle.std.specs.Prelude.{◌≡◌, ◌≢◌, ℕ, ◌+◌, ◌-◌, ◌≤◌, min, max, pos, neg_ℤ, ◌+ℤ◌, ◌≤ℤ◌, ◌<ℤ◌, List, [], Some};
+ghost use Rattle.std.specs.Prelude.{None, IfSome, ◌==◌, IsTrue, ◌↔◌, IfOk, IfErr, MatchOption, MatchResult, if◌then◌else◌};
 ghost use Rattle.ca_rle.specs.declared.item.Item.{Item};
+ghost use Rattle.ca_rle.specs.declared.extent.Span.{Span};
 ghost use Rattle.ca_rle.specs.Items.{InLine, IsEnd, Items};
 ghost use Rattle.ca_rle.specs.Faults.{after_white, item_fault};
 ghost use Rattle.ca_rle.specs.Shown.{ends_row, tag_state};
@@ -12,11 +13,12 @@ ghost use Rattle.ca_rle.specs.inner.BodyFaults.{IsItemAtFront, HasBadUnitAt};
 ghost use Rattle.ca_plane.specs.Bytes.{nearest_u64};
 ghost use Rattle.ca_rle.specs.inner.Extent.{live_count_of_item, point_from};
 ghost use Rattle.ca_rle.specs.inner.Extent.{IsOffsetOf, IsItemsExtent, IsExtentInRange};
+ghost use Rattle.ca_rle.specs.inner.Boxes.{IsBoxInRange, IsSpanOf, IsSpanWith, bounds_at, box_at};
 
 use crate::faulty::FaultPlace;
 use crate::item::{Item, Tag};
 use crate::unit::{after_white, next_item};
-use ca_plane::{Point, limits};
+use ca_plane::{Bounds, Point, limits};
 
 /// Where an item begins: so many rows below the corner, and so many columns right of it. At 2^64 - 1 each of
 /// them stays.
@@ -68,6 +70,62 @@ impl Offset {
     }
 }
 
+/// The least box round live cells, both ends included: so many columns right of the corner, and so many rows
+/// below it. At 2^64 - 1 each number stays.
+#[derive(Clone, Copy)]
+pub(crate) struct Span {
+    pub(crate) left: u64,
+    pub(crate) top: u64,
+    pub(crate) right: u64,
+    pub(crate) bottom: u64,
+}
+
+impl Span {
+    /// The span with a run as well, from an offset up to the one with this column.
+    fn with_run(self, at: Offset, last: u64) -> Span
+        ensures left { result.left ≡ min self.left at.columns }
+        ensures top { result.top ≡ min self.top at.rows }
+        ensures right { result.right ≡ max self.right last }
+        ensures bottom { result.bottom ≡ max self.bottom at.rows }
+    {
+        Span {
+            left: self.left.min(at.columns),
+            top: self.top.min(at.rows),
+            right: self.right.max(last),
+            bottom: self.bottom.max(at.rows),
+        }
+    }
+
+    /// The box that it is from a corner.
+    fn bounds(self, corner: Point) -> Bounds
+        requires corner { IsInRange corner }
+        requires near { IsBoxInRange (box_at corner self) }
+        ensures { result ≡ box_at corner self }
+    {
+        Bounds {
+            x0: corner.x + self.left as i64,
+            y0: corner.y + self.top as i64,
+            x1: corner.x + self.right as i64,
+            y1: corner.y + self.bottom as i64,
+        }
+    }
+}
+
+/// The span of a run and of what there was before.
+fn span_with(span: Option<Span>, at: Offset, last: u64) -> Span
+    ensures { IsSpanWith at last span result }
+{
+    match span {
+        Some(span) => span.with_run(at, last),
+        None => Span {
+            left: at.columns,
+            top: at.rows,
+            right: last,
+            bottom: at.rows,
+        },
+    }
+}
+
 /// How far items reach. At 2^64 - 1 each number stays.
 #[derive(Clone, Copy)]
 pub(crate) struct Extent {
@@ -75,6 +133,8 @@ pub(crate) struct Extent {
     pub(crate) longest: u64,
     /// The rows and columns from the corner on that live cells take.
     pub(crate) reach: Offset,
+    /// The least box round the live cells, where there are any.
+    pub(crate) span: Option<Span>,
     /// How many live cells there are.
     pub(crate) cells: u64,
     /// The greatest state of a cell.
@@ -84,11 +144,13 @@ pub(crate) struct Extent {
 impl Extent {
     /// The extent of no items.
     fn none() -> Extent
-        ensures { IsItemsExtent [] result }
+        ensures items { IsItemsExtent [] result }
+        ensures span { result.span ≡ None }
     {
         Extent {
             longest: 0,
             reach: Offset::start(),
+            span: None,
             cells: 0,
             greatest: 0,
         }
@@ -103,6 +165,9 @@ impl Extent {
             else nearest_u64 (at.rows + 1)) }
         ensures cells { result.cells ≡ nearest_u64 (self.cells + live_count_of_item item) }
         ensures greatest { result.greatest ≡ max self.greatest (tag_state item.tag) }
+        ensures dead { tag_state item.tag ≡ 0 → result.span ≡ self.span }
+        ensures live { tag_state item.tag ≢ 0 → (span : Span) × (result.span ≡ Some span)
+            × IsSpanWith at (nearest_u64 (at.columns + (item.count - 1))) self.span span }
     {
         let longest = self.longest.max(item.count);
         let state = item.tag.state();
@@ -110,12 +175,14 @@ impl Extent {
             return Extent { longest, ..self };
         }
         let Offset { rows, columns } = self.reach;
+        let last = at.columns.saturating_add(item.count.saturating_sub(1));
         Extent {
             longest,
             reach: Offset {
                 rows: rows.max(at.rows.saturating_add(1)),
                 columns: columns.max(at.columns.saturating_add(item.count)),
             },
+            span: Some(span_with(self.span, at, last)),
             cells: self.cells.saturating_add(item.count),
             greatest: self.greatest.max(state),
         }
@@ -128,6 +195,18 @@ impl Extent {
         self.longest <= limits::LONGEST_COUNT
             && has_room(corner.x, self.reach.columns)
             && has_room(corner.y, self.reach.rows)
+    }
+}
+
+/// The least box round the live cells of items of this span, whose first cell is at the corner.
+pub(crate) fn bounds_of(span: Option<Span>, corner: Point) -> Option<Bounds>
+    requires corner { IsInRange corner }
+    requires near { IfSome (bounds_at corner span) IsBoxInRange }
+    ensures { result ≡ bounds_at corner span }
+{
+    match span {
+        Some(span) => Some(span.bounds(corner)),
+        None => None,
     }
 }
 
@@ -166,7 +245,8 @@ fn item_at(bytes: &[u8]) -> Result<Option<(Item, &[u8])>, FaultPlace<'_>>
 ///
 /// The fault of the first item that has one.
 pub(crate) fn measure(body: &[u8]) -> Result<Extent, FaultPlace<'_>>
-    ensures found { IfOk result (λ e. (items : List Item) × Items body.now items × IsItemsExtent items e) }
+    ensures found { IfOk result (λ e. (items : List Item) × Items body.now items × IsItemsExtent items e
+        × IsSpanOf items e.span) }
     ensures fault { IfErr result (λ f. (bad : List ℕ) × HasBadUnitAt body.now f.fault bad
         × (f.rest.now ≡ after_white InLine bad)) }
 {

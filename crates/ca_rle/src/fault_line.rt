@@ -9,9 +9,10 @@ ghost use Rattle.ca_rle.specs.Faults.{IsFirstRleFault};
 ghost use Rattle.ca_rle.specs.FaultyLine.{IsRleFaultOn, IsFaultyRleLine};
 ghost use Rattle.ca_rle.specs.inner.FrontParts.{IsGoodText};
 
-use crate::extent::measure;
+use crate::extent::{bounds_of, measure};
 use crate::fault::{LineFault, RleFault};
 use crate::front::{Front, read_front};
+use ca_plane::Bounds;
 use ca_plane::limits::MOST_CELLS;
 
 /// A text without a fault.
@@ -21,6 +22,10 @@ pub(crate) struct GoodText<'a> {
     pub(crate) front: Front<'a>,
     /// The greatest state of a cell.
     pub(crate) greatest: u8,
+    /// How many cells are live.
+    pub(crate) cells: u64,
+    /// The least box round them, where there are any.
+    pub(crate) bounds: Option<Bounds>,
 }
 
 /// Judges a text.
@@ -57,6 +62,8 @@ pub(crate) fn good_text(bytes: &[u8]) -> Result<GoodText<'_>, LineFault>
     Ok(GoodText {
         front,
         greatest: extent.greatest,
+        cells: extent.cells,
+        bounds: bounds_of(extent.span, front.corner),
     })
 }
 

@@ -1,15 +1,22 @@
 //! The writer of extended RLE: one tidy text for a plane.
 
-ghost use Rattle.std.specs.Prelude.{◌≡◌, ℕ, List, OnOk, IfOk, IsErrOf};
+ghost use Rattle.std.specs.Prelude.{◌≡◌, ℕ, ◌<◌, List, OnOk, IfOk, IsErrOf};
 ghost use Rattle.std.specs.Io.KnownBytes.{Appends};
 ghost use Rattle.ca_plane.specs.Device.{Rises, AppendsPrefix};
+ghost use Rattle.ca_plane.specs.Bytes.{IsWord};
+ghost use Rattle.ca_rle.specs.declared.item.Item.{Item};
+ghost use Rattle.ca_rle.specs.Items.{Items};
+ghost use Rattle.ca_rle.specs.Judged.{IsRleText};
+ghost use Rattle.ca_rle.specs.Shown.{picture_of_items};
 ghost use Rattle.ca_rle.specs.Pattern.{IsWritableRle, IsWrittenRle};
 ghost use Rattle.ca_rle.specs.Tidy.{IsTidyRle};
 
+use crate::rle_text::RleText;
 use ca_plane::{Dev, Memory, Plane, WriteFault, send};
 use std::alloc::Global;
 use std::io::Write;
 
+mod again;
 mod frame;
 mod head;
 mod layout;
@@ -41,13 +48,40 @@ pub fn write_rle(
     ensures { IfOk result (λ text.
         IsWrittenRle text.items cells.now rule_text.now generation states) }
 {
-    let frame = frame::of(cells);
+    let frame = frame::of(cells.bounds());
     let mut text = Vec::new(alloc);
     head::push_corner_line(&mut text, frame.corner, generation)?;
     head::push_header_line(&mut text, frame.width, frame.height, rule_text)?;
     let items = runs::items(alloc, cells, frame.corner)?;
     layout::push_items(&mut text, states, &items)?;
     Ok(text)
+}
+
+/// The same text of the cells of a text that was judged, under another rule text and number of states. It
+/// takes memory for the new text alone.
+///
+/// # Errors
+///
+/// Fails where there is no memory for the new text.
+pub fn rewrite_rle(
+    alloc: Global,
+    text: RleText<'_>,
+    rule_text: &[u8],
+    states: u16,
+) -> Result<Vec<u8>, Memory>
+    requires text { (bytes : List ℕ) × IsRleText bytes text }
+    requires low_states { text.greatest < states }
+    requires is_word { IsWord rule_text.now }
+    ensures { IfOk result (λ written. (items : List Item) → Items text.entry.body.now items
+        → IsWrittenRle written.items (picture_of_items text.entry.corner items) rule_text.now
+        text.entry.generation states) }
+{
+    let frame = frame::of(text.bounds);
+    let mut written = Vec::new(alloc);
+    head::push_corner_line(&mut written, frame.corner, text.generation)?;
+    head::push_header_line(&mut written, frame.width, frame.height, rule_text)?;
+    again::push_items_of(&mut written, states, frame.corner, text)?;
+    Ok(written)
 }
 
 /// Writes that text. The whole text is made before its first byte is written.

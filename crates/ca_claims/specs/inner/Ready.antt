@@ -9,11 +9,13 @@ use Rattle.ca_quad.specs.declared.node.Node.{Node}
 use Rattle.ca_quad.specs.declared.tree.Tree.{Tree}
 use Rattle.ca_quad.specs.Trees.{IsTree, cell}
 use Rattle.ca_macro.specs.Pattern.{AreInRange}
+use Rattle.ca_rle.specs.Judged.{IsRleText}
+use Rattle.ca_rle.specs.Shown.{picture_of_items}
 use Rattle.ca_rule.specs.TableNext.{TableRule}
 use Rattle.ca_rule.specs.Rule.{RuleValue, rule_value, states_of, printed_form, NamesRule}
 use Rattle.ca_claims.specs.declared.detailed_fault.DetailedFault.{DetailedFault}
 use Rattle.ca_claims.specs.declared.ruled.RuledPattern.{RuledPattern}
-use Rattle.ca_claims.specs.declared.ruled.RuledPlane.{RuledPlane}
+use Rattle.ca_claims.specs.declared.ruled.RuledText.{RuledText}
 use Rattle.ca_claims.specs.declared.format.Format.{Format}
 use Rattle.ca_claims.specs.declared.format.Format.TheVariants.{Rle}
 use Rattle.ca_claims.specs.declared.conversion.ConvertFault.{ConvertFault}
@@ -56,10 +58,11 @@ pub record IsWritablePlane (picture : Picture) (rule : RuleValue) (generation : 
   pub writable : AreWritable (plane.cell picture) rule generation
   pub short : length picture ≤ most_cells
 
--- the bytes are a file of this plane's cells under its rule, which may be written
-pub record IsReadyPlane (bytes : List ℕ) (tables : List TableRule) (ruled : RuledPlane) : Type 0 where
-  pub file : HoldsCells bytes tables (plane.cell ruled.cells) (rule_value ruled.rule) ruled.generation
-  pub writable : IsWritablePlane ruled.cells (rule_value ruled.rule) ruled.generation
+-- the bytes are this RLE file, whose states are small under its rule
+pub record IsReadyText (bytes : List ℕ) (tables : List TableRule) (ruled : RuledText) : Type 0 where
+  pub text : IsRleText bytes ruled.text
+  pub file : HoldsCells bytes tables (plane.cell (picture_of_items ruled.text.corner text.file.items)) (rule_value ruled.rule) ruled.text.generation
+  pub small : ruled.text.greatest < states_of (rule_value ruled.rule)
 
 -- the text is the tidy one of a format with these cells, the printed form of the rule, and the generation
 pub record IsWrittenAs (target : Format) (cells : ℤ → ℤ → ℕ) (rule : RuleValue) (generation : ℕ)

@@ -1,5 +1,5 @@
 -- How what stands before the items of an RLE text is read: numbers, words and lines, one after another.
-use Rattle.std.specs.Prelude.{◌≡◌, ℕ, ℤ, ◌≤ℤ◌, ◌<ℤ◌, pos, neg_ℤ, List, [], ◌∷◌, ◌++◌, true, false, Option, unwrap_or, ◌⊎◌}
+use Rattle.std.specs.Prelude.{◌≡◌, ℕ, ℤ, ◌≤ℤ◌, ◌<ℤ◌, pos, neg_ℤ, List, [], ◌∷◌, ◌++◌, length, true, false, Option, unwrap_or, ◌⊎◌}
 use Rattle.std.specs.Option.{option_copied}
 use Rattle.std.specs.List.{AllZip, AllByRecursion}
 use Rattle.ca_plane.specs.declared.point.Point.{Point}
@@ -13,8 +13,9 @@ use Rattle.ca_rle.specs.Header.{CxrleWord, WordSays, extended_words, IsXlifeLine
 use Rattle.ca_rle.specs.File.{RleFile, IsRleFile, IsPreamble, IsHeaded, corner_of, generation_of}
 use Rattle.ca_rle.specs.Items.{Items}
 use Rattle.ca_rle.specs.Limits.{IsWithinLimits}
-use Rattle.ca_rle.specs.Shown.{greatest_state}
+use Rattle.ca_rle.specs.Shown.{greatest_state, picture_of_items}
 use Rattle.ca_rle.specs.inner.BodyFaults.{KeepsCorner}
+use Rattle.ca_rle.specs.inner.Boxes.{AreBounds}
 
 -- a coordinate in range
 abbrev pub IsNearCoordinate : ℤ → Type 0
@@ -73,3 +74,5 @@ pub record IsGoodText (bytes : List ℕ) (file : RleFile) (text : GoodText) : Ty
   pub rule_text : unwrap_or (option_copied text.front.rule) default_rule ≡ file.rule_text
   pub generation : text.front.generation ≡ file.generation
   pub greatest : text.greatest ≡ greatest_state file.items
+  pub cells : text.cells ≡ length (picture_of_items file.corner file.items)
+  pub bounds : AreBounds (picture_of_items file.corner file.items) text.bounds

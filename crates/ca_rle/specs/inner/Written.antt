@@ -32,3 +32,17 @@ pub record PutsLines (old new : List ℕ) (pieces : List (List ℕ)) : Type 0 wh
   pub whole : flat_map (λ line. line) lines ≡ pieces
   pub lines_are : AreLines lines
   pub spelled : new ≡ old ++ flat_map (λ line. line_with_lf (concat line)) lines
+
+-- no line is open yet, or one is, which has a piece, and the lines are lines with it
+abbrev pub IsOpen : List (List (List ℕ)) → List (List ℕ) → Type 0
+IsOpen closed last = ((closed ≡ []) × (last ≡ [])) ⊎ ((0 < length last) × AreLines (closed ++ last ∷ []))
+
+-- pieces stand after a text in lines, of which the last isn't ended yet and has so many characters
+pub record IsLaid (start text : List ℕ) (filled : ℕ) (pieces : List (List ℕ)) : Type 0 where
+  pub closed : List (List (List ℕ))
+  pub open_line : List (List ℕ)
+  pub lines_are : IsOpen closed open_line
+  pub whole : flat_map (λ line. line) closed ++ open_line ≡ pieces
+  pub filled_is : filled ≡ length (concat open_line)
+  pub short : filled ≤ 70
+  pub spelled : text ≡ start ++ (flat_map (λ line. line_with_lf (concat line)) closed ++ concat open_line)

@@ -1,11 +1,11 @@
 //! The corner and the size that a tidy text tells.
 
-ghost use Rattle.std.specs.Prelude.{◌≡◌, ◌≤ℤ◌, ◌+ℤ◌, pos};
-ghost use Rattle.std.specs.List.{All};
-ghost use Rattle.ca_plane.specs.Limits.{IsInRange};
+ghost use Rattle.std.specs.Prelude.{◌≡◌, ◌≤ℤ◌, ◌+ℤ◌, pos, IfSome};
+ghost use Rattle.ca_plane.specs.Plane.{Picture};
 ghost use Rattle.ca_rle.specs.Tidy.{IsFrame};
+ghost use Rattle.ca_rle.specs.inner.Boxes.{IsBoxInRange, AreBounds};
 
-use ca_plane::{Plane, Point};
+use ca_plane::{Bounds, Point};
 
 /// The upper left corner of the smallest box round the live cells, and the box's size.
 #[derive(Clone, Copy)]
@@ -23,12 +23,13 @@ pub(super) fn distance(from: i64, to: i64) -> u64
     to.abs_diff(from)
 }
 
-/// The frame of the live cells: (0, 0) and 0 by 0 where there are none.
-pub(super) fn of(cells: &Plane) -> SizedBox
-    requires { All (λ e. IsInRange e.0) cells.now }
-    ensures { IsFrame cells.now result.corner result.width result.height }
+/// The frame of the live cells, which have these bounds: (0, 0) and 0 by 0 where there are none.
+pub(super) fn of(bounds: Option<Bounds>) -> SizedBox
+    requires { IfSome bounds IsBoxInRange }
+    ensures { (cells : Picture) → AreBounds cells bounds
+        → IsFrame cells result.corner result.width result.height }
 {
-    let Some(bounds) = cells.bounds() else {
+    let Some(bounds) = bounds else {
         return SizedBox {
             corner: Point { y: 0, x: 0 },
             width: 0,

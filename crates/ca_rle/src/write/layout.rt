@@ -74,7 +74,12 @@ fn wrap(out: &mut Vec<u8>, start: usize, filled: usize) -> Result<usize, Memory>
     Ok(length)
 }
 
-fn place_item(out: &mut Vec<u8>, states: u16, item: Item, filled: usize) -> Result<usize, Memory>
+pub(super) fn place_item(
+    out: &mut Vec<u8>,
+    states: u16,
+    item: Item,
+    filled: usize,
+) -> Result<usize, Memory>
     requires { filled ≤ 70 }
     ensures placed { IfOk result (λ n.
         IsPlaced out.old.items filled (item_text states item) out.new.items n) }
@@ -85,7 +90,7 @@ fn place_item(out: &mut Vec<u8>, states: u16, item: Item, filled: usize) -> Resu
     wrap(out, start, filled)
 }
 
-fn place_end(out: &mut Vec<u8>, filled: usize) -> Result<usize, Memory>
+pub(super) fn place_end(out: &mut Vec<u8>, filled: usize) -> Result<usize, Memory>
     requires { filled ≤ 70 }
     ensures { IfOk result (λ n. IsPlaced out.old.items filled (codes "!") out.new.items n) }
 {

@@ -18,10 +18,10 @@ use std::alloc::Global;
 
 /// The run of cells that was met last: where it begins, the x after it, and the state of its cells.
 #[derive(Clone, Copy)]
-struct Run {
-    from: Point,
-    past: i64,
-    state: u8,
+pub(super) struct Run {
+    pub(super) from: Point,
+    pub(super) past: i64,
+    pub(super) state: u8,
 }
 
 impl Run {
@@ -40,7 +40,7 @@ impl Run {
     }
 
     /// The place after the run.
-    fn end(self) -> Point
+    pub(super) fn end(self) -> Point
         ensures y { result.y ≡ self.from.y }
         ensures x { result.x ≡ self.past }
     {
@@ -51,7 +51,7 @@ impl Run {
     }
 
     /// Whether the cell goes on with the run.
-    fn goes_on(self, point: Point, state: u8) -> bool
+    pub(super) fn goes_on(self, point: Point, state: u8) -> bool
         ensures yes { IsTrue result → (point.y ≡ self.from.y) × (point.x ≡ self.past) × (state ≡ self.state) }
         ensures no { IsFalse result → point.y ≡ self.from.y → point.x ≡ self.past → state ≢ self.state }
     {
@@ -59,7 +59,7 @@ impl Run {
     }
 
     /// The item of the run.
-    fn item(self) -> Item
+    pub(super) fn item(self) -> Item
         requires { self.from.x ≤ℤ self.past }
         ensures count { self.past ≡ self.from.x +ℤ pos result.count }
         ensures tag { result.tag ≡ Cell self.state }

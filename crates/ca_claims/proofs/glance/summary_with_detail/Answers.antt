@@ -1,19 +1,27 @@
-use Rattle.std.proofs.Common.{refl, sym, subst, ◌∙◌}
+use Rattle.std.proofs.Common.{ℕ, refl, sym, subst, ◌∙◌}
 use Rattle.ca_quad.specs.Trees.{cell}
 use Rattle.ca_claims.specs.inner.Glance.{IsSummaryOf}
 use Rattle.ca_claims.specs.inner.Patterns.{rule_of}
-use Rattle.ca_claims.proofs.OneText.{bounds_shown}
+use Rattle.ca_plane.specs.Plane.{cell as plane_cell}
+use Rattle.ca_plane.specs.Population.{HasPopulation}
+use Rattle.ca_rle.specs.Shown.{picture_of_items}
+use Rattle.ca_rle.proofs.JudgedTexts.{text_bounds}
+use Rattle.ca_claims.proofs.OneText.{match_shown}
+use Rattle.ca_claims.proofs.RleFiles.{text_population}
 use Rattle.ca_claims.proofs.WrittenForms.{read_pattern, ready_file, summed_up}
 use Rattle.ca_claims.proofs.glance.summary_with_detail.Goals as goal
 
 pub returns-in-Rle-clause-summary : goal.returns-in-Rle-clause-summary
 returns-in-Rle-clause-summary c =
-    summed_up c.args.bytes.now c.args.tables.now _ _ _ c.in_ok-ruled-in-Rle.ensures.ready.file _ (record {
+    let ready = c.in_ok-ruled-in-Rle.ensures.ready in
+    let text = c.in_ok-ruled-in-Rle.ruled.text in
+    let p = picture_of_items text.corner ready.text.file.items in
+    summed_up c.args.bytes.now c.args.tables.now _ _ _ ready.file _ (record {
       kind_is = sym c.in-Rle.is ∙ c.format_of.ensures;
       printed = c.in-Ok.ensures.printed;
       generation_is = refl;
-      population = c.len.ensures.population;
-      bounds = λ picture same. bounds_shown c.in_ok-ruled-in-Rle.ruled.cells picture same c.bounds.result c.bounds.ensures.none c.bounds.ensures.some;
+      population = subst (λ (n : ℕ). HasPopulation (plane_cell p) n) (sym c.from.ensures) (text_population c.args.bytes.now text ready.text);
+      bounds = λ picture same. match_shown p picture same text.bounds (text_bounds c.args.bytes.now text ready.text);
     })
 
 pub sum_up-requires : goal.sum_up-requires

@@ -4,8 +4,8 @@ use Rattle.std.proofs.lemmas.Result.{on_ok_weaker}
 use Rattle.ca_plane.specs.Puts.{Puts}
 use Rattle.ca_rle.specs.declared.item.Tag.TheVariants.{Cell}
 use Rattle.ca_rle.specs.Tidy.{item_text}
-use Rattle.ca_rle.specs.inner.Written.{PutsLines}
-use Rattle.ca_rle.proofs.LineLayouts.{IsLaid, laid_more}
+use Rattle.ca_rle.specs.inner.Written.{PutsLines, IsLaid}
+use Rattle.ca_rle.proofs.LineLayouts.{laid_more}
 use Rattle.ca_rle.proofs.WholeTexts.{texts_more, lines_end}
 use Rattle.ca_rle.proofs.write.layout.push_items.Goals as goal
 

@@ -1,6 +1,6 @@
 use Rattle.std.proofs.Common.{map, take}
 use Rattle.ca_rle.specs.Tidy.{item_text}
-use Rattle.ca_rle.proofs.LineLayouts.{IsLaid}
+use Rattle.ca_rle.specs.inner.Written.{IsLaid}
 use Rattle.ca_rle.proofs.write.layout.push_items.Given as goal
 
 -- the items so far stand in lines, the last of which isn't ended

@@ -1,0 +1,31 @@
+-- Texts that are told of by their items, without a plane of their cells.
+use Rattle.std.specs.Prelude.{◌≡◌, ◌≢◌, ℕ, ◌<◌, ◌≤◌, ℤ, List, unwrap_or, MatchOption}
+use Rattle.std.specs.Option.{option_copied}
+use Rattle.ca_plane.specs.Bytes.{IsWord}
+use Rattle.ca_plane.specs.Limits.{default_rule, generation_limit}
+use Rattle.ca_plane.specs.Plane.{IsPicture, IsLive, cell}
+use Rattle.ca_plane.specs.Box.{IsLeastBox}
+use Rattle.ca_plane.specs.Population.{HasPopulation}
+use Rattle.ca_rle.specs.declared.rle_text.RleText.{RleText}
+use Rattle.ca_rle.specs.File.{RleFile, IsRleFile}
+use Rattle.ca_rle.specs.Items.{Items}
+use Rattle.ca_rle.specs.Limits.{IsWithinLimits}
+use Rattle.ca_rle.specs.Shown.{picture_of_items}
+
+-- the bytes are a file that passes no limit, and this is told of it: its rule text, generation, corner and items, the number of its live
+-- cells, the least box round them, and the greatest of their states
+pub record IsRleText (bytes : List ℕ) (text : RleText) : Type 0 where
+  pub file : RleFile
+  pub is_file : IsRleFile bytes file
+  pub within : IsWithinLimits file
+  pub items : Items text.body.now file.items
+  pub corner : text.corner ≡ file.corner
+  pub rule_text : unwrap_or (option_copied text.rule) default_rule ≡ file.rule_text
+  pub is_word : IsWord file.rule_text
+  pub generation : text.generation ≡ file.generation
+  pub low_generation : file.generation < generation_limit
+  pub states : IsPicture (picture_of_items file.corner file.items)
+  pub population : HasPopulation (cell (picture_of_items file.corner file.items)) text.cells
+  pub bounds : MatchOption text.bounds (IsLive (picture_of_items file.corner file.items) → ⊥) (IsLeastBox (picture_of_items file.corner file.items))
+  pub most : (x y : ℤ) → cell (picture_of_items file.corner file.items) x y ≤ text.greatest
+  pub greatest : text.greatest ≢ 0 → (x : ℤ) × (y : ℤ) × (cell (picture_of_items file.corner file.items) x y ≡ text.greatest)
