@@ -252,14 +252,14 @@ def try_patience(tally, files):
     told, seconds = timed(["identify", path])
     found = re.search(rb"none of these within (\d+) generations", told.printed)
     limit = int(found[1]) if found else 1
-    tally.tell("a soup is looked at while patience lasts", ([] if 100 < limit < 60000 else [str(told)]) + excess(seconds, 100))
+    tally.tell("a soup is looked at while patience lasts", ([] if 50 < limit < 60000 else [str(told)]) + excess(seconds, 100))
     tally.expect(f"within {limit} generations", told, whole(entry("soup", path, shown_after(path, limit))))
     tally.expect("no fewer than a limit that is set", run(["identify", path, "--limit", str(limit + limit // 2)]), whole(entry("soup", path, shown_after(path, limit + limit // 2))))
     tally.expect("fewer than patience allows", run(["identify", path, "--limit", str(limit // 2)]), whole(entry("soup", path, shown_after(path, limit // 2))))
     later = run(["identify", path, "--after", "100"])
     found = re.search(rb"none of these within (\d+) generations", later.printed)
     limit = int(found[1]) if found else 1
-    tally.tell("its plane 100 generations on", [] if 100 < limit < 60000 else [str(later)])
+    tally.tell("its plane 100 generations on", [] if 50 < limit < 60000 else [str(later)])
     tally.expect(f"that plane within {limit} generations", later, whole(later_entry("soup", path, 100, shown_after(path, limit, begun=100))))
     tally.expect("a bound of the work", run(["identify", path, "--work", "100000"]), whole(f"# soup: {path}: work\n", status=2))
 

@@ -43,7 +43,7 @@ const SURE: u64 = 2;
 // their planes once more.
 const EARLY_SHARE: u64 = 256;
 
-const MOST_EARLY_SHARE: u64 = 1 << 16;
+const MOST_EARLY_SHARE: u64 = 1 << 17;
 
 /// What a live pattern is, within so many generations, of which a walk may have seen some early ones. So many of these at
 /// most are looked at one by one.
