@@ -2,6 +2,7 @@ pub mod Plane
 pub mod Generations
 pub mod Moore
 pub mod Counting
+pub mod Ageing
 pub mod Change
 pub mod Sparse
 pub mod Bytes

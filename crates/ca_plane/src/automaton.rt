@@ -4,8 +4,9 @@ ghost use Rattle.std.specs.Prelude.{◌≡◌, ℕ, ◌<◌, ◌≤◌, List, le
 ghost use Rattle.std.specs.List.{All};
 ghost use Rattle.ca_plane.specs.Moore.{IsMoore};
 ghost use Rattle.ca_plane.specs.Counting.{GoesByCounting};
+ghost use Rattle.ca_plane.specs.Ageing.{GoesByAgeing};
 
-use crate::counting::{Counting, Neighbourhood};
+use crate::counting::{Ageing, Counting, Neighbourhood};
 use crate::point::Nine;
 
 /// A rule of a cellular automaton: all cells change at once, each by this one rule on itself and its eight
@@ -50,6 +51,14 @@ pub trait Automaton {
             birth,
             survival,
         })
+    }
+
+    /// How live cells age under a rule of the family Generations. What makes many cells at once asks for it.
+    /// A rule of another kind, or one that does not tell it, answers `None`.
+    fn ageing(&self) -> Option<Ageing>
+        ensures { IfSome result (GoesByAgeing (state_count self.now) (next_of self.now)) }
+    {
+        None
     }
 
     // states below the count lead to states below it

@@ -1,4 +1,4 @@
-//! How rules of two states go by the number of live cells among some neighbours of a cell.
+//! How rules go by the number of live cells among some neighbours of a cell.
 
 /// Which neighbours of a cell are counted (Golly Help, QuickLife).
 #[derive(Clone, Copy, Debug, PartialEq, Eq)]
@@ -19,4 +19,13 @@ pub struct Counting {
     pub neighbourhood: Neighbourhood,
     pub birth: u16,
     pub survival: u16,
+}
+
+/// How live cells age under a rule of so many states (Golly Help, "Generations"): a dead cell, of state 0, and
+/// a live one, of state 1, are live next where the counting says so, by the number of live neighbours. Every
+/// other cell that isn't dead goes up by one state in each generation, and is dead after the last.
+#[derive(Clone, Copy, Debug, PartialEq, Eq)]
+pub struct Ageing {
+    pub counting: Counting,
+    pub states: u16,
 }

@@ -17,7 +17,7 @@ pub mod text;
 
 pub use automaton::Automaton;
 pub use bit_plane::{BitPlane, CellWord};
-pub use counting::{Counting, Neighbourhood};
+pub use counting::{Ageing, Counting, Neighbourhood};
 pub use device::{Dev, Failed};
 pub use memory::{Memory, MoveFault, WriteFault};
 pub use plane::{Cells, Plane};

@@ -20,7 +20,7 @@ others true more = omega arith
 others false more = omega arith
 
 -- bit n of a mask tells whether n is in it
-mask_bit : (held : List Bool) (n : ℕ) → bit_at (mask_of held) n ≡ (if slice_index_or held n false then 1 else 0)
+pub mask_bit : (held : List Bool) (n : ℕ) → bit_at (mask_of held) n ≡ (if slice_index_or held n false then 1 else 0)
 mask_bit [] n = bit_at-zero n
 mask_bit (h ∷ hs) zero = bit_at_lowest (mask_of (h ∷ hs)) ∙ lowest h (mask_of hs)
 mask_bit (h ∷ hs) (suc n) = bit_at-suc (mask_of (h ∷ hs)) n ∙ ap (λ m. bit_at m n) (others h (mask_of hs)) ∙ mask_bit hs n

@@ -1,22 +1,15 @@
 -- The next state of a cell under a rule of the family Generations (Golly Help, Algorithms: Generations). State 0 is a dead
 -- cell, state 1 a live one, and a cell of state 2 or more is dying.
-use Rattle.std.specs.Prelude.{◌≡◌, ℕ, ◌+◌, ◌≤◌, List, map, false, ◌==◌, ◌&&◌, nat_lt, slice_index, if◌then◌else◌}
+use Rattle.std.specs.Prelude.{◌≡◌, ℕ, ◌≤◌, List, map, false, ◌==◌, ◌&&◌, slice_index, if◌then◌else◌}
+use Rattle.ca_plane.specs.Ageing.{liveness, older}
 use Rattle.ca_rule.specs.declared.counts.Counts.{Counts}
 use Rattle.ca_rule.specs.declared.hood.Hood.TheVariants.{Moore}
 use Rattle.ca_rule.specs.Counts.{is_count}
 use Rattle.ca_rule.specs.Next.{neighbour_count}
 
--- 1 for a live cell, and 0 for one that is dead or dying
-abbrev pub liveness : ℕ → ℕ
-liveness state = if state == 1 then 1 else 0
-
 -- how many live cells are among the eight round the centre of nine
 abbrev pub live_count : List ℕ → ℕ
 live_count nine = neighbour_count Moore (map liveness nine)
-
--- the state after this one; where that reaches the number of states, the cell is dead
-abbrev pub older : ℕ → ℕ → ℕ
-older states state = if nat_lt (state + 1) states then state + 1 else 0
 
 -- a dead cell is born at a birth count of live cells round it, and a live one stays live at a survival count; every other
 -- live cell begins to die, and a dying one goes on to

@@ -2,6 +2,7 @@
 -- and printed. Another kind of rule is one more case of each of these.
 use Rattle.std.specs.Prelude.{◌≡◌, ◌⊎◌, ℕ, List, false, Option, Some, None, find}
 use Rattle.std.specs.Str.{bytes_eq}
+use Rattle.ca_plane.specs.declared.counting.Ageing.{Ageing}
 use Rattle.ca_plane.specs.declared.counting.Counting.{Counting}
 use Rattle.ca_rule.specs.Counts.{is_count}
 use Rattle.ca_rule.specs.Generations as generations
@@ -52,6 +53,12 @@ abbrev pub counting_of : RuleValue → Option Counting
 counting_of (Bs rule) = Some (bs_masks.counting_by_hood rule.hood rule.birth rule.survival)
 counting_of (Gen rule) = None
 counting_of (Tab table) = None
+
+-- how its live cells age: of a Generations rule by its counts, as masks, and its states
+abbrev pub ageing_of : RuleValue → Option Ageing
+ageing_of (Bs rule) = None
+ageing_of (Gen rule) = Some (bs_masks.ageing_by_counts rule.birth rule.survival rule.states)
+ageing_of (Tab table) = None
 
 -- states lead to states, and the empty plane stays empty: a B/S or Generations rule gives no birth at a count of 0
 abbrev pub IsSoundRule : RuleValue → Type 0

@@ -1,9 +1,9 @@
 //! Rules of the family Generations.
 
-ghost use Rattle.std.specs.Prelude.{◌≡◌, ◌↔◌, ◌≤◌, false, IsTrue, IfOk, IfErr};
+ghost use Rattle.std.specs.Prelude.{◌≡◌, ◌↔◌, ◌≤◌, false, IsTrue, IfOk, IfErr, IfSome};
 ghost use Rattle.ca_plane.specs.Bytes.{IsWord};
 ghost use Rattle.ca_rule.specs.Counts.{is_count};
-ghost use Rattle.ca_rule.specs.Generations.{liveness};
+ghost use Rattle.ca_plane.specs.Ageing.{liveness, GoesByAgeing};
 ghost use Rattle.std.proofs.Common.{arith};
 ghost use Rattle.std.proofs.lemmas.Bool.Decides.{nat_tests};
 
@@ -15,7 +15,7 @@ use crate::fault::RuleFault;
 use crate::hood::Hood;
 use crate::notation::counts_named;
 use ca_plane::text::push_number;
-use ca_plane::{Automaton, Memory, Nine};
+use ca_plane::{Ageing, Automaton, Counting, Memory, Neighbourhood, Nine};
 pub use laws::{
     generations_alike, generations_do_alike, generations_names_itself, generations_rule_or_fault,
     one_generations_rule, two_states_do_as_bs, worked_generations, worked_generations_cells,
@@ -38,7 +38,7 @@ pub struct GenRule {
 }
 
 impl GenRule {
-    ghost use Rattle.ca_rule.specs.Generations.{older};
+    ghost use Rattle.ca_plane.specs.Ageing.{older};
     ghost use Rattle.ca_rule.specs.Rule.{Gen, IsSameRule};
     ghost use Rattle.ca_rule.specs.GenerationsText.{NamesGenerationsRule};
     ghost use Rattle.ca_rule.specs.GenerationsText.{IsGenerationsRuleFault, printed_generations_rule};
@@ -99,7 +99,8 @@ impl GenRule {
 }
 
 impl Automaton for GenRule {
-    ghost use Rattle.std.specs.Prelude.{None};
+    ghost use Rattle.std.specs.Prelude.{Some, None};
+    ghost use Rattle.ca_rule.specs.Masks.{ageing_by_counts};
     ghost use Rattle.ca_rule.specs.Generations.{IsSoundGenerations, generations_next};
 
     ghost state_count = { λ rule. rule.states };
@@ -131,6 +132,22 @@ impl Automaton for GenRule {
         ensures { result ≡ None }
     {
         None
+    }
+
+    /// Its birth and survival counts as masks, with all eight neighbours counted, and its states.
+    fn ageing(&self) -> Option<Ageing>
+        ensures goes_by { IfSome result (GoesByAgeing self.now.states
+            (generations_next self.now.survival self.now.birth self.now.states)) }
+        ensures ageing { result ≡ Some (ageing_by_counts self.now.birth self.now.survival self.now.states) }
+    {
+        Some(Ageing {
+            counting: Counting {
+                neighbourhood: Neighbourhood::Moore,
+                birth: self.birth.mask(),
+                survival: self.survival.mask(),
+            },
+            states: self.states,
+        })
     }
 
     ghost closed = { λ rule nine sound _ _. Prim.grind (arith, nat_tests) };

@@ -2,6 +2,7 @@
 
 ghost use Rattle.std.specs.Prelude.{◌≡◌, ◌↔◌, None, Some, IsTrue, IfOk, IfErr, MatchOption, IfSome};
 ghost use Rattle.ca_plane.specs.Bytes.{IsWord};
+ghost use Rattle.ca_plane.specs.Ageing.{GoesByAgeing};
 ghost use Rattle.ca_plane.specs.Counting.{GoesByCounting};
 ghost use Rattle.ca_plane.specs.Moore.{IsMoore};
 ghost use Rattle.ca_rule.specs.Rule.{rule_value, first_named, NamesRule, IsRuleFault, printed_form};
@@ -11,7 +12,7 @@ use crate::bs_rule::BsRule;
 use crate::fault::RuleFault;
 use crate::gen_rule::GenRule;
 use crate::table::Table;
-use ca_plane::{Automaton, Counting, Memory, Nine};
+use ca_plane::{Ageing, Automaton, Counting, Memory, Nine};
 use std::alloc::Global;
 
 /// A rule of any kind.
@@ -111,7 +112,7 @@ impl Automaton for Rule<'_> {
     ghost use Rattle.std.proofs.Common.{arith, rules};
     ghost use Rattle.std.proofs.lemmas.Bool.Decides.{nat_tests};
     ghost use Rattle.ca_rule.specs.Rule.{rule_value, states_of, next_of, IsSoundRule};
-    ghost use Rattle.ca_rule.specs.Rule.{masks_of, counting_of};
+    ghost use Rattle.ca_rule.specs.Rule.{masks_of, counting_of, ageing_of};
     ghost use Rattle.ca_rule.specs.declared.rule.Rule.TheVariants.{Bs, Gen, Tab};
 
     ghost state_count = { λ rule. states_of (rule_value rule) };
@@ -159,6 +160,18 @@ impl Automaton for Rule<'_> {
         match *self {
             Rule::Bs(bs) => bs.counting(),
             Rule::Gen(_) | Rule::Tab(_) => None,
+        }
+    }
+
+    /// The counts of a rule of the family Generations as masks, and its states; else `None`.
+    fn ageing(&self) -> Option<Ageing>
+        ensures goes_by { IfSome result
+            (GoesByAgeing (states_of (rule_value self.now)) (next_of (rule_value self.now))) }
+        ensures ageing { result ≡ ageing_of (rule_value self.now) }
+    {
+        match *self {
+            Rule::Gen(generations) => generations.ageing(),
+            Rule::Bs(_) | Rule::Tab(_) => None,
         }
     }
 
