@@ -74,7 +74,7 @@ def soups():
     for rule in ("B13/S012V", "B2/S013V", "B23/S23V", "B2/S2H", "B24/S34H"):
         yield Task(f"soup of 300, {rule}, 1000", Soup(300, rule), 1000, quick=True)
     yield Task("gun beside a soup, 10000", Soup(200, beside="examples/gun.rle"), 10000, quick=True)
-    for rule in ("23/3/8", "345/2/4", "/2/3"):
+    for rule in ("23/3/8", "345/2/4", "/2/3", "345/2/16"):
         yield Task(f"soup of 200, {rule}, 1000", Soup(200, rule, live=0.375), 1000)
 
 

@@ -1,9 +1,11 @@
 #!/usr/bin/env python3
-"""Times the built program on long runs of large patterns of Golly's, for which HashLife is made, beside `bgolly`'s HashLife with two bounds of memory.
+"""Times the built program on long runs of large patterns of Golly's, for which HashLife is made, by the defaults and with little room, beside `bgolly`'s HashLife with two
+bounds of memory.
 
 Run it at the root of the repository: python3 bench/large_runs.py [--program PATH] [--golly BGOLLY] [--patterns FOLDER] [--only WORD] [--limit SECONDS]
-It prints a table: for each run the seconds of a processor in user and in system mode and the greatest memory in MiB of one run, and the sum of ours beside that of
-bgolly's with the larger memory. A run that takes longer than the limit is ended: `-`. `show --after` reaches the plane, and counts its cells; bgolly only reaches it.
+It prints a table: for each run the seconds of a processor in user and in system mode and the greatest memory in MiB of one run, and the sums of ours beside those of
+bgolly's, by the defaults with the larger memory, and with little room with the smaller one. A run that takes longer than the limit is ended: `-`. `show --after` reaches
+the plane, and counts its cells; bgolly only reaches it.
 """
 import argparse
 import os
@@ -14,8 +16,8 @@ from beside_golly import golly_words, run, unpacked
 PROGRAM = os.path.abspath("crates/cafile/out/cafile")
 PATTERNS = "/usr/share/golly/Patterns"
 
-# How many MiB bgolly is told to keep to.
-MEMORIES = (4000, 230)
+# How many MiB bgolly is told to keep to, and the words that tell the program about the same.
+MEMORIES = ((4000, []), (230, ["--max-memory", "230"]))
 
 # A name, a pattern's path below Golly's folder, and how many generations on.
 TASKS = (
@@ -55,16 +57,19 @@ def main():
     parser.add_argument("--limit", type=int, default=200, help="seconds of a processor after which a run is ended")
     words = parser.parse_args()
     print(f"{os.cpu_count()} processors, of which {os.getloadavg()[0]:.1f} are busy\n")
-    print("| Run | cafile | system | MiB |", *(f"HashLife, {memory} | system | MiB |" for memory in MEMORIES), "Ratio |")
-    print("|---|---|---|---|" + "---|---|---|" * len(MEMORIES) + "---|")
+    print("| Run |", *(f"{' '.join(['cafile', *more])} | system | MiB | HashLife, {memory} | system | MiB | Ratio |" for memory, more in MEMORIES))
+    print("|---|" + "---|---|---|---|---|---|---|" * len(MEMORIES))
     with tempfile.TemporaryDirectory() as room:
         for name, path, generations in TASKS:
             if words.only not in name:
                 continue
             pattern = unpacked(os.path.join(words.patterns, path), room)
-            ours = run([words.program, "show", pattern, "--after", str(generations)], words.limit)
-            others = [run(golly_words(words.golly, pattern, generations, ["-a", "HashLife"], memory=memory), words.limit) for memory in MEMORIES]
-            print(f"| {name} | {told(ours)} |", *(f"{told(it)} |" for it in others), f"{ratio(ours, others[0])} |", flush=True)
+            cells = []
+            for memory, more in MEMORIES:
+                ours = run([words.program, "show", pattern, "--after", str(generations), *more], words.limit)
+                other = run(golly_words(words.golly, pattern, generations, ["-a", "HashLife"], memory=memory), words.limit)
+                cells.append(f"{told(ours)} | {told(other)} | {ratio(ours, other)} |")
+            print(f"| {name} |", *cells, flush=True)
     print(f"\n{os.cpu_count()} processors, of which {os.getloadavg()[0]:.1f} are busy")
 
 

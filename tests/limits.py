@@ -4,7 +4,8 @@ count, and that each command remembers and works out what these say; and that no
 import random
 import tempfile
 
-from lib import rle, rows
+from lib import ageing, rle, rows
+from lib.ageing import AgeingRule
 from lib.claim_text import ClaimText, outcome
 from lib.program import Folder, Outcome, Tally, ample, fault, lines_outcome, run
 
@@ -111,12 +112,14 @@ def try_a_soup(tally, folder):
 
 
 def try_least_work(tally, folder):
-    """A soup of a rule of four states is leapt, and each square of 4 by 4 cells that isn't empty is counted: the run took 816560 units, by the program's own
+    """A soup of a table of four states is leapt, and each square of 4 by 4 cells that isn't empty is counted: the run took 816560 units, by the program's own
     count when this was written, and no value from outside."""
-    text = claim_text(folder, {"s": rows.text_of("345/2/4", rows.soup(random.Random(200), 200, 200))})
+    text = claim_text(folder, {})
+    text.rule(ageing.table_of(AgeingRule.of("345/2/4"), "Ageing"))
+    text.load("s", rows.text_of("Ageing", rows.soup(random.Random(200), 200, 200)))
     text.claim("becomes s 300 s", "no, cells differ after 300")
     path = text.write()
-    for work, wanted in ((LITTLE, lines_outcome([(2, "refused, work")])), (ENOUGH, outcome(text.answers, False))):
+    for work, wanted in ((LITTLE, lines_outcome([(3, "refused, work")])), (ENOUGH, outcome(text.answers, False))):
         tally.expect(f"a soup of four states, {work} units", run(["verify", "--work", str(work), path]), wanted)
 
 

@@ -14,6 +14,8 @@ import subprocess
 import time
 from concurrent.futures import ThreadPoolExecutor
 
+from lib import ageing
+from lib.ageing import AgeingRule
 from lib.claim_text import ClaimText
 from lib.planes import distinct_squares
 from lib.program import MOST_WAITING, PROGRAM, ROOT, Folder, Outcome, Tally, run
@@ -25,6 +27,9 @@ PENTOMINO = "examples/r_pentomino.rle"
 
 # Steps of the clock in milliseconds: claims take a second before anything is shown, after something is, or never.
 STEPS = (1000, 999, 500, 400, 60, 0)
+
+# A rule of four states as a table, by which planes are leapt over.
+TABLE = ageing.table_of(AgeingRule.of("345/2/4"), "Ageing")
 
 
 def digits(count):
@@ -235,9 +240,9 @@ def try_identify_after(tally, refusing, _):
 
 def try_identify_results(tally, refusing, files):
     """The results of a run of `identify --after` are shown with that run alone, and not with the generations that are looked at then, or with the next file."""
-    soup = files.path("soup.rle", soup_of(100))
+    table, soup = files.path("ageing.rule", TABLE), files.path("soup.rle", soup_of(100))
     paths, begun, limit = ("examples/glider.rle", soup, "examples/pentadecathlon.rle"), 128, 3
-    got, _ = refusing.run(["identify", "--progress", "--after", str(begun), "--limit", str(limit), *paths], {"CLOCK_STEP": 1000})
+    got, _ = refusing.run(["identify", "--progress", "--rule", table, "--after", str(begun), "--limit", str(limit), *paths], {"CLOCK_STEP": 1000})
     glider, oscillator = (identified_shown(path, limit, limit, 1000, begun) for path in (paths[0], paths[2]))
     run_of, later = re.escape(f"\r\x1b[K{soup}: ".encode()), b"".join(WIPE + f"{soup}: {it} of {limit} generations".encode() for it in range(limit))
     results = rb", \d+\.\d million results, \d+\.\d million squares"
@@ -346,26 +351,27 @@ def try_terminal(tally, refusing, files):
 
 
 def soup_of(side):
-    """A soup whose squares hardly repeat, under a rule of four states, by which planes are leapt over."""
+    """A soup whose squares hardly repeat, under that rule."""
     chance = random.Random(2)
     rows = "$".join("".join(chance.choice(".A") for _ in range(side)) for _ in range(side))
-    return f"x = {side}, y = {side}, rule = 345/2/4\n{rows}!\n"
+    return f"x = {side}, y = {side}, rule = Ageing\n{rows}!\n"
 
 
 def try_results(tally, refusing, files):
     """While one leap lasts, what was worked out is told about twice a second, and no generation that isn't reached."""
     text = Watched(files)
+    text.rule(TABLE)
     text.load("soup", soup_of(200))
     text.load_path("glider", "examples/glider.rle")
     text.claim("becomes soup 1024 soup", "no, cells differ after 1024")
     text.claim("spaceship glider 4 1 1", "yes")
-    printed = b"line 3: no, cells differ after 1024\nline 4: yes\n"
-    line = re.compile(rb"line 3: (\d+) of 1024 generations(?:, (\d+)\.(\d) million results, (\d+)\.(\d) million squares)?")
+    printed = b"line 4: no, cells differ after 1024\nline 5: yes\n"
+    line = re.compile(rb"line 4: (\d+) of 1024 generations(?:, (\d+)\.(\d) million results, (\d+)\.(\d) million squares)?")
     shown = {}
     for step in (1000, 100):
         got, _ = refusing.run(["verify", "--progress", text.write()], {"CLOCK_STEP": step})
         # of the next claim no results are told: it took too few
-        next_one = shown_of(b"line 4", [digits(4), digits(2)], step)
+        next_one = shown_of(b"line 5", [digits(4), digits(2)], step)
         told = [line.fullmatch(it) for it in got.complaint.removesuffix(next_one).split(WIPE)[1:-1]]
         results = [10 * int(it[2]) + int(it[3]) for it in told if it and it[2]]
         well = got.printed == printed and got.complaint.endswith(WIPE + next_one) and all(told) and [int(it[1]) for it in told] == [0] * (len(told) - 1) + [1024] and results == sorted(results) and results[-1] > 2
@@ -375,7 +381,7 @@ def try_results(tally, refusing, files):
     least = 100000 * results[-1]
     for limit, verdict in ((least - 1, b"refused, work"), (least + 100000 + 65536, b"no, cells differ after 1024")):
         got = run(["verify", "--work", str(limit), text.write()])
-        tally.tell(f"as many results as a claim needs, {verdict.decode()}", [] if got.printed == b"line 3: " + verdict + b"\nline 4: yes\n" else [f"{got}"])
+        tally.tell(f"as many results as a claim needs, {verdict.decode()}", [] if got.printed == b"line 4: " + verdict + b"\nline 5: yes\n" else [f"{got}"])
     tally.tell("shown at most twice a second", [] if 4 * shown[100] < shown[1000] < 6 * shown[100] + 6 else [f"{shown}"])
 
 

@@ -9,7 +9,8 @@ import random
 import tempfile
 
 from leaps import AFTER, LEAPS
-from lib import rows
+from lib import ageing, rows
+from lib.ageing import AgeingRule
 from lib.claim_text import ClaimText, outcome
 from lib.program import Folder, Outcome, Tally, run
 
@@ -31,14 +32,20 @@ PATTERNS = (
 
 # The rules of soups of 200 by 200 cells, the generations, the entries of a memo, and the units of work.
 SOUPS = (
-    ("345/2/4", 300, USUAL, 816560),
-    ("345/2/4", 300, SMALL, 993737),
+    ("345/2/4", 300, USUAL, 98593),
     ("B3/S23", 1000, USUAL, 87925),
 )
+
+# The rule of a table under which such a soup is leapt, the generations, and the entries of a memo and the units of work.
+TABLE = ("345/2/4", 300, ((USUAL, 816560), (SMALL, 993737)))
 
 # A rule under which each cell is the parity of its eight neighbours: after 2^k generations a plane's eight copies stand round its place, so far from it. The
 # side of a soup under it, the generations, and the units of work. It is stepped at first, and then leapt: one that goes on to step takes many times as many.
 COPIED = ("B1357/S1357", 64, 4096, 1066866)
+
+# A pattern of leaps.py, the generations, and the units of work that the run takes where it keeps a megabyte of squares and results; and fewer units, by which
+# it ends all the same where it keeps all of them.
+ROOM, FEWEST = ("acorn", 8192, 42304), 30000
 
 # Patterns of examples/ that are back at no time, the cells and the box that they have after 65536 generations (by Golly), and the units of work by which
 # `identify` tells so. It leaps or strides: one that looks at each generation takes many times as many.
@@ -77,12 +84,19 @@ def try_patterns(tally, folder):
 
 
 def try_soups(tally, folder):
-    """Soups: that of a rule with more states is leapt, and the other is stepped."""
+    """Soups: those of rules are stepped, and that of a table is leapt."""
     for rule, count, memo, units in SOUPS:
         text = ClaimText(Folder(folder))
         text.load("soup", rows.text_of(rule, rows.soup(random.Random(200), 200, 200)))
         text.claim(f"becomes soup {count} soup", f"no, cells differ after {count}")
         judge(tally, f"a soup of {rule} by {count}", text, memo, units)
+    name, count, needs = TABLE
+    for memo, units in needs:
+        text = ClaimText(Folder(folder))
+        text.rule(ageing.table_of(AgeingRule.of(name), "Ageing"))
+        text.load("soup", rows.text_of("Ageing", rows.soup(random.Random(200), 200, 200)))
+        text.claim(f"becomes soup {count} soup", f"no, cells differ after {count}")
+        judge(tally, f"a soup of a table of {name} by {count}", text, memo, units)
 
 
 def try_copies(tally, folder):
@@ -95,6 +109,31 @@ def try_copies(tally, folder):
     text.load("copies", rows.text_of(rule, *(soup.moved(x, y) for x in steps for y in steps if x or y)))
     text.claim(f"becomes soup {count} copies", "yes")
     judge(tally, f"a soup of {rule} by {count}", text, USUAL, units)
+
+
+def try_room(tally):
+    """A run that may keep few squares: it ends, and takes more work."""
+    name, count, units = ROOM
+    path = f"{LEAPS}/{name}.rle"
+    words = ["show", path, "--after", str(count)]
+    shown = run(words)
+    tally.expect(f"{name} by {count} is shown", shown.status, 0)
+    tally.expect(f"{name} by {count}: {FEWEST} units", run([*words, "--work", str(FEWEST)]), shown)
+    few = [*words, "--max-memory", "1"]
+    tally.expect(f"{name} by {count} in a megabyte: {units} units", run([*few, "--work", str(units + units // 10)]), shown)
+    tally.expect(f"{name} by {count} in a megabyte: {FEWEST} units", run([*few, "--work", str(FEWEST)]), Outcome(b"", b"cafile: work\n", 2))
+
+
+def try_room_of_claims(tally, folder):
+    """The same of a claim."""
+    name, count, _ = ROOM
+    text = ClaimText(Folder(folder))
+    text.load_path("before", f"{LEAPS}/{name}.rle")
+    text.load_path("after", f"{LEAPS}/{name}_after.mc")
+    text.claim(f"becomes before {count} after", "yes")
+    words = ["verify", "--work", str(FEWEST)]
+    tally.expect(f"{name} becomes by {count}: {FEWEST} units", run([*words, text.write()]), Outcome(b"line 3: yes\n", b"", 0))
+    tally.expect(f"{name} becomes by {count} in a megabyte", run([*words, "--max-memory", "1", text.write()]), Outcome(b"line 3: refused, work\n", b"", 2))
 
 
 def try_identification(tally):
@@ -122,6 +161,8 @@ def main():
         try_patterns(tally, folder)
         try_soups(tally, folder)
         try_copies(tally, folder)
+        try_room_of_claims(tally, folder)
+    try_room(tally)
     try_identification(tally)
     tally.finish()
 

@@ -6,8 +6,7 @@ use Rattle.ca_quad.specs.Squares.{square_of, level, level_of, IsOf, joined_cells
 use Rattle.ca_quad.specs.Sound.{IsSoundStore, Grows, HasParts}
 use Rattle.ca_quad.specs.declared.tree.Tree.{Tree}
 use Rattle.ca_quad.specs.Trees.{IsIn, ShowsSquare, AreFour, IsTree, from_corner, cell, IsTrimmed}
-use Rattle.ca_quad.specs.Added.{IsCopy}
-use Rattle.ca_quad.specs.inner.Copied.{AreCopies}
+use Rattle.ca_quad.specs.Added.{IsCopy, AreCopies}
 use Rattle.ca_quad.proofs.ShownSquares.{shows_stays, shows_as, four_show_together, shown_together}
 use Rattle.ca_quad.proofs.Walks.{parts_show}
 

@@ -1,9 +1,10 @@
 -- Which squares a copy of a tree adds to a store.
-use Rattle.std.specs.Prelude.{◌≡◌, ℕ, ◌<◌, ◌≤◌, ◌⊎◌, List, length}
+use Rattle.std.specs.Prelude.{◌≡◌, ℕ, ◌<◌, ◌≤◌, ◌⊎◌, List, Some, length}
 use Rattle.ca_quad.specs.declared.node.Node.{Node}
 use Rattle.ca_quad.specs.declared.square.Square.{Square}
 use Rattle.ca_quad.specs.declared.square.Square.TheVariants.{Four, Parts}
 use Rattle.ca_quad.specs.Squares.{place_id, square_of, level_of, cell_of}
+use Rattle.ca_quad.specs.SquareValues.{square_value}
 use Rattle.ca_quad.specs.Trees.{ShowsSquare}
 
 -- the id is one of the square's four parts
@@ -19,6 +20,10 @@ pub data LiesIn (nodes : List Node) : ℕ → ℕ → Type 0 where
 -- the copy has the level and the cells of the square
 abbrev pub IsCopy : List Node → List Node → ℕ → ℕ → Type 0
 IsCopy from nodes id copy = ShowsSquare nodes copy (level_of from id) (cell_of from (level_of from id) id)
+
+-- each square's value is its copy
+abbrev pub AreCopies : List Node → List Node → List (ℕ × ℕ) → Type 0
+AreCopies from nodes values = (id copy : ℕ) → square_value values id ≡ Some copy → IsCopy from nodes id copy
 
 -- each square that is added is the copy of one that lies in the root
 abbrev pub AddsCopies : List Node → ℕ → List Node → List Node → Type 0

@@ -16,7 +16,6 @@ pub mod Filled
 pub mod Rows
 pub mod Reach
 pub mod Block
-pub mod Copied
 pub mod BitParts
 pub mod Bits
 pub mod Cut

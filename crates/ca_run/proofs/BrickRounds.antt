@@ -29,7 +29,7 @@ round_at-east across bricks t x y h = let east = bit_at (column_at across bricks
 -- ---- bricks that rest
 
 -- the next state of a cell goes by the nine cells round it
-next_cell_at-same : (counting : Counting) (f g : ℕ → ℕ → ℕ) (x y : ℕ) → ((u v : ℕ) → x ≤ u → u ≤ suc (suc x) → y ≤ v → v ≤ suc (suc y) → f u v ≡ g u v) → next_cell_at counting f x y ≡ next_cell_at counting g x y
+pub next_cell_at-same : (counting : Counting) (f g : ℕ → ℕ → ℕ) (x y : ℕ) → ((u v : ℕ) → x ≤ u → u ≤ suc (suc x) → y ≤ v → v ≤ suc (suc y) → f u v ≡ g u v) → next_cell_at counting f x y ≡ next_cell_at counting g x y
 next_cell_at-same counting f g x y same =
     let nw = same x y (omega arith) (omega arith) (omega arith) (omega arith) in
     let n = same (suc x) y (omega arith) (omega arith) (omega arith) (omega arith) in

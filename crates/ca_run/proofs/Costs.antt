@@ -80,13 +80,6 @@ module _ {Rule : Type 0} where
       let some = power_some grain in
       at_cost_as begins ends (at_paid_cost {a = a} {b = b} 1 paid e same h (omega (arith, some)) (omega arith))
 
--- the four parts of a wall's square, and a unit for each
-pub four_and_four : (g : ℕ) → 4 + 4 * 14 ^ g ≤ 14 ^ suc g
-four_and_four g =
-    let e = power_suc g in
-    let s = power_some g in
-    omega (arith, e, s)
-
 -- ---- a leap for each digit
 
 power_twice : (g : ℕ) → 14 ^ g + 14 ^ g ≤ 14 ^ suc g

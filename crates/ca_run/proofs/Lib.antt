@@ -44,5 +44,16 @@ pub mod Walls
 pub mod DenseRuns
 pub mod OrdersOfUse
 pub mod Costs
+pub mod WallCosts
 pub mod MemoKeys
 pub mod LeapResults
+pub mod CopiedLeaps
+pub mod AgedNumbers
+pub mod AgedStates
+pub mod AgedRounds
+pub mod AgedWords
+pub mod FramedAgedWalls
+pub mod AgedWalls
+pub mod LaterAgedWalls
+pub mod AgedSquares
+pub mod AgedRuns

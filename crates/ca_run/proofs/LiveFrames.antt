@@ -1,5 +1,5 @@
 -- Frames round what is live of a plane.
-use Rattle.std.proofs.Common.{◌≡◌, ℕ, ◌+◌, ◌*◌, ◌≤◌, ◌^◌, inl, inr, ◌⊎◌, refl, ap, subst, ◌∙◌, arith, to_z, of_z}
+use Rattle.std.proofs.Common.{◌≡◌, ℕ, ◌+◌, ◌*◌, ◌≤◌, ◌^◌, Option, Some, None, IfSome, inl, inr, ◌⊎◌, refl, ap, subst, ◌∙◌, arith, to_z, of_z}
 use Rattle.std.specs.Prelude.{ℤ, pos, negsuc, neg_ℤ, nat_abs, FitsSigned, ◌+ℤ◌, ◌-ℤ◌, ◌<ℤ◌, ◌≤ℤ◌}
 use Rattle.std.specs.Int.{w128}
 use Rattle.std.proofs.lemmas.Int.{ints, to_z-of_z}
@@ -38,6 +38,12 @@ framed p box m frame least columns rows = record {
     | inr e ↦ end_of_box box.y0 box.y1 m frame.rows 16 (16 * (4 * frame.rows.count)) rows (omega arith) (omega arith) y e within.2 within.3
   ]);
 }
+
+-- and so does one that is there at all
+pub some_framed : (p : ℤ → ℤ → ℕ) (box : WideBounds) (m : ℕ) (found : Option Frame) → IsLeastWideBox p box → IfSome found (λ frame. Spans box.x0 box.x1 m frame.columns)
+    → IfSome found (λ frame. Spans box.y0 box.y1 m frame.rows) → IfSome found (λ frame. IsFramed m frame p)
+some_framed p box m None least columns rows = tt
+some_framed p box m (Some frame) least columns rows = framed p box m frame least columns rows
 
 -- ---- boxes of trees
 

@@ -1,10 +1,12 @@
 -- Squares read as words: where the words of their parts lie.
-use Rattle.std.proofs.Common.{◌≡◌, ℕ, suc, ◌+◌, ◌-◌, ◌*◌, ◌%◌, ◌≤◌, ◌<◌, ◌^◌, nat_lt, if◌then◌else◌, Bool, true, false, Option, IfSome, refl, sym, ap, ◌∙◌, arith}
+use Rattle.std.proofs.Common.{◌≡◌, ℕ, suc, ◌+◌, ◌-◌, ◌*◌, ◌%◌, ◌≤◌, ◌<◌, ◌^◌, nat_lt, if◌then◌else◌, Bool, true, false, Option, IfSome, inl, inr, refl, sym, ap, ◌∙◌, arith}
 use Rattle.std.specs.Prelude.{ℤ, pos, ◌+ℤ◌}
 use Rattle.std.proofs.lemmas.Int.{ints}
 use Rattle.std.proofs.Math.Nat.{two-pow-succ}
 use Rattle.std.proofs.Math.Pow.{pow_mono}
-use Rattle.std.proofs.lemmas.Nat.{mod-mul-add}
+use Rattle.std.proofs.lemmas.Nat.{mod-mul-add, pow-add}
+use Rattle.std.proofs.lemmas.Bool.Decides.{nat_tests}
+use Rattle.ca_quad.proofs.Growth.{below_or_not}
 use Rattle.std.specs.Int.{bit_at}
 use Rattle.std.proofs.lemmas.Nat.Bits.{bit_at-zero}
 use Rattle.ca_quad.specs.Trees.{word_cells}
@@ -65,3 +67,21 @@ side_words k =
     let up1 = two-pow-succ (suc k) in
     let up2 = two-pow-succ (suc (suc k)) in
     omega (arith, up, up1, up2)
+
+-- ---- pieces of 64 by 64 cells
+
+-- a place among them is as far in the half that it lies in
+pub piece_from : (k n i h : ℕ) → n ≡ k + 6 → h ≡ 2 ^ k → suc i ≤ 2 ^ suc k → (a : ℤ)
+    → (if nat_lt i h then a else (a +ℤ side n)) +ℤ pos (64 * (i % h)) ≡ a +ℤ pos (64 * i)
+piece_from k n i h level e low a = elim (below_or_not i h) [
+  | inl near ↦
+      let here : nat_lt i h ≡ true = grind (arith, nat_tests, near) in
+      rw here (ap (λ n. a +ℤ pos (64 * n)) (own_rest i h near))
+  | inr far ↦
+      let there : nat_lt i h ≡ false = grind (arith, nat_tests, far) in
+      let up = two-pow-succ k in
+      let wide : 2 ^ n ≡ 2 ^ k * 2 ^ 6 = ap (λ n. 2 ^ n) level ∙ pow-add 2 k 6 in
+      let sum : i ≡ 1 * h + (i - h) = omega (arith, far) in
+      let rest : i % h ≡ i - h = ap (λ n. n % h) sum ∙ mod-mul-add 1 h (i - h) (omega (arith, e, up, low, far)) in
+      rw (there, rest) (omega (arith, ints, e, wide, far))
+]

@@ -1,18 +1,22 @@
 -- Trees read as walls: where bricks lie in a tree, and which of them are blank.
-use Rattle.std.proofs.Common.{◌≡◌, ℕ, suc, ◌+◌, ◌-◌, ◌*◌, ◌/◌, ◌%◌, ◌<◌, ◌≤◌, ◌^◌, inl, inr, ◌⊎◌, List, [], ◌∷◌, ◌++◌, length, get_or, slice_index, slice_set, sym, ap, subst, ◌∙◌, arith, w64, to_z, of_z}
+use Rattle.std.proofs.Common.{◌≡◌, ℕ, suc, ◌+◌, ◌-◌, ◌*◌, ◌/◌, ◌%◌, ◌<◌, ◌≤◌, ◌^◌, inl, inr, ◌⊎◌, List, [], ◌∷◌, ◌++◌, length, get_or, slice_index, slice_set, sym, ap, ap₂, subst, ◌∙◌, arith, w64, to_z, of_z}
 use Rattle.std.specs.Prelude.{ℤ, pos, ◌+ℤ◌, ◌-ℤ◌, replicate}
 use Rattle.std.specs.Prelude.{FitsSigned}
 use Rattle.std.proofs.lemmas.Int.{ints, to_z-of_z}
 use Rattle.std.proofs.lemmas.Bool.{cases_eq}
 use Rattle.std.proofs.lemmas.Grind.{get_or-set_at}
-use Rattle.std.proofs.lemmas.List.{get_or-set_other, get_or_append_left}
+use Rattle.std.proofs.lemmas.List.{length-append, get_or-set_other, get_or_append_left}
 use Rattle.std.proofs.Math.Seq.{get_or-append_seam}
 use Rattle.std.proofs.Math.Nat.{mul_comm, mul_assoc, two-pow-succ, div-mul-le_self, mul-le-mul_right}
 use Rattle.ca_quad.proofs.Growth.{below_or_not}
+use Rattle.ca_quad.specs.declared.node.Node.{Node}
+use Rattle.ca_quad.specs.Squares.{cell_of}
+use Rattle.ca_quad.specs.Trees.{IsEmpty}
 use Rattle.ca_run.specs.declared.bricks.frame.Span.{Span}
 use Rattle.ca_run.specs.declared.bricks.frame.Frame.{Frame}
 use Rattle.ca_run.specs.declared.bricks.wall.Wall.{Wall}
 use Rattle.ca_run.specs.inner.Beyond.{DiesBeyond}
+use Rattle.ca_run.specs.inner.Shown.{ShowsAt}
 use Rattle.ca_run.specs.inner.Words.{WordShows}
 use Rattle.ca_run.specs.inner.Bricks.{BrickShows, WallShows, LiesNearOrigin, IsAligned}
 use Rattle.ca_run.specs.inner.Frames.{IsOutOf, IsWallFrame, IsFramed, piece_start, row_start}
@@ -29,19 +33,31 @@ set_more P list k word long so_far one m h = elim (cases_eq m k) [
 ]
 
 -- and of what is put at the end
-pub push_more : (P : ℕ → List ℕ → Type 0) (list : List (List ℕ)) (t : ℕ) (rows : List ℕ) → length list ≡ t → ((m : ℕ) → m < t → P m (get_or list m [])) → P t rows
-    → (m : ℕ) → m < t + 1 → P m (get_or (list ++ rows ∷ []) m [])
-push_more P list t rows size so_far one m h = elim (below_or_not m t) [
-  | inl near ↦ subst (P m) (sym (get_or_append_left list (rows ∷ []) [] m (omega (arith, size, near)))) (so_far m near)
+pub push_more : {X : Type 0} (P : ℕ → X → Type 0) (list new : List X) (t : ℕ) (x d : X) → new ≡ list ++ x ∷ [] → length list ≡ t
+    → ((m : ℕ) → m < t → P m (get_or list m d)) → P t x → (m : ℕ) → m < t + 1 → P m (get_or new m d)
+push_more P list new t x d e size so_far one m h = rw e (elim (below_or_not m t) [
+  | inl near ↦ subst (P m) (sym (get_or_append_left list (x ∷ []) d m (omega (arith, size, near)))) (so_far m near)
   | inr far ↦
       let last : m ≡ length list = omega (arith, size, h, far) in
       let here : t ≡ m = omega (arith, h, far) in
-      subst (P m) (sym (ap (λ n. get_or (list ++ rows ∷ []) n []) last ∙ get_or-append_seam list rows [] [])) (subst (λ n. P n rows) here one)
-]
+      subst (P m) (sym (ap (λ n. get_or (list ++ x ∷ []) n d) last ∙ get_or-append_seam list x [] d)) (subst (λ n. P n x) here one)
+])
+
+-- the list is one longer then
+pub push_longer : {X : Type 0} (list new : List X) (t : ℕ) (x : X) → new ≡ list ++ x ∷ [] → length list ≡ t → length new ≡ t + 1
+push_longer list new t x e size = ap length e ∙ omega (arith, size, length-append list (x ∷ []))
 
 -- a blank brick shows a plane that is dead there
 pub blank_shows : (p : ℤ → ℤ → ℕ) (a b : ℤ) → ((x y : ℕ) → x < 64 → y < 16 → p (a +ℤ pos x) (b +ℤ pos y) ≡ 0) → BrickShows (replicate 16 0) p a b
 blank_shows p a b dead = record { looks = λ x y h k. zeros_blank x y h k ∙ sym (dead x y h k) }
+
+-- and so does one of an empty square of 64 by 64 cells
+pub blank_piece : (nodes : List Node) (piece : ℕ) (p : ℤ → ℤ → ℕ) (bit : ℕ → ℕ) (west north a b : ℤ) (n : ℕ) → bit 0 ≡ 0 → n ≤ 48 → IsEmpty (cell_of nodes 6 piece)
+    → ShowsAt nodes piece 6 p west north → a ≡ west → b ≡ north +ℤ pos n → BrickShows (replicate 16 0) (λ x y. bit (p x y)) a b
+blank_piece nodes piece p bit west north a b n none low empty shows e f = blank_shows (λ x y. bit (p x y)) a b (λ x y h k.
+    let column : a +ℤ pos x ≡ west +ℤ pos x = omega (arith, ints, e) in
+    let row : b +ℤ pos y ≡ north +ℤ pos (n + y) = omega (arith, ints, f) in
+    ap bit (ap₂ p column row ∙ sym (shows.looks x (n + y) (omega (arith, h)) (omega (arith, k, low))) ∙ empty x (n + y)) ∙ none)
 
 -- a brick shows the plane at a place by another name
 pub brick_from : (rows : List ℕ) (p : ℤ → ℤ → ℕ) (a b c d : ℤ) → a ≡ c → b ≡ d → BrickShows rows p a b → BrickShows rows p c d
@@ -110,6 +126,13 @@ piece_further first k = omega (arith, ints)
 
 row_further : (first k : ℕ) → row_start (4 * first + k) ≡ piece_start first +ℤ pos (16 * k)
 row_further first k = omega (arith, ints)
+
+-- a frame round a plane goes round the plane of any bit that dead cells don't have
+pub framed_bits : (m : ℕ) (frame : Frame) (p : ℤ → ℤ → ℕ) (bit : ℕ → ℕ) → bit 0 ≡ 0 → IsFramed m frame p → IsFramed m frame (λ x y. bit (p x y))
+framed_bits m frame p bit none framed = record {
+  inside = λ x y out. ap bit (framed.inside x y out) ∙ none;
+  margin = λ x y edge. ap bit (framed.margin x y edge) ∙ none;
+}
 
 -- bricks that show a plane where those of a frame round it lie make a wall that shows it
 pub framed_wall : (wall : Wall) (frame : Frame) (m : ℕ) (p : ℤ → ℤ → ℕ) → IsWallFrame frame → IsFramed m frame p

@@ -13,7 +13,7 @@ use Rattle.ca_run.specs.declared.bricks.wall.WordPlace.{WordPlace}
 use Rattle.ca_run.specs.inner.Shown.{ShowsAt}
 use Rattle.ca_run.specs.inner.Words.{WordShows, eight}
 use Rattle.ca_run.specs.inner.Beyond.{DiesBeyond}
-use Rattle.ca_run.specs.inner.Bricks.{BrickShows, IsBlank, IsWall, WallShows, IsNearWall, LiesWithin}
+use Rattle.ca_run.specs.inner.Bricks.{BrickShows, IsBlank, IsWall, WallShows, HasMargin, IsNearWall, LiesWithin}
 use Rattle.ca_run.proofs.Words.{word_from}
 use Rattle.ca_run.proofs.ReadWords.{word_empty, side_words}
 use Rattle.ca_run.proofs.ShownPlanes.{at_from}
@@ -25,11 +25,14 @@ use Rattle.ca_run.proofs.Trees.{tree_at}
 abbrev pub IsBeyondWall : Wall → ℤ → ℤ → Type 0
 IsBeyondWall wall x y = (x <ℤ wall.x) ⊎ ((wall.x +ℤ pos (64 * wall.across)) ≤ℤ x) ⊎ (y <ℤ wall.y) ⊎ ((wall.y +ℤ pos (16 * wall.down)) ≤ℤ y)
 
+pub dies_beyond : (wall : Wall) (m : ℕ) (p : ℤ → ℤ → ℕ) → HasMargin m wall.across wall.down p wall.x wall.y → (x y : ℤ) → IsBeyondWall wall x y → p x y ≡ 0
+dies_beyond wall m p margin x y (inl h) = margin x y (inl (inl (omega (arith, ints, h))))
+dies_beyond wall m p margin x y (inr (inl h)) = margin x y (inl (inr (omega (arith, ints, h))))
+dies_beyond wall m p margin x y (inr (inr (inl h))) = margin x y (inr (inl (omega (arith, ints, h))))
+dies_beyond wall m p margin x y (inr (inr (inr h))) = margin x y (inr (inr (omega (arith, ints, h))))
+
 pub dead_beyond : (wall : Wall) (m : ℕ) (p : ℤ → ℤ → ℕ) → WallShows wall m p → (x y : ℤ) → IsBeyondWall wall x y → p x y ≡ 0
-dead_beyond wall m p shows x y (inl h) = shows.margin x y (inl (inl (omega (arith, ints, h))))
-dead_beyond wall m p shows x y (inr (inl h)) = shows.margin x y (inl (inr (omega (arith, ints, h))))
-dead_beyond wall m p shows x y (inr (inr (inl h))) = shows.margin x y (inr (inl (omega (arith, ints, h))))
-dead_beyond wall m p shows x y (inr (inr (inr h))) = shows.margin x y (inr (inr (omega (arith, ints, h))))
+dead_beyond wall m p shows = dies_beyond wall m p shows.margin
 
 -- a word whose cells all lie beyond the bricks is empty
 none_beyond : (wall : Wall) (i j : ℤ) → (i <ℤ pos 0) ⊎ (pos (8 * wall.across) ≤ℤ i) ⊎ (j <ℤ pos 0) ⊎ (pos (2 * wall.down) ≤ℤ j) → (x y : ℕ) → x < 8 → y < 8
@@ -127,7 +130,7 @@ pub near_wall_as : (m n : ℕ) (at : WordPlace) → m ≡ n → IsNearWall m at 
 near_wall_as m n at e near = subst (λ k. IsNearWall k at) e near
 
 -- where all words of a square are dead that lie in the wall, the square is dead
-module _ (wall : Wall) (m : ℕ) (p : ℤ → ℤ → ℕ) (shows : WallShows wall m p) (i j : ℤ) (n : ℕ) (words rows : ℕ × ℕ)
+module _ (wall : Wall) (m : ℕ) (p : ℤ → ℤ → ℕ) (margin : HasMargin m wall.across wall.down p wall.x wall.y) (i j : ℤ) (n : ℕ) (words rows : ℕ × ℕ)
     (in_words : (u : ℕ) → i ≤ℤ pos u → pos u <ℤ (i +ℤ pos n) → (words.0 ≤ u) × (u < words.1)) (in_rows : (v : ℕ) → j ≤ℤ pos v → pos v <ℤ (j +ℤ pos n) → (rows.0 ≤ v) × (v < rows.1))
     (dead : IsDeadThere p wall.x wall.y (8 * words.0) (8 * words.1) (8 * rows.0) (8 * rows.1)) where
   blank_at : (x y : ℤ) → eight i ≤ℤ x → x <ℤ (eight i +ℤ pos (8 * n)) → eight j ≤ℤ y → y <ℤ (eight j +ℤ pos (8 * n)) → p (wall.x +ℤ x) (wall.y +ℤ y) ≡ 0
@@ -135,8 +138,8 @@ module _ (wall : Wall) (m : ℕ) (p : ℤ → ℤ → ℕ) (shows : WallShows wa
       let u = in_words (x / 8) (omega (arith, ints, low_x)) (omega (arith, ints, high_x)) in
       let v = in_rows (y / 8) (omega (arith, ints, low_y)) (omega (arith, ints, high_y)) in
       dead x y (omega (arith, u.0)) (omega (arith, u.1)) (omega (arith, v.0)) (omega (arith, v.1))
-  blank_at (negsuc x) y low_x high_x low_y high_y = dead_beyond wall m p shows (wall.x +ℤ negsuc x) (wall.y +ℤ y) (inl (omega (arith, ints)))
-  blank_at (pos x) (negsuc y) low_x high_x low_y high_y = dead_beyond wall m p shows (wall.x +ℤ pos x) (wall.y +ℤ negsuc y) (inr (inr (inl (omega (arith, ints)))))
+  blank_at (negsuc x) y low_x high_x low_y high_y = dies_beyond wall m p margin (wall.x +ℤ negsuc x) (wall.y +ℤ y) (inl (omega (arith, ints)))
+  blank_at (pos x) (negsuc y) low_x high_x low_y high_y = dies_beyond wall m p margin (wall.x +ℤ pos x) (wall.y +ℤ negsuc y) (inr (inr (inl (omega (arith, ints)))))
 
   pub blank_square : (x y : ℕ) → x < 8 * n → y < 8 * n → p ((wall.x +ℤ eight i) +ℤ pos x) ((wall.y +ℤ eight j) +ℤ pos y) ≡ 0
   blank_square x y low_x low_y =
@@ -147,11 +150,11 @@ module _ (wall : Wall) (m : ℕ) (p : ℤ → ℤ → ℕ) (shows : WallShows wa
 -- ---- trees
 
 -- beyond a way within which all bricks lie all is dead
-pub wall_dies : (wall : Wall) (m : ℕ) (p : ℤ → ℤ → ℕ) → WallShows wall m p → (way : ℕ) → LiesWithin way wall → DiesBeyond way p
-wall_dies wall m p shows way within x y (inl (inl h)) = dead_beyond wall m p shows x y (inl (omega (arith, ints, h, within.west)))
-wall_dies wall m p shows way within x y (inl (inr h)) = dead_beyond wall m p shows x y (inr (inl (omega (arith, ints, h, within.east))))
-wall_dies wall m p shows way within x y (inr (inl h)) = dead_beyond wall m p shows x y (inr (inr (inl (omega (arith, ints, h, within.north)))))
-wall_dies wall m p shows way within x y (inr (inr h)) = dead_beyond wall m p shows x y (inr (inr (inr (omega (arith, ints, h, within.south)))))
+pub wall_dies : (wall : Wall) (m : ℕ) (p : ℤ → ℤ → ℕ) → HasMargin m wall.across wall.down p wall.x wall.y → (way : ℕ) → LiesWithin way wall → DiesBeyond way p
+wall_dies wall m p margin way within x y (inl (inl h)) = dies_beyond wall m p margin x y (inl (omega (arith, ints, h, within.west)))
+wall_dies wall m p margin way within x y (inl (inr h)) = dies_beyond wall m p margin x y (inr (inl (omega (arith, ints, h, within.east))))
+wall_dies wall m p margin way within x y (inr (inl h)) = dies_beyond wall m p margin x y (inr (inr (inl (omega (arith, ints, h, within.north)))))
+wall_dies wall m p margin way within x y (inr (inr h)) = dies_beyond wall m p margin x y (inr (inr (inr (omega (arith, ints, h, within.south)))))
 
 -- a power of two from 2 ^ 6 on in words
 pub power_words : (k : ℕ) → 6 ≤ k → 2 ^ k ≡ 8 * 2 ^ (k - 3)
@@ -160,19 +163,19 @@ power_words k least =
     ap (λ n. 2 ^ n) up ∙ side_words (k - 3)
 
 -- the square from the corner of a tree on is the root of a tree with the plane's cells
-pub wall_cells : (nodes : List Node) (root power : ℕ) (wall : Wall) (m : ℕ) (p : ℤ → ℤ → ℕ) (i j : ℤ) (tree : Tree) → 6 ≤ power → WallShows wall m p → LiesWithin (2 ^ power) wall
+pub wall_cells : (nodes : List Node) (root power : ℕ) (wall : Wall) (m : ℕ) (p : ℤ → ℤ → ℕ) (i j : ℤ) (tree : Tree) → 6 ≤ power → HasMargin m wall.across wall.down p wall.x wall.y → LiesWithin (2 ^ power) wall
     → wall.x +ℤ eight i ≡ neg_ℤ (pos (2 ^ power)) → wall.y +ℤ eight j ≡ neg_ℤ (pos (2 ^ power)) → ShowsAt nodes root (suc (suc (suc (power - 2)))) p (wall.x +ℤ eight i) (wall.y +ℤ eight j)
     → tree.root ≡ root → tree.level ≡ power + 1 → (x y : ℤ) → cell nodes tree x y ≡ p x y
-wall_cells nodes root power wall m p i j tree least shown within e f shows g h =
+wall_cells nodes root power wall m p i j tree least margin within e f shows g h =
     let up : suc (suc (suc (power - 2))) ≡ suc power = omega (arith, least) in
     let level : tree.level ≡ suc power = omega (arith, h) in
     tree_at nodes root power p (subst (λ k. ShowsAt nodes root k p (neg_ℤ (pos (2 ^ power))) (neg_ℤ (pos (2 ^ power)))) up (at_from nodes root _ p _ _ _ _ e f shows))
-    (wall_dies wall m p shown (2 ^ power) within) tree g level
+    (wall_dies wall m p margin (2 ^ power) within) tree g level
 
 -- that corner, and the words of the tree, lie near the wall's first word
-pub corner_near : (wall : Wall) (power : ℕ) (at : WordPlace) → IsWall wall → power ≤ 62 → LiesWithin (2 ^ power) wall → wall.x +ℤ eight at.i ≡ neg_ℤ (pos (2 ^ power)) → wall.y +ℤ eight at.j ≡ neg_ℤ (pos (2 ^ power))
+pub corner_near : (wall : Wall) (power : ℕ) (at : WordPlace) → power ≤ 62 → LiesWithin (2 ^ power) wall → wall.x +ℤ eight at.i ≡ neg_ℤ (pos (2 ^ power)) → wall.y +ℤ eight at.j ≡ neg_ℤ (pos (2 ^ power))
     → IsNearWall (2 ^ (power - 2)) at
-corner_near wall power at is most within e f =
+corner_near wall power at most within e f =
     let way : 2 ^ power ≤ 2 ^ 62 = pow_mono most in
     let fewer : power - 2 ≤ 60 = omega (arith, most) in
     let words : 2 ^ (power - 2) ≤ 2 ^ 60 = pow_mono fewer in

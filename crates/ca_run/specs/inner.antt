@@ -11,6 +11,9 @@ pub mod Centres
 pub mod Beyond
 pub mod Tiles
 pub mod Bricks
+pub mod Aged
+pub mod AgedPlanes
+pub mod States
 pub mod Frames
 pub mod Dense
 pub mod Apart
@@ -18,3 +21,4 @@ pub mod AtCost
 pub mod Slots
 pub mod Pages
 pub mod Tables
+pub mod InUse

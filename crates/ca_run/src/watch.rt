@@ -1,8 +1,11 @@
-//! Those who watch a long run.
+//! Those who watch a long run, and say how much it may keep.
 
 use crate::leaper::Milestone;
 
-/// Sees how far a run of generations is, while it lasts.
+/// How many squares a long run may keep where it pays, unless who watches it says otherwise.
+pub const USUAL_SQUARES: usize = 16 << 20;
+
+/// Sees how far a run of generations is, while it lasts, and says how many squares it may keep.
 pub trait Watch {
     /// The run has reached this many of the generations that were asked for.
     fn reached(&mut self, run: Milestone);
@@ -10,6 +13,12 @@ pub trait Watch {
     /// The run goes on: so many units of work were done so far, and so many squares are kept. It is told
     /// after each 65536 units of work or so.
     fn works(&mut self, used: u64, squares: usize);
+
+    /// How many squares a long run may keep, about, before it drops those that it needs no more: it goes on with
+    /// more where one generation needs them. What it drops costs time alone.
+    fn most_squares(&self) -> usize {
+        USUAL_SQUARES
+    }
 }
 
 /// Watches nothing.

@@ -1,5 +1,5 @@
 -- What the words of a command line are taken for.
-use Rattle.std.specs.Prelude.{◌≡◌, ℕ, ◌-◌, ◌<◌, ◌^◌, min, max, List, Option, None, Some, option_map, unwrap_or, String, string_bytes}
+use Rattle.std.specs.Prelude.{◌≡◌, ℕ, ◌-◌, ◌*◌, ◌<◌, ◌^◌, min, max, List, Option, None, Some, option_map, unwrap_or, String, string_bytes}
 use Rattle.std.specs.Option.{option_or}
 use Rattle.std.specs.Str.Parse.{IsNumeral, digits_value, without_leading_plus}
 use Rattle.clap.specs.Matches.{found_of, one_text, first_value}
@@ -28,6 +28,10 @@ IsNumberAfter words name None = (text : List ℕ) (number : ℕ) → one_text (f
 -- the entries of a memo: 262144 unless set. A number outside its limits is brought within them, and so are the two below that have some
 abbrev pub memo_of : Option ℕ → ℕ
 memo_of set = max 1 (min (unwrap_or set 262144) most_memo)
+
+-- how many squares a long run may keep: 16384 for each megabyte, of which there are 1024 unless set
+abbrev pub squares_of : Option ℕ → ℕ
+squares_of set = 16384 * max 1 (min (unwrap_or set 1024) 147456)
 
 -- the units of work: 2^64 - 1 unless set
 abbrev pub work_of : Option ℕ → ℕ

@@ -278,7 +278,9 @@ fn run<'a, R: Files + Clock + AllocGlobal>(
         after: extras.after(),
         limit: scope.limit,
     };
-    let mut observer = Progress::new(rt, &mut streams.errors, heading, extras.extras.progress);
+    let squares = extras.extras.most_squares();
+    let errors = &mut streams.errors;
+    let mut observer = Progress::new(rt, errors, heading, extras.extras.progress, squares);
     identify_run(
         rt.alloc(),
         &subjects,

@@ -171,7 +171,9 @@ fn judge<R: Files + Clock + AllocGlobal>(
     let heading = Heading::Claims {
         before: style.before,
     };
-    let mut observer = Progress::new(rt, &mut streams.errors, heading, extras.progress);
+    let squares = extras.most_squares();
+    let errors = &mut streams.errors;
+    let mut observer = Progress::new(rt, errors, heading, extras.progress, squares);
     let result = verify_watched(
         rt.alloc(),
         claims,

@@ -144,7 +144,9 @@ fn run<R: Clock + AllocGlobal>(
         };
     };
     let heading = Heading::Run { path: pattern.path };
-    let mut observer = Progress::new(rt, &mut streams.errors, heading, extras.progress);
+    let squares = extras.most_squares();
+    let errors = &mut streams.errors;
+    let mut observer = Progress::new(rt, errors, heading, extras.progress, squares);
     let observer = &mut observer;
     // The words keep the generations within their limit, and more are brought within.
     let generations = generations.min(MOST_GENERATIONS);

@@ -40,13 +40,14 @@ pub enum Heading<'a> {
 
 /// Shows which claim is judged, or which file is identified or taken some generations on, how far that is and what was
 /// worked out, once it has taken a second, and wipes that when it is done. It shows that only where it is asked for,
-/// or standard error is a terminal.
+/// or standard error is a terminal. And it says how many squares each may keep.
 #[derive(Drop)]
 pub struct Progress<'a, R> {
     rt: &'a R,
     errors: &'a mut Dev<Stderr>,
     heading: Heading<'a>,
     is_shown: bool,
+    most_squares: usize,
     line: u64,
     goal: u64,
     generations: u64,
@@ -64,6 +65,7 @@ impl<'a, R: Clock + AllocGlobal> Progress<'a, R> {
         errors: &'a mut Dev<Stderr>,
         heading: Heading<'a>,
         is_asked_for: bool,
+        most_squares: usize,
     ) -> Progress<'a, R> {
         let is_shown = is_asked_for || errors.inner().is_terminal();
         Progress {
@@ -71,6 +73,7 @@ impl<'a, R: Clock + AllocGlobal> Progress<'a, R> {
             errors,
             heading,
             is_shown,
+            most_squares,
             line: 0,
             goal: 0,
             generations: 0,
@@ -173,6 +176,10 @@ impl<R: Clock + AllocGlobal> Watch for Progress<'_, R> {
         self.results = used;
         self.squares = squares as u64;
         self.show_again();
+    }
+
+    fn most_squares(&self) -> usize {
+        self.most_squares
     }
 }
 

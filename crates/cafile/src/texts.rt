@@ -32,8 +32,8 @@ macro_rules! after_help {
             [
                 "--after N ",
                 $does,
-                " the pattern as it is N generations on, and adds N to its generation. --memo and --work bound what
-that takes, as `cafile verify --help` tells for claims.
+                " the pattern as it is N generations on, and adds N to its generation. --memo, --work and
+--max-memory bound what that takes, as `cafile verify --help` tells for claims.
 
 "
             ],
@@ -108,8 +108,8 @@ out of range` that the window reaches beyond the columns and rows from -2^124 to
 with --at. White is no live cell, black is a live one, and states above 1 are lighter greys. --zoom K draws each
 cell as K by K pixels, at scale 0: all live cells in at most 8192 by 8192 pixels, or W by H with --size.
 
---after N draws the plane N generations later. --memo and --work are limits for that, as for verify: a run that
-needs more than --work units of work ends as `work`.
+--after N draws the plane N generations later. --memo, --work and --max-memory are limits for that, as for verify: a
+run that needs more than --work units of work ends as `work`.
 
 ",
     [],
@@ -173,6 +173,11 @@ is no terminal.
 with neighbouring numbers; a quarter of the entries, and a sixteenth more under B/S rules, is kept for results that
 are found quickly and may be dropped. A smaller memo takes less memory, and a claim may take longer, and more work.
 
+--max-memory MB is for long runs of planes that never repeat or are large, and says as Golly's maximum memory how
+much is kept: 16384 squares for each megabyte, with what is remembered of them, or as many as the plane itself and one
+generation of it need. Where there are so many, squares that are no more in use are dropped, and the run takes longer.
+A claim isn't refused for it.
+
 --work N refuses a claim that needs more than N units of work: `line 2: refused, work`. A unit is the centre of
 one square after some generations that wasn't remembered, or one brick of 64 by 16 cells of a dense plane, one
 generation on. Squares that are made of bricks again, or copied in a long run, count too. Each claim has its own
@@ -212,7 +217,7 @@ that says so. One whose path isn't UTF-8 can't be opened, and has the comment of
 
 Up to 65536 generations of a pattern are looked at, while patience lasts: a second or so. Where it ends before, the
 comment says `within` fewer. --limit N looks for periods and deaths of up to N generations, however long that takes.
---memo N and --work N are as for verify, for each pattern.
+--memo N, --work N and --max-memory MB are as for verify, for each pattern.
 
 --after N identifies the plane that each pattern has N generations on. No claim about the file says what that is, so
 there are comments alone: `# NAME after 1103 generations: still`, and so on.

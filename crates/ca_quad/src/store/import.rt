@@ -1,12 +1,12 @@
 //! Trees of another store, and the squares that a store had at first.
 
-ghost use Rattle.std.specs.Prelude.{◌≡◌, ◌≤◌, ◌+◌, ℤ, length, take, IfOk, OnOk};
-ghost use Rattle.ca_quad.specs.Sound.{IsSoundStore, Grows};
+ghost use Rattle.std.specs.Prelude.{◌≡◌, ◌≤◌, ◌⊎◌, ◌+◌, ℤ, length, take, IfOk, OnOk, MatchOption};
+ghost use Rattle.ca_quad.specs.Sound.{IsSoundStore, Grows, most_nodes};
 ghost use Rattle.ca_quad.specs.Trees.{IsIn, IsTree, cell, IsTrimmed};
-ghost use Rattle.ca_quad.specs.Added.{IsCopy, AddsCopies};
-ghost use Rattle.ca_quad.specs.inner.Copied.{AreCopies};
+ghost use Rattle.ca_quad.specs.Squares.{place_id};
+ghost use Rattle.ca_quad.specs.Added.{IsCopy, AreCopies, AddsCopies};
 
-use super::Store;
+use super::{MOST, Store};
 use crate::id::Id;
 use crate::square::Square;
 use crate::square_map::SquareMap;
@@ -35,11 +35,23 @@ impl Store {
         ensures grows { Grows self.old self.new }
     {
         let alloc = *self.nodes.allocator();
-        let root = self.copy_of(from, tree.root, &mut SquareMap::new(alloc))?;
+        let root = self.import_square(from, tree.root, &mut SquareMap::new(alloc))?;
         Ok(Tree {
             root,
             level: tree.level,
         })
+    }
+
+    /// The square that is kept at a place, counted from 0 in the order in which squares were added; none where
+    /// there are no more than so many.
+    pub fn square_at(&self, place: usize) -> Option<Id>
+        ensures { MatchOption result ((length self.now ≤ place) ⊎ (most_nodes ≤ place))
+            (λ id. (id ≡ place_id place) × IsIn self.now id) }
+    {
+        if place >= self.nodes.len().min(MOST) {
+            return None;
+        }
+        Some(Id::at_place(place))
     }
 
     /// Keeps the squares that came first, so many of them, and gives the memory of the others back. The id of
@@ -51,8 +63,19 @@ impl Store {
         self.nodes.shrink_to_fit();
     }
 
-    // The square of the same level and cells as one of another store, given those of some of its squares.
-    fn copy_of(&mut self, from: &Store, id: Id, copies: &mut SquareMap<Id>) -> Result<Id, Memory>
+    /// The square of the same level and cells as one of another store. Copies of some of that store's squares are known, and
+    /// those that are made become known, so that what several squares share is looked at once.
+    ///
+    /// # Errors
+    ///
+    /// Fails where there is no memory for more squares. The store may then have more squares than before:
+    /// copies of squares of the square, as on success.
+    pub fn import_square(
+        &mut self,
+        from: &Store,
+        id: Id,
+        copies: &mut SquareMap<Id>,
+    ) -> Result<Id, Memory>
         requires known { IsIn from.now id }
         requires copies { AreCopies from.now self.old copies.old }
         ensures copy { IfOk result (IsCopy from.now self.new id) }
@@ -68,10 +91,10 @@ impl Store {
                 if let Some(copy) = copies.get(id) {
                     return Ok(copy);
                 }
-                let nw = self.copy_of(from, nw, copies)?;
-                let ne = self.copy_of(from, ne, copies)?;
-                let sw = self.copy_of(from, sw, copies)?;
-                let se = self.copy_of(from, se, copies)?;
+                let nw = self.import_square(from, nw, copies)?;
+                let ne = self.import_square(from, ne, copies)?;
+                let sw = self.import_square(from, sw, copies)?;
+                let se = self.import_square(from, se, copies)?;
                 let copy = self.join(nw, ne, sw, se)?;
                 copies.put(id, copy)?;
                 Ok(copy)

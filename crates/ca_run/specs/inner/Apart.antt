@@ -21,13 +21,13 @@ pub record KeepsOn (Rule : Type 0) (old new : LeaperView Rule) : Type 0 where
   pub sound : IsSoundStore new.nodes
   pub spends : Spends old.spent new.spent
 
--- what may still be tried before a leap succeeds: memory may be refused for the first time, the room may grow, leaps become shorter, or squares be dropped
+-- what may still be tried before a leap succeeds: memory may be refused for the first time, the room may grow, leaps become shorter, the same leap be tried again, or squares be dropped
 abbrev pub tries : Pace → ℕ
-tries pace = (if pace.refused then 0 else 2 ^ 73) + (2 ^ 64 - pace.room) * 256 + 2 * pace.digit + (if pace.fresh then 0 else 1)
+tries pace = (if pace.refused then 0 else 2 ^ 75) + (2 ^ 64 - pace.room) * 1024 + 8 * pace.digit + 2 * (3 - pace.repeats) + (if pace.fresh then 0 else 1)
 
 -- more than may ever be tried
 abbrev pub most_tries : ℕ
-most_tries = 2 ^ 74
+most_tries = 2 ^ 76
 
 -- a run is nearer to its end: it has reached more generations, or as many, and less may still be tried
 abbrev pub IsNearer : ReachedTree → Pace → ReachedTree → Pace → Type 0

@@ -1,12 +1,28 @@
 -- What a run over generations has reached by steps (our own).
 use Rattle.std.specs.Prelude.{◌≡◌, ℕ, ◌+◌, ◌*◌, ◌<◌, ◌≤◌, ◌^◌, min, max, ℤ, List, length, Result, IfOk}
+use Rattle.ca_plane.specs.Ageing.{GoesByAgeing}
 use Rattle.ca_plane.specs.Generations.{cells_after}
+use Rattle.ca_plane.specs.declared.counting.Ageing.{Ageing}
 use Rattle.ca_quad.specs.declared.node.Node.{Node}
 use Rattle.ca_quad.specs.Trees.{IsTree, cell, HoldsAll}
 use Rattle.ca_quad.specs.declared.tree.Tree.{Tree}
 use Rattle.ca_run.specs.declared.fault.LeapFault.{LeapFault}
 use Rattle.ca_run.specs.Leaping.{Costs, LeaperView}
+use Rattle.ca_run.specs.Counting.{GoesBy}
+use Rattle.ca_run.specs.declared.leaper.dense.DenseRule.{DenseRule}
+use Rattle.ca_run.specs.declared.leaper.dense.DenseRule.TheVariants.{ByCounting, ByAgeing}
 use Rattle.ca_run.specs.declared.leaper.dense.ReachedTree.{ReachedTree}
+
+-- the rule's cells age so, and have two states at least
+pub record AgesBy (next : List ℕ → ℕ) (ageing : Ageing) : Type 0 where
+  pub least : 2 ≤ ageing.states
+  pub most : ageing.states ≤ 256
+  pub ages : GoesByAgeing ageing.states next ageing
+
+-- bricks can be stepped by the rule so
+abbrev pub GoesDensely : (List ℕ → ℕ) → DenseRule → Type 0
+GoesDensely next (ByCounting counting) = GoesBy next counting
+GoesDensely next (ByAgeing ageing) = AgesBy next ageing
 
 -- the tree's level is at most any that holds all its live cells, from some level on
 abbrev pub IsLow : ℕ → List Node → Tree → Type 0

@@ -1,12 +1,13 @@
 -- Where the bricks of a box lie on the plane (our own). Each side is cut into pieces of 64 cells, which are counted from -2^62 on: a piece of
 -- 64 by 64 cells has four rows of one brick.
-use Rattle.std.specs.Prelude.{◌≡◌, ℕ, suc, ◌+◌, ◌*◌, ◌^◌, ◌≤◌, ◌⊎◌, ℤ, pos, neg_ℤ, ◌+ℤ◌, ◌-ℤ◌, ◌<ℤ◌, ◌≤ℤ◌, List}
+use Rattle.std.specs.Prelude.{◌≡◌, ℕ, suc, ◌+◌, ◌*◌, ◌^◌, ◌≤◌, ◌⊎◌, ℤ, pos, neg_ℤ, ◌+ℤ◌, ◌-ℤ◌, ◌<ℤ◌, ◌≤ℤ◌, List, length}
 use Rattle.ca_quad.specs.declared.node.Node.{Node}
 use Rattle.ca_quad.specs.declared.tree.Tree.{Tree}
 use Rattle.ca_quad.specs.declared.tree.WideBounds.{WideBounds}
 use Rattle.ca_quad.specs.Trees.{IsTree}
 use Rattle.ca_run.specs.declared.bricks.frame.Span.{Span}
 use Rattle.ca_run.specs.declared.bricks.frame.Frame.{Frame}
+use Rattle.ca_run.specs.declared.bricks.wall.Wall.{Wall}
 use Rattle.ca_run.specs.inner.Bricks.{HasMargin}
 
 -- where a piece begins, and so a column of bricks
@@ -53,6 +54,14 @@ pub record IsWallFrame (frame : Frame) : Type 0 where
 pub record IsFramed (m : ℕ) (frame : Frame) (p : ℤ → ℤ → ℕ) : Type 0 where
   pub inside : (x y : ℤ) → IsOutOf frame.columns x ⊎ IsOutOf frame.rows y → p x y ≡ 0
   pub margin : HasMargin m frame.columns.count (4 * frame.rows.count) p (piece_start frame.columns.first) (piece_start frame.rows.first)
+
+-- the wall lies in the frame, and has a brick for each place
+pub record IsOfFrame (frame : Frame) (wall : Wall) : Type 0 where
+  pub x : wall.x ≡ piece_start frame.columns.first
+  pub y : wall.y ≡ piece_start frame.rows.first
+  pub across : wall.across ≡ frame.columns.count
+  pub down : wall.down ≡ 4 * frame.rows.count
+  pub size : length wall.bricks.items ≡ 4 * (frame.columns.count * frame.rows.count)
 
 -- the tree can be read brick by brick
 pub record IsReadByBricks (nodes : List Node) (tree : Tree) : Type 0 where

@@ -35,17 +35,33 @@ fn first_bricks(
         → IsNotIn list.items t → IsBlankRound across bricks.now t) }
     ensures empty { OnOk result (queue.new ≡ []) }
 {
-    let count = bricks.len();
-    'bricks: for t in across + 1..count.saturating_sub(across + 1) {
-        wake_round(queue, t, across, count, &bricks[t], &[0; 16])?;
-    }
+    wake_seen(across, bricks, queue)?;
     let mut list = Vec::new(alloc);
     queue.take(&mut list);
     Ok(list)
 }
 
+// Wakes the bricks that see a live cell.
+pub(super) fn wake_seen(
+    across: usize,
+    bricks: &[[u64; 16]],
+    queue: &mut Queue,
+) -> Result<(), Memory>
+    requires room { across + length bricks.now < 2 ^ 63 }
+    requires edge { HasBlankEdge across bricks.now }
+    ensures grows { OnOk result (QueueGrows across (length bricks.now) queue.old queue.new) }
+    ensures others { OnOk result ((t : ℕ) → HasNeighbours across (length bricks.now) t
+        → IsNotIn queue.new t → IsBlankRound across bricks.now t) }
+{
+    let count = bricks.len();
+    'bricks: for t in across + 1..count.saturating_sub(across + 1) {
+        wake_round(queue, t, across, count, &bricks[t], &[0; 16])?;
+    }
+    Ok(())
+}
+
 // So many bricks without a live cell.
-fn blank_bricks(alloc: Global, count: usize) -> Result<Vec<[u64; 16]>, Memory>
+pub(super) fn blank_bricks(alloc: Global, count: usize) -> Result<Vec<[u64; 16]>, Memory>
     ensures length { IfOk result (λ bricks. length bricks.items ≡ count) }
     ensures blank { IfOk result (λ bricks. (t : ℕ) → IsBlank (get_or bricks.items t [])) }
 {
@@ -54,7 +70,7 @@ fn blank_bricks(alloc: Global, count: usize) -> Result<Vec<[u64; 16]>, Memory>
 
 // Says which bricks are awake next: those of the queue, which is empty afterwards. After the first generation of a run, before
 // which nothing is known, those that were awake then are so once more.
-fn wake_next(
+pub(super) fn wake_next(
     is_first: bool,
     across: usize,
     count: usize,
@@ -90,7 +106,7 @@ fn wake_again(across: usize, count: usize, list: &[usize], queue: &mut Queue) ->
 }
 
 // Counts the bricks of a list before they are stepped, but no more than there are.
-fn count_steps(work: &mut Work, awake: &[usize], count: usize) -> Result<u64, LeapFault>
+pub(super) fn count_steps(work: &mut Work, awake: &[usize], count: usize) -> Result<u64, LeapFault>
     ensures steps { IfOk result (λ steps. steps ≡ min (length awake.now) count) }
     ensures counts { OnOk result (work.new.used ≡ work.old.used + min (length awake.now) count) }
     ensures most { work.new.used ≤ work.old.used + count }

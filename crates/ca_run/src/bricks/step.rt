@@ -111,7 +111,7 @@ fn step_by<N: NextCells, C: CountInRow>(
 
 // A brick and the cells round it.
 #[inline(always)]
-fn round_of(bricks: &[[u64; 16]], across: usize, t: usize) -> Round
+pub(super) fn round_of(bricks: &[[u64; 16]], across: usize, t: usize) -> Round
     requires { HasNeighbours across (length bricks.now) t }
     ensures { (x y : ℕ) → y < 18 → round_cells result x y ≡ round_at across bricks.now t x y }
 {
@@ -193,7 +193,7 @@ fn wake_three(
 }
 
 // Where one of the words changed, bit for bit.
-fn changed_bits(new: &[u64; 16], old: &[u64; 16]) -> u64
+pub(super) fn changed_bits(new: &[u64; 16], old: &[u64; 16]) -> u64
     ensures { (x y : ℕ) → y < 16 → bit_at result x ≡ 0
         → bit_at (slice_index new.now y) x ≡ bit_at (slice_index old.now y) x }
 {

@@ -126,7 +126,7 @@ fn east_bits(row: u64, east: u64) -> u64
 
 // The bits of one that aren't in the other.
 #[inline(always)]
-fn and_not(a: u64, b: u64) -> u64
+pub(super) fn and_not(a: u64, b: u64) -> u64
     ensures { (x : ℕ) → bit_at result x ≡ bit_at a x - bit_at b x }
 {
     a ^ (a & b)
@@ -157,7 +157,7 @@ fn add3(a: u64, b: u64, c: u64) -> WordPair
 
 // All bits, or none.
 #[inline(always)]
-fn all_bits(set: bool) -> u64
+pub(super) fn all_bits(set: bool) -> u64
     ensures { (x : ℕ) → x < 64 → bit_at result x ≡ (if set then 1 else 0) }
 {
     if set { u64::MAX } else { 0 }

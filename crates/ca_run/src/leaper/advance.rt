@@ -76,7 +76,7 @@ impl<A: Automaton> Leaper<A> {
         let mut reached = reached;
         let long = is_long(first.level, n);
         let squares = self.store.count();
-        let room = pace::room_beside(squares);
+        let room = pace::room_beside(squares, watch.most_squares());
         self.set_room(if long { room } else { usize::MAX });
         match self.leap_on(first, &mut reached, n, watch) {
             Ok(()) => Ok(reached.tree),

@@ -1,5 +1,5 @@
 //! Runs that make too many squares for the leaper's store: they go on in a store of their own, whose squares
-//! are left behind from time to time but for those of the tree.
+//! are left behind from time to time but for those of the tree, and where the run repeats, of results in use.
 
 ghost use Rattle.std.specs.Prelude.{◌≡◌, ◌+◌, ◌-◌, ◌*◌, ◌/◌, ◌≤◌, ◌<◌, ◌^◌, true, length, take};
 ghost use Rattle.std.specs.Prelude.{IfOk, OnOk, OnErr};
@@ -9,18 +9,23 @@ ghost use Rattle.ca_run.specs.Advanced.{CanAdvance, IsAdvanced};
 ghost use Rattle.ca_run.specs.Leaping.{LeaperGrows, EndsAtLimit};
 ghost use Rattle.ca_run.specs.inner.Apart.{IsCopyOfTree, KeepsOn, IsNearer, tries};
 ghost use Rattle.ca_run.specs.inner.Dense.{HasReached};
+ghost use Rattle.ca_run.specs.inner.InUse.{AreTrueLeaps};
 
 use super::dense::ReachedTree;
+use super::full_leap::FullLeap;
 use super::pace::Pace;
 use super::{Leaper, Milestone};
 use crate::fault::LeapFault;
 use crate::watch::Watch;
 use ca_plane::{Automaton, Memory};
-use ca_quad::{Store, Tree};
+use ca_quad::{SquareMap, Store, Tree};
 use std::mem;
 
 // How many squares that are copied cost a unit of work.
 const A_UNIT: usize = 4096;
+
+// What part of the squares that there may be are those of a tree and of results that are kept, about, at most.
+const KEPT: usize = 4;
 
 impl<A: Automaton> Leaper<A> {
     // The tree n generations on, from one that was reached on the way, by leaps in a store of its own. Of the
@@ -46,7 +51,7 @@ impl<A: Automaton> Leaper<A> {
         ensures work { EndsAtLimit self.new.spent result }
     {
         let _ = &self.store;
-        let mut pace = Pace::new(squares);
+        let mut pace = Pace::new(squares, watch.most_squares());
         match self.part_late(first, reached, squares, n, &mut pace, watch) {
             Ok((reached, origin)) => {
                 let end = self.leap_until(&origin, first, reached, n, pace, watch);
@@ -84,7 +89,8 @@ impl<A: Automaton> Leaper<A> {
     {
         let _ = &self.store;
         self.leap_in_more_room(first, &mut reached, n, pace, watch)?;
-        let (tree, before) = self.part(reached.tree, squares)?;
+        let leaps = self.leaps_to_keep(pace, reached.generations < n);
+        let (tree, before) = self.part(reached.tree, squares, &leaps, pace.room() / KEPT)?;
         let generations = reached.generations;
         Ok((ReachedTree { tree, generations }, before))
     }
@@ -143,9 +149,17 @@ impl<A: Automaton> Leaper<A> {
     }
 
     // The same tree in a new store, which takes the place of the one before, and the first squares of that
-    // one. What is remembered is forgotten first, so that its memory serves for the copy.
-    fn part(&mut self, tree: Tree, squares: usize) -> Result<(Tree, Store), Memory>
-        requires { IsTree self.old.nodes tree }
+    // one. What is remembered is forgotten first, so that its memory serves for the copies. Of these results,
+    // the last ones are remembered of the new store's squares, until there are so many of these.
+    fn part(
+        &mut self,
+        tree: Tree,
+        squares: usize,
+        leaps: &[FullLeap],
+        most: usize,
+    ) -> Result<(Tree, Store), Memory>
+        requires tree { IsTree self.old.nodes tree }
+        requires leaps { AreTrueLeaps (A.next_of self.old.rule) self.old.nodes leaps.now }
         ensures moved { IfOk result (λ both. IsCopyOfTree self.old.nodes tree self.new.nodes both.0) }
         ensures before { IfOk result (λ both. both.1 ≡ take squares self.old.nodes) }
         ensures keeps { KeepsOn A self.old self.new }
@@ -154,8 +168,10 @@ impl<A: Automaton> Leaper<A> {
     {
         let alloc = self.recent_centres.allocator();
         let mut before = self.exchange(Store::new(alloc));
-        match self.store.import(&before, tree) {
+        let mut copies = SquareMap::new(alloc);
+        match self.import_tree(&before, tree, &mut copies) {
             Ok(copy) => {
+                self.keep_leaps(&before, leaps, most, &mut copies);
                 before.keep_first(squares);
                 Ok((copy, before))
             }
@@ -226,7 +242,7 @@ impl<A: Automaton> Leaper<A> {
     }
 
     // What is reached after one leap more. Where it made too many squares, it is given up, and they are left
-    // behind. Where memory was refused, and there would be very many leaps, nothing.
+    // behind, but those of results that are in use where the run repeats. Where memory was refused, and there would be very many leaps, nothing.
     fn leap_once<W: Watch>(
         &mut self,
         origin: &Store,
@@ -287,7 +303,11 @@ impl<A: Automaton> Leaper<A> {
                 pace.grow();
                 return Ok(tree);
             }
-            pace.note_abandoned_leap();
+            if pace.may_repeat_leap(squares, self.memo.looked_up()) {
+                pace.note_repeated_leap();
+            } else {
+                pace.note_abandoned_leap();
+            }
         } else if pace.may_try_again() {
             pace.note_refused_leap(squares);
         } else {
@@ -313,7 +333,7 @@ impl<A: Automaton> Leaper<A> {
         self.leave_squares(tree, pace)
     }
 
-    // The same tree in a new store: all other squares are left behind.
+    // The same tree in a new store: all other squares are left behind but those of results that are kept.
     fn leave_squares(&mut self, tree: Tree, pace: &mut Pace) -> Result<Tree, Memory>
         requires { IsTree self.old.nodes tree }
         ensures moved { IfOk result (IsCopyOfTree self.old.nodes tree self.new.nodes) }
@@ -321,7 +341,8 @@ impl<A: Automaton> Leaper<A> {
         ensures spent { self.new.spent ≡ self.old.spent }
         ensures tries { tries pace.new ≤ tries pace.old }
     {
-        let (copy, _none) = self.part(tree, 0)?;
+        let leaps = self.leaps_to_keep(pace, true);
+        let (copy, _none) = self.part(tree, 0, &leaps, pace.room() / KEPT)?;
         pace.note_copy(self.store.count());
         Ok(copy)
     }

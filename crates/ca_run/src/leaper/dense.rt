@@ -9,13 +9,15 @@ ghost use Rattle.ca_run.specs.Leaping.{LeaperGrows, EndsAtLimit};
 ghost use Rattle.ca_run.specs.inner.AtCost.{GoesOnAtCost};
 ghost use Rattle.ca_run.specs.Counting.{GoesBy};
 ghost use Rattle.ca_run.specs.inner.Bricks.{WallShows, IsInPlace, LiesNearOrigin, IsAligned};
-ghost use Rattle.ca_run.specs.inner.Dense.{HasReached, IsIdle, IsDense};
+ghost use Rattle.ca_run.specs.inner.Dense.{HasReached, IsIdle, IsDense, GoesDensely};
+ghost use Rattle.ca_run.specs.inner.Frames.{IsReadByBricks, IsWallFrame, IsFramed};
 
 use super::Leaper;
-use crate::bricks::{Wall, frame_of};
+use super::aged_plane::TwoStates;
+use crate::bricks::{Frame, Wall, frame_of};
 use crate::fault::LeapFault;
 use crate::watch::Watch;
-use ca_plane::{Automaton, Counting, Memory};
+use ca_plane::{Ageing, Automaton, Counting, Memory};
 use ca_quad::{Tree, WideBounds};
 use std::alloc::Global;
 
@@ -31,13 +33,13 @@ const LEAST: u8 = 7;
 const GREATEST: u8 = 62;
 
 // For how many generations a wall has a margin.
-const AT_A_TIME: u64 = 1024;
+pub(super) const AT_A_TIME: u64 = 1024;
 
 // How many walls are made at most, one after the other.
 const MOST_WALLS: u64 = 8;
 
 // How many levels more than the first tree the tree of a wall has at most, as a reach.
-const MOST_GROWTH: u8 = 6;
+pub(super) const MOST_GROWTH: u8 = 6;
 
 // How many bricks a wall has at most for each that is stepped in a generation.
 const MOST_RESTING: u64 = 320;
@@ -51,10 +53,17 @@ pub(super) struct ReachedTree {
 
 // What is reached by one wall, how many bricks it has, and how many of them were stepped in a generation.
 #[derive(Clone, Copy)]
-struct Stretch {
-    reached: ReachedTree,
-    bricks: u64,
-    work: u64,
+pub(super) struct Stretch {
+    pub(super) reached: ReachedTree,
+    pub(super) bricks: u64,
+    pub(super) work: u64,
+}
+
+// How a rule goes by which bricks are stepped.
+#[derive(Clone, Copy)]
+pub(super) enum DenseRule {
+    ByCounting(Counting),
+    ByAgeing(Ageing),
 }
 
 impl<A: Automaton> Leaper<A> {
@@ -82,7 +91,7 @@ impl<A: Automaton> Leaper<A> {
             tree: *tree,
             generations: 0,
         };
-        let Some(counting) = self.counting else {
+        let Some(rule) = self.dense_rule() else {
             return Ok(reached);
         };
         if n < FEWEST || tree.level < LEAST || !self.memo.is_empty() {
@@ -91,13 +100,13 @@ impl<A: Automaton> Leaper<A> {
         if !self.is_dense(tree)? {
             return Ok(reached);
         }
-        self.step_walls(counting, tree, reached, n, watch)
+        self.step_walls(rule, tree, reached, n, watch)
     }
 
     // What is reached by one wall after another, until few of the bricks of one are stepped.
     fn step_walls<W: Watch>(
         &mut self,
-        counting: Counting,
+        rule: DenseRule,
         first: &Tree,
         mut reached: ReachedTree,
         n: u64,
@@ -107,7 +116,7 @@ impl<A: Automaton> Leaper<A> {
         requires least { 7 ≤ first.now.level }
         requires many { 32 ≤ n }
         requires time { n ≤ most_generations }
-        requires counting { GoesBy (A.next_of self.old.rule) counting }
+        requires goes { GoesDensely (A.next_of self.old.rule) rule }
         requires reached { HasReached (A.next_of self.old.rule)
             self.old.nodes first.now n self.old.nodes reached }
         ensures reached { IfOk result (HasReached (A.next_of self.old.rule)
@@ -119,7 +128,7 @@ impl<A: Automaton> Leaper<A> {
         let _ = &self.store;
         let mut most = 0;
         'walls: for _ in 0..MOST_WALLS {
-            let Some(stretch) = self.step_wall(counting, first, &reached, n, watch)? else {
+            let Some(stretch) = self.step_by_rule(rule, first, &reached, n, watch)? else {
                 return Ok(reached);
             };
             let Stretch {
@@ -164,7 +173,48 @@ impl<A: Automaton> Leaper<A> {
         Ok(squares as i128 >= room.saturating_add(room / 5))
     }
 
+    // How the rule goes, where bricks can be stepped by it.
+    fn dense_rule(&self) -> Option<DenseRule>
+        ensures { IfSome result (GoesDensely (A.next_of self.now.rule)) }
+    {
+        let _ = &self.store;
+        if let Some(counting) = self.counting {
+            return Some(DenseRule::ByCounting(counting));
+        }
+        // Says how many any rule has.
+        let _states = self.rule.states();
+        let ageing = self.rule.ageing()?;
+        Some(DenseRule::ByAgeing(ageing))
+    }
+
     // What is reached by one wall more, where the plane is not too large.
+    fn step_by_rule<W: Watch>(
+        &mut self,
+        rule: DenseRule,
+        first: &Tree,
+        reached: &ReachedTree,
+        n: u64,
+        watch: &mut W,
+    ) -> Result<Option<Stretch>, LeapFault>
+        requires first { IsTree self.old.nodes first.now }
+        requires least { 7 ≤ first.now.level }
+        requires time { n ≤ most_generations }
+        requires goes { GoesDensely (A.next_of self.old.rule) rule }
+        requires reached { HasReached (A.next_of self.old.rule)
+            self.old.nodes first.now n self.old.nodes reached.now }
+        ensures reached { IfOk result (λ found. IfSome found (λ stretch. HasReached (A.next_of self.old.rule)
+            self.old.nodes first.now n self.new.nodes stretch.reached)) }
+        ensures none { reached.now.generations ≡ n → IfOk result (λ found. found ≡ None) }
+        ensures at_cost { GoesOnAtCost A self.old self.new (2 * 14 ^ (first.now.level + 4)) 255 }
+        ensures work { EndsAtLimit self.new.spent result }
+    {
+        match rule {
+            DenseRule::ByCounting(counting) => self.step_wall(counting, first, reached, n, watch),
+            DenseRule::ByAgeing(ageing) => self.step_aged_wall(ageing, first, reached, n, watch),
+        }
+    }
+
+    // The same, by a rule of two states.
     fn step_wall<W: Watch>(
         &mut self,
         counting: Counting,
@@ -251,6 +301,30 @@ impl<A: Automaton> Leaper<A> {
         later
     }
 
+    // The frame of a tree with a margin of so many cells, where it is not too large.
+    pub(super) fn dense_frame(
+        &self,
+        alloc: Global,
+        tree: &Tree,
+        margin: u64,
+    ) -> Result<Option<Frame>, Memory>
+        requires tree { IsTree self.now.nodes tree.now }
+        requires margin { margin ≤ most_generations }
+        ensures read { IfOk result (λ found. IfSome found (λ _. IsReadByBricks self.now.nodes tree.now)) }
+        ensures frame { IfOk result (λ found. IfSome found IsWallFrame) }
+        ensures framed { IfOk result (λ found. IfSome found
+            (λ frame. IsFramed margin frame (cell self.now.nodes tree.now))) }
+        ensures some { margin ≡ 0 → result ≡ Ok None }
+    {
+        if margin == 0 || tree.level < LEAST || tree.level > GREATEST {
+            return Ok(None);
+        }
+        let Some(bounds) = self.store.bounds(alloc, *tree)? else {
+            return Ok(None);
+        };
+        Ok(frame_of(bounds, margin as usize))
+    }
+
     // The wall of a tree with a margin of so many cells, where it is not too large.
     fn dense_wall(&self, alloc: Global, tree: &Tree, margin: u64) -> Result<Option<Wall>, Memory>
         requires tree { IsTree self.now.nodes tree.now }
@@ -265,16 +339,10 @@ impl<A: Automaton> Leaper<A> {
         ensures fresh { IfOk result (λ found. IfSome found (λ wall. wall.work ≡ 0)) }
         ensures some { margin ≡ 0 → result ≡ Ok None }
     {
-        if margin == 0 || tree.level < LEAST || tree.level > GREATEST {
-            return Ok(None);
-        }
-        let Some(bounds) = self.store.bounds(alloc, *tree)? else {
+        let Some(frame) = self.dense_frame(alloc, tree, margin)? else {
             return Ok(None);
         };
-        let Some(frame) = frame_of(bounds, margin as usize) else {
-            return Ok(None);
-        };
-        self.wall_of(alloc, tree, &frame)
+        self.wall_of(alloc, TwoStates, tree, &frame)
     }
 }
 

@@ -7,12 +7,14 @@ ghost use Rattle.ca_quad.specs.Trees.{IsTree, cell};
 ghost use Rattle.ca_run.specs.Leaping.{EndsAtLimit};
 ghost use Rattle.ca_run.specs.inner.AtCost.{GoesOnAtCost};
 ghost use Rattle.ca_run.specs.inner.Shown.{ShowsAt};
-ghost use Rattle.ca_run.specs.inner.Bricks.{IsWall, WallShows, IsNearWall, LiesWithin};
+ghost use Rattle.ca_run.specs.declared.bricks.wall.Wall.{Wall};
+ghost use Rattle.ca_run.specs.inner.Aged.{AgedWallShows, IsAgedWall};
+ghost use Rattle.ca_run.specs.inner.Bricks.{IsWall, WallShows, HasMargin, IsNearWall, LiesWithin};
 ghost use Rattle.ca_run.specs.inner.Bricks.{LiesNearOrigin, IsAligned};
 ghost use Rattle.ca_run.specs.inner.Words.{eight};
 
 use super::Leaper;
-use crate::bricks::{Wall, WordPlace};
+use crate::bricks::{AgedWall, Wall, WordPlace};
 use crate::fault::LeapFault;
 use ca_plane::{Automaton, Memory};
 use ca_quad::{Id, Tree};
@@ -21,6 +23,59 @@ use ca_quad::{Id, Tree};
 const LEAST: u8 = 6;
 
 const GREATEST: u8 = 62;
+
+/// Walls of which squares are made.
+pub(super) trait SquareWall {
+    // The wall of the live cells: it tells where the others lie.
+    ghost live_wall: { Self → Wall };
+    // Each plane of bits is a wall, and they lie in one place.
+    ghost is_whole: { Self → Type 0 };
+    // The planes show a plane of states, and have a margin of so many cells.
+    ghost shows_plane: { Self → ℕ → (ℤ → ℤ → ℕ) → Type 0 };
+    // How many units of work a square of 8 by 8 cells takes at most.
+    ghost units: { Self → ℕ };
+
+    /// The square of 8 by 8 cells at a place.
+    fn square<A: Automaton>(&self, leaper: &mut Leaper<A>, at: WordPlace) -> Result<Id, LeapFault>
+        requires { is_whole self.now }
+        ensures shows { (m : ℕ) (p : ℤ → ℤ → ℕ) → shows_plane self.now m p
+            → IfOk result (λ id. ShowsAt leaper.new.nodes id 3 p
+            ((live_wall self.now).x +ℤ eight at.i) ((live_wall self.now).y +ℤ eight at.j)) }
+        ensures square { IfOk result (λ id. IsOf leaper.new.nodes id 3) }
+        ensures at_cost { GoesOnAtCost A leaper.old leaper.new (units self.now) 125 }
+        ensures work { EndsAtLimit leaper.new.spent result };
+
+    /// Whether all bricks are blank in which some word lies from one place to before another.
+    fn is_blank_between(&self, i: (usize, usize), j: (usize, usize)) -> bool
+        requires { is_whole self.now }
+        ensures { result ≡ true → (m : ℕ) (p : ℤ → ℤ → ℕ) → shows_plane self.now m p
+            → (x y : ℕ) → 8 * i.0 ≤ x → x < 8 * i.1 → 8 * j.0 ≤ y → y < 8 * j.1
+            → p ((live_wall self.now).x +ℤ pos x) ((live_wall self.now).y +ℤ pos y) ≡ 0 };
+
+    // all is dead beyond the bricks
+    ghost margin: { (wall : Self) (m : ℕ) (p : ℤ → ℤ → ℕ) → shows_plane wall m p
+        → HasMargin m (live_wall wall).across (live_wall wall).down p (live_wall wall).x (live_wall wall).y };
+}
+
+impl SquareWall for Wall {
+    ghost live_wall = { λ wall. wall };
+
+    ghost is_whole = { IsWall };
+
+    ghost shows_plane = { WallShows };
+
+    ghost units = { λ _. 0 };
+
+    ghost margin = { λ wall m p shows. shows.margin };
+
+    fn square<A: Automaton>(&self, leaper: &mut Leaper<A>, at: WordPlace) -> Result<Id, LeapFault> {
+        Ok(leaper.from_word(self.word(at))?)
+    }
+
+    fn is_blank_between(&self, i: (usize, usize), j: (usize, usize)) -> bool {
+        Wall::is_blank_between(self, i, j)
+    }
+}
 
 // How many words the side of a square of this grain has.
 fn width(grain: u8) -> u64
@@ -104,27 +159,48 @@ impl<A: Automaton> Leaper<A> {
         })
     }
 
+    // The same of a wall of cells that age.
+    pub(super) fn tree_of_aged(&mut self, wall: &AgedWall, reach: u8) -> Result<Tree, LeapFault>
+        requires wall { IsAgedWall wall.now }
+        requires least { 6 ≤ reach }
+        requires most { reach ≤ 62 }
+        requires within { LiesWithin (2 ^ reach) wall.now.live }
+        requires aligned { IsAligned wall.now.live }
+        ensures tree { IfOk result (IsTree self.new.nodes) }
+        ensures level { IfOk result (λ tree. tree.level ≤ 64) }
+        ensures cells { (m : ℕ) (p : ℤ → ℤ → ℕ) → AgedWallShows wall.now m p
+            → IfOk result (λ tree. (x y : ℤ) → cell self.new.nodes tree x y ≡ p x y) }
+        ensures at_cost { GoesOnAtCost A self.old self.new (21 * 14 ^ (reach - 2)) 125 }
+        ensures work { EndsAtLimit self.new.spent result }
+    {
+        let root = self.from_wall(wall, reach - 2, wall.live.corner(reach))?;
+        Ok(Tree {
+            root,
+            level: reach + 1,
+        })
+    }
+
     // The square of the words of a wall from a place on. A square's grain is the number of times that its
     // side of words can be halved: its level is that and 3.
     #[cycle(from_wall)]
-    pub(super) fn from_wall(
+    pub(super) fn from_wall<S: SquareWall>(
         &mut self,
-        wall: &Wall,
+        wall: &S,
         grain: u8,
         at: WordPlace,
     ) -> Result<Id, LeapFault>
-        requires wall { IsWall wall.now }
+        requires wall { S.is_whole wall.now }
         requires low { grain ≤ 61 }
         requires near { IsNearWall (2 ^ grain) at }
-        ensures shows { (m : ℕ) (p : ℤ → ℤ → ℕ) → WallShows wall.now m p
+        ensures shows { (m : ℕ) (p : ℤ → ℤ → ℕ) → S.shows_plane wall.now m p
             → IfOk result (λ id. ShowsAt self.new.nodes id (suc (suc (suc grain))) p
-            (wall.now.x +ℤ eight at.i) (wall.now.y +ℤ eight at.j)) }
+            ((S.live_wall wall.now).x +ℤ eight at.i) ((S.live_wall wall.now).y +ℤ eight at.j)) }
         ensures square { IfOk result (λ id. IsOf self.new.nodes id (suc (suc (suc grain)))) }
-        ensures at_cost { GoesOnAtCost A self.old self.new (14 ^ grain) 125 }
+        ensures at_cost { GoesOnAtCost A self.old self.new ((1 + S.units wall.now) * 14 ^ grain) 125 }
         ensures work { EndsAtLimit self.new.spent result }
     {
         if grain == 0 {
-            return Ok(self.from_word(wall.word(at))?);
+            return wall.square(self, at);
         }
         let count = width(grain);
         let (words, rows) = at.naturals(count);
@@ -136,15 +212,20 @@ impl<A: Automaton> Leaper<A> {
 
     // The same where it has parts: the grain is theirs. Each is counted before it is made.
     #[cycle(from_wall)]
-    fn from_wall_parts(&mut self, wall: &Wall, grain: u8, at: WordPlace) -> Result<Id, LeapFault>
-        requires wall { IsWall wall.now }
+    fn from_wall_parts<S: SquareWall>(
+        &mut self,
+        wall: &S,
+        grain: u8,
+        at: WordPlace,
+    ) -> Result<Id, LeapFault>
+        requires wall { S.is_whole wall.now }
         requires low { grain ≤ 60 }
         requires near { IsNearWall (2 ^ grain + 2 ^ grain) at }
-        ensures shows { (m : ℕ) (p : ℤ → ℤ → ℕ) → WallShows wall.now m p
+        ensures shows { (m : ℕ) (p : ℤ → ℤ → ℕ) → S.shows_plane wall.now m p
             → IfOk result (λ id. ShowsAt self.new.nodes id (suc (suc (suc (suc grain)))) p
-            (wall.now.x +ℤ eight at.i) (wall.now.y +ℤ eight at.j)) }
+            ((S.live_wall wall.now).x +ℤ eight at.i) ((S.live_wall wall.now).y +ℤ eight at.j)) }
         ensures square { IfOk result (λ id. IsOf self.new.nodes id (suc (suc (suc (suc grain))))) }
-        ensures at_cost { GoesOnAtCost A self.old self.new (4 + 4 * 14 ^ grain) 0 }
+        ensures at_cost { GoesOnAtCost A self.old self.new (4 + 4 * ((1 + S.units wall.now) * 14 ^ grain)) 0 }
         ensures work { EndsAtLimit self.new.spent result }
     {
         let places = at.quarters(width(grain));

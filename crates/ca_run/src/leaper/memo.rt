@@ -100,6 +100,22 @@ impl Memo {
         Some(half)
     }
 
+    /// What is remembered for a square at full leap, if it was looked up since its page stands.
+    pub(crate) fn leap_in_use(&self, id: Id) -> Option<Id>
+        ensures { IfSome result (HasFullLeap self.now id) }
+    {
+        let place = id.number();
+        let number = place / SQUARES;
+        if number >= self.pages.len() {
+            return None;
+        }
+        let page = self.pages[number].as_ref()?;
+        if (page.looked_up >> (place % SQUARES)) & 1 == 0 {
+            return None;
+        }
+        page.slots[place % SQUARES]
+    }
+
     /// What is remembered for a square and another time.
     pub(crate) fn single(&self, id: Id, j: u8) -> Option<Id>
         ensures { IfSome result (HasSingle self.now id j) }

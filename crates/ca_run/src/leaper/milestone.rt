@@ -3,10 +3,11 @@
 ghost use Rattle.std.specs.Prelude.{◌≡◌, ℤ};
 ghost use Rattle.ca_plane.specs.Generations.{cells_after};
 ghost use Rattle.ca_quad.specs.Trees.{cell};
+ghost use Rattle.ca_run.specs.inner.Aged.{AgedWallShows};
 ghost use Rattle.ca_run.specs.inner.Bricks.{WallShows};
 
 use super::Leaper;
-use crate::bricks::Wall;
+use crate::bricks::{AgedWall, Wall};
 use ca_plane::Automaton;
 use ca_quad::{Store, Tree};
 use std::marker::Model;
@@ -64,6 +65,23 @@ impl Milestone {
         generations: u64,
     ) -> Milestone
         requires { WallShows held.now 0
+            (cells_after (A.next_of leaper.now.rule) (cell leaper.now.nodes first.now) generations) }
+        ensures { result ≡ generations }
+    {
+        let _ = leaper;
+        let _ = first;
+        let _ = held;
+        Milestone { generations }
+    }
+
+    // What a run has reached that began with a tree and holds a wall of cells that age.
+    pub(crate) fn with_aged_wall<A: Automaton>(
+        leaper: &Leaper<A>,
+        first: &Tree,
+        held: &AgedWall,
+        generations: u64,
+    ) -> Milestone
+        requires { AgedWallShows held.now 0
             (cells_after (A.next_of leaper.now.rule) (cell leaper.now.nodes first.now) generations) }
         ensures { result ≡ generations }
     {

@@ -3,13 +3,10 @@
 ghost use Rattle.std.specs.Prelude.{◌≡◌, ℕ, ◌+◌, ◌-◌, ◌<◌, ◌≤◌, ◌^◌, true};
 ghost use Rattle.ca_run.specs.inner.Apart.{tries, most_tries};
 
-// How many squares a store may have, and how many more than at first.
+// How many squares a store may have at first, and how many more than before, where no fewer are allowed.
 const ROOM: usize = 4 << 20;
 
 const MORE: usize = 1 << 20;
-
-// How many squares a store may have where it pays to keep them, unless memory ends before.
-const MOST_ROOM: usize = 16 << 20;
 
 // How many leaps a run may try after memory was refused, where more than so many are left to it.
 const MOST_TRIES: u64 = 1 << 8;
@@ -19,9 +16,12 @@ const MOST_LEAPS: u64 = 1 << 12;
 // What part of a store's squares have results that were looked up again, at least, where a run repeats.
 const REPEATED: usize = 4;
 
-/// With how many squares a leap is given up in a store that had so many before.
-pub(super) fn room_beside(squares: usize) -> usize {
-    squares.saturating_add(MORE).max(ROOM)
+// How often a leap that was given up is tried again as long, while results of it are kept.
+const MOST_REPEATS: u8 = 3;
+
+/// With how many squares a leap is given up in a store that had so many before, where so many are allowed.
+pub(super) fn room_beside(squares: usize, most: usize) -> usize {
+    squares.saturating_add(MORE.min(most)).max(ROOM.min(most))
 }
 
 /// Whether the cells of a run, of so many generations from a tree of this level, may be many.
@@ -43,17 +43,23 @@ pub(super) struct Pace {
     fresh: bool,
     // How many leaps were tried since memory was refused.
     tried: u64,
+    // How many squares are allowed where it pays to keep them.
+    most: usize,
+    // How often the same leap was given up, and its results kept.
+    repeats: u8,
 }
 
 impl Pace {
-    /// One generation at first, in a store that has so many squares.
-    pub(super) fn new(squares: usize) -> Pace {
+    /// One generation at first, in a store that has so many squares, where so many are allowed.
+    pub(super) fn new(squares: usize, most: usize) -> Pace {
         Pace {
             digit: 0,
-            room: room_after(squares, ROOM),
+            room: room_after(squares, first_room(most)),
             refused: false,
             fresh: false,
             tried: 0,
+            most,
+            repeats: 0,
         }
     }
 
@@ -77,6 +83,7 @@ impl Pace {
         ensures { tries self.new < most_tries }
     {
         self.fresh = false;
+        self.repeats = 0;
         self.note_try();
         if digit == self.digit && digit < 60 && made < self.room / 8 {
             self.digit += 1;
@@ -90,12 +97,33 @@ impl Pace {
         squares >= self.room && self.room < usize::MAX
     }
 
-    /// Whether a store that has so many squares had better keep them, and have room for twice as many: where so many results
-    /// were looked up again since all was forgotten, the run repeats, and would work them out once more.
+    /// Whether a store that has so many squares had better keep them, and have room for twice as many.
     pub(super) fn is_worth_growing(self, squares: usize, looked_up: usize) -> bool
         ensures { result ≡ true → self.room < 2 ^ 64 - 1 }
     {
-        !self.refused && self.room < MOST_ROOM && looked_up >= squares / REPEATED
+        self.room < self.most && self.is_repeating(squares, looked_up)
+    }
+
+    /// Whether a run repeats that has made so many squares: so many results were looked up again since all was forgotten, and
+    /// would be worked out once more. Where memory was refused, none is spent on them.
+    pub(super) fn is_repeating(self, squares: usize, looked_up: usize) -> bool {
+        !self.refused && looked_up >= squares / REPEATED
+    }
+
+    /// Whether a leap that was given up in a store of so many squares is tried again as long, since the results that were
+    /// looked up are kept.
+    pub(super) fn may_repeat_leap(self, squares: usize, looked_up: usize) -> bool
+        ensures { result ≡ true → self.repeats < 3 }
+    {
+        self.repeats < MOST_REPEATS && self.is_repeating(squares, looked_up)
+    }
+
+    /// After a leap that was given up, and is tried again as long.
+    pub(super) fn note_repeated_leap(&mut self)
+        requires { self.old.repeats < 3 }
+        ensures { tries self.new < tries self.old }
+    {
+        self.repeats += 1;
     }
 
     /// Twice as many squares.
@@ -110,7 +138,11 @@ impl Pace {
     fn least(self) -> usize
         ensures { 1 ≤ result }
     {
-        if self.refused { 1 } else { ROOM }
+        if self.refused {
+            1
+        } else {
+            first_room(self.most)
+        }
     }
 
     /// After a leap that was given up: half as long, or with twice as many squares.
@@ -122,6 +154,7 @@ impl Pace {
             self.grow();
         } else {
             self.digit -= 1;
+            self.repeats = 0;
         }
     }
 
@@ -181,6 +214,13 @@ impl Pace {
         self.fresh = true;
         self.room = self.room.max(room_after(squares, self.least()));
     }
+}
+
+// How many squares a store may have at first, where so many are allowed.
+fn first_room(most: usize) -> usize
+    ensures { 1 ≤ result }
+{
+    ROOM.min(most).max(1)
 }
 
 // How many squares there may be in a store that has so many at first, and so many at least.

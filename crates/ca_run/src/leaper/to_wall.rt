@@ -1,4 +1,4 @@
-//! Trees of two states as walls of bricks.
+//! Planes of bits of a tree's states as walls of bricks.
 
 ghost use Rattle.std.specs.Prelude.{◌≡◌, ℕ, suc, ◌+◌, ◌*◌, ◌-◌, ◌<◌, ◌≤◌, ◌^◌, ◌⊎◌};
 ghost use Rattle.std.specs.Prelude.{MatchOption, ℤ, pos, ◌+ℤ◌, slice_index, length, IfOk, IfSome};
@@ -7,9 +7,10 @@ ghost use Rattle.ca_quad.specs.Trees.{cell};
 ghost use Rattle.ca_run.specs.inner.Shown.{ShowsAt};
 ghost use Rattle.ca_run.specs.inner.Words.{WordShows, eight};
 ghost use Rattle.ca_run.specs.inner.Bricks.{BrickShows, WallShows, LiesNearOrigin, IsAligned};
-ghost use Rattle.ca_run.specs.inner.Frames.{IsReadByBricks, IsWallFrame, IsFramed, piece_start, row_start};
+ghost use Rattle.ca_run.specs.inner.Frames.{IsReadByBricks, IsWallFrame, IsFramed, IsOfFrame, piece_start, row_start};
 
 use super::Leaper;
+use super::aged_plane::StatePlane;
 use crate::bricks::{Frame, Wall, brick_of};
 use ca_plane::{Automaton, Memory};
 use ca_quad::{Id, Tree};
@@ -40,46 +41,80 @@ fn place_from(place: usize, first: usize, count: usize) -> Option<usize>
 
 // A square's grain is here the number of times that its side of words can be halved: its level is that and 3.
 impl<A: Automaton> Leaper<A> {
-    // The word at a place of a square, where it has no state above 1.
-    fn word_at(&self, id: Id, grain: u8, i: usize, j: usize) -> Option<u64>
+    // The word at a place of a square, where its bits can be told.
+    fn word_at<P: StatePlane>(&self, plane: P, id: Id, grain: u8, i: usize, j: usize) -> Option<u64>
         requires square { IsOf self.now.nodes id (suc (suc (suc grain))) }
         requires low { grain ≤ 61 }
         requires place_x { suc i ≤ 2 ^ grain }
         requires place_y { suc j ≤ 2 ^ grain }
         ensures { (p : ℤ → ℤ → ℕ) (a b : ℤ) → ShowsAt self.now.nodes id (suc (suc (suc grain))) p a b
-            → IfSome result (λ word. WordShows word p (a +ℤ eight (pos i)) (b +ℤ eight (pos j))) }
+            → IfSome result (λ word. WordShows word (λ x y. P.bit_of plane (p x y))
+            (a +ℤ eight (pos i)) (b +ℤ eight (pos j))) }
     {
         if grain == 0 {
-            return self.word(id);
+            return plane.word(self, id);
         }
         let half = 1 << (grain - 1);
         let (nw, ne, sw, se) = self.quarters(id, grain + 1);
         let (west, east) = if j < half { (nw, ne) } else { (sw, se) };
         let part = if i < half { west } else { east };
-        self.word_at(part, grain - 1, i % half, j % half)
+        self.word_at(plane, part, grain - 1, i % half, j % half)
     }
 
-    // The eight words side by side from a place of a square on, where they have no state above 1.
-    fn eight_words(&self, id: Id, grain: u8, i: usize, j: usize) -> Option<[u64; 8]>
+    // The eight words side by side from a place of a square on, where their bits can be told.
+    fn eight_words<P: StatePlane>(
+        &self,
+        plane: P,
+        id: Id,
+        grain: u8,
+        i: usize,
+        j: usize,
+    ) -> Option<[u64; 8]>
         requires square { IsOf self.now.nodes id (suc (suc (suc grain))) }
         requires low { grain ≤ 61 }
         requires place_x { i + 8 ≤ 2 ^ grain }
         requires place_y { suc j ≤ 2 ^ grain }
         ensures { (p : ℤ → ℤ → ℕ) (a b : ℤ) → ShowsAt self.now.nodes id (suc (suc (suc grain))) p a b
             → IfSome result (λ words. (k : ℕ) → k < 8
-            → WordShows (slice_index words k) p (a +ℤ eight (pos (i + k))) (b +ℤ eight (pos j))) }
+            → WordShows (slice_index words k) (λ x y. P.bit_of plane (p x y))
+            (a +ℤ eight (pos (i + k))) (b +ℤ eight (pos j))) }
     {
         let mut words = [0; 8];
         'words: for k in 0..8 {
-            words[k] = self.word_at(id, grain, i + k, j)?;
+            words[k] = self.word_at(plane, id, grain, i + k, j)?;
         }
         Some(words)
     }
 
-    // The brick of these numbers of a column and of a row, where the tree has no state above 1 there.
-    fn brick_at(&self, tree: &Tree, column: usize, row: usize) -> Option<[u64; 16]>
+    // The square of 64 by 64 cells at a place of a larger one, whose side can be halved so many times until it is that.
+    fn piece_at(&self, id: Id, halvings: u8, i: usize, j: usize) -> Id
+        requires square { IsOf self.now.nodes id (halvings + 6) }
+        requires low { halvings ≤ 56 }
+        requires place_x { suc i ≤ 2 ^ halvings }
+        requires place_y { suc j ≤ 2 ^ halvings }
+        ensures square { IsOf self.now.nodes result 6 }
+        ensures shows { (p : ℤ → ℤ → ℕ) (a b : ℤ) → ShowsAt self.now.nodes id (halvings + 6) p a b
+            → ShowsAt self.now.nodes result 6 p (a +ℤ pos (64 * i)) (b +ℤ pos (64 * j)) }
+    {
+        if halvings == 0 {
+            return id;
+        }
+        let half = 1 << (halvings - 1);
+        let part = self.part_in(id, halvings + 4, i < half, j < half);
+        self.piece_at(part, halvings - 1, i % half, j % half)
+    }
+
+    // The brick of these numbers of a column and of a row, where its bits can be told.
+    fn brick_at<P: StatePlane>(
+        &self,
+        plane: P,
+        tree: &Tree,
+        column: usize,
+        row: usize,
+    ) -> Option<[u64; 16]>
         requires tree { IsReadByBricks self.now.nodes tree.now }
-        ensures { IfSome result (λ rows. BrickShows rows (cell self.now.nodes tree.now)
+        requires none { P.bit_of plane 0 ≡ 0 }
+        ensures { IfSome result (λ rows. BrickShows rows (λ x y. P.bit_of plane (cell self.now.nodes tree.now x y))
             (piece_start column) (row_start row)) }
     {
         let half = bricks_in_half(tree.level);
@@ -89,21 +124,32 @@ impl<A: Automaton> Leaper<A> {
         let Some(j) = place_from(row, (1 << 58) - 4 * half, 8 * half) else {
             return Some([0; 16]);
         };
-        let grain = tree.level - 3;
-        let north = self.eight_words(tree.root, grain, 8 * i, 2 * j)?;
-        let south = self.eight_words(tree.root, grain, 8 * i, 2 * j + 1)?;
+        let piece = self.piece_at(tree.root, tree.level - 6, i, j / 4);
+        if self.store.is_empty(piece) {
+            return Some([0; 16]);
+        }
+        let north = self.eight_words(plane, piece, 3, 0, 2 * (j % 4))?;
+        let south = self.eight_words(plane, piece, 3, 0, 2 * (j % 4) + 1)?;
         Some(brick_of(&north, &south))
     }
 
     // The brick of a place of a wall, counted from the wall's first: none but those that hold a part of the
     // box is looked at.
-    fn brick_in(&self, tree: &Tree, frame: &Frame, i: usize, j: usize) -> Option<[u64; 16]>
+    fn brick_in<P: StatePlane>(
+        &self,
+        plane: P,
+        tree: &Tree,
+        frame: &Frame,
+        i: usize,
+        j: usize,
+    ) -> Option<[u64; 16]>
         requires tree { IsReadByBricks self.now.nodes tree.now }
         requires frame { IsWallFrame frame.now }
         requires column { i < frame.now.columns.count }
         requires row { j < 4 * frame.now.rows.count }
+        requires none { P.bit_of plane 0 ≡ 0 }
         ensures { (m : ℕ) → IsFramed m frame.now (cell self.now.nodes tree.now)
-            → IfSome result (λ rows. BrickShows rows (cell self.now.nodes tree.now)
+            → IfSome result (λ rows. BrickShows rows (λ x y. P.bit_of plane (cell self.now.nodes tree.now x y))
             (piece_start (frame.now.columns.first + i)) (row_start (4 * frame.now.rows.first + j))) }
     {
         let column = frame.columns.first + i;
@@ -114,20 +160,24 @@ impl<A: Automaton> Leaper<A> {
         if !frame.rows.holds(row / 4) {
             return Some([0; 16]);
         }
-        self.brick_at(tree, column, row)
+        self.brick_at(plane, tree, column, row)
     }
 
-    // The wall of a frame round the live cells of a tree, where it has no state above 1.
-    pub(super) fn wall_of(
+    // The wall of a frame round the cells of a tree that aren't dead, of a plane of bits of their states.
+    pub(super) fn wall_of<P: StatePlane>(
         &self,
         alloc: Global,
+        plane: P,
         tree: &Tree,
         frame: &Frame,
     ) -> Result<Option<Wall>, Memory>
         requires tree { IsReadByBricks self.now.nodes tree.now }
         requires frame { IsWallFrame frame.now }
+        requires none { P.bit_of plane 0 ≡ 0 }
         ensures shows { (m : ℕ) → IsFramed m frame.now (cell self.now.nodes tree.now)
-            → IfOk result (λ found. IfSome found (λ wall. WallShows wall m (cell self.now.nodes tree.now))) }
+            → IfOk result (λ found. IfSome found
+            (λ wall. WallShows wall m (λ x y. P.bit_of plane (cell self.now.nodes tree.now x y)))) }
+        ensures place { IfOk result (λ found. IfSome found (IsOfFrame frame.now)) }
         ensures near { IfOk result (λ found. IfSome found LiesNearOrigin) }
         ensures aligned { IfOk result (λ found. IfSome found IsAligned) }
         ensures room { IfOk result (λ found. IfSome found
@@ -138,7 +188,7 @@ impl<A: Automaton> Leaper<A> {
         let across = frame.columns.count;
         let mut bricks = Vec::new(alloc);
         'bricks: for t in 0..4 * (across * frame.rows.count) {
-            let Some(brick) = self.brick_in(tree, frame, t % across, t / across) else {
+            let Some(brick) = self.brick_in(plane, tree, frame, t % across, t / across) else {
                 return Ok(None);
             };
             bricks.push(brick)?;

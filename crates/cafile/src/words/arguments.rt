@@ -53,6 +53,20 @@ pub fn memo_word<'a>(alloc: Global, help: &'a str) -> Arg<'a> {
     ))
 }
 
+/// The most megabytes that may be set for squares and results: the store of squares holds no more.
+pub const MOST_MEMORY: u64 = 147456;
+
+/// How much memory a long run may keep.
+pub fn memory_word<'a>(alloc: Global) -> Arg<'a> {
+    value_word(
+        alloc,
+        "max-memory",
+        "MB",
+        "How many megabytes of squares and results a long run keeps, about: 1 to 147456; unless set, 1024",
+    )
+    .value_parser(value_parser!(u64).range(1..=MOST_MEMORY as i64))
+}
+
 /// How much work may be done.
 pub fn work_word<'a>(alloc: Global, help: &'a str) -> Arg<'a> {
     value_word(alloc, "work", "N", help).value_parser(value_parser!(u64))

@@ -2,9 +2,9 @@
 
 ghost use Rattle.std.specs.Prelude.{◌≡◌, codes};
 ghost use Rattle.ca_claims.specs.Limited.{AreGoodLimits};
-ghost use Rattle.cafile.specs.Words.{IsNumberAfter, memo_of, work_of};
+ghost use Rattle.cafile.specs.Words.{IsNumberAfter, memo_of, work_of, squares_of};
 
-use crate::words::arguments::{flag_word, memo_word, work_word};
+use crate::words::arguments::{MOST_MEMORY, flag_word, memo_word, memory_word, work_word};
 use crate::words::values::number_value;
 use ca_claims::Limits;
 use ca_plane::limits::MOST_MEMO;
@@ -22,6 +22,8 @@ pub struct Extras {
     pub memo: Option<u64>,
     /// How much work each claim may take, where that is set.
     pub work: Option<u64>,
+    /// How many megabytes of squares and results a long run keeps, about, where that is set.
+    pub memory: Option<u64>,
 }
 
 impl Extras {
@@ -33,6 +35,28 @@ impl Extras {
     {
         limits_of(self.memo, self.work)
     }
+
+    /// How many squares a long run may keep.
+    pub fn most_squares(self) -> usize
+        ensures { result ≡ squares_of self.memory }
+    {
+        most_squares(self.memory)
+    }
+}
+
+// About how many squares, with what is remembered of them, a megabyte has room for.
+const SQUARES: u64 = 16384;
+
+// How many megabytes a long run keeps of them, unless that is set.
+const USUAL_MEMORY: u64 = 1024;
+
+/// How many squares a long run may keep, in so many megabytes. The words keep these within their limits, and a number outside
+/// is brought within.
+pub fn most_squares(memory: Option<u64>) -> usize
+    ensures { result ≡ squares_of memory }
+{
+    let memory = memory.unwrap_or(USUAL_MEMORY).clamp(1, MOST_MEMORY);
+    (SQUARES * memory) as usize
 }
 
 /// The limits that are set, and else the usual ones. The words keep a memo within its limits, and one outside
@@ -66,6 +90,7 @@ pub fn with_extras<'a>(alloc: Global, command: Command<'a>) -> Result<Command<'a
             alloc,
             "How many units of work each claim may take; unless set, 18446744073709551615",
         ),
+        memory_word(alloc),
     ]?)
 }
 
@@ -73,6 +98,7 @@ pub fn with_extras<'a>(alloc: Global, command: Command<'a>) -> Result<Command<'a
 pub fn extras_of(words: &ArgMatches<'_>) -> Extras
     ensures memo { IsNumberAfter words.now (codes "memo") result.memo }
     ensures work { IsNumberAfter words.now (codes "work") result.work }
+    ensures memory { IsNumberAfter words.now (codes "max-memory") result.memory }
 {
     let explained = words.get_flag("explain");
     Extras {
@@ -80,5 +106,6 @@ pub fn extras_of(words: &ArgMatches<'_>) -> Extras
         progress: words.get_flag("progress"),
         memo: number_value(words, "memo"),
         work: number_value(words, "work"),
+        memory: number_value(words, "max-memory"),
     }
 }

@@ -108,6 +108,7 @@ fn identify_extras(alloc: Global, words: &ArgMatches<'_>) -> Result<IdentifyExtr
     ensures folder { IfOk result (λ extras. IsTextAfter words.now (codes "rules") extras.folder) }
     ensures memo { IfOk result (λ extras. IsNumberAfter words.now (codes "memo") extras.extras.memo) }
     ensures work { IfOk result (λ extras. IsNumberAfter words.now (codes "work") extras.extras.work) }
+    ensures memory { IfOk result (λ extras. IsNumberAfter words.now (codes "max-memory") extras.extras.memory) }
 {
     Ok(IdentifyExtras {
         limit: number_value(words, "limit"),

@@ -2,13 +2,13 @@
 
 ghost use Rattle.std.specs.Prelude.{◌≡◌, codes, IfOk};
 ghost use Rattle.ca_claims.specs.Limited.{AreGoodLimits};
-ghost use Rattle.cafile.specs.Words.{IsTextAfter, IsNumberAfter, memo_of, work_of};
+ghost use Rattle.cafile.specs.Words.{IsTextAfter, IsNumberAfter, memo_of, work_of, squares_of};
 
 use crate::texts;
 use crate::words::arguments::{
-    file_word, flag_word, memo_word, value_word, with_rule_words, work_word,
+    file_word, flag_word, memo_word, memory_word, value_word, with_rule_words, work_word,
 };
-use crate::words::extras::limits_of;
+use crate::words::extras::{limits_of, most_squares};
 use crate::words::values::{number_value, path_value, value_of};
 use crate::words::{Request, WordsFault};
 use ca_claims::{Limits, Target};
@@ -32,6 +32,8 @@ pub struct PatternExtras {
     pub memo: Option<u64>,
     /// How much work that may take, where that is set.
     pub work: Option<u64>,
+    /// How many megabytes of squares and results that keeps, about, where that is set.
+    pub memory: Option<u64>,
 }
 
 impl PatternExtras {
@@ -42,6 +44,13 @@ impl PatternExtras {
         ensures work { result.work ≡ work_of self.now.work }
     {
         limits_of(self.memo, self.work)
+    }
+
+    /// How many squares that may keep.
+    pub fn most_squares(&self) -> usize
+        ensures { result ≡ squares_of self.now.memory }
+    {
+        most_squares(self.memory)
     }
 }
 
@@ -106,6 +115,7 @@ pub fn with_limits<'a>(alloc: Global, command: Command<'a>) -> Result<Command<'a
             alloc,
             "How many units of work --after may take; unless set, 18446744073709551615",
         ),
+        memory_word(alloc),
     ]?)
 }
 
@@ -143,6 +153,7 @@ pub fn pattern_extras(alloc: Global, words: &ArgMatches<'_>) -> Result<PatternEx
     ensures after { IfOk result (λ extras. IsNumberAfter words.now (codes "after") extras.after) }
     ensures memo { IfOk result (λ extras. IsNumberAfter words.now (codes "memo") extras.memo) }
     ensures work { IfOk result (λ extras. IsNumberAfter words.now (codes "work") extras.work) }
+    ensures memory { IfOk result (λ extras. IsNumberAfter words.now (codes "max-memory") extras.memory) }
 {
     Ok(PatternExtras {
         rule: path_value(alloc, words, "rule")?,
@@ -152,5 +163,6 @@ pub fn pattern_extras(alloc: Global, words: &ArgMatches<'_>) -> Result<PatternEx
         progress: words.get_flag("progress"),
         memo: number_value(words, "memo"),
         work: number_value(words, "work"),
+        memory: number_value(words, "max-memory"),
     })
 }

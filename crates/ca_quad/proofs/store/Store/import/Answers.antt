@@ -3,10 +3,10 @@ use Rattle.ca_quad.proofs.CopyCounts.{few_added}
 use Rattle.ca_quad.proofs.store.Store.import.Goals as goal
 
 pub returns-clause-trimmed : goal.returns-clause-trimmed
-returns-clause-trimmed c = still_trimmed c.args.from.now c.copy_of.new.self c.args.tree c.in_ok-root.root c.requires.tree c.in_ok-root.ensures.copy
+returns-clause-trimmed c = still_trimmed c.args.from.now c.import_square.new.self c.args.tree c.in_ok-root.root c.requires.tree c.in_ok-root.ensures.copy
 
 pub returns-clause-count : goal.returns-clause-count
-returns-clause-count c = few_added c.args.from.now c.args.tree.root c.args.self.now c.copy_of.new.self c.copy_of.ensures.sound c.copy_of.ensures.grows.sound c.requires.tree.before c.copy_of.ensures.added
+returns-clause-count c = few_added c.args.from.now c.args.tree.root c.args.self.now c.import_square.new.self c.import_square.ensures.sound c.import_square.ensures.grows.sound c.requires.tree.before c.import_square.ensures.added
 
 pub returns-in_err-root-clause-count : goal.returns-in_err-root-clause-count
-returns-in_err-root-clause-count c = few_added c.args.from.now c.args.tree.root c.args.self.now c.copy_of.new.self c.copy_of.ensures.sound c.copy_of.ensures.grows.sound c.requires.tree.before c.copy_of.ensures.added
+returns-in_err-root-clause-count c = few_added c.args.from.now c.args.tree.root c.args.self.now c.import_square.new.self c.import_square.ensures.sound c.import_square.ensures.grows.sound c.requires.tree.before c.import_square.ensures.added

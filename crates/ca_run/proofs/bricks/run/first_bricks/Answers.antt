@@ -1,23 +1,10 @@
-use Rattle.std.proofs.Common.{inl, inr, sym, subst, arith, get_or, []}
-use Rattle.std.specs.Prelude.{replicate}
-use Rattle.std.proofs.lemmas.Bool.{cases_eq}
-use Rattle.ca_run.specs.inner.Bricks.{IsNotIn, IsUnseen}
-use Rattle.ca_run.proofs.BrickBlanks.{blank_round}
+use Rattle.std.proofs.Common.{sym, subst, length}
+use Rattle.ca_run.specs.inner.Bricks.{AllHaveNeighbours, IsNotIn}
+use Rattle.ca_run.proofs.LaterWalls.{queue_inside}
 use Rattle.ca_run.proofs.bricks.run.first_bricks.Goals as goal
 
-pub bricks-preserved : goal.bricks-preserved
-bricks-preserved c =
-    let inv = c.bricks.invariant in
-    let woken = c.in_ok-wake_round.ensures in
-    record {
-      inside = woken.grows.all inv.inside;
-      unseen = λ t has not_in s low high. elim (cases_eq s c.bricks.t) [
-        | inl here ↦ subst (λ n. IsUnseen c.args.across n (replicate 16 0) (get_or c.args.bricks.now n []) t) (sym here) (woken.unseen t has not_in)
-        | inr other ↦ inv.unseen t has (woken.grows.not_in t not_in) s low (omega (arith, high, other))
-      ];
-    }
+pub returns-clause-inside : goal.returns-clause-inside
+returns-clause-inside c = subst (AllHaveNeighbours c.args.across (length c.args.bricks.now)) (sym c.take.ensures.list) (queue_inside _ _ _ _ c.requires.empty c.in_ok-wake_seen.ensures.grows)
 
 pub returns-clause-others : goal.returns-clause-others
-returns-clause-others c = λ t has not_in.
-    blank_round c.args.across c.args.bricks.now t c.requires.edge (λ s inner.
-    c.bricks.invariant.unseen t has (subst (λ l. IsNotIn l t) c.take.ensures.list not_in) s inner.before (omega (arith, inner.behind, c.saturating_sub-t-end.ensures, c.bricks-test.false)))
+returns-clause-others c = λ t has not_in. c.in_ok-wake_seen.ensures.others t has (subst (λ l. IsNotIn l t) c.take.ensures.list not_in)

@@ -1,4 +1,4 @@
-use Rattle.std.proofs.Common.{rules, ◌≡◌, ℕ, suc, ◌+◌, ◌-◌, ◌*◌, ◌<◌, ◌≤◌, ◌^◌, IfOk, sym, ap, subst, ◌∙◌, arith}
+use Rattle.std.proofs.Common.{rules, ◌≡◌, ℕ, suc, ◌+◌, ◌-◌, ◌*◌, ◌<◌, ◌^◌, IfOk, sym, ap, subst, ◌∙◌, arith}
 use Rattle.std.specs.Prelude.{ℤ, pos, ◌+ℤ◌}
 use Rattle.std.proofs.lemmas.Int.{ints}
 use Rattle.std.proofs.Math.Nat.{two-pow-succ}
@@ -8,7 +8,8 @@ use Rattle.ca_run.specs.inner.Words.{eight}
 use Rattle.ca_run.proofs.ShownPlanes.{four_made, four_are, at_from}
 use Rattle.ca_run.proofs.ReadWords.{side_words}
 use Rattle.ca_run.proofs.Walls.{near_wall_at, near_wall_as, blank_square}
-use Rattle.ca_run.proofs.Costs.{at_cost_more, at_both_costs, at_paid_cost, four_and_four}
+use Rattle.ca_run.proofs.Costs.{at_cost_more}
+use Rattle.ca_run.proofs.WallCosts.{at_cost_of_four, at_cost_of_parts, one_of_each}
 use Rattle.ca_run.proofs.leaper.Leaper.+from_wall.Goals as goal
 
 up : (k : ℕ) → k + 3 ≡ suc (suc (suc k))
@@ -16,18 +17,23 @@ up k = omega arith
 
 pub from_wall-returns-then-grain-eq0-clause-shows : goal.from_wall-returns-then-grain-eq0-clause-shows
 from_wall-returns-then-grain-eq0-clause-shows g t c = λ m p shows.
+    let wall = g.S.SquareWall.live_wall c.args.wall.now in
     let none : 0 ≡ c.args.grain = omega (arith, c.if-grain-eq0.true) in
-    let a = c.args.wall.now.x +ℤ eight c.args.at.i in
-    let b = c.args.wall.now.y +ℤ eight c.args.at.j in
-    subst (λ k. ShowsAt c.from_word.new.self.nodes c.in_ok-from_word.field-0 (suc (suc (suc k))) p a b) none (c.in_ok-from_word.ensures.shows p a b (c.word.ensures m p shows))
+    subst (λ k. IfOk c.square.result (λ id. ShowsAt c.square.new.leaper.nodes id (suc (suc (suc k))) p (wall.x +ℤ eight c.args.at.i) (wall.y +ℤ eight c.args.at.j))) none
+    (c.square.ensures.shows m p shows)
+
+pub from_wall-returns-then-grain-eq0-clause-at_cost : goal.from_wall-returns-then-grain-eq0-clause-at_cost
+from_wall-returns-then-grain-eq0-clause-at_cost g t c =
+    at_cost_more c.square.ensures.at_cost (one_of_each (g.S.SquareWall.units c.args.wall.now) c.args.grain) (omega arith)
 
 pub from_wall-returns-then-is_blank_between-clause-shows : goal.from_wall-returns-then-is_blank_between-clause-shows
 from_wall-returns-then-is_blank_between-clause-shows g t c = λ m p shows.
-    let wall = c.args.wall.now in
+    let wall = g.S.SquareWall.live_wall c.args.wall.now in
     let i = c.args.at.i in
     let j = c.args.at.j in
     let n = c.width-count.result in
-    let none = blank_square wall m p shows i j n c.naturals.result.0 c.naturals.result.1 c.naturals.ensures.words c.naturals.ensures.rows (c.is_blank_between.ensures c.if-is_blank_between.true m p shows) in
+    let none = blank_square wall m p (g.met.S.SquareWall.margin c.args.wall.now m p shows) i j n c.naturals.result.0 c.naturals.result.1 c.naturals.ensures.words c.naturals.ensures.rows
+    (c.is_blank_between.ensures c.if-is_blank_between.true m p shows) in
     let wide : 2 ^ (c.args.grain + 3) ≡ 8 * n = ap (λ k. 2 ^ k) (up c.args.grain) ∙ side_words c.args.grain ∙ ap (λ n. 8 * n) (sym c.width-count.ensures) in
     subst (λ k. ShowsAt c.empty_square.new.self.nodes c.in_ok-empty_square.field-0 k p (wall.x +ℤ eight i) (wall.y +ℤ eight j)) (up c.args.grain)
     (c.in_ok-empty_square.ensures.shows p (wall.x +ℤ eight i) (wall.y +ℤ eight j) (λ x y low_x low_y. none x y (subst (λ m. x < m) wide low_x) (subst (λ m. y < m) wide low_y)))
@@ -41,15 +47,14 @@ from_wall-from_wall_parts-requires g t c κs within =
 
 pub from_wall-returns-clause-shows : goal.from_wall-returns-clause-shows
 from_wall-returns-clause-shows g t c = λ m p shows.
+    let wall = g.S.SquareWall.live_wall c.args.wall.now in
     let next : suc (c.args.grain - 1) ≡ c.args.grain = omega (arith, c.if-grain-eq0.false) in
-    subst (λ k. IfOk c.from_wall_parts.result (λ id. ShowsAt c.from_wall_parts.new.self.nodes id (suc (suc (suc k))) p (c.args.wall.now.x +ℤ eight c.args.at.i) (c.args.wall.now.y +ℤ eight c.args.at.j))) next
+    subst (λ k. IfOk c.from_wall_parts.result (λ id. ShowsAt c.from_wall_parts.new.self.nodes id (suc (suc (suc k))) p (wall.x +ℤ eight c.args.at.i) (wall.y +ℤ eight c.args.at.j))) next
     (c.from_wall_parts.ensures.shows m p shows)
 
 pub from_wall-returns-clause-at_cost : goal.from_wall-returns-clause-at_cost
 from_wall-returns-clause-at_cost g t c =
-    let next : suc (c.args.grain - 1) ≡ c.args.grain = omega (arith, c.if-grain-eq0.false) in
-    let few : 4 + 4 * 14 ^ (c.args.grain - 1) ≤ 14 ^ c.args.grain = subst (λ k. 4 + 4 * 14 ^ (c.args.grain - 1) ≤ 14 ^ k) next (four_and_four (c.args.grain - 1)) in
-    at_cost_more c.from_wall_parts.ensures.at_cost few (omega arith)
+    at_cost_of_parts (1 + g.S.SquareWall.units c.args.wall.now) c.args.grain (omega arith) (omega (arith, c.if-grain-eq0.false)) c.from_wall_parts.ensures.at_cost
 
 up2 : (k : ℕ) → suc (k + 2) ≡ suc (suc (suc k))
 up2 k = omega arith
@@ -83,8 +88,9 @@ from_wall_parts-join-requires g t c =
 
 pub from_wall_parts-returns-clause-shows : goal.from_wall_parts-returns-clause-shows
 from_wall_parts-returns-clause-shows g t c = λ m p shows.
-    let a = c.args.wall.now.x in
-    let b = c.args.wall.now.y in
+    let wall = g.S.SquareWall.live_wall c.args.wall.now in
+    let a = wall.x in
+    let b = wall.y in
     let k = suc (suc (suc c.args.grain)) in
     let i = c.args.at.i in
     let j = c.args.at.j in
@@ -106,7 +112,6 @@ from_wall_parts-returns-clause-shows g t c = λ m p shows.
 
 pub from_wall_parts-returns-clause-at_cost : goal.from_wall_parts-returns-clause-at_cost
 from_wall_parts-returns-clause-at_cost g t c =
-    let charged = c.in_ok-charge.ensures in
-    let north = at_both_costs c.in_ok-nw.ensures.at_cost c.in_ok-ne.ensures.at_cost in
-    let south = at_both_costs c.in_ok-sw.ensures.at_cost c.in_ok-se.ensures.at_cost in
-    at_paid_cost 4 charged.at_cost charged.counts charged.same (at_both_costs (at_both_costs north south) c.join.ensures.at_cost) (omega arith) (omega arith)
+    let paid = c.in_ok-charge.ensures in
+    at_cost_of_four ((1 + g.S.SquareWall.units c.args.wall.now) * 14 ^ c.args.grain) paid.at_cost paid.counts paid.same c.in_ok-nw.ensures.at_cost c.in_ok-ne.ensures.at_cost c.in_ok-sw.ensures.at_cost c.in_ok-se.ensures.at_cost
+    c.join.ensures.at_cost

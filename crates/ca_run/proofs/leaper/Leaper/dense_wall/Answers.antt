@@ -1,28 +1,14 @@
-use Rattle.std.proofs.Common.{◌-◌, ◌≤◌, ◌^◌, subst, arith}
-use Rattle.std.specs.Option.{MatchOption}
-use Rattle.std.proofs.lemmas.Option.{MatchOption-at_some}
-use Rattle.std.proofs.Math.Pow.{pow_mono}
-use Rattle.ca_quad.specs.Boxes.{IsDead, IsLeastWideBox}
+use Rattle.std.proofs.Common.{IfSome, subst}
 use Rattle.ca_quad.specs.Trees.{cell}
-use Rattle.ca_run.proofs.LiveFrames.{framed, near_box}
-use Rattle.ca_run.proofs.Trees.{tree_dies}
+use Rattle.ca_run.specs.inner.Frames.{IsReadByBricks, IsWallFrame, IsFramed}
 use Rattle.ca_run.proofs.leaper.Leaper.dense_wall.Goals as goal
 
-pub frame_of-requires-clause-near : goal.frame_of-requires-clause-near
-frame_of-requires-clause-near g c =
-    let tree = c.args.tree.now in
-    let p = cell c.args.self.now.nodes tree in
-    let low : tree.level - 1 ≤ 61 = omega (arith, c.if-tree-gt-GREATEST.false) in
-    let way : 2 ^ (tree.level - 1) ≤ 2 ^ 61 = pow_mono low in
-    near_box p (2 ^ (tree.level - 1)) c.in-Some.bounds way (tree_dies c.args.self.now.nodes tree (omega (arith, c.if-tree-lt-LEAST.false)))
-    (MatchOption-at_some (IsDead p) (IsLeastWideBox p) c.in-Some.bounds c.in-Some.is
-    (subst (λ l. MatchOption c.in_ok-bounds.field-0 (IsDead (cell l.nodes tree)) (IsLeastWideBox (cell l.nodes tree))) c.self.view_is c.in_ok-bounds.ensures))
+pub wall_of-requires-clause-tree : goal.wall_of-requires-clause-tree
+wall_of-requires-clause-tree g c = subst (λ found. IfSome found (λ _. IsReadByBricks c.args.self.now.nodes c.args.tree.now)) c.in-Some.is c.in_ok-frame.ensures.read
+
+pub wall_of-requires-clause-frame : goal.wall_of-requires-clause-frame
+wall_of-requires-clause-frame g c = subst (λ found. IfSome found IsWallFrame) c.in-Some.is c.in_ok-frame.ensures.frame
 
 pub returns-clause-shows : goal.returns-clause-shows
 returns-clause-shows g c =
-    let tree = c.args.tree.now in
-    let p = cell c.args.self.now.nodes tree in
-    c.wall_of.ensures.shows c.args.margin
-    (framed p c.in-Some.bounds c.args.margin c.in-Some-frame_of.frame (MatchOption-at_some (IsDead p) (IsLeastWideBox p) c.in-Some.bounds c.in-Some.is
-    (subst (λ l. MatchOption c.in_ok-bounds.field-0 (IsDead (cell l.nodes tree)) (IsLeastWideBox (cell l.nodes tree))) c.self.view_is c.in_ok-bounds.ensures))
-    c.in-Some-frame_of.ensures.columns c.in-Some-frame_of.ensures.rows)
+    c.wall_of.ensures.shows c.args.margin (subst (λ found. IfSome found (λ frame. IsFramed c.args.margin frame (cell c.args.self.now.nodes c.args.tree.now))) c.in-Some.is c.in_ok-frame.ensures.framed)

@@ -14,7 +14,7 @@ words-preserved g c =
     record {
       size = length-set words k word ∙ inv.size;
       shown = λ p a b shows.
-          set_more (λ m w. WordShows w p (a +ℤ eight (pos (c.args.i + m))) (b +ℤ eight (pos c.args.j))) words k word (omega (arith, inv.size, c.words-test.true)) (inv.shown p a b shows)
+          set_more (λ m w. WordShows w (λ x y. g.P.StatePlane.bit_of c.args.plane (p x y)) (a +ℤ eight (pos (c.args.i + m))) (b +ℤ eight (pos c.args.j))) words k word (omega (arith, inv.size, c.words-test.true)) (inv.shown p a b shows)
           (c.in_ok-words.ensures p a b shows);
     }
 

@@ -9,5 +9,5 @@ abbrev pub invariant-words : goal.invariant-words
 invariant-words g l = record {
   size : length l.words ≡ 8;
   shown : (p : ℤ → ℤ → ℕ) (a b : ℤ) → ShowsAt l.self.nodes l.id (suc (suc (suc l.grain))) p a b
-      → (m : ℕ) → m < l.k → WordShows (slice_index l.words m) p (a +ℤ eight (pos (l.i + m))) (b +ℤ eight (pos l.j));
+      → (m : ℕ) → m < l.k → WordShows (slice_index l.words m) (λ x y. g.P.StatePlane.bit_of l.plane (p x y)) (a +ℤ eight (pos (l.i + m))) (b +ℤ eight (pos l.j));
 }

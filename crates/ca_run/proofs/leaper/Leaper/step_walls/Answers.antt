@@ -10,7 +10,7 @@ pub returns-in_default-clause-reached : goal.returns-in_default-clause-reached
 returns-in_default-clause-reached g c =
     let inv = c.walls.invariant in
     let sound = subst (λ l. IsSoundStore l.nodes) c.self.view_is c.self.invariant.squares in
-    let on = goes_on_again _ c.args.self.now c.walls.self c.step_wall.new.self inv.goes_on c.in_ok-stretch.ensures.at_cost.goes_on in
+    let on = goes_on_again _ c.args.self.now c.walls.self c.step_by_rule.new.self inv.goes_on c.in_ok-stretch.ensures.at_cost.goes_on in
     let first = of_stays _ _ sound inv.goes_on.grows c.args.first.now.root c.args.first.now.level c.requires.first in
     let kept = reached_stays _ _ _ c.args.first.now c.args.n c.walls.reached inv.goes_on.grows.sound c.in_ok-stretch.ensures.at_cost.goes_on.grows first inv.reached in
     reached_before _ _ _ _ c.args.first.now c.args.n c.walls.reached sound on.grows c.requires.first kept
@@ -19,23 +19,23 @@ pub returns-then-work-least-clause-reached : goal.returns-then-work-least-clause
 returns-then-work-least-clause-reached g c =
     let inv = c.walls.invariant in
     let sound = subst (λ l. IsSoundStore l.nodes) c.self.view_is c.self.invariant.squares in
-    let made = subst (λ found. IfSome found (λ stretch. HasReached (g.A.Automaton.next_of c.walls.self.rule) c.walls.self.nodes c.args.first.now c.args.n c.step_wall.new.self.nodes stretch.reached)) c.in-Some.is c.in_ok-stretch.ensures.reached in
-    subst (λ r. HasReached (g.A.Automaton.next_of r) c.args.self.now.nodes c.args.first.now c.args.n c.step_wall.new.self.nodes c.in-Some.stretch.reached) inv.goes_on.rule
+    let made = subst (λ found. IfSome found (λ stretch. HasReached (g.A.Automaton.next_of c.walls.self.rule) c.walls.self.nodes c.args.first.now c.args.n c.step_by_rule.new.self.nodes stretch.reached)) c.in-Some.is c.in_ok-stretch.ensures.reached in
+    subst (λ r. HasReached (g.A.Automaton.next_of r) c.args.self.now.nodes c.args.first.now c.args.n c.step_by_rule.new.self.nodes c.in-Some.stretch.reached) inv.goes_on.rule
     (reached_before _ _ _ _ c.args.first.now c.args.n _ sound inv.goes_on.grows c.requires.first made)
 
 pub returns-then-work-least-clause-goes_on : goal.returns-then-work-least-clause-goes_on
-returns-then-work-least-clause-goes_on g c = goes_on_again _ c.args.self.now c.walls.self c.step_wall.new.self c.walls.invariant.goes_on c.in_ok-stretch.ensures.at_cost.goes_on
+returns-then-work-least-clause-goes_on g c = goes_on_again _ c.args.self.now c.walls.self c.step_by_rule.new.self c.walls.invariant.goes_on c.in_ok-stretch.ensures.at_cost.goes_on
 
 pub walls-preserved : goal.walls-preserved
 walls-preserved g c =
     let inv = c.walls.invariant in
     let sound = subst (λ l. IsSoundStore l.nodes) c.self.view_is c.self.invariant.squares in
-    let made = subst (λ found. IfSome found (λ stretch. HasReached (g.A.Automaton.next_of c.walls.self.rule) c.walls.self.nodes c.args.first.now c.args.n c.step_wall.new.self.nodes stretch.reached)) c.in-Some.is c.in_ok-stretch.ensures.reached in
+    let made = subst (λ found. IfSome found (λ stretch. HasReached (g.A.Automaton.next_of c.walls.self.rule) c.walls.self.nodes c.args.first.now c.args.n c.step_by_rule.new.self.nodes stretch.reached)) c.in-Some.is c.in_ok-stretch.ensures.reached in
     let first = of_stays _ _ sound inv.goes_on.grows c.args.first.now.root c.args.first.now.level c.requires.first in
     record {
-      reached = subst (λ r. HasReached (g.A.Automaton.next_of r) c.step_wall.new.self.nodes c.args.first.now c.args.n c.step_wall.new.self.nodes c.in-Some.stretch.reached) inv.goes_on.rule
+      reached = subst (λ r. HasReached (g.A.Automaton.next_of r) c.step_by_rule.new.self.nodes c.args.first.now c.args.n c.step_by_rule.new.self.nodes c.in-Some.stretch.reached) inv.goes_on.rule
           (reached_now _ _ _ c.args.first.now c.args.n _ inv.goes_on.grows.sound c.in_ok-stretch.ensures.at_cost.goes_on.grows first made);
-      goes_on = goes_on_again _ c.args.self.now c.walls.self c.step_wall.new.self inv.goes_on c.in_ok-stretch.ensures.at_cost.goes_on;
+      goes_on = goes_on_again _ c.args.self.now c.walls.self c.step_by_rule.new.self inv.goes_on c.in_ok-stretch.ensures.at_cost.goes_on;
       costs = wall_more c.args.first.now c.walls.counter inv.costs c.in_ok-stretch.ensures.at_cost.costs;
     }
 

@@ -4,10 +4,10 @@ use Rattle.ca_run.proofs.leaper.Leaper.tree_of.Goals as goal
 
 pub from_wall-requires-clause-near : goal.from_wall-requires-clause-near
 from_wall-requires-clause-near g c =
-    corner_near c.args.wall.now c.args.reach c.corner.result c.requires.wall c.requires.most c.requires.within c.corner.ensures.x c.corner.ensures.y
+    corner_near c.args.wall.now c.args.reach c.corner.result c.requires.most c.requires.within c.corner.ensures.x c.corner.ensures.y
 
 pub returns-clause-cells : goal.returns-clause-cells
 returns-clause-cells g c = λ m p shows.
     let at = c.corner.result in
-    wall_cells c.from_wall.new.self.nodes c.in_ok-root.root c.args.reach c.args.wall.now m p at.i at.j _ c.requires.least shows c.requires.within
+    wall_cells c.from_wall.new.self.nodes c.in_ok-root.root c.args.reach c.args.wall.now m p at.i at.j _ c.requires.least shows.margin c.requires.within
     c.corner.ensures.x c.corner.ensures.y (c.in_ok-root.ensures.shows m p shows) refl refl

@@ -1,9 +1,9 @@
-use Rattle.std.proofs.Common.{◌≡◌, ◌+◌, ◌*◌, ◌/◌, ◌%◌, [], ◌∷◌, get_or, length, refl, sym, ap, subst, ◌∙◌, arith}
-use Rattle.std.proofs.lemmas.List.{length-append}
+use Rattle.std.proofs.Common.{◌≡◌, ◌+◌, ◌*◌, ◌/◌, ◌%◌, [], refl, ◌∙◌, arith}
+use Rattle.std.specs.Prelude.{ℤ}
 use Rattle.ca_quad.specs.Trees.{cell}
 use Rattle.ca_run.specs.inner.Bricks.{BrickShows}
 use Rattle.ca_run.specs.inner.Frames.{piece_start, row_start}
-use Rattle.ca_run.proofs.WallBricks.{push_more, row_of_bricks, framed_wall, near_wall, aligned_wall, start_reads}
+use Rattle.ca_run.proofs.WallBricks.{push_more, push_longer, row_of_bricks, framed_bits, framed_wall, near_wall, aligned_wall, start_reads}
 use Rattle.ca_run.proofs.leaper.Leaper.wall_of.Goals as goal
 
 pub brick_in-requires-clause-row : goal.brick_in-requires-clause-row
@@ -13,17 +13,17 @@ pub bricks-preserved : goal.bricks-preserved
 bricks-preserved g c =
     let inv = c.bricks.invariant in
     let frame = c.args.frame.now in
-    let p = cell c.args.self.now.nodes c.args.tree.now in
+    let p = λ (x y : ℤ). g.P.StatePlane.bit_of c.args.plane (cell c.args.self.now.nodes c.args.tree.now x y) in
     let list = c.bricks.bricks.items in
+    let new = c.push.new.self.items in
     let t = c.bricks.t in
     let rows = c.in-Some.brick in
     let items = c.in_ok-push.ensures.items in
     record {
-      size = ap length items ∙ omega (arith, inv.size, length-append list (rows ∷ []));
+      size = push_longer list new t rows items inv.size;
       shown = λ m framed k h.
-          subst (λ l. BrickShows (get_or l k []) p (piece_start (frame.columns.first + k % frame.columns.count)) (row_start (4 * frame.rows.first + k / frame.columns.count))) (sym items)
-          (push_more (λ k brick. BrickShows brick p (piece_start (frame.columns.first + k % frame.columns.count)) (row_start (4 * frame.rows.first + k / frame.columns.count))) list t rows inv.size
-          (inv.shown m framed) (c.in-Some.ensures m framed) k h);
+          push_more (λ k brick. BrickShows brick p (piece_start (frame.columns.first + k % frame.columns.count)) (row_start (4 * frame.rows.first + k / frame.columns.count))) list new t rows [] items inv.size
+          (inv.shown m framed) (c.in-Some.ensures m framed) k h;
     }
 
 pub returns-clause-shows : goal.returns-clause-shows
@@ -31,10 +31,23 @@ returns-clause-shows g c = λ m framed.
     let frame = c.args.frame.now in
     let inv = c.bricks.invariant in
     let all : c.bricks.t ≡ 4 * (frame.columns.count * frame.rows.count) = omega (arith, c.bricks-test.false, c.bricks.auto.t-end) in
-    framed_wall _ frame m (cell c.args.self.now.nodes c.args.tree.now) c.requires.frame framed
+    let bit = g.P.StatePlane.bit_of c.args.plane in
+    let p = cell c.args.self.now.nodes c.args.tree.now in
+    framed_wall _ frame m (λ x y. bit (p x y)) c.requires.frame (framed_bits m frame p bit c.requires.none framed)
     (start_reads frame.columns.first c.start.result (omega (arith, c.requires.frame.columns.far)) c.start.ensures)
     (start_reads frame.rows.first c.start-2.result (omega (arith, c.requires.frame.rows.far)) c.start-2.ensures) refl refl (inv.size ∙ all)
     (λ t h. inv.shown m framed t (omega (arith, inv.size, h)))
+
+pub returns-clause-place : goal.returns-clause-place
+returns-clause-place g c =
+    let frame = c.args.frame.now in
+    record {
+      x = start_reads frame.columns.first c.start.result (omega (arith, c.requires.frame.columns.far)) c.start.ensures;
+      y = start_reads frame.rows.first c.start-2.result (omega (arith, c.requires.frame.rows.far)) c.start-2.ensures;
+      across = refl;
+      down = refl;
+      size = c.bricks.invariant.size ∙ omega (arith, c.bricks-test.false, c.bricks.auto.t-end);
+    }
 
 pub returns-clause-near : goal.returns-clause-near
 returns-clause-near g c =

@@ -9,5 +9,5 @@ abbrev pub invariant-bricks : goal.invariant-bricks
 invariant-bricks g l = record {
   size : length l.bricks.items ≡ l.t;
   shown : (m : ℕ) → IsFramed m l.frame (cell l.self.nodes l.tree) → (t : ℕ) → t < l.t
-      → BrickShows (get_or l.bricks.items t []) (cell l.self.nodes l.tree) (piece_start (l.frame.columns.first + t % l.across)) (row_start (4 * l.frame.rows.first + t / l.across));
+      → BrickShows (get_or l.bricks.items t []) (λ x y. g.P.StatePlane.bit_of l.plane (cell l.self.nodes l.tree x y)) (piece_start (l.frame.columns.first + t % l.across)) (row_start (4 * l.frame.rows.first + t / l.across));
 }
