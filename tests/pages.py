@@ -1,5 +1,5 @@
 #!/usr/bin/env -S python3 -B
-"""What the pages show: README.md the files and outputs that it quotes, and each crate's README.md the lines of a test."""
+"""What the pages show: README.md and docs/SERVICE.md the files and outputs that they quote, and each crate's README.md the lines of a test."""
 import os
 import re
 import subprocess
@@ -28,7 +28,7 @@ def try_output(tally, said, block):
         tally.tell(command[0], [] if printed.startswith(block.encode()) else [f"doesn't print {block!r}"])
         return
     file = re.search(r"`(examples/[^`]*)`", said)[1]
-    tally.tell(f"README.md: {file}", [] if page(file) == block else ["is another text"])
+    tally.tell(f"a page: {file}", [] if page(file) == block else ["is another text"])
 
 
 def try_caller(tally, crate):
@@ -44,9 +44,10 @@ def try_caller(tally, crate):
 
 def main():
     tally = Tally()
-    for said, kind, block in QUOTED.findall(page("README.md")):
-        if not kind:
-            try_output(tally, said, block)
+    for name in (["README.md"], ["docs", "SERVICE.md"]):
+        for said, kind, block in QUOTED.findall(page(*name)):
+            if not kind:
+                try_output(tally, said, block)
     for crate in sorted(os.listdir(os.path.join(ROOT, "crates"))):
         if os.path.exists(os.path.join(ROOT, "crates", crate, "README.md")):
             try_caller(tally, crate)
