@@ -19,7 +19,7 @@ from lib.rows import Rows, text_of
 from lib.work import excess, timed
 
 # How many times the known work a run may take.
-BOUND = 400
+BOUND = 800
 
 # The bytes of address space that a run has which is to want memory.
 SPACE = 25_000_000
