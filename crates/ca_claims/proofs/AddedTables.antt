@@ -9,14 +9,15 @@ use Rattle.ca_rule.specs.TableNext.{TableRule}
 use Rattle.ca_rule.specs.Rule.{RuleValue, Bs, Gen, Tab, NamesRule, IsRuleFault, first_named}
 use Rattle.ca_rule.specs.declared.fault.RuleFault.{RuleFault}
 use Rattle.ca_rule.specs.declared.fault.RuleFault.TheVariants.{Bounded, Wakes, Unknown}
-use Rattle.ca_claims.specs.declared.claims.asks.Asks.{Asks}
+use Rattle.ca_text.specs.declared.asks.Asks.{Asks}
 use Rattle.ca_claims.specs.declared.verdict.Verdict.{Verdict}
 use Rattle.ca_claims.specs.declared.verdict.Verdict.TheVariants.{Yes, No, Refused}
 use Rattle.ca_claims.specs.declared.verdict.Cause.{Cause}
 use Rattle.ca_claims.specs.declared.verdict.Cause.TheVariants.{NoFile, BadTable, BadPattern, BadRule, StateTooLarge, MixedRules, TooManyCells, Work, Memory}
-use Rattle.ca_claims.specs.Text.{Claim, patterns_of}
-use Rattle.ca_claims.specs.Truth.{asks_of}
-use Rattle.ca_claims.specs.Answers.{AreTables, IsRuled, IsMissing, IsThere, HoldsTable, HasRule, IsSmall, SomeOf, FirstBad, HaveOtherRules, FilesAreThere, AgreeOn, HasCause, IsGoodPattern, AreGood, IsJudged, IsBadTable, IsUnnamed, IsLarge, IsTrueVerdict}
+use Rattle.ca_text.specs.Text.{Claim, patterns_of}
+use Rattle.ca_text.specs.Asks.{asks_of}
+use Rattle.ca_text.specs.SomeOf.{SomeOf}
+use Rattle.ca_claims.specs.Answers.{AreTables, IsRuled, IsMissing, IsThere, HoldsTable, HasRule, IsSmall, FirstBad, HaveOtherRules, FilesAreThere, AgreeOn, HasCause, IsGoodPattern, AreGood, IsJudged, IsBadTable, IsUnnamed, IsLarge, IsTrueVerdict}
 
 -- ---- lists
 

@@ -14,17 +14,17 @@ use Rattle.ca_rule.specs.TableNext.{TableRule}
 use Rattle.ca_rule.specs.Rule.{RuleValue, rule_value, next_of, IsSameRule}
 use Rattle.ca_rule.proofs.Rules.{same-refl}
 use Rattle.ca_claims.specs.declared.pattern.Loaded.{Loaded}
-use Rattle.ca_claims.specs.declared.claims.line.Claim.{Claim as ClaimOf}
-use Rattle.ca_claims.specs.declared.claims.line.Kind.{Kind}
-use Rattle.ca_claims.specs.declared.claims.asks.Asks.{Asks}
-use Rattle.ca_claims.specs.declared.claims.asks.Wanted.{Wanted}
-use Rattle.ca_claims.specs.declared.claims.asks.Wanted.TheVariants.{Own, Other, NoCells}
+use Rattle.ca_text.specs.declared.line.Claim.{Claim as ClaimOf}
+use Rattle.ca_text.specs.declared.line.Kind.{Kind}
+use Rattle.ca_text.specs.declared.asks.Asks.{Asks}
+use Rattle.ca_text.specs.declared.asks.Wanted.{Wanted}
+use Rattle.ca_text.specs.declared.asks.Wanted.TheVariants.{Own, Other, NoCells}
 use Rattle.ca_claims.specs.declared.verdict.Cause.{Cause}
 use Rattle.ca_claims.specs.declared.verdict.Cause.TheVariants.{NoFile, BadTable, BadPattern, BadRule, StateTooLarge, MixedRules, TooManyCells, Work, Memory}
 use Rattle.ca_claims.specs.declared.verdict.Verdict.{Verdict}
 use Rattle.ca_claims.specs.declared.verdict.Verdict.TheVariants.{Yes, No, Refused}
-use Rattle.ca_claims.specs.declared.verifier.one_or_two.OneOrTwo.{OneOrTwo}
-use Rattle.ca_claims.specs.declared.verifier.one_or_two.OneOrTwo.TheVariants.{One, Two}
+use Rattle.ca_text.specs.declared.one_or_two.OneOrTwo.{OneOrTwo}
+use Rattle.ca_text.specs.declared.one_or_two.OneOrTwo.TheVariants.{One, Two}
 use Rattle.ca_claims.specs.declared.verifier.prepared.PreparedClaim.{PreparedClaim}
 use Rattle.ca_claims.specs.declared.verifier.agreement.Disagreement.{Disagreement}
 use Rattle.ca_claims.specs.declared.verifier.agreement.Disagreement.TheVariants.{Large, Mixed}
@@ -39,20 +39,24 @@ use Rattle.ca_claims.specs.declared.decide.ClaimTrees.{ClaimTrees}
 use Rattle.ca_claims.specs.declared.limits.Limits.{Limits}
 use Rattle.ca_claims.specs.declared.ruled.RuledPattern.{RuledPattern}
 use Rattle.ca_claims.specs.declared.ruled.UnnamedRule.{UnnamedRule}
-use Rattle.ca_claims.specs.Text.{Claim, patterns_of, map_patterns, HasGoodNumbers}
-use Rattle.ca_claims.specs.Places.{path_at}
+use Rattle.ca_text.specs.Text.{Claim, patterns_of, map_patterns, HasGoodNumbers}
+use Rattle.ca_text.specs.Places.{path_at}
 use Rattle.ca_claims.specs.Means.{bytes_at, IsReadable, MayWantMemory}
-use Rattle.ca_claims.specs.Truth.{asks_of, wanted_cells}
+use Rattle.ca_text.specs.Asks.{asks_of}
+use Rattle.ca_claims.specs.Truth.{wanted_cells}
 use Rattle.ca_claims.specs.inner.Decided.{IsBounded, IsDecided}
 use Rattle.ca_claims.specs.Limited.{IsNoMoreThan}
-use Rattle.ca_claims.specs.Answers.{IsPatternFaultOn, IsBadPatternOn, AreTables, IsMissing, IsThere, IsReadableFile, HasRule, IsSmall, SomeOf, FirstIs, HaveOtherRules, HasCause, IsGoodPattern, AreGood, IsJudged, IsTrueVerdict, IsBadPattern, IsUnnamed, IsUnnamedBy, IsLarge, IsCrowded, WantsMemory}
+use Rattle.ca_text.specs.SomeOf.{SomeOf}
+use Rattle.ca_claims.specs.Answers.{IsPatternFaultOn, IsBadPatternOn, AreTables, IsMissing, IsThere, IsReadableFile, HasRule, IsSmall, FirstIs, HaveOtherRules, HasCause, IsGoodPattern, AreGood, IsJudged, IsTrueVerdict, IsBadPattern, IsUnnamed, IsUnnamedBy, IsLarge, IsCrowded, WantsMemory}
 use Rattle.ca_claims.specs.inner.Subjects.{ShowsTree, IsPattern, AreShown, IsSubject}
 use Rattle.ca_claims.specs.inner.PreparedClaim.{IsPrepared, IsFit, AreFewCounted, IsCountRefused, wanted_tree, wanted_part, last_part, refusal_for, disagreement_refusal}
 use Rattle.ca_claims.specs.inner.Found.{IsFound}
 use Rattle.ca_claims.specs.inner.Spending.{HasLimits}
 use Rattle.ca_claims.specs.inner.Refusals.{IsRefusal, IsOnVerdict, IsJudgedOn}
-use Rattle.ca_claims.specs.inner.Patterns.{items, IsEachOnce, FirstBadAt, IsReadFrom, IsUnreadFor, HasName, IsUnnamedFor, rule_of, IsRuledAs, ShowsLarge, ShowsSmall, AreOfOneRule, AreMixed, Disagree, AreBoth}
-use Rattle.ca_claims.proofs.ClaimKinds.{asks_bounded, paths_of}
+use Rattle.ca_text.specs.OneOrTwo.{items}
+use Rattle.ca_claims.specs.inner.Patterns.{IsEachOnce, FirstBadAt, IsReadFrom, IsUnreadFor, HasName, IsUnnamedFor, rule_of, IsRuledAs, ShowsLarge, ShowsSmall, AreOfOneRule, AreMixed, Disagree, AreBoth}
+use Rattle.ca_text.proofs.ClaimPatterns.{paths_of}
+use Rattle.ca_claims.proofs.ClaimKinds.{asks_bounded}
 use Rattle.ca_claims.proofs.PatternsRead.{fault_on, IsReadAt, IsRuledAt, path_has_fault, path_has_rule, path_is_unnamed, path_reads, ruled_path_reads, ruled_at, ruled_has_rule, ruled_is_good, ruled_is_large, ruled_is_small, ruled_picture, ruled_reads, tree_shows, wanted}
 use Rattle.ca_claims.proofs.EqualCells.{few_shown, many_shown, few_none, none_many}
 use Rattle.ca_claims.proofs.Spending.{used_up}

@@ -1,50 +1,19 @@
--- What holds of each kind of claim: a further kind adds its case here. And the claim about other patterns.
+-- What holds of each kind of claim: a further kind adds its case here.
 use Rattle.std.proofs.Common.{◌≡◌, ◌∷◌, map, ◌≤◌, Option, None, Some, option_map, refl, sym, ap, subst, ◌∙◌, arith}
 use Rattle.std.specs.Prelude.{pos}
 use Rattle.std.specs.List.{AllByRecursion}
 use Rattle.std.specs.Option.{option_to_list}
 use Rattle.std.proofs.lemmas.Int.{ints}
-use Rattle.ca_claims.specs.declared.claims.line.Claim.{Claim as ClaimOf}
-use Rattle.ca_claims.specs.declared.claims.line.Kind.{Kind}
-use Rattle.ca_claims.specs.declared.claims.line.Kind.TheVariants.{Still, Oscillator, Spaceship, Becomes, BecomesShifted, Dies}
-use Rattle.ca_claims.specs.declared.claims.asks.Asks.{Asks}
-use Rattle.ca_claims.specs.declared.claims.asks.Barred.{Barred}
-use Rattle.ca_claims.specs.declared.claims.asks.Barred.TheVariants.{Nothing, InPlace, Anywhere, EmptyPlane}
+use Rattle.ca_text.specs.declared.line.Claim.{Claim as ClaimOf}
+use Rattle.ca_text.specs.declared.line.Kind.{Kind}
+use Rattle.ca_text.specs.declared.line.Kind.TheVariants.{Still, Oscillator, Spaceship, Becomes, BecomesShifted, Dies}
+use Rattle.ca_text.specs.declared.asks.Asks.{Asks}
+use Rattle.ca_text.specs.declared.asks.Barred.{Barred}
+use Rattle.ca_text.specs.declared.asks.Barred.TheVariants.{Nothing, InPlace, Anywhere, EmptyPlane}
 use Rattle.ca_plane.specs.Limits.{most_generations}
-use Rattle.ca_claims.specs.Text.{patterns_of, map_patterns, IsShift, HasGoodNumbers}
-use Rattle.ca_claims.specs.Truth.{asks_of}
+use Rattle.ca_text.specs.Text.{patterns_of, map_patterns, IsShift, HasGoodNumbers}
+use Rattle.ca_text.specs.Asks.{asks_of}
 use Rattle.ca_claims.specs.inner.Decided.{BarsReturns, IsBounded}
-
--- ---- the claim about other patterns
-
--- its patterns are the others
-pub paths_of : {P Q : Type 0} (f : P → Q) (claim : ClaimOf P) → patterns_of (map_patterns f claim) ≡ map f (patterns_of claim)
-paths_of {P} f claim = ap (λ l. f claim.pattern ∷ l) (others claim.other)
-  where
-    others : (o : Option P) → option_to_list (option_map f o) ≡ map f (option_to_list o)
-    others None = refl
-    others (Some p) = refl
-
--- patterns that are given the same make the same claim
-pub about_same : {P Q : Type 0} (f g : P → Q) (claim : ClaimOf P) → AllByRecursion (λ p. f p ≡ g p) (patterns_of claim) → map_patterns f claim ≡ map_patterns g claim
-about_same {P} f g claim h =
-    let first = h.0 in
-    let second = others claim.other h.1 in
-    λ i. record { pattern = first i; other = second i; kind = claim.kind }
-  where
-    others : (o : Option P) → AllByRecursion (λ p. f p ≡ g p) (option_to_list o) → option_map f o ≡ option_map g o
-    others None all = refl
-    others (Some p) all = ap Some all.0
-
--- patterns may be given by way of others
-pub about_twice : {P Q R : Type 0} (f : P → Q) (g : Q → R) (claim : ClaimOf P) → map_patterns g (map_patterns f claim) ≡ map_patterns (λ p. g (f p)) claim
-about_twice {P} f g claim = ap (λ o. record { pattern = g (f claim.pattern); other = o; kind = claim.kind }) (others claim.other)
-  where
-    others : (o : Option P) → option_map g (option_map f o) ≡ option_map (λ p. g (f p)) o
-    others None = refl
-    others (Some p) = refl
-
--- ---- what a claim asks
 
 -- (0, 0) is a shift
 no_shift : IsShift (pos 0)

@@ -13,7 +13,7 @@ use Rattle.ca_quad.specs.Shifted.{shifted_cells}
 use Rattle.ca_quad.specs.Trees.{cell, HoldsAll}
 use Rattle.ca_macro.specs.Pattern.{AreInRange}
 use Rattle.ca_plane.specs.Limits.{IsInRange}
-use Rattle.ca_claims.specs.Text.{IsShift}
+use Rattle.ca_text.specs.Text.{IsShift}
 use Rattle.ca_claims.specs.inner.Returns.{IsBroad, IsWide}
 use Rattle.ca_claims.specs.inner.Stages.{IsWithinPlane}
 use Rattle.ca_claims.specs.inner.Subjects.{HasLive, IsNoMove, IsOnlyMove}

@@ -14,8 +14,8 @@ use Rattle.ca_run.specs.Primes.{IsPrime}
 use Rattle.ca_run.proofs.Primes.{quotient_some, swapped}
 use Rattle.ca_run.proofs.Returns.{back_times}
 use Rattle.ca_claims.specs.declared.verdict.Why.TheVariants.{Earlier}
-use Rattle.ca_claims.specs.declared.claims.asks.Barred.{Barred}
-use Rattle.ca_claims.specs.declared.claims.asks.Barred.TheVariants.{Nothing, InPlace, Anywhere, EmptyPlane}
+use Rattle.ca_text.specs.declared.asks.Barred.{Barred}
+use Rattle.ca_text.specs.declared.asks.Barred.TheVariants.{Nothing, InPlace, Anywhere, EmptyPlane}
 use Rattle.ca_claims.specs.Truth.{ShowsNothingBarred, MayReturnBy}
 use Rattle.ca_claims.specs.inner.Decided.{BarsReturns}
 use Rattle.ca_claims.specs.inner.Returns.{IsSparedBefore, IsFirstReturn}

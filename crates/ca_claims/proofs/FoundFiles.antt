@@ -11,7 +11,7 @@ use Rattle.std.proofs.lemmas.List.{length-map, map-append}
 use Rattle.std.proofs.lemmas.Slice.Eq.{bytes_eq-Decides}
 use Rattle.ca_claims.specs.declared.file.File.{File}
 use Rattle.ca_claims.specs.Means.{contents, bytes_at}
-use Rattle.ca_claims.proofs.PathLists.{bytes_eq_self}
+use Rattle.ca_text.proofs.PathLists.{bytes_eq_self}
 
 -- bytes that differ are told apart
 bytes_eq-other : (a b : List ℕ) → a ≢ b → bytes_eq a b ≡ false
@@ -144,14 +144,3 @@ copied-some (Some b) h = (b.now, refl)
 -- the contents of one file more
 pub contents-more : (files : List File) (k : ℕ) (d : File) → k < length files → contents (take (k + 1) files) ≡ contents (take k files) ++ ((get_or files k d).path.now, (get_or files k d).bytes.now) ∷ []
 contents-more files k d h = rw (add-one, take-suc files k d h) (map-append (λ f. (f.path.now, f.bytes.now)) (take k files) (get_or files k d ∷ []))
-
-module _ {K : Type 0} (items : K → List ℕ) where
-  unlike_items : (k : K) (keys : List K) → AllByRecursion (λ j. bytes_eq (items k) (items j) ≡ false) keys → AllByRecursion (λ p. bytes_eq (items k) p ≡ false) (map items keys)
-  unlike_items k [] h = tt
-  unlike_items k (j ∷ js) h = (h.0, unlike_items k js h.1)
-
-  -- keys of which no two are equal have items of which no two are
-  pub distinct_items : (keys : List K) → IsDistinct (λ j k. bytes_eq (items j) (items k)) keys → IsDistinct bytes_eq (map items keys)
-  unfolding IsDistinct
-  distinct_items [] h = tt
-  distinct_items (k ∷ ks) h = (unlike_items k ks h.0, distinct_items ks h.1)

@@ -12,12 +12,12 @@ use Rattle.ca_quad.proofs.Growth.{below_or_not}
 use Rattle.ca_rule.specs.TableNext.{TableRule}
 use Rattle.ca_rule.specs.Rule.{next_of}
 use Rattle.ca_run.proofs.After.{after_same}
-use Rattle.ca_claims.specs.declared.claims.asks.Asks.{Asks}
-use Rattle.ca_claims.specs.declared.claims.asks.Wanted.{Wanted}
-use Rattle.ca_claims.specs.declared.claims.asks.Wanted.TheVariants.{Own, Other, NoCells}
-use Rattle.ca_claims.specs.declared.claims.asks.Barred.{Barred}
-use Rattle.ca_claims.specs.declared.claims.asks.Barred.TheVariants.{Nothing, InPlace, Anywhere, EmptyPlane}
-use Rattle.ca_claims.specs.declared.claims.line.Kind.{Kind}
+use Rattle.ca_text.specs.declared.asks.Asks.{Asks}
+use Rattle.ca_text.specs.declared.asks.Wanted.{Wanted}
+use Rattle.ca_text.specs.declared.asks.Wanted.TheVariants.{Own, Other, NoCells}
+use Rattle.ca_text.specs.declared.asks.Barred.{Barred}
+use Rattle.ca_text.specs.declared.asks.Barred.TheVariants.{Nothing, InPlace, Anywhere, EmptyPlane}
+use Rattle.ca_text.specs.declared.line.Kind.{Kind}
 use Rattle.ca_claims.specs.declared.identity.Identity.{Identity}
 use Rattle.ca_claims.specs.declared.identity.Identity.TheVariants.{Empty, StillLife, Oscillator, Spaceship, Dies, Unknown}
 use Rattle.ca_claims.specs.declared.scope.Scope.{Scope}
@@ -27,7 +27,8 @@ use Rattle.ca_claims.specs.declared.ruled.RuledPattern.{RuledPattern}
 use Rattle.ca_claims.specs.declared.verdict.Cause.{Cause}
 use Rattle.ca_claims.specs.declared.verdict.Cause.TheVariants.{NoFile, BadTable, BadPattern, BadRule, StateTooLarge, MixedRules, TooManyCells, Work, Memory}
 use Rattle.ca_claims.specs.Identified.{IsTrueWithin, IsIdentity, IsIdentified, IsIdentifiedAfter, IsLookAt, HoldsSmallPattern, MayNeedWork, MayNeedWorkAfter, IsUnidentifiedFor, IsUnidentified, IsUnidentifiedAfterFor, IsUnidentifiedAfter}
-use Rattle.ca_claims.specs.Truth.{asks_of, wanted_cells, IsTrueClaim, ShowsNothingBarred}
+use Rattle.ca_text.specs.Asks.{asks_of}
+use Rattle.ca_claims.specs.Truth.{wanted_cells, IsTrueClaim, ShowsNothingBarred}
 use Rattle.ca_claims.specs.inner.Patterns.{rule_of}
 use Rattle.ca_claims.specs.inner.Ready.{IsReady}
 use Rattle.ca_claims.specs.inner.Stages.{TakesRunAndSearch}

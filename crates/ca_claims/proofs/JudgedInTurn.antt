@@ -5,7 +5,7 @@ use Rattle.std.proofs.lemmas.List.{append_assoc}
 use Rattle.std.proofs.lemmas.Option.{slice_get_within, get_or_from_slice_get}
 use Rattle.indexmap.proofs.SetLemmas.{AllZip-push}
 use Rattle.ca_claims.specs.declared.verdict.Answer.{Answer}
-use Rattle.ca_claims.specs.Text.{Claim, ClaimText}
+use Rattle.ca_text.specs.Text.{Claim, ClaimText}
 use Rattle.ca_claims.specs.Answers.{IsTrueAnswer, AreTrueAnswers, IsWithinWork, AreWithinWork}
 use Rattle.ca_claims.specs.Judging.{Judging, Judges, JudgesAndNotes}
 use Rattle.ca_claims.specs.declared.note.Note.{Note}

@@ -1,7 +1,5 @@
 pub mod Times
 pub mod ClaimKinds
-pub mod PathLists
-pub mod HeldNumbers
 pub mod PairedLists
 pub mod EqualCells
 pub mod MovedPopulations
@@ -15,13 +13,7 @@ pub mod WrittenMeanings
 pub mod WrittenForms
 pub mod FoundFiles
 pub mod JudgedInTurn
-pub mod LinesSaid
-pub mod ClaimsKept
-pub mod PathMarks
 pub mod NoReturn
-pub mod NextLines
-pub mod AllLines
-pub mod OneMeaning
 pub mod Verdicts
 pub mod OneReason
 pub mod PicturePopulations
@@ -48,7 +40,6 @@ pub mod Strides
 pub mod IdentityRefusals
 pub mod UnknownRules
 pub mod AddedTables
-pub mod RuleLines
 pub mod ReachedFiles
 pub mod IdentifiedFiles
 pub mod OneIdentity

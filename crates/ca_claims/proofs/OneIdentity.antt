@@ -20,8 +20,8 @@ use Rattle.ca_rule.specs.Rule.{RuleValue, next_of}
 use Rattle.ca_run.proofs.After.{after_same, after_seen}
 use Rattle.ca_run.proofs.Returns.{after_stands, back_times, vector_times}
 use Rattle.ca_run.proofs.Vectors.{no_vector, live-moved}
-use Rattle.ca_claims.specs.declared.claims.asks.Barred.TheVariants.{InPlace, Anywhere, EmptyPlane}
-use Rattle.ca_claims.specs.declared.claims.line.Kind.TheVariants as kind
+use Rattle.ca_text.specs.declared.asks.Barred.TheVariants.{InPlace, Anywhere, EmptyPlane}
+use Rattle.ca_text.specs.declared.line.Kind.TheVariants as kind
 use Rattle.ca_claims.specs.declared.conversion.ConvertFault.{ConvertFault}
 use Rattle.ca_claims.specs.declared.conversion.ConvertFault.TheVariants as convert_fault
 use Rattle.ca_claims.specs.declared.identity.Growth.{Growth}

@@ -9,9 +9,9 @@ use Rattle.ca_plane.proofs.Shifts.{cell-shifted}
 use Rattle.ca_run.proofs.Vectors.{no_vector}
 use Rattle.ca_claims.specs.declared.verdict.Why.{Why}
 use Rattle.ca_claims.specs.declared.verdict.Why.TheVariants.{Empty, Differs, Earlier, Died}
-use Rattle.ca_claims.specs.declared.claims.asks.Asks.{Asks}
-use Rattle.ca_claims.specs.declared.claims.asks.Barred.{Barred}
-use Rattle.ca_claims.specs.declared.claims.asks.Barred.TheVariants.{EmptyPlane}
+use Rattle.ca_text.specs.declared.asks.Asks.{Asks}
+use Rattle.ca_text.specs.declared.asks.Barred.{Barred}
+use Rattle.ca_text.specs.declared.asks.Barred.TheVariants.{EmptyPlane}
 use Rattle.ca_claims.specs.Truth.{claimed_cells, MayReturnBy, IsReason, IsSameReason}
 use Rattle.ca_claims.proofs.Verdicts.{back, dead}
 

@@ -7,7 +7,7 @@ use Rattle.ca_claims.specs.declared.refusal.WhichPattern.{WhichPattern}
 use Rattle.ca_claims.specs.declared.refusal.WhichPattern.TheVariants.{First, Second}
 use Rattle.ca_claims.specs.declared.verdict.Cause.{Cause}
 use Rattle.ca_claims.specs.declared.verdict.Cause.TheVariants.{NoFile, BadPattern, BadRule, StateTooLarge, TooManyCells}
-use Rattle.ca_claims.specs.Places.{path_at}
+use Rattle.ca_text.specs.Places.{path_at}
 use Rattle.ca_claims.specs.Answers.{IsThere, FirstBad, IsOfPattern, IsOfRuleFile}
 use Rattle.ca_claims.specs.inner.Patterns.{IsEachOnce, FirstBadAt}
 use Rattle.ca_claims.specs.inner.Refusals.{IsCauseAbout}

@@ -8,9 +8,9 @@ use Rattle.ca_quad.specs.declared.tree.Tree.{Tree}
 use Rattle.ca_quad.specs.Trees.{IsTrimmed}
 use Rattle.ca_run.specs.Leaping.{Costs, LeaperView, LeaperGrows, Spent}
 use Rattle.ca_run.proofs.Costs.{power_more}
-use Rattle.ca_claims.specs.declared.claims.asks.Asks.{Asks}
-use Rattle.ca_claims.specs.declared.claims.asks.Barred.{Barred}
-use Rattle.ca_claims.specs.declared.claims.asks.Barred.TheVariants.{Nothing, InPlace, Anywhere, EmptyPlane}
+use Rattle.ca_text.specs.declared.asks.Asks.{Asks}
+use Rattle.ca_text.specs.declared.asks.Barred.{Barred}
+use Rattle.ca_text.specs.declared.asks.Barred.TheVariants.{Nothing, InPlace, Anywhere, EmptyPlane}
 use Rattle.ca_claims.specs.Limited.{most_runs, IsNoMoreThan, MayBeUsedUp}
 use Rattle.ca_claims.specs.inner.Subjects.{ShowsTree}
 use Rattle.ca_claims.specs.inner.Spending.{Takes, TakesHalves, most_halvings, most_looks}

@@ -5,10 +5,11 @@ use Rattle.std.specs.Option.{option_copied}
 use Rattle.ca_rule.specs.TableNext.{TableRule}
 use Rattle.ca_claims.specs.declared.verifier.tables.FaultyTable.{FaultyTable}
 use Rattle.ca_claims.specs.declared.verdict.Cause.TheVariants.{NoFile, BadTable}
-use Rattle.ca_claims.specs.declared.claims.asks.Asks.{Asks}
-use Rattle.ca_claims.specs.Places.{path_at}
+use Rattle.ca_text.specs.declared.asks.Asks.{Asks}
+use Rattle.ca_text.specs.Places.{path_at}
 use Rattle.ca_claims.specs.Means.{bytes_at}
-use Rattle.ca_claims.specs.Answers.{IsMissing, IsThere, HoldsTable, AreTables, IsBadTable, SomeOf, FirstBad}
+use Rattle.ca_text.specs.SomeOf.{SomeOf}
+use Rattle.ca_claims.specs.Answers.{IsMissing, IsThere, HoldsTable, AreTables, IsBadTable, FirstBad}
 use Rattle.ca_claims.specs.inner.Found.{IsFound, IsTableFound, IsFaultFound}
 use Rattle.ca_claims.specs.inner.Tables.{IsFaultyAt}
 use Rattle.ca_claims.specs.declared.refusal.About.TheVariants as about

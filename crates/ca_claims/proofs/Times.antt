@@ -6,7 +6,7 @@ use Rattle.std.proofs.lemmas.Int.{ints, to_z-of_z}
 use Rattle.ca_plane.specs.Plane.{Picture, cell, shifted}
 use Rattle.ca_plane.proofs.Shifts.{cell-shifted}
 use Rattle.ca_quad.specs.Shifted.{shifted_cells}
-use Rattle.ca_claims.specs.Text.{IsShift}
+use Rattle.ca_text.specs.Text.{IsShift}
 use Rattle.ca_claims.specs.inner.Returns.{IsBroad, IsWide}
 
 -- a picture that is moved by (0, 0) shows what it showed

@@ -11,13 +11,13 @@ use Rattle.ca_rule.specs.TableNext.{TableRule}
 use Rattle.ca_rule.specs.Rule.{IsRuleFault}
 use Rattle.ca_rule.specs.declared.fault.RuleFault.TheVariants.{Unknown}
 use Rattle.ca_claims.specs.declared.verifier.tables.FaultyTable.{FaultyTable}
-use Rattle.ca_claims.specs.Text.{ClaimText}
-use Rattle.ca_claims.specs.Places.{path_at}
-use Rattle.ca_claims.specs.NeededFiles.{IsNeeded}
+use Rattle.ca_text.specs.Text.{ClaimText}
+use Rattle.ca_text.specs.Places.{path_at}
+use Rattle.ca_text.specs.NeededFiles.{IsNeeded}
 use Rattle.ca_claims.specs.Means.{bytes_at, HoldsRuleText}
 use Rattle.ca_claims.specs.Answers.{IsTableAt, AreTables, IsThere, IsMissing, HoldsTable, FirstBad}
 use Rattle.ca_claims.specs.Unknown.{IsUnreadFile, HoldsUnknownRule, IsUnknownRule, AreUnknownRules}
-use Rattle.ca_claims.specs.Words.{with_word}
+use Rattle.ca_text.specs.Words.{with_word}
 use Rattle.ca_claims.specs.declared.verifier.tables.Tables.{Tables}
 use Rattle.ca_claims.specs.declared.verifier.tables.Tables.TheVariants.{Missing, Faulty, Read}
 use Rattle.ca_claims.specs.inner.Tables.{IsFaultyAt, AreRead}

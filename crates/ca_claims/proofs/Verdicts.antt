@@ -25,15 +25,17 @@ use Rattle.ca_claims.specs.declared.verdict.PatternFault.{PatternFault}
 use Rattle.ca_claims.specs.declared.verdict.PatternFault.TheVariants as pattern_fault
 use Rattle.ca_claims.specs.declared.verdict.Cause.{Cause}
 use Rattle.ca_claims.specs.declared.verdict.Cause.TheVariants.{NoFile, BadTable, BadPattern, BadRule, StateTooLarge, MixedRules, TooManyCells, Work, Memory}
-use Rattle.ca_claims.specs.declared.claims.asks.Asks.{Asks}
-use Rattle.ca_claims.specs.declared.claims.asks.Barred.{Barred}
-use Rattle.ca_claims.specs.declared.claims.asks.Barred.TheVariants.{Nothing, InPlace, Anywhere, EmptyPlane}
+use Rattle.ca_text.specs.declared.asks.Asks.{Asks}
+use Rattle.ca_text.specs.declared.asks.Barred.{Barred}
+use Rattle.ca_text.specs.declared.asks.Barred.TheVariants.{Nothing, InPlace, Anywhere, EmptyPlane}
 use Rattle.ca_claims.specs.declared.format.Format.{Format}
 use Rattle.ca_claims.specs.declared.format.Format.TheVariants as formats
 use Rattle.ca_claims.specs.Means.{format_of, MeansAs, Means, IsReadableAs, IsReadable, HoldsRuledPattern, HasRuleFault}
-use Rattle.ca_claims.specs.Text.{Claim, patterns_of}
-use Rattle.ca_claims.specs.Truth.{asks_of, wanted_cells, ShowsNothingBarred, MayReturnBy, IsTrueClaim, IsReason}
-use Rattle.ca_claims.specs.Answers.{IsPatternFault, IsQuietTable, IsTableFault, HasLargeState, HasSmallStates, HoldsOfFile, IsTableAt, AreTables, IsRuled, IsMissing, IsThere, HoldsTable, IsReadableFile, HasRule, IsSmall, SomeOf, FirstBad, HaveOtherRules, FilesAreThere, TablesAreGood, PatternsAreRead, PatternsHaveRules, StatesAreSmall, AgreeOn, HasFewCounted, HasTooManyCounted, HasCause, IsCauseFor, IsGoodPattern, AreGood, IsJudged, IsBadTable, IsBadPattern, IsUnnamed, IsLarge}
+use Rattle.ca_text.specs.Text.{Claim, patterns_of}
+use Rattle.ca_text.specs.Asks.{asks_of}
+use Rattle.ca_claims.specs.Truth.{wanted_cells, ShowsNothingBarred, MayReturnBy, IsTrueClaim, IsReason}
+use Rattle.ca_text.specs.SomeOf.{SomeOf}
+use Rattle.ca_claims.specs.Answers.{IsPatternFault, IsQuietTable, IsTableFault, HasLargeState, HasSmallStates, HoldsOfFile, IsTableAt, AreTables, IsRuled, IsMissing, IsThere, HoldsTable, IsReadableFile, HasRule, IsSmall, FirstBad, HaveOtherRules, FilesAreThere, TablesAreGood, PatternsAreRead, PatternsHaveRules, StatesAreSmall, AgreeOn, HasFewCounted, HasTooManyCounted, HasCause, IsCauseFor, IsGoodPattern, AreGood, IsJudged, IsBadTable, IsBadPattern, IsUnnamed, IsLarge}
 use Rattle.ca_claims.proofs.PatternsRead.{ruled_path_reads}
 use Rattle.ca_claims.proofs.PairedLists.{zip_left}
 

@@ -24,11 +24,13 @@ use Rattle.ca_claims.specs.declared.verdict.PatternFault.{PatternFault}
 use Rattle.ca_claims.specs.declared.verdict.PatternFault.TheVariants as pattern_fault
 use Rattle.ca_claims.specs.declared.verdict.Cause.{Cause}
 use Rattle.ca_claims.specs.declared.verdict.Cause.TheVariants.{NoFile, BadTable, BadPattern, BadRule, StateTooLarge, MixedRules, TooManyCells, Work, Memory}
-use Rattle.ca_claims.specs.declared.claims.asks.Asks.{Asks}
+use Rattle.ca_text.specs.declared.asks.Asks.{Asks}
 use Rattle.ca_claims.specs.Limited.{MayBeUsedUp}
-use Rattle.ca_claims.specs.Text.{Claim, patterns_of}
+use Rattle.ca_text.specs.SomeOf.{SomeOf}
+use Rattle.ca_text.specs.Text.{Claim, patterns_of}
 use Rattle.ca_claims.specs.Means.{bytes_at, format_of, IsReadable, HoldsRuleText, HoldsRuledPattern, HasRuleFault, MayWantMemory}
-use Rattle.ca_claims.specs.Truth.{asks_of, wanted_cells, IsTrueClaim, IsReason}
+use Rattle.ca_text.specs.Asks.{asks_of}
+use Rattle.ca_claims.specs.Truth.{wanted_cells, IsTrueClaim, IsReason}
 
 -- the fault for which the bytes of a pattern aren't read; out of memory is none of them
 abbrev pub IsPatternFault : List ℕ → PatternFault → Type 0
@@ -99,11 +101,6 @@ HasRule files tables path = (cells : Picture) × (rule : RuleValue) × IsRuled f
 -- and its states are small
 abbrev pub IsSmall : List (List ℕ × List ℕ) → List TableRule → List ℕ → Type 0
 IsSmall files tables path = (cells : Picture) × (rule : RuleValue) × IsRuled files tables path cells rule × HasSmallStates rule (cell cells)
-
--- this holds of some element
-abbrev pub SomeOf : {X : Type 0} → (X → Type 0) → List X → Type 0
-SomeOf Holds [] = ⊥
-SomeOf Holds (x ∷ xs) = Holds x ⊎ SomeOf Holds xs
 
 -- this is bad of one element, and those before it are good
 abbrev pub FirstBad : {X : Type 0} → (X → Type 0) → (X → Type 0) → List X → Type 0

@@ -8,8 +8,8 @@ use Rattle.ca_plane.specs.Population.{HasPopulation}
 use Rattle.ca_quad.specs.Trees.{HoldsAll}
 use Rattle.ca_rule.specs.TableNext.{TableRule}
 use Rattle.ca_rule.specs.Rule.{RuleValue, next_of}
-use Rattle.ca_claims.specs.declared.claims.line.Kind.{Kind}
-use Rattle.ca_claims.specs.declared.claims.line.Kind.TheVariants as kind
+use Rattle.ca_text.specs.declared.line.Kind.{Kind}
+use Rattle.ca_text.specs.declared.line.Kind.TheVariants as kind
 use Rattle.ca_claims.specs.declared.identity.Identity.{Identity}
 use Rattle.ca_claims.specs.declared.identity.Identity.TheVariants.{Empty, StillLife, Oscillator, Spaceship, Dies, Unknown}
 use Rattle.ca_claims.specs.declared.identity.Growth.{Growth}
@@ -18,8 +18,9 @@ use Rattle.ca_claims.specs.declared.scope.Look.{Look}
 use Rattle.ca_claims.specs.declared.detailed_fault.DetailedFault.{DetailedFault}
 use Rattle.ca_claims.specs.declared.verdict.Cause.{Cause}
 use Rattle.ca_claims.specs.declared.verdict.Cause.TheVariants.{BadPattern, BadRule, StateTooLarge, Work, Memory}
-use Rattle.ca_claims.specs.Text.{HasGoodNumbers}
-use Rattle.ca_claims.specs.Truth.{asks_of, IsTrueClaim}
+use Rattle.ca_text.specs.Text.{HasGoodNumbers}
+use Rattle.ca_text.specs.Asks.{asks_of}
+use Rattle.ca_claims.specs.Truth.{IsTrueClaim}
 use Rattle.ca_claims.specs.Means.{HoldsRuleText, HoldsRuledPattern, HasRuleFault, MayWantMemory}
 use Rattle.ca_claims.specs.Answers.{IsPatternFaultOn, HasLargeState}
 use Rattle.ca_claims.specs.Ahead.{HoldsSmallRuledPattern}

@@ -2,7 +2,7 @@
 use Rattle.std.specs.Prelude.{◌≡◌, ℕ, List, [], ◌∷◌}
 use Rattle.ca_claims.specs.declared.verdict.Answer.{Answer}
 use Rattle.ca_claims.specs.declared.note.Note.{Note}
-use Rattle.ca_claims.specs.Text.{Claim}
+use Rattle.ca_text.specs.Text.{Claim}
 use Rattle.ca_claims.specs.Answers.{IsTrueAnswer, IsWithinWork}
 use Rattle.ca_claims.specs.Notes.{IsNote}
 

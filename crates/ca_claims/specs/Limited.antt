@@ -2,9 +2,9 @@
 use Rattle.std.specs.Prelude.{ℕ, ◌+◌, ◌*◌, ◌<◌, ◌≤◌, ◌^◌, min, ℤ}
 use Rattle.ca_plane.specs.Limits.{most_memo}
 use Rattle.ca_quad.specs.Trees.{HoldsAll}
-use Rattle.ca_claims.specs.declared.claims.asks.Asks.{Asks}
-use Rattle.ca_claims.specs.declared.claims.asks.Barred.{Barred}
-use Rattle.ca_claims.specs.declared.claims.asks.Barred.TheVariants.{Nothing, InPlace, Anywhere, EmptyPlane}
+use Rattle.ca_text.specs.declared.asks.Asks.{Asks}
+use Rattle.ca_text.specs.declared.asks.Barred.{Barred}
+use Rattle.ca_text.specs.declared.asks.Barred.TheVariants.{Nothing, InPlace, Anywhere, EmptyPlane}
 use Rattle.ca_claims.specs.declared.limits.Limits.{Limits}
 
 -- the memo has an entry at least, and no more than it may have; any work may be allowed

@@ -5,8 +5,8 @@ use Rattle.std.specs.Str.{bytes_eq}
 use Rattle.ca_rule.specs.TableNext.{TableRule}
 use Rattle.ca_rule.specs.Rule.{IsRuleFault}
 use Rattle.ca_rule.specs.declared.fault.RuleFault.TheVariants.{Unknown}
-use Rattle.ca_claims.specs.Text.{ClaimText}
-use Rattle.ca_claims.specs.NeededFiles.{IsNeeded}
+use Rattle.ca_text.specs.Text.{ClaimText}
+use Rattle.ca_text.specs.NeededFiles.{IsNeeded}
 use Rattle.ca_claims.specs.Means.{HoldsRuleText}
 use Rattle.ca_claims.specs.declared.verdict.PatternFault.{PatternFault}
 use Rattle.ca_claims.specs.declared.unknown.NamedTable.{NamedTable}

@@ -3,10 +3,8 @@ pub mod Decided
 pub mod Found
 pub mod Glance
 pub mod Kept
-pub mod Marks
 pub mod Patterns
 pub mod PreparedClaim
-pub mod Reading
 pub mod Ready
 pub mod Refusals
 pub mod Returns

@@ -10,7 +10,6 @@ ghost use Rattle.ca_claims.specs.Notes.{HasItsNote};
 ghost use Rattle.ca_claims.specs.inner.Kept.{AreFound, IsAnswerTo};
 ghost use Rattle.ca_claims.specs.inner.Tables.{AreRead};
 
-use crate::claims::Claims;
 use crate::file::File;
 use crate::limits::Limits;
 use crate::note::Note;
@@ -20,6 +19,7 @@ use crate::verdict::Answer;
 use crate::verifier::{Library, NeededFiles, Tables, Task, find_files, verdict_on};
 use ca_plane::Memory;
 use ca_run::Unwatched;
+use ca_text::Claims;
 use std::alloc::Global;
 use std::marker::Model;
 

@@ -5,12 +5,10 @@
 mod ahead;
 pub mod ahead_laws;
 mod cells;
-mod claims;
 mod conversion;
 pub mod conversion_laws;
 mod decide;
 mod detailed_fault;
-mod fault;
 mod file;
 mod format;
 mod glance;
@@ -18,7 +16,6 @@ mod identification;
 mod identity;
 pub mod identity_laws;
 mod judge;
-mod laws;
 mod leaper;
 mod limits;
 mod note;
@@ -34,21 +31,21 @@ mod unknown;
 mod verdict;
 pub mod verdict_laws;
 mod verifier;
-mod word_set;
 
 pub use ahead::{convert_after, run_on, summary_after};
 pub use ca_plane::limits::MOST_MEMO;
-pub use claims::{Claims, read_claims};
+pub use ca_text::{
+    ClaimFault, Claims, WordSet, no_fault_in_claim_text, one_fault, one_meaning, read_claims,
+    worked_examples,
+};
 pub use conversion::{ConvertFault, convert, convert_with_detail};
 pub use detailed_fault::DetailedFault;
-pub use fault::ClaimFault;
 pub use file::File;
 pub use format::{Format, Format as Target};
 pub use glance::{summary, summary_with_detail};
 pub use identification::{identify, identify_after, look_after};
 pub use identity::{Growth, Identity};
 pub use judge::Judge;
-pub use laws::{no_fault_in_claim_text, one_fault, one_meaning, worked_examples};
 pub use limits::{Limits, USUAL_MEMO};
 pub use note::Note;
 pub use observer::Observer;
@@ -59,4 +56,3 @@ pub use scope::{Look, Scope};
 pub use unknown::{NamedTable, rule_text_of, table_named, unknown_rules};
 pub use verdict::{Answer, Cause, PatternFault, Verdict, Why};
 pub use verifier::verify;
-pub use word_set::WordSet;

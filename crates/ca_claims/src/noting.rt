@@ -2,16 +2,16 @@
 
 ghost use Rattle.std.specs.Prelude.{ℕ, ◌<◌, List, map, length};
 ghost use Rattle.std.specs.List.{AllByRecursion};
-ghost use Rattle.ca_claims.specs.Places.{path_at, named_path};
+ghost use Rattle.ca_text.specs.Places.{path_at, named_path};
 ghost use Rattle.ca_claims.specs.Notes.{IsNote, HasItsNote};
-ghost use Rattle.ca_claims.specs.inner.Patterns.{items, IsListPart};
+ghost use Rattle.ca_text.specs.OneOrTwo.{items};
+ghost use Rattle.ca_claims.specs.inner.Patterns.{IsListPart};
 ghost use Rattle.ca_claims.specs.inner.Refusals.{IsOnVerdict};
 
-use crate::claims::{Claims, NamedPath};
 use crate::note::Note;
 use crate::refusal::{About, JudgedClaim, WhichPattern};
 use crate::verdict::{Verdict, Why};
-use crate::verifier::OneOrTwo;
+use ca_text::{Claims, NamedPath, OneOrTwo};
 
 /// The note on a verdict on a claim about these patterns.
 pub(crate) fn note_on<'a>(

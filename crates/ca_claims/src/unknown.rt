@@ -11,15 +11,14 @@ ghost use Rattle.ca_claims.specs.Unknown.{IsUnreadFile, HoldsUnknownRule, AreUnk
 ghost use Rattle.ca_claims.specs.Unknown.{IsNamedTable};
 ghost use Rattle.ca_claims.specs.inner.Unknown.{AreAskedBefore, AddsAsked};
 
-use crate::claims::Claims;
 use crate::file::File;
 use crate::judge::look_up;
 use crate::read::read_pattern;
 use crate::verdict::PatternFault;
-use crate::word_set::WordSet;
 use ca_plane::Memory;
 use ca_quad::Store;
 use ca_rule::{RuleFault, Table, TableFault, resolve};
+use ca_text::{Claims, WordSet};
 use std::alloc::Global;
 
 /// The rule texts of the patterns that the text's claims need, of those whose files were handed in and are read,

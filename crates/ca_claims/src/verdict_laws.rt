@@ -7,12 +7,13 @@ ghost use Rattle.std.specs.Prelude.{◌≡◌, ◌≢◌, ℕ, suc, ◌≤◌, �
 ghost use Rattle.std.specs.List.{AllByRecursion};
 ghost use Rattle.ca_plane.specs.Plane.{Picture, cell, shifted, IsLive};
 ghost use Rattle.ca_plane.specs.Generations.{after, IsAfter};
-ghost use Rattle.ca_claims.specs.declared.claims.line.Kind.{Kind};
-ghost use Rattle.ca_claims.specs.declared.claims.line.Kind.TheVariants.{Still, Oscillator, Spaceship};
-ghost use Rattle.ca_claims.specs.declared.claims.line.Kind.TheVariants.{Becomes, BecomesShifted, Dies};
-ghost use Rattle.ca_claims.specs.Text.{Claim};
+ghost use Rattle.ca_text.specs.declared.line.Kind.{Kind};
+ghost use Rattle.ca_text.specs.declared.line.Kind.TheVariants.{Still, Oscillator, Spaceship};
+ghost use Rattle.ca_text.specs.declared.line.Kind.TheVariants.{Becomes, BecomesShifted, Dies};
+ghost use Rattle.ca_text.specs.Text.{Claim};
 ghost use Rattle.ca_claims.specs.Means.{Means};
-ghost use Rattle.ca_claims.specs.Truth.{asks_of, IsChanged, IsNowhere, IsLiveAfter, IsTrueClaim};
+ghost use Rattle.ca_text.specs.Asks.{asks_of};
+ghost use Rattle.ca_claims.specs.Truth.{IsChanged, IsNowhere, IsLiveAfter, IsTrueClaim};
 ghost use Rattle.ca_claims.specs.Truth.{IsReason, IsSameReason};
 ghost use Rattle.ca_claims.specs.Answers.{IsTrueVerdict, HoldsTable};
 ghost use Rattle.ca_claims.specs.Examples.{life, blinker, block};

@@ -6,6 +6,7 @@ pub mod Decimals
 pub mod CellOrders
 pub mod Elements
 pub mod Fronts
+pub mod Integers
 pub mod Lengths
 pub mod Lines
 pub mod Numbers

@@ -8,6 +8,7 @@ use Rattle.ca_plane.specs.Bytes.{Every, is_blank, is_digit, is_word_byte, is_end
 use Rattle.ca_rle.specs.Header.{Part, IsSpaced, size_parts, rule_parts, IsHeader, is_front_line, CxrleWord, Corner, Generation, Nothing, WordSays}
 use Rattle.ca_rle.specs.inner.HeaderParts.{part_left, parts_left}
 use Rattle.ca_plane.proofs.Fronts.{front_append, rest_append, one_split, every_wider, every_digit, every_word_byte}
+use Rattle.ca_plane.proofs.Integers.{one_integer}
 use Rattle.ca_rle.proofs.Headers.{header_none, header_some}
 
 -- ---- headers
@@ -77,17 +78,6 @@ no_comma b = not (b == 44)
 pub integer_has_no_comma : (bytes : List ℕ) (x : ℤ) → IsInteger bytes x → Every no_comma bytes
 integer_has_no_comma bytes x (inl (d, e)) = every_wider is_digit no_comma no_comma_digit bytes (every_digit bytes d)
 integer_has_no_comma bytes x (inr (digits, spelled, d, e)) = rw spelled (every_wider is_digit no_comma no_comma_digit digits (every_digit digits d))
-
-no_minus : (digits : List ℕ) → AreDigits (45 ∷ digits) → ⊥
-no_minus digits h = true≢false (sym (and_parts (is_digit 45) (list_all is_digit digits) h).0)
-
-pub one_integer : (bytes : List ℕ) (x y : ℤ) → IsInteger bytes x → IsInteger bytes y → x ≡ y
-one_integer bytes x y (inl (d, p)) (inl (e, q)) = p ∙ sym q
-one_integer bytes x y (inl (d, p)) (inr (digits, spelled, e, q)) = absurd (no_minus digits (subst AreDigits spelled d))
-one_integer bytes x y (inr (digits, spelled, e, q)) (inl (d, p)) = absurd (no_minus digits (subst AreDigits spelled d))
-one_integer bytes x y (inr (a, e, d, p)) (inr (b, f, g, q)) =
-    let same : a ≡ b = append_cancel_left (45 ∷ []) a b (sym e ∙ f) in
-    p ∙ ap (λ (l : List ℕ). neg_ℤ (pos (value l))) same ∙ sym q
 
 begins_pos : (word more : List ℕ) → word ≡ codes "Pos=" ++ more → starts_with nat_eq word (codes "Pos=") ≡ true
 begins_pos word more e = rw e

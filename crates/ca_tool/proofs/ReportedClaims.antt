@@ -7,7 +7,7 @@ use Rattle.std.proofs.lemmas.List.Concat.{flat_map-append}
 use Rattle.std.proofs.lemmas.Slice.Zip.{AllZip-long}
 use Rattle.ca_plane.specs.Device.{AppendsPrefix}
 use Rattle.ca_plane.proofs.Sends.{sent_both, prefix_of_first, prefix_of_second}
-use Rattle.ca_claims.specs.Text.{Claim}
+use Rattle.ca_text.specs.Text.{Claim}
 use Rattle.ca_claims.specs.declared.verdict.Answer.{Answer}
 use Rattle.ca_claims.specs.declared.note.Note.{Note}
 use Rattle.ca_claims.specs.Answers.{IsTrueAnswer, AreTrueAnswers, IsWithinWork, AreWithinWork}

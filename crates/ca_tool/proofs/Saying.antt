@@ -6,8 +6,8 @@ use Rattle.std.proofs.lemmas.List.{append-nil}
 use Rattle.ca_plane.specs.Bytes.{Every, is_line_end, is_word_byte, is_blank, IsWord, lines_of, words_of}
 use Rattle.ca_plane.proofs.Fronts.{every_append, every_wider}
 use Rattle.ca_plane.proofs.Lines.{lines_ahead, words_ahead}
-use Rattle.ca_claims.specs.Text.{ClaimTextLine, is_skipped, ClaimWordsSay, IsAllowedLine, ClaimLinesSay, said_lines}
-use Rattle.ca_claims.proofs.LinesSaid.{spoken-append}
+use Rattle.ca_text.specs.Text.{ClaimTextLine, is_skipped, ClaimWordsSay, IsAllowedLine, ClaimLinesSay, said_lines}
+use Rattle.ca_text.proofs.LinesSaid.{spoken-append}
 
 -- a byte that ends no line
 abbrev pub is_inner : ℕ → Bool

@@ -11,8 +11,8 @@ use Rattle.ca_rule.specs.declared.table.fault.TableFault.{TableFault}
 use Rattle.ca_rule.specs.declared.table.fault.TableFault.TheVariants as tables
 use Rattle.ca_rle.specs.declared.fault.RleFault.TheVariants as rle
 use Rattle.ca_macro.specs.declared.fault.MacroFault.TheVariants as macrocell
-use Rattle.ca_claims.specs.declared.fault.ClaimFault.{ClaimFault}
-use Rattle.ca_claims.specs.declared.fault.ClaimFault.TheVariants as claims
+use Rattle.ca_text.specs.declared.fault.ClaimFault.{ClaimFault}
+use Rattle.ca_text.specs.declared.fault.ClaimFault.TheVariants as claims
 use Rattle.ca_claims.specs.declared.verdict.Answer.{Answer}
 use Rattle.ca_claims.specs.declared.verdict.Verdict.{Verdict}
 use Rattle.ca_claims.specs.declared.verdict.Verdict.TheVariants.{Yes, No, Refused}

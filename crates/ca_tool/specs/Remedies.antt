@@ -7,8 +7,8 @@ use Rattle.ca_rle.specs.declared.fault.RleFault.TheVariants as rle
 use Rattle.ca_macro.specs.declared.fault.MacroFault.TheVariants as macrocell
 use Rattle.ca_rule.specs.declared.fault.RuleFault.{RuleFault}
 use Rattle.ca_rule.specs.declared.fault.RuleFault.TheVariants as rules
-use Rattle.ca_claims.specs.declared.fault.ClaimFault.{ClaimFault}
-use Rattle.ca_claims.specs.declared.fault.ClaimFault.TheVariants as claims
+use Rattle.ca_text.specs.declared.fault.ClaimFault.{ClaimFault}
+use Rattle.ca_text.specs.declared.fault.ClaimFault.TheVariants as claims
 use Rattle.ca_claims.specs.declared.file.File.{File}
 use Rattle.ca_claims.specs.declared.verdict.PatternFault.{PatternFault}
 use Rattle.ca_claims.specs.declared.verdict.PatternFault.TheVariants as patterns

@@ -3,7 +3,7 @@ use Rattle.std.specs.Prelude.{◌≡◌, ◌≢◌, ℕ, ◌+◌, ◌<◌, ◌�
 use Rattle.std.specs.Io.KnownBytes.{Consumes, IsAtEnd}
 use Rattle.std.specs.List.{AllZip, AllByRecursion}
 use Rattle.ca_plane.specs.Device.{Counted, Rises}
-use Rattle.ca_claims.specs.Text.{ClaimText, Claim}
+use Rattle.ca_text.specs.Text.{ClaimText, Claim}
 use Rattle.ca_claims.specs.Judging.{Judging}
 use Rattle.ca_claims.specs.Notes.{IsNote, HasItsNote}
 use Rattle.ca_rule.specs.TableNext.{TableRule}

@@ -4,12 +4,12 @@ use Rattle.ca_plane.specs.Plane.{Picture}
 use Rattle.ca_claims.specs.declared.verdict.Verdict.{Verdict}
 use Rattle.ca_claims.specs.declared.verdict.Verdict.TheVariants.{Yes, No, Refused}
 use Rattle.ca_claims.specs.declared.verdict.Cause.TheVariants.{Work, Memory}
-use Rattle.ca_claims.specs.declared.claims.asks.Asks.{Asks}
-use Rattle.ca_claims.specs.declared.claims.asks.Barred.{Barred}
-use Rattle.ca_claims.specs.declared.claims.asks.Barred.TheVariants.{Nothing, InPlace, Anywhere, EmptyPlane}
-use Rattle.ca_claims.specs.declared.claims.asks.Wanted.TheVariants.{Own, NoCells}
+use Rattle.ca_text.specs.declared.asks.Asks.{Asks}
+use Rattle.ca_text.specs.declared.asks.Barred.{Barred}
+use Rattle.ca_text.specs.declared.asks.Barred.TheVariants.{Nothing, InPlace, Anywhere, EmptyPlane}
+use Rattle.ca_text.specs.declared.asks.Wanted.TheVariants.{Own, NoCells}
 use Rattle.ca_plane.specs.Limits.{most_generations, longest_period}
-use Rattle.ca_claims.specs.Text.{IsShift}
+use Rattle.ca_text.specs.Text.{IsShift}
 use Rattle.ca_claims.specs.Truth.{MayReturnBy, IsTrueClaim, IsReason}
 
 -- a return of the pattern is barred, in its place or anywhere

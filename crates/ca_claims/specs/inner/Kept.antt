@@ -6,7 +6,7 @@ use Rattle.ca_claims.specs.declared.verifier.tables.Tables.{Tables}
 use Rattle.ca_claims.specs.declared.verdict.Answer.{Answer}
 use Rattle.ca_claims.specs.declared.limits.Limits.{Limits}
 use Rattle.ca_claims.specs.Limited.{AreGoodLimits}
-use Rattle.ca_claims.specs.Text.{ClaimText, Claim}
+use Rattle.ca_text.specs.Text.{ClaimText, Claim}
 use Rattle.ca_claims.specs.Means.{bytes_at}
 use Rattle.ca_claims.specs.Answers.{IsTrueAnswer, IsWithinWork}
 use Rattle.ca_claims.specs.Judging.{Judging}

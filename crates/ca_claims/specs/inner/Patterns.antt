@@ -1,8 +1,8 @@
 -- A pattern that was read for a claim, and why one isn't.
 use Rattle.std.specs.Prelude.{◌≡◌, ℕ, ◌<◌, List, [], ◌∷◌, Option, ◌⊎◌}
 use Rattle.std.specs.List.{AllByRecursion}
-use Rattle.ca_claims.specs.declared.verifier.one_or_two.OneOrTwo.{OneOrTwo}
-use Rattle.ca_claims.specs.declared.verifier.one_or_two.OneOrTwo.TheVariants.{One, Two}
+use Rattle.ca_text.specs.declared.one_or_two.OneOrTwo.{OneOrTwo}
+use Rattle.ca_text.specs.declared.one_or_two.OneOrTwo.TheVariants.{One, Two}
 use Rattle.ca_claims.specs.declared.ruled.RuledPattern.{RuledPattern}
 use Rattle.ca_claims.specs.declared.ruled.UnnamedRule.{UnnamedRule}
 use Rattle.ca_claims.specs.declared.decide.ClaimTrees.{ClaimTrees}
@@ -30,11 +30,6 @@ use Rattle.ca_claims.specs.declared.verifier.agreement.Disagreement.TheVariants 
 use Rattle.ca_claims.specs.Means.{MayWantMemory}
 use Rattle.ca_claims.specs.Answers.{IsPatternFaultOn, HasLargeState, HasSmallStates}
 use Rattle.ca_claims.specs.Loaded.{IsLoaded}
-
--- one or two, as a list
-abbrev pub items : {T : Type 0} → OneOrTwo T → List T
-items (One only) = only ∷ []
-items (Two first second) = first ∷ second ∷ []
 
 -- a list has the elements of another, each once, which are one or two
 abbrev pub IsEachOnce : {X : Type 0} → List X → List X → Type 0

@@ -6,9 +6,9 @@ use Rattle.ca_quad.specs.declared.node.Node.{Node}
 use Rattle.ca_quad.specs.declared.tree.Tree.{Tree}
 use Rattle.ca_quad.specs.Trees as trees
 use Rattle.ca_rule.specs.Rule.{rule_value}
-use Rattle.ca_claims.specs.declared.claims.asks.Asks.{Asks}
-use Rattle.ca_claims.specs.declared.claims.asks.Wanted.{Wanted}
-use Rattle.ca_claims.specs.declared.claims.asks.Wanted.TheVariants.{Own, Other, NoCells}
+use Rattle.ca_text.specs.declared.asks.Asks.{Asks}
+use Rattle.ca_text.specs.declared.asks.Wanted.{Wanted}
+use Rattle.ca_text.specs.declared.asks.Wanted.TheVariants.{Own, Other, NoCells}
 use Rattle.ca_claims.specs.declared.decide.ClaimTrees.{ClaimTrees}
 use Rattle.ca_claims.specs.declared.limits.Limits.{Limits}
 use Rattle.ca_claims.specs.declared.refusal.About.TheVariants as about

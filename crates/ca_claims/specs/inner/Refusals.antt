@@ -1,6 +1,6 @@
 -- What the cause of a refusal is about.
 use Rattle.std.specs.Prelude.{◌≢◌, ℕ, ◌<◌, List, length}
-use Rattle.ca_claims.specs.declared.claims.asks.Asks.{Asks}
+use Rattle.ca_text.specs.declared.asks.Asks.{Asks}
 use Rattle.ca_claims.specs.declared.refusal.About.{About}
 use Rattle.ca_claims.specs.declared.refusal.About.TheVariants as about
 use Rattle.ca_claims.specs.declared.refusal.Refusal.{Refusal}
@@ -8,8 +8,8 @@ use Rattle.ca_claims.specs.declared.verdict.Cause.{Cause}
 use Rattle.ca_claims.specs.declared.verdict.Cause.TheVariants.{Work}
 use Rattle.ca_claims.specs.declared.verdict.Verdict.{Verdict}
 use Rattle.ca_claims.specs.declared.verdict.Verdict.TheVariants.{Yes, No, Refused}
-use Rattle.ca_claims.specs.Text.{Claim, patterns_of}
-use Rattle.ca_claims.specs.Places.{path_at}
+use Rattle.ca_text.specs.Text.{Claim, patterns_of}
+use Rattle.ca_text.specs.Places.{path_at}
 use Rattle.ca_claims.specs.Answers.{HasCause, IsOfClaim, IsOfPattern, IsOfRuleFile, IsTrueVerdict, IsWithinWork}
 use Rattle.ca_claims.specs.inner.Patterns.{FirstBadAt}
 

@@ -5,8 +5,8 @@ use Rattle.ca_plane.specs.Generations.{IsAfter}
 use Rattle.ca_plane.specs.Limits.{reach}
 use Rattle.ca_claims.specs.declared.verdict.Why.{Why}
 use Rattle.ca_claims.specs.declared.verdict.Why.TheVariants.{Earlier, Died}
-use Rattle.ca_claims.specs.declared.claims.asks.Barred.{Barred}
-use Rattle.ca_claims.specs.declared.claims.asks.Barred.TheVariants.{EmptyPlane}
+use Rattle.ca_text.specs.declared.asks.Barred.{Barred}
+use Rattle.ca_text.specs.declared.asks.Barred.TheVariants.{EmptyPlane}
 use Rattle.ca_claims.specs.Truth.{IsLiveAfter, ShowsNothingBarred, MayReturnBy}
 
 -- a coordinate in the square of a plane

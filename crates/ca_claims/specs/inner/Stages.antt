@@ -21,7 +21,7 @@ use Rattle.ca_claims.specs.declared.identification.strides.Stride.TheVariants.{O
 use Rattle.ca_claims.specs.declared.identification.walk.Walk.{Walk}
 use Rattle.ca_claims.specs.declared.identity.Growth.{Growth}
 use Rattle.ca_claims.specs.Identified.{IsGrowth, run_work}
-use Rattle.ca_claims.specs.Text.{IsShift}
+use Rattle.ca_text.specs.Text.{IsShift}
 use Rattle.ca_claims.specs.Truth.{IsChanged, IsNowhere}
 use Rattle.ca_claims.specs.inner.Returns.{IsBroad, IsWide, IsLifeSpan}
 use Rattle.ca_claims.specs.inner.Subjects.{ShowsTree, IsNearTree, HasLive}

@@ -10,9 +10,9 @@ use Rattle.ca_quad.specs.declared.tree.Tree.{Tree}
 use Rattle.ca_quad.specs.Trees.{IsTree, cell, IsTrimmed}
 use Rattle.ca_quad.specs.Shifted.{shifted_cells}
 use Rattle.ca_macro.specs.Pattern.{AreInRange}
-use Rattle.ca_claims.specs.declared.claims.asks.Asks.{Asks}
-use Rattle.ca_claims.specs.declared.claims.asks.Barred.{Barred}
-use Rattle.ca_claims.specs.declared.claims.asks.Barred.TheVariants.{EmptyPlane}
+use Rattle.ca_text.specs.declared.asks.Asks.{Asks}
+use Rattle.ca_text.specs.declared.asks.Barred.{Barred}
+use Rattle.ca_text.specs.declared.asks.Barred.TheVariants.{EmptyPlane}
 use Rattle.ca_claims.specs.declared.decide.ClaimTrees.{ClaimTrees}
 use Rattle.ca_claims.specs.declared.decide.Case.{Case}
 use Rattle.ca_claims.specs.declared.verdict.Why.{Why}

@@ -4,7 +4,7 @@ use Rattle.std.specs.List.{AllByRecursion}
 use Rattle.ca_claims.specs.declared.verifier.tables.FaultyTable.{FaultyTable}
 use Rattle.ca_claims.specs.declared.verifier.tables.Tables.{Tables}
 use Rattle.ca_claims.specs.declared.verifier.tables.Tables.TheVariants.{Missing, Faulty, Read}
-use Rattle.ca_claims.specs.Places.{path_at}
+use Rattle.ca_text.specs.Places.{path_at}
 use Rattle.ca_claims.specs.Answers.{IsBadTable, IsMissing, IsThere, HoldsTable, AreTables, FirstBad}
 
 -- this path is the first whose file is no good table, which has this fault

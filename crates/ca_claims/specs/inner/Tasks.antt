@@ -3,7 +3,7 @@ use Rattle.std.specs.Prelude.{◌≡◌, ℕ, ◌<◌, List, map, length}
 use Rattle.std.specs.List.{AllByRecursion}
 use Rattle.std.specs.Option.{option_copied}
 use Rattle.ca_claims.specs.declared.verifier.task.Task.{Task}
-use Rattle.ca_claims.specs.Text.{patterns_of, HasGoodNumbers}
+use Rattle.ca_text.specs.Text.{patterns_of, HasGoodNumbers}
 use Rattle.ca_claims.specs.Means.{bytes_at}
 use Rattle.ca_claims.specs.Limited.{AreGoodLimits}
 use Rattle.ca_claims.specs.inner.Tables.{AreRead}

@@ -3,7 +3,7 @@
 ghost use Rattle.std.specs.Prelude.{◌≡◌, ◌+◌, ◌/◌, ◌≤◌, [], IfOk, MatchOption};
 ghost use Rattle.ca_plane.specs.Plane.{Picture};
 ghost use Rattle.ca_plane.specs.Generations.{IsAfter};
-ghost use Rattle.ca_claims.specs.declared.claims.asks.Barred.TheVariants.{EmptyPlane};
+ghost use Rattle.ca_text.specs.declared.asks.Barred.TheVariants.{EmptyPlane};
 ghost use Rattle.ca_run.specs.Leaping.{LeaperGrows, EndsAtLimit};
 ghost use Rattle.ca_claims.specs.inner.Spending.{Takes, most_looks};
 ghost use Rattle.ca_claims.specs.inner.Returns.{IsSparedBefore, IsFirstDeath, IsLifeSpan};

@@ -14,12 +14,12 @@ ghost use Rattle.ca_claims.specs.inner.Subjects.{IsMove, IsNoMove, IsOnlyMove, I
 
 use super::primes::{prime_factor, without_prime};
 use super::{Case, moved_inside, tree_after};
-use crate::claims::Barred;
 use crate::observer::Observer;
 use crate::verdict::Why;
 use ca_plane::{Automaton, Memory};
 use ca_quad::{Store, Tree};
 use ca_run::{LeapFault, Leaper};
+use ca_text::Barred;
 use std::alloc::Global;
 
 /// The first return of the pattern before the claim's generations are over. Where the pattern is back then,

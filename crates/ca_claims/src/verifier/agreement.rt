@@ -4,16 +4,17 @@ ghost use Rattle.std.specs.Prelude.{IfOk, IfErr, MatchOption};
 ghost use Rattle.std.specs.List.{AllByRecursion};
 ghost use Rattle.ca_quad.specs.Trees.{IsTree};
 ghost use Rattle.ca_rule.specs.Rule.{rule_value};
-ghost use Rattle.ca_claims.specs.inner.Patterns.{items, FirstBadAt, ShowsLarge, ShowsSmall, AreOfOneRule};
+ghost use Rattle.ca_text.specs.OneOrTwo.{items};
+ghost use Rattle.ca_claims.specs.inner.Patterns.{FirstBadAt, ShowsLarge, ShowsSmall, AreOfOneRule};
 ghost use Rattle.ca_claims.specs.inner.Patterns.{AreMixed, Disagree};
 
-use super::one_or_two::OneOrTwo;
 use crate::cells::has_large_state;
 use crate::refusal::WhichPattern;
 use crate::ruled::RuledPattern;
 use ca_plane::Memory;
 use ca_quad::Store;
 use ca_rule::Rule;
+use ca_text::OneOrTwo;
 use std::alloc::Global;
 
 /// Why patterns have no one rule under which their states are small.

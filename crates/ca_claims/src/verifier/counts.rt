@@ -1,19 +1,19 @@
 //! What a claim is judged on, and whether the cells that it moves are too many.
 
 ghost use Rattle.std.specs.Prelude.{◌≡◌, OnOk, IfErr, Some};
-ghost use Rattle.ca_claims.specs.inner.Patterns.{items, AreBoth};
+ghost use Rattle.ca_text.specs.OneOrTwo.{items};
+ghost use Rattle.ca_claims.specs.inner.Patterns.{AreBoth};
 ghost use Rattle.ca_claims.specs.inner.PreparedClaim.{AreFewCounted, IsCountRefused, last_part, wanted_part};
 ghost use Rattle.ca_claims.specs.inner.PreparedClaim.{wanted_tree, refusal_for_count};
 ghost use Rattle.ca_claims.specs.inner.Subjects.{IsPattern};
 
-use super::one_or_two::OneOrTwo;
 use crate::cells::has_too_many_cells;
-use crate::claims::{Asks, Wanted};
 use crate::decide::ClaimTrees;
 use crate::refusal::{About, Refusal, WhichPattern};
 use crate::ruled::RuledPattern;
 use crate::verdict::Cause;
 use ca_quad::{Store, Tree};
+use ca_text::{Asks, OneOrTwo, Wanted};
 use std::alloc::Global;
 
 /// No memory for a claim.

@@ -3,17 +3,18 @@
 ghost use Rattle.std.specs.Prelude.{◌≡◌, IfOk, IfErr, MatchResult, Ok, Err};
 ghost use Rattle.std.specs.List.{AllZip};
 ghost use Rattle.ca_claims.specs.Means.{IsReadable};
-ghost use Rattle.ca_claims.specs.inner.Patterns.{items, FirstBadAt, IsReadFrom, IsUnread, HasName};
+ghost use Rattle.ca_text.specs.OneOrTwo.{items};
+ghost use Rattle.ca_claims.specs.inner.Patterns.{FirstBadAt, IsReadFrom, IsUnread, HasName};
 ghost use Rattle.ca_claims.specs.inner.Patterns.{IsUnnamedFor, IsRuledAs};
 
 use super::library::Library;
-use super::one_or_two::OneOrTwo;
 use crate::pattern::Loaded;
 use crate::read::BadPattern;
 use crate::refusal::WhichPattern;
 use crate::ruled::{RuledPattern, UnnamedRule, with_rule};
 use ca_quad::Store;
 use ca_rule::Table;
+use ca_text::OneOrTwo;
 use std::alloc::Global;
 
 /// Which of a claim's patterns is bad, and why.

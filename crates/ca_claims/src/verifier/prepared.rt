@@ -4,14 +4,15 @@ ghost use Rattle.std.specs.Prelude.{◌≡◌, ℕ, ◌<◌, List, map, length, 
 ghost use Rattle.std.specs.Prelude.{MatchResult};
 ghost use Rattle.std.specs.List.{AllByRecursion, AllZip};
 ghost use Rattle.std.specs.Option.{option_copied};
-ghost use Rattle.ca_claims.specs.Places.{path_at};
+ghost use Rattle.ca_text.specs.Places.{path_at};
 ghost use Rattle.ca_claims.specs.Means.{bytes_at};
 ghost use Rattle.ca_claims.specs.Answers.{AreTables};
 ghost use Rattle.ca_claims.specs.Limited.{AreGoodLimits};
 ghost use Rattle.ca_claims.specs.declared.refusal.About.TheVariants as abouts;
 ghost use Rattle.ca_claims.specs.declared.verdict.Cause.TheVariants as causes;
 ghost use Rattle.ca_claims.specs.inner.Found.{IsFound};
-ghost use Rattle.ca_claims.specs.inner.Patterns.{items, FirstBadAt};
+ghost use Rattle.ca_text.specs.OneOrTwo.{items};
+ghost use Rattle.ca_claims.specs.inner.Patterns.{FirstBadAt};
 ghost use Rattle.ca_claims.specs.inner.PreparedClaim.{IsPrepared, IsFit, reading_refusal};
 ghost use Rattle.ca_claims.specs.inner.PreparedClaim.{disagreement_refusal};
 ghost use Rattle.ca_claims.specs.inner.Refusals.{IsRefusal};
@@ -20,10 +21,8 @@ ghost use Rattle.ca_claims.specs.inner.Tables.{AreRead};
 use super::agreement::{Disagreement, agreed_rule};
 use super::counts::{OUT_OF_MEMORY, check_count, last_part, subject_of};
 use super::library::Library;
-use super::one_or_two::OneOrTwo;
 use super::patterns::{BadPart, read_each, with_rules};
 use super::tables::Tables;
-use crate::claims::Asks;
 use crate::decide::ClaimTrees;
 use crate::leaper::leaper_of;
 use crate::limits::Limits;
@@ -34,6 +33,7 @@ use crate::verdict::{Cause, PatternFault};
 use ca_quad::Store;
 use ca_rule::{Rule, Table};
 use ca_run::Leaper;
+use ca_text::{Asks, OneOrTwo};
 use std::alloc::Global;
 
 /// A leaper over the squares of a claim's patterns, under their one rule, and their trees.

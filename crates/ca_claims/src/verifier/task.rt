@@ -1,8 +1,8 @@
 //! What is to be judged.
 
 use super::needed::NeededFiles;
-use crate::claims::Claim;
 use crate::limits::Limits;
+use ca_text::Claim;
 
 /// A claim of a text, the bytes and the tables on which it is judged, and how much that may take.
 #[derive(Clone, Copy)]

@@ -1,8 +1,8 @@
 use Rattle.std.proofs.Common.{◌<◌, map, refl, sym, subst}
 use Rattle.std.specs.List.{AllByRecursion}
-use Rattle.ca_claims.specs.Text.{patterns_of, map_patterns}
-use Rattle.ca_claims.specs.Places.{path_at, named_path}
-use Rattle.ca_claims.specs.inner.Patterns.{items}
+use Rattle.ca_text.specs.Text.{patterns_of, map_patterns}
+use Rattle.ca_text.specs.Places.{path_at, named_path}
+use Rattle.ca_text.specs.OneOrTwo.{items}
 use Rattle.ca_claims.specs.inner.Refusals.{IsOnVerdict}
 use Rattle.ca_claims.proofs.judge.answer_to.Goals as goal
 

@@ -3,8 +3,8 @@ use Rattle.std.specs.List.{AllZip}
 use Rattle.std.specs.Option.{MatchOption, option_copied}
 use Rattle.ca_rule.specs.TableNext.{TableRule}
 use Rattle.ca_claims.specs.Means.{contents, bytes_at}
-use Rattle.ca_claims.specs.NeededFiles.{IsNeeded}
-use Rattle.ca_claims.specs.Text.{ClaimText}
+use Rattle.ca_text.specs.NeededFiles.{IsNeeded}
+use Rattle.ca_text.specs.Text.{ClaimText}
 use Rattle.ca_claims.specs.Answers.{AreTables}
 use Rattle.ca_claims.specs.inner.Kept.{AreFound}
 use Rattle.ca_claims.specs.Unknown.{AreUnknownRules}

@@ -2,10 +2,10 @@ use Rattle.std.proofs.Common.{◌≡◌, ◌≢◌, ℕ, List, refl, sym, ap, �
 use Rattle.std.specs.Prelude.{ℤ, pos, ◌↔◌}
 use Rattle.ca_plane.specs.Plane.{Picture, cell, shifted}
 use Rattle.ca_plane.specs.Generations.{after, IsAfter}
-use Rattle.ca_claims.specs.declared.claims.line.Kind.{Kind}
-use Rattle.ca_claims.specs.declared.claims.line.Kind.TheVariants.{Still, Oscillator, Spaceship, Becomes, BecomesShifted, Dies}
-use Rattle.ca_claims.specs.declared.claims.asks.Barred.TheVariants.{EmptyPlane}
-use Rattle.ca_claims.specs.Truth.{asks_of}
+use Rattle.ca_text.specs.declared.line.Kind.{Kind}
+use Rattle.ca_text.specs.declared.line.Kind.TheVariants.{Still, Oscillator, Spaceship, Becomes, BecomesShifted, Dies}
+use Rattle.ca_text.specs.declared.asks.Barred.TheVariants.{EmptyPlane}
+use Rattle.ca_text.specs.Asks.{asks_of}
 use Rattle.ca_claims.proofs.Times.{cell_shifted_0, unmoved}
 use Rattle.ca_claims.proofs.verdict_laws.false_claims.Goals as goal
 

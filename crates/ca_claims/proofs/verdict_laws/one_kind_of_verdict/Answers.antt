@@ -1,6 +1,6 @@
 use Rattle.ca_claims.specs.declared.verdict.Cause.TheVariants.{Work}
-use Rattle.ca_claims.specs.Text.{patterns_of}
-use Rattle.ca_claims.specs.Truth.{asks_of}
+use Rattle.ca_text.specs.Text.{patterns_of}
+use Rattle.ca_text.specs.Asks.{asks_of}
 use Rattle.ca_claims.proofs.Verdicts.{yes_or_no, judged_or_cause, one_cause, no_file_or_memory, bad_table_or_memory}
 use Rattle.ca_claims.proofs.verdict_laws.one_kind_of_verdict.Goals as goal
 

@@ -1,4 +1,4 @@
-use Rattle.ca_claims.specs.Truth.{asks_of}
+use Rattle.ca_text.specs.Asks.{asks_of}
 use Rattle.ca_claims.proofs.OneReason.{one_reason}
 use Rattle.ca_claims.proofs.verdict_laws.one_reason.Goals as goal
 

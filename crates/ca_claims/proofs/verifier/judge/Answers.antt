@@ -2,8 +2,8 @@ use Rattle.std.proofs.Common.{◌≡◌, ◌<◌, length, map, sym, subst}
 use Rattle.std.specs.List.{AllByRecursion}
 use Rattle.std.specs.Option.{option_copied}
 use Rattle.ca_rule.specs.Rule.{rule_value, next_of}
-use Rattle.ca_claims.specs.Text.{patterns_of, map_patterns}
-use Rattle.ca_claims.specs.Places.{path_at}
+use Rattle.ca_text.specs.Text.{patterns_of, map_patterns}
+use Rattle.ca_text.specs.Places.{path_at}
 use Rattle.ca_claims.specs.Means.{bytes_at}
 use Rattle.ca_claims.specs.declared.refusal.About.TheVariants.{Claim}
 use Rattle.ca_claims.specs.declared.verdict.Verdict.TheVariants.{Refused}
@@ -11,7 +11,7 @@ use Rattle.ca_claims.specs.declared.verdict.Cause.TheVariants.{Work}
 use Rattle.ca_claims.specs.Limited.{IsNoMoreThan}
 use Rattle.ca_claims.specs.Answers.{HasCause}
 use Rattle.ca_claims.specs.inner.Refusals.{IsJudgedOn}
-use Rattle.ca_claims.specs.inner.Patterns.{items}
+use Rattle.ca_text.specs.OneOrTwo.{items}
 use Rattle.ca_claims.specs.inner.Decided.{IsDecided}
 use Rattle.ca_claims.specs.inner.PreparedClaim.{IsPrepared}
 use Rattle.ca_claims.proofs.Causes.{once_paths, once_all, cause_of_all, passed_on, is_subject, true_verdict}

@@ -1,5 +1,5 @@
-use Rattle.ca_claims.specs.Text.{map_patterns}
-use Rattle.ca_claims.specs.Places.{path_at}
+use Rattle.ca_text.specs.Text.{map_patterns}
+use Rattle.ca_text.specs.Places.{path_at}
 use Rattle.ca_claims.proofs.verifier.verdict_on.Goals as goal
 
 pub returns-then-is_empty : goal.returns-then-is_empty

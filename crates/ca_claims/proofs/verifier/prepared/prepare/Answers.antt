@@ -1,6 +1,6 @@
 use Rattle.std.proofs.Common.{map, subst, sym}
-use Rattle.ca_claims.specs.Places.{path_at}
-use Rattle.ca_claims.specs.inner.Patterns.{items}
+use Rattle.ca_text.specs.Places.{path_at}
+use Rattle.ca_text.specs.OneOrTwo.{items}
 use Rattle.ca_claims.specs.inner.PreparedClaim.{IsPrepared}
 use Rattle.ca_claims.specs.inner.Refusals.{IsRefusal}
 use Rattle.ca_claims.proofs.Causes.{found_there, found_missing, all_there, passed_on}

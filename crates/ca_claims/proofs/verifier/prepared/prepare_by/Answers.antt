@@ -1,6 +1,6 @@
 use Rattle.std.proofs.Common.{sym, ap, subst}
 use Rattle.ca_rule.specs.Rule.{rule_value}
-use Rattle.ca_claims.specs.inner.Patterns.{items}
+use Rattle.ca_text.specs.OneOrTwo.{items}
 use Rattle.ca_claims.specs.declared.verifier.prepared.PreparedClaim.{PreparedClaim}
 use Rattle.ca_claims.specs.inner.PreparedClaim.{IsPrepared, IsCountRefused}
 use Rattle.ca_claims.specs.inner.Refusals.{IsRefusal}

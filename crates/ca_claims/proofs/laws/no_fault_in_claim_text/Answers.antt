@@ -1,5 +1,0 @@
-use Rattle.ca_claims.proofs.OneMeaning.{no_first_fault}
-use Rattle.ca_claims.proofs.laws.no_fault_in_claim_text.Goals as goal
-
-pub returns : goal.returns
-returns c = no_first_fault

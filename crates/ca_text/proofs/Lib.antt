@@ -1,0 +1,11 @@
+pub mod ClaimPatterns
+pub mod DistinctItems
+pub mod PathLists
+pub mod HeldNumbers
+pub mod LinesSaid
+pub mod ClaimsKept
+pub mod PathMarks
+pub mod NextLines
+pub mod AllLines
+pub mod OneMeaning
+pub mod RuleLines

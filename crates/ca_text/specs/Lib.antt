@@ -1,0 +1,10 @@
+pub mod Words
+pub mod Text
+pub mod TextFaults
+pub mod Asks
+pub mod OneOrTwo
+pub mod SomeOf
+pub mod Places
+pub mod NeededFiles
+pub mod Examples
+pub mod inner

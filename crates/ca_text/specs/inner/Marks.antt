@@ -1,0 +1,15 @@
+-- Marks of paths, by their indices.
+use Rattle.std.specs.Prelude.{ℕ, List, [], ◌∷◌, map, set, Bool, true}
+use Rattle.ca_text.specs.declared.line.ClaimLine.{ClaimLine}
+use Rattle.ca_text.specs.declared.line.NamePlace.{NamePlace}
+use Rattle.ca_text.specs.Text.{patterns_of}
+
+-- the marks, with those at these indices set
+abbrev pub with_marks : List Bool → List ℕ → List Bool
+with_marks marks [] = marks
+with_marks marks (i ∷ is) = with_marks (set marks i true) is
+
+-- and with those of all patterns of these claims
+abbrev pub claims_marked : List Bool → List (ClaimLine NamePlace) → List Bool
+claims_marked marks [] = marks
+claims_marked marks (l ∷ ls) = claims_marked (with_marks marks (map (λ p. p.path) (patterns_of l.claim))) ls

@@ -1,0 +1,25 @@
+//! Claim texts: which lines say what, which files they name, and what their claims ask.
+#![tactic(auto)]
+
+mod asks;
+mod claims;
+mod fault;
+mod laws;
+mod limits;
+mod line;
+mod marks;
+mod numbers;
+mod one_or_two;
+mod reading;
+mod version;
+mod word_set;
+mod words;
+
+pub use asks::{Asks, Barred, Wanted};
+pub use claims::Claims;
+pub use fault::ClaimFault;
+pub use laws::{no_fault_in_claim_text, one_fault, one_meaning, worked_examples};
+pub use line::{Claim, ClaimLine, Kind, NamedPath};
+pub use one_or_two::OneOrTwo;
+pub use reading::read_claims;
+pub use word_set::WordSet;
