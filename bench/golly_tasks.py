@@ -3,7 +3,7 @@ import itertools
 import random
 from dataclasses import dataclass
 
-import step
+from naive import cells_and_rule, folded
 
 TABLES = "examples/tables"
 
@@ -26,7 +26,7 @@ class Soup:
         chance, tags, others = random.Random(self.side), ".A" if self.rule.count("/") == 2 else "bo", {}
         if self.beside:
             with open(self.beside, encoding="ascii") as file:
-                others = step.read(file.read())[0]
+                others = cells_and_rule(file.read())[0]
         wide = max((x + 1 for x, _ in others), default=-GAP) + GAP
         for y in range(self.side):
             row = chance.choices(tags, (1 - self.live, self.live), k=self.side)
@@ -39,7 +39,7 @@ class Soup:
             for row in self.rows():
                 runs = ((tag, len([*run])) for tag, run in itertools.groupby(row))
                 items = [f"{count if count > 1 else ''}{tag}" for tag, count in runs]
-                file.write(f"{step.folded([*items, '$'])}\n")
+                file.write(f"{folded([*items, '$'])}\n")
             file.write("!\n")
 
 

@@ -10,8 +10,7 @@ import subprocess
 import sys
 import tempfile
 
-import step
-from rule_table import read_table
+from naive import cells_and_rule, read_table, tidy
 from soup import PROGRAM, report
 
 TABLES = "examples/tables"
@@ -37,15 +36,15 @@ def copies(cells, across, down, wide, high):
 def write_planes(folder):
     """Writes the planes into the folder."""
     wires, loops = read_table(contents("wireworld.rule")), read_table(contents("langtons_loop.rule"))
-    loop, two_loops = (step.read(contents(f"{name}.rle"))[0] for name in ("langtons_loop", "langtons_loop_151"))
+    loop, two_loops = (cells_and_rule(contents(f"{name}.rle"))[0] for name in ("langtons_loop", "langtons_loop_151"))
     for name, cells, rule in (
         ("wires", copies(ring(), 22, 23, 102, 5), wires),
         ("loops", copies(loop, 40, 30, 40, 30), loops),
         ("few_loops", copies(loop, 10, 10, 40, 30), loops),
         ("few_loops_151", copies(two_loops, 10, 10, 40, 30), loops),
     ):
-        with open(os.path.join(folder, f"{name}.rle"), "w", encoding="ascii") as file:
-            file.write(step.write(cells, rule))
+        with open(os.path.join(folder, f"{name}.rle"), "wb") as file:
+            file.write(tidy(cells, rule.name, 0, rule.states))
         print(f"{name}: {len(cells)} live cells", flush=True)
 
 

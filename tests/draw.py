@@ -13,10 +13,10 @@ import termios
 import tty
 
 from lib import macrocell, planes, rows
-from lib.claim_reader import next_cells
 from lib.pictures import box_of, cells_squares, drawn, picture, squares_of, wanted_window
 from lib.program import EXAMPLES, MOST_WAITING, PROGRAM, ROOT, Folder, Outcome, Tally, ample, contents, fault, run
 from lib.rle_reader import PatternFile
+from lib.steps import next_live
 
 # How far from 0 the columns and rows of a window may be.
 REACH = 1 << 124
@@ -241,7 +241,7 @@ def try_after(tally, files):
     tree = macrocell.tree_of(dict.fromkeys(cells, 1))
     path = files.path("odd.mc", macrocell.tidy(macrocell.Pattern(tree, "B36/S125", 17), 2))
     for _ in range(3):
-        cells = next_cells(cells, (3, 6), (1, 2, 5))
+        cells = next_live(cells, (3, 6), (1, 2, 5))
     tally.expect("another rule after 3", run(["draw", path, "--after", "3"]), ample(drawn(dict.fromkeys(cells, 1), 2)))
     late = files.path("late.rle", f"#CXRLE Gen={(1 << 63) - 5}\n" + GLIDER)
     tally.expect("the last generation", run(["draw", late, "--after", "4"]), ample(b".o.\n..o\nooo\n"))

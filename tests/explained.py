@@ -6,7 +6,7 @@ import random
 import re
 import tempfile
 
-from lib import macrocell, rle
+from lib import macrocell, rle, steps
 from lib.claim_text import ClaimText, outcome, printed
 from lib.program import Folder, Tally, run
 from macrocell import FAULTS, FULL
@@ -255,7 +255,7 @@ def is_told(note, name, patterns, generations, claimed):
 
 def try_soups(texts):
     """Of many cells that differ any is told, and it does."""
-    chance, rule, complaints, count = random.Random(1), rle.step.Counting("B3/S23"), [], 0
+    chance, rule, complaints, count = random.Random(1), steps.Counting("B3/S23"), [], 0
     for at in range(12):
         cells, other = soup(chance, 9), soup(chance, 9)
         text = texts.text()
@@ -270,7 +270,7 @@ def try_soups(texts):
         lines = run(["verify", "--explain", text.write()]).printed.split(b"\n")
         for (claim, after, claimed), line, note in zip(claims, lines[::2], lines[1::2]):
             count += 1
-            later = rle.step.steps(cells, rule, after)
+            later = steps.steps(cells, rule, after)
             if not line.endswith(differs(after).encode()) or not is_told(note, "soup", later, after, claimed):
                 complaints.append(f"soup {at}, {claim}: {line}, {note}")
         if len(lines) != 2 * len(claims) + 1 or lines[-1]:

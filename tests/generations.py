@@ -7,17 +7,13 @@ import random
 import re
 import shutil
 import subprocess
-import sys
 import tempfile
 
 from explained import Texts, differs
 from leaps_beside_steps import CORNERS, EDGE, Text, claim_returns, judge, moved, random_cells, returning
-from lib import macrocell, rle
-from lib.program import ROOT, Folder, Tally, ample, fault, run
+from lib import macrocell, rle, steps
+from lib.program import Folder, Tally, ample, fault, run
 from texts import Table
-
-sys.path.append(os.path.join(ROOT, "bench"))
-import step  # noqa: E402
 
 BGOLLY = shutil.which("bgolly")
 
@@ -157,22 +153,10 @@ def pattern(rule, text):
     return re.sub(r"^(#.*\n)?", lambda place: place[0] + header(rule), text, count=1)
 
 
-def aged(cells, rule):
-    """The cells one generation on: each live cell is counted at the eight places round it, then each cell ages, and then cells are born."""
-    counts = {}
-    for (x, y), state in cells.items():
-        if state == 1:
-            for place in ((x + dx, y + dy) for dx in (-1, 0, 1) for dy in (-1, 0, 1) if dx or dy):
-                counts[place] = counts.get(place, 0) + 1
-    later = {place: 1 if state == 1 and counts.get(place, 0) in rule.survival else state + 1 for place, state in cells.items()}
-    later |= {place: 1 for place, count in counts.items() if place not in cells and count in rule.birth}
-    return {place: state for place, state in later.items() if state < rule.states}
-
-
 def after(cells, rule, count):
     """The cells after so many generations."""
     for _ in range(count):
-        cells = aged(cells, rule)
+        cells = steps.aged(cells, rule)
     return cells
 
 
@@ -258,7 +242,7 @@ def try_converted(tally, files):
     """Patterns in both formats, with states as letters where there are more than two."""
     chance = random.Random(62)
     for rule_text in ("23/3/2", "23/3/3", "345/2/4", "/2/24", "/2/25", "/2/26", "45678/3/256", "0/2/3"):
-        rule, complaints = step.Aging(rule_text), []
+        rule, complaints = steps.Aging(rule_text), []
         for cells in ({(x, 0): 1 for x in range(3)}, {}, moved(random_cells(chance, 9, 7, rule.states), (-4, 100)), {(at, 3): at for at in range(1, rule.states)}):
             pattern_of = macrocell.Pattern(macrocell.tree_of(cells), rule.name, 0)
             tidy, tree = rle.tidy(cells, rule.name, 0, rule.states), macrocell.tidy(pattern_of, rule.states)
@@ -287,7 +271,7 @@ def try_returns(tally, files):
 def random_planes(chance):
     """A random plane for each rule, with a number of generations."""
     for rule_text in RULES:
-        rule = step.Aging(rule_text)
+        rule = steps.Aging(rule_text)
         cells = random_cells(chance, chance.randint(3, 40), chance.randint(3, 40), 2)
         # most cells are live, and the others of any state
         cells = {place: 1 if chance.random() < 0.8 else chance.randrange(1, rule.states) for place in cells}
@@ -301,7 +285,7 @@ def try_planes(tally, files):
     for rule_text, rule, cells, count in random_planes(chance):
         at = chance.choice(CORNERS), chance.choice(CORNERS)
         text.becomes(chance, moved(cells, at), rule, count, moved(after(cells, rule, count), at))
-        complaints += [f"{rule_text}: the steppers differ"] if after(cells, rule, 2) != step.steps(cells, rule, 2) else []
+        complaints += [f"{rule_text}: the steppers differ"] if after(cells, rule, 2) != steps.steps(cells, rule, 2) else []
     tally.tell("the naive steppers agree", complaints)
     judge(tally, "random planes", text)
 

@@ -8,8 +8,8 @@ import re
 import tempfile
 
 from lib import remedies, rle
-from lib.claim_reader import next_cells
 from lib.program import EXAMPLES, ROOT, Folder, Outcome, Tally, ample, fault, run
+from lib.steps import next_live
 from lib.work import excess, timed
 
 # Patterns of examples/ whose claims are known from elsewhere: the field's names for them, or docs/CLAIMS.md.
@@ -136,7 +136,7 @@ def told_of(cells, birth, survival, limit, begun=0):
     left, top = min(x for x, _ in cells), min(y for _, y in cells)
     first, now = frozenset((x - left, y - top) for x, y in cells), cells
     for generation in range(1, limit + 1):
-        now = next_cells(now, birth, survival)
+        now = next_live(now, birth, survival)
         if not now:
             return f"dies {generation}"
         west, north = min(x for x, _ in now), min(y for _, y in now)
@@ -233,7 +233,7 @@ def try_limits(tally):
                          whole(entry(base_name(path), path, shown_after(path, limit - 1))))
     path, now, settled = "examples/r_pentomino.rle", {(1, 0), (2, 0), (0, 1), (1, 1), (1, 2)}, []
     for generation in range(1, 1109):
-        now = next_cells(now, {3}, {2, 3})
+        now = next_live(now, {3}, {2, 3})
         if generation in (1, 7, 100, 1000):
             tally.expect(f"the R-pentomino, as far as {generation}", run(["identify", path, "--limit", str(generation)]), whole(entry("r_pentomino", path, none_of(now, generation))))
         if generation in (1104, 1108):
@@ -292,7 +292,7 @@ def try_after(tally, files):
             cells = frozenset((place % 3, place // 3) for place in range(9) if number >> place & 1)
             paths.append(files.path(f"later_{number}.rle", rle.tidy({it: 1 for it in cells}, "B3/S23", 5, 2)))
             for _ in range(generations):
-                cells = next_cells(cells, {3}, {2, 3})
+                cells = next_live(cells, {3}, {2, 3})
             tolds.append(told_of(cells, {3}, {2, 3}, limit, generations))
         lines = "".join(later_entry(name, path, generations, told) for name, path, told in zip(names_of(paths), paths, tolds))
         got = run(["identify", "--after", str(generations), "--limit", str(limit), *paths])

@@ -1,18 +1,13 @@
 #!/usr/bin/env -S python3 -B
-"""Leaps beside the naive steps of bench/: random planes under random rules and tables, anywhere on the plane, and small patterns that come back, after
+"""Leaps beside the naive steps of lib/steps.py: random planes under random rules and tables, anywhere on the plane, and small patterns that come back, after
 any number of generations."""
-import os
 import random
-import sys
 import tempfile
 
-from lib import rle
+from lib import rle, steps
 from lib.claim_text import ClaimText, outcome
-from lib.program import ROOT, Folder, Tally, run
+from lib.program import Folder, Tally, run
 from tables import random_tables
-
-sys.path.append(os.path.join(ROOT, "bench"))
-import step  # noqa: E402
 
 # Cells of files lie from -EDGE to EDGE - 1. The longest period, and the most cells of a plane that is stepped here.
 EDGE, LONGEST, MOST = 1 << 60, (1 << 32) - 1, 3000
@@ -41,7 +36,7 @@ def random_rule(chance):
     suffix, most = chance.choice((("", 8), ("", 8), ("V", 4), ("H", 6)))
     birth = [str(it) for it in range(1, most + 1) if chance.random() < 0.35 and it > chance.choice((0, 1, 1))]
     survival = [str(it) for it in range(most + 1) if chance.random() < 0.4]
-    return step.Counting(f"B{''.join(birth)}/S{''.join(survival)}{suffix}")
+    return steps.Counting(f"B{''.join(birth)}/S{''.join(survival)}{suffix}")
 
 
 def random_cells(chance, wide, high, states):
@@ -99,7 +94,7 @@ def stepped(cells, rule, count):
     for done in range(count):
         if len(cells) > MOST:
             return cells, done
-        cells = step.step(cells, rule)
+        cells = steps.step(cells, rule)
     return cells, count
 
 
@@ -151,12 +146,12 @@ class Returning:
 
 def returning(name, body):
     """A pattern that comes back, with its generations until then."""
-    rule = step.rule_of(name)
-    cells, _ = step.read(f"x = 1, y = 1, rule = {name}\n{body}\n")
+    rule = steps.rule_of(name)
+    cells, _ = rle.cells_and_rule(f"x = 1, y = 1, rule = {name}\n{body}\n")
     left, top = corner(cells)
     shape, planes = moved(cells, (-left, -top)), [cells]
     while True:
-        now = step.step(planes[-1], rule)
+        now = steps.step(planes[-1], rule)
         x, y = corner(now)
         if moved(now, (-x, -y)) == shape:
             return Returning(rule, planes, (x - left, y - top))

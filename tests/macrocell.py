@@ -7,10 +7,9 @@ import random
 import re
 import tempfile
 
-from lib import macrocell, rle
+from lib import macrocell, rle, steps
 from lib.macrocell import EDGE
 from lib.program import Tally, ample, fault, run
-from lib.rle import step
 from texts import Table
 
 
@@ -341,7 +340,7 @@ def claim_of(table, chance, pattern, text):
     """Claims of a text that its plane is the pattern's, isn't one of a cell less, and becomes what naive steps come to."""
     cells, rule = pattern.tree.cells(), pattern.rule
     table.becomes(text, 0, rle.tidy(cells, rule, 0, 2))
-    later = step.steps(cells, step.Counting(rule), 2)
+    later = steps.steps(cells, steps.Counting(rule), 2)
     if all(-EDGE <= it < EDGE for place in later for it in place):
         table.becomes(text, 2, rle.tidy(later, rule, 0, 2))
     if cells:

@@ -1,19 +1,14 @@
 #!/usr/bin/env -S python3 -B
 """Claims of the second version, of patterns that become another one moved and of patterns that die: where they may stand, what each comes to, the notes of an
-explained run, random planes beside the naive steps of bench/, and large planes. What is expected was worked out by hand, or by the steps."""
-import os
+explained run, random planes beside the naive steps of lib/steps.py, and large planes. What is expected was worked out by hand, or by the steps."""
 import random
-import sys
 import tempfile
 
 from leaps_beside_steps import CORNERS, EDGE, RETURNING, Text, judge, moved, one_changed, random_cells, random_rule, returning, stepped
-from lib import rle
+from lib import steps
 from lib.claim_text import outcome
-from lib.program import ROOT, Folder, Outcome, Tally, fault, run
+from lib.program import Folder, Outcome, Tally, fault, run
 from macrocell import FULL
-
-sys.path.append(os.path.join(ROOT, "bench"))
-import step  # noqa: E402
 
 HEADER = "x = 1, y = 1, rule = B3/S23\n"
 FILES = {
@@ -195,7 +190,7 @@ def life_span(cells, rule, most):
             return count
         if len(cells) > 300:
             return None
-        cells = step.step(cells, rule)
+        cells = steps.step(cells, rule)
     return None
 
 
@@ -229,10 +224,10 @@ def try_large(tally, files):
     for count, verdict in ((50000, "yes"), (49999, "no, cells differ after 49999"), (50001, "no, empty after 50000"), (EDGE, "no, empty after 50000")):
         text.claim(f"dies fuse {count}", verdict)
     chance = random.Random(64)
-    rule = step.rule_of("B3/S23")
+    rule = steps.rule_of("B3/S23")
     soup = {(x, y): 1 for x in range(520) for y in range(520) if chance.random() < 0.375}
     text.plane("soup", soup, rule)
-    text.plane("later", moved(step.step(soup, rule), (-(1 << 40), 77777)), rule)
+    text.plane("later", moved(steps.step(soup, rule), (-(1 << 40), 77777)), rule)
     text.claim(f"becomes soup 1 later shift {1 << 40} -77777", "yes")
     text.claim(f"becomes soup 1 later shift {1 << 40} -77776", "no, cells differ after 1")
     judge(tally, "large planes", text)

@@ -1,16 +1,13 @@
 #!/usr/bin/env -S python3 -B
 """Rule files too small and too many for examples/. What is wrong with each was worked out by hand; what random tables come to, by the naive reader and
-stepper of bench/."""
+stepper of tests/lib."""
 import os
 import random
-import sys
 import tempfile
 
-from lib.program import ROOT, Outcome, Tally, fault, lines_outcome, run
-
-sys.path.append(os.path.join(ROOT, "bench"))
-import rule_table  # noqa: E402
-import step  # noqa: E402
+from lib import rle, rule_table
+from lib.program import Outcome, Tally, fault, lines_outcome, run
+from lib.steps import step, steps
 
 # A small table. Most texts below are this one with one line changed, of which there may be several after that, or none.
 SPREAD = ("@RULE Spread", "@TABLE", "n_states:3", "neighborhood:vonNeumann", "symmetries:rotate4", "var a={1,2}", "0,a,0,0,0,a")
@@ -455,8 +452,8 @@ class Texts:
     def becomes(self, cells, rule, generations, later, verdict="yes"):
         """Puts the claim that the cells become the later ones under a rule of this name."""
         name, other = f"a{len(self.lines)}", f"b{len(self.lines)}"
-        self.line(f"load {name} {self.path(step.write(cells, rule))}")
-        self.line(f"load {other} {self.path(step.write(later, rule))}")
+        for word, it in ((name, cells), (other, later)):
+            self.line(f"load {word} {self.path(rle.tidy(it, rule.name, 0, rule.states).decode('latin-1'))}")
         self.line(f"becomes {name} {generations} {other}", verdict)
 
     def complaints(self):
@@ -644,7 +641,7 @@ def try_random_tables(tally, folder):
     for it, table in random_tables(chance, 30):
         texts.rule(it.text)
         generations = chance.randint(1, 3)
-        later = step.steps(it.cells, table, generations)
+        later = steps(it.cells, table, generations)
         texts.becomes(it.cells, table, generations, later)
         place = chance.choice([*later, (0, 0)])
         others = {**later, place: (later.get(place, 0) + chance.randrange(1, table.states)) % table.states}
@@ -682,7 +679,7 @@ def try_mutilated_tables(tally, folder):
             elif table.states < 3:
                 verdict = "refused, state too large"
             else:
-                later = step.step(DOT, table)
+                later = step(DOT, table)
         except rule_table.Fault as it:
             kind, verdict = it.kind, f"refused, bad table: {it.kind}"
         complaints += one_step(folder, text, later, verdict)

@@ -6,6 +6,7 @@ from dataclasses import dataclass
 from lib.macrocell import EDGE, number
 from lib.program import escaped
 from lib.rle_reader import Fault, WORD, PatternFile, lines_of
+from lib.steps import next_live
 
 MOST_PERIOD = 4294967295
 
@@ -84,15 +85,6 @@ def moved(cells, vector):
     return frozenset((x + vector[0], y + vector[1]) for x, y in cells)
 
 
-def next_cells(cells, birth, survival):
-    """The live cells one generation on."""
-    counts = {}
-    for x, y in cells:
-        for place in ((x + dx, y + dy) for dx in (-1, 0, 1) for dy in (-1, 0, 1) if dx or dy):
-            counts[place] = counts.get(place, 0) + 1
-    return frozenset(place for place, count in counts.items() if count in (survival if place in cells else birth))
-
-
 def vector_between(cells, others):
     """The vector by which the first cells are to be moved to be the others; None where there is none."""
     if not cells or not others:
@@ -108,7 +100,7 @@ class Course:
         birth, survival = ({int(it) for it in digits} for digits in re.fullmatch(r"B(\d*)/S(\d*)", file.rule).groups())
         self.planes = [frozenset(file.drawn().cells())]
         while True:
-            cells = next_cells(self.planes[-1], birth, survival)
+            cells = next_live(self.planes[-1], birth, survival)
             vectors = [vector_between(it, cells) for it in self.planes]
             if any(it is not None for it in vectors):
                 self.first = next(at for at, it in enumerate(vectors) if it is not None)

@@ -1,12 +1,58 @@
-"""Tidy RLE texts of planes of any extent, written as docs/FORMATS.md says, apart from the program."""
-import os
-import sys
+"""Tidy RLE texts of planes of any extent, written as docs/FORMATS.md says, and the cells of usual ones: apart from the program."""
+import re
 
-from lib.program import ROOT
 
-sys.path.append(os.path.join(ROOT, "bench"))
-import step  # noqa: E402
-from step import folded, tag_of  # noqa: E402
+def state_of(tag):
+    """The state that a tag of RLE stands for."""
+    if tag in "b.":
+        return 0
+    if tag == "o":
+        return 1
+    prefix = "pqrstuvwxy".index(tag[0]) + 1 if len(tag) == 2 else 0
+    return 24 * prefix + ord(tag[-1]) - ord("A") + 1
+
+
+def tag_of(state, states):
+    """The tag that stands for a state."""
+    if states == 2:
+        return "bo"[state]
+    if state == 0:
+        return "."
+    prefix, letter = divmod(state - 1, 24)
+    return " pqrstuvwxy"[prefix].strip() + chr(ord("A") + letter)
+
+
+def cells_and_rule(text):
+    """The cells of a usual RLE text that aren't 0, by their places, and its rule text. tests/lib/rle_reader.py reads all others."""
+    lines = text.splitlines()
+    corner = (0, 0)
+    for line in lines:
+        if position := re.match(r"#CXRLE.*Pos=(-?\d+),(-?\d+)", line):
+            corner = (int(position[1]), int(position[2]))
+    rest = [line for line in lines if not line.startswith("#")]
+    rule = re.search(r"rule\s*=\s*(\S+)", rest[0])
+    cells, (x, y) = {}, corner
+    for count, tag in re.findall(r"(\d*)([b.o$!]|[p-y]?[A-X])", "".join(rest[1:])):
+        count = int(count or 1)
+        if tag == "!":
+            break
+        if tag == "$":
+            x, y = corner[0], y + count
+            continue
+        if state := state_of(tag):
+            cells |= {(x + k, y): state for k in range(count)}
+        x += count
+    return cells, rule[1] if rule else "B3/S23"
+
+
+def folded(items):
+    """The items in lines of at most 70 characters."""
+    lines = [""]
+    for item in items:
+        if len(lines[-1]) + len(item) > 70:
+            lines.append("")
+        lines[-1] += item
+    return "\n".join(lines)
 
 
 def counted(count, tag):
