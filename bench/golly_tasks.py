@@ -5,7 +5,7 @@ from dataclasses import dataclass
 
 from naive import cells_and_rule, folded
 
-TABLES = "examples/tables"
+TABLES, MORE_TABLES = "examples/tables", "tests/files/tables"
 
 # How far beside a soup a pattern is.
 GAP = 60
@@ -98,13 +98,13 @@ TASKS = (
     Task("enterprise gun, 100000", "Life-Like/Morley/enterprise-gun.rle", 100000, quick=True),
     Task("worm 1042015, 30000", "Patersons-Worms/worm-1042015.rle", 30000, rule="../Rules/Worm-1042015.rule"),
     Task("worm 1525115, 30000", "Patersons-Worms/worm-1525115.rle", 30000, rule="../Rules/Worm-1525115.rule"),
-    Task("Langton's loop, 10000", f"{TABLES}/langtons_loop.rle", 10000, rule=f"{TABLES}/langtons_loop.rule"),
+    Task("Langton's loop, 10000", f"{MORE_TABLES}/langtons_loop.rle", 10000, rule=f"{MORE_TABLES}/langtons_loop.rule"),
     Task("Langton's loops, 10000", "Loops/Langtons-Loops.rle", 10000, rule="../Rules/Langtons-Loops.rule"),
     Task("WireWorld primes, 10000", "WireWorld/primes.mc", 10000, rule=f"{TABLES}/wireworld.rule"),
     Task("full square, still", "examples/macrocell/full_square.mc", 1, claim="still a", verdict="no, cells differ after 1"),
     Task("period 57960", "examples/period_57960.rle", 57960, claim="oscillator a 57960"),
     Task("cycles, 223092870", f"{TABLES}/cycles.rle", 223092870, rule=f"{TABLES}/cycles.rule", claim="oscillator a 223092870"),
-    Task("spaceship, 162 x 2^24", "examples/period_162_ship.rle", 162 << 24, claim=f"spaceship a {162 << 24} 0 {-10 << 24}",
+    Task("spaceship, 162 x 2^24", "tests/files/period_162_ship.rle", 162 << 24, claim=f"spaceship a {162 << 24} 0 {-10 << 24}",
          verdict="no, the same after 162, shifted by 0,-10"),
 )
 

@@ -17,7 +17,7 @@ GOLLY = "/usr/share/golly/Patterns/Life/Breeders/"
 LEAPS = (
     ("examples/r_pentomino.rle", 4096),
     ("examples/r_pentomino.rle", 2**20),
-    ("examples/gun_30.rle", 2**40),
+    ("tests/files/gun_30.rle", 2**40),
     (GOLLY + "LWSS-breeder.rle", 2**16),
     (GOLLY + "LWSS-breeder.rle", 2**30),
 )

@@ -91,15 +91,14 @@ def main():
         time_soup(folder, 4000, 4000 * 16 // 11)
         time_most_cells(folder)
         for name, claim in (
-            ("r_pentomino", "becomes p 1103 p"),
-            ("queen_bee_shuttle", "oscillator p 30"),
-            ("copperhead", "spaceship p 10 0 -1"),
-            ("period_840", "oscillator p 840"),
-            ("period_162_ship", "spaceship p 162 0 -10"),
-            ("blinker", "becomes p 100000 p"),
+            ("examples/r_pentomino.rle", "becomes p 1103 p"),
+            ("tests/files/queen_bee_shuttle.rle", "oscillator p 30"),
+            ("tests/files/copperhead.rle", "spaceship p 10 0 -1"),
+            ("tests/files/period_840.rle", "oscillator p 840"),
+            ("tests/files/period_162_ship.rle", "spaceship p 162 0 -10"),
+            ("examples/blinker.rle", "becomes p 100000 p"),
         ):
-            path = os.path.abspath(f"examples/{name}.rle")
-            report(folder, f"{name}, {claim}", f"load p {path}\n{claim}\n")
+            report(folder, f"{os.path.basename(name)[:-4]}, {claim}", f"load p {os.path.abspath(name)}\n{claim}\n")
     return 0
 
 

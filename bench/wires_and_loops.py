@@ -13,12 +13,12 @@ import tempfile
 from naive import cells_and_rule, read_table, tidy
 from soup import PROGRAM, report
 
-TABLES = "examples/tables"
+WIRES, LOOPS = "examples/tables/wireworld", "tests/files/tables/langtons_loop"
 
 
-def contents(name):
-    """The text of a file of examples/tables/."""
-    with open(f"{TABLES}/{name}", encoding="latin-1", newline="") as file:
+def contents(path):
+    """The text of a file of this repository."""
+    with open(path, encoding="latin-1", newline="") as file:
         return file.read()
 
 
@@ -35,8 +35,8 @@ def copies(cells, across, down, wide, high):
 
 def write_planes(folder):
     """Writes the planes into the folder."""
-    wires, loops = read_table(contents("wireworld.rule")), read_table(contents("langtons_loop.rule"))
-    loop, two_loops = (cells_and_rule(contents(f"{name}.rle"))[0] for name in ("langtons_loop", "langtons_loop_151"))
+    wires, loops = read_table(contents(f"{WIRES}.rule")), read_table(contents(f"{LOOPS}.rule"))
+    loop, two_loops = (cells_and_rule(contents(f"{name}.rle"))[0] for name in (LOOPS, f"{LOOPS}_151"))
     for name, cells, rule in (
         ("wires", copies(ring(), 22, 23, 102, 5), wires),
         ("loops", copies(loop, 40, 30, 40, 30), loops),
@@ -59,12 +59,12 @@ def main():
         # a process of its own makes them, since the memory of a run is counted from that of the process that starts it
         subprocess.run([sys.executable, __file__, folder], check=True)
         for rule, name, other, claims in (
-            ("wireworld", "wires", "wires", ("becomes a 0 b", "becomes a 6 b", "becomes a 60 b")),
-            ("langtons_loop", "loops", "loops", ("becomes a 0 b", "becomes a 10 b")),
-            ("langtons_loop", "few_loops", "few_loops_151", ("becomes a 0 b", "becomes a 151 b")),
+            (WIRES, "wires", "wires", ("becomes a 0 b", "becomes a 6 b", "becomes a 60 b")),
+            (LOOPS, "loops", "loops", ("becomes a 0 b", "becomes a 10 b")),
+            (LOOPS, "few_loops", "few_loops_151", ("becomes a 0 b", "becomes a 151 b")),
         ):
             for claim in claims:
-                report(folder, f"{name}, {claim}", f"rule {TABLES}/{rule}.rule\nload a {folder}/{name}.rle\nload b {folder}/{other}.rle\n{claim}\n")
+                report(folder, f"{name}, {claim}", f"rule {rule}.rule\nload a {folder}/{name}.rle\nload b {folder}/{other}.rle\n{claim}\n")
     return 0
 
 

@@ -8,7 +8,8 @@ import tempfile
 
 from leaps_beside_steps import CORNERS, EDGE, RETURNING, moved, random_cells, random_rule, returning, stepped
 from lib import macrocell, rle
-from lib.program import EXAMPLES, Folder, Tally, ample, fault, run
+from lib.gallery import found
+from lib.program import Folder, Tally, ample, fault, run
 from show_and_convert import COMMANDS, PATTERNS, SPREAD, with_file
 from tables import random_tables
 
@@ -95,9 +96,8 @@ def try_edges(tally, files):
 def try_zero(tally, files):
     """What is printed after no generations is what is printed without."""
     planes = Planes(files)
-    names = [name for name in sorted(os.listdir(EXAMPLES)) if name.endswith(".rle")] + [f"macrocell/{name}" for name in sorted(os.listdir(os.path.join(EXAMPLES, "macrocell"))) if name.endswith(".mc")]
-    for name, command in itertools.product(names, COMMANDS):
-        words = with_file(command, f"examples/{name}")
+    for path, command in itertools.product(found("*.rle", "macrocell/*.mc"), COMMANDS):
+        words = with_file(command, path)
         planes.expect([*words, "--after", "0"], run(words))
     spread = files.path("spread.rule", SPREAD)
     for (name, (text, told)), command, count in itertools.product(PATTERNS.items(), COMMANDS, (0, 1, MOST)):

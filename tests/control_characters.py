@@ -43,7 +43,7 @@ def try_paths(tally, files):
         path, told = os.path.join(files.folder.encode(), text), os.path.join(files.folder.encode(), spelled)
         wanted = fault(b"cannot read " + told)
         runs = [(["show", path], wanted), (["draw", path], wanted), (["show", "examples/block.rle", "--rule", path], wanted), (["verify", path], wanted),
-                (["verify", path, "examples/no_claims.claims"], fault(b"%s: cannot read %s" % (told, told)))]
+                (["verify", path, "tests/golden/verify/no_claims/claims"], fault(b"%s: cannot read %s" % (told, told)))]
         if not is_word(text):
             runs.append((["identify", "examples/block.rle", "--rules", path], fault(b"no claim text can name " + told)))
         for words, it in runs:
@@ -139,7 +139,7 @@ def try_progress(tally):
         tally.expect("the progress of a run", got, Outcome(b"format rle\nrule B3/S23\ngen 1\ncells 4\nbox 0 0 2 2\n", shown, 0))
         text = files.path("\x1b[5m.claims", "load block examples/block.rle\nstill block\n")
         before = os.path.join(folder, "\\x1b[5m.claims: line 2: ").encode()
-        got, _ = refusing.run(["verify", "--progress", text, "examples/no_claims.claims"], {"CLOCK_STEP": 1000})
+        got, _ = refusing.run(["verify", "--progress", text, "tests/golden/verify/no_claims/claims"], {"CLOCK_STEP": 1000})
         shown = WIPE + before + b"0 of 1 generation" + WIPE + before + b"1 of 1 generation" + WIPE
         tally.expect("the progress of a claim", got, Outcome(before + b"yes\n", shown, 0))
         got, _ = refusing.run(["identify", "--progress", "--limit", "20", block], {"CLOCK_STEP": 1000})

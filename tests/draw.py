@@ -2,7 +2,6 @@
 """`draw`: pictures of windows, held against pictures that are made here cell by cell, apart from the program; pictures that were drawn by hand; what no window
 shows; faults; and what a terminal changes."""
 import fcntl
-import glob
 import os
 import pty
 import random
@@ -14,7 +13,8 @@ import tty
 
 from lib import macrocell, planes, rows
 from lib.pictures import box_of, cells_squares, drawn, picture, squares_of, wanted_window
-from lib.program import EXAMPLES, MOST_WAITING, PROGRAM, ROOT, Folder, Outcome, Tally, ample, contents, fault, run
+from lib.gallery import found
+from lib.program import MOST_WAITING, PROGRAM, ROOT, Folder, Outcome, Tally, ample, contents, fault, run
 from lib.rle_reader import PatternFile
 from lib.steps import next_live
 
@@ -24,7 +24,7 @@ REACH = 1 << 124
 GLIDER = "x = 3, y = 3, rule = B3/S23\nbo$2bo$3o!\n"
 BLINKER = "#CXRLE Pos=-1,0\nx = 3, y = 1, rule = B3/S23\n3o!\n"
 BRAIN = "x = 4, y = 4, rule = /2/3\n2.A$A2B$.2BA$.A!\n"
-GATE = "examples/tables/wireworld_or.rle"
+GATE = "tests/files/tables/wireworld_or.rle"
 WIREWORLD = ["--rule", "examples/tables/wireworld.rule"]
 FULL, NOTHING = "examples/macrocell/full_square.mc", "examples/empty.rle"
 PAIR = f"#CXRLE Pos=-9,-9\nx = 1, y = 1, rule = B3/S23\no{10**9}$$o!\n"
@@ -125,8 +125,8 @@ def words_of(at=None, size=None, scale=None, to=None, zoom=None):
 
 
 def path_of(files, pattern):
-    """The path of an example, or of a file that is written with these contents."""
-    return pattern if pattern.startswith("examples/") else files.path("pattern.rle", pattern)
+    """The path of a file of this repository, or of one that is written with these contents."""
+    return pattern if pattern.startswith(("examples/", "tests/files/")) else files.path("pattern.rle", pattern)
 
 
 def try_by_hand(tally, files):
@@ -184,11 +184,10 @@ def try_tree(tally, name, path, tree, states, chance, words=()):
 
 
 def try_examples(tally, _):
-    """Some windows of each pattern of examples/ whose rule is no table."""
+    """Some windows of each pattern of examples/ and tests/files/ whose rule is no table."""
     chance = random.Random(7)
-    for path in sorted(it for kind in ("rle", "mc") for it in glob.glob(os.path.join(EXAMPLES, "**", f"*.{kind}"), recursive=True)):
-        file = PatternFile(contents(path))
-        name = os.path.relpath(path, ROOT)
+    for name in found("**/*.rle", "**/*.mc"):
+        file = PatternFile(contents(os.path.join(ROOT, name)))
         if file.cause:
             told = fault(file.cause)
             tally.expect(f"draw {name}", run(["draw", name]), told)
@@ -246,7 +245,7 @@ def try_after(tally, files):
     late = files.path("late.rle", f"#CXRLE Gen={(1 << 63) - 5}\n" + GLIDER)
     tally.expect("the last generation", run(["draw", late, "--after", "4"]), ample(b".o.\n..o\nooo\n"))
     tally.expect("a generation too large", run(["draw", late, "--after", "5"]), fault("gen too large"))
-    tally.expect("work", run(["draw", "examples/soup/soup.rle", "--after", "1000", "--work", "100"]), fault("work"))
+    tally.expect("work", run(["draw", "tests/files/soup/soup.rle", "--after", "1000", "--work", "100"]), fault("work"))
     tally.expect("no work", run(["draw", "examples/glider.rle", "--work", "0"]), ample(b".o.\n..o\nooo\n"))
 
 
@@ -269,7 +268,7 @@ def try_faults(tally, files):
         text = f"error: the argument '--zoom <K>' cannot be used {told}\n\nFor more information, try '--help'.\n"
         tally.expect(f"what is told of {words}", run(["draw", "examples/glider.rle", *words]), Outcome(b"", text.encode(), 2))
     tally.expect("a file that isn't there", run(["draw", "examples/nowhere"]), fault("cannot read examples/nowhere"))
-    tally.expect("no window of a bad file", run(["draw", "examples/bad/syntax.mc", "--at", f"{REACH},0"]), fault("bad pattern: macrocell syntax"))
+    tally.expect("no window of a bad file", run(["draw", "tests/files/bad/syntax.mc", "--at", f"{REACH},0"]), fault("bad pattern: macrocell syntax"))
 
 
 def try_tables(tally, _):

@@ -295,8 +295,7 @@ def try_nothing(texts):
     text.load("lost", BLOCK)
     text.rule_path("lost.rule")
     texts.judge("no claims", text)
-    for name in ("syntax", "lost.claim"):
-        path = f"examples/{name}.claims"
+    for path in ("tests/golden/verify/syntax/claims", "examples/lost.claims"):
         texts.tally.expect(f"no explanation, {path}", run(["verify", "--explain", path]), run(["verify", path]))
 
 

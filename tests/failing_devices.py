@@ -12,8 +12,8 @@
 import os
 import re
 
-from lib import remedies
-from lib.program import ROOT, Folder, Outcome, Tally, ample, example, example_words, fault, run
+from lib import golden, remedies
+from lib.program import ROOT, Folder, Outcome, Tally, ample, fault, run
 from lib.refusing import refusing_program
 
 RULE = "@RULE S\n@TABLE\nn_states:3\nneighborhood:oneDimensional\nsymmetries:none\n"
@@ -26,8 +26,9 @@ PIECE = 8192
 # Of texts with fewer bytes each byte in turn can't be written, of the others some.
 MOST_WHOLE = 3000
 
-# Examples of `show`, `convert` and `draw` that print or read some hundred bytes.
-EXAMPLES = ("show_full_square", "convert_gun_to_macrocell", "convert_gun_to_rle", "convert_full_square", "draw_full_square", "draw_pgm", "draw_window", "show_after", "convert_after")
+# Golden runs of `show`, `convert` and `draw` that print or read some hundred bytes.
+GOLDEN = ("show/full_square", "convert/gun_to_macrocell", "convert/gun_to_rle", "convert/full_square", "draw/full_square", "draw/pgm", "draw/window", "show/after",
+          "convert/after")
 
 
 # What the claim text prints, without notes and with them. Which of the two cells that differ the last note names is open; this is the program's choice.
@@ -79,7 +80,7 @@ def printing_runs(files):
         (["show", dot, "--after", "0"], SHOWN), (["convert", dot, "--to", "mc", "--after", "0"], AS_MACROCELL),
         (["show", state, "--rule", rule], SHOWN_TABLE), (["show", state, "--rules", files.folder], SHOWN_TABLE),
         (["draw", state, "--rule", rule], DRAWN_TABLE), (["draw", state, "--rules", files.folder], DRAWN_TABLE), (["convert", dot, "--to", "mc"], AS_MACROCELL), (["convert", macrocell, "--to", "rle"], AS_RLE),
-        *((example_words(f"{name}.words"), example(name)) for name in EXAMPLES),
+        *((golden.words(case), golden.outcome(case)) for case in GOLDEN),
         *((words, ample(run(words).printed)) for words in (["--version"], ["verify", "--help"])),
     )
 
@@ -211,9 +212,9 @@ def try_reads(tally, refusing, files):
     macrocell = files.path("dot.mc", MACROCELL)
     for words, whole in ((["show", macrocell], SHOWN_MACROCELL), (["convert", macrocell, "--to", "rle"], AS_RLE), (["show", dot], SHOWN)):
         expect_reads(tally, refusing, words, whole, ((os.path.getsize(words[1]), fault(f"cannot read {words[1]}")),))
-    for name in EXAMPLES:
-        words = example_words(f"{name}.words")
-        expect_reads(tally, refusing, words, example(name), ((os.path.getsize(os.path.join(ROOT, words[1])), fault(f"cannot read {words[1]}")),))
+    for case in GOLDEN:
+        words = golden.words(case)
+        expect_reads(tally, refusing, words, golden.outcome(case), ((os.path.getsize(os.path.join(ROOT, words[1])), fault(f"cannot read {words[1]}")),))
 
 
 def try_several(tally, refusing, files):

@@ -4,6 +4,7 @@ lost in silence."""
 import os
 import subprocess
 
+from lib import golden
 from lib.program import MOST_WAITING, PROGRAM, ROOT, Outcome, Tally, fault, run
 
 VERIFY = ["verify", "examples/block.claims"]
@@ -33,15 +34,15 @@ def main():
             tally.expect(f"a full standard output, {name}", run(words, stdout=full), FAILED_WRITE)
             tally.expect(f"a closed standard output, {name}", without(1, words), FAILED_WRITE)
             tally.expect(f"a standard output that is open for reading alone, {name}", run(words, stdout=unwritable), FAILED_WRITE)
-        tally.expect("a full standard output, and a text that has a fault", run(["verify", "examples/syntax.claims"], stdout=full),
+        tally.expect("a full standard output, and a text that has a fault", run(["verify", "tests/golden/verify/syntax/claims"], stdout=full),
                      fault("claims line 2: syntax"))
-        tally.expect("a full standard output, and a pattern that has a fault", run(["show", "examples/bad/syntax.mc"], stdout=full),
+        tally.expect("a full standard output, and a pattern that has a fault", run(["show", "tests/files/bad/syntax.mc"], stdout=full),
                      fault("bad pattern: macrocell syntax"))
         tally.expect("a full standard output, and no window", run(["draw", "examples/macrocell/full_square.mc", "--scale", "0"], stdout=full),
                      fault("window too large"))
         for name in ("no_claims", "nothing"):
-            tally.expect(f"a full standard output, and no claims, {name}", run(["verify", f"examples/{name}.claims"], stdout=full), Outcome(b"", b"", 0))
-        for words in (["verify", "examples/syntax.claims"], ["verify", "examples/lost"], ["verify"], ["show", "examples/lost"], ["show"], ["identify"],
+            tally.expect(f"a full standard output, and no claims, {name}", run(golden.words(f"verify/{name}"), stdout=full), Outcome(b"", b"", 0))
+        for words in (["verify", "tests/golden/verify/syntax/claims"], ["verify", "examples/lost"], ["verify"], ["show", "examples/lost"], ["show"], ["identify"],
                       ["identify", "--rule", "examples/lost", "examples/block.rle"]):
             tally.expect(f"a full standard error, {' '.join(words)}", run(words, stderr=full), Outcome(b"", b"", 2))
             tally.expect(f"a closed standard error, {' '.join(words)}", without(2, words), Outcome(b"", b"", 2))

@@ -82,15 +82,15 @@ def try_more(tally, files):
     mixed = files.path("mixed.claims", "load a examples/block.rle\nload b examples/generations/brain.rle\nbecomes a 0 a\n")
     has_more = (
         ["show", unknown], ["convert", unknown, "--to", "mc"], ["draw", unknown], ["show", "examples/bad/syntax.rle"], ["convert", full, "--to", "rle"], ["show", unknown, "--rule", bad],
-        ["show", "examples/soup/soup.rle", "--after", "1000", "--work", "1"], ["draw", "examples/glider.rle", "--at", "21267647932558653966460912964485513216,0"],
-        ["verify", "examples/bad_patterns.claims"], ["verify", "examples/several.claims"], ["verify", "examples/several.claims", "examples/bad_table.claims"], ["verify", "examples/lost.claims", "examples/block.claims"],
-        ["verify", "examples/bad_table.claims"], ["identify", "examples/block.rle", unknown, "examples/bad/syntax.rle"], ["identify", "--rules", "examples/rules", "examples/rules/slow.rle"], ["identify", "--rule", bad, unknown],
+        ["show", "tests/files/soup/soup.rle", "--after", "1000", "--work", "1"], ["draw", "examples/glider.rle", "--at", "21267647932558653966460912964485513216,0"],
+        ["verify", "tests/golden/verify/bad_patterns/claims"], ["verify", "examples/several.claims"], ["verify", "examples/several.claims", "tests/golden/verify/bad_table/claims"], ["verify", "tests/golden/verify/lost/claims", "examples/block.claims"],
+        ["verify", "tests/golden/verify/bad_table/claims"], ["identify", "examples/block.rle", unknown, "examples/bad/syntax.rle"], ["identify", "--rules", "examples/rules", "examples/rules/slow.rle"], ["identify", "--rule", bad, unknown],
         ["verify", "nowhere.claims", "examples/several.claims"],
     )
     has_none = (
         ["show", "examples/block.rle"], ["show", lost], ["show", "examples/block.rle", "--rule", "nowhere"], ["verify", "examples/block.claims"], ["verify", "nowhere.claims"], ["verify", mixed],
-        ["verify", "--work", "0", "examples/glider.claims"], ["verify", "examples/syntax.claims"], ["identify", lost, "examples/block.rle"], ["identify", "examples/block.rle"], ["identify", "--work", "0", "examples/glider.rle"],
-        ["identify", "my block.rle"], ["identify", "--rule", "nowhere", "examples/block.rle"], ["verify", "examples/no_claims.claims"], ["draw", "examples/glider.rle"], ["verify", "--help"],
+        ["verify", "--work", "0", "examples/glider.claims"], ["verify", "tests/golden/verify/syntax/claims"], ["identify", lost, "examples/block.rle"], ["identify", "examples/block.rle"], ["identify", "--work", "0", "examples/glider.rle"],
+        ["identify", "my block.rle"], ["identify", "--rule", "nowhere", "examples/block.rle"], ["verify", "tests/golden/verify/no_claims/claims"], ["draw", "examples/glider.rle"], ["verify", "--help"],
     )
     for words in (*has_more, *has_none):
         plain, shown, name = run(words), on_a_terminal(words), " ".join(os.path.basename(it) for it in words)

@@ -1,22 +1,24 @@
 #!/usr/bin/env -S python3 -B
-"""`identify`: the claim text that it prints, of files whose claims are known, of soups that are run here, and of all files of examples/, whose text is proved by
-`verify`; how far patterns grow of which no claim is true; names, paths and rule files; files that are refused; and how far it looks, with a limit and while patience lasts."""
+"""`identify`: the claim text that it prints, of files whose claims are known, of soups that are run here, and of all files of examples/ and tests/files/, whose text is
+proved by `verify`; how far patterns grow of which no claim is true; names, paths and rule files; files that are refused; and how far it looks, with a limit and while patience lasts."""
 import math
 import os
 import random
 import re
 import tempfile
 
-from lib import remedies, rle
-from lib.program import EXAMPLES, ROOT, Folder, Outcome, Tally, ample, fault, run
+from lib import golden, remedies, rle
+from lib.gallery import found
+from lib.program import ROOT, Folder, Outcome, Tally, ample, fault, run
 from lib.steps import next_live
 from lib.work import excess, timed
 
-# Patterns of examples/ whose claims are known from elsewhere: the field's names for them, or docs/CLAIMS.md.
+# Patterns whose claims are known from elsewhere: the field's names for them, or docs/CLAIMS.md.
 KNOWN = {
-    "block.rle": "still", "beehive.rle": "still", "loaf.rle": "still", "blinker.rle": "oscillator 2", "toad.rle": "oscillator 2", "pulsar.rle": "oscillator 3",
-    "pentadecathlon.rle": "oscillator 15", "queen_bee_shuttle.rle": "oscillator 30", "glider.rle": "spaceship 4 1 1", "reactions/diehard.rle": "dies 130",
-    "reactions/eater.rle": "still", "generations/brians_brain_oscillator.rle": "oscillator 3",
+    "examples/block.rle": "still", "tests/files/beehive.rle": "still", "tests/files/loaf.rle": "still", "examples/blinker.rle": "oscillator 2",
+    "tests/files/toad.rle": "oscillator 2", "examples/pulsar.rle": "oscillator 3", "tests/files/pentadecathlon.rle": "oscillator 15",
+    "tests/files/queen_bee_shuttle.rle": "oscillator 30", "examples/glider.rle": "spaceship 4 1 1", "examples/reactions/diehard.rle": "dies 130",
+    "examples/reactions/eater.rle": "still", "tests/files/generations/brians_brain_oscillator.rle": "oscillator 3",
 }
 
 BLOCK, DOT, EMPTY = "x = 2, y = 2\n2o$2o!\n", "x = 1, y = 1\no!\n", "x = 0, y = 0\n!\n"
@@ -85,20 +87,22 @@ def names_of(paths):
 
 def try_known(tally):
     """Files whose claims are known, each alone and all together."""
-    paths = [f"examples/{name}" for name in KNOWN]
-    entries = [entry(name, path, told) for name, path, told in zip(names_of(paths), paths, KNOWN.values())]
-    for path, told, lines in zip(paths, KNOWN.values(), entries):
+    entries = [entry(name, path, told) for name, (path, told) in zip(names_of(KNOWN), KNOWN.items())]
+    for (path, told), lines in zip(KNOWN.items(), entries):
         tally.expect(f"{path}: {told}", run(["identify", path]), whole(lines))
-    tally.expect("all of these", run(["identify", *paths]), whole("".join(entries)))
+    tally.expect("all of these", run(["identify", *KNOWN]), whole("".join(entries)))
 
 
 def true_claims():
-    """The claims of examples/ about one pattern that are true, as the files beside the texts say: for each path, and the rule files of its text, what is told."""
+    """The claims of golden runs about one pattern that are true: for each path, and the rule files of its text, what is told."""
     claims = {}
-    for file in sorted(it for it in os.listdir(EXAMPLES) if it.endswith(".claims")):
-        with open(os.path.join(EXAMPLES, file), encoding="utf-8", errors="replace") as text, open(os.path.join(EXAMPLES, f"{file[:-7]}.stdout"), encoding="utf-8") as told:
+    for case in golden.cases("verify"):
+        _, *words = golden.words(case)
+        if len(words) > 1 or words == ["-"]:
+            continue
+        with open(os.path.join(ROOT, words[0]), encoding="utf-8", errors="replace") as text:
             lines = [line.split() for line in text]
-            yes = [int(found[1]) for found in (re.match(r"line (\d+): yes$", line) for line in told) if found]
+        yes = map(int, re.findall(r"^line (\d+): yes$", golden.outcome(case).printed.decode(), re.M))
         rules = tuple(words[1] for words in lines if words[:1] == ["rule"])
         paths = {words[1]: words[2] for words in lines if words[:1] == ["load"]}
         for number in yes:
@@ -109,7 +113,7 @@ def true_claims():
 
 
 def try_true_claims(tally):
-    """What is true of a pattern of examples/ is what is found."""
+    """What golden runs claim of a pattern, and is true, is what is found."""
     claims = true_claims()
     complaints = [f"{key}: {told}" for key, told in claims.items() if len(told) != 1]
     for (rules, path), told in claims.items():
@@ -121,7 +125,7 @@ def try_true_claims(tally):
         got = run(["identify", path, *words])
         if got != whole(lines):
             complaints.append(f"{path}: wanted {lines!r}, {got}")
-    tally.tell(f"{len(claims)} patterns of examples/ whose claims are true", complaints if len(claims) > 40 else ["too few claims"])
+    tally.tell(f"{len(claims)} patterns whose claims are true", complaints if len(claims) > 40 else ["too few claims"])
 
 
 def cells_of(text):
@@ -224,9 +228,9 @@ def try_late_returns(tally, files):
 
 def try_limits(tally):
     """A period that is the limit is found, and one that is one more isn't."""
-    for path, told, limit in (("pulsar.rle", "oscillator 3", 3), ("glider.rle", "spaceship 4 1 1", 4), ("reactions/diehard.rle", "dies 130", 130), ("block.rle", "still", 1),
-                              ("blinker.rle", "oscillator 2", 2), ("pentadecathlon.rle", "oscillator 15", 15), ("period_57960.rle", "oscillator 57960", 57960)):
-        path = f"examples/{path}"
+    for path, told, limit in (("examples/pulsar.rle", "oscillator 3", 3), ("examples/glider.rle", "spaceship 4 1 1", 4), ("examples/reactions/diehard.rle", "dies 130", 130),
+                              ("examples/block.rle", "still", 1), ("examples/blinker.rle", "oscillator 2", 2), ("tests/files/pentadecathlon.rle", "oscillator 15", 15),
+                              ("examples/period_57960.rle", "oscillator 57960", 57960)):
         tally.expect(f"{path}, as far as {limit}", run(["identify", path, "--limit", str(limit)]), whole(entry(base_name(path), path, told)))
         if limit > 1:
             tally.expect(f"{path}, as far as {limit - 1}", run(["identify", path, "--limit", str(limit - 1)]),
@@ -299,11 +303,10 @@ def try_after(tally, files):
         kinds = {it.split()[0] for it in tolds}
         tally.tell(f"squares after {generations}: {len(kinds)} kinds", ([] if len(kinds) > 2 else [str(kinds)]) + ([] if got == whole(lines) else [f"wanted {lines!r}", str(got)]))
         tally.expect("verify reads the text, which has no claim", run(["verify", "-"], input=got.printed), ample(b""))
-    returning = {name: told for name, told in KNOWN.items() if not told.startswith("dies")}
-    paths = [f"examples/{name}" for name in returning]
+    returning = {path: told for path, told in KNOWN.items() if not told.startswith("dies")}
     for generations in (3, 1000003, 1 << 60):
-        lines = "".join(later_entry(name, path, generations, told) for name, path, told in zip(names_of(paths), paths, returning.values()))
-        tally.expect(f"patterns that come back, after {generations}", run(["identify", *paths, "--after", str(generations)]), whole(lines))
+        lines = "".join(later_entry(name, path, generations, told) for name, (path, told) in zip(names_of(returning), returning.items()))
+        tally.expect(f"patterns that come back, after {generations}", run(["identify", *returning, "--after", str(generations)]), whole(lines))
     path = "examples/reactions/diehard.rle"
     for generations, told in ((1, "dies 129"), (129, "dies 1"), (130, "no cell is live"), (1 << 60, "no cell is live")):
         tally.expect(f"diehard, after {generations}", run(["identify", path, "--after", str(generations)]), whole(later_entry("diehard", path, generations, told)))
@@ -316,8 +319,8 @@ def try_after(tally, files):
     path = "examples/r_pentomino.rle"
     tally.expect("the R-pentomino when it settles", run(["identify", path, "--after", "1103", "--limit", "50"]), whole(later_entry("r_pentomino", path, 1103, shown_after(path, 50, begun=1103))))
     tally.expect("no work", run(["identify", path, "--after", "1103", "--work", "1"]), whole(f"# r_pentomino: {path}: work\n", status=2))
-    paths = all_examples()
-    tally.expect("all files of examples/ after none", run(["identify", "--limit", "4", "--after", "0", *paths]), run(["identify", "--limit", "4", *paths]))
+    paths = found("**/*.rle", "**/*.mc")
+    tally.expect("all pattern files after no generation", run(["identify", "--limit", "4", "--after", "0", *paths]), run(["identify", "--limit", "4", *paths]))
 
 
 def refusals_by_verify(files, paths, rules):
@@ -333,30 +336,23 @@ def refusals_by_verify(files, paths, rules):
     return refusals
 
 
-def all_examples():
-    """The pattern files of examples/, in order."""
-    found = (os.path.join(folder, name) for folder, _, names in os.walk(EXAMPLES) for name in names if name.endswith((".rle", ".mc")))
-    return sorted(os.path.relpath(it, ROOT) for it in found)
-
-
 def rule_files(files):
-    """A folder with the rule files of examples/ under the names of their rules."""
+    """A folder with the rule files of examples/ and tests/files/ under the names of their rules."""
     folder = os.path.join(files.folder, "rules")
     os.mkdir(folder)
-    for name in sorted(os.listdir(os.path.join(EXAMPLES, "tables"))):
-        if name.endswith(".rule"):
-            with open(os.path.join(EXAMPLES, "tables", name), encoding="utf-8") as file:
-                text = file.read()
-            named = re.search(r"^@RULE\s+(\S+)", text, re.M)
-            if named and "/" not in named[1] and "@TABLE" in text:
-                files.path(os.path.join("rules", f"{named[1]}.rule"), text)
+    for path in found("tables/*.rule"):
+        with open(os.path.join(ROOT, path), encoding="utf-8") as file:
+            text = file.read()
+        named = re.search(r"^@RULE\s+(\S+)", text, re.M)
+        if named and "/" not in named[1] and "@TABLE" in text:
+            files.path(os.path.join("rules", f"{named[1]}.rule"), text)
     return folder
 
 
 def try_all(tally, files):
-    """All pattern files of examples/ at once: the text is proved by `verify`, its names are different, and each file has its lines, in order; those that are refused
+    """All pattern files of examples/ and tests/files/ at once: the text is proved by `verify`, its names are different, and each file has its lines, in order; those that are refused
     are refused for what `verify` refuses them."""
-    paths, rules = all_examples(), rule_files(files)
+    paths, rules = found("**/*.rle", "**/*.mc"), rule_files(files)
     limit = 300
     got = run(["identify", "--limit", str(limit), "--rules", rules, *paths])
     lines = got.printed.decode().splitlines()
@@ -381,10 +377,9 @@ def try_all(tally, files):
             right = f"# {name}: {shown_after(path, limit, '--rules', rules)[2:]}"
         if first != f"load {name} {path}" or not (second == right or second.split()[:2] in ([word, name] for word in ("still", "oscillator", "spaceship", "dies"))):
             complaints.append(f"{path}: {first}; {second}")
-    tally.tell(f"all {len(paths)} pattern files of examples/: {len(claims)} claims are proved, {sum(map(bool, refusals))} files are refused", complaints + rest)
-    whole = [it for it in (f"examples/{name}" for name in os.listdir(EXAMPLES)) if it.endswith(".rle")]
-    again = run(["identify", "--limit", "4", *whole])
-    tally.expect("the patterns right in examples/, from standard input to `verify`", run(["verify", "-"], input=again.printed),
+    tally.tell(f"all {len(paths)} pattern files: {len(claims)} claims are proved, {sum(map(bool, refusals))} files are refused", complaints + rest)
+    again = run(["identify", "--limit", "4", *found("*.rle")])
+    tally.expect("some patterns, from standard input to `verify`", run(["verify", "-"], input=again.printed),
                  ample("".join(f"line {at}: yes\n" for at, line in enumerate(again.printed.decode().splitlines(), 1)
                                if line.split()[0] in ("still", "oscillator", "spaceship", "dies")).encode()))
 

@@ -24,7 +24,7 @@ BOUND = 800
 # The bytes of address space that a run has which is to want memory.
 SPACE = 25_000_000
 
-LEAPS, TABLES = "tests/leaps", "examples/tables"
+LEAPS, LOOP = "tests/leaps", "tests/files/tables/langtons_loop"
 
 # How many cells lie far apart.
 CELLS = 160000
@@ -43,21 +43,21 @@ AFTER = (
     ("hexagonal", f"{LEAPS}/hexagonal.rle", None, 1000000),
     ("von_neumann", f"{LEAPS}/von_neumann.rle", None, 1 << 10),
     ("von_neumann_copies", f"{LEAPS}/von_neumann_copies.rle", None, 1000000),
-    ("wires", f"{LEAPS}/wires.rle", f"{TABLES}/wireworld.rule", 1 << 20),
-    ("langtons_loop", f"{TABLES}/langtons_loop.rle", f"{TABLES}/langtons_loop.rule", 1 << 10),
+    ("wires", f"{LEAPS}/wires.rle", "examples/tables/wireworld.rule", 1 << 20),
+    ("langtons_loop", f"{LOOP}.rle", f"{LOOP}.rule", 1 << 10),
     ("rule_110", f"{LEAPS}/rule_110.rle", f"{LEAPS}/rule_110.rule", 1 << 11),
 )
 
 # Patterns that come back, each with its period and the vector by which it is moved meanwhile.
 RETURNS = (
     ("examples/glider.rle", 4, 1, 1),
-    ("examples/lwss.rle", 4, -2, 0),
-    ("examples/copperhead.rle", 10, 0, -1),
-    ("examples/period_162_ship.rle", 162, 0, -10),
+    ("tests/files/lwss.rle", 4, -2, 0),
+    ("tests/files/copperhead.rle", 10, 0, -1),
+    ("tests/files/period_162_ship.rle", 162, 0, -10),
     ("examples/blinker.rle", 2, 0, 0),
-    ("examples/pentadecathlon.rle", 15, 0, 0),
-    ("examples/queen_bee_shuttle.rle", 30, 0, 0),
-    ("examples/period_840.rle", 840, 0, 0),
+    ("tests/files/pentadecathlon.rle", 15, 0, 0),
+    ("tests/files/queen_bee_shuttle.rle", 30, 0, 0),
+    ("tests/files/period_840.rle", 840, 0, 0),
 )
 
 # How many times over a period is claimed: by a prime, by powers of one, by several, and by large ones.
@@ -214,7 +214,7 @@ def try_far_gliders(claims):
         text.claim(f"becomes glider {count - 4} g{power}", f"no, cells differ after {count - 4}")
     claims.judge("gliders from 4 generations to 2^60", text)
     text = claims.text()
-    text.load_path("edge", "examples/edge/south_east_glider.rle")
+    text.load_path("edge", "tests/files/edge/south_east_glider.rle")
     text.load_path("glider", "examples/glider.rle")
     text.load_path("empty", "examples/empty.rle")
     for other in ("edge", "glider", "empty"):

@@ -93,7 +93,7 @@ def claims(files):
     text = Watched(files)
     text.lines.append(b"claims 2")
     text.load_path("r", PENTOMINO)
-    text.load_path("s", "examples/r_pentomino_1103.rle")
+    text.load_path("s", "tests/files/r_pentomino_1103.rle")
     text.load_path("blinker", "examples/blinker.rle")
     text.load_path("block", "examples/block.rle")
     text.load_path("glider", "examples/glider.rle")
@@ -160,8 +160,8 @@ def try_notes(tally, refusing, files):
     text.long_claim("becomes block 300 block", "yes", digits(300))
     printed = b"line 3: refused, no file\n  lost: examples/lost.rle: no such file\nline 4: yes\n"
     judge(tally, refusing, "explained", ["--progress", "--explain", text.write()], printed, b"".join(text.shown(1000)), 2, CLOCK_STEP=1000)
-    judge(tally, refusing, "no claim", ["--progress", "examples/no_claims.claims"], b"", b"", 0, CLOCK_STEP=1000)
-    judge(tally, refusing, "a fault", ["--progress", "examples/syntax.claims"], b"", b"cafile: claims line 2: syntax\n", 2, CLOCK_STEP=1000)
+    judge(tally, refusing, "no claim", ["--progress", "tests/golden/verify/no_claims/claims"], b"", b"", 0, CLOCK_STEP=1000)
+    judge(tally, refusing, "a fault", ["--progress", "tests/golden/verify/syntax/claims"], b"", b"cafile: claims line 2: syntax\n", 2, CLOCK_STEP=1000)
 
 
 def try_dense(tally, refusing, files):
@@ -203,7 +203,7 @@ def identified_shown(path, limit, generations, milliseconds, begun=0):
 def try_identify(tally, refusing, files):
     """`identify` shows the file's path and the generations that were looked at, at most twice a second."""
     looked_at = {"examples/glider.rle": (4, "load glider examples/glider.rle\nspaceship glider 4 1 1\n"), "examples/empty.rle": (0, "load empty examples/empty.rle\n# empty: no cell is live\n"),
-                 "examples/pentadecathlon.rle": (15, "load pentadecathlon examples/pentadecathlon.rle\noscillator pentadecathlon 15\n"),
+                 "tests/files/pentadecathlon.rle": (15, "load pentadecathlon tests/files/pentadecathlon.rle\noscillator pentadecathlon 15\n"),
                  PENTOMINO: (20, f"load r_pentomino {PENTOMINO}\n# r_pentomino: none of these within 20 generations: 32 cells, in a box of 12 by 8, after 20\n"), "my block.rle": (0, "# my_block: my block.rle: no claim text can name this path\n"),
                  "examples/lost.rle": (0, "# lost: examples/lost.rle: no file\n"), "examples/block.rle": (1, "load block examples/block.rle\nstill block\n")}
     words, printed = ["identify", "--limit", "20", *looked_at], "".join(["claims 2\n", *(it for _, it in looked_at.values())]).encode()
@@ -227,7 +227,7 @@ def try_identify_after(tally, refusing, _):
     for begun in (1, 6, 1000):
         looked_at = {"examples/glider.rle": (4, f"load glider examples/glider.rle\n# glider after {begun} generation{'s' * (begun != 1)}: spaceship 4 1 1\n"), "my block.rle": (None, "# my_block: my block.rle: no claim text can name this path\n"),
                      "examples/empty.rle": (0, f"load empty examples/empty.rle\n# empty after {begun} generation{'s' * (begun != 1)}: no cell is live\n"), "examples/lost.rle": (None, "# lost: examples/lost.rle: no file\n"),
-                     "examples/pentadecathlon.rle": (15, f"load pentadecathlon examples/pentadecathlon.rle\n# pentadecathlon after {begun} generation{'s' * (begun != 1)}: oscillator 15\n")}
+                     "tests/files/pentadecathlon.rle": (15, f"load pentadecathlon tests/files/pentadecathlon.rle\n# pentadecathlon after {begun} generation{'s' * (begun != 1)}: oscillator 15\n")}
         words, printed = ["identify", "--limit", "20", "--after", str(begun), *looked_at], "".join(["claims 2\n", *(it for _, it in looked_at.values())]).encode()
         for step in STEPS:
             shown = b"".join(identified_shown(path, 20, generations, step, begun) for path, (generations, _) in looked_at.items() if generations is not None)
@@ -241,7 +241,7 @@ def try_identify_after(tally, refusing, _):
 def try_identify_results(tally, refusing, files):
     """The results of a run of `identify --after` are shown with that run alone, and not with the generations that are looked at then, or with the next file."""
     table, soup = files.path("ageing.rule", TABLE), files.path("soup.rle", soup_of(100))
-    paths, begun, limit = ("examples/glider.rle", soup, "examples/pentadecathlon.rle"), 128, 3
+    paths, begun, limit = ("examples/glider.rle", soup, "tests/files/pentadecathlon.rle"), 128, 3
     got, _ = refusing.run(["identify", "--progress", "--rule", table, "--after", str(begun), "--limit", str(limit), *paths], {"CLOCK_STEP": 1000})
     glider, oscillator = (identified_shown(path, limit, limit, 1000, begun) for path in (paths[0], paths[2]))
     run_of, later = re.escape(f"\r\x1b[K{soup}: ".encode()), b"".join(WIPE + f"{soup}: {it} of {limit} generations".encode() for it in range(limit))

@@ -24,41 +24,43 @@ import itertools
 import os
 import re
 
-from lib import remedies
-from lib.program import Outcome, Tally, example, example_words, fault, lines_outcome, run
+from lib import golden, remedies
+from lib.program import Outcome, Tally, fault, lines_outcome, run
 from lib.refusing import refusing_program
 from sizes import BLOCK, long_text, spelled
 
-# Claim texts of examples/, and how many allocations are passed over between two that are refused.
-EXAMPLES = {"block": 1, "glider": 1, "several": 1, "bad_patterns": 1, "rules": 1, "mixed_rules": 1, "states": 1, "pulsar": 1, "number": 1, "syntax": 1,
-            "unknown_name": 1, "table_causes": 1, "bad_table": 1, "slide": 1, "tables": 5, "r_pentomino": 11, "soup": 11, "macrocells": 11,
-            "bad_macrocells": 5, "generations": 11, "reactions": 11, "every_kind": 1, "three_planes": 1}
+# Golden runs of one claim text, and how many allocations are passed over between two that are refused.
+CLAIM_TEXTS = {"block": 1, "glider": 1, "several": 1, "bad_patterns": 1, "rules": 1, "mixed_rules": 1, "states": 1, "pulsar": 1, "number": 1, "syntax": 1,
+               "unknown_name": 1, "table_causes": 1, "bad_table": 1, "slide": 1, "tables": 5, "r_pentomino": 11, "soup": 11, "macrocells": 11,
+               "bad_macrocells": 5, "generations": 11, "reactions": 11, "every_kind": 1, "three_planes": 1}
 
-# Examples of `show`, `convert` and `draw`, in both formats, with a rule file and without, and with a fault.
-WORDS = ("show_rle", "show_macrocell", "show_table", "show_no_table", "show_bad_table", "show_timeline", "show_full_square", "show_generations",
-         "convert_to_macrocell", "convert_to_rle", "convert_tidy_rle", "convert_both_leaves", "convert_table_to_macrocell", "convert_table_to_rle",
-         "convert_empty_to_macrocell", "convert_too_many_cells", "convert_full_square", "convert_gun_to_macrocell", "convert_gun_to_rle",
-         "convert_generations_to_macrocell", "identify_bad_table", "show_rules", "convert_rules", "show_rules_bad_table", "convert_explain_bad_table",
-         "draw_glider", "draw_window", "draw_after", "draw_generations", "draw_table", "draw_full_square", "draw_empty", "draw_pgm", "draw_too_large",
-         "draw_out_of_range", "draw_zoom",
-         "show_after", "show_after_long", "show_after_work", "convert_after", "convert_after_gen_too_large")
+# Golden runs of `show`, `convert` and `draw`, in both formats, with a rule file and without, and with a fault.
+WORDS = ("show/rle", "show/macrocell", "show/table", "show/no_table", "show/bad_table", "show/timeline", "show/full_square", "show/generations",
+         "convert/to_macrocell", "convert/to_rle", "convert/tidy_rle", "convert/both_leaves", "convert/table_to_macrocell", "convert/table_to_rle",
+         "convert/empty_to_macrocell", "convert/too_many_cells", "convert/full_square", "convert/gun_to_macrocell", "convert/gun_to_rle",
+         "convert/generations_to_macrocell", "identify/bad_table", "show/rules", "convert/rules", "show/rules_bad_table", "convert/explain_bad_table",
+         "draw/glider", "draw/window", "draw/after", "draw/generations", "draw/table", "draw/full_square", "draw/empty", "draw/pgm", "draw/too_large",
+         "draw/out_of_range", "draw/zoom",
+         "show/after", "show/after_long", "show/after_work", "convert/after", "convert/after_gen_too_large")
 
 # The same with a note on the pattern's file, which may be without its faulty line or its rule.
-NOTED = ("show_explain_syntax", "show_explain_forward", "show_rules_unknown", "convert_explain_unknown", "convert_explain_too_many_cells",
-         "draw_explain_unknown")
+NOTED = ("show/explain_syntax", "show/explain_forward", "show/rules_unknown", "convert/explain_unknown", "convert/explain_too_many_cells",
+         "draw/explain_unknown")
 
-# Examples of `verify` with notes, each of one text, and runs over several texts, each with the examples that its texts give by themselves.
-EXPLAINED = {"explain_several": 1, "explain_bad_patterns": 1, "explain_bad_macrocells": 3, "explain_bad_table": 1, "explain_no_rule_file": 1, "explain_causes": 1, "verify_rules": 1, "verify_root": 1,
-             "explain_rules": 1}
+# Golden runs of `verify` over one text, most of them with notes.
+EXPLAINED = {"explain/several": 1, "explain/bad_patterns": 1, "explain/bad_macrocells": 3, "explain/bad_table": 1, "explain/no_rule_file": 1, "explain/causes": 1,
+             "verify/folder_of_rules": 1, "verify/root": 1, "explain/rules": 1}
+
+# Runs over several texts: the golden run of each text by itself.
 SEVERAL = (
-    (("verify",), {"block": "block", "several": "several"}),
-    (("verify",), {"no_claims": "no_claims", "states": "states", "block": "block"}),
-    (("verify", "--explain"), {"several": "explain_several", "bad_table": "explain_bad_table"}),
-    (("verify", "--explain", "--rules", "examples/rules"), {"rules/named": "verify_rules", "several": "explain_several", "rules/slow": "explain_rules"}),
+    (("verify",), ("verify/block", "verify/several")),
+    (("verify",), ("verify/no_claims", "verify/states", "verify/block")),
+    (("verify", "--explain"), ("explain/several", "explain/bad_table")),
+    (("verify", "--explain", "--rules", "examples/rules"), ("verify/folder_of_rules", "explain/several", "explain/rules")),
 )
 
 # Files of larger patterns, a soup in both formats, of which each allocation of `show`, of `convert` to either format and of `draw` is refused.
-LARGER = ("examples/soup/soup.rle", "examples/soup/soup_40.mc")
+LARGER = ("tests/files/soup/soup.rle", "tests/files/soup/soup_40.mc")
 
 NO_MEMORY = fault("memory")
 
@@ -129,15 +131,15 @@ def judged(ample, outcomes, for_good=None):
     return complaints, f"{len(outcomes)} allocations refused: {whole} times cafile: memory, {len(refused)} times one line"
 
 
-def try_examples(tally, refusing):
-    """Each allocation of some examples in turn."""
-    for name, step in EXAMPLES.items():
-        words = ["verify", f"examples/{name}.claims"]
+def try_claim_texts(tally, refusing):
+    """Each allocation of runs over some claim texts in turn."""
+    for name, step in CLAIM_TEXTS.items():
+        words, ample = golden.words(f"verify/{name}"), golden.outcome(f"verify/{name}")
         outcomes = refusing.sweep(words, itertools.count(1, step))
         for_good = refusing.sweep(words, itertools.count(1), goes_on=True) if step == 1 else None
-        complaints, told = judged(example(name), outcomes, for_good)
-        complaints += wrong_for_good(example(name), for_good or {})
-        tally.tell(f"refused memory, examples/{name}.claims: {told}", complaints if outcomes else ["no allocation was refused"])
+        complaints, told = judged(ample, outcomes, for_good)
+        complaints += wrong_for_good(ample, for_good or {})
+        tally.tell(f"refused memory, verify/{name}: {told}", complaints if outcomes else ["no allocation was refused"])
 
 
 def answers_in(printed):
@@ -201,21 +203,26 @@ def tell_sweep(tally, name, texts, outcomes):
 
 def try_explained(tally, refusing):
     """Each allocation of some explained runs in turn: a claim is refused, or its note is less or isn't there where it isn't promised."""
-    for name, step in EXPLAINED.items():
-        outcomes = refusing.sweep(example_words(f"{name}.words"), itertools.count(1, step))
-        tell_sweep(tally, f"examples/{name}.words", [(b"", answers_in(example(name).printed))], outcomes)
+    for case, step in EXPLAINED.items():
+        outcomes = refusing.sweep(golden.words(case), itertools.count(1, step))
+        tell_sweep(tally, case, [(b"", answers_in(golden.outcome(case).printed))], outcomes)
+
+
+def text_of(case):
+    """The path of the claim text that a golden run is over."""
+    return golden.words(case)[-1]
 
 
 def try_several(tally, refusing):
     """Each allocation of some runs over several texts in turn: one text is out of memory, or one claim."""
-    for words, names in SEVERAL:
-        paths = [f"examples/{name}.claims" for name in names]
-        texts = [(f"{path}: ".encode(), answers_in(example(alone).printed)) for path, alone in zip(paths, names.values())]
+    for words, cases in SEVERAL:
+        paths = [text_of(case) for case in cases]
+        texts = [(f"{path}: ".encode(), answers_in(golden.outcome(case).printed)) for path, case in zip(paths, cases)]
         outcomes = refusing.sweep([*words, *paths], itertools.count(1))
-        tell_sweep(tally, " ".join([*words, *names]), texts, outcomes)
+        tell_sweep(tally, " ".join([*words, *cases]), texts, outcomes)
         ended = {it.complaint for it in outcomes.values()}
         unmet = [path for path in paths if f"cafile: {path}: memory\n".encode() not in ended]
-        tally.tell(f"each text is out of memory in some run, {' '.join(names)}", unmet)
+        tally.tell(f"each text is out of memory in some run, {' '.join(cases)}", unmet)
 
 
 def wrong_ones(ample, outcomes):
@@ -232,13 +239,13 @@ def tell_words(tally, refusing, words, ample, name, less=None):
 
 
 def try_words(tally, refusing):
-    """Each allocation of some examples of `show`, `convert` and `draw` in turn."""
-    for name in WORDS:
-        tell_words(tally, refusing, example_words(f"{name}.words"), example(name), f"examples/{name}.words")
-    for name in NOTED:
-        ample = example(name)
+    """Each allocation of some golden runs of `show`, `convert` and `draw` in turn."""
+    for case in WORDS:
+        tell_words(tally, refusing, golden.words(case), golden.outcome(case), case)
+    for case in NOTED:
+        ample = golden.outcome(case)
         less = Outcome(b"", re.sub(rb"(?m)^(  \S+?)(?:, line [0-9]+|: rule .*(?:\n  try: .*)?)$", rb"\1", ample.complaint), ample.status)
-        tell_words(tally, refusing, example_words(f"{name}.words"), ample, f"examples/{name}.words", less)
+        tell_words(tally, refusing, golden.words(case), ample, case, less)
 
 
 def identified(head, lines, is_explained=False):
@@ -252,7 +259,7 @@ def try_identify(tally, refusing):
     """Each allocation of some runs of `identify` in turn, and all from each on: all is printed, or of one file that memory is out, or nothing, or the lines on the
     first so many files."""
     files = {"glider": ("examples/glider.rle", "spaceship glider 4 1 1"), "diehard": ("examples/reactions/diehard.rle", "dies diehard 130"),
-             "empty": ("examples/empty.rle", "# empty: no cell is live"), "blocks": ("examples/macrocell/blocks.mc", "still blocks")}
+             "empty": ("examples/empty.rle", "# empty: no cell is live"), "blocks": ("tests/files/macrocell/blocks.mc", "still blocks")}
     lines = [f"load {name} {path}\n{told}\n" for name, (path, told) in files.items()]
     lines.append("# syntax: examples/bad/syntax.rle: bad pattern: rle syntax, line 2\n")
     paths = [*(path for path, _ in files.values()), "examples/bad/syntax.rle"]
@@ -283,7 +290,7 @@ def try_larger(tally, refusing):
 
 def try_large(tally, refusing, folder):
     """Some of the allocations of a long claim text, of one with many paths, and of a long run."""
-    r_pentomino = ["load r examples/r_pentomino.rle", "load s examples/r_pentomino_1103.rle", "becomes r 1103 s", "becomes r 1102 s", "becomes s 0 s"]
+    r_pentomino = ["load r examples/r_pentomino.rle", "load s tests/files/r_pentomino_1103.rle", "becomes r 1103 s", "becomes r 1102 s", "becomes s 0 s"]
     for name, (lines, verdicts) in {
         "a long claim text": long_text(),
         "200 paths": ([*(f"load n{at} {path}" for at, path in enumerate(spelled(BLOCK, 200))), *(f"still n{at}" for at in range(200))],
@@ -323,24 +330,24 @@ def wrong_for_good(ample, outcomes):
 
 def try_for_good(tally, refusing):
     """All allocations from one on: the complaint itself takes none, and the claims that were judged before are told."""
-    for words in (["verify", "examples/syntax.claims"], ["verify", "examples/lost"], ["--help"], ["verify"],
+    for words in (["verify", "tests/golden/verify/syntax/claims"], ["verify", "examples/lost"], ["--help"], ["verify"],
                   ["draw", "examples/glider.rle"], ["show", "examples/macrocell/glider.mc"], ["convert", "examples/glider.rle", "--to", "mc"], ["show", "examples/lost"]):
         ample, outcomes = run(words), refusing.sweep(words, itertools.count(1), goes_on=True)
         wrong = wrong_ones(ample, outcomes)
         tally.tell(f"memory refused for good, {' '.join(words)}: {len(outcomes)} runs", wrong if outcomes else ["no allocation was refused"])
-    for words, names in ((("verify",), {"several": "several"}), (("verify", "--explain"), {"several": "explain_several"}),
-                         (("verify", "--explain", "--rules", "examples/rules"), {"rules/slow": "explain_rules"}), *SEVERAL):
-        texts = [(f"examples/{name}.claims: ".encode() if len(names) > 1 else b"", answers_in(example(alone).printed)) for name, alone in names.items()]
-        outcomes = refusing.sweep([*words, *(f"examples/{name}.claims" for name in names)], itertools.count(1), goes_on=True)
+    for words, cases in ((("verify",), ("verify/several",)), (("verify", "--explain"), ("explain/several",)),
+                         (("verify", "--explain", "--rules", "examples/rules"), ("explain/rules",)), *SEVERAL):
+        texts = [(f"{text_of(case)}: ".encode() if len(cases) > 1 else b"", answers_in(golden.outcome(case).printed)) for case in cases]
+        outcomes = refusing.sweep([*words, *map(text_of, cases)], itertools.count(1), goes_on=True)
         wrong = [f"allocation {number}: {it}" for number, it in outcomes.items() if it != NO_MEMORY and not consists_of(texts, it)]
-        tally.tell(f"memory refused for good, {' '.join([*words, *names])}: {len(outcomes)} runs", wrong if outcomes else ["no allocation was refused"])
+        tally.tell(f"memory refused for good, {' '.join([*words, *cases])}: {len(outcomes)} runs", wrong if outcomes else ["no allocation was refused"])
 
 
 def main():
     tally = Tally()
     with refusing_program(tally, "refused memory") as (folder, refusing):
         if refusing:
-            for it in (try_examples, try_explained, try_several, try_words, try_identify, try_larger, try_for_good):
+            for it in (try_claim_texts, try_explained, try_several, try_words, try_identify, try_larger, try_for_good):
                 it(tally, refusing)
             try_large(tally, refusing, folder)
     tally.finish()

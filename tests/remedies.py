@@ -107,7 +107,7 @@ def try_explained(tally, name, path, fault, words):
         got = run([*command, "--explain", path])
         if (got.printed, got.status) != (b"", 2) or not re.fullmatch(re.escape(told) + note + re.escape(helps), got.complaint):
             complaints.append(f"{command[0]}: {got}, wanted {helps}")
-    for before, texts in ((b"", [claims]), (claims.encode() + b": ", [claims, "examples/no_claims.claims"])):
+    for before, texts in ((b"", [claims]), (claims.encode() + b": ", [claims, "tests/golden/verify/no_claims/claims"])):
         got = run(["verify", "--explain", *texts])
         wanted = rb"%sline 2: refused, %s\n%s  a:%s%s%sline 4: yes\n" % (before, re.escape(fault.encode()), before, note[1:], re.escape(helps and before + helps), before)
         if (got.complaint, got.status) != (b"", 2) or not re.fullmatch(wanted, got.printed):
@@ -152,7 +152,7 @@ def try_commands(tally, folder):
 
 def try_others(tally, folder):
     """Want of work and too many cells, of runs and of claims; and refusals that no line helps."""
-    soup, full = "examples/soup/soup.rle", "examples/macrocell/full_square.mc"
+    soup, full = "tests/files/soup/soup.rle", "examples/macrocell/full_square.mc"
     for command in (["show"], ["convert", "--to", "mc"], ["draw"]):
         wanted = Outcome(b"", f"cafile: work\n  {soup}\n".encode() + last_line(soup, b"allow more by --work"), 2)
         tally.expect(f"want of work, {command[0]}", run([*command, soup, "--after", "1000", "--work", "100", "--explain"]), wanted)
@@ -163,7 +163,7 @@ def try_others(tally, folder):
     wanted = f"line 2: refused, too many cells\n  full: {full}\n{helps}line 4: refused, no file\n  lost: nowhere: no such file\n"
     tally.expect("too many cells, verify", run(["verify", "--explain", claims]), Outcome(wanted.encode(), b"", 2))
     for words in (["verify", "--explain", "--rules", "examples/rules", "examples/rules/slow.claims"], ["show", "--explain", "--rules", "examples/rules", "examples/rules/slow.rle"],
-                  ["verify", "--explain", "examples/bad_table.claims"], ["verify", "--explain", "--work", "0", "examples/glider.claims"], ["identify", "--explain", "examples/lost.rle"],
+                  ["verify", "--explain", "tests/golden/verify/bad_table/claims"], ["verify", "--explain", "--work", "0", "examples/glider.claims"], ["identify", "--explain", "examples/lost.rle"],
                   ["identify", "--explain", "--rules", "examples/rules", "examples/rules/slow.rle"]):
         got = run(words)
         tally.tell(f"nothing helps, {' '.join(words)}", [str(got)] if b"  try: " in got.printed + got.complaint or b"  " not in got.printed + got.complaint and "0" not in words and "examples/lost.rle" not in words else [])

@@ -94,7 +94,7 @@ def try_words(tally, files):
     """The root is a folder, and claim texts are opened as ever."""
     text = files.path("text.claims", text_of(["block.rle"]))
     for path in (files.path("nowhere"), files.path("block.rle"), "", "-"):
-        for texts in ([text], [text, text], [files.path("lost.claims")], ["examples/syntax.claims"]):
+        for texts in ([text], [text, text], [files.path("lost.claims")], ["tests/golden/verify/syntax/claims"]):
             tally.expect(f"a root that is none, {os.path.basename(path)}", run(["verify", "--root", path, *texts]), fault(f"cannot read {path}"))
     tally.expect("a root with a slash", run(["verify", "--root", files.root + "/", text]), lines_outcome([(2, "yes")]))
     tally.expect("a root with a rest", run(["verify", text, "--root", files.root + "/sub/..", "--explain"]), lines_outcome([(2, "yes")]))

@@ -58,8 +58,8 @@ def try_several(tally):
 
 def try_patterns(tally):
     """Patterns on standard input, as the same file by its path gives."""
-    for name in ("examples/glider.rle", "examples/empty.rle", "examples/macrocell/glider.mc", "examples/macrocell/full_square.mc", "examples/bad/no_end.rle",
-                 "examples/bad/syntax.mc", "examples/published/crlf.rle", "examples/unknown.rle", "examples/period_840.rle"):
+    for name in ("examples/glider.rle", "examples/empty.rle", "examples/macrocell/glider.mc", "examples/macrocell/full_square.mc", "tests/files/bad/no_end.rle",
+                 "tests/files/bad/syntax.mc", "examples/published/crlf.rle", "examples/unknown.rle", "tests/files/period_840.rle"):
         text = contents(os.path.join(ROOT, name))
         for words in (SHOW, TO_RLE, TO_MC, ["convert", "--to", "mc", "-"], ["convert", "--to", "mc", "--", "-"]):
             by_path = run([name if it == "-" else it for it in words])

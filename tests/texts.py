@@ -65,7 +65,7 @@ CLAIM_TEXTS = {
     ),
     "rule files of no claim": ("rule lost.rule\nload a lost.rle\nrule lost.rle\n\n rule  lost.rule\r\n", []),
     "numbers with leading zeros": (
-        "load a examples/glider.rle\nload b examples/lwss.rle\nspaceship a 0004 1 01\nspaceship b 4 -002 -000\nbecomes a 000 a\noscillator a 002\n",
+        "load a examples/glider.rle\nload b tests/files/lwss.rle\nspaceship a 0004 1 01\nspaceship b 4 -002 -000\nbecomes a 000 a\noscillator a 002\n",
         [(3, "yes"), (4, "yes"), (5, "yes"), (6, "no, cells differ after 2")],
     ),
     "two names of one path": (
@@ -73,7 +73,7 @@ CLAIM_TEXTS = {
         [(4, "no, cells differ after 0"), (5, "yes"), (6, "no, cells differ after 0"), (7, "yes")],
     ),
     "lines that end with CR LF": (
-        "# two patterns\r\n\r\n\tload a  examples/beehive.rle \r\n  #still a\r\nload b examples/blinker.rle\r\nstill b\r\n\r\nstill a",
+        "# two patterns\r\n\r\n\tload a  tests/files/beehive.rle \r\n  #still a\r\nload b examples/blinker.rle\r\nstill b\r\n\r\nstill a",
         [(6, "no, cells differ after 1"), (8, "yes")],
     ),
     "a file that is not there": (

@@ -203,7 +203,7 @@ def try_unread(files):
     text = files.text()
     unknown(text, "p", rle_of("Longest"), b"Longest")
     for folder in (os.path.join(files.folder, "missing"), os.path.join(files.rules, "Longest.rule"), ""):
-        for paths in ([text.write()], [text.write(), "examples/block.claims"], ["examples/no_claims.claims"], ["examples/syntax.claims"], [os.path.join(files.folder, "lost.claims")]):
+        for paths in ([text.write()], [text.write(), "examples/block.claims"], ["tests/golden/verify/no_claims/claims"], ["tests/golden/verify/syntax/claims"], [os.path.join(files.folder, "lost.claims")]):
             files.check(f"the folder {folder!r}", ["verify", "--rules", folder, *paths], fault(f"cannot read {folder}"))
     text = files.text()
     text.load_path("lost", files.path("lost.rle"))

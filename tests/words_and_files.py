@@ -38,7 +38,7 @@ def try_help(tally):
             wanted = 0 if " identify " in line else 2 if "several" in line else 1 if "pulsar" in line or "reactions" in line else 0
             tally.tell(f"in the help: {line.strip()}", [] if ran.stdout and not ran.stderr and ran.returncode == wanted else [str(ran)])
     claims = re.findall(r"^      (\w.*)$", helps["verify"].printed.decode(), re.M)
-    loads = [f"load {os.path.basename(name)} examples/{name}.rle" for name in ("block", "pulsar", "blinker", "blinker_1", "reactions/diehard")]
+    loads = [f"load {os.path.basename(path)[:-4]} {path}" for path in ("examples/block.rle", "examples/pulsar.rle", "examples/blinker.rle", "tests/files/blinker_1.rle", "examples/reactions/diehard.rle")]
     lines = [claims[0], *loads, *claims[1:]]
     tally.expect(f"in the help: {claims}", run(["verify", "-"], input="\n".join(lines).encode()), lines_outcome([(at, "yes") for at in range(9, 15)]))
 

@@ -1,9 +1,9 @@
 """Good texts of all four kinds, mutated, cut and joined. One seed always gives the same texts."""
-import glob
 import os
 import re
 
-from lib.program import EXAMPLES, contents
+from lib.gallery import found
+from lib.program import ROOT, contents
 
 KINDS = ("rle", "macrocell", "rule", "claims")
 
@@ -80,10 +80,10 @@ def claim_text(chance):
     return "".join(f"{it}\n" for it in (["claims 2"] if is_second else []) + lines).encode()
 
 
-def example_texts(*names):
-    """The shorter ones of these files of examples/."""
-    found = [contents(it) for name in names for it in sorted(glob.glob(os.path.join(EXAMPLES, name), recursive=True))]
-    return [it for it in found if len(it) <= MOST_BYTES]
+def good_texts(*names):
+    """The shorter ones of these files of examples/ and tests/files/."""
+    texts = [contents(os.path.join(ROOT, it)) for it in found(*names)]
+    return [it for it in texts if len(it) <= MOST_BYTES]
 
 
 def place(chance, text):
@@ -169,9 +169,9 @@ class Mutator:
     def __init__(self, chance):
         self.chance = chance
         self.texts = {
-            "rle": example_texts("*.rle", "published/*.rle", "generations/*.rle", "bad/*.rle", "edge/*.rle", "tables/*.rle"),
-            "macrocell": example_texts("macrocell/*.mc", "bad/*.mc"),
-            "rule": example_texts("tables/*.rule"),
+            "rle": good_texts("*.rle", "published/*.rle", "generations/*.rle", "bad/*.rle", "edge/*.rle", "tables/*.rle"),
+            "macrocell": good_texts("macrocell/*.mc", "bad/*.mc"),
+            "rule": good_texts("tables/*.rule"),
         }
 
     def good(self, kind):

@@ -7,7 +7,6 @@ import sys
 from dataclasses import dataclass
 
 ROOT = os.path.dirname(os.path.dirname(os.path.dirname(os.path.abspath(__file__))))
-EXAMPLES = os.path.join(ROOT, "examples")
 PROGRAM = os.environ.get("CAFILE", os.path.join(ROOT, "crates", "cafile", "out", "cafile"))
 
 # A run that takes so many seconds of a processor is ended by the system, and one that doesn't end in so many by the clock, though it waits, is ended here.
@@ -63,23 +62,6 @@ def contents(path):
         return b""
     with open(path, "rb") as file:
         return file.read()
-
-
-def example_words(file):
-    """The words that the program is started with for an example: those of NAME.words, or `verify` and the claim text."""
-    path = os.path.join(EXAMPLES, file)
-    return contents(path).decode().split("\n")[:-1] if file.endswith(".words") else ["verify", f"examples/{file}"]
-
-
-def example_run(file):
-    """The outcome of an example, with the bytes of NAME.stdin, none where it isn't there, on standard input."""
-    return run(example_words(file), input=contents(os.path.join(EXAMPLES, f"{os.path.splitext(file)[0]}.stdin")))
-
-
-def example(name):
-    """What an example has to come to, by the files beside it."""
-    path = os.path.join(EXAMPLES, name)
-    return Outcome(contents(f"{path}.stdout"), contents(f"{path}.stderr"), int(contents(f"{path}.status")))
 
 
 def run(words, program=PROGRAM, **how):
