@@ -10,6 +10,8 @@
   memory.
 - A long run whose squares need more drops them and goes on, by shorter leaps, to the plane that is known.
 - A run that goes on in a store of its own, and needs more there for one generation, is given up, and not tried again.
+- Cells that lie far from each other take some 45 squares each. `show` and `convert --to rle` need none of them for an RLE: where there is no room for them they
+  tell of it and write it anew, and what needs the squares is refused as out of memory.
 - `identify` remembers no more boxes of squares than may be, however many it measures.
 """
 import os
@@ -18,15 +20,15 @@ import re
 import resource
 import tempfile
 
-import far_cells
-import full_store
 from lib import rle, rows
 from lib.claim_text import ClaimText, outcome, printed
-from lib.program import Folder, Outcome, Tally, ample, fault, run
+from lib.macrocell import EDGE
+from lib.macrocell_texts import header
+from lib.planes import GROWING, distinct_leaves, explosion, far_gliders
+from lib.program import Folder, Outcome, Tally, ample, fault, figures, run
+from lib.table_texts import WIDE_DOT, transitions, wide_table
+from lib.want_of_memory import NO_MEMORY, answers_in, consists_of
 from lib.work import unit
-from macrocell_sizes import distinct_leaves, figures, header
-from refused_memory import NO_MEMORY, answers_in, consists_of
-from table_sizes import DOT, table, transitions
 
 # The bytes of address space that are too few for what is large, and those that are enough. A small claim takes less than 4 million.
 SPACE, AMPLE = 9_000_000, 1_000_000_000
@@ -55,6 +57,10 @@ MEASURED_SIDE, MEASURED, BOXES = 1000, 32, 95_000_000
 # Cells that lie far from each other, the side of a soup, the generations of a small one, leaves, transitions and claims.
 FAR_CELLS, SIDE, GENERATIONS, LEAVES, TRANSITIONS, CLAIMS = 10000, 2500, 700, 81920, 60000, 120000
 
+# Cells that lie far from each other: how many there are, the bytes of address space in which their RLE is told of and written anew, and those for which their
+# squares are enough.
+LISTED_CELLS, LISTED_SPACE, SQUARES_SPACE = 50000, 60_000_000, 2_000_000_000
+
 
 def within(space, seconds=None):
     """How a run is started that has this much address space, and perhaps so many seconds of a processor."""
@@ -76,7 +82,7 @@ def soup(side, rule):
 
 def spread_cells():
     """An RLE of cells all over the plane."""
-    chance, far = random.Random(0), far_cells.FAR
+    chance, far = random.Random(0), EDGE
     return rle.tidy({(chance.randrange(-far, far), chance.randrange(-far, far)): 1 for _ in range(FAR_CELLS)}, "B3/S23", 0, 2)
 
 
@@ -170,7 +176,7 @@ def try_texts(tally, files):
 def try_shown(tally, files, cells):
     """`show` and `convert` of large files, which are known with ample space."""
     soup_shown = figures(0, cells, f"0 0 {SIDE} {SIDE}", "rle")
-    state = ample(b"format rle\nrule Wide\ngen 0\ncells 1\nbox 0 0 1 1\n")
+    state = figures(0, 1, "0 0 1 1", "rle", "Wide")
     rule = ["--rule", files.path("wide.rule")]
     for name, wanted, more in (("soup.rle", soup_shown, []), ("nodes.mc", many_nodes()[1], []), ("dot.rle", state, rule)):
         path = files.path(name)
@@ -194,12 +200,12 @@ def try_unlisted_cells(tally, files):
 
 def try_less_memory(tally, files):
     """A plane that is reached in ample space, in less, and a claim on another one that isn't."""
-    plane = full_store.explosion()
-    later = plane.after(full_store.RULE, FOLLOWED)
+    plane = explosion()
+    later = plane.after(GROWING, FOLLOWED)
     other, _ = later.with_changed(later.x, later.y)
     text = ClaimText(files)
     for name, it in (("first", plane), ("later", later), ("other", other)):
-        text.load(name, rows.text_of(full_store.RULE, it))
+        text.load(name, rows.text_of(GROWING, it))
     text.claim(f"becomes first {FOLLOWED} later", "yes")
     text.claim(f"becomes first {FOLLOWED} other", f"no, cells differ after {FOLLOWED}")
     path = text.write("less.claims")
@@ -211,7 +217,7 @@ def try_a_store_of_its_own(tally, files):
     """A run that goes on in a store of its own has no memory for a generation there: it is given up."""
     text = ClaimText(files)
     text.load_path("block", "examples/block.rle")
-    text.load("gliders", full_store.far_gliders(GLIDERS)[0])
+    text.load("gliders", far_gliders(GLIDERS)[0])
     text.claim("still block", "yes")
     text.claim("oscillator gliders 8", "refused, memory")
     text.claim("still block", "yes")
@@ -232,12 +238,56 @@ def try_boxes(tally, files):
     tally.expect("boxes of many squares", run(["identify", "--limit", str(MEASURED), path], **within(BOXES)), wanted)
 
 
+def far_cells(seed, states, count=LISTED_CELLS):
+    """Cells at random places all over the plane, and at its corners."""
+    chance = random.Random(seed)
+    cells = {(chance.randrange(-EDGE, EDGE), chance.randrange(-EDGE, EDGE)): chance.randrange(1, states) for _ in range(count)}
+    return {**cells, (-EDGE, -EDGE): 1, (EDGE - 1, EDGE - 1): states - 1}
+
+
+def shown_of(cells, rule):
+    """What `show` prints of an RLE of these cells."""
+    columns, lines = zip(*cells)
+    left, top = min(columns), min(lines)
+    return figures(0, len(cells), f"{left} {top} {max(columns) - left + 1} {max(lines) - top + 1}", "rle", rule)
+
+
+def try_far_cells(tally, files, rule, states):
+    """Far cells of a rule: what needs no squares, and what does."""
+    cells = far_cells(states, states)
+    text = rle.tidy(cells, rule, 0, states)
+    path = files.path(f"{states}.rle", text)
+    # tidy again, though it has blanks
+    loose = files.path(f"{states}.loose.rle", text.replace(b"$", b" $ ").replace(b"\n", b"\n\n"))
+    for it in (path, loose):
+        tally.expect(f"show, far cells of {rule}", run(["show", it], **within(LISTED_SPACE)), shown_of(cells, rule))
+        tally.expect(f"to RLE, far cells of {rule}", run(["convert", it, "--to", "rle"], **within(LISTED_SPACE)), ample(text))
+    tally.expect(f"to macrocell, far cells of {rule}", run(["convert", path, "--to", "mc"], **within(LISTED_SPACE)), fault("memory"))
+    claims = ClaimText(Folder(tempfile.mkdtemp(dir=files.folder)))
+    claims.load_path("far", path)
+    claims.claim("becomes far 0 far", "refused, memory")
+    tally.expect(f"a claim, far cells of {rule}", run(["verify", claims.write()], **within(LISTED_SPACE)), outcome(claims.answers, False))
+    got = run(["convert", path, "--to", "mc"], **within(SQUARES_SPACE))
+    written = files.path(f"{states}.mc", got.printed)
+    tally.expect("there and back", run(["convert", written, "--to", "rle"], **within(SQUARES_SPACE)), ample(text))
+    tally.expect("to macrocell, with ample space", Outcome(got.printed[:4], got.complaint, got.status), ample(b"[M2]"))
+    tally.expect("the macrocell, of which squares are kept", run(["show", written], **within(LISTED_SPACE)), fault("memory"))
+
+
+def try_many_far_cells(tally, files):
+    """Nearly 7 million squares, which go over to the store of the end of a run."""
+    cells = far_cells(1, 2, 150000)
+    path = files.path("many.rle", rle.tidy(cells, "B3/S23", 0, 2))
+    words = ["draw", path, "--after", "0", "--at", f"{-EDGE},{-EDGE}", "--size", "3,2", "--scale", "0"]
+    tally.expect(f"{len(cells)} far cells after no generation", run(words), ample(b"o..\n...\n"))
+
+
 def main():
     tally = Tally()
     with tempfile.TemporaryDirectory() as folder:
         files = Folder(folder)
         text, cells = soup(SIDE, "B3/S23")
-        for name, content in (("soup.rle", text), ("wide.rule", table(transitions(TRANSITIONS))), ("dot.rle", DOT)):
+        for name, content in (("soup.rle", text), ("wide.rule", wide_table(transitions(TRANSITIONS))), ("dot.rle", WIDE_DOT)):
             files.path(name, content)
         try_claims(tally, files)
         try_texts(tally, files)
@@ -246,6 +296,9 @@ def main():
         try_less_memory(tally, files)
         try_a_store_of_its_own(tally, files)
         try_boxes(tally, files)
+        try_far_cells(tally, files, "B3/S23", 2)
+        try_far_cells(tally, files, "345/2/4", 4)
+        try_many_far_cells(tally, files)
         missing = os.path.join(folder, "missing")
         tally.expect("a file that isn't there, too little space", run(["show", missing], **within(SPACE)), fault(f"cannot read {missing}"))
     tally.finish()

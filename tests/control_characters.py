@@ -1,12 +1,14 @@
 #!/usr/bin/env -S python3 -B
-"""Control characters of paths, names and rule texts: what the program says of its own has each of their bytes as `\\xNN`, so that no terminal obeys
-them; and what a file holds is repeated as it is, in `show`, in `convert` and in the lines of a claim text."""
+"""Control characters of paths, names and rule texts: what the program says of its own has each of their bytes as `\\xNN`.
+
+So no terminal obeys them. What a file holds is repeated as it is, in `show`, in `convert` and in the lines of a claim text.
+"""
 import os
 import tempfile
 
 from lib import remedies
 from lib.claim_text import ClaimText, outcome
-from lib.program import Folder, Outcome, Tally, ample, fault, run
+from lib.program import Folder, Outcome, Tally, ample, fault, figures, run
 from lib.refusing import refusing_program
 
 BLOCK = "x = 2, y = 2, rule = B3/S23\n2o$2o!\n"
@@ -17,13 +19,15 @@ WIPE = b"\r\x1b[K"
 SPELLED = (
     (b"\x1b[2J", b"\\x1b[2J"), (b"\x01\x02\x1f", b"\\x01\\x02\\x1f"), (b"\x7f", b"\\x7f"), (b"~ !", b"~ !"), (b"\x0a\x0d\x09\x0b", b"\\x0a\\x0d\\x09\\x0b"),
     (b"\xc2\x80", b"\\xc2\\x80"), (b"\xc2\x9f", b"\\xc2\\x9f"), (b"\xc2\x9b31m", b"\\xc2\\x9b31m"), (b"\xc2\xa0", b"\xc2\xa0"), (b"\xc3\x80", b"\xc3\x80"),
-    (b"\xe3\x82\x80", b"\xe3\x82\x80"), (b"\xe2\x82\xac", b"\xe2\x82\xac"), (b"\xc2\x80\xc2\x80\x1b", b"\\xc2\\x80\\xc2\\x80\\x1b"), (b"\\x1b", b"\\x1b"), (b"\\", b"\\"),
+    (b"\xe3\x82\x80", b"\xe3\x82\x80"), (b"\xe2\x82\xac", b"\xe2\x82\xac"), (b"\xc2\x80\xc2\x80\x1b", b"\\xc2\\x80\\xc2\\x80\\x1b"), (b"\\x1b", b"\\x1b"),
+    (b"\\", b"\\"),
     (b"a\x1bb\x1b", b"a\\x1bb\\x1b"), (b"\x1b" * 40 + b"a", b"\\x1b" * 40 + b"a"),
 )
 
 # Bytes that are no UTF-8, as names and rule texts may have: two bytes that would be a control character, and others that wouldn't.
 ODD = (
-    (b"\xc2", b"\xc2"), (b"\x80\x9f", b"\x80\x9f"), (b"\xc2\xc2\x80", b"\xc2\\xc2\\x80"), (b"\xe3\xc2\x80", b"\xe3\\xc2\\x80"), (b"\x00\xff\x00", b"\\x00\xff\\x00"), (b"\xc2\x1b", b"\xc2\\x1b"),
+    (b"\xc2", b"\xc2"), (b"\x80\x9f", b"\x80\x9f"), (b"\xc2\xc2\x80", b"\xc2\\xc2\\x80"), (b"\xe3\xc2\x80", b"\xe3\\xc2\\x80"),
+    (b"\x00\xff\x00", b"\\x00\xff\\x00"), (b"\xc2\x1b", b"\xc2\\x1b"),
     (b"\xc2\x7f", b"\xc2\\x7f"), (b"\xc2\xa0\x1b", b"\xc2\xa0\\x1b"), (b"\xc2\x80\x80", b"\\xc2\\x80\x80"),
 )
 
@@ -58,8 +62,10 @@ def try_faults(tally, files):
     complaints = []
     for text, spelled in SPELLED:
         path, told = files.path(text.decode(), b"x = 1, y = 1\nz!").encode(), os.path.join(files.folder.encode(), spelled)
-        for words, it in ((["show", "--explain", path], Outcome(b"", b"cafile: bad pattern: rle syntax\n  %s, line 2\n" % told + remedies.line("bad pattern: rle syntax", path), 2)),
-                          (["show", "--explain", "examples/tables/spread.rle", "--rule", path], Outcome(b"", b"cafile: bad table: line 1 no rule line\n  rule file: %s, line 1\n" % told, 2))):
+        for words, it in ((["show", "--explain", path],
+                           Outcome(b"", b"cafile: bad pattern: rle syntax\n  %s, line 2\n" % told + remedies.line("bad pattern: rle syntax", path), 2)),
+                          (["show", "--explain", "examples/tables/spread.rle", "--rule", path],
+                           Outcome(b"", b"cafile: bad table: line 1 no rule line\n  rule file: %s, line 1\n" % told, 2))):
             got = run(words)
             if got != it:
                 complaints.append(f"{words}: wanted {it}, got {got}")
@@ -136,7 +142,7 @@ def try_progress(tally):
         told = os.path.join(folder, "\\x1b[5mblock\\xc2\\x9b").encode()
         got, _ = refusing.run(["show", block, "--after", "1", "--progress"], {"CLOCK_STEP": 1000})
         shown = WIPE + told + b": 0 of 1 generation" + WIPE + told + b": 1 of 1 generation" + WIPE
-        tally.expect("the progress of a run", got, Outcome(b"format rle\nrule B3/S23\ngen 1\ncells 4\nbox 0 0 2 2\n", shown, 0))
+        tally.expect("the progress of a run", got, Outcome(figures(1, 4, "0 0 2 2", "rle").printed, shown, 0))
         text = files.path("\x1b[5m.claims", "load block examples/block.rle\nstill block\n")
         before = os.path.join(folder, "\\x1b[5m.claims: line 2: ").encode()
         got, _ = refusing.run(["verify", "--progress", text, "tests/golden/verify/no_claims/claims"], {"CLOCK_STEP": 1000})

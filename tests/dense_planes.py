@@ -1,19 +1,26 @@
 #!/usr/bin/env -S python3 -B
-"""What dense planes become, beside the naive steps of lib/rows.py: soups under rules of few and of many counts, of eight neighbours, four and six, by fewer and
-more generations than are stepped at a time, at borders of bricks, in all quarters of the plane and at its far ends; planes at rest that gliders wake, and such
-as never rest; soups that die; large soups; and how many cells Golly tells of soups under rules that count four neighbours and six.
+"""What dense planes become, which are stepped and not leapt, beside naive steps.
 
-Each plane is claimed to become what it does, which is true, and the same with one cell changed, where the verdict has to name that cell.
+- Under B/S rules, beside tests/lib/rows.py. Soups go by fewer and more generations than are stepped at a time, at borders of bricks, in all quarters of the plane
+  and at its far ends. Planes rest, never rest, are woken by gliders, or die. Soups are as large as Golly tells under rules of four neighbours and six.
+- Under Generations rules, beside tests/lib/ageing.py. Soups of 2 to 256 states go at the same places. Planes are of dying cells alone, or rest beside dying ones.
+  Where it is on the path, Golly tells how many cells there are of each state.
+
+Each plane is claimed to become what it does, which is true, and the same with one cell changed, which isn't. Under B/S rules the verdict has to name that cell.
 """
 import random
+import re
 import tempfile
 
-from lib import rows
+from lib import ageing, golly, rle, rows, small_planes
+from lib.ageing import AgeingRule
 from lib.claim_text import ClaimText, outcome
+from lib.macrocell import EDGE
 from lib.program import Folder, Tally, run
+from lib.small_planes import moved
 
-# Cells of files lie from -EDGE to EDGE - 1. A brick has so many columns and rows, and a plane is stepped for so many generations at a time.
-EDGE, WIDE, HIGH, AT_A_TIME = 1 << 60, 64, 16, 1024
+# A brick has so many columns and rows, and a plane is stepped for so many generations at a time.
+WIDE, HIGH, AT_A_TIME = 64, 16, 1024
 
 SHORT = (1, 2, 3, 31, 32, 33, 63, 64, 65, 127, 128, 129, 255, 256, 257)
 LONG = tuple(many + more for many in (AT_A_TIME, AT_A_TIME + 32, 2 * AT_A_TIME) for more in (-1, 0, 1))
@@ -46,16 +53,19 @@ RULES = (
 
 # The upper left corners of soups: at each alignment of some to bricks in each quarter, round the origin, and far away.
 ALIGNMENTS = ((0, 0), (1, 15), (31, 8), (63, 1), (62, 14))
+
 CORNERS = (
     *((WIDE * i + x, HIGH * j + y) for i, j in ((5, 9), (-7, 3), (2, -11), (-6, -8)) for x, y in ALIGNMENTS),
     *((x, y) for x in (-64, -35, -1) for y in (-50, -16, -1)),
     *((x << 59, y << 59) for x in (-1, 0, 1) for y in (-1, 0, 1)),
 )
+
 PLACED = (("B3/S23", 32), ("B36/S23", 65), ("B3678/S34678", 129), ("B3/S23", AT_A_TIME + 1), ("B2/S", 63), ("B1357/S1357", 33), ("B38/S12378", 64),
           ("B2/S013V", 65), ("B24/S34H", 33), ("B2/S2H", 129), ("B13/S012V", 32))
 
 # A glider that goes down and to the right, and what rests beside others: still lifes and oscillators of period 2, each in all its phases and ways to lie.
 GLIDER = rows.Rows(0, 0, (0b010, 0b100, 0b111))
+
 RESTING = tuple(rows.Rows(0, 0, it) for it in (
     (3, 3), (7,), (1, 1, 1), (6, 9, 6), (2, 5, 5, 2), (2, 5, 2), (3, 5, 2), (6, 9, 10, 4), (3, 3, 12, 12), (3, 1, 8, 12), (7, 14), (4, 9, 9, 2)))
 
@@ -63,6 +73,7 @@ RESTING = tuple(rows.Rows(0, 0, it) for it in (
 PULSAR = rows.Rows(0, 0, tuple(int(row, 2) for row in (
     "0011100011100", "0", "1000010100001", "1000010100001", "1000010100001", "0011100011100", "0",
     "0011100011100", "1000010100001", "1000010100001", "1000010100001", "0", "0011100011100")))
+
 PITCH = 20
 
 # The directions of gliders.
@@ -91,6 +102,37 @@ GOLLY = (
 # Rules under which soups of as many cells a side die.
 DEADLY = (("B3/S", 100), ("B35/S", 100), ("B678/S5678", 100), ("B5678/S5678", 100), ("B35678/S5678", 33), ("B35678/S5678", 60), ("B35678/S5678", 54),
           ("B35678/S5678", 66))
+
+AGED_SHORT = (1, 2, 31, 32, 33, 64, 100)
+
+# Rules, the side of a soup under each, and the generations that it goes.
+AGED_RULES = (
+    ("/2/3", 60, AGED_SHORT),
+    ("23/3/3", 90, (*AGED_SHORT, AT_A_TIME + 1)),
+    ("345/2/4", 90, AGED_SHORT),
+    ("3/2/4", 60, AGED_SHORT),
+    ("23/3/8", 120, (*AGED_SHORT, AT_A_TIME - 1, AT_A_TIME, AT_A_TIME + 1, AT_A_TIME + 33, 2 * AT_A_TIME + 1)),
+    ("345/2/16", 90, (*AGED_SHORT, 260)),
+    ("23/3/17", 90, (*AGED_SHORT, AT_A_TIME + 5)),
+    ("345/2/5", 90, (33, 130)),
+    ("345/2/6", 90, (33, 130)),
+    ("23/3/2", 90, (33, 130)),
+    ("/2/256", 60, (33, 257, 300)),
+    ("345/2/256", 60, (33, 253, 254, 255, 256, 300)),
+    ("345/2/255", 60, (33, 255, 300)),
+    ("012345678/3/4", 70, (33, 130)),
+    ("/23/6", 60, (33, 70)),
+    ("345/2/4", 700, (33,)),
+)
+
+# The upper left corners of soups: at alignments to bricks in each quarter, round the origin, and far away.
+AGED_CORNERS = (
+    *((WIDE * i + x, HIGH * j + y) for i, j in ((5, 9), (-7, 3), (2, -11), (-6, -8)) for x, y in ((0, 0), (1, 15), (63, 1))),
+    *((x, y) for x in (-64, -35) for y in (-50, -16)),
+    *((x << 59, y << 59) for x in (-1, 1) for y in (-1, 1)),
+)
+
+AGED_PLACED = (("/2/3", 33), ("23/3/8", 65), ("345/2/4", 40), ("345/2/256", 34))
 
 
 def place_of_change(chance, plane):
@@ -290,10 +332,96 @@ def try_golly(tally, files):
         tally.tell(f"as Golly: {rule} by {count}", [] if told and [told[0], told[-1][-2:]] == wanted else [f"wanted {wanted}, got {came}"])
 
 
+def aged_soup(chance, side, states):
+    """A square of cells, of which two fifths aren't dead: half of them live, half of any state."""
+    return {(x, y): 1 if chance.random() < 0.5 else chance.randrange(1, states) for x in range(side) for y in range(side) if chance.random() < 0.4}
+
+
+def claim_all(text, chance, rule, cells, generations):
+    """Claims what the cells become after each number of generations."""
+    later, done = cells, 0
+    for count in generations:
+        later, done = ageing.after(later, rule, count - done), count
+        if later:
+            text.becomes(chance, cells, rule, count, later)
+
+
+def try_aged_rules(tally, files):
+    """Soups under each rule, at random places, by each number of generations."""
+    for name, side, generations in AGED_RULES:
+        chance, rule, text = random.Random(side), AgeingRule.of(name), small_planes.Text(files)
+        claim_all(text, chance, rule, moved(aged_soup(chance, side, rule.states), (chance.randint(-200, 100), chance.randint(-200, 100))), generations)
+        small_planes.judge(tally, f"{side} by {side} cells, {name}", text)
+
+
+def try_aged_places(tally, files):
+    """Soups at all corners."""
+    for name, count in AGED_PLACED:
+        chance, rule, text = random.Random(count), AgeingRule.of(name), small_planes.Text(files)
+        cells = aged_soup(chance, 60, rule.states)
+        later = ageing.after(cells, rule, count)
+        for corner in AGED_CORNERS:
+            text.becomes(chance, moved(cells, corner), rule, count, moved(later, corner))
+        small_planes.judge(tally, f"soups at all places, {name} by {count}", text)
+
+
+def try_aged_edges(tally, files):
+    """Soups beside cells that die and live at the edges and corners of bricks."""
+    for name in ("345/2/4", "23/3/8", "/2/256"):
+        chance, rule, text = random.Random(7), AgeingRule.of(name), small_planes.Text(files)
+        for _ in range(6):
+            cells = moved(aged_soup(chance, 60, rule.states), (-300, -100))
+            lines = [(x, y) for i in range(-2, 6) for j in range(-4, 9) for x in (WIDE * i - 1, WIDE * i) for y in (HIGH * j - 1, HIGH * j)]
+            cells |= {at: chance.randrange(1, rule.states) for at in lines if chance.random() < 0.9}
+            claim_all(text, chance, rule, cells, (32, 35, 70))
+        small_planes.judge(tally, f"cells at edges of bricks, {name}", text)
+
+
+def try_dying(tally, files):
+    """Planes of which all cells are dying: they are dead after as many generations as the youngest has left, and none of them gives birth."""
+    for name in ("345/2/4", "2/2/100", "23/3/256", "/2/256"):
+        chance, rule, text = random.Random(5), AgeingRule.of(name), small_planes.Text(files)
+        text.lines.append(b"claims 2")
+        for side in (1, 17, 90):
+            cells = {(x, y): chance.randrange(2, rule.states) for x in range(side) for y in range(side) if side == 1 or chance.random() < 0.6}
+            left = rule.states - min(cells.values())
+            for count in sorted({1, 31, 32, 33, left - 1} & {*range(1, left)}):
+                text.becomes(chance, cells, rule, count, ageing.after(cells, rule, count))
+            number = f"d{len(text.lines)}"
+            text.plane(number, cells, rule)
+            text.claim(f"dies {number} {left}", "yes")
+            text.claim(f"dies {number} {left + 40}", f"no, empty after {left}")
+        small_planes.judge(tally, f"dying cells alone, {name}", text)
+
+
+def try_aged_rest(tally, files):
+    """Blocks, which rest, and dying cells beside them that go on to be dead."""
+    chance, rule, text = random.Random(3), AgeingRule.of("23/3/200"), small_planes.Text(files)
+    blocks = {(8 * i + x, 8 * j + y): 1 for i in range(20) for j in range(20) for x in (0, 1) for y in (0, 1)}
+    dying = {(8 * i + 4, 8 * j + 4): chance.randrange(2, 200) for i in range(20) for j in range(20) if chance.random() < 0.7}
+    claim_all(text, chance, rule, blocks | dying, (1, 32, 33, 150, 197, 198, 199, 250, AT_A_TIME + 7))
+    small_planes.judge(tally, "blocks beside dying cells", text)
+
+
+def try_aged_golly(tally, files):
+    """Soups have as many cells that aren't dead as Golly tells."""
+    if not golly.BGOLLY:
+        return
+    for name, count in (("23/3/8", 1025), ("345/2/4", 300), ("/2/3", 200), ("345/2/16", 400), ("/2/256", 300)):
+        rule = AgeingRule.of(name)
+        path = files.path("golly.rle", rle.tidy(aged_soup(random.Random(4), 80, rule.states), name, 0, rule.states))
+        output = files.path("golly.mc")
+        golly.save_aged(path, count, output)
+        wanted, came = (re.findall(rb"cells +\d+", run(words).printed) for words in (["show", output], ["show", "--after", str(count), path]))
+        tally.tell(f"as Golly: {name} by {count}", [] if wanted and wanted == came else [f"wanted {wanted}, got {came}"])
+
+
 def main():
     tally = Tally()
     with tempfile.TemporaryDirectory() as folder:
-        for it in (try_rules, try_places, try_rest, try_busy, try_waking, try_gliders, try_deaths, try_apart, try_large, try_golly):
+        for it in (try_rules, try_places, try_rest, try_busy, try_waking, try_gliders, try_deaths, try_apart, try_large, try_golly, try_aged_rules,
+                   try_aged_places,
+                   try_aged_edges, try_dying, try_aged_rest, try_aged_golly):
             it(tally, Folder(folder))
     tally.finish()
 

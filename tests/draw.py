@@ -1,22 +1,20 @@
 #!/usr/bin/env -S python3 -B
-"""`draw`: pictures of windows, held against pictures that are made here cell by cell, apart from the program; pictures that were drawn by hand; what no window
-shows; faults; and what a terminal changes."""
-import fcntl
+"""`draw`: pictures of windows, pictures that were drawn by hand, what no window shows, faults, and what a terminal changes.
+
+Pictures are held against those that are made here cell by cell, apart from the program (tests/lib/pictures.py).
+"""
 import os
-import pty
 import random
-import struct
 import subprocess
 import tempfile
-import termios
-import tty
 
 from lib import macrocell, planes, rows
-from lib.pictures import box_of, cells_squares, drawn, picture, squares_of, wanted_window
 from lib.gallery import found
-from lib.program import MOST_WAITING, PROGRAM, ROOT, Folder, Outcome, Tally, ample, contents, fault, run
+from lib.pictures import box_of, cells_squares, drawn, picture, squares_of, wanted_window
+from lib.program import ROOT, Folder, Outcome, Tally, ample, contents, fault, run
 from lib.rle_reader import PatternFile
 from lib.steps import next_live
+from lib.terminal import on_terminal
 
 # How far from 0 the columns and rows of a window may be.
 REACH = 1 << 124
@@ -88,7 +86,8 @@ IMAGES = (
     (GLIDER, ["--zoom", "2", "--scale", "0"], 6, 6, [255, 255, 0, 0, 255, 255] * 2 + [255, 255, 255, 255, 0, 0] * 2 + [0] * 12),
     (GLIDER, ["--zoom", "3", "--at", "0,1", "--size", "8,5"], 6, 3, [255] * 18),
     (GLIDER, ["--zoom", "3", "--at", "1,2", "--size", "8,5"], 6, 3, [0] * 18),
-    (GLIDER, ["--zoom", "64", "--at", "1,0"], 1024, 1024, ([0] * 64 + [255] * 960) * 64 + ([255] * 64 + [0] * 64 + [255] * 896) * 64 + ([0] * 128 + [255] * 896) * 64 + [255] * 1024 * 832),
+    (GLIDER, ["--zoom", "64", "--at", "1,0"], 1024, 1024,
+     ([0] * 64 + [255] * 960) * 64 + ([255] * 64 + [0] * 64 + [255] * 896) * 64 + ([0] * 128 + [255] * 896) * 64 + [255] * 1024 * 832),
     (GLIDER, ["--zoom", "64", "--size", "192,192"], 192, 192, ([255] * 64 + [0] * 64 + [255] * 64) * 64 + ([255] * 128 + [0] * 64) * 64 + [0] * 192 * 64),
     (BRAIN, ["--zoom", "2", "--at", "0,1", "--size", "4,2"], 4, 2, [0, 0, 127, 127] * 2),
     (NOTHING, ["--zoom", "5"], 5, 5, [255] * 25),
@@ -97,24 +96,33 @@ IMAGES = (
 # Patterns and words of which there is no window, and why.
 NO_WINDOW = (
     (BLINKER, ["--size", "1,1"], "too large"), (BLINKER, ["--size", "1,40"], "too large"), (GLIDER, ["--size", "2,2", "--scale", "0"], "too large"),
-    (FULL, ["--scale", "0"], "too large"), (FULL, ["--scale", "47"], "too large"), (FULL, ["--size", "1,8192"], "too large"), (PAIR, ["--scale", "0", "--to", "pgm"], "too large"),
+    (FULL, ["--scale", "0"], "too large"), (FULL, ["--scale", "47"], "too large"), (FULL, ["--size", "1,8192"], "too large"),
+    (PAIR, ["--scale", "0", "--to", "pgm"], "too large"),
     (GLIDER, ["--at", f"{REACH},0", "--size", "1,1"], "out of range"), (GLIDER, ["--at", f"0,{-REACH - 1}", "--size", "1,1"], "out of range"),
     (GLIDER, ["--at", f"{REACH - 79},0"], "out of range"), (GLIDER, ["--at", f"0,{REACH - 1}", "--size", "1,2"], "out of range"),
     (GLIDER, ["--at", f"{(1 << 127) - 1},0", "--size", "1,1", "--scale", "2"], "out of range"),
     (GLIDER, ["--to", "pgm", "--zoom", "2", "--size", "5,6"], "too large"), (GLIDER, ["--to", "pgm", "--zoom", "64", "--size", "8192,191"], "too large"),
     (FULL, ["--to", "pgm", "--zoom", "1"], "too large"), (GLIDER, ["--to", "pgm", "--zoom", "9", "--size", "8,8"], "too large"),
-    (GLIDER, ["--to", "pgm", "--zoom", "9", "--size", "8,9", "--at", "0,0"], "out of range"), (GLIDER, ["--to", "pgm", "--zoom", "9", "--size", "9,8", "--at", "0,0"], "out of range"),
+    (GLIDER, ["--to", "pgm", "--zoom", "9", "--size", "8,9", "--at", "0,0"], "out of range"),
+    (GLIDER, ["--to", "pgm", "--zoom", "9", "--size", "9,8", "--at", "0,0"], "out of range"),
 )
 
 # Words that ask for nothing.
 FAULTY = (
-    ["--at"], ["--at", ""], ["--at", "5"], ["--at", "5,"], ["--at", ",5"], ["--at", "5,x"], ["--at", "1,2,3"], ["--at", "1, 2"], ["--at", "1 2"], ["--at", "1", "2"], ["--at", "1.5,2"],
-    ["--at", f"{1 << 127},0"], ["--at", "1,1", "--at", "2,2"], ["--at", "--size", "5,5"], ["--size"], ["--size", "5"], ["--size", "0,5"], ["--size", "5,0"], ["--size", "8193,1"],
-    ["--size", "1,8193"], ["--size", "-5,5"], ["--size=-5,5"], ["--size", "5x5"], ["--size", f"{1 << 64},5"], ["--scale"], ["--scale", "-1"], ["--scale=-1"], ["--scale", "125"], ["--scale", "x"],
-    ["--scale", ""], ["--scale", "256"], ["--to"], ["--to", "png"], ["--to", "PGM"], ["--to", "rle"], ["--after"], ["--after", "-1"], ["--after", "x"], ["--after", "1152921504606846977"],
-    ["--zoom", "2"], ["--zoom", "1"], ["--zoom", "2", "--to", "text"], ["--to", "pgm", "--zoom"], ["--to", "pgm", "--zoom", "0"], ["--to", "pgm", "--zoom", "65"], ["--to", "pgm", "--zoom", "x"],
-    ["--to", "pgm", "--zoom", "-1"], ["--to", "pgm", "--zoom", "2,2"], ["--to", "pgm", "--zoom", "2", "--scale", "1"], ["--to", "pgm", "--zoom", "1", "--scale", "124"],
-    ["--memo", "0"], ["--memo", "16777217"], ["--work", "-1"], ["--work", "x"], ["--progress=yes"], ["--explain=yes"], ["--rule"], ["--rules"], ["examples/block.rle"],
+    ["--at"], ["--at", ""], ["--at", "5"], ["--at", "5,"], ["--at", ",5"], ["--at", "5,x"], ["--at", "1,2,3"], ["--at", "1, 2"], ["--at", "1 2"],
+    ["--at", "1", "2"], ["--at", "1.5,2"],
+    ["--at", f"{1 << 127},0"], ["--at", "1,1", "--at", "2,2"], ["--at", "--size", "5,5"], ["--size"], ["--size", "5"], ["--size", "0,5"], ["--size", "5,0"],
+    ["--size", "8193,1"],
+    ["--size", "1,8193"], ["--size", "-5,5"], ["--size=-5,5"], ["--size", "5x5"], ["--size", f"{1 << 64},5"], ["--scale"], ["--scale", "-1"], ["--scale=-1"],
+    ["--scale", "125"], ["--scale", "x"],
+    ["--scale", ""], ["--scale", "256"], ["--to"], ["--to", "png"], ["--to", "PGM"], ["--to", "rle"], ["--after"], ["--after", "-1"], ["--after", "x"],
+    ["--after", "1152921504606846977"],
+    ["--zoom", "2"], ["--zoom", "1"], ["--zoom", "2", "--to", "text"], ["--to", "pgm", "--zoom"], ["--to", "pgm", "--zoom", "0"],
+    ["--to", "pgm", "--zoom", "65"], ["--to", "pgm", "--zoom", "x"],
+    ["--to", "pgm", "--zoom", "-1"], ["--to", "pgm", "--zoom", "2,2"], ["--to", "pgm", "--zoom", "2", "--scale", "1"],
+    ["--to", "pgm", "--zoom", "1", "--scale", "124"],
+    ["--memo", "0"], ["--memo", "16777217"], ["--work", "-1"], ["--work", "x"], ["--progress=yes"], ["--explain=yes"], ["--rule"], ["--rules"],
+    ["examples/block.rle"],
 )
 
 
@@ -137,7 +145,8 @@ def try_by_hand(tally, files):
             tally.expect(f"draw {os.path.basename(path)} {' '.join([*words, *more])}", run(["draw", path, *words, *more]), ample(text.encode()))
     for pattern, words, width, height, pixels in IMAGES:
         path = path_of(files, pattern)
-        tally.expect(f"draw {os.path.basename(path)} {' '.join(words)} --to pgm", run(["draw", path, "--to", "pgm", *words]), ample(b"P5\n%d %d\n255\n" % (width, height) + bytes(pixels)))
+        tally.expect(f"draw {os.path.basename(path)} {' '.join(words)} --to pgm", run(["draw", path, "--to", "pgm", *words]),
+                     ample(b"P5\n%d %d\n255\n" % (width, height) + bytes(pixels)))
     tally.expect("standard input", run(["draw", "-"], input=GLIDER.encode()), ample(b".o.\n..o\nooo\n"))
 
 
@@ -161,7 +170,8 @@ def windows_of(chance, box):
     yield {"scale": max(scale, 0)}
     for _ in range(4):
         at = x0 + chance.randint(-wide // 4 - 2, wide), y0 + chance.randint(-high // 4 - 2, high)
-        yield {"at": at, "size": (chance.randint(1, 50), chance.randint(1, 30)), "scale": chance.randint(0, max(scale, 0) + 2), "to": chance.choice(("text", "pgm"))}
+        yield {"at": at, "size": (chance.randint(1, 50), chance.randint(1, 30)), "scale": chance.randint(0, max(scale, 0) + 2),
+               "to": chance.choice(("text", "pgm"))}
     yield {"at": (x0 - 3, y0 - 2)}
     yield {"to": "pgm", "zoom": chance.randint(1, 9)}
     yield {"to": "pgm", "zoom": chance.randint(2, 20), "at": (x0 + chance.randint(-2, 2), y0), "size": (chance.randint(20, 90), chance.randint(20, 90))}
@@ -283,9 +293,11 @@ def try_tables(tally, _):
 
 # Words of the environment for the columns and lines of a terminal, and the size of a picture that fits it.
 ROOMS = (
-    (("100", "30"), (100, 28)), (("20", "12"), (20, 10)), (("5", "4"), (5, 2)), (("2", "3"), (2, 1)), (("3", "2"), (3, 1)), (("9", "1"), (9, 1)), (("9000", "99999"), (8192, 8192)),
+    (("100", "30"), (100, 28)), (("20", "12"), (20, 10)), (("5", "4"), (5, 2)), (("2", "3"), (2, 1)), (("3", "2"), (3, 1)), (("9", "1"), (9, 1)),
+    (("9000", "99999"), (8192, 8192)),
     (("+40", "007"), (40, 5)), (("18446744073709551615", "18446744073709551615"), (8192, 8192)),
-    (("0", "24"), None), (("80", "0"), None), (("-80", "24"), None), (("80x", "24"), None), (("80", "24 "), None), (("", "24"), None), (("80", ""), None), (("18446744073709551616", "9"), None),
+    (("0", "24"), None), (("80", "0"), None), (("-80", "24"), None), (("80x", "24"), None), (("80", "24 "), None), (("", "24"), None), (("80", ""), None),
+    (("18446744073709551616", "9"), None),
     ((None, "9"), None), (("9", None), None), ((None, None), None), (("\udcff", "9"), None),
 )
 
@@ -293,24 +305,9 @@ ROOMS = (
 def drawn_on_terminal(words, room=(None, None), together=False):
     """The outcome of `draw` whose standard output is a terminal, and standard error too, where they are to be seen together, with words in the environment for
     its columns and lines."""
-    ours, its = pty.openpty()
-    tty.setraw(its)
-    fcntl.ioctl(its, termios.TIOCSWINSZ, struct.pack("4H", 11, 17, 0, 0))
     environment = {name: it for name, it in zip(("COLUMNS", "LINES"), room) if it is not None}
-    with subprocess.Popen([PROGRAM, "draw", *words], cwd=ROOT, stdin=subprocess.DEVNULL, stdout=its, stderr=its if together else subprocess.PIPE, env=environment) as program:
-        os.close(its)
-        printed = []
-        while True:
-            try:
-                printed.append(os.read(ours, 65536))
-            except OSError:
-                break
-            if not printed[-1]:
-                break
-        complaint = b"" if together else program.stderr.read()
-        program.wait(MOST_WAITING)
-    os.close(ours)
-    return Outcome(b"".join(printed), complaint, program.returncode)
+    got, shown = on_terminal(lambda terminal: run(["draw", *words], stdout=terminal, stderr=terminal if together else subprocess.PIPE, env=environment))
+    return Outcome(shown, got.complaint, got.status)
 
 
 def caption(box, scale, generation):
@@ -324,8 +321,10 @@ def try_terminal(tally, files):
     cells = dict.fromkeys({(chance.randrange(-40, 150), chance.randrange(-70, 90)) for _ in range(400)}, 1)
     box, path = box_of(cells), files.path("large.mc", macrocell.tidy(macrocell.Pattern(macrocell.tree_of(cells), "B3/S23", 17), 2))
     for room, size in ROOMS:
-        for said, fits in (({}, {"size": size}), ({"at": (-3, 5)}, {"at": (-3, 5), "size": size}), ({"scale": 0}, {"scale": 0}), ({"size": (7, 8)}, {"size": (7, 8)}),
-                           ({"at": (-3, 5), "scale": 2}, {"at": (-3, 5), "scale": 2, "size": size}), ({"scale": 3, "size": (60, 70)}, {"scale": 3, "size": (60, 70)})):
+        for said, fits in (({}, {"size": size}), ({"at": (-3, 5)}, {"at": (-3, 5), "size": size}), ({"scale": 0}, {"scale": 0}),
+                           ({"size": (7, 8)}, {"size": (7, 8)}),
+                           ({"at": (-3, 5), "scale": 2}, {"at": (-3, 5), "scale": 2, "size": size}),
+                           ({"scale": 3, "size": (60, 70)}, {"scale": 3, "size": (60, 70)})):
             if max(size or (0, 0)) > 1000 and "at" in said:
                 continue
             window = wanted_window(box, **fits)
@@ -339,9 +338,12 @@ def try_terminal(tally, files):
     window = wanted_window(box, size=(30, 8))
     both = caption(box, window.scale, 17) + picture(cells_squares(cells, window), window, 2)
     tally.expect("the caption comes first", drawn_on_terminal([path], ("30", "10"), together=True), ample(both))
-    for pattern, words, wanted in ((GLIDER, [], Outcome(b".o.\n..o\nooo\n", caption((0, 0, 3, 3), 0, 0), 0)), (GLIDER, ["--after", "8"], Outcome(b".o.\n..o\nooo\n", caption((2, 2, 3, 3), 0, 8), 0)),
-                                   (GLIDER, ["--scale", "1"], Outcome(b"oo\noo\n", caption((0, 0, 3, 3), 1, 0), 0)), (BLINKER, ["--after", "1"], Outcome(b"o\no\no\n", caption((0, -1, 1, 3), 0, 1), 0)),
-                                   (NOTHING, [], Outcome(b".\n", caption(None, 0, 0), 0)), (NOTHING, ["--after", "5", "--scale", "2"], Outcome(b".\n", caption(None, 2, 5), 0)),
+    for pattern, words, wanted in ((GLIDER, [], Outcome(b".o.\n..o\nooo\n", caption((0, 0, 3, 3), 0, 0), 0)),
+                                   (GLIDER, ["--after", "8"], Outcome(b".o.\n..o\nooo\n", caption((2, 2, 3, 3), 0, 8), 0)),
+                                   (GLIDER, ["--scale", "1"], Outcome(b"oo\noo\n", caption((0, 0, 3, 3), 1, 0), 0)),
+                                   (BLINKER, ["--after", "1"], Outcome(b"o\no\no\n", caption((0, -1, 1, 3), 0, 1), 0)),
+                                   (NOTHING, [], Outcome(b".\n", caption(None, 0, 0), 0)),
+                                   (NOTHING, ["--after", "5", "--scale", "2"], Outcome(b".\n", caption(None, 2, 5), 0)),
                                    (FULL, ["--at", "0,0", "--size", "2,1"], Outcome(b"oo\n", caption((-(1 << 60), -(1 << 60), 1 << 61, 1 << 61), 0, 0), 0)),
                                    (GLIDER, ["--at", f"{REACH},0"], fault("window out of range")), (GLIDER, ["--size", "1,8193"], None)):
         got = drawn_on_terminal([path_of(files, pattern), *words], ("80", "24"))

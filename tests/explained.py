@@ -1,28 +1,22 @@
 #!/usr/bin/env -S python3 -B
-"""`verify --explain`: after each no and each refusal that has more to tell one more line, with the cell, the pattern, its file, the faulty line or the
-rule that isn't known; and the lines of the verdicts are those of a run that isn't explained."""
+"""`verify --explain`: one more line after each no and each refusal that has more to tell.
+
+It names the cell, the pattern, its file, the faulty line or the rule that isn't known. The lines of the verdicts are those of a run that isn't explained.
+"""
 import os
 import random
 import re
 import tempfile
 
-from lib import macrocell, rle, steps
-from lib.claim_text import ClaimText, outcome, printed
-from lib.program import Folder, Tally, run
-from macrocell import FAULTS, FULL
-from show_and_convert import SPREAD, TABLES
+from lib import rle, steps
+from lib.claim_text import ClaimTexts, differs, printed
+from lib.macrocell import EDGE
+from lib.macrocell_texts import FULL_SQUARE, faulty_macrocells
+from lib.program import MAX_FILE, Tally, run
+from lib.small_files import BAD_RLES, DOT, HEADER, SPREAD, TABLES, where
 
-EDGE = 1 << 60
-MAX_FILE = 67108864
-HEADER = "x = 1, y = 1, rule = B3/S23\n"
-DOT, NOTHING, BLOCK = HEADER + "o!\n", HEADER + "!\n", HEADER + "2o$2o!\n"
+NOTHING, BLOCK = HEADER + "!\n", HEADER + "2o$2o!\n"
 BLINKER = "x = 3, y = 1, rule = B3/S23\n3o!\n"
-
-
-def differs(generations):
-    """The verdict of a claim that fails at some cell."""
-    return f"no, cells differ after {generations}"
-
 
 # Loads, and claims about them that fail at one cell alone, with what is told of that.
 CELLS = (
@@ -45,10 +39,12 @@ CELLS = (
      f"far at {-2 * EDGE},{-2 * EDGE}: 0 after 1 generation, claimed 1"),
     ({"corner": "[M2]\n1 1 0 0 0\n"}, "still corner", 1, "corner at -1,-1: 0 after 1 generation, claimed 1"),
     # under a table whose live cells stay
-    ({"two": "x = 1, y = 1, rule = Spread\nB!", "one": "x = 1, y = 1, rule = Spread\nA!"}, "becomes two 0 one", 0, "two at 0,0: 2 after 0 generations, claimed 1"),
+    ({"two": "x = 1, y = 1, rule = Spread\nB!", "one": "x = 1, y = 1, rule = Spread\nA!"}, "becomes two 0 one", 0,
+     "two at 0,0: 2 after 0 generations, claimed 1"),
     ({"two": "x = 1, y = 1, rule = Spread\nB!", "later": "#CXRLE Pos=-1,-1\nx = 1, y = 1, rule = Spread\n.B$BBA$.B!"}, "becomes two 1 later", 1,
      "two at 1,0: 2 after 1 generation, claimed 1"),
-    ({"high": "x = 1, y = 1, rule = High\nyO!", "low": "x = 1, y = 1, rule = High\nyN!"}, "becomes high 3 low", 3, "high at 0,0: 255 after 3 generations, claimed 254"),
+    ({"high": "x = 1, y = 1, rule = High\nyO!", "low": "x = 1, y = 1, rule = High\nyN!"}, "becomes high 3 low", 3,
+     "high at 0,0: 255 after 3 generations, claimed 254"),
     # names of any bytes
     ({b"\xff\x00\xfe": DOT}, b"still \xff\x00\xfe", 1, b"\xff\\x00\xfe at 0,0: 0 after 1 generation, claimed 1"),
     ({"-": DOT}, "still -", 1, "- at 0,0: 0 after 1 generation, claimed 1"),
@@ -56,60 +52,6 @@ CELLS = (
 )
 
 HIGH = "@RULE High\n@TABLE\nn_states:256\nneighborhood:Moore\nsymmetries:none\n"
-
-# RLE texts, their faults, and the lines on which these stand; none where only a limit is passed.
-BAD_RLES = (
-    ("", "header", 1), ("\n\n", "header", 2), ("#C c", "header", 1), ("#C c\n#C d\n", "header", 2), ("#C c\nbo$!\n", "header", 2),
-    ("x = 3, y = 3,\n3o!\n", "header", 1), ("#C c\n\nx = 3\ny = 3\n3o!", "header", 3), ("\ufeff" + DOT, "header", 1),
-    ("#CXRLE Pos=1\n" + DOT, "syntax", 1), ("#C c\n#CXRLE Gen=1\n#CXRLE Gen=-1\n" + DOT, "syntax", 3), ("#C c\n#CXRLE Pos=+1,1\nbo$!", "syntax", 2),
-    ("#C c\n#CXRLE Gen=9223372036854775808\n" + DOT, "gen too large", 2),
-    # the fault of XLife's rule stands at the header that has none
-    ("#r 23/3\n#C c\nx = 1, y = 1\no!", "xlife rule", 3), ("#C c\n#r 23/3\nx = 1, y = 1,\no!", "header", 3),
-    (HEADER + "0o!", "syntax", 2), (HEADER + "2o$\n2oz!", "syntax", 3), (HEADER + "2o$\n\n\n2!", "syntax", 5), (HEADER + "o\r\nz!", "syntax", 3),
-    (HEADER + "o\n# z\nz!", "syntax", 4), (HEADER + "o\n   3\tz!", "syntax", 3), (HEADER + "oz\n$!", "syntax", 2), (HEADER + "o $ o   \n  p A!", "syntax", 3),
-    (HEADER + "99999999999999999999b\n0b!", "syntax", 3),
-    (HEADER + "o\nyP!", "bad state", 3), (HEADER + "yX\n!", "bad state", 2),
-    # what is missing at the end is missing on the line of the last byte
-    (HEADER + "3o", "no end", 2), (HEADER + "3o\n", "no end", 2), (HEADER + "3o\n\n\n", "no end", 4), (HEADER + "3o$\n3o$\n", "no end", 3),
-    (HEADER.strip(), "no end", 1), (HEADER, "no end", 1), (HEADER + "o\n# o!", "no end", 3), (HEADER + "o\n3", "no end", 3), (HEADER + "o\n3\n\n\n", "no end", 3), (HEADER + "o$\np", "no end", 3),
-    (HEADER + "4611686018427387905b!", "range", None), (f"#CXRLE Pos={EDGE},0\n" + HEADER + "!", "range", None),
-    (HEADER + "16777217o!", "too many cells", None),
-)
-
-
-def where(path, line):
-    """A file, and its faulty line where there is one."""
-    return path if line is None else b"%s, line %d" % (path, line)
-
-
-def faulty_macrocells():
-    """Macrocell texts, their faults, and the lines on which these stand, as a naive reader finds them."""
-    for told, bodies in FAULTS.items():
-        for body in bodies:
-            text = b"[M2]\n" + body.encode("latin-1")
-            yield text, told, macrocell.faulty_line(text)
-
-
-class Texts:
-    """Claim texts in a folder of their own, tried with notes and without."""
-
-    def __init__(self, tally, folder):
-        self.tally, self.files = tally, Folder(folder)
-
-    def text(self):
-        """A new claim text, whose files stand in a folder of their own."""
-        return ClaimText(Folder(tempfile.mkdtemp(dir=self.files.folder)))
-
-    def judge(self, name, text):
-        """Runs the program over the text in both ways, and compares what it prints."""
-        path, complaints = text.write(), []
-        for words in (["verify", path], ["verify", "--explain", path], ["verify", path, "--explain"]):
-            got, wanted = run(words), outcome(text.answers, "--explain" in words)
-            if got != wanted:
-                lines = zip(got.printed.split(b"\n"), wanted.printed.split(b"\n"))
-                first = next((f"{at + 1}: wanted {right}, got {left}" for at, (left, right) in enumerate(lines) if left != right), "none in another")
-                complaints.append(f"{' '.join(words)}: wanted status {wanted.status}, got {got.status} and {got.complaint}; first other line {first}")
-        self.tally.tell(f"{name}: {len(text.answers)} claims", complaints)
 
 
 def try_cells(texts):
@@ -128,8 +70,9 @@ def try_patterns(texts):
     """A claim is refused for the file of its first pattern, or of its second."""
     text = texts.text()
     paths = {name: text.load(name, content) for name, content in {
-        "block": BLOCK, "no_end": HEADER + "3o\n", "syntax": HEADER + "o$\n\nz!", "unknown": "x = 1, y = 1, rule = Life\no!", "wakes": "x = 1, y = 1, rule = B0/S\no!",
-        "bounded": "x = 1, y = 1, rule = B3/S23:T9,9\no!", "large": HEADER + "B!", "large_life": "[M2]\n#R Life\n1 2 0 0 0\n", "full": "[M2]\n" + FULL,
+        "block": BLOCK, "no_end": HEADER + "3o\n", "syntax": HEADER + "o$\n\nz!", "unknown": "x = 1, y = 1, rule = Life\no!",
+        "wakes": "x = 1, y = 1, rule = B0/S\no!",
+        "bounded": "x = 1, y = 1, rule = B3/S23:T9,9\no!", "large": HEADER + "B!", "large_life": "[M2]\n#R Life\n1 2 0 0 0\n", "full": "[M2]\n" + FULL_SQUARE,
         "high": "x = 1, y = 1, rule = B36/S23\no!", "forward": "[M2]\n#R B3/S23\n4 0 0 0 9\n", "odd": HEADER + "z!", "nothing": NOTHING}.items()}
     paths["lost"] = text.load_path("lost", texts.files.path("lost.rle"))
     paths["gone"] = text.load_path("gone", texts.files.path("gone.rle"))
@@ -155,7 +98,8 @@ def try_patterns(texts):
     refused(b"spaceship \xfe\xff 1 1 0", "no file", b"\xfe\xff")
     refused("becomes lost 0 gone", "no file", "lost")
     refused("becomes gone 0 lost", "no file", "gone")
-    for cause, name, line in (("bad pattern: rle no end", "no_end", 2), ("bad pattern: rle syntax", "syntax", 4), ("bad pattern: macrocell forward", "forward", 3)):
+    for cause, name, line in (("bad pattern: rle no end", "no_end", 2), ("bad pattern: rle syntax", "syntax", 4),
+                              ("bad pattern: macrocell forward", "forward", 3)):
         refused(f"oscillator {name} 2", cause, name, line)
         for other in ("block", "unknown", "large", "full", "nothing"):
             refused(f"becomes {name} 1 {other}", cause, name, line)
@@ -305,7 +249,7 @@ def main():
         for it in (try_cells, try_patterns, try_faulty_lines, try_rule_files, try_soups, try_missing_twice, try_nothing):
             inner = os.path.join(folder, it.__name__)
             os.mkdir(inner)
-            it(Texts(tally, inner))
+            it(ClaimTexts(tally, inner))
     tally.finish()
 
 

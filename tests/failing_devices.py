@@ -1,5 +1,5 @@
 #!/usr/bin/env -S python3 -B
-"""Reads and writes that fail in mid-stream, or go on by a byte at a time, by tests/refuse.c: all that comes of each is known.
+"""Reads and writes that fail, at once or in mid-stream, or go on by a byte at a time (tests/refuse.c): all that comes of each is known.
 
 - By a byte at a time, read or written, a run comes to what it does otherwise.
 - Where the kth byte of standard output can't be written, the first k - 1 are there and no other, though later writes would go well: nothing is tried
@@ -8,12 +8,14 @@
   file, its first line, and its `rule` lines.
 - Where the kth byte of standard error can't be written, the status is the same, and so is all that comes before that line and after it.
 - Where the kth byte of a file can't be read, that file is told as one that can't be read, or refuses the claims that need it; the others are judged.
+- Where standard output or standard error takes nothing at all, the fault is told where it can be, the status says it in any case, and no verdict is lost in silence.
 """
 import os
 import re
+import subprocess
 
 from lib import golden, remedies
-from lib.program import ROOT, Folder, Outcome, Tally, ample, fault, run
+from lib.program import MOST_WAITING, PROGRAM, ROOT, Folder, Outcome, Tally, ample, fault, run
 from lib.refusing import refusing_program
 
 RULE = "@RULE S\n@TABLE\nn_states:3\nneighborhood:oneDimensional\nsymmetries:none\n"
@@ -27,25 +29,36 @@ PIECE = 8192
 MOST_WHOLE = 3000
 
 # Golden runs of `show`, `convert` and `draw` that print or read some hundred bytes.
-GOLDEN = ("show/full_square", "convert/gun_to_macrocell", "convert/gun_to_rle", "convert/full_square", "draw/full_square", "draw/pgm", "draw/window", "show/after",
+GOLDEN = ("show/full_square", "convert/gun_to_macrocell", "convert/gun_to_rle", "convert/full_square", "draw/full_square", "draw/pgm", "draw/window",
+          "show/after",
           "convert/after")
-
 
 # What the claim text prints, without notes and with them. Which of the two cells that differ the last note names is open; this is the program's choice.
 PLAIN = b"line 3: no, cells differ after 1\nline 4: yes\nline 5: no, cells differ after 0\n"
+
 EXPLAINED = (b"line 3: no, cells differ after 1\n  dot at 0,0: 0 after 1 generation, claimed 1\nline 4: yes\n"
              b"line 5: no, cells differ after 0\n  row at 1,0: 1 after 0 generations, claimed 0\n")
 
 # What the dot, the row and the dot as macrocell are, and what is told of a file that isn't identified, with the row.
 IDENTIFIED = ("claims 2\nload dot {dot}\ndies dot 1\nload row {row}\noscillator row 2\nload dot-2 {macrocell}\ndies dot-2 1\n")
+
 NOT_IDENTIFIED = "claims 2\n# z: {bad}: bad pattern: rle syntax, line 2\nload row {row}\noscillator row 2\n"
 
 # What comes of the dot and of the cell under a table.
 SHOWN, SHOWN_MACROCELL, SHOWN_TABLE = (
     ample(b"format %s\nrule %s\ngen 0\ncells 1\nbox 0 0 1 1\n" % it) for it in ((b"rle", b"B3/S23"), (b"macrocell", b"B3/S23"), (b"rle", b"S")))
+
 AS_MACROCELL, AS_RLE = ample(b"[M2] (cafile)\n#R B3/S23\n*$$$$$$$$\n4 0 0 0 1\n"), ample(b"#CXRLE Pos=0,0\nx = 1, y = 1, rule = B3/S23\no!\n")
 TABLE_AS_MACROCELL = ample(b"[M2] (cafile)\n#R S\n1 0 0 0 2\n")
 DRAWN_TABLE = ample(b"B\n")
+VERIFY = ["verify", "examples/block.claims"]
+SHOW = ["show", "examples/macrocell/glider.mc"]
+CONVERT = ["convert", "examples/glider.rle", "--to", "mc"]
+BACK = ["convert", "examples/macrocell/gun.mc", "--to", "rle"]
+IDENTIFY = ["identify", "examples/glider.rle", "examples/lost.rle"]
+DRAW = ["draw", "examples/glider.rle"]
+IMAGE = ["draw", "examples/macrocell/full_square.mc", "--to", "pgm"]
+FAILED_WRITE = fault("write")
 
 
 def claim_text(files):
@@ -74,12 +87,16 @@ def printing_runs(files):
     both = after_path(text, EXPLAINED) + after_path(lost, b"line 2: refused, no file\n  lost: nowhere.rle: no such file\n")
     return (
         (["verify", text], Outcome(PLAIN, b"", 1)), (["verify", "--explain", text], Outcome(EXPLAINED, b"", 1)),
-        (["verify", "--explain", text, lost], Outcome(both, b"", 2)), (["verify", "--explain", "--rules", files.folder, named], Outcome(found, b"", 2)), (["show", dot], SHOWN), (["show", macrocell], SHOWN_MACROCELL),
+        (["verify", "--explain", text, lost], Outcome(both, b"", 2)), (["verify", "--explain", "--rules", files.folder, named], Outcome(found, b"", 2)),
+        (["show", dot], SHOWN), (["show", macrocell], SHOWN_MACROCELL),
         (["identify", dot, row, macrocell], ample(IDENTIFIED.format(dot=dot, row=row, macrocell=macrocell).encode())),
-        (["identify", "--explain", files.path("z.rle", "x = 1, y = 1\nz!"), row], Outcome(NOT_IDENTIFIED.format(bad=files.path("z.rle"), row=row).encode(), f"  {files.path('z.rle')}, line 2\n".encode() + remedies.line("bad pattern: rle syntax", b""), 2)),
+        (["identify", "--explain", files.path("z.rle", "x = 1, y = 1\nz!"), row],
+         Outcome(NOT_IDENTIFIED.format(bad=files.path("z.rle"), row=row).encode(),
+                 f"  {files.path('z.rle')}, line 2\n".encode() + remedies.line("bad pattern: rle syntax", b""), 2)),
         (["show", dot, "--after", "0"], SHOWN), (["convert", dot, "--to", "mc", "--after", "0"], AS_MACROCELL),
         (["show", state, "--rule", rule], SHOWN_TABLE), (["show", state, "--rules", files.folder], SHOWN_TABLE),
-        (["draw", state, "--rule", rule], DRAWN_TABLE), (["draw", state, "--rules", files.folder], DRAWN_TABLE), (["convert", dot, "--to", "mc"], AS_MACROCELL), (["convert", macrocell, "--to", "rle"], AS_RLE),
+        (["draw", state, "--rule", rule], DRAWN_TABLE), (["draw", state, "--rules", files.folder], DRAWN_TABLE), (["convert", dot, "--to", "mc"], AS_MACROCELL),
+        (["convert", macrocell, "--to", "rle"], AS_RLE),
         *((golden.words(case), golden.outcome(case)) for case in GOLDEN),
         *((words, ample(run(words).printed)) for words in (["--version"], ["verify", "--help"])),
     )
@@ -95,7 +112,8 @@ def complaining_runs(files):
     several = f"cafile: {bad}: claims line 1: syntax\ncafile: {worse}: claims line 1: unknown name\n"
     return (
         (["show", "nowhere", "--after", "1"], fault("cannot read nowhere")), (["show", text, "--after", "1"], fault("bad pattern: rle header")),
-        (["show", "nowhere"], fault("cannot read nowhere")), (["draw", "nowhere"], fault("cannot read nowhere")), (["convert", z, "--to", "mc"], fault("bad pattern: rle syntax")),
+        (["show", "nowhere"], fault("cannot read nowhere")), (["draw", "nowhere"], fault("cannot read nowhere")),
+        (["convert", z, "--to", "mc"], fault("bad pattern: rle syntax")),
         (["show", z, "--rule", rule], fault("bad table: line 3 states")), (["show", "--explain", z], noted["bad pattern: rle syntax"]),
         (["convert", z, "--to", "mc", "--explain", "--rule", rule], noted["bad table: line 3 states"]), (["verify", bad], fault("claims line 1: syntax")),
         (["verify", bad, text, worse], Outcome(after_path(text, PLAIN), several.encode(), 2)),
@@ -244,7 +262,8 @@ def try_long(tally, refusing, files):
             tally.expect(f"{words[0]} a long file by {most} bytes", got, wanted)
         outcomes = refusing.until_unmet(words, "READ_FAILS", range(1, 100))
         tally.tell(f"{words[0]} a long file, {len(outcomes)} reads",
-                   [f"read {number}: {it}" for number, it in outcomes.items() if it != fault(f"cannot read {path}")] or ([] if len(outcomes) > 1 else ["wanted some"]))
+                   [f"read {number}: {it}" for number,
+                    it in outcomes.items() if it != fault(f"cannot read {path}")] or ([] if len(outcomes) > 1 else ["wanted some"]))
     text = files.path("many.claims", "load block examples/block.rle\n" + "still block\n" * 3000)
     printed = b"".join(b"line %d: yes\n" % line for line in range(2, 3002))
     got, _ = refusing.run(["verify", text], {"WRITE_MOST": 3})
@@ -254,6 +273,43 @@ def try_long(tally, refusing, files):
         tally.tell(f"3000 lines, byte {byte}", [] if is_met and got == Outcome(printed[:byte - 1], b"cafile: write\n", 2) else [str(got)])
 
 
+def without(descriptor, words):
+    """The outcome of a run that is started with this descriptor closed."""
+    script = f'exec "$0" "$@" {descriptor}>&-'
+    ran = subprocess.run(["sh", "-c", script, PROGRAM, *words], stdin=subprocess.DEVNULL, stdout=subprocess.PIPE, stderr=subprocess.PIPE, cwd=ROOT,
+                         timeout=MOST_WAITING, check=False)
+    return Outcome(ran.stdout, ran.stderr, ran.returncode)
+
+
+def try_no_output(tally):
+    """Standard output or standard error takes nothing at all."""
+    with open("/dev/full", "wb") as full, open(os.devnull, "rb") as unwritable:
+        for words in (VERIFY, ["verify", "examples/several.claims"], SHOW, CONVERT, BACK, IDENTIFY, DRAW, IMAGE, ["--help"], ["--version"]):
+            name = " ".join(words)
+            tally.expect(f"a full standard output, {name}", run(words, stdout=full), FAILED_WRITE)
+            tally.expect(f"a closed standard output, {name}", without(1, words), FAILED_WRITE)
+            tally.expect(f"a standard output that is open for reading alone, {name}", run(words, stdout=unwritable), FAILED_WRITE)
+        tally.expect("a full standard output, and a text that has a fault", run(["verify", "tests/golden/verify/syntax/claims"], stdout=full),
+                     fault("claims line 2: syntax"))
+        tally.expect("a full standard output, and a pattern that has a fault", run(["show", "tests/files/bad/syntax.mc"], stdout=full),
+                     fault("bad pattern: macrocell syntax"))
+        tally.expect("a full standard output, and no window", run(["draw", "examples/macrocell/full_square.mc", "--scale", "0"], stdout=full),
+                     fault("window too large"))
+        for name in ("no_claims", "nothing"):
+            tally.expect(f"a full standard output, and no claims, {name}", run(golden.words(f"verify/{name}"), stdout=full), Outcome(b"", b"", 0))
+        for words in (["verify", "tests/golden/verify/syntax/claims"], ["verify", "examples/lost"], ["verify"], ["show", "examples/lost"], ["show"],
+                      ["identify"],
+                      ["identify", "--rule", "examples/lost", "examples/block.rle"]):
+            tally.expect(f"a full standard error, {' '.join(words)}", run(words, stderr=full), Outcome(b"", b"", 2))
+            tally.expect(f"a closed standard error, {' '.join(words)}", without(2, words), Outcome(b"", b"", 2))
+        tally.expect("a full standard output and a full standard error", run(VERIFY, stdout=full, stderr=full), Outcome(b"", b"", 2))
+        reading, writing = os.pipe()
+        os.close(reading)
+        with os.fdopen(writing, "wb") as pipe:
+            for words in (VERIFY, SHOW, CONVERT, IDENTIFY, DRAW):
+                tally.expect(f"a pipe that nothing reads, {words[0]}", run(words, stdout=pipe), FAILED_WRITE)
+
+
 def main():
     tally = Tally()
     with refusing_program(tally, "failing devices") as (folder, refusing):
@@ -261,6 +317,7 @@ def main():
             inner = os.path.join(folder, it.__name__)
             os.mkdir(inner)
             it(tally, refusing, Folder(inner))
+    try_no_output(tally)
     tally.finish()
 
 

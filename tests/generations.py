@@ -1,21 +1,20 @@
 #!/usr/bin/env -S python3 -B
-"""Generations rules, as `345/2/4`: which texts spell one, each kind of claim under Brian's Brain and its kin, `show` and `convert`, and random planes beside
-two naive steppers and, where it is on the path, beside Golly's command line. What is expected was worked out by hand, or by the steppers."""
+"""Generations rules, as `345/2/4`: their texts, each kind of claim under Brian's Brain and its kin, `show` and `convert`, and random planes.
+
+What is expected was worked out by hand, or by two naive steppers, which have to agree, or by Golly's command line, where it is on the path.
+"""
 import itertools
 import os
 import random
 import re
-import shutil
-import subprocess
 import tempfile
 
-from explained import Texts, differs
-from leaps_beside_steps import CORNERS, EDGE, Text, claim_returns, judge, moved, random_cells, returning
-from lib import macrocell, rle, steps
-from lib.program import Folder, Tally, ample, fault, run
-from texts import Table
-
-BGOLLY = shutil.which("bgolly")
+from lib import golly, macrocell, rle, steps
+from lib.claim_table import ClaimTable
+from lib.claim_text import ClaimTexts, differs
+from lib.macrocell import EDGE
+from lib.program import Folder, Tally, ample, fault, figures, run
+from lib.small_planes import CORNERS, Text, claim_returns, judge, moved, random_cells, returning
 
 # Many digits of a number of states.
 ZEROS, NINES = "0" * 10000, "9" * 10000
@@ -36,7 +35,8 @@ NO_RULES = {
     "bounded": ("23/3/3:T30,20", "2/0/3:", "2/3/:3", "9/9/9:", ":2/3/3"),
     "wakes": ("2/0/3", "/0/2", "/30/256", "012345678/876543210/4", "2/0/00003", f"2/0/{ZEROS}3"),
     "unknown": (
-        "2/3/1", "2/3/0", "2/3/257", "2/3/258", "2/3/512", "2/3/65539", "2/3/4294967299", "2/3/18446744073709551619", f"2/3/{NINES}", f"2/3/{ZEROS}", f"2/3/{ZEROS}1",
+        "2/3/1", "2/3/0", "2/3/257", "2/3/258", "2/3/512", "2/3/65539", "2/3/4294967299", "2/3/18446744073709551619", f"2/3/{NINES}", f"2/3/{ZEROS}",
+        f"2/3/{ZEROS}1",
         f"2/3/{ZEROS}257", "9/3/3", "3/9/3", "2/3/", "/2/3/", "2/3/3/", "2//3/3", "///", "2/3/3V", "2/3/3h", "2/3/3A", "2-a/3/3", "2/3a/3", "B2/S3/3", "B2/3/3",
         "2/S3/3", "2/3/C3", "2/3/+3", "2/3/-3", "2/3/3,", "2,3/3/3", "2_3_3", "2/3/0x3", "2/3/3.0", "2\\3\\3", "2/0/1", "2/0/257", "9/0/3", f"2/0/{NINES}",
     ),
@@ -118,7 +118,8 @@ CLAIMS = (
 
 # Patterns under other rules.
 OTHERS = {
-    "other": ("/2/4", "2A!"), "life": ("B3/S23", "2o$2o!"), "two_states": ("23/3/2", "2o$2o!"), "two_states_again": ("32/33/02", "2A$2A!"), "table": ("Die", "2o$2o!"),
+    "other": ("/2/4", "2A!"), "life": ("B3/S23", "2o$2o!"), "two_states": ("23/3/2", "2o$2o!"), "two_states_again": ("32/33/02", "2A$2A!"),
+    "table": ("Die", "2o$2o!"),
     "unknown": ("/2/257", "2A!"), "wakes": ("/20/3", "2A!"), "bounded": ("/2/3:P9", "2A!"),
 }
 
@@ -127,7 +128,8 @@ DIE = "@RULE {name}\n@TABLE\nn_states:2\nneighborhood:oneDimensional\nsymmetries
 # Patterns that come back, each with its rule, found by a search of random ones: still lifes, oscillators and spaceships.
 RETURNING = (
     ("/2/3", "2A$2B!"), ("/2/3", "2.A$A2B$.2BA$.A!"), ("/2/3", "2.2A$.A2B$AB$B.A$.AB!"), ("/2/3", "BA$2.B$.ABA!"), ("/2/3", "2.2A$2.2B$.A$ABA$B.BA$3.B$.BA!"),
-    ("/2/3", ".2A$.2BA$3.BA$2.A.BA$.ABA.B$.B$A$BA$.B$2.A$3.B!"), ("23/3/8", "2A$2A!"), ("23/3/8", "2.2A$3.A$A$2A!"), ("23/3/8", ".D$EFCB$.2FCA$3.2CA$.AFCA$.3A$2.A!"),
+    ("/2/3", ".2A$.2BA$3.BA$2.A.BA$.ABA.B$.B$A$BA$.B$2.A$3.B!"), ("23/3/8", "2A$2A!"), ("23/3/8", "2.2A$3.A$A$2A!"),
+    ("23/3/8", ".D$EFCB$.2FCA$3.2CA$.AFCA$.3A$2.A!"),
     ("345/2/4", ".A$3A$.A!"), ("345/2/4", "2A$2B$2C!"), ("345/2/4", "2A$2B$2CA$2.B$.ACA$.B.B$.C.C$2.B!"), ("345/2/4", "C.A$B3A$A.A!"),
     ("345/2/4", "2.C$A.A.A$B3AB$C.2A$3.BA!"), ("345/2/4", "CA.C$B.B6.C$AC.A5.B$.B.B4.CA$.AC.C3.B$2.B.B2.CA$2.ACA2.B$3.B2.CA$3.A2CB$4.2BA$4.2A!"),
     ("0/2/5", "A!"), ("0/2/5", "A3.A5$A2$4.A$.A2$3.A!"), ("0/2/5", ".A$C.C$ACA$.A!"), ("08/23/5", "D$BD.C$ABCA$2.A!"), ("12/34/3", "A2.A$A2.A$.2A!"),
@@ -138,7 +140,8 @@ RETURNING = (
 
 # The rules of random planes: those of collectors, and others whose counts or states are few or many.
 RULES = (
-    "23/3/8", "345/2/4", "/2/3", "23/3/2", "3322/33/0004", "0/2/5", "8/3/3", "45678/3/256", "012345678/1/5", "/2/256", "/2/255", "/234/2", "8//3", "//2", "//256",
+    "23/3/8", "345/2/4", "/2/3", "23/3/2", "3322/33/0004", "0/2/5", "8/3/3", "45678/3/256", "012345678/1/5", "/2/256", "/2/255", "/234/2", "8//3", "//2",
+    "//256",
     "012345678/12345678/2", "/12345678/3", "02/25/7", "345/3/6", "01234567/8/16", "2/13/21", "124567/378/4", "0/1/2", "345/2/03",
 )
 
@@ -167,17 +170,17 @@ def block(rule):
 
 def try_spellings(tally, files):
     """Texts that name a rule, how it is printed, which are of one rule, and texts that name none."""
-    table, complaints = Table(files.folder), []
+    table, complaints = ClaimTable(files.folder), []
     for printed, texts in SPELLINGS.items():
         for text in (printed, *texts):
             table.becomes(block(text), 0, f"[M2]\n#R {printed}\n1 0 0 0 1\n", differs(0))
-            got, wanted = run(["show", files.path("block.rle", block(text))]), ample(f"format rle\nrule {printed}\ngen 0\ncells 4\nbox 0 0 2 2\n".encode())
+            got, wanted = run(["show", files.path("block.rle", block(text))]), figures(0, 4, "0 0 2 2", "rle", printed)
             complaints += [f"{text[:40]}: {got}"] if got != wanted else []
     for one, other in itertools.permutations([*SPELLINGS, "B3/S23", "B3/S2", "2/3/3", "23/3/4", "3/23/3", "23/3/256"], 2):
         table.becomes(block(one), 0, block(other), "refused, mixed rules")
     tally.tell("printed forms", complaints)
     table.judge(tally, "spellings of one rule, and of two")
-    table = Table(files.folder)
+    table = ClaimTable(files.folder)
     for told, texts in NO_RULES.items():
         for text in texts:
             table.still(block(text), f"refused, bad rule: {told}")
@@ -200,7 +203,7 @@ def try_names(tally, files):
 
 def try_claims(tally, files):
     """Each kind of claim under Brian's Brain, with what is told of it."""
-    texts = Texts(tally, files.folder)
+    texts = ClaimTexts(tally, files.folder)
     text, unpinned = texts.text(), Text(files)
     text.rule(DIE.format(name="Die"))
     every = {**{name: pattern("/2/3", body) for name, body in CELLS.items()}, **{name: header(rule) + body for name, (rule, body) in OTHERS.items()}}
@@ -243,18 +246,21 @@ def try_converted(tally, files):
     chance = random.Random(62)
     for rule_text in ("23/3/2", "23/3/3", "345/2/4", "/2/24", "/2/25", "/2/26", "45678/3/256", "0/2/3"):
         rule, complaints = steps.Aging(rule_text), []
-        for cells in ({(x, 0): 1 for x in range(3)}, {}, moved(random_cells(chance, 9, 7, rule.states), (-4, 100)), {(at, 3): at for at in range(1, rule.states)}):
+        for cells in ({(x, 0): 1 for x in range(3)}, {}, moved(random_cells(chance, 9, 7, rule.states), (-4, 100)),
+                      {(at, 3): at for at in range(1, rule.states)}):
             pattern_of = macrocell.Pattern(macrocell.tree_of(cells), rule.name, 0)
             tidy, tree = rle.tidy(cells, rule.name, 0, rule.states), macrocell.tidy(pattern_of, rule.states)
             for content, kind in ((tidy, "rle"), (tree, "macrocell")):
                 path = files.path("pattern", content)
-                for words, wanted in ((["show", path], pattern_of.shown(kind=kind)), (["convert", path, "--to", "rle"], tidy), (["convert", path, "--to", "mc"], tree)):
+                for words, wanted in ((["show", path], pattern_of.shown(kind=kind)), (["convert", path, "--to", "rle"], tidy),
+                                      (["convert", path, "--to", "mc"], tree)):
                     got = run(words)
                     complaints += [f"{words[0]} of {content[:200]}: wanted {wanted[-200:]}, got {got}"] if got != ample(wanted) else []
         tally.tell(f"show and convert under {rule_text}", complaints)
     row = files.path("row.rle", header("23/3/2") + "3o!"), files.path("row_3.rle", header("23/3/3") + "3o!")
     for path, rule_text, body in ((row[0], "23/3/2", "3o!"), (row[1], "23/3/3", "3A!")):
-        tally.expect(f"3o! to RLE under {rule_text}", run(["convert", path, "--to", "rle"]), ample(f"#CXRLE Pos=0,0\nx = 3, y = 1, rule = {rule_text}\n{body}\n".encode()))
+        tally.expect(f"3o! to RLE under {rule_text}", run(["convert", path, "--to", "rle"]),
+                     ample(f"#CXRLE Pos=0,0\nx = 3, y = 1, rule = {rule_text}\n{body}\n".encode()))
     large = files.path("large.rle", header("/2/3") + "C!")
     for words in (["show", large], ["convert", large, "--to", "mc"], ["convert", large, "--to", "rle"]):
         tally.expect(f"{words[0]} of a state that is too large", run(words), fault("state too large"))
@@ -292,13 +298,12 @@ def try_planes(tally, files):
 
 def try_golly(tally, files):
     """Random planes beside Golly, whose macrocells stand one row higher here than its RLE files."""
-    if not BGOLLY:
-        print("skipped random planes beside Golly: bgolly isn't on the path (apt-get install golly)")
+    if not golly.BGOLLY:
         return
     chance, text = random.Random(65), Text(files)
     for at, (_, rule, cells, count) in enumerate(random_planes(chance)):
         before, later = files.path("before.rle", rle.tidy(moved(cells, (0, 1)), rule.name, 0, rule.states)), files.path(f"after{at}.mc")
-        subprocess.run([BGOLLY, "-q", "-q", "-a", "Generations", "-m", str(count), "-o", later, before], stdout=subprocess.DEVNULL, stderr=subprocess.DEVNULL, check=True)
+        golly.save_aged(before, count, later)
         text.plane(f"a{at}", cells, rule)
         text.load_path(f"b{at}", later)
         text.claim(f"becomes a{at} {count} b{at}", "yes")

@@ -1,6 +1,9 @@
 #!/usr/bin/env -S python3 -B
-"""`identify`: the claim text that it prints, of files whose claims are known, of soups that are run here, and of all files of examples/ and tests/files/, whose text is
-proved by `verify`; how far patterns grow of which no claim is true; names, paths and rule files; files that are refused; and how far it looks, with a limit and while patience lasts."""
+"""`identify`: the claim text that it prints, and what it tells of patterns of which no claim is true.
+
+Files are known ones, soups that are run here, and all of examples/ and tests/files/, whose text is proved by `verify`. Other tests are of names, paths and rule
+files, of files that are refused, and of how far it looks, with a limit and while patience lasts.
+"""
 import math
 import os
 import random
@@ -21,9 +24,8 @@ KNOWN = {
     "examples/reactions/eater.rle": "still", "tests/files/generations/brians_brain_oscillator.rle": "oscillator 3",
 }
 
-BLOCK, DOT, EMPTY = "x = 2, y = 2\n2o$2o!\n", "x = 1, y = 1\no!\n", "x = 0, y = 0\n!\n"
+BLOCK, EMPTY = "x = 2, y = 2\n2o$2o!\n", "x = 0, y = 0\n!\n"
 GLIDER = "x = 3, y = 3\nbob$2bo$3o!\n"
-SPREAD = "@RULE Spread\n@TABLE\nn_states:3\nneighborhood:vonNeumann\nsymmetries:none\n0,0,0,0,1,1\n"
 
 
 def whole(lines, complaint=b"", status=0):
@@ -128,11 +130,6 @@ def try_true_claims(tally):
     tally.tell(f"{len(claims)} patterns whose claims are true", complaints if len(claims) > 40 else ["too few claims"])
 
 
-def cells_of(text):
-    """The cells of a soup's rows."""
-    return frozenset((x, y) for y, row in enumerate(text) for x, it in enumerate(row) if it == "o")
-
-
 def told_of(cells, birth, survival, limit, begun=0):
     """What a plane is, so many generations after the pattern, by running it here."""
     if not cells:
@@ -228,8 +225,10 @@ def try_late_returns(tally, files):
 
 def try_limits(tally):
     """A period that is the limit is found, and one that is one more isn't."""
-    for path, told, limit in (("examples/pulsar.rle", "oscillator 3", 3), ("examples/glider.rle", "spaceship 4 1 1", 4), ("examples/reactions/diehard.rle", "dies 130", 130),
-                              ("examples/block.rle", "still", 1), ("examples/blinker.rle", "oscillator 2", 2), ("tests/files/pentadecathlon.rle", "oscillator 15", 15),
+    for path, told, limit in (("examples/pulsar.rle", "oscillator 3", 3), ("examples/glider.rle", "spaceship 4 1 1", 4),
+                              ("examples/reactions/diehard.rle", "dies 130", 130),
+                              ("examples/block.rle", "still", 1), ("examples/blinker.rle", "oscillator 2", 2),
+                              ("tests/files/pentadecathlon.rle", "oscillator 15", 15),
                               ("examples/period_57960.rle", "oscillator 57960", 57960)):
         tally.expect(f"{path}, as far as {limit}", run(["identify", path, "--limit", str(limit)]), whole(entry(base_name(path), path, told)))
         if limit > 1:
@@ -239,7 +238,8 @@ def try_limits(tally):
     for generation in range(1, 1109):
         now = next_live(now, {3}, {2, 3})
         if generation in (1, 7, 100, 1000):
-            tally.expect(f"the R-pentomino, as far as {generation}", run(["identify", path, "--limit", str(generation)]), whole(entry("r_pentomino", path, none_of(now, generation))))
+            tally.expect(f"the R-pentomino, as far as {generation}", run(["identify", path, "--limit", str(generation)]),
+                         whole(entry("r_pentomino", path, none_of(now, generation))))
         if generation in (1104, 1108):
             settled.append(now)
     end = drifted(*settled, (65536 - 1104) // 4)
@@ -258,7 +258,8 @@ def try_patience(tally, files):
     limit = int(found[1]) if found else 1
     tally.tell("a soup is looked at while patience lasts", ([] if 50 < limit < 60000 else [str(told)]) + excess(seconds, 100))
     tally.expect(f"within {limit} generations", told, whole(entry("soup", path, shown_after(path, limit))))
-    tally.expect("no fewer than a limit that is set", run(["identify", path, "--limit", str(limit + limit // 2)]), whole(entry("soup", path, shown_after(path, limit + limit // 2))))
+    tally.expect("no fewer than a limit that is set", run(["identify", path, "--limit", str(limit + limit // 2)]),
+                 whole(entry("soup", path, shown_after(path, limit + limit // 2))))
     tally.expect("fewer than patience allows", run(["identify", path, "--limit", str(limit // 2)]), whole(entry("soup", path, shown_after(path, limit // 2))))
     later = run(["identify", path, "--after", "100"])
     found = re.search(rb"none of these within (\d+) generations", later.printed)
@@ -276,7 +277,8 @@ def try_growth(tally, files):
     corner = files.path("corner.rle", f"#CXRLE Pos={edge - 1},{-edge}\nx = 1, y = 1, rule = B1/S012345678\no!\n")
     tally.expect("a cell in a corner of the range", run(["identify", corner, "--limit", "3"]), whole(entry("corner", corner, shown_after(corner, 3))))
     ends = files.path("ends.rle", f"#CXRLE Pos={-edge},{-edge}\nx = {side}, y = {side}, rule = B3/S23\n3o{side - 2}${side - 2}b2o${side - 2}b2o!\n")
-    tally.expect("patterns in two corners of the range", run(["identify", ends, "--limit", "1"]), whole(entry("ends", ends, none_within(1, 7, side - 1, side + 1))))
+    tally.expect("patterns in two corners of the range", run(["identify", ends, "--limit", "1"]),
+                 whole(entry("ends", ends, none_within(1, 7, side - 1, side + 1))))
 
 
 def try_many_squares(tally, files):
@@ -301,7 +303,8 @@ def try_after(tally, files):
         lines = "".join(later_entry(name, path, generations, told) for name, path, told in zip(names_of(paths), paths, tolds))
         got = run(["identify", "--after", str(generations), "--limit", str(limit), *paths])
         kinds = {it.split()[0] for it in tolds}
-        tally.tell(f"squares after {generations}: {len(kinds)} kinds", ([] if len(kinds) > 2 else [str(kinds)]) + ([] if got == whole(lines) else [f"wanted {lines!r}", str(got)]))
+        tally.tell(f"squares after {generations}: {len(kinds)} kinds",
+                   ([] if len(kinds) > 2 else [str(kinds)]) + ([] if got == whole(lines) else [f"wanted {lines!r}", str(got)]))
         tally.expect("verify reads the text, which has no claim", run(["verify", "-"], input=got.printed), ample(b""))
     returning = {path: told for path, told in KNOWN.items() if not told.startswith("dies")}
     for generations in (3, 1000003, 1 << 60):
@@ -309,7 +312,8 @@ def try_after(tally, files):
         tally.expect(f"patterns that come back, after {generations}", run(["identify", *returning, "--after", str(generations)]), whole(lines))
     path = "examples/reactions/diehard.rle"
     for generations, told in ((1, "dies 129"), (129, "dies 1"), (130, "no cell is live"), (1 << 60, "no cell is live")):
-        tally.expect(f"diehard, after {generations}", run(["identify", path, "--after", str(generations)]), whole(later_entry("diehard", path, generations, told)))
+        tally.expect(f"diehard, after {generations}", run(["identify", path, "--after", str(generations)]),
+                     whole(later_entry("diehard", path, generations, told)))
     edge, rule = 1 << 60, "B12345678/S012345678"
     for at in ((0, 0), (edge - 1, -edge), (-edge, edge - 1)):
         dot = files.path("dot.rle", f"#CXRLE Pos={at[0]},{at[1]}\nx = 1, y = 1, rule = {rule}\no!\n")
@@ -317,7 +321,8 @@ def try_after(tally, files):
         tally.expect(f"a cell at {at} that grows, after 2^60", run(["identify", dot, "--after", str(edge), "--limit", "3"]),
                      whole(later_entry("dot", dot, edge, none_within(3, side * side, side, side, edge))))
     path = "examples/r_pentomino.rle"
-    tally.expect("the R-pentomino when it settles", run(["identify", path, "--after", "1103", "--limit", "50"]), whole(later_entry("r_pentomino", path, 1103, shown_after(path, 50, begun=1103))))
+    tally.expect("the R-pentomino when it settles", run(["identify", path, "--after", "1103", "--limit", "50"]),
+                 whole(later_entry("r_pentomino", path, 1103, shown_after(path, 50, begun=1103))))
     tally.expect("no work", run(["identify", path, "--after", "1103", "--work", "1"]), whole(f"# r_pentomino: {path}: work\n", status=2))
     paths = found("**/*.rle", "**/*.mc")
     tally.expect("all pattern files after no generation", run(["identify", "--limit", "4", "--after", "0", *paths]), run(["identify", "--limit", "4", *paths]))
@@ -350,8 +355,8 @@ def rule_files(files):
 
 
 def try_all(tally, files):
-    """All pattern files of examples/ and tests/files/ at once: the text is proved by `verify`, its names are different, and each file has its lines, in order; those that are refused
-    are refused for what `verify` refuses them."""
+    """All pattern files of examples/ and tests/files/ at once: the text is proved by `verify`, its names are different, and each file has its lines, in order.
+    Those that are refused are refused for what `verify` refuses them."""
     paths, rules = found("**/*.rle", "**/*.mc"), rule_files(files)
     limit = 300
     got = run(["identify", "--limit", str(limit), "--rules", rules, *paths])
@@ -388,25 +393,29 @@ def try_names(tally, files):
     """Names, and paths that a claim text can't name."""
     for name in ("one", "two", "three"):
         os.mkdir(os.path.join(files.folder, name))
-    made = ("one/block.rle", "two/block.rle", "three/block.mc.rle", "one/block-2.rle", "block.v2", "three/.rle", "one/#1.rle", "two/##.rle", "#", ".hidden", "no_ending", "a.b.c.rle", "two/x.rle",
+    made = ("one/block.rle", "two/block.rle", "three/block.mc.rle", "one/block-2.rle", "block.v2", "three/.rle", "one/#1.rle", "two/##.rle", "#", ".hidden",
+            "no_ending", "a.b.c.rle", "two/x.rle",
             "two/é.rle", "a-2.rle", "one/a.rle", "two/a.rle", "load.rle", "two/-.rle", "2.rle", "...", "one/..rle")
     paths = [files.path(name, BLOCK) for name in made]
     got = run(["identify", *paths, paths[0], paths[0]])
     names = names_of([*paths, paths[0], paths[0]])
     lines = "".join(entry(name, path, "still") for name, path in zip(names, [*paths, paths[0], paths[0]]))
     tally.expect(f"names: {' '.join(names)}", got, whole(lines))
-    wanted = ["block", "block-2", "block.mc", "block-2-2", "block-3", "_", "_1", "_#", "_-2", "_-3", "no_ending", "a.b.c", "x", "é", "a-2", "a", "a-3", "load", "-", "2", "..", ".", "block-4", "block-5"]
+    wanted = ["block", "block-2", "block.mc", "block-2-2", "block-3", "_", "_1", "_#", "_-2", "_-3", "no_ending", "a.b.c", "x", "é", "a-2", "a", "a-3", "load",
+              "-", "2", "..", ".", "block-4", "block-5"]
     tally.tell("these are the names", [] if names == wanted else [f"{names}", f"{wanted}"])
     tally.expect("and verify proves them", run(["verify", files.path("names.claims", got.printed)]),
                  ample("".join(f"line {at}: yes\n" for at in range(3, 2 * len(names) + 2, 2)).encode()))
-    blanks = [files.path(name, BLOCK) for name in ("my block.rle", "two/a\tb.rle", "one/c\rd.rle", "one/e\nf.rle")] + [os.path.join(files.folder, "lost one.rle"), "-", "", " "]
+    blanks = [files.path(name, BLOCK) for name in ("my block.rle", "two/a\tb.rle", "one/c\rd.rle", "one/e\nf.rle")]
+    blanks += [os.path.join(files.folder, "lost one.rle"), "-", "", " "]
     shown = [it.replace("\t", r"\x09").replace("\r", r"\x0d").replace("\n", r"\x0a") for it in blanks]
     names = ["my_block", "a_b", "c_d", "e_f", "lost_one", "-", "_", "_-2"]
     lines = "".join(f"# {name}: {path}: no claim text can name this path\n" for name, path in zip(names, shown))
     got = run(["identify", *blanks, paths[0]], input=BLOCK.encode())
     tally.expect("paths that a claim text can't name", got, whole(lines + entry("block", paths[0], "still"), status=2))
     tally.expect("and verify reads the text", run(["verify", "-"], input=got.printed), ample(f"line {lines.count(chr(10)) + 3}: yes\n".encode()))
-    spelled = {"a\x1b[31mb.rle": ("a\x1b[31mb", r"a\x1b[31mb"), "c\x7fd.rle": ("c\x7fd", r"c\x7fd"), "e\x85f\x9fé\xa0.rle": ("e\x85f\x9fé\xa0", "e\\xc2\\x85f\\xc2\\x9fé\xa0"), "\x01.rle": ("\x01", r"\x01")}
+    spelled = {"a\x1b[31mb.rle": ("a\x1b[31mb", r"a\x1b[31mb"), "c\x7fd.rle": ("c\x7fd", r"c\x7fd"),
+               "e\x85f\x9fé\xa0.rle": ("e\x85f\x9fé\xa0", "e\\xc2\\x85f\\xc2\\x9fé\xa0"), "\x01.rle": ("\x01", r"\x01")}
     for name, (own, told) in spelled.items():
         good, lost, at = files.path(name, BLOCK), os.path.join(files.folder, "lost", name), os.path.join(files.folder, "lost", told)
         got = run(["identify", good, lost, "--limit", "1"])
@@ -415,7 +424,8 @@ def try_names(tally, files):
         files.path(name, GLIDER)
         tally.expect(f"control characters, {told}, a comment", run(["identify", good, "--limit", "3"]),
                      whole(f"load {own} {good}\n# {told}: none of these within 3 generations: 5 cells, in a box of 3 by 3, after 3\n"))
-        tally.expect(f"control characters, {told}, later", run(["identify", good, "--after", "1"]), whole(f"load {own} {good}\n# {told} after 1 generation: spaceship 4 1 1\n"))
+        tally.expect(f"control characters, {told}, later", run(["identify", good, "--after", "1"]),
+                     whole(f"load {own} {good}\n# {told} after 1 generation: spaceship 4 1 1\n"))
     os.chdir(files.folder)
     try:
         tally.expect("a file that is called -", run(["identify", "./-.rle"], cwd=os.path.join(files.folder, "two")), whole("load - ./-.rle\nstill -\n"))
@@ -426,7 +436,8 @@ def try_names(tally, files):
 def try_odd_paths(tally, files):
     """Paths that aren't UTF-8 are told as those of files that aren't there, and the other files are identified."""
     good, other, folder = files.path("good.rle", BLOCK), files.path("other.rle", BLOCK), files.folder.encode()
-    odd = {b"\xff.rle": (b"\xff", b"\xff.rle"), b"a\x1b\xc3.rle": (b"a\\x1b\xc3", b"a\\x1b\xc3.rle"), b"\xc2\x80\xfe": (b"\\xc2\\x80\xfe", b"\\xc2\\x80\xfe"), b"\xed\xa0\x80.rle": (b"\xed\xa0\x80", b"\xed\xa0\x80.rle"),
+    odd = {b"\xff.rle": (b"\xff", b"\xff.rle"), b"a\x1b\xc3.rle": (b"a\\x1b\xc3", b"a\\x1b\xc3.rle"), b"\xc2\x80\xfe": (b"\\xc2\\x80\xfe", b"\\xc2\\x80\xfe"),
+           b"\xed\xa0\x80.rle": (b"\xed\xa0\x80", b"\xed\xa0\x80.rle"),
            b"x" * 300 + b"\xff": (b"x" * 300 + b"\xff", b"x" * 300 + b"\xff")}
     ends = entry("good", good, "still").encode(), entry("other", other, "still").encode()
     for name, (own, told) in odd.items():
@@ -447,9 +458,11 @@ def try_odd_paths(tally, files):
 
 def try_refused(tally, files):
     """Files that are refused, among others: their comments, and the status."""
-    bad = {"lost.rle": (None, "no file"), "syntax.rle": ("x = 1, y = 1\nz!", "bad pattern: rle syntax, line 2"), "end.rle": ("x = 1, y = 1\no", "bad pattern: rle no end, line 2"),
+    bad = {"lost.rle": (None, "no file"), "syntax.rle": ("x = 1, y = 1\nz!", "bad pattern: rle syntax, line 2"),
+           "end.rle": ("x = 1, y = 1\no", "bad pattern: rle no end, line 2"),
            "life.rle": ("x = 1, y = 1, rule = Life\no!", "bad rule: unknown"), "grid.rle": ("x = 1, y = 1, rule = B3/S23:T30\no!", "bad rule: bounded"),
-           "wakes.rle": ("x = 1, y = 1, rule = B0/S\no!", "bad rule: wakes"), "large.rle": ("x = 1, y = 1\nB!", "state too large"), "m.mc": ("[M2]\nz\n", "bad pattern: macrocell syntax, line 2")}
+           "wakes.rle": ("x = 1, y = 1, rule = B0/S\no!", "bad rule: wakes"), "large.rle": ("x = 1, y = 1\nB!", "state too large"),
+           "m.mc": ("[M2]\nz\n", "bad pattern: macrocell syntax, line 2")}
     good = files.path("good.rle", BLOCK)
     paths = [files.path(name, text) for name, (text, _) in bad.items()]
     comments = [f"# {base_name(path)}: {path}: {cause}\n" for path, (_, cause) in zip(paths, bad.values())]
@@ -457,10 +470,12 @@ def try_refused(tally, files):
         tally.expect(f"{comment.split(': ', 2)[2].strip()}", run(["identify", good, path]), whole(entry("good", good, "still") + comment, status=2))
     tally.expect("a refused file, and then a good one", run(["identify", paths[1], good]), whole(comments[1] + entry("good", good, "still"), status=2))
     tally.expect("all of them", run(["identify", *paths]), whole("".join(comments), status=2))
-    notes = [(paths[1], ", line 2"), (paths[2], ", line 2"), (paths[3], ": rule Life"), (paths[4], ": rule B3/S23:T30"), (paths[5], ": rule B0/S"), (paths[6], ""), (paths[7], ", line 2")]
+    notes = [(paths[1], ", line 2"), (paths[2], ", line 2"), (paths[3], ": rule Life"), (paths[4], ": rule B3/S23:T30"), (paths[5], ": rule B0/S"),
+             (paths[6], ""), (paths[7], ", line 2")]
     causes = {path: cause.split(", line")[0] for path, (_, cause) in zip(paths, bad.values())}
     explained = "".join(f"  {path}{note}\n" + remedies.line(causes[path], path.encode(), rule=note.encode()[7:]).decode() for path, note in notes)
-    tally.expect("all of them, explained", run(["identify", "--explain", good, *paths]), whole(entry("good", good, "still") + "".join(comments), explained.encode(), 2))
+    tally.expect("all of them, explained", run(["identify", "--explain", good, *paths]),
+                 whole(entry("good", good, "still") + "".join(comments), explained.encode(), 2))
     tally.expect("good files, explained", run(["identify", "--explain", good]), whole(entry("good", good, "still")))
     tally.expect("a folder", run(["identify", files.folder]), whole(f"# {base_name(files.folder)}: {files.folder}: no file\n", status=2))
     long = files.path("long.rle", BLOCK.encode().ljust(67108865))
@@ -472,7 +487,8 @@ def try_refused(tally, files):
     empty = files.path("empty.rle", EMPTY)
     tally.expect("no live cell", run(["identify", "--work", "0", empty]), whole(entry("empty", empty, "# no cell is live")))
     for memo in (1, 1000, 16777216):
-        tally.expect(f"a memo of {memo}", run(["identify", "--memo", str(memo), "examples/pulsar.rle"]), whole(entry("pulsar", "examples/pulsar.rle", "oscillator 3")))
+        tally.expect(f"a memo of {memo}", run(["identify", "--memo", str(memo), "examples/pulsar.rle"]),
+                     whole(entry("pulsar", "examples/pulsar.rle", "oscillator 3")))
 
 
 def rule_text(name, states=3):
@@ -507,29 +523,34 @@ def try_rules(tally, files):
     both("a rule file", ["--rule", given, a, block], f"rule {given}\n{still[a]}{still[block]}")
     both("a rule file that isn't needed", [block, "--rule", given], f"rule {given}\n{still[block]}")
     both("a rule that isn't in the rule file", ["--rule", given, b, a], f"rule {given}\n# of_B: {b}: bad rule: unknown\n{still[a]}", 2)
-    both("a folder", ["--rules", folder, b, a, b, block], f"rule {two}\nrule {one}\n{still[b]}{still[a]}{still[b].replace('of_B ', 'of_B-2 ').replace('still of_B', 'still of_B-2')}{still[block]}")
+    both("a folder", ["--rules", folder, b, a, b, block],
+         f"rule {two}\nrule {one}\n{still[b]}{still[a]}{still[b].replace('of_B ', 'of_B-2 ').replace('still of_B', 'still of_B-2')}{still[block]}")
     both("a folder that isn't needed", ["--rules", folder, block], still[block])
     both("a rule file and a folder", ["--rule", given, "--rules", folder, a, b], f"rule {given}\nrule {two}\n{still[a]}{still[b]}")
     table("C.rule", "@RULE C\n@TABLE\nn_states:1\n")
     c = files.path("of_C.rle", pattern_of("C"))
     both("a faulty rule file of a folder", ["--rules", folder, c, a], f"rule {one}\n# of_C: {c}: bad table: states\n{still[a]}", 2)
     noted = f"  rule file: {os.path.join(folder, 'C.rule')}, line 3\n".encode()
-    both("a faulty rule file of a folder, explained", ["--explain", "--rules", folder, c, a], f"rule {one}\n# of_C: {c}: bad table: states\n{still[a]}", 2, noted)
+    both("a faulty rule file of a folder, explained", ["--explain", "--rules", folder, c, a], f"rule {one}\n# of_C: {c}: bad table: states\n{still[a]}", 2,
+         noted)
     table("D.rule", rule_text("A"))
     d = files.path("of_D.rle", pattern_of("D"))
     both("a rule file of another name", ["--rules", folder, d, a], f"rule {one}\n# of_D: {d}: bad rule: unknown\n{still[a]}", 2)
     e = files.path("of_E.rle", pattern_of("E"))
-    both("a rule file that isn't there, explained", ["--rules", folder, "--explain", e], f"# of_E: {e}: bad rule: unknown\n", 2, f"  {e}: rule E\n  try: name the folder of E.rule by --rules\n".encode())
+    both("a rule file that isn't there, explained", ["--rules", folder, "--explain", e], f"# of_E: {e}: bad rule: unknown\n", 2,
+         f"  {e}: rule E\n  try: name the folder of E.rule by --rules\n".encode())
     bad = os.path.join(folder, "C.rule")
     tally.expect("a faulty rule file", run(["identify", "--rule", bad, a]), fault("bad table: line 3 states"))
     tally.expect("a faulty rule file, explained", run(["identify", "--explain", "--rule", bad, a]),
                  Outcome(b"", f"cafile: bad table: line 3 states\n  rule file: {bad}, line 3\n".encode(), 2))
     tally.expect("a rule file that isn't there", run(["identify", "--rule", "nowhere.rule", a]), fault("cannot read nowhere.rule"))
     for path in (files.path("my table.rule", rule_text("A")), "-", ""):
-        tally.expect(f"a rule file that a claim text can't name: {os.path.basename(path)}", run(["identify", "--rule", path, a]), fault(f"no claim text can name {path}"))
+        tally.expect(f"a rule file that a claim text can't name: {os.path.basename(path)}", run(["identify", "--rule", path, a]),
+                     fault(f"no claim text can name {path}"))
     os.mkdir(os.path.join(files.folder, "my tables"))
     for path in (os.path.join(files.folder, "my tables"), "-", ""):
-        tally.expect(f"a folder that a claim text can't name: {os.path.basename(path)}", run(["identify", "--rules", path, a]), fault(f"no claim text can name {path}"))
+        tally.expect(f"a folder that a claim text can't name: {os.path.basename(path)}", run(["identify", "--rules", path, a]),
+                     fault(f"no claim text can name {path}"))
     for path in (os.path.join(files.folder, "nowhere"), bad, os.path.join(bad, "rules")):
         for words in ([a], ["--explain", a], ["--rule", "nowhere.rule", a], ["nowhere.rle"]):
             tally.expect(f"a folder that is none: {os.path.basename(path)}", run(["identify", "--rules", path, *words]), fault(f"cannot read {path}"))
@@ -544,7 +565,8 @@ def try_given_rule(tally, files):
     files.path("Lone.rule", rule_text("Lone"))
     path = files.path("lone.rle", "x = 1, y = 1, rule = Lone\nA!\n")
     for words in (["--rule", given, "--rules", files.folder], ["--rules", files.folder, "--rule", given]):
-        for more, lines in (([], entry("lone", path, "dies 1")), (["--after", "0"], entry("lone", path, "dies 1")), (["--after", "1"], later_entry("lone", path, 1, "no cell is live"))):
+        for more, lines in (([], entry("lone", path, "dies 1")), (["--after", "0"], entry("lone", path, "dies 1")),
+                            (["--after", "1"], later_entry("lone", path, 1, "no cell is live"))):
             tally.expect(f"a rule file beside a folder {' '.join(more)}", run(["identify", path, *words, *more]), whole(f"rule {given}\n{lines}"))
 
 
@@ -575,7 +597,8 @@ def main():
     try_known(tally)
     try_true_claims(tally)
     try_limits(tally)
-    for trial in (try_squares, try_patience, try_growth, try_many_squares, try_long_periods, try_late_returns, try_after, try_all, try_names, try_odd_paths, try_refused, try_rules, try_given_rule, try_many):
+    for trial in (try_squares, try_patience, try_growth, try_many_squares, try_long_periods, try_late_returns, try_after, try_all, try_names, try_odd_paths,
+                  try_refused, try_rules, try_given_rule, try_many):
         with tempfile.TemporaryDirectory() as folder:
             trial(tally, Folder(folder))
     tally.finish()

@@ -1,8 +1,8 @@
 #!/usr/bin/env -S python3 -B
-"""Claims of many generations, of planes that are stepped, and of more cells than memory holds: each run has to end within some seconds of a processor,
-bounded beside those of known work.
+"""Claims of many generations, of planes that are stepped, and of more cells than memory holds.
 
-What the patterns of leaps/ become was computed by Golly (leaps/README.md says how). The other verdicts are known from what the patterns are made of.
+Each run has to end within some seconds of a processor, bounded beside those of known work. What the patterns of leaps/ become was computed by Golly
+(leaps/README.md says how). The other verdicts are known from what the patterns are made of.
 """
 import itertools
 import math
@@ -13,6 +13,7 @@ import tempfile
 
 from lib import macrocell, rle
 from lib.claim_text import ClaimText, outcome
+from lib.golly import AFTER, LEAPS
 from lib.planes import distinct_squares
 from lib.program import ROOT, Folder, Tally, contents
 from lib.rows import Rows, text_of
@@ -24,29 +25,11 @@ BOUND = 800
 # The bytes of address space that a run has which is to want memory.
 SPACE = 25_000_000
 
-LEAPS, LOOP = "tests/leaps", "tests/files/tables/langtons_loop"
-
 # How many cells lie far apart.
 CELLS = 160000
 
 # The most generations of `becomes`, and the longest period. Cells of files lie from -FAR to FAR - 1.
 FAR, LONGEST = 1 << 60, (1 << 32) - 1
-
-# Patterns, each with its rule file if it has one, and the generations after which Golly was asked for it.
-AFTER = (
-    ("r_pentomino", "examples/r_pentomino.rle", None, 1 << 20),
-    ("acorn", f"{LEAPS}/acorn.rle", None, 1 << 13),
-    ("switch_engine", f"{LEAPS}/switch_engine.rle", None, 1 << 17),
-    ("gun", "examples/gun.rle", None, 1 << 20),
-    ("replicator", f"{LEAPS}/replicator.rle", None, 1000000),
-    ("copies", f"{LEAPS}/copies.rle", None, 524329),
-    ("hexagonal", f"{LEAPS}/hexagonal.rle", None, 1000000),
-    ("von_neumann", f"{LEAPS}/von_neumann.rle", None, 1 << 10),
-    ("von_neumann_copies", f"{LEAPS}/von_neumann_copies.rle", None, 1000000),
-    ("wires", f"{LEAPS}/wires.rle", "examples/tables/wireworld.rule", 1 << 20),
-    ("langtons_loop", f"{LOOP}.rle", f"{LOOP}.rule", 1 << 10),
-    ("rule_110", f"{LEAPS}/rule_110.rle", f"{LEAPS}/rule_110.rule", 1 << 11),
-)
 
 # Patterns that come back, each with its period and the vector by which it is moved meanwhile.
 RETURNS = (
@@ -68,6 +51,7 @@ CIRCLES = 20
 
 # Squares of 8 by 8 cells, repeated over a square of any level.
 BLOCKS = "**..**..$**..**..$$$**..**..$**..**..$"
+
 BLINKERS, UPRIGHT = "$$$..***$", "$$...*$...*$...*$"
 FULL = "********$" * 8
 
@@ -354,6 +338,7 @@ def try_many_squares(claims):
 # Planes whose squares of 16 by 16 cells are all different: how many leaves each part of these may be. Their levels are 8 to 12, and the
 # times of their claims are up to four times their side. One of level 14 has more than a million squares, and some millions of cells.
 DENSE = ((4, 4, 4, 4), (8, 8, 4, 4), (8, 8, 8, 8), (16, 16, 8, 8), (16, 16, 16, 16))
+
 LARGE = (32, 32, 32, 32)
 
 

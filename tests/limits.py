@@ -1,13 +1,25 @@
 #!/usr/bin/env -S python3 -B
-"""The limits of a claim, a run and an identification, `--memo` and `--work`: what is judged within them, what is refused as work, that each claim has its own
-count, and that each command remembers and works out what these say; and that no generations need no work."""
+"""What a claim, a run and an identification may take and keep: `--memo`, `--work` and `--max-memory`.
+
+- What is judged within `--memo` and `--work`, and what is refused as work. Each claim has its own count, and each command remembers and works out what these say.
+  No generations need no work.
+- How many results typical runs work out: each has to end within a tenth more than it took when this was written. So leaps that forget what they should remember,
+  or look for it in the wrong place, are seen on a machine of any speed. The units are the program's own count, and no value from outside: what is promised
+  (docs/PROMISES.md) is a bound far above them. Where fewer serve, they may be lowered here. The verdicts are known: what a pattern becomes was computed by Golly
+  (leaps/README.md), and a soup doesn't come back.
+- Long runs that make too many squares for one store. They go on in a store of their own, and end with the plane that is known. They stay within the memory of the
+  squares that they may have, and within the work of what they work out.
+"""
 import random
+import re
 import tempfile
 
 from lib import ageing, rle, rows
 from lib.ageing import AgeingRule
 from lib.claim_text import ClaimText, outcome
-from lib.program import Folder, Outcome, Tally, ample, fault, lines_outcome, run
+from lib.golly import AFTER, LEAPS
+from lib.planes import FLIGHT, GROWING, explosion, far_gliders
+from lib.program import Folder, Outcome, Tally, ample, fault, figures, lines_outcome, run
 
 BLOCK = "x = 2, y = 2, rule = B3/S23\n2o$2o!\n"
 EMPTY = "x = 0, y = 0, rule = B3/S23\n!\n"
@@ -15,7 +27,6 @@ GLIDER = "x = 3, y = 3, rule = B3/S23\nbo$2bo$3o!\n"
 GLIDER_AT_8, GLIDER_FAR = (f"#CXRLE Pos={way},{way}\n" + GLIDER for way in (8, 1 << 58))
 CHANCE = random.Random(1)
 SOUP = rows.text_of("B3/S23", rows.Rows(0, 0, tuple(CHANCE.getrandbits(200) for _ in range(200))))
-
 MOST_WORK, MOST_MEMO = (1 << 64) - 1, 1 << 24
 
 # The options, the patterns, a claim about them, and its verdict.
@@ -65,6 +76,61 @@ LONG, ENOUGH_WORK = 1 << 40, 1 << 20
 SIDE = 1 << 20
 WIDE = dict.fromkeys([*((at << 10, at << 10) for at in range(1024)), (SIDE - 1, SIDE - 1)], 1)
 WIDE_PICTURE = "".join("." * at + "o" + "." * (7 - at) + "\n" for at in range(8))
+
+# The entries of the memo by default, and those of small ones.
+USUAL, SMALL, SMALLEST = 262144, 16384, 256
+
+# Patterns of lib/golly.py, the entries of a memo, and the units of work that their runs took.
+UNITS_OF_PATTERNS = (
+    ("acorn", USUAL, 26395),
+    ("acorn", SMALLEST, 153062),
+    ("switch_engine", USUAL, 5575),
+    ("gun", USUAL, 3502),
+    ("von_neumann", USUAL, 27614),
+    ("wires", USUAL, 3782),
+    ("wires", SMALLEST, 5374),
+    ("langtons_loop", USUAL, 71305),
+    ("rule_110", USUAL, 9558),
+)
+
+# The rules of soups of 200 by 200 cells, the generations, the entries of a memo, and the units of work.
+UNITS_OF_SOUPS = (
+    ("345/2/4", 300, USUAL, 98593),
+    ("B3/S23", 1000, USUAL, 87925),
+)
+
+# The rule of a table under which such a soup is leapt, the generations, and the entries of a memo and the units of work.
+UNITS_OF_TABLE = ("345/2/4", 300, ((USUAL, 816560), (SMALL, 993737)))
+
+# A rule under which each cell is the parity of its eight neighbours: after 2^k generations a plane's eight copies stand round its place, so far from it. The
+# side of a soup under it, the generations, and the units of work. It is stepped at first, and then leapt: one that goes on to step takes many times as many.
+COPIED = ("B1357/S1357", 64, 4096, 1066866)
+
+# A pattern of lib/golly.py, the generations, and the units of work that the run takes where it keeps a megabyte of squares and results; and fewer units, by which
+# it ends all the same where it keeps all of them.
+ROOM, FEWEST = ("acorn", 8192, 42304), 30000
+
+# Patterns of examples/ that are back at no time, the cells and the box that they have after 65536 generations (by Golly), and the units of work by which
+# `identify` tells so. It leaps or strides: one that looks at each generation takes many times as many.
+NEVER_BACK = (
+    ("gun", "10964 cells, in a box of 16402 by 16389", 14038),
+    ("r_pentomino", "116 cells, in a box of 32717 by 32741", 35247),
+)
+
+# The gun within so many generations: 60 times a number more than Golly's figures are of, in which two gliders of five cells come each 60, and fly 15 cells
+# away. No stride comes so far: it leaps.
+FAR = ("gun", 100000036, "16666714 cells, in a box of 25000027 by 25000014", 49072)
+
+# A pattern of examples/ whose period is long, as it is known, and the units of work by which `identify` finds it. It goes by strides: one that looks at each
+# generation takes many times as many.
+LONG_PERIOD = ("period_57960", 57960, 24566)
+
+# By how many generations, and how many squares there may be at a time, nearly. The results of the run are some 2.2 million, and squares that are copied are
+# hardly any work beside them.
+GROWN, MOST_SQUARES, GROWN_WORK = 1500, 4600000, 2400000
+
+# Gliders far apart, so many that each leap of theirs makes a quarter of the squares that there may be at a time.
+GLIDERS = 4000
 
 
 def claim_text(folder, patterns, first=()):
@@ -142,7 +208,7 @@ def long_runs(folder):
     after = [path, "--after", str(LONG)]
     return (
         (["verify", text.write()], lines_outcome([(3, "yes")]), lines_outcome([(3, "refused, work")])),
-        (["show", *after], ample(f"format rle\nrule B3/S23\ngen {LONG}\ncells 5\nbox {far} {far} 3 3\n".encode()), fault("work")),
+        (["show", *after], figures(LONG, 5, f"{far} {far} 3 3", "rle"), fault("work")),
         (["convert", *after, "--to", "rle"], ample(rle.tidy(cells, "B3/S23", LONG, 2)), fault("work")),
         (["draw", *after], ample(b".o.\n..o\nooo\n"), fault("work")),
         (["identify", *after], ample(told.encode()), Outcome(f"claims 2\n# glider: {path}: work\n".encode(), b"", 2)),
@@ -177,7 +243,7 @@ def try_no_generations(tally, folder):
     """A large plane after no generations needs no work, with a memo of one entry."""
     text = rle.tidy(WIDE, "B3/S23", 0, 2)
     path = Folder(tempfile.mkdtemp(dir=folder)).path("wide.rle", text)
-    shown = f"format rle\nrule B3/S23\ngen 0\ncells {len(WIDE)}\nbox 0 0 {SIDE} {SIDE}\n".encode()
+    shown = figures(0, len(WIDE), f"0 0 {SIDE} {SIDE}", "rle").printed
     draw = ["draw", path, "--scale", "17"]
     tries = ((draw, WIDE_PICTURE.encode()), ([*draw, "--after", "0"], WIDE_PICTURE.encode()), (["show", path, "--after", "0"], shown),
              (["convert", path, "--after", "0", "--to", "rle"], text))
@@ -185,12 +251,130 @@ def try_no_generations(tally, folder):
         tally.expect(f"no generations: {words[0]} {' '.join(words[2:])}", run([*words, "--work", "0", "--memo", "1"]), ample(wanted))
 
 
+def judge_units(tally, name, text, memo, units):
+    """Expects the verdicts of a text with so much work and a tenth more."""
+    words = ["verify", "--memo", str(memo), "--work", str(units + units // 10), text.write()]
+    tally.expect(f"{name}, {memo} entries: {units} units", run(words), outcome(text.answers, False))
+
+
+def try_patterns(tally, folder):
+    """What patterns become by leaps."""
+    known = {name: it for name, *it in AFTER}
+    for name, memo, units in UNITS_OF_PATTERNS:
+        before, rule, count = known[name]
+        text = ClaimText(Folder(folder))
+        if rule:
+            text.rule_path(rule)
+        text.load_path("before", before)
+        text.load_path("after", f"{LEAPS}/{name}_after.mc")
+        text.claim(f"becomes before {count} after", "yes")
+        judge_units(tally, f"{name} by {count}", text, memo, units)
+
+
+def try_soups(tally, folder):
+    """Soups: those of rules are stepped, and that of a table is leapt."""
+    for rule, count, memo, units in UNITS_OF_SOUPS:
+        text = ClaimText(Folder(folder))
+        text.load("soup", rows.text_of(rule, rows.soup(random.Random(200), 200, 200)))
+        text.claim(f"becomes soup {count} soup", f"no, cells differ after {count}")
+        judge_units(tally, f"a soup of {rule} by {count}", text, memo, units)
+    name, count, needs = UNITS_OF_TABLE
+    for memo, units in needs:
+        text = ClaimText(Folder(folder))
+        text.rule(ageing.table_of(AgeingRule.of(name), "Ageing"))
+        text.load("soup", rows.text_of("Ageing", rows.soup(random.Random(200), 200, 200)))
+        text.claim(f"becomes soup {count} soup", f"no, cells differ after {count}")
+        judge_units(tally, f"a soup of a table of {name} by {count}", text, memo, units)
+
+
+def try_copies(tally, folder):
+    """A soup whose bricks soon are copies of few."""
+    rule, side, count, units = COPIED
+    soup = rows.soup(random.Random(side), side, side)
+    steps = (-count, 0, count)
+    text = ClaimText(Folder(folder))
+    text.load("soup", rows.text_of(rule, soup))
+    text.load("copies", rows.text_of(rule, *(soup.moved(x, y) for x in steps for y in steps if x or y)))
+    text.claim(f"becomes soup {count} copies", "yes")
+    judge_units(tally, f"a soup of {rule} by {count}", text, USUAL, units)
+
+
+def try_room(tally):
+    """A run that may keep few squares: it ends, and takes more work."""
+    name, count, units = ROOM
+    path = f"{LEAPS}/{name}.rle"
+    words = ["show", path, "--after", str(count)]
+    shown = run(words)
+    tally.expect(f"{name} by {count} is shown", shown.status, 0)
+    tally.expect(f"{name} by {count}: {FEWEST} units", run([*words, "--work", str(FEWEST)]), shown)
+    few = [*words, "--max-memory", "1"]
+    tally.expect(f"{name} by {count} in a megabyte: {units} units", run([*few, "--work", str(units + units // 10)]), shown)
+    tally.expect(f"{name} by {count} in a megabyte: {FEWEST} units", run([*few, "--work", str(FEWEST)]), Outcome(b"", b"cafile: work\n", 2))
+
+
+def try_room_of_claims(tally, folder):
+    """The same of a claim."""
+    name, count, _ = ROOM
+    text = ClaimText(Folder(folder))
+    text.load_path("before", f"{LEAPS}/{name}.rle")
+    text.load_path("after", f"{LEAPS}/{name}_after.mc")
+    text.claim(f"becomes before {count} after", "yes")
+    words = ["verify", "--work", str(FEWEST)]
+    tally.expect(f"{name} becomes by {count}: {FEWEST} units", run([*words, text.write()]), Outcome(b"line 3: yes\n", b"", 0))
+    tally.expect(f"{name} becomes by {count} in a megabyte", run([*words, "--max-memory", "1", text.write()]), Outcome(b"line 3: refused, work\n", b"", 2))
+
+
+def try_identification(tally):
+    """What is back at no time, and what is back late."""
+    for name, grown, units in NEVER_BACK:
+        path = f"examples/{name}.rle"
+        words = ["identify", "--work", str(units + units // 10), path]
+        told = f"claims 2\nload {name} {path}\n# {name}: none of these within 65536 generations: {grown}, after 65536\n"
+        tally.expect(f"{name} is back at no time: {units} units", run(words), Outcome(told.encode(), b"", 0))
+    name, limit, grown, units = FAR
+    path = f"examples/{name}.rle"
+    words = ["identify", "--limit", str(limit), "--work", str(units + units // 10), path]
+    told = f"claims 2\nload {name} {path}\n# {name}: none of these within {limit} generations: {grown}, after {limit}\n"
+    tally.expect(f"{name} is back at no time up to {limit}: {units} units", run(words), Outcome(told.encode(), b"", 0))
+    name, period, units = LONG_PERIOD
+    path = f"examples/{name}.rle"
+    words = ["identify", "--work", str(units + units // 10), path]
+    told = f"claims 2\nload {name} {path}\noscillator {name} {period}\n"
+    tally.expect(f"{name} is back late: {units} units", run(words), Outcome(told.encode(), b"", 0))
+
+
+def judge_squares(tally, folder, name, texts, generations, verdict, *words):
+    """Expects the verdict on a pattern that is to become another one, in a run that leaves squares behind and never has too many."""
+    text = ClaimText(Folder(folder))
+    for which, it in zip(("first", "later"), texts):
+        text.load(which, it)
+    text.claim(f"becomes first {generations} later", verdict)
+    got = run(["verify", "--progress", *words, text.write()])
+    squares = [10 * int(it[1]) + int(it[2]) for it in re.finditer(rb"(\d+)\.(\d) million squares", got.complaint)]
+    # some are left behind, so later there are fewer
+    well = got.printed == f"line 3: {verdict}\n".encode() and squares != sorted(squares) and 100000 * max(squares) <= MOST_SQUARES
+    tally.tell(name, [] if well else [f"{got}, squares {squares}"])
+
+
+def try_full_stores(tally, folder):
+    """A plane that grows in all directions, and another one that is claimed of it; and gliders far apart."""
+    plane = explosion()
+    later = plane.after(GROWING, GROWN)
+    other, _ = later.with_changed(later.x, later.y)
+    for name, it, verdict in (("yes", later, "yes"), ("no", other, f"no, cells differ after {GROWN}")):
+        texts = [rows.text_of(GROWING, which) for which in (plane, it)]
+        judge_squares(tally, folder, f"a long run, {name}", texts, GROWN, verdict, "--work", str(GROWN_WORK))
+    judge_squares(tally, folder, f"{GLIDERS} gliders far apart", far_gliders(GLIDERS), FLIGHT, "yes")
+
+
 def main():
     tally = Tally()
     with tempfile.TemporaryDirectory() as folder:
-        for it in (try_claims, try_each_by_itself, try_a_soup, try_least_work, try_limits_of_commands, try_no_generations):
+        for it in (try_claims, try_each_by_itself, try_a_soup, try_least_work, try_limits_of_commands, try_no_generations, try_patterns, try_soups, try_copies,
+                   try_room_of_claims, try_full_stores):
             it(tally, folder)
-    try_faults(tally)
+    for it in (try_faults, try_room, try_identification):
+        it(tally)
     tally.finish()
 
 

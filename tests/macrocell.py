@@ -1,6 +1,9 @@
 #!/usr/bin/env -S python3 -B
-"""Macrocell files too small and too many for examples/, shown, converted and judged by the built program. What is wrong with each faulty text was worked
-out by hand, and so were the cells of the good ones; what random planes come to, by the naive reader and writer of tests/lib/macrocell.py.
+"""Macrocell files, shown, converted and judged: small texts, faulty and good, random planes, and texts of millions of nodes.
+
+What is wrong with each faulty text was worked out by hand, and so were the cells of the good ones. What random planes come to is told by the naive reader and
+writer of tests/lib/macrocell.py. Large texts have to be shown, converted or refused within some seconds of a processor, bounded beside those of known work, and
+what is converted has to come back byte for byte.
 """
 import os
 import random
@@ -8,74 +11,20 @@ import re
 import tempfile
 
 from lib import macrocell, rle, steps
+from lib.claim_table import ClaimTable
 from lib.macrocell import EDGE
-from lib.program import Tally, ample, fault, run
-from texts import Table
-
-
-def chain(first, lines, to):
-    """A leaf, and squares of level 4 to this one round it: `lines` gives the parts of each, by the number of the node before."""
-    return "\n".join([first, *(f"{level} {lines.format(level - 3)}" for level in range(4, to + 1))]) + "\n"
-
-
-# One live cell in a corner of a square of level 60, which is node 58.
-NORTH_WEST, NORTH_EAST, SOUTH_EAST = chain("*$", "{} 0 0 0", 60), chain(".......*$", "0 {} 0 0", 60), chain("$$$$$$$.......*$", "0 0 0 {}", 60)
-
-# All cells of a square of level 61, which is node 59.
-FULL = chain("********$" * 8, "{0} {0} {0} {0}", 61)
-
-# By the fault: what follows a line [M2].
-FAULTS = {
-    "timeline": (
-        "#FRAMES 2 0 1", "#FRAMES 2", "#FRAME", "#FRAMEx", " \t#FRAMES 2", "#FRAME\r", "*$\n#FRAMES 2", "#FRAMES 2\n4 0 0 0", "#FRAMES 2\n#G x",
-        "1 0 0 0 1\n\n#C c\n#FRAMES 2\n*********$",
-    ),
-    "syntax": (
-        "1 0 0 0 256", "1 256 0 0 0", "1 0 0 99999999999999999999999999999999999999999 0", "1 0 0 0 4294967296", "1 0 0 0 18446744073709551616",
-        "4 0 0 0", "4 0 0 0 0 0", "4", "0", "0 0 0 0", "121 0 0 0", "4 9 9 9", "4 0 0 0 9 9",
-        "x", "4 0 0 0 x", "4 0 0 0 -1", "4 0 0 0 -0", "4 0 0 0 +0", "-4 0 0 0 0", "0 0 0 0 x", "4,0,0,0,0", "4 0 0 0 0,", "4 0 0 0 0 # c", "4 0 0 0 0x",
-        "0x4 0 0 0 0", "4 0 0 0 .", "4. 0 0 0 0", "4 0 0\x0b0 0", "\x00", "\x0c", "\xff", "[M2]", "@", "bo$", "o$", "x = 3, y = 3", "B3/S23",
-        "**a$", "* *$", "*\t$", "*\r*$", "** # c", "*#", "*$x", "$o", "$ $", ".0", "*1 0 0 0 0", "$$$$$$$$x", "********x", "*$*$*$*$*$*$*$*$ .", "*\x00",
-        "#G -4", "#G +4", "#G 4x", "#G x", "#G 4 5", "#G 4,5", "#G 0x4", "#G 9223372036854775808 1", "#G 9223372036854775808x", "  #G  4 x ", "#G 4 # c",
-        "#G 1\n#G x", "#G x\n#G 1", "1 0 0 0 256\n4 0 0 0 9", "*$\n4 0 0 0\n5 0 0 0 1",
-    ),
-    "gen too large": (
-        "#G 9223372036854775808", "#G 18446744073709551616", "#G 99999999999999999999999999999999999999999", "#G 0009223372036854775808",
-        "#G 9223372036854775808\n#G 1", "#G 1\n\t#G\t9223372036854775808 \n4 0 0 0",
-    ),
-    "level": (
-        "0 0 0 0 0", "000 0 0 0 0", "0 1 2 3 4", "121 0 0 0 0", "256 0 0 0 0", "257 0 0 0 0", "4294967300 0 0 0 0", "18446744073709551620 0 0 0 0",
-        "99999999999999999999999999999999999999999 0 0 0 0", "121 9 0 0 0", "0 0 0 0 256",
-        "*$\n5 0 0 0 1", "*$\n3 0 0 0 1", "*$\n2 1 0 0 0", "1 1 0 0 0\n3 0 0 0 1", "1 1 0 0 0\n4 0 0 0 1", "1 1 0 0 0\n2 1 0 0 0\n2 1 0 0 2",
-        "*$\n4 1 0 0 0\n5 1 2 0 0", "*$\n4 1 0 0 0\n5 2 2 2 1", "*$\n5 1 9 0 0", "*$\n120 1 0 0 0", "*$\n119 1 0 0 0",
-        # an empty square that is written has its level too
-        "$\n5 0 0 0 1", "7 0 0 0 0\n7 0 0 0 1", "120 0 0 0 0\n120 0 0 0 1", "120 0 0 0 0\n121 0 0 0 1",
-    ),
-    "forward": (
-        "4 0 0 0 1", "4 0 0 0 2", "4 1 0 0 0", "2 1 0 0 0", "*$\n4 0 0 0 2", "*$\n4 2 0 0 0", "*$\n4 3 0 0 0", "*$\n4 0 0 9 0", "*$\n5 9 1 0 0",
-        "*$\n4 0 9 0 0\n*$", "*$\n4 0 0 0 257", "*$\n4 0 0 0 65537", "*$\n4 0 0 0 4294967297", "*$\n4 0 0 0 18446744073709551617",
-        "*$\n4 0 340282366920938463463374607431768211457 0 0", "*$\n5 2 1 0 0", "#C 1\n\n4 0 0 0 1", "4 0 0 1 0\n4 0 0 0",
-    ),
-    "leaf size": (
-        "*********", "*********$", ".........$", "........*", "********.", "*********x", "$$$$$$$$$", "$$$$$$$$.", "$$$$$$$$*", "$$$$$$$$.x", "$$$$$$$$$x",
-        "*$*$*$*$*$*$*$*$*", "$$.........$x", "*$\n*********", " *********", "*********\n4 0 0 0",
-    ),
-    "range": (
-        FULL + "62 59 59 59 59\n", FULL + "62 0 0 0 59\n", FULL + "62 59 0 0 0\n",
-        # a live cell at 2^60,0, at 0,2^60, at -2^60-1,-1 and at -1,-2^60-1
-        NORTH_WEST + "61 0 58 0 0\n62 0 0 0 59\n", NORTH_WEST + "61 0 0 58 0\n62 0 0 0 59\n", SOUTH_EAST + "61 0 0 58 0\n62 59 0 0 0\n",
-        SOUTH_EAST + "61 0 58 0 0\n62 59 0 0 0\n",
-        chain("*$", "{} 0 0 0", 120), chain("*$", "0 0 0 {}", 120), "1 9 0 0 0\n" + "".join(f"{level} {level - 1} 0 0 0\n" for level in range(2, 63)),
-    ),
-}
-
-BLOCK = {(0, 0): 1, (1, 0): 1, (0, 1): 1, (1, 1): 1}
+from lib.macrocell_texts import CELL, FAULTS, FOURFOLD, FULL_LEAF, FULL_SQUARE, NORTH_EAST, NORTH_WEST, SOUTH_EAST, TWO_BY_TWO, Sloppy, chain, header
+from lib.planes import distinct_leaves
+from lib.program import MAX_FILE, Runs, Tally, ample, fault, figures, lines_outcome, run
+from lib.work import excess, timed
 
 
 def at(corner, *places):
     """Live cells at these places, from a corner."""
     return {(corner[0] + x, corner[1] + y): 1 for x, y in places}
 
+
+BLOCK = {(0, 0): 1, (1, 0): 1, (0, 1): 1, (1, 1): 1}
 
 # Whole texts, and their live cells, generation and printed rule where it isn't B3/S23.
 GOOD = (
@@ -106,18 +55,17 @@ GOOD = (
     ("[M2]\n#C 1\n1 0 0 0 0\n\n#C 2\n1 0 0 0 1\n#C 3\n2 0 0 0 2\n", {(1, 1): 1}, 0),
     # nodes that the root doesn't reach, and a root that stands twice
     ("[M2]\n1 0 0 0 1\n1 0 0 0 200\n*$\n2 1 0 0 0\n", {(-1, -1): 1}, 0), ("[M2]\n1 0 0 0 1\n1 0 0 0 1\n", {(0, 0): 1}, 0),
-    (f"[M2]\n{FULL}62 59 59 59 59\n*$\n", at((-4, -4), (0, 0)), 0), ("[M2]\n*$\n4 0 0 0 0\n", {}, 0),
+    (f"[M2]\n{FULL_SQUARE}62 59 59 59 59\n*$\n", at((-4, -4), (0, 0)), 0), ("[M2]\n*$\n4 0 0 0 0\n", {}, 0),
     # at the edge of the range, and high roots
     (f"[M2]\n{NORTH_WEST}61 58 0 0 0\n", {(-EDGE, -EDGE): 1}, 0), (f"[M2]\n{NORTH_EAST}61 0 0 0 58\n", {(EDGE - 1, 0): 1}, 0),
     (f"[M2]\n{SOUTH_EAST}61 0 0 0 58\n", {(EDGE - 1, EDGE - 1): 1}, 0), (f"[M2]\n{SOUTH_EAST}61 58 0 0 0\n62 0 0 0 59\n", {(EDGE - 1, EDGE - 1): 1}, 0),
     (f"[M2]\n{SOUTH_EAST}61 0 58 0 0\n", {(EDGE - 1, -1): 1}, 0), (f"[M2]\n{SOUTH_EAST}61 0 0 0 58\n62 59 0 0 0\n", {(-1, -1): 1}, 0),
-    (f"[M2]\n{chain('*$', '{} 0 0 0', 119)}120 0 0 0 117\n", {(0, 0): 1}, 0),
-    (f"[M2]\n{chain('$$$$$$$.......*$', '0 0 0 {}', 119)}120 117 0 0 0\n", {(-1, -1): 1}, 0),
+    (f"[M2]\n{chain(('*$', 3), '{} 0 0 0', 119, '')}120 0 0 0 117\n", {(0, 0): 1}, 0),
+    (f"[M2]\n{chain(('$$$$$$$.......*$', 3), '0 0 0 {}', 119, '')}120 117 0 0 0\n", {(-1, -1): 1}, 0),
 )
 
 # A text, cut after each of its bytes.
 GLIDER = b"[M2] (cafile)\n#R B3/S23\n.*$..*$***$$$$$$\n4 0 0 0 1\n"
-GLIDER_CELLS = ((1, 0), (2, 1), (0, 2), (1, 2), (2, 2))
 
 # The tables of random planes' rules: name and states.
 TABLES = {"Two": 2, "Three": 3, "Wide": 256}
@@ -126,41 +74,112 @@ TABLES = {"Two": 2, "Three": 3, "Wide": 256}
 RULES = (("B3/S23", "B3/S23", None, 2), ("s6/b5h", "B5/S6H", None, 2), ("23/3", "B3/S23", None, 2),
          *((name, name, name, states) for name, states in TABLES.items()))
 
+# How many times the known work a run may take.
+MOST_WORK = 400
 
-class Runs:
-    """Runs of the program over a file that is written for them."""
 
-    def __init__(self, folder):
-        self.folder, self.complaints, self.count = folder, [], 0
+def two_patterns(to):
+    """Two squares of each level, each made of both of the level below: those of 2 by 2 have two cells each."""
+    lines = ["[M2]", "1 1 0 0 1", "1 0 1 1 0"]
+    for level in range(2, to + 1):
+        one = 2 * level - 3
+        lines += [f"{level} {one} {one + 1} {one + 1} {one}", f"{level} {one + 1} {one} {one} {one + 1}"]
+    return "\n".join(lines) + "\n"
 
-    def path(self, name, content):
-        """Writes a file, and gives its path."""
-        path = os.path.join(self.folder, name)
-        with open(path, "wb") as file:
-            file.write(content)
-        return path
 
-    def expect(self, text, words, wanted, name="plane"):
-        """Runs the program with these words, FILE being a file of this text."""
+def deep_two():
+    """A square of level 61 in which one cell is of state 2, and each other of state 1."""
+    lines = ["[M2]", "1 1 1 1 1", "1 1 2 1 1"]
+    for level in range(2, 62):
+        one = 2 * level - 3
+        lines += [f"{level} {one} {one} {one} {one}", f"{level} {one} {one} {one + 1} {one}"]
+    return "\n".join(lines) + "\n"
+
+
+def all_fours(states):
+    """As many different squares of four live cells as a file has room for, and a square of level 2 whose last part is the last of them."""
+    tails = [f"{sw} {se}\n" for sw in range(1, states) for se in range(1, states)]
+    pieces, size, count = [f"[M2]\n#R /2/{states}\n"], 100, 0
+    for heads in (f"1 {nw} {ne} " for nw in range(1, states) for ne in range(1, states)):
+        pieces.append(heads + heads.join(tails))
+        size, count = size + len(pieces[-1]), count + len(tails)
+        if size + len(pieces[-1]) > MAX_FILE:
+            break
+    return "".join([*pieces, f"2 0 0 0 {count}\n"])
+
+
+def bad(kind):
+    """The outcome of a faulty macrocell."""
+    return fault(f"bad pattern: macrocell {kind}")
+
+
+ONE_LEAF = figures(0, 1, "-4 -4 1 1")
+ALL = f"-{EDGE} -{EDGE} {2 * EDGE} {2 * EDGE}"
+TOO_MANY = fault("too many cells")
+
+# Texts, and what `show` comes to.
+LARGE_TEXTS = (
+    ("a million leaves", lambda: "[M2]\n" + "*.*$\n" * 1000000, figures(0, 2, "-4 -4 3 1")),
+    ("a million full leaves", lambda: "[M2]\n" + ("********$" * 8 + "\n") * 900000, figures(0, 64, "-4 -4 8 8")),
+    ("22 million leaves", lambda: "[M2]\n" + "*$\n" * (MAX_FILE // 3 - 2), ONE_LEAF),
+    ("5 million squares of four cells, all different", lambda: all_fours(50), figures(0, 4, "0 0 2 2", rule="/2/50")),
+    ("6 million squares of level 2", lambda: "[M2]\n1 1 0 0 0\n" + "2 1 0 0 0\n" * (MAX_FILE // 10 - 2), figures(0, 1, "-2 -2 1 1")),
+    ("a million squares of one level", lambda: "[M2]\n" + "*$\n" + "4 1 1 1 1\n" * 1000000, figures(0, 4, "-8 -8 9 9")),
+    ("a million empty squares", lambda: "[M2]\n" + "120 0 0 0 0\n" * 1000000, figures(0, 0, "none")),
+    ("one cell at level 119, the root at 120", lambda: chain(CELL, "{} 0 0 0", 119) + "120 0 0 0 117\n", figures(0, 1, "0 0 1 1")),
+    ("the full square of level 61", lambda: chain(FULL_LEAF, FOURFOLD, 61), figures(0, 4 * EDGE * EDGE, ALL)),
+    ("the full square of level 61, from 2 by 2 on", lambda: chain(TWO_BY_TWO, FOURFOLD, 61), figures(0, 4 * EDGE * EDGE, ALL)),
+    ("the full square of level 62", lambda: chain(FULL_LEAF, FOURFOLD, 62), bad("range")),
+    ("the full square of level 120", lambda: chain(FULL_LEAF, FOURFOLD, 120), bad("range")),
+    ("the full square of level 121", lambda: chain(FULL_LEAF, FOURFOLD, 121), bad("level")),
+    ("a diagonal of 2^61 cells", lambda: chain(("1 1 0 0 1", 1), "{0} 0 0 {0}", 61), figures(0, 2 * EDGE, ALL)),
+    ("a diagonal of 2^120 cells", lambda: chain(("1 1 0 0 1", 1), "{0} 0 0 {0}", 120), bad("range")),
+    ("two squares of each level to 61", lambda: two_patterns(61), figures(0, 2 * EDGE * EDGE, ALL)),
+    ("two squares of each level to 120", lambda: two_patterns(120), bad("range")),
+    ("states of 2 everywhere", lambda: chain(("1 2 2 2 2", 1), FOURFOLD, 61), fault("state too large")),
+    ("one state of 2 among 2^122 cells", deep_two, fault("state too large")),
+    ("a node number of 40 digits", lambda: "[M2]\n*$\n4 0 0 0 " + "9" * 40, bad("forward")),
+    ("a node number of a million digits", lambda: "[M2]\n*$\n4 0 0 0 1" + "0" * 1000000, bad("forward")),
+    ("a node number after a million zeros", lambda: "[M2]\n*$\n4 0 0 0 " + "0" * 1000000 + "1", figures(0, 1, "0 0 1 1")),
+    ("a level of a million digits", lambda: "[M2]\n" + "4" * 1000000 + " 0 0 0 0", bad("level")),
+    ("a level after a million zeros", lambda: "[M2]\n*$\n" + "0" * 1000000 + "4 0 0 0 1", figures(0, 1, "0 0 1 1")),
+    ("a state of a million digits", lambda: "[M2]\n1 0 0 0 " + "1" * 1000000, bad("syntax")),
+    ("a generation of a million digits", lambda: "[M2]\n*$\n#G " + "1" * 1000000, bad("gen too large")),
+    ("a generation after a million zeros", lambda: "[M2]\n*$\n#G " + "0" * 1000000 + "7", figures(7, 1, "-4 -4 1 1")),
+    ("a million numbers in a line", lambda: "[M2]\n*$\n" + "1 " * 1000000, bad("syntax")),
+    ("a leaf of a million cells", lambda: "[M2]\n" + "*" * 1000000, bad("leaf size")),
+    ("a leaf of a million rows", lambda: "[M2]\n" + "$" * 1000000, bad("leaf size")),
+    ("a leaf between a million blanks each", lambda: "[M2]\n" + " " * 1000000 + "*$" + "\t" * 1000000 + "\r\n", ONE_LEAF),
+    ("a word of a million bytes", lambda: "[M2]\n" + "x" * 1000000, bad("syntax")),
+    ("a million comments", lambda: "[M2]\n*$\n" + "#C a comment\n" * 1000000, ONE_LEAF),
+    ("a comment of ten million bytes", lambda: "[M2]\n*$\n#" + "#" * 10000000, ONE_LEAF),
+    ("ten million empty lines", lambda: "[M2]\n*$\n" + "\n" * 10000000, ONE_LEAF),
+    ("a million rules and generations", lambda: "[M2]\n*$\n" + "#R Life\n#G 7\n" * 1000000 + "#R 23/3\n", figures(7, 1, "-4 -4 1 1")),
+    ("a rule of a million digits", lambda: "[M2]\n*$\n#R B" + "3" * 1000000 + "/S23", ONE_LEAF),
+    ("a rule of a million bytes", lambda: "[M2]\n*$\n#R " + "L" * 1000000, fault("bad rule: unknown")),
+    ("a first line of 67108800 bytes", lambda: "[M2]" + "*" * 67108796 + "\n*$\n", ONE_LEAF),
+    ("a fault after a million nodes", lambda: "[M2]\n" + "*$\n" * 1000000 + "4 1 1 1 1000001\n", bad("forward")),
+    ("the last of a million nodes", lambda: "[M2]\n" + "*$\n" * 1000000 + "4 0 0 0 1000000\n", figures(0, 1, "0 0 1 1")),
+    ("a node number and 2^32 or 2^64 more", lambda: "[M2]\n" + "*$\n" * 70000 + "4 0 0 0 65536\n4 0 0 0 18446744073709551617\n", bad("forward")),
+)
+
+
+class FileRuns(Runs):
+    """Runs over a file that is written for them, which is FILE in their words."""
+
+    def of(self, text, words, wanted, name="plane"):
+        """Runs the program over a file of this text, and expects this."""
         path = self.path(name, text)
-        got = run([path if word == "FILE" else word for word in words])
-        self.count += 1
-        if got != wanted:
-            self.complaints.append(f"{words} of {text[:1500]!r}: wanted {wanted}, got {got}")
-
-    def tell(self, tally, name):
-        """Tells the runs up to here as one test."""
-        tally.tell(f"{name}: {self.count}", self.complaints)
-        self.complaints, self.count = [], 0
+        self.expect(repr(text[:1500]), [path if word == "FILE" else word for word in words], wanted)
 
 
 def try_faults(tally, folder):
     """Texts with a fault, shown, converted and judged."""
-    runs, table = Runs(folder), Table(folder)
+    runs, table = FileRuns(folder), ClaimTable(folder)
     for kind, bodies in FAULTS.items():
         for body in bodies:
             text = b"[M2]\n" + body.encode("latin-1")
-            runs.expect(text, ["show", "FILE"], fault(f"bad pattern: macrocell {kind}"))
+            runs.of(text, ["show", "FILE"], fault(f"bad pattern: macrocell {kind}"))
             table.still(text, f"refused, bad pattern: macrocell {kind}")
             try:
                 macrocell.read(text)
@@ -174,12 +193,12 @@ def try_faults(tally, folder):
 
 def try_good(tally, folder):
     """Texts without a fault: their figures, and both formats of their planes."""
-    runs = Runs(folder)
+    runs = FileRuns(folder)
     for text, cells, generation, *rule in GOOD:
         pattern = macrocell.Pattern(macrocell.tree_of(cells), *(rule or ["B3/S23"]), generation)
-        runs.expect(text.encode(), ["show", "FILE"], ample(pattern.shown()))
-        runs.expect(text.encode(), ["convert", "FILE", "--to", "rle"], ample(rle.tidy(cells, pattern.rule, generation, 2)))
-        runs.expect(text.encode(), ["convert", "FILE", "--to", "mc"], ample(macrocell.tidy(pattern, 2)))
+        runs.of(text.encode(), ["show", "FILE"], ample(pattern.shown()))
+        runs.of(text.encode(), ["convert", "FILE", "--to", "rle"], ample(rle.tidy(cells, pattern.rule, generation, 2)))
+        runs.of(text.encode(), ["convert", "FILE", "--to", "mc"], ample(macrocell.tidy(pattern, 2)))
     runs.tell(tally, "macrocell texts without a fault")
 
 
@@ -200,30 +219,30 @@ def cut_glider(length):
     if count:
         x, y, *size = map(int, box.split())
         box = " ".join(map(str, (x + corner[0], y + corner[1], *size)))
-    return ample(f"format macrocell\nrule {rule}\ngen 0\ncells {count}\nbox {box}\n".encode())
+    return figures(0, count, box, rule=rule)
 
 
 def try_cut_texts(tally, folder):
     """A macrocell and an RLE cut after each byte, and RLE bodies of one byte and an end."""
-    runs = Runs(folder)
+    runs = FileRuns(folder)
     for length in range(len(GLIDER) + 1):
-        runs.expect(GLIDER[:length], ["show", "FILE"], cut_glider(length))
+        runs.of(GLIDER[:length], ["show", "FILE"], cut_glider(length))
     runs.tell(tally, "a macrocell text cut short")
     text = b"x = 3, y = 3, rule = B3/S23\nb2o$2o$bo!"
     for length in range(len(text)):
         told = "no end" if length == 12 or length >= 20 else "header"
-        runs.expect(text[:length], ["show", "FILE"], fault(f"bad pattern: rle {told}"))
-    runs.expect(text, ["show", "FILE"], ample(b"format rle\nrule B3/S23\ngen 0\ncells 5\nbox 0 0 3 3\n"))
+        runs.of(text[:length], ["show", "FILE"], fault(f"bad pattern: rle {told}"))
+    runs.of(text, ["show", "FILE"], figures(0, 5, "0 0 3 3", "rle"))
     runs.tell(tally, "an RLE text cut short")
     wide = runs.path("Wide", table_file("Wide"))
     for byte in range(256):
         wanted = fault("bad pattern: rle syntax")
         if byte in b"b.o$! \t\r\nABCDEFGHIJKLMNOPQRSTUVWX":
-            figures = b"cells 1\nbox 0 0 1 1\n" if byte in b"oABCDEFGHIJKLMNOPQRSTUVWX" else b"cells 0\nbox none\n"
-            wanted = ample(b"format rle\nrule Wide\ngen 0\n" + figures)
+            is_live = byte in b"oABCDEFGHIJKLMNOPQRSTUVWX"
+            wanted = figures(0, int(is_live), "0 0 1 1" if is_live else "none", "rle", "Wide")
         elif byte in b"#":
             wanted = fault("bad pattern: rle no end")
-        runs.expect(b"x = 3, y = 3, rule = Wide\n" + bytes([byte]) + b"!", ["show", "FILE", "--rule", wide], wanted)
+        runs.of(b"x = 3, y = 3, rule = Wide\n" + bytes([byte]) + b"!", ["show", "FILE", "--rule", wide], wanted)
     runs.tell(tally, "RLE bodies of one byte")
 
 
@@ -245,79 +264,6 @@ def random_cells(chance, states):
             if max(place) < EDGE and chance.random() < share:
                 cells[place] = chance.randrange(1, min(few, states - 1) + 1) if few < states - 1 else chance.randrange(1, states)
     return cells
-
-
-class Sloppy:
-    """A text of a tree's nodes, in any order that is allowed, some of them twice, unused or empty, and in both kinds of leaves."""
-
-    def __init__(self, chance, squares):
-        self.chance, self.squares, self.lines, self.count, self.known = chance, squares, [], 0, {}
-
-    def add(self, line):
-        """Adds a node's line, perhaps with blanks round it or comments before it, and gives its number."""
-        blank = self.chance.choice(("",) * 20 + (" ", "\t", " \r ", "\r"))
-        if self.chance.random() < 0.1:
-            self.lines.append(self.chance.choice(("", "#C c", " ", "#", "#G", "#R", "# 4 0 0 0 0", "\t#Cfoo", "##FRAMES", "#Gee 4")))
-        self.lines.append(blank + (line if line[0] in ".*$" else line.replace(" ", self.chance.choice((" ", " ", "  ", "\t", " \r"))) + blank))
-        self.count += 1
-        return self.count
-
-    def leaf(self, square):
-        """A leaf's line, of which dead cells, rows and the last `$` may be left out or not."""
-        rows = macrocell.leaf_text(self.squares, square).split("$")[:8]
-        rows = [row + "." * self.chance.randrange(9 - len(row)) if self.chance.random() < 0.3 else row for row in rows]
-        while rows and not rows[-1] and self.chance.random() < 0.7:
-            rows.pop()
-        text = "$".join(rows) + self.chance.choice(("$", ""))
-        return text or "$"
-
-    def unused(self):
-        """Adds a node that nothing reaches."""
-        number = self.chance.randrange(self.count + 1)
-        if self.chance.random() < 0.5 or not self.known:
-            self.add(self.chance.choice(("1 0 0 0 255", "**$**$", "$", "1 1 2 3 4", "120 0 0 0 0", f"{number % 119 + 2} 0 0 0 0")))
-        else:
-            (_, level), numbers = self.chance.choice(list(self.known.items()))
-            self.add(f"{level + 1} {numbers[0]} 0 {numbers[-1]} {numbers[0]}")
-
-    def node(self, square, level, root=False):
-        """The number of a node for a square, which is added where it has none, and now and then where it has one."""
-        if not root and not square and self.chance.random() < 0.95:
-            return 0
-        if not root and (square, level) in self.known and self.chance.random() < 0.9:
-            return self.chance.choice(self.known[square, level])
-        if self.chance.random() < 0.05:
-            self.unused()
-        parts = self.squares.parts[square]
-        if level == 1:
-            line = " ".join(map(str, (1, *parts)))
-        elif level == 3 and macrocell.Tree(self.squares, square, 3).highest_state() < 2 and self.chance.random() < 0.7:
-            line = self.leaf(square)
-        else:
-            numbers = {}
-            for corner in self.chance.sample(range(4), 4):
-                numbers[corner] = self.node(parts[corner], level - 1)
-            line = f"{level} {numbers[0]} {numbers[1]} {numbers[2]} {numbers[3]}"
-        number = self.add(line)
-        self.known.setdefault((square, level), []).append(number)
-        return number
-
-    def text(self, tree, rule, generation):
-        """The text of a tree."""
-        self.node(tree.root, tree.level, True)
-        for wrong, right, is_usual in (
-            ("#R Other", (f"#R {rule}", f"\t#R  {rule} more"), rule == "B3/S23"),
-            ("#G 12", (f"#G {generation}", f"#G\t000{generation} "), generation == 0),
-        ):
-            said = [wrong] * self.chance.randrange(3)
-            if said or not is_usual or self.chance.random() < 0.5:
-                said.append(self.chance.choice(right))
-            places = sorted(self.chance.randrange(len(self.lines) + 1) for _ in said)
-            for place, line in reversed(list(zip(places, said))):
-                self.lines.insert(place, line)
-        end = self.chance.choice(("\n", "\n", "\r\n"))
-        head = self.chance.choice(("[M2] (golly 4.2)", "[M2]", "[M2] 4 0 0 0", "[M2]#FRAMES"))
-        return (end.join([head, *self.lines]) + self.chance.choice((end, ""))).encode()
 
 
 def sloppy_items(chance, text, rule):
@@ -350,7 +296,7 @@ def claim_of(table, chance, pattern, text):
 
 def try_random_planes(tally, folder):
     """Random planes: shown, converted each way, and back again, and judged."""
-    chance, runs, table_of_claims = random.Random(1), Runs(folder), Table(folder)
+    chance, runs, table_of_claims = random.Random(1), FileRuns(folder), ClaimTable(folder)
     for name in TABLES:
         runs.path(name, table_file(name))
     for _ in range(100):
@@ -364,9 +310,9 @@ def try_random_planes(tally, folder):
         if not table:
             claim_of(table_of_claims, chance, pattern, sloppy)
         for text, kind in ((sloppy, "macrocell"), (tidy, "macrocell"), (sloppy_items(chance, items, rule), "rle"), (items, "rle")):
-            runs.expect(text, ["show", "FILE", *more], ample(pattern.shown(kind=kind)))
-            runs.expect(text, ["convert", "FILE", "--to", "mc", *more], ample(tidy))
-            runs.expect(text, ["convert", "FILE", "--to", "rle", *more], ample(items))
+            runs.of(text, ["show", "FILE", *more], ample(pattern.shown(kind=kind)))
+            runs.of(text, ["convert", "FILE", "--to", "mc", *more], ample(tidy))
+            runs.of(text, ["convert", "FILE", "--to", "rle", *more], ample(items))
     runs.tell(tally, "random planes, shown and converted")
     table_of_claims.judge(tally, "random planes, judged")
 
@@ -392,7 +338,7 @@ def mutilated(chance, text):
 
 def try_mutilated_texts(tally, folder):
     """Texts with random changes: the program has to tell what the naive reader tells."""
-    chance, runs, kinds = random.Random(2), Runs(folder), {}
+    chance, runs, kinds = random.Random(2), FileRuns(folder), {}
     while sum(kinds.values()) < 400:
         tree = macrocell.tree_of(random_cells(chance, 2))
         text = Sloppy(chance, tree.squares).text(tree.fitted(tree.level + chance.randrange(3)), "B3/S23", 0).decode()
@@ -408,10 +354,116 @@ def try_mutilated_texts(tally, folder):
                 kind, wanted = "state too large", fault("state too large")
         except macrocell.Fault as it:
             kind, wanted = it.kind, fault(f"bad pattern: macrocell {it.kind}")
-        runs.expect(text, ["show", "FILE"], wanted)
+        runs.of(text, ["show", "FILE"], wanted)
         kinds[kind] = kinds.get(kind, 0) + 1
     told = ", ".join(f"{number} {kind}" for kind, number in sorted(kinds.items()))
     runs.tell(tally, f"mutilated macrocell texts ({told})")
+
+
+class LargeTexts:
+    """Files in a folder of their own, and runs over them that have to end within the bound."""
+
+    def __init__(self, tally, folder):
+        self.tally, self.folder = tally, folder
+
+    def path(self, name, text):
+        """Writes a file, and gives its path."""
+        path = os.path.join(self.folder, name)
+        with open(path, "wb") as file:
+            file.write(text if isinstance(text, bytes) else text.encode("ascii"))
+        return path
+
+    def expect(self, name, words, wanted):
+        """Runs the program. It fails the test too where it takes longer than the bound."""
+        outcome, seconds = timed(words)
+        complaints = [] if outcome == wanted else [f"wanted: {wanted}", f"got:    {outcome}"]
+        self.tally.tell(f"{name}, {words[0]}: {seconds:.2f} s", complaints + excess(seconds, MOST_WORK))
+        return outcome.printed
+
+    def shown(self, name, text, wanted):
+        """Expects this of `show`."""
+        self.expect(name, ["show", self.path("shown", text)], wanted)
+
+    def converted(self, name, text, kind, wanted):
+        """Expects this text of `convert`."""
+        return self.expect(f"{name}, to {kind}", ["convert", self.path("converted", text), "--to", kind], wanted)
+
+    def round_trip(self, name, text, kind, cells, box):
+        """Converts a tidy text of this kind to the other and back, and to its own; and compares the figures of each."""
+        other = "rle" if kind == "mc" else "mc"
+        self.converted(name, text, kind, ample(text))
+        path = self.path("there", text)
+        between = run(["convert", path, "--to", other])
+        self.tally.tell(f"{name}, to {other}", [] if (between.complaint, between.status) == (b"", 0) else [str(between)])
+        self.converted(f"{name}, and back", between.printed, kind, ample(text))
+        for it, words in ((text, kind), (between.printed, other)):
+            self.shown(f"{name}, {words}", it, figures(0, cells, box, "rle" if words == "rle" else "macrocell"))
+        loads = f"load a {path}\nload b {self.path('back', between.printed)}\n"
+        self.expect(f"{name}, in both formats", ["verify", self.path("text.claims", loads + "becomes a 0 b\n")], lines_outcome([(3, "yes")]))
+
+
+def try_far_cells(texts):
+    """Cells at both ends of the range, and long diagonals and squares, of as many cells as an RLE may have and of more."""
+    lines = []
+    for first, parts in (("*$$$$$$$$", "{} 0 0 0"), (".......*$$$$$$$$", "0 {} 0 0"), ("$$$$$$$*$", "0 0 {} 0"), ("$$$$$$$.......*$", "0 0 0 {}")):
+        lines += [first, *(f"{level} {parts.format(len(lines) + level - 3)}" for level in range(4, 61))]
+    corners = header("mc") + "\n".join([*lines, "61 58 116 174 232\n"]).encode()
+    items = header("rle", -EDGE, -EDGE, 2 * EDGE, 2 * EDGE) + f"o{2 * EDGE - 2}bo{2 * EDGE - 1}$o{2 * EDGE - 2}bo!\n".encode()
+    texts.round_trip("cells at the corners of the range", corners, "mc", 4, ALL)
+    texts.converted("cells at the corners of the range", corners, "rle", ample(items))
+    side = 1 << 20
+    items = [item for y in range(side) for item in ((f"{y}b" if y > 1 else "b" * y), "o", "$")]
+    diagonal = header("rle", -side // 2, -side // 2, side, side) + rle.folded([*filter(None, items[:-1]), "!"]).encode() + b"\n"
+    texts.converted("a diagonal of 2^20 cells", chain(("1 1 0 0 1", 1), "{0} 0 0 {0}", 20), "rle", ample(diagonal))
+    square = header("rle", -2048, -2048, 4096, 4096) + rle.folded(["4096o", "$"] * 4095 + ["4096o", "!"]).encode() + b"\n"
+    tree = header("mc") + chain(FULL_LEAF, FOURFOLD, 12, "").encode()
+    texts.converted("a square of 16777216 cells", square, "mc", ample(tree))
+    texts.converted("a square of 16777216 cells", tree, "rle", ample(square))
+    for level in (13, 24, 25, 61):
+        texts.converted(f"a full square of level {level}", chain(FULL_LEAF, FOURFOLD, level), "rle", TOO_MANY)
+    full = header("mc") + chain(FULL_LEAF, FOURFOLD, 61, "").encode()
+    texts.converted("the full square of level 61", full, "mc", ample(full))
+    texts.converted("a diagonal of 2^61 cells", chain(("1 1 0 0 1", 1), "{0} 0 0 {0}", 61), "rle", TOO_MANY)
+
+
+def try_rows(texts):
+    """A row of 16777216 cells, and one of a cell more."""
+    count = 1 << 24
+    row = header("mc") + chain(("********$$$$$$$$", 3), "{0} {0} 0 0", 24, "").encode()
+    items = header("rle", 0, 0, count, 1) + b"16777216o!\n"
+    texts.converted("a row of 16777216 cells", items, "mc", ample(row + b"25 0 0 0 22\n"))
+    texts.converted("a row of 16777216 cells", row + b"25 0 0 0 22\n", "rle", ample(items))
+    more = row + b"*$\n" + "".join(f"{level} {level + 19} 0 0 0\n" for level in range(4, 25)).encode() + b"25 0 44 0 22\n"
+    texts.shown("a cell more", more, figures(0, count + 1, f"0 -{count} {count} {count + 1}"))
+    texts.converted("a cell more", more, "rle", TOO_MANY)
+    loads = f"load more {texts.path('more.mc', more)}\nload block examples/block.rle\n"
+    texts.expect("a cell more", ["verify", texts.path("text.claims", loads + "spaceship more 1 1 0\nbecomes block 0 more\nstill block\n")],
+                 lines_outcome([(3, "refused, too many cells"), (4, "no, cells differ after 0"), (5, "yes")]))
+
+
+def try_many_nodes(texts):
+    """Files of 100000 and 500000 nodes, all different, with millions of cells."""
+    # The upper left quarter of the root, and a fourth or a half of its upper right one; right-most and lowest leaves are those of all ones.
+    for count, level, across, down in ((81920, 12, 384, 256), (393216, 13, 1024, 512)):
+        lines, cells = distinct_leaves(count, level)
+        half, width, height = 1 << (level - 1), 8 * (across - 1) + 6, 8 * (down - 1) + 4
+        text = header("mc") + ("\n".join(lines) + "\n").encode()
+        texts.round_trip(f"{len(lines)} nodes and {cells} cells", text, "mc", cells, f"-{half} -{half} {width} {height}")
+
+
+def try_soups(texts):
+    """A random plane of 3 million cells, and one of 256 states."""
+    chance = random.Random(3)
+    rows = ["o" + "".join(chance.choices("bo", (1, 3), k=1998)) + "o" for _ in range(2000)]
+    items = re.findall(r"\d*[bo$!]", re.sub(r"(.)\1+", lambda it: f"{len(it[0])}{it[1]}", "$".join(rows)) + "!")
+    text = header("rle", 0, 0, 2000, 2000) + rle.folded(items).encode() + b"\n"
+    texts.round_trip("a random plane", text, "rle", sum(row.count("o") for row in rows), "0 0 2000 2000")
+    table = texts.path("Wide", "@RULE Wide\n@TABLE\nn_states:256\nneighborhood:Moore\nsymmetries:none\n")
+    cells = {(x, y): chance.randrange(1, 256) for x in range(500) for y in range(500) if chance.random() < 0.8}
+    text = rle.tidy(cells, "Wide", 5, 256)
+    there = run(["convert", texts.path("wide.rle", text), "--to", "mc", "--rule", table])
+    texts.expect("a random plane of 256 states, and back", ["convert", texts.path("wide.mc", there.printed), "--to", "rle", "--rule", table],
+                 ample(text))
 
 
 def main():
@@ -419,6 +471,11 @@ def main():
     with tempfile.TemporaryDirectory() as folder:
         for it in (try_faults, try_good, try_cut_texts, try_random_planes, try_mutilated_texts):
             it(tally, folder)
+        texts = LargeTexts(tally, folder)
+        for name, text, wanted in LARGE_TEXTS:
+            texts.shown(name, text(), wanted)
+        for it in (try_far_cells, try_rows, try_many_nodes, try_soups):
+            it(texts)
     tally.finish()
 
 

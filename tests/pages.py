@@ -11,6 +11,7 @@ QUOTED = re.compile(r"^([^\n]+)\n\n```(\w*)\n(.*?)^```$", re.MULTILINE | re.DOTA
 
 
 def page(*names):
+    """The text of a file of the repository."""
     return contents(os.path.join(ROOT, *names)).decode()
 
 

@@ -1,35 +1,45 @@
 #!/usr/bin/env -S python3 -B
-"""On a terminal, and with `--progress` elsewhere too, a line on standard error tells how far a claim or a run of `--after` is that has taken a second, and is
-wiped before what is printed; standard output is that of a run without the word, and a quick run writes nothing to standard error.
+"""What is seen while a run goes on: each answer as soon as it is known, and the line that tells how far the run is.
+
+- An answer is printed as soon as its claim is judged, and what a file is as soon as it is identified. A run that is stopped half-way, or whose reader ends first,
+  has shown what was found.
+- On a terminal, and with `--progress` elsewhere too, a line on standard error tells how far a claim or a run of `--after` is that has taken a second. It is wiped
+  before what is printed. Standard output is that of a run without the word, and a quick run writes nothing to standard error.
 
 The clock is that of tests/refuse.c, which finds itself so many milliseconds further at each look, so that it is known what is shown. The program looks at it
 where a claim begins, and then wherever it may show a line. One run has the clock of the machine.
 """
 import itertools
 import os
-import pty
 import random
 import re
+import select
+import signal
 import subprocess
+import tempfile
 import time
-from concurrent.futures import ThreadPoolExecutor
 
-from lib import ageing
+from lib import ageing, rle
 from lib.ageing import AgeingRule
 from lib.claim_text import ClaimText
 from lib.planes import distinct_squares
 from lib.program import MOST_WAITING, PROGRAM, ROOT, Folder, Outcome, Tally, run
 from lib.refusing import refusing_program
+from lib.terminal import on_terminal
 
 WIPE = b"\r\x1b[K"
-
-PENTOMINO = "examples/r_pentomino.rle"
+PENTOMINO, OSCILLATOR = "examples/r_pentomino.rle", "tests/files/pentadecathlon.rle"
 
 # Steps of the clock in milliseconds: claims take a second before anything is shown, after something is, or never.
 STEPS = (1000, 999, 500, 400, 60, 0)
 
 # A rule of four states as a table, by which planes are leapt over.
 TABLE = ageing.table_of(AgeingRule.of("345/2/4"), "Ageing")
+
+LOAD_BLOCK = "load block examples/block.rle\n"
+
+# How long the first lines are waited for, in seconds. They take a small part of one.
+SECONDS = 600
 
 
 def digits(count):
@@ -122,6 +132,12 @@ def claims(files):
     return text
 
 
+def on_a_terminal(refusing, words, faults):
+    """What a run prints whose standard error is a terminal, and what is shown there."""
+    (got, _), shown = on_terminal(lambda terminal: refusing.run(words, faults, stderr=terminal))
+    return got.printed, shown
+
+
 def judge(tally, refusing, name, words, printed, shown, status, **faults):
     """Expects what a run prints and what it shows."""
     got, _ = refusing.run(["verify", *words], faults)
@@ -172,7 +188,8 @@ def try_dense(tally, refusing, files):
     text.load("nothing", "x = 1, y = 1\n!")
     text.long_claim("becomes plane 1000 nothing", "no, cells differ after 1000", each(1000))
     for step in (1000, 4):
-        judge(tally, refusing, "a dense plane", ["--progress", text.write()], b"line 3: no, cells differ after 1000\n", b"".join(text.shown(step)), 1, CLOCK_STEP=step)
+        judge(tally, refusing, "a dense plane", ["--progress", text.write()], b"line 3: no, cells differ after 1000\n", b"".join(text.shown(step)), 1,
+              CLOCK_STEP=step)
 
 
 def try_order(tally, refusing, files):
@@ -202,10 +219,16 @@ def identified_shown(path, limit, generations, milliseconds, begun=0):
 
 def try_identify(tally, refusing, files):
     """`identify` shows the file's path and the generations that were looked at, at most twice a second."""
-    looked_at = {"examples/glider.rle": (4, "load glider examples/glider.rle\nspaceship glider 4 1 1\n"), "examples/empty.rle": (0, "load empty examples/empty.rle\n# empty: no cell is live\n"),
-                 "tests/files/pentadecathlon.rle": (15, "load pentadecathlon tests/files/pentadecathlon.rle\noscillator pentadecathlon 15\n"),
-                 PENTOMINO: (20, f"load r_pentomino {PENTOMINO}\n# r_pentomino: none of these within 20 generations: 32 cells, in a box of 12 by 8, after 20\n"), "my block.rle": (0, "# my_block: my block.rle: no claim text can name this path\n"),
-                 "examples/lost.rle": (0, "# lost: examples/lost.rle: no file\n"), "examples/block.rle": (1, "load block examples/block.rle\nstill block\n")}
+    grown = "none of these within 20 generations: 32 cells, in a box of 12 by 8, after 20"
+    looked_at = {
+        "examples/glider.rle": (4, "load glider examples/glider.rle\nspaceship glider 4 1 1\n"),
+        "examples/empty.rle": (0, "load empty examples/empty.rle\n# empty: no cell is live\n"),
+        OSCILLATOR: (15, f"load pentadecathlon {OSCILLATOR}\noscillator pentadecathlon 15\n"),
+        PENTOMINO: (20, f"load r_pentomino {PENTOMINO}\n# r_pentomino: {grown}\n"),
+        "my block.rle": (0, "# my_block: my block.rle: no claim text can name this path\n"),
+        "examples/lost.rle": (0, "# lost: examples/lost.rle: no file\n"),
+        "examples/block.rle": (1, "load block examples/block.rle\nstill block\n"),
+    }
     words, printed = ["identify", "--limit", "20", *looked_at], "".join(["claims 2\n", *(it for _, it in looked_at.values())]).encode()
     for step in STEPS:
         shown = b"".join(identified_shown(path, 20, generations, step) for path, (generations, _) in looked_at.items())
@@ -225,10 +248,16 @@ def try_identify(tally, refusing, files):
 def try_identify_after(tally, refusing, _):
     """`identify --after` first shows the run to the later plane, of as many generations as are asked for."""
     for begun in (1, 6, 1000):
-        looked_at = {"examples/glider.rle": (4, f"load glider examples/glider.rle\n# glider after {begun} generation{'s' * (begun != 1)}: spaceship 4 1 1\n"), "my block.rle": (None, "# my_block: my block.rle: no claim text can name this path\n"),
-                     "examples/empty.rle": (0, f"load empty examples/empty.rle\n# empty after {begun} generation{'s' * (begun != 1)}: no cell is live\n"), "examples/lost.rle": (None, "# lost: examples/lost.rle: no file\n"),
-                     "tests/files/pentadecathlon.rle": (15, f"load pentadecathlon tests/files/pentadecathlon.rle\n# pentadecathlon after {begun} generation{'s' * (begun != 1)}: oscillator 15\n")}
-        words, printed = ["identify", "--limit", "20", "--after", str(begun), *looked_at], "".join(["claims 2\n", *(it for _, it in looked_at.values())]).encode()
+        later = f"after {begun} generation{'s' * (begun != 1)}"
+        looked_at = {
+            "examples/glider.rle": (4, f"load glider examples/glider.rle\n# glider {later}: spaceship 4 1 1\n"),
+            "my block.rle": (None, "# my_block: my block.rle: no claim text can name this path\n"),
+            "examples/empty.rle": (0, f"load empty examples/empty.rle\n# empty {later}: no cell is live\n"),
+            "examples/lost.rle": (None, "# lost: examples/lost.rle: no file\n"),
+            OSCILLATOR: (15, f"load pentadecathlon {OSCILLATOR}\n# pentadecathlon {later}: oscillator 15\n"),
+        }
+        words = ["identify", "--limit", "20", "--after", str(begun), *looked_at]
+        printed = "".join(["claims 2\n", *(it for _, it in looked_at.values())]).encode()
         for step in STEPS:
             shown = b"".join(identified_shown(path, 20, generations, step, begun) for path, (generations, _) in looked_at.items() if generations is not None)
             got, _ = refusing.run([*words, "--progress"], {"CLOCK_STEP": step})
@@ -241,13 +270,14 @@ def try_identify_after(tally, refusing, _):
 def try_identify_results(tally, refusing, files):
     """The results of a run of `identify --after` are shown with that run alone, and not with the generations that are looked at then, or with the next file."""
     table, soup = files.path("ageing.rule", TABLE), files.path("soup.rle", soup_of(100))
-    paths, begun, limit = ("examples/glider.rle", soup, "tests/files/pentadecathlon.rle"), 128, 3
+    paths, begun, limit = ("examples/glider.rle", soup, OSCILLATOR), 128, 3
     got, _ = refusing.run(["identify", "--progress", "--rule", table, "--after", str(begun), "--limit", str(limit), *paths], {"CLOCK_STEP": 1000})
     glider, oscillator = (identified_shown(path, limit, limit, 1000, begun) for path in (paths[0], paths[2]))
     run_of, later = re.escape(f"\r\x1b[K{soup}: ".encode()), b"".join(WIPE + f"{soup}: {it} of {limit} generations".encode() for it in range(limit))
     results = rb", \d+\.\d million results, \d+\.\d million squares"
     wanted = re.escape(glider) + rb"(%s0 of 128 generations%s)+%s128 of 128 generations%s" % (run_of, results, run_of, results) + re.escape(later + WIPE + oscillator)
-    tally.tell("results of a run of identify --after", [] if re.fullmatch(wanted, got.complaint) and got.status == 0 else [f"wanted {wanted}, got {got.complaint}"])
+    tally.tell("results of a run of identify --after",
+               [] if re.fullmatch(wanted, got.complaint) and got.status == 0 else [f"wanted {wanted}, got {got.complaint}"])
 
 
 def try_after(tally, refusing, files):
@@ -312,33 +342,6 @@ def try_closed(tally, refusing, files):
     tally.expect("standard error takes no second line", got, Outcome(printed, shown[:second] + shown[third:], 1))
 
 
-def all_shown(terminal):
-    """All that a terminal was sent, once no program has it open any more."""
-    shown = b""
-    try:
-        while piece := os.read(terminal, 65536):
-            shown += piece
-    except OSError:  # what Linux answers behind the last byte
-        pass
-    return shown
-
-
-def on_a_terminal(refusing, words, faults):
-    """What a run prints whose standard error is a terminal, and what is shown there."""
-    master, slave = pty.openpty()
-    try:
-        # read while the program runs, since a terminal takes only some thousand bytes that nobody reads
-        with ThreadPoolExecutor(1) as pool:
-            shown = pool.submit(all_shown, master)
-            try:
-                got, _ = refusing.run(words, faults, stderr=slave)
-            finally:
-                os.close(slave)
-            return got.printed, shown.result()
-    finally:
-        os.close(master)
-
-
 def try_terminal(tally, refusing, files):
     """On a terminal no word is needed; a quick run shows nothing there."""
     text = Watched(files)
@@ -374,7 +377,9 @@ def try_results(tally, refusing, files):
         next_one = shown_of(b"line 5", [digits(4), digits(2)], step)
         told = [line.fullmatch(it) for it in got.complaint.removesuffix(next_one).split(WIPE)[1:-1]]
         results = [10 * int(it[2]) + int(it[3]) for it in told if it and it[2]]
-        well = got.printed == printed and got.complaint.endswith(WIPE + next_one) and all(told) and [int(it[1]) for it in told] == [0] * (len(told) - 1) + [1024] and results == sorted(results) and results[-1] > 2
+        reached = [int(it[1]) for it in told if it]
+        well = got.printed == printed and got.complaint.endswith(WIPE + next_one) and all(told) and reached == [0] * (len(told) - 1) + [1024]
+        well = well and results == sorted(results) and results[-1] > 2
         shown[step] = len(results)
         tally.tell(f"results of one leap, {step}", [] if well else [f"{got}"])
     # what is told last is nearly what the claim needs: a limit just below it is too small, and one a little above it isn't
@@ -388,7 +393,8 @@ def try_results(tally, refusing, files):
 def try_refused_memory(tally, refusing, _):
     """Where memory is refused, the line is wiped before that is told, and before what is printed."""
     told = re.compile(rb"(?:(?:\r\x1b\[K[^\r\n]+)+\r\x1b\[K)*(?:cafile: memory\n)?")
-    for words in (["identify", "examples/glider.rle", "examples/block.rle"], ["identify", "--after", "3", "examples/glider.rle"], ["show", "examples/glider.rle", "--after", "3"],
+    for words in (["identify", "examples/glider.rle", "examples/block.rle"], ["identify", "--after", "3", "examples/glider.rle"],
+                  ["show", "examples/glider.rle", "--after", "3"],
                   ["verify", "examples/glider.claims"]):
         outcomes = refusing.until_unmet([*words, "--progress"], "REFUSE", itertools.count(1), {"CLOCK_STEP": 1000})
         complaints = [f"allocation {number}: {it}" for number, it in outcomes.items() if not told.fullmatch(it.complaint)]
@@ -417,19 +423,100 @@ def try_the_clock(tally, _, files):
 
 def try_quick(tally, refusing, _):
     """Quick runs are those without the word: no time passes."""
-    for words in (["examples/several.claims"], ["--explain", "examples/several.claims"], ["examples/block.claims", "examples/glider.claims"], ["examples/lost.claim"]):
+    for words in (["examples/several.claims"], ["--explain", "examples/several.claims"], ["examples/block.claims", "examples/glider.claims"],
+                  ["examples/lost.claim"]):
         got, _ = refusing.run(["verify", "--progress", *words], {"CLOCK_STEP": 0})
         tally.expect(f"a quick run, {' '.join(words)}", got, run(["verify", *words]))
+
+
+def interruptible():
+    """A run that is started in the background may be one that SIGINT doesn't end; what it starts is ended."""
+    signal.signal(signal.SIGINT, signal.SIG_DFL)
+
+
+def first_lines(words, count, stop=signal.SIGKILL):
+    """The first lines that a run prints, whether it goes on after them, what it prints besides until it is stopped a little later, and whether it ends by that."""
+    with subprocess.Popen([PROGRAM, *words], cwd=ROOT, stdin=subprocess.DEVNULL, stdout=subprocess.PIPE, stderr=subprocess.STDOUT,
+                          preexec_fn=interruptible) as program:
+        try:
+            end, lines = time.monotonic() + SECONDS, b""
+            while lines.count(b"\n") < count and select.select([program.stdout], [], [], max(end - time.monotonic(), 0))[0]:
+                piece = os.read(program.stdout.fileno(), 65536)
+                if not piece:
+                    break
+                lines += piece
+            time.sleep(0.2)
+            goes_on = program.poll() is None
+        finally:
+            program.send_signal(stop)
+        return lines, goes_on, program.stdout.read(), program.wait(SECONDS) == -stop
+
+
+def endless_soup(files):
+    """A pattern that grows without order, so that nobody knows its later generations but by making them."""
+    chance = random.Random(2)
+    cells = {(x, y): 1 for x in range(60) for y in range(60) if chance.random() < 0.3}
+    return files.path("soup.rle", rle.tidy(cells, "B2/S", 0, 2))
+
+
+def try_stopped(tally, files):
+    """A run is stopped in its third claim, after two lines came through a pipe."""
+    soup = f"load soup {endless_soup(files)}\n"
+    for name, claim in (("oscillator", "oscillator soup 1000000007"), ("becomes", f"becomes soup {1 << 60} soup"),
+                        ("spaceship", "spaceship soup 4294967295 1 1")):
+        path = files.path(f"{name}.claims", f"{LOAD_BLOCK}{soup}still block\nbecomes block 1 block\n{claim}\nstill block\n")
+        got = first_lines(["verify", path], 2)
+        wanted = (b"line 3: yes\nline 4: yes\n", True, b"", True)
+        tally.tell(f"stopped, {name}", [] if got == wanted else [f"wanted {wanted}, got {got}"])
+    explained = files.path("explained.claims", f"{LOAD_BLOCK}load lost examples/lost.rle\n{soup}still lost\nstill block\nbecomes soup {1 << 60} soup\n")
+    lines = b"line 4: refused, no file\n  lost: examples/lost.rle: no such file\nline 5: yes\n"
+    got = first_lines(["verify", "--explain", explained], 3)
+    tally.tell("stopped, explained", [] if got == (lines, True, b"", True) else [f"wanted {lines}, got {got}"])
+    several = ["verify", "examples/block.claims", path]
+    lines = f"examples/block.claims: line 2: yes\n{path}: line 3: yes\n{path}: line 4: yes\n".encode()
+    got = first_lines(several, 3)
+    tally.tell("stopped, in the second text", [] if got == (lines, True, b"", True) else [f"wanted {lines}, got {got}"])
+
+
+def try_stopped_identify(tally, files):
+    """A run is stopped in its third file, or its second, after the lines on the others came through a pipe."""
+    soup, bad, glider = endless_soup(files), "examples/bad/syntax.rle", "examples/glider.rle"
+    first, second = f"load glider {glider}\nspaceship glider 4 1 1\n", f"# syntax: {bad}: bad pattern: rle syntax, line 2\n"
+    table = "examples/tables/wireworld.rule"
+    for words, lines in (([glider, soup, bad], first), ([bad, glider, soup], second + first), (["--explain", glider, bad, soup], first + second),
+                         (["--rule", table, glider, soup], f"rule {table}\n{first}"), ([soup, glider], "")):
+        for stop in (signal.SIGTERM, signal.SIGINT):
+            got, wanted = first_lines(["identify", "--limit", "4294967295", *words], lines.count("\n") + 1, stop), (f"claims 2\n{lines}".encode(), True, b"", True)
+            tally.tell(f"stopped by {stop.name}, identify {' '.join(words)}", [] if got == wanted else [f"wanted {wanted}, got {got}"])
+
+
+def try_head(tally, files):
+    """The reader ends after a line: the run ends too, and says why."""
+    long = files.path("long.claims", LOAD_BLOCK + "still block\n" * 40000)
+    for words, line in ((["verify", long], b"line 2: yes\n"), (["verify", "--explain", long], b"line 2: yes\n"),
+                        (["verify", long, "examples/block.claims"], f"{long}: line 2: yes\n".encode()),
+                        (["identify", *["examples/block.rle"] * 4000], b"claims 2\n")):
+        with subprocess.Popen([PROGRAM, *words], cwd=ROOT, stdin=subprocess.DEVNULL, stdout=subprocess.PIPE, stderr=subprocess.PIPE) as program:
+            head = subprocess.run(["head", "-n", "1"], stdin=program.stdout, stdout=subprocess.PIPE, timeout=SECONDS, check=False)
+            program.stdout.close()
+            complaint = program.stderr.read()
+        got, wanted = (head.stdout, complaint, program.returncode), (line, b"cafile: write\n", 2)
+        tally.tell(f"head of {' '.join(words)}", [] if got == wanted else [f"wanted {wanted}, got {got}"])
+    tally.tell("the whole of it", [] if run(["verify", long]).printed.count(b": yes\n") == 40000 else ["other lines"])
 
 
 def main():
     tally = Tally()
     with refusing_program(tally, "progress") as (folder, refusing):
-        for it in (try_claims, try_identify, try_identify_after, try_identify_results, try_after, try_notes, try_dense, try_order, try_closed, try_terminal, try_results,
+        for it in (try_claims, try_identify, try_identify_after, try_identify_results, try_after, try_notes, try_dense, try_order, try_closed, try_terminal,
+                   try_results,
                    try_refused_memory, try_the_clock, try_quick) if refusing else ():
             inner = os.path.join(folder, it.__name__)
             os.mkdir(inner)
             it(tally, refusing, Folder(inner))
+    with tempfile.TemporaryDirectory() as folder:
+        for it in (try_stopped, try_stopped_identify, try_head):
+            it(tally, Folder(folder))
     tally.finish()
 
 

@@ -13,10 +13,10 @@ Of each run either nothing changed, or it ended with `cafile: memory` and printe
 A run of `identify` prints all that it prints with ample memory, or of one file that memory is out; or nothing, or the lines on the first so many files, and
 `cafile: memory`.
 
-Of an explained run one claim may also be without its note, or a macrocell's note without the faulty line, or one without its rule; but where cells differ, a file is missing or a
-rule file is bad, the note is always given. Of a run over several texts one text may be told as out of
-memory and have no lines. A run of `show`, `convert` or `draw` prints all that it prints with ample memory, or nothing and `cafile: memory`; where it is explained,
-its note may be without the faulty line or the rule.
+Of an explained run one claim may also be without its note, or a macrocell's note without the faulty line, or one without its rule; but where cells differ, a
+file is missing or a rule file is bad, the note is always given. Of a run over several texts one text may be told as out of memory and have no lines. A run of
+`show`, `convert` or `draw` prints all that it prints with ample memory, or nothing and `cafile: memory`; where it is explained, its note may be without the faulty
+line or the rule.
 
 Of claims with many allocations some are tried, of `show`, `convert` and `draw` all. tests/address_space.py has memory that is refused by the system itself.
 """
@@ -25,9 +25,10 @@ import os
 import re
 
 from lib import golden, remedies
-from lib.program import Outcome, Tally, fault, lines_outcome, run
+from lib.long_texts import BLOCK, long_text, spelled
+from lib.program import Outcome, Tally, lines_outcome, run
 from lib.refusing import refusing_program
-from sizes import BLOCK, long_text, spelled
+from lib.want_of_memory import NO_MEMORY, allowed, answers_in, consists_of, judged
 
 # Golden runs of one claim text, and how many allocations are passed over between two that are refused.
 CLAIM_TEXTS = {"block": 1, "glider": 1, "several": 1, "bad_patterns": 1, "rules": 1, "mixed_rules": 1, "states": 1, "pulsar": 1, "number": 1, "syntax": 1,
@@ -48,7 +49,8 @@ NOTED = ("show/explain_syntax", "show/explain_forward", "show/rules_unknown", "c
          "draw/explain_unknown")
 
 # Golden runs of `verify` over one text, most of them with notes.
-EXPLAINED = {"explain/several": 1, "explain/bad_patterns": 1, "explain/bad_macrocells": 3, "explain/bad_table": 1, "explain/no_rule_file": 1, "explain/causes": 1,
+EXPLAINED = {"explain/several": 1, "explain/bad_patterns": 1, "explain/bad_macrocells": 3, "explain/bad_table": 1, "explain/no_rule_file": 1,
+             "explain/causes": 1,
              "verify/folder_of_rules": 1, "verify/root": 1, "explain/rules": 1}
 
 # Runs over several texts: the golden run of each text by itself.
@@ -62,73 +64,10 @@ SEVERAL = (
 # Files of larger patterns, a soup in both formats, of which each allocation of `show`, of `convert` to either format and of `draw` is refused.
 LARGER = ("tests/files/soup/soup.rle", "tests/files/soup/soup_40.mc")
 
-NO_MEMORY = fault("memory")
-
-# The lines after which a note is always given where it is asked for, and those whose note may lack its faulty line.
-ALWAYS_NOTED = re.compile(rb"line [0-9]+: (no, cells differ|refused, no file|refused, bad table: )")
-MAY_LACK_LINE = re.compile(rb"line [0-9]+: refused, bad pattern: macrocell ")
-
 
 def by_eighths():
     """The numbers from 1 on, each about an eighth greater than the one before."""
     return itertools.accumulate(itertools.repeat(1), lambda number, least: number + max(least, number // 8))
-
-
-def changed_line(ample, outcome):
-    """The place of the one line that became `refused, memory`, where just that changed; else None."""
-    wanted, got = ample.printed.splitlines(), outcome.printed.splitlines()
-    changed = [at for at, (one, other) in enumerate(zip(wanted, got)) if one != other]
-    if len(wanted) != len(got) or len(changed) != 1 or outcome.complaint or outcome.status != 2:
-        return None
-    number = wanted[changed[0]].split(b":")[0]
-    return changed[0] if got[changed[0]] == number + b": refused, memory" else None
-
-
-def needs_no_memory(line):
-    """Whether a claim's ample answer says that a file is missing, or that a rule file or an RLE doesn't read: macrocell's nodes are kept as they are read."""
-    return any(b": refused, " + cause in line for cause in (b"no file", b"bad table", b"bad pattern: rle"))
-
-
-def is_not_read(line):
-    """Whether a claim's ample answer says that a file is missing or doesn't read."""
-    return any(b": refused, " + cause in line for cause in (b"no file", b"bad table", b"bad pattern"))
-
-
-def first_refused(ample, outcome):
-    """The place of the first line that isn't as with ample memory, where it became `refused, memory`; else None."""
-    for at, (one, other) in enumerate(zip(ample.printed.splitlines(), outcome.printed.splitlines())):
-        if one != other:
-            return at if other == one.split(b":")[0] + b": refused, memory" else None
-    return None
-
-
-def judged(ample, outcomes, for_good=None):
-    """What is wrong with the outcomes of a sweep over a claim text, and what came of them. Where those of one that goes on are given, they tell whether each
-    claim can be refused."""
-    complaints, refused, ends, ends_between = [], [], 0, 0
-    for number, outcome in outcomes.items():
-        at = changed_line(ample, outcome)
-        if outcome == NO_MEMORY:
-            ends += 1
-        elif at is not None:
-            ends_between, ends = ends_between + (ends if refused else 0), 0
-            if refused and at < refused[-1]:
-                complaints.append(f"allocation {number}: {outcome.printed!r} comes after a later claim")
-            refused.append(at)
-        elif outcome != ample:
-            complaints.append(f"allocation {number}: {outcome}")
-    lines = ample.printed.splitlines()
-    kept = next((at for at, line in enumerate(lines) if not is_not_read(line)), len(lines))
-    may_be = None if for_good is None else {*refused, *(first_refused(ample, it) for it in for_good.values())}
-    for at, line in enumerate(lines):
-        if (needs_no_memory(line) or at > kept) and at in refused:
-            complaints.append(f"{line!r}: refused for lack of memory")
-        if may_be is not None and not needs_no_memory(line) and at not in may_be:
-            complaints.append(f"{line!r}: never refused for lack of memory")
-    if ends_between:
-        complaints.append(f"{ends_between} runs ended whole between two claims")
-    whole = sum(outcome == NO_MEMORY for outcome in outcomes.values())
-    return complaints, f"{len(outcomes)} allocations refused: {whole} times cafile: memory, {len(refused)} times one line"
 
 
 def try_claim_texts(tally, refusing):
@@ -140,56 +79,6 @@ def try_claim_texts(tally, refusing):
         complaints, told = judged(ample, outcomes, for_good)
         complaints += wrong_for_good(ample, for_good or {})
         tally.tell(f"refused memory, verify/{name}: {told}", complaints if outcomes else ["no allocation was refused"])
-
-
-def answers_in(printed):
-    """The lines of the verdicts in what an explained run of one text prints, each with the lines of its note and of what helps, where it has them."""
-    answers = []
-    for line in printed.splitlines(keepends=True):
-        if line.startswith(b"  "):
-            answers[-1] = (answers[-1][0], answers[-1][1] + line)
-        else:
-            answers.append((line, b""))
-    return answers
-
-
-def lesser(answer):
-    """What may be told in place of an answer where memory is refused: that, and unless the note is promised the line without it, or the note without its
-    faulty line, or without its rule, and then without what helps."""
-    line, note = answer
-    told = {(line.split(b":")[0] + b": refused, memory\n", b"")}
-    if not ALWAYS_NOTED.match(line):
-        told.add((line, b""))
-    if MAY_LACK_LINE.match(line):
-        told.add((line, re.sub(rb", line [0-9]+\n", b"\n", note)))
-    if b": refused, bad rule: " in line:
-        told.add((line, re.sub(rb": rule .*\n(  try: .*\n)?$", b"\n", note)))
-    return told
-
-
-def after_text(before, answer):
-    """The lines of an answer and its note, each after this."""
-    return b"".join(before + line for part in answer for line in part.splitlines(keepends=True))
-
-
-def outcome_of(texts, complaint=b""):
-    """What a run over these texts prints, given by what stands before their lines and their answers."""
-    printed = b"".join(after_text(before, answer) for before, answers in texts for answer in answers)
-    status = 2 if complaint or b": refused, " in printed else int(b": no, " in printed)
-    return Outcome(printed, complaint, status)
-
-
-def allowed(texts):
-    """All that a run may come to where one allocation is refused: of one text, or of several, each with its path before its lines."""
-    outcomes = {outcome_of(texts), NO_MEMORY}
-    for at, (before, answers) in enumerate(texts):
-        others = (texts[:at], texts[at + 1:])
-        if before:
-            outcomes.add(outcome_of([*others[0], *others[1]], b"cafile: " + before + b"memory\n"))
-        for place, answer in enumerate(answers):
-            for instead in lesser(answer):
-                outcomes.add(outcome_of([*others[0], (before, [*answers[:place], instead, *answers[place + 1:]]), *others[1]]))
-    return outcomes
 
 
 def tell_sweep(tally, name, texts, outcomes):
@@ -234,7 +123,8 @@ def tell_words(tally, refusing, words, ample, name, less=None):
     """Tells whether all is printed as with ample memory, or nothing, of a run of which each allocation in turn is refused; or what is less, where that is
     given."""
     outcomes = refusing.sweep(words, itertools.count(1))
-    complaints = wrong_ones(ample, {number: it for number, it in outcomes.items() if it != less}) or ([] if NO_MEMORY in outcomes.values() else ["no run met out of memory"])
+    complaints = wrong_ones(ample, {number: it for number,
+                                    it in outcomes.items() if it != less}) or ([] if NO_MEMORY in outcomes.values() else ["no run met out of memory"])
     tally.tell(f"refused memory, {name}: {len(outcomes)} allocations refused", complaints)
 
 
@@ -252,7 +142,8 @@ def identified(head, lines, is_explained=False):
     """What a run of `identify` comes to that prints these lines on its files after this, and the lines of a fault of spelling where that is explained."""
     helps = remedies.line("bad pattern: rle syntax", b"").decode()
     notes = [f"  {path}, line {line}\n{helps}" for it in lines for path, line in re.findall(r"^# \S+: (\S+): .*, line (\d+)$", it, re.M)]
-    return Outcome((head + "".join(lines)).encode(), "".join(notes * is_explained).encode(), 2 if any(re.search("^# .*: .*: ", it, re.M) for it in lines) else 0)
+    return Outcome((head + "".join(lines)).encode(), "".join(notes * is_explained).encode(),
+                   2 if any(re.search("^# .*: .*: ", it, re.M) for it in lines) else 0)
 
 
 def try_identify(tally, refusing):
@@ -265,9 +156,11 @@ def try_identify(tally, refusing):
     paths = [*(path for path, _ in files.values()), "examples/bad/syntax.rle"]
     clock, rule = "examples/tables/wireworld_clock.rle", "examples/tables/wireworld.rule"
     version = "claims 2\n"
-    for words, names, head, wanted in ((["identify", *paths], [*files, "syntax"], version, lines), (["identify", "--explain", *paths], [*files, "syntax"], version, lines),
+    for words, names, head, wanted in ((["identify", *paths], [*files, "syntax"], version, lines),
+                                       (["identify", "--explain", *paths], [*files, "syntax"], version, lines),
                                        (["identify", "examples/lost"], ["lost"], version, ["# lost: examples/lost: no file\n"]),
-                                       (["identify", "--rule", rule, clock], ["wireworld_clock"], f"{version}rule {rule}\n", [f"load wireworld_clock {clock}\noscillator wireworld_clock 6\n"])):
+                                       (["identify", "--rule", rule, clock], ["wireworld_clock"], f"{version}rule {rule}\n",
+                                        [f"load wireworld_clock {clock}\noscillator wireworld_clock 6\n"])):
         explained = "--explain" in words
         whole = identified(head, wanted, explained)
         memory = [f"# {name}: {path}: memory\n" for name, path in zip(names, words[-len(names):])]
@@ -282,7 +175,8 @@ def try_identify(tally, refusing):
 
 def try_larger(tally, refusing):
     """Each allocation in turn of `show`, `convert` and `draw` on larger patterns, which with ample memory print something."""
-    for path, words in itertools.product(LARGER, (["show"], ["convert", "--to", "rle"], ["convert", "--to", "mc"], ["draw"], ["draw", "--to", "pgm", "--after", "1"])):
+    for path, words in itertools.product(LARGER,
+                                         (["show"], ["convert", "--to", "rle"], ["convert", "--to", "mc"], ["draw"], ["draw", "--to", "pgm", "--after", "1"])):
         ample = run([*words, path])
         tally.tell(f"ample memory, {' '.join(words)} {path}", [] if ample.printed and (ample.complaint, ample.status) == (b"", 0) else [str(ample)])
         tell_words(tally, refusing, [*words, path], ample, f"{' '.join(words)} {path}")
@@ -305,22 +199,6 @@ def try_large(tally, refusing, folder):
         tally.tell(f"refused memory, {name}: {told}", complaints if outcomes else ["no allocation was refused"])
 
 
-def consists_of(texts, outcome):
-    """Whether each text is told as out of memory, or each of its answers is its own or what may be told in its place."""
-    lost = [before for before, _ in texts if b"cafile: " + before + b"memory\n" in outcome.complaint]
-    rest = outcome.printed
-    for before, answers in texts:
-        for answer in answers if before not in lost else []:
-            may_be = {after_text(before, it) for it in {answer, *lesser(answer)}}
-            fits = [it for it in may_be if rest.startswith(it)]
-            if not fits:
-                return False
-            rest = rest[len(max(fits, key=len)):]
-    told = b"".join(b"cafile: " + before + b"memory\n" for before in lost)
-    status = 2 if told or b": refused, " in outcome.printed else int(b": no, " in outcome.printed)
-    return not rest and (outcome.complaint, outcome.status) == (told, status)
-
-
 def wrong_for_good(ample, outcomes):
     """What is wrong with the outcomes of a sweep that goes on, over one text: each is the ample one, out of memory, or has claims that are."""
     answers = answers_in(ample.printed)
@@ -331,7 +209,8 @@ def wrong_for_good(ample, outcomes):
 def try_for_good(tally, refusing):
     """All allocations from one on: the complaint itself takes none, and the claims that were judged before are told."""
     for words in (["verify", "tests/golden/verify/syntax/claims"], ["verify", "examples/lost"], ["--help"], ["verify"],
-                  ["draw", "examples/glider.rle"], ["show", "examples/macrocell/glider.mc"], ["convert", "examples/glider.rle", "--to", "mc"], ["show", "examples/lost"]):
+                  ["draw", "examples/glider.rle"], ["show", "examples/macrocell/glider.mc"], ["convert", "examples/glider.rle", "--to", "mc"],
+                  ["show", "examples/lost"]):
         ample, outcomes = run(words), refusing.sweep(words, itertools.count(1), goes_on=True)
         wrong = wrong_ones(ample, outcomes)
         tally.tell(f"memory refused for good, {' '.join(words)}: {len(outcomes)} runs", wrong if outcomes else ["no allocation was refused"])

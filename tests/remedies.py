@@ -1,6 +1,10 @@
 #!/usr/bin/env -S python3 -B
-"""Files with the usual mistakes, and what docs/CLAIMS.md says of each under 'What to do': its fault, that its remedy helps, and that `--explain` ends with the remedy
-of that table."""
+"""What helps where a run is refused: the last line of `--explain`, and the hint on a terminal that there is more to tell.
+
+- Files with the usual mistakes, and what docs/CLAIMS.md says of each under 'What to do': its fault, that its remedy helps, and that `--explain` ends with it.
+- A claim text that is a pattern file is told from others.
+- On a terminal a run ends with a line that says where `--explain` says more. Elsewhere standard error stays as it is.
+"""
 import gzip
 import os
 import re
@@ -8,7 +12,8 @@ import subprocess
 import tempfile
 
 from lib import remedies
-from lib.program import Folder, Outcome, Tally, escaped, fault as refused, file_word, lines_outcome, run
+from lib.program import Folder, Outcome, Tally, escaped, fault, file_word, lines_outcome, run
+from lib.terminal import on_terminal
 
 GOOD = b"x = 3, y = 3, rule = B3/S23\nbo$2bo$3o!\n"
 
@@ -36,15 +41,18 @@ MISTAKES = {
     "a timeline": (b"[M2]\n#FRAMES 2 0 1\n", "bad pattern: macrocell timeline", None),
 }
 
-
 # What the last line of an explained run says of some of these, word for word; None where there is no such line.
 WORDS = {
-    "byte order mark": rb"sed '1s/^\xef\xbb\xbf//' FILE", "gzip": b"gunzip -c FILE", "gzip of a macrocell": b"gunzip -c FILE", "plaintext": b"open it in Golly and save it as RLE",
-    "Life 1.05": b"open it in Golly and save it as RLE", "Life 1.06": b"open it in Golly and save it as RLE", "no commas": b"write the header as x = 3, y = 3, rule = B3/S23",
+    "byte order mark": rb"sed '1s/^\xef\xbb\xbf//' FILE", "gzip": b"gunzip -c FILE", "gzip of a macrocell": b"gunzip -c FILE",
+    "plaintext": b"open it in Golly and save it as RLE",
+    "Life 1.05": b"open it in Golly and save it as RLE", "Life 1.06": b"open it in Golly and save it as RLE",
+    "no commas": b"write the header as x = 3, y = 3, rule = B3/S23",
     "CR alone": rb"tr '\r' '\n' < FILE", "CR alone after a comment": rb"tr '\r' '\n' < FILE", "cut off": b"get the file again, or put ! at its end",
     "another letter": b"look for bytes other than b o . $ !, A to X, p to y and digits", "a rule line of XLife": b"write the rule into the header",
-    "a capital O": b"write o for a live cell, or name the right rule", "a rule's name": b"name the folder of Life.rule by --rules", "LifeHistory": b"name the folder of LifeHistory.rule by --rules",
-    "a comma after the rule": b"take away what follows the rule", "a rule of another kind": None, "a Generations rule over four neighbours": None, "a grid": None,
+    "a capital O": b"write o for a live cell, or name the right rule", "a rule's name": b"name the folder of Life.rule by --rules",
+    "LifeHistory": b"name the folder of LifeHistory.rule by --rules",
+    "a comma after the rule": b"take away what follows the rule", "a rule of another kind": None, "a Generations rule over four neighbours": None,
+    "a grid": None,
     "a timeline": b"open it in Golly and save one of its planes",
 }
 
@@ -63,32 +71,50 @@ SEEMING = {
     "CR and one LF": (GOOD[:-2].replace(b"\n", b"\r") + b"\n", "rle no end", b"get the file again, or put ! at its end"),
     "an end alone": (b"!", "rle header", b"open it in Golly and save it as RLE"),
     "nothing": (b"", "rle header", b"write the header as x = 3, y = 3, rule = B3/S23"),
-    "a byte order mark before a faulty item": (GOOD.replace(b"3o", b"\xef\xbb\xbf3o"), "rle syntax", b"look for bytes other than b o . $ !, A to X, p to y and digits"),
+    "a byte order mark before a faulty item": (GOOD.replace(b"3o", b"\xef\xbb\xbf3o"), "rle syntax",
+                                               b"look for bytes other than b o . $ !, A to X, p to y and digits"),
     "a state above 255": (GOOD.replace(b"3o", b"yX"), "rle bad state", None), "a faulty node": (b"[M2]\nz\n", "macrocell syntax", None),
 }
 
 # Rule texts that name no rule, and what helps.
 RULES = {
-    b"life": b"name the folder of life.rule by --rules", b"B3/S23,": b"take away what follows the rule", b"B3/S23,more": b"take away what follows the rule", b"Life,": b"name the folder of Life,.rule by --rules",
-    b"B3/S23more": None, b"R5,C0,M1,S34..58,B34..45,NM": None, b"a/b": None, b"..": None, b"a\0b": None, b"\x1b[2J": rb"name the folder of \x1b[2J.rule by --rules", b"\xff": b"name the folder of \xff.rule by --rules",
+    b"life": b"name the folder of life.rule by --rules", b"B3/S23,": b"take away what follows the rule", b"B3/S23,more": b"take away what follows the rule",
+    b"Life,": b"name the folder of Life,.rule by --rules",
+    b"B3/S23more": None, b"R5,C0,M1,S34..58,B34..45,NM": None, b"a/b": None, b"..": None, b"a\0b": None,
+    b"\x1b[2J": rb"name the folder of \x1b[2J.rule by --rules", b"\xff": b"name the folder of \xff.rule by --rules",
+}
+
+MORE = b"cafile: --explain says more\n"
+
+# Texts that are no claim texts, the line of their fault, and whether they seem to be a pattern.
+CLAIM_TEXTS = {
+    "an RLE": (GOOD, 1, True), "an RLE without blanks": (b"x=3,y=3\nbo$2bo$3o!\n", 1, True), "one with a comment": (b"#C a glider\n" + GOOD, 2, True),
+    "one with its place": (b"#CXRLE Pos=0,0 Gen=3\n" + GOOD, 2, True), "one with its name": (b"#N Glider\n#O Richard K. Guy\n" + GOOD, 3, True),
+    "one of an author": (b"#O Richard K. Guy\n" + GOOD, 2, True),
+    "a macrocell": (b"[M2] (golly 4.2)\n#R B3/S23\n", 1, True), "no pattern": (b"gun\n", 1, False), "a comment": (b"# x = 3\nx\n", 2, False),
+    "another comment": (b"#Claims\nx = 3\n", 2, False),
+    "a header on the second line": (b"\nx = 3, y = 3\n", 2, False), "plaintext": (b"!Name: Glider\n.O.\n", 1, False),
+    "a pattern's first byte": (b"x\n", 1, False),
 }
 
 
-def put(path, data):
+def write(path, data):
+    """Writes a file."""
     with open(path, "wb") as file:
         file.write(data)
 
 
-def try_mistake(tally, folder, name, data, fault, mended):
+def try_mistake(tally, folder, name, data, cause, mended):
+    """A file with a usual mistake: it is refused for its cause, explained, and read where it is mended."""
     path = os.path.join(folder, "file")
-    put(path, data)
-    tally.expect(f"{name}, shown", run(["show", path]), refused(fault))
+    write(path, data)
+    tally.expect(f"{name}, shown", run(["show", path]), fault(cause))
     claims = os.path.join(folder, "claims")
-    put(claims, f"load a {path}\nbecomes a 0 a\n".encode())
-    tally.expect(f"{name}, verified", run(["verify", claims]), lines_outcome([(2, f"refused, {fault}")]))
-    try_explained(tally, name, path, fault, WORDS[name])
+    write(claims, f"load a {path}\nbecomes a 0 a\n".encode())
+    tally.expect(f"{name}, verified", run(["verify", claims]), lines_outcome([(2, f"refused, {cause}")]))
+    try_explained(tally, name, path, cause, WORDS[name])
     if mended is not None:
-        put(path, mended)
+        write(path, mended)
         tally.expect(f"{name}, mended", run(["verify", claims]), lines_outcome([(2, "yes")]))
 
 
@@ -97,19 +123,20 @@ def last_line(path, words):
     return b"" if words is None else b"  try: " + words.replace(b"FILE", file_word(os.fsencode(path))) + b"\n"
 
 
-def try_explained(tally, name, path, fault, words):
+def try_explained(tally, name, path, cause, words):
     """The last line of each explained run on a file is that of the table, and stands there once; and the lines before are as ever."""
     helps, note, complaints = last_line(path, words), rb"  %s(?:, line \d+|: rule [^\n]*)?\n" % re.escape(escaped(os.fsencode(path))), []
     claims = f"{os.path.dirname(path)}/explained.claims"
-    put(claims, b"load a %s\nbecomes a 0 a\nload b examples/block.rle\nstill b\n" % os.fsencode(path))
-    told = b"cafile: %s\n" % fault.encode()
+    write(claims, b"load a %s\nbecomes a 0 a\nload b examples/block.rle\nstill b\n" % os.fsencode(path))
+    told = b"cafile: %s\n" % cause.encode()
     for command in (["show"], ["convert", "--to", "mc"], ["draw"]):
         got = run([*command, "--explain", path])
         if (got.printed, got.status) != (b"", 2) or not re.fullmatch(re.escape(told) + note + re.escape(helps), got.complaint):
             complaints.append(f"{command[0]}: {got}, wanted {helps}")
     for before, texts in ((b"", [claims]), (claims.encode() + b": ", [claims, "tests/golden/verify/no_claims/claims"])):
         got = run(["verify", "--explain", *texts])
-        wanted = rb"%sline 2: refused, %s\n%s  a:%s%s%sline 4: yes\n" % (before, re.escape(fault.encode()), before, note[1:], re.escape(helps and before + helps), before)
+        wanted = rb"%sline 2: refused, %s\n%s  a:%s%s%sline 4: yes\n" % (before, re.escape(cause.encode()), before, note[1:],
+                                                                         re.escape(helps and before + helps), before)
         if (got.complaint, got.status) != (b"", 2) or not re.fullmatch(wanted, got.printed):
             complaints.append(f"verify: {got}, wanted {helps}")
     got = run(["identify", "--explain", path, "examples/block.rle", path])
@@ -120,31 +147,33 @@ def try_explained(tally, name, path, fault, words):
 
 def try_seeming(tally, folder):
     """Files that are taken for others, or aren't, by their bytes; and rule texts."""
-    for name, (data, fault, words) in SEEMING.items():
+    for name, (data, cause, words) in SEEMING.items():
         path = os.path.join(folder, "seeming")
-        put(path, data)
-        try_explained(tally, name, path, f"bad pattern: {fault}", words)
+        write(path, data)
+        try_explained(tally, name, path, f"bad pattern: {cause}", words)
     for rule, words in RULES.items():
         path = os.path.join(folder, "ruled")
-        put(path, b"x = 1, y = 1, rule = %s\no!\n" % rule)
+        write(path, b"x = 1, y = 1, rule = %s\no!\n" % rule)
         try_explained(tally, f"the rule {rule}", path, "bad rule: unknown", words)
 
 
 def try_paths(tally, folder):
     """A path with a byte that a shell doesn't take as it stands is the word FILE in what helps."""
-    for name in (b"a\x1b[2J", b"b\x7f", b"c\xc2\x9b", b"\xc3\xa9", b"d\\x1b", b"e;f", b"$(g)", b"`h`", b"i*", b"j'", b"k&l", b"m>n", b"o~p", b"{q,r}", b"-s,t:u=v@w_x.y+Z"):
+    for name in (b"a\x1b[2J", b"b\x7f", b"c\xc2\x9b", b"\xc3\xa9", b"d\\x1b", b"e;f", b"$(g)", b"`h`", b"i*", b"j'", b"k&l", b"m>n", b"o~p", b"{q,r}",
+                 b"-s,t:u=v@w_x.y+Z"):
         path = os.path.join(folder, os.fsdecode(name))
-        for data, words in ((gzip.compress(GOOD), b"gunzip -c FILE"), (b"\xef\xbb\xbf" + GOOD, rb"sed '1s/^\xef\xbb\xbf//' FILE"), (b"#C\rx", rb"tr '\r' '\n' < FILE")):
-            put(path, data)
+        for data, words in ((gzip.compress(GOOD), b"gunzip -c FILE"), (b"\xef\xbb\xbf" + GOOD, rb"sed '1s/^\xef\xbb\xbf//' FILE"),
+                            (b"#C\rx", rb"tr '\r' '\n' < FILE")):
+            write(path, data)
             try_explained(tally, f"the path {name}", path, "bad pattern: rle header", words)
 
 
 def try_commands(tally, folder):
     """What is told as a command mends the file."""
-    for name, (data, fault, mended) in MISTAKES.items():
+    for name, (data, cause, mended) in MISTAKES.items():
         if WORDS[name] and WORDS[name].endswith(b"FILE"):
             path = os.path.join(folder, "broken")
-            put(path, data)
+            write(path, data)
             command = run(["show", "--explain", path]).complaint.split(b"  try: ")[-1]
             done = subprocess.run(["sh", "-c", os.fsdecode(command)], capture_output=True, check=False)
             tally.tell(f"{name}, mended by {command}", [] if done.stdout.strip() == mended.strip() else [str(done)])
@@ -162,11 +191,15 @@ def try_others(tally, folder):
     helps = last_line(full, b"claim that it becomes a file of its moved plane, without a shift").decode()
     wanted = f"line 2: refused, too many cells\n  full: {full}\n{helps}line 4: refused, no file\n  lost: nowhere: no such file\n"
     tally.expect("too many cells, verify", run(["verify", "--explain", claims]), Outcome(wanted.encode(), b"", 2))
-    for words in (["verify", "--explain", "--rules", "examples/rules", "examples/rules/slow.claims"], ["show", "--explain", "--rules", "examples/rules", "examples/rules/slow.rle"],
-                  ["verify", "--explain", "tests/golden/verify/bad_table/claims"], ["verify", "--explain", "--work", "0", "examples/glider.claims"], ["identify", "--explain", "examples/lost.rle"],
+    for words in (["verify", "--explain", "--rules", "examples/rules", "examples/rules/slow.claims"],
+                  ["show", "--explain", "--rules", "examples/rules", "examples/rules/slow.rle"],
+                  ["verify", "--explain", "tests/golden/verify/bad_table/claims"], ["verify", "--explain", "--work", "0", "examples/glider.claims"],
+                  ["identify", "--explain", "examples/lost.rle"],
                   ["identify", "--explain", "--rules", "examples/rules", "examples/rules/slow.rle"]):
         got = run(words)
-        tally.tell(f"nothing helps, {' '.join(words)}", [str(got)] if b"  try: " in got.printed + got.complaint or b"  " not in got.printed + got.complaint and "0" not in words and "examples/lost.rle" not in words else [])
+        said = got.printed + got.complaint
+        is_noted = b"  " in said or "0" in words or "examples/lost.rle" in words
+        tally.tell(f"nothing helps, {' '.join(words)}", [] if is_noted and b"  try: " not in said else [str(got)])
 
 
 def try_table(tally):
@@ -178,15 +211,86 @@ def try_table(tally):
     tally.tell("the table of docs/CLAIMS.md", [f"in one alone: {it}" for it in sorted(told ^ table)])
 
 
+def run_on_terminal(words):
+    """The outcome of a run whose standard error is a terminal."""
+    got, shown = on_terminal(lambda terminal: run(words, stderr=terminal))
+    return Outcome(got.printed, shown, got.status)
+
+
+def try_claim_texts(tally, files):
+    """Claim texts that are patterns, explained and not, and on a terminal."""
+    for name, (text, line, is_pattern) in CLAIM_TEXTS.items():
+        path = files.path("text", text)
+        told = fault(f"claims line {line}: syntax")
+        helps = f"  try: cafile identify {path}\n".encode() if is_pattern else b""
+        helped = Outcome(b"", told.complaint + helps, 2)
+        tally.expect(f"{name}", run(["verify", path]), told)
+        tally.expect(f"{name}, explained", run(["verify", "--explain", path]), helped)
+        tally.expect(f"{name}, on a terminal", run_on_terminal(["verify", path]), helped)
+        tally.expect(f"{name}, explained on a terminal", run_on_terminal(["verify", "--explain", path]), helped)
+    path = files.path("text", GOOD)
+    several = Outcome(b"examples/block.claims: line 2: yes\n", f"cafile: {path}: claims line 1: syntax\n  try: cafile identify {path}\n".encode(), 2)
+    tally.expect("with another text", run(["verify", "--explain", path, "examples/block.claims"]), several)
+    tally.expect("with another text, on a terminal", run_on_terminal(["verify", path, "examples/block.claims"]), several)
+    for name in ("a\x1b[2J.rle", "b\u0085.rle", "c;reboot", "$(d)"):
+        told = b"cafile: claims line 1: syntax\n  try: cafile identify FILE\n"
+        tally.expect(f"a path that a shell would take otherwise, {name!r}", run(["verify", "--explain", files.path(name, GOOD)]), Outcome(b"", told, 2))
+    # `identify` takes no such path
+    for path in (files.path("my glider.rle", GOOD), "-"):
+        tally.expect(f"a path that no claim text names, {os.path.basename(path)}", run(["verify", "--explain", path], input=GOOD),
+                     fault("claims line 1: syntax"))
+    tally.expect("another fault of a text like a pattern", run(["verify", "--explain", files.path("text", b"#C c\nload a b\nstill c\n")]),
+                 fault("claims line 3: unknown name"))
+    got = run(["identify", files.path("glider.rle", GOOD)])
+    tally.tell("and it helps", [] if b"spaceship glider 4 1 1\n" in got.printed and got.status == 0 else [str(got)])
+
+
+def try_more(tally, files):
+    """On a terminal a run with a refusal or a fault of which there is more to tell ends with a line that says so, once; explained, and elsewhere, none does."""
+    unknown, full, lost = "examples/unknown.rle", "examples/macrocell/full_square.mc", "examples/lost.rle"
+    bad = files.path("bad.rule", "faulty")
+    mixed = files.path("mixed.claims", "load a examples/block.rle\nload b examples/generations/brain.rle\nbecomes a 0 a\n")
+    has_more = (
+        ["show", unknown], ["convert", unknown, "--to", "mc"], ["draw", unknown], ["show", "examples/bad/syntax.rle"], ["convert", full, "--to", "rle"],
+        ["show", unknown, "--rule", bad],
+        ["show", "tests/files/soup/soup.rle", "--after", "1000", "--work", "1"],
+        ["draw", "examples/glider.rle", "--at", "21267647932558653966460912964485513216,0"],
+        ["verify", "tests/golden/verify/bad_patterns/claims"], ["verify", "examples/several.claims"],
+        ["verify", "examples/several.claims", "tests/golden/verify/bad_table/claims"], ["verify", "tests/golden/verify/lost/claims", "examples/block.claims"],
+        ["verify", "tests/golden/verify/bad_table/claims"], ["identify", "examples/block.rle", unknown, "examples/bad/syntax.rle"],
+        ["identify", "--rules", "examples/rules", "examples/rules/slow.rle"], ["identify", "--rule", bad, unknown],
+        ["verify", "nowhere.claims", "examples/several.claims"],
+    )
+    has_none = (
+        ["show", "examples/block.rle"], ["show", lost], ["show", "examples/block.rle", "--rule", "nowhere"], ["verify", "examples/block.claims"],
+        ["verify", "nowhere.claims"], ["verify", mixed],
+        ["verify", "--work", "0", "examples/glider.claims"], ["verify", "tests/golden/verify/syntax/claims"], ["identify", lost, "examples/block.rle"],
+        ["identify", "examples/block.rle"], ["identify", "--work", "0", "examples/glider.rle"],
+        ["identify", "my block.rle"], ["identify", "--rule", "nowhere", "examples/block.rle"], ["verify", "tests/golden/verify/no_claims/claims"],
+        ["draw", "examples/glider.rle"], ["verify", "--help"],
+    )
+    for words in (*has_more, *has_none):
+        plain, shown, name = run(words), run_on_terminal(words), " ".join(words).replace(files.folder, "")
+        more = MORE if words in has_more else b""
+        tally.expect(f"on a terminal, {name}", shown, Outcome(plain.printed, plain.complaint + more, plain.status))
+        tally.tell(f"elsewhere, {name}", [str(plain)] if b"--explain says" in plain.complaint else [])
+        if words[-1] != "--help":
+            explained = [words[0], "--explain", *words[1:]]
+            told = run(explained)
+            tally.expect(f"explained on a terminal, {name}", run_on_terminal(explained), told)
+            if more:
+                tally.tell(f"and there is more, {name}", [] if len(told.printed + told.complaint) > len(plain.printed + plain.complaint) else [str(told)])
+
+
 def main():
     tally = Tally()
     with tempfile.TemporaryDirectory() as folder:
-        for name, (data, fault, mended) in MISTAKES.items():
-            try_mistake(tally, folder, name, data, fault, mended)
-        try_seeming(tally, folder)
-        try_paths(tally, folder)
-        try_commands(tally, folder)
-        try_others(tally, folder)
+        for name, (data, told, mended) in MISTAKES.items():
+            try_mistake(tally, folder, name, data, told, mended)
+        for it in (try_seeming, try_paths, try_commands, try_others):
+            it(tally, folder)
+        for it in (try_claim_texts, try_more):
+            it(tally, Folder(folder))
     try_table(tally)
     tally.finish()
 

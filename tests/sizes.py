@@ -1,7 +1,7 @@
 #!/usr/bin/env -S python3 -B
-"""Claim texts and patterns far larger than those of examples/: no limit is hidden between a few lines and 100000, a few files and as many, or a few cells and
-some millions.
+"""Claim texts and patterns that are very large.
 
+No limit is hidden between a few lines and 100000, a few files and as many, or a few cells and some millions.
 The texts and patterns are made here, of blocks, blinkers and gliders, so that their verdicts are known.
 """
 import itertools
@@ -9,26 +9,10 @@ import os
 import random
 import re
 import tempfile
-
 from lib.claim_text import ClaimText, outcome
+from lib.long_texts import BLINKER, BLOCK, MANY_LINES, long_text, spelled
 from lib.program import Folder, Tally, ample, fault, lines_outcome, run
 from lib.work import excess, timed
-
-BLOCK, BLINKER, EMPTY = "examples/block.rle", "examples/blinker.rle", "examples/empty.rle"
-
-# The claims of a long text, each with its verdict.
-CLAIMS = (
-    ("still block", "yes"),
-    ("still blinker", "no, cells differ after 1"),
-    ("oscillator blinker 2", "yes"),
-    ("oscillator block 2", "no, the same after 1, shifted by 0,0"),
-    ("spaceship nothing 4 1 1", "no, empty"),
-    ("becomes blinker 2 blinker", "yes"),
-    ("still lost", "refused, no file"),
-)
-
-# The lines of a long claim text, and of one beyond 100000 lines.
-LINES, MANY_LINES = 6000, 110000
 
 # The cells a side of a pattern whose file is long and whose squares are few, how many claims there are about two such, and how many times the known work
 # they may take: to read both anew for each claim would take far more.
@@ -36,8 +20,10 @@ STRIPES, STRIPED_CLAIMS, STRIPED_WORK = 1600, 150, 60
 
 # Patterns, and claims about them, each with its verdict and note: all kinds of both.
 PATTERNS = {"dot": "x = 1, y = 1\no!", "high": "x = 2, y = 2, rule = B36/S23\n2o$2o!", "state": "x = 1, y = 1\nB!", "bad": "x = 1, y = 1\nz!",
-            "life": "x = 1, y = 1, rule = Life\no!", "full": "\n".join(["[M2]", "1 1 1 1 1", *(f"{up} {up - 1} {up - 1} {up - 1} {up - 1}" for up in range(2, 40)), ""]),
+            "life": "x = 1, y = 1, rule = Life\no!",
+            "full": "\n".join(["[M2]", "1 1 1 1 1", *(f"{up} {up - 1} {up - 1} {up - 1} {up - 1}" for up in range(2, 40)), ""]),
             "nothing": "x = 1, y = 1\n!", "lost": None}
+
 KINDS = (
     ("still block", "yes", None), ("still dot", "no, cells differ after 1", "dot at 0,0: 0 after 1 generation, claimed 1"),
     ("becomes nothing 7 dot", "no, cells differ after 7", "nothing at 0,0: 0 after 7 generations, claimed 1"), ("oscillator blinker 2", "yes", None),
@@ -47,19 +33,6 @@ KINDS = (
     ("still state", "refused, state too large", "state: {state}"), ("becomes block 0 high", "refused, mixed rules", None),
     ("spaceship full 1 1 0", "refused, too many cells", "full: {full}"),
 )
-
-
-def long_text(count=LINES):
-    """The lines of a long claim text, and its verdicts with their lines."""
-    lines = [f"load block {BLOCK}", f"load blinker {BLINKER}", f"load nothing {EMPTY}", "load lost examples/lost.rle"]
-    verdicts = []
-    while len(lines) < count:
-        claim, verdict = CLAIMS[len(lines) % len(CLAIMS)]
-        lines.append(claim)
-        verdicts.append((len(lines), verdict))
-        if len(lines) % 5 == 0:
-            lines += ["", "# A comment."]
-    return lines, verdicts
 
 
 class Texts:
@@ -153,7 +126,8 @@ def try_one_reading(texts):
         text.claim("becomes a 0 b" if at % 2 else "becomes b 0 a", "no, cells differ after 0")
     got, seconds = timed(["verify", text.write()])
     wanted = outcome(text.answers, False)
-    texts.tally.tell(f"{STRIPED_CLAIMS} claims about two large patterns: {seconds:.2f} s", ([] if got == wanted else [f"{got}"]) + excess(seconds, STRIPED_WORK))
+    texts.tally.tell(f"{STRIPED_CLAIMS} claims about two large patterns: {seconds:.2f} s",
+                     ([] if got == wanted else [f"{got}"]) + excess(seconds, STRIPED_WORK))
 
 
 def try_rule_files(texts):
@@ -170,11 +144,6 @@ def try_rule_files(texts):
             for at in range(2000):
                 text.claim(f"becomes p{at} {at} block", verdict, f"rule file: {path}{line}")
         texts.judge(verdict, text)
-
-
-def spelled(path, count):
-    """So many spellings of a path of the file system."""
-    return ("".join(parts) + path for parts in itertools.islice(itertools.product(("./", ".//"), repeat=17), count))
 
 
 def try_more_files(texts):

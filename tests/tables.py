@@ -1,420 +1,19 @@
 #!/usr/bin/env -S python3 -B
-"""Rule files too small and too many for examples/. What is wrong with each was worked out by hand; what random tables come to, by the naive reader and
-stepper of tests/lib."""
+"""Rule files: faulty and good ones, how they are spelled, random tables beside naive steps, and files of millions of lines.
+
+What is wrong with each faulty text was worked out by hand. What random tables come to is told by the naive reader and stepper of tests/lib. Large files have to be
+judged within seconds of a processor that a reader or a search of squared cost would pass by far, bounded beside those of known work.
+"""
 import os
 import random
 import tempfile
 
 from lib import rle, rule_table
-from lib.program import Outcome, Tally, fault, lines_outcome, run
+from lib.program import MAX_FILE, Outcome, Tally, fault, lines_outcome, run
+from lib.random_tables import random_tables
 from lib.steps import step, steps
-
-# A small table. Most texts below are this one with one line changed, of which there may be several after that, or none.
-SPREAD = ("@RULE Spread", "@TABLE", "n_states:3", "neighborhood:vonNeumann", "symmetries:rotate4", "var a={1,2}", "0,a,0,0,0,a")
-
-# What a lone cell of state 2 becomes under it.
-DOT, SPREAD_DOT, NOTHING = {(0, 0): 2}, {(0, 0): 2, (0, -1): 2, (1, 0): 2, (0, 1): 2, (-1, 0): 2}, {}
-
-# By the line of the small table that is changed: what stands there then, and the fault with its line.
-CHANGED = {
-    1: (
-        ("@RUL Spread", "1 no rule line"),
-        ("@RULES Spread", "1 no rule line"),
-        ("@rule Spread", "1 no rule line"),
-        ("@RULE", "1 no rule line"),
-        ("@RULE \t", "1 no rule line"),
-        ("@RULE # Spread", "1 no rule line"),
-        ("@RULE#Spread", "1 no rule line"),
-        ("@RULE\x0bSpread", "1 no rule line"),
-        ("\x0c@RULE Spread", "1 no rule line"),
-        ("\xef\xbb\xbf@RULE Spread", "1 no rule line"),
-        ("Spread\n@RULE Spread", "1 no rule line"),
-        ("@TABLE\n@RULE Spread", "1 no rule line"),
-        ("# c\n\n @RUL Spread", "3 no rule line"),
-        ("", "2 no rule line"),
-    ),
-    2: (
-        ("@TABLES", "7 no table"),
-        ("@table", "7 no table"),
-        ("@TABL", "7 no table"),
-        ("@ TABLE", "7 no table"),
-        ("TABLE", "7 no table"),
-        ("x @TABLE", "7 no table"),
-        ("@TREE @TABLE", "7 no table"),
-        ("@TABLE,", "7 no table"),
-        ("@TABLE\x0b", "7 no table"),
-        ("#@TABLE", "7 no table"),
-        ("@TREE", "7 no table"),
-    ),
-    3: (
-        ("", "6 states"),
-        ("n_states:", "6 states"),
-        ("n_states:0", "6 states"),
-        ("n_states:1", "6 states"),
-        ("n_states:0001", "6 states"),
-        ("n_states:257", "6 states"),
-        ("n_states:259", "6 states"),
-        ("n_states:65539", "6 states"),
-        ("n_states:4294967299", "6 states"),
-        ("n_states:18446744073709551619", "6 states"),
-        ("n_states:99999999999999999999999999999999999999999", "6 states"),
-        ("n_states:-3", "6 states"),
-        ("n_states:+3", "6 states"),
-        ("n_states:3 4", "6 states"),
-        ("n_states:3,", "6 states"),
-        ("n_states:3x", "6 states"),
-        ("n_states:x", "6 states"),
-        ("n_states::3", "6 states"),
-        ("n_states:#3", "6 states"),
-        # no setting, so the settings end here
-        ("n_states=3", "3 states"),
-        ("n_states 3", "3 states"),
-        ("n_states", "3 states"),
-        ("n_state:3", "3 states"),
-        ("N_STATES:3", "3 states"),
-        ("n states:3", "3 states"),
-        ("n_states\x0b:3", "3 states"),
-        ("n_statesx:3", "3 states"),
-        (":3", "3 states"),
-        # the second is judged before any value
-        ("n_states:3\nn_states:3", "4 syntax"),
-        ("n_states:1\nn_states :3", "4 syntax"),
-        ("n_states:\nn_states:", "4 syntax"),
-    ),
-    4: (
-        ("", "6 neighborhood"),
-        ("neighborhood:", "6 neighborhood"),
-        ("neighborhood:Margolus", "6 neighborhood"),
-        ("neighborhood:vonneumann", "6 neighborhood"),
-        ("neighborhood:VonNeumann", "6 neighborhood"),
-        ("neighborhood:moore", "6 neighborhood"),
-        ("neighborhood:Hexagonal", "6 neighborhood"),
-        ("neighborhood:onedimensional", "6 neighborhood"),
-        ("neighborhood:vonNeumann Moore", "6 neighborhood"),
-        ("neighborhood:vonNeumann,", "6 neighborhood"),
-        ("neighborhood:von Neumann", "6 neighborhood"),
-        ("neighbourhood:vonNeumann", "4 neighborhood"),
-        ("neighborhood vonNeumann", "4 neighborhood"),
-        ("neighborhood:vonNeumann\nneighborhood:vonNeumann", "5 syntax"),
-        ("neighborhood:Margolus\nneighborhood:vonNeumann", "5 syntax"),
-    ),
-    5: (
-        ("", "6 symmetries"),
-        ("symmetries:", "6 symmetries"),
-        ("symmetries:rotate8", "6 symmetries"),
-        ("symmetries:rotate", "6 symmetries"),
-        ("symmetries:rotate4 none", "6 symmetries"),
-        ("symmetries:Rotate4", "6 symmetries"),
-        ("symmetries:rotate_4", "6 symmetries"),
-        ("symmetries:None", "6 symmetries"),
-        ("symmetry:none", "5 symmetries"),
-        ("symmetries none", "5 symmetries"),
-        ("symmetries:none\nsymmetries:none", "6 syntax"),
-        # a table's states, neighbourhood and symmetry are judged in this order
-        ("symmetries:x\nn_states:3", "6 syntax"),
-        # after a variable it comes too late
-        ("var b={1}\nsymmetries:rotate4", "5 symmetries"),
-        ("symmetries:rotate4\nvar b={1}\nn_states:3", "7 syntax"),
-        ("symmetries:rotate4\nvar b={1}\nneighborhood:vonNeumann", "7 syntax"),
-        ("symmetries:rotate4\nvar b={1}\nsymmetries:rotate4", "7 syntax"),
-        ("symmetries:rotate4\n0,1,0,0,0,1\nsymmetries : rotate4", "7 syntax"),
-        ("@COLORS", "5 symmetries"),
-        ("# c\n@COLORS", "6 symmetries"),
-        ("@TABLE\nsymmetries:rotate4", "5 symmetries"),
-    ),
-    6: (
-        ("var a={}", "6 syntax"),
-        ("var a={ }", "6 syntax"),
-        ("var a={1,}", "6 syntax"),
-        ("var a={,1}", "6 syntax"),
-        ("var a={1,,2}", "6 syntax"),
-        ("var a={1 2}", "6 syntax"),
-        ("var a={1;2}", "6 syntax"),
-        ("var a={1,2", "6 syntax"),
-        ("var a=1,2}", "6 syntax"),
-        ("var a=1,2", "6 syntax"),
-        ("var a=", "6 syntax"),
-        ("var a", "6 syntax"),
-        ("var a={1,2}}", "6 syntax"),
-        ("var a={{1,2}}", "6 syntax"),
-        ("var a={1,{2}}", "6 syntax"),
-        ("var a{1,2}", "6 syntax"),
-        ("var a=={1,2}", "6 syntax"),
-        ("var a:{1,2}", "6 syntax"),
-        ("var ={1,2}", "6 syntax"),
-        ("var {1,2}", "6 syntax"),
-        ("var 1={1,2}", "6 syntax"),
-        ("var 1a={1,2}", "6 syntax"),
-        ("var a b={1,2}", "6 syntax"),
-        ("var a,b={1,2}", "6 syntax"),
-        ("var a:={1,2}", "6 syntax"),
-        ("var @a={1,2}", "6 syntax"),
-        ("var a@={1,2}", "6 syntax"),
-        ("var a{={1,2}", "6 syntax"),
-        ("var a}={1,2}", "6 syntax"),
-        ("var a={1,2},", "6 syntax"),
-        ("var a={1,2} b", "6 syntax"),
-        ("var a={1x,2}", "6 syntax"),
-        ("var a={1.5}", "6 syntax"),
-        ("var a={b:}", "6 syntax"),
-        ("var a={b=}", "6 syntax"),
-        ("var a={1,@}", "6 syntax"),
-        ("var a={1,#2}", "6 syntax"),
-        # a line that isn't `var` and a blank is a transition
-        ("var", "6 syntax"),
-        ("vara={1,2}", "6 syntax"),
-        ("Var a={1,2}", "6 syntax"),
-        ("VAR a={1,2}", "6 syntax"),
-        ("var\x0ba={1,2}", "6 syntax"),
-        ("variab", "6 variable"),
-        ("va,0,0,0,0,0", "6 variable"),
-        # and one that is, none
-        ("var ,0,0,0,0,0", "6 syntax"),
-        ("var 00", "6 syntax"),
-        # the spelling of all goes first, then each from the left
-        ("var a={3,1x}", "6 syntax"),
-        ("var a={b,}", "6 syntax"),
-        ("var a={3}", "6 states"),
-        ("var a={1,3}", "6 states"),
-        ("var a={256}", "6 states"),
-        ("var a={257}", "6 states"),
-        ("var a={4294967297}", "6 states"),
-        ("var a={18446744073709551617}", "6 states"),
-        ("var a={99999999999999999999999999999999999999}", "6 states"),
-        ("var a={1,3,b}", "6 states"),
-        ("var a={1,b,3}", "6 variable"),
-        ("var a={b}", "6 variable"),
-        ("var a={a}", "6 variable"),
-        ("var a={-1}", "6 variable"),
-        ("var a={+1}", "6 variable"),
-        ("var a={.}", "6 variable"),
-        ("var a={1,2}\nvar b={A}", "7 variable"),
-        ("var a={1,2}\nvar b={a,c}\nvar c={1}", "7 variable"),
-        ("var a={1,2}\nvar aa={1}\nvar b={aaa}", "8 variable"),
-        ("", "7 variable"),
-    ),
-    7: (
-        ("0,1,0,0,1", "7 syntax"),
-        ("0,1,0,0,0,0,1", "7 syntax"),
-        ("0,a,0,0,0,a,", "7 syntax"),
-        (",0,a,0,0,0,a", "7 syntax"),
-        ("0,a,0,0,,a", "7 syntax"),
-        (",a,0,0,0,a", "7 syntax"),
-        ("0,a,0,0,0,", "7 syntax"),
-        (",,,,,", "7 syntax"),
-        (",", "7 syntax"),
-        ("0,a,0,0,0 0,a", "7 syntax"),
-        ("0,a,0,0,0,a b", "7 syntax"),
-        ("0,a,0,0,0,1x", "7 syntax"),
-        ("0,a,0,0,0,a:", "7 syntax"),
-        ("0,a,0,0,0,{", "7 syntax"),
-        ("0,a,0,0,0,}", "7 syntax"),
-        ("0,a,=,0,0,a", "7 syntax"),
-        ("0,a,@,0,0,a", "7 syntax"),
-        ("0,a,0,0,0#,a", "7 syntax"),
-        ("0;a;0;0;0;a", "7 syntax"),
-        ("0 a 0 0 0 a", "7 syntax"),
-        ("0a000", "7 syntax"),
-        ("0a000a0", "7 syntax"),
-        ("0a 000a", "7 syntax"),
-        ("0a00 a", "7 syntax"),
-        ("0a000=", "7 syntax"),
-        ("0a000@", "7 syntax"),
-        ("0a000#a", "7 syntax"),
-        ("a", "7 syntax"),
-        ("spread", "7 variable"),
-        # each field's spelling goes first, the result's too
-        ("0,3,0,0,0,1x", "7 syntax"),
-        ("0,c,0,0,0,:", "7 syntax"),
-        ("0c000:", "7 syntax"),
-        ("0,3,0,0,0,1", "7 states"),
-        ("030001", "7 states"),
-        ("0,256,0,0,0,1", "7 states"),
-        ("0,257,0,0,0,1", "7 states"),
-        ("0,18446744073709551617,0,0,0,1", "7 states"),
-        ("0,a,0,0,0,3", "7 states"),
-        ("3,c,0,0,0,1", "7 states"),
-        ("c,3,0,0,0,1", "7 variable"),
-        ("0,c,0,0,0,3", "7 variable"),
-        ("0,3,0,0,0,c", "7 states"),
-        ("0,c,0,0,0,1", "7 variable"),
-        ("0c0001", "7 variable"),
-        ("0,a,0,0,0,c", "7 variable"),
-        ("0,a,0,0,0,A", "7 variable"),
-        ("0,a,0,0,0,aa", "7 variable"),
-        ("0,aa,0,0,0,a", "7 variable"),
-        ("0,-1,0,0,0,1", "7 variable"),
-        ("0,a,0,0,0,a;", "7 variable"),
-        ("0,1,0,0,0,a", "7 unbound"),
-        ("01000a", "7 unbound"),
-        ("0,0,0,0,0,a", "7 unbound"),
-        ("var b={a}\n0,a,0,0,0,b", "8 unbound"),
-        ("var a={1}\n0,1,0,0,0,a", "8 unbound"),
-        ("var x={0,1,2}\nvar y={0,1,2}\n0,x,y,0,0,a", "9 unbound"),
-        # a fault of a later line, or a waking table, is told after it
-        ("0,1,0,0,0,a\n0,0", "7 unbound"),
-        ("0,0,0,0,0,1\n0,c,0,0,0,1", "8 variable"),
-        ("0,a,0,0,0,a\nn_states:3", "8 syntax"),
-        ("0,a,0,0,0,a\nfoo", "8 syntax"),
-        ("0,0,0,0,0,1", "7 wakes"),
-        ("000002", "7 wakes"),
-        ("0,0,0,0,0,1\n# c\n\n", "10 wakes"),
-        ("0,0,0,0,0,1\n@COLORS\n0 0 0 0", "9 wakes"),
-        ("0,0,0,0,0,1\n0,0,0,0,0,0", "8 wakes"),
-        ("var b={0,1}\n0,b,b,b,b,1", "8 wakes"),
-        ("var b={0,2}\nvar c={0,1}\nb,c,c,0,0,1", "9 wakes"),
-        ("var b={1,2}\n0,b,0,0,0,0\n0,0,0,0,0,2", "9 wakes"),
-    ),
-}
-
-# Whole rule files, and their faults.
-FAULTY = (
-    ("", "1 no rule line"),
-    ("\n", "1 no rule line"),
-    ("\n\n", "2 no rule line"),
-    (" \n# c\n\t\r\n#", "4 no rule line"),
-    ("@RULE Spread", "1 no table"),
-    ("@RULE Spread\n\n\n", "3 no table"),
-    ("@RULE Spread\n@TREE\nnum_states=2\n", "3 no table"),
-    ("@RULE @TABLE", "1 no table"),
-    ("@RULE Spread @TABLE\n", "1 no table"),
-    ("@RULE Spread\n@TABLE", "2 states"),
-    ("@RULE Spread\n@TABLE\n\n", "3 states"),
-    ("@RULE Spread\n@TABLE\nn_states:2\n\n@COLORS\n1 0 0 0\n", "5 neighborhood"),
-    ("@RULE Spread\n@TABLE\nn_states:2\nneighborhood:Moore", "4 symmetries"),
-    ("@RULE Spread\n@TABLE\nsymmetries:x\nneighborhood:x\nn_states:x\n", "5 states"),
-    ("@RULE Spread\n@TABLE\nsymmetries:x\nneighborhood:x\nn_states:2\n", "5 neighborhood"),
-    ("@RULE Spread\n@TABLE\nn_states:2\n@TABLE\nneighborhood:Moore\nsymmetries:none", "4 neighborhood"),
-    ("@RULE Spread\r@TABLE\rn_states:3\r", "1 no table"),
-    ("x = 3, y = 3, rule = B3/S23\n3o!\n", "1 no rule line"),
-    # the fields are as many as the neighbourhood has cells, and two
-    *((f"@RULE Spread\n@TABLE\nn_states:2\nneighborhood:{of}\nsymmetries:none\n{'1,' * count}0\n1,{'1,' * wrong}0", "7 syntax")
-      for of, count in (("vonNeumann", 5), ("Moore", 9), ("hexagonal", 7), ("oneDimensional", 3)) for wrong in (count - 2, count)),
-)
-
-# By the line of the small table that is changed: what stands there then, so that the table is as it was.
-SAME = {
-    1: (
-        "\n# c\n  \t@RULE \t Spread \t",
-        "@RULE Spread again",
-        "@RULE Spread#again",
-        "\r\n@RULE Spread\r",
-        "@RULE Spread\r\r",
-        "@RULE Spread\nn_states:1\n0,0,0,0,0,1\nvar",
-        "@RULE Spread\n@TREE\nnum_states=2\n@COLORS\n1 0 0 0",
-        "@RULE Spread\n@TABLES\nn_states:1",
-        "@RULE Spread\n@RULE Lean",
-        "@RULE Spread\n# @TABLE",
-    ),
-    2: (" @TABLE\t", "@TABLE x", "@TABLE @TREE", "@TABLE#x", "@TABLE\r"),
-    3: (
-        "n_states \t: \t3",
-        "  n_states:3  ",
-        "n_states:3#4",
-        "n_states:0000000000000000000000000000000000000003",
-        "n_states:3\r",
-        "n_states:\r3",
-        "\n\nn_states:3\n\n",
-    ),
-    4: ("neighborhood : vonNeumann ", "neighborhood:vonNeumann # Moore", "\tneighborhood\t:\tvonNeumann"),
-    5: (
-        "symmetries : rotate4\t",
-        "symmetries:rotate4reflect",
-        "symmetries:permute",
-    ),
-    6: (
-        "var  a  =  {  1  ,  2  }  ",
-        "var\ta={1,2}",
-        "var a={2,1}",
-        "var a={1,2,1,1,2}",
-        "var a={01,000000000000000000000000000002}",
-        "var a={1,2}#,3}",
-        "var b={1}\nvar a={b,2}",
-        "var b={1,2}\nvar a={b}",
-        "var a={1}\nvar a={a,2}",
-        "var a={0}\nvar a={1,2}",
-    ),
-    7: (
-        "0a000a",
-        "0,a,0,0,0,a#",
-        " 0 , a ,\t0 , 0 , 0 , a ",
-        "00,a,000,0,0000000000000000000000000000000,a",
-        "0,0,0,0,0,0\n0,a,0,0,0,a\n0,0,0,0,0,1",
-        "0,a,0,0,0,a\n0,a,0,0,0,0",
-        "0,a,0,0,0,a\n000aa0",
-        # lines keep the states that a name had when they were read
-        "0,a,0,0,0,a\nvar a={1}",
-        "var b={a}\nvar a={0}\n0,b,0,0,0,b",
-        # what follows the table
-        "0,a,0,0,0,a\n@TABLE\nn_states:1\n0,0,0,0,0,1",
-        "0,a,0,0,0,a\n@RULE Other\n@TABLE\nvar",
-        "0,a,0,0,0,a\n@TREE\nnum_states=0\nvar",
-        "0,a,0,0,0,a\n@\n0,0,0,0,0,1",
-        "0,a,0,0,0,a\n@ICONS\n/* XPM */\n\"7 7 1 1\"\nn_states:2",
-        # names of many kinds
-        *(f"var {name}={{1,2}}\n0,{name},0,0,0,{name}" for name in (
-            "A", "aa", "a1", "a_b", "a.b", "-", "-1", "+1", ".", "$", "*", "!", '"a"', "(1)", "[a]", "a;b", "a|b",
-            "\x0b", "\x0c", "\x00", "\x7f", "\xe9", "\xff\xfe",
-            "n_states", "neighborhood", "var", "RULE", "a" * 1000)),
-        "var \xe9={1,2}\n0\xe9000\xe9",
-        "var ;={1,2}\n0;000;",
-        "var var={0}\nvar,a,0,0,0,a",
-        "var n_states={0}\nn_states,a,0,0,0,a",
-        "var z={0}\nz,a,z,z,z,a",
-        "var z={0,1}\n0,a,z,0,0,a",
-    ),
-}
-
-# By the line of the small table that is changed: what stands there then, and what a lone cell of state 2 becomes.
-OTHER = (
-    (5, "symmetries:none", {(0, 0): 2, (0, 1): 2}),
-    (5, "symmetries:reflect_horizontal", {(0, 0): 2, (0, 1): 2}),
-    (6, "var a={1}", DOT),
-    (6, "var a={1,2}\nvar a={1}", DOT),
-    (7, "", DOT),
-    (7, "0,1,0,0,0,1", DOT),
-    (7, "2,0,0,0,0,0", NOTHING),
-    (7, "a,0,0,0,0,0", NOTHING),
-    (7, "a,0,0,0,0,1", {(0, 0): 1}),
-    (7, "a,0,0,0,0,a", DOT),
-    # the first that fits decides
-    (7, "0,2,0,0,0,0\n0,a,0,0,0,a", DOT),
-    (7, "0,2,0,0,0,1\n0,a,0,0,0,a", {**SPREAD_DOT, (0, -1): 1, (1, 0): 1, (0, 1): 1, (-1, 0): 1}),
-    # both slots of a variable take one cell
-    (7, "0,a,a,0,0,a", DOT),
-    (7, "var z={0}\n0,a,z,z,z,a", SPREAD_DOT),
-    (7, "var z={0,2}\nz,a,z,z,z,a", SPREAD_DOT),
-    (7, "var z={1,2}\nz,z,0,0,0,1", DOT),
-)
-
-# Rule files that give a name, the rule text of a pattern, and the claim's verdict. The table lets each live cell die, and the claim says that one does.
-NAMES = (
-    ("Die", "Die", "yes"),
-    ("Die", "die", "refused, bad rule: unknown"),
-    ("Die", "Di", "refused, bad rule: unknown"),
-    ("Die", "Diet", "refused, bad rule: unknown"),
-    ("Die", "Die,", "refused, bad rule: unknown"),
-    ("Die,", "Die,", "yes"),
-    ("@TABLE", "@TABLE", "yes"),
-    ("D\xefe", "D\xefe", "yes"),
-    ("D\xefe", "Die", "refused, bad rule: unknown"),
-    ("=", "=", "yes"),
-    ("3/4/5", "3/4/5", "no, cells differ after 1"),
-    ("3/4/1", "3/4/1", "yes"),
-    ("B9/S", "B9/S", "yes"),
-    ("Die:T30,20", "Die:T30,20", "refused, bad rule: bounded"),
-    ("B0/S", "B0/S", "refused, bad rule: wakes"),
-    # a lone cell lives on under this rule
-    ("B/S0", "B/S0", "no, cells differ after 1"),
-    ("b/s0", "b/s0", "no, cells differ after 1"),
-    ("0/", "0/", "no, cells differ after 1"),
-    ("B/S0", "Die", "refused, bad rule: unknown"),
-)
-
-
-def changed(at, line):
-    """The small table with one line changed."""
-    return "\n".join([*SPREAD[: at - 1], line, *SPREAD[at:]]) + "\n"
+from lib.table_texts import CHANGED, DOT, FAULTY, NAMES, OTHER, SAME, SPREAD, SPREAD_DOT, WIDE_DOT, changed, transitions, wide_table
+from lib.work import excess, timed
 
 
 class Named:
@@ -574,66 +173,6 @@ def try_rule_lines(tally, folder):
     tally.expect("a rule line without claims", run(["verify", Texts(folder).path("rule lost\nload a lost")]), Outcome(b"", b"", 0))
 
 
-class RandomTable:
-    """A random table with a name, and random cells that it says something of."""
-
-    def __init__(self, chance, name, neighbourhood, symmetry):
-        self.chance = chance
-        self.states, self.neighbourhood, self.symmetry = chance.randint(2, 5), neighbourhood, symmetry
-        wide, high = (5, 4) if symmetry != "permute" or neighbourhood != "Moore" else (3, 3)
-        self.cells = {(x, y): chance.randrange(1, self.states) for x in range(wide) for y in range(high) if chance.random() < 0.6}
-        self.sets = {letter: self.some_states() for letter in "abcdef"}
-        # mostly each transition is made from a cell and its neighbours
-        self.transitions = [self.transition() for _ in range(chance.randint(1, 12))]
-        sets = [f"var {letter}={{{','.join(map(str, states))}}}" for letter, states in self.sets.items()]
-        head = [f"@RULE {name}", "@TABLE", f"n_states:{self.states}", f"neighborhood:{neighbourhood}", f"symmetries:{symmetry}"]
-        self.text = "\n".join([*head, *sets, *self.transitions]) + "\n"
-
-    def some_states(self):
-        """Some of the states."""
-        return sorted(self.chance.sample(range(self.states), self.chance.randint(1, self.states)))
-
-    def slot(self, cell):
-        """A number or a variable that admits the cell."""
-        letters = [letter for letter, states in self.sets.items() if cell in states]
-        return self.chance.choice(letters) if letters and self.chance.random() < 0.75 else str(cell)
-
-    def transition(self):
-        """A transition for one of the cells and its neighbours, in any order."""
-        ring = rule_table.RINGS[self.neighbourhood]
-        x, y = self.chance.choice([*self.cells, (0, 0)])
-        x, y = x + self.chance.randint(-1, 1), y + self.chance.randint(-1, 1)
-        around = [self.cells.get((x + dx, y + dy), 0) for dx, dy in ring]
-        turn = self.chance.randrange(len(around))
-        around = around[turn:] + around[:turn]
-        if self.chance.random() < 0.5:
-            around.reverse()
-        slots = [self.slot(cell) for cell in (self.cells.get((x, y), 0), *around)]
-        names = [it for it in slots if it.isalpha()]
-        result = self.chance.choice(names) if names and self.chance.random() < 0.7 else str(self.chance.randrange(self.states))
-        return ("," if self.chance.random() < 0.5 else "").join([*slots, result])
-
-    def table(self):
-        """The table as the naive reader reads it; None where it wakes."""
-        try:
-            return rule_table.read_table(self.text)
-        except rule_table.Fault:
-            return None
-
-
-def random_tables(chance, count):
-    """Random tables that don't wake, so many for each neighbourhood and symmetry; fewer where the naive stepper takes long."""
-    for neighbourhood, symmetries in rule_table.SYMMETRIES.items():
-        for symmetry in symmetries:
-            made = 0
-            while made < (count // 3 + 1 if (neighbourhood, symmetry) == ("Moore", "permute") else count):
-                it = RandomTable(chance, f"{neighbourhood}-{symmetry}-{made}", neighbourhood, symmetry)
-                table = it.table()
-                if table:
-                    made += 1
-                    yield it, table
-
-
 def try_random_tables(tally, folder):
     """Random tables over each neighbourhood with each symmetry, on random cells."""
     chance = random.Random(1)
@@ -688,11 +227,141 @@ def try_mutilated_tables(tally, folder):
     tally.tell(f"mutilated tables: {count} ({told})", complaints)
 
 
+def naming_each_other(count):
+    """Variables of which each has the states of two earlier ones."""
+    yield "var v0={1,2}"
+    yield "var v1={v0}"
+    for at in range(2, count):
+        yield f"var v{at}={{v{at - 1},v{at // 2}}}"
+    yield f"0,v{count - 1},0,0,0,v{count - 1}"
+
+
+def one_name_again(count):
+    """One variable, which each line replaces by all that it was."""
+    yield "var a={1,2}"
+    for _ in range(count):
+        yield "var a={a,a,a}"
+    yield "0,a,0,0,0,a"
+
+
+def sets_of_every_state(count):
+    """Variables of all 256 states, and a transition after them."""
+    for at in range(count):
+        yield f"var long_name_of_a_variable_{at}={{{EVERY_STATE}}}"
+    yield f"var a={{{','.join(str(state) for state in range(1, 256))}}}"
+    yield "0,a,0,0,0,a"
+
+
+def nearly_fitting(count):
+    """Transitions of a ring of eight that fit under no order, which is found late: the longest search that is known."""
+    for name, states in enumerate(("0,8", "1,3,5,7,8", "0,1,3,4", "2,3,4,5,6,7", "0,1,2,3,4,5,6,7,8", "1,2,3,5,6,7", "1,2,3,4,5,6,7,8"), 1):
+        yield f"var v{name}={{{states}}}"
+    for _ in range(count):
+        yield "9,v5,v7,v6,v2,v3,v1,v4,v2,1"
+
+
+# How many times the known work a run may take.
+MOST_WORK = 400
+
+EVERY_STATE = ",".join(str(state) for state in range(256))
+
+# What a lone cell of state 2 becomes where a cell takes the state of a live neighbour, in a ring of four.
+WIDE_SPREAD = "#CXRLE Pos=-1,-1\nx = 3, y = 3, rule = Wide\n.B$3B$.B!\n"
+
+# The cells of that search.
+CROWD = "x = 1, y = 1, rule = Wide\nFEC$CIG$HHB!\n"
+
+# Rule files, and what is claimed: a pattern, what it becomes, and the verdict.
+YES = "yes"
+
+LARGE_FILES = (
+    ("600000 variables that name earlier ones", lambda: wide_table(naming_each_other(600000), 3), WIDE_DOT, WIDE_SPREAD, YES),
+    ("one variable, replaced 600000 times", lambda: wide_table(one_name_again(600000), 3), WIDE_DOT, WIDE_SPREAD, YES),
+    ("10000 variables of all states", lambda: wide_table(sets_of_every_state(10000)), WIDE_DOT, WIDE_SPREAD, YES),
+    ("a variable of 1100000 elements", lambda: wide_table([f"var a={{{'1,2,' * 550000}1}}", "0,a,0,0,0,a"], 3), WIDE_DOT, WIDE_SPREAD, YES),
+    ("300000 transitions", lambda: wide_table(transitions(300000)), WIDE_DOT, WIDE_SPREAD, YES),
+    ("1100000 transitions under eight orders", lambda: wide_table(transitions(1100000), symmetry="rotate4reflect"), WIDE_DOT, WIDE_SPREAD, YES),
+    ("8 million transitions of three cells", lambda: wide_table(["1,1,1,0\n" * 8300000 + "0,2,0,2"], 3, "oneDimensional", "none"), WIDE_DOT,
+     "x = 2, y = 1, rule = Wide\n2B!\n", YES),
+    ("a transition of two million fields", lambda: wide_table(["0," * 2000000 + "0"]), WIDE_DOT, WIDE_DOT, "refused, bad table: syntax"),
+    ("a line of ten million bytes", lambda: wide_table(["0" * 10000000]), WIDE_DOT, WIDE_DOT, "refused, bad table: syntax"),
+    ("ten million brackets", lambda: wide_table(["var a=" + "{" * 10000000]), WIDE_DOT, WIDE_DOT, "refused, bad table: syntax"),
+    ("an unknown name after 600000 variables", lambda: wide_table([*naming_each_other(600000), "0,b,0,0,0,1"], 3), WIDE_DOT, WIDE_DOT,
+     "refused, bad table: variable"),
+    ("a file of 67108864 bytes", lambda: wide_table(["var a={1,2}", "0,a,0,0,0,a"]).ljust(MAX_FILE), WIDE_DOT, WIDE_SPREAD, YES),
+    ("a file of 67108865 bytes", lambda: wide_table(["var a={1,2}", "0,a,0,0,0,a"]).ljust(MAX_FILE + 1), WIDE_DOT, WIDE_SPREAD, "refused, no file"),
+    ("a name of 1100000 bytes", lambda: wide_table(["var a={1,2}", "0,a,0,0,0,a"], name="W" * 1100000), WIDE_DOT.replace("Wide", "W" * 1100000),
+     WIDE_SPREAD.replace("Wide", "W" * 1100000), YES),
+    ("a variable's name of a million bytes", lambda: wide_table([f"var {'a' * 1000000}={{1,2}}", f"0,{'a' * 1000000},0,0,0,{'a' * 1000000}"]), WIDE_DOT,
+     WIDE_SPREAD, YES),
+    ("1000 names of 1000 bytes that differ in the last", lambda: wide_table(
+        [*(f"var {'a' * 1000}{at}={{1,2}}" for at in range(1000)), *(f"0,{'a' * 1000}{at},0,0,0,{'a' * 1000}{at}" for at in range(1000))]), WIDE_DOT,
+     WIDE_SPREAD, YES),
+    ("numbers of a million digits", lambda: wide_table([f"var a={{{'0' * 1000000}1,2}}", f"{'0' * 1000000},a,0,0,0,a"], "0" * 1000000 + "3"), WIDE_DOT,
+     WIDE_SPREAD, YES),
+    ("a number of states of a million digits", lambda: wide_table([], "9" * 1000000), WIDE_DOT, WIDE_DOT, "refused, bad table: states"),
+    ("ten million bytes of comments", lambda: "# @TABLE\n" * 1000000 + wide_table(["var a={1,2}", "#" * 1000000, "0,a,0,0,0,a"]), WIDE_DOT, WIDE_SPREAD, YES),
+    ("ten million empty lines", lambda: "\n" * 10000000 + wide_table(["var a={1,2}", "0,a,0,0,0,a"]), WIDE_DOT, WIDE_SPREAD, YES),
+    ("a million sections", lambda: "@RULE Wide\n" + "@TREE\n" * 1000000 + wide_table(["var a={1,2}", "0,a,0,0,0,a"]), WIDE_DOT, WIDE_SPREAD, YES),
+    ("settings a million times", lambda: wide_table(["symmetries:rotate4"] * 1000000), WIDE_DOT, WIDE_DOT, "refused, bad table: syntax"),
+    ("10000 transitions that nearly fit under many orders", lambda: wide_table(nearly_fitting(10000), neighbourhood="Moore", symmetry="permute"), CROWD,
+     CROWD, YES),
+)
+
+
+def expect_in_time(tally, name, path, wanted):
+    """Runs the program on a claim text. It fails the test too where it takes longer than the bound."""
+    outcome, seconds = timed(["verify", path])
+    complaints = [] if outcome == wanted else [f"wanted: {wanted}", f"got:    {outcome}"]
+    tally.tell(f"{name}: {seconds:.2f} s", complaints + excess(seconds, MOST_WORK))
+
+
+def try_large_file(tally, folder, name, text, before, after, verdict):
+    """One rule file, and the claim that a pattern becomes another under its table."""
+    paths = []
+    for at, it in enumerate((text, before, after)):
+        paths.append(os.path.join(folder, f"f{at}"))
+        with open(paths[-1], "w", encoding="ascii") as file:
+            file.write(it)
+    claims = os.path.join(folder, "text.claims")
+    with open(claims, "w", encoding="ascii") as file:
+        file.write(f"rule {paths[0]}\nload a {paths[1]}\nload b {paths[2]}\nbecomes a 1 b\n")
+    expect_in_time(tally, name, claims, lines_outcome([(4, verdict)]))
+
+
+def try_many_rules(tally, folder):
+    """Thousands of rule files, the last of which a pattern names; and a rule line that comes again many times."""
+    count, lines = 5000, []
+    for at in range(count):
+        path = os.path.join(folder, f"r{at}")
+        with open(path, "w", encoding="ascii") as file:
+            file.write(wide_table(["var a={1,2}", "0,a,0,0,0,a"], name=f"W{at}"))
+        lines.append(f"rule {path}")
+    for name, text in (("a", WIDE_DOT), ("b", WIDE_SPREAD)):
+        path = os.path.join(folder, name)
+        with open(path, "w", encoding="ascii") as file:
+            file.write(text.replace("Wide", f"W{count - 1}"))
+        lines.append(f"load {name} {path}")
+    lines += ["becomes a 1 b"] * count
+    path = os.path.join(folder, "text.claims")
+    with open(path, "w", encoding="ascii") as file:
+        file.write("\n".join(lines) + "\n")
+    expect_in_time(tally, f"{count} rule files and claims", path, lines_outcome([(count + 3 + at, "yes") for at in range(count)]))
+    again = [lines[count - 1]] * 70000
+    with open(path, "w", encoding="ascii") as file:
+        file.write("\n".join([*again, *lines[count:count + 3]]) + "\n")
+    expect_in_time(tally, f"{len(again)} lines of one rule file", path, lines_outcome([(len(again) + 3, "yes")]))
+
+
 def main():
     tally = Tally()
     with tempfile.TemporaryDirectory() as folder:
         for it in (try_faults, try_symmetries_of_neighbourhoods, try_spellings, try_names, try_rule_lines, try_random_tables, try_mutilated_tables):
             it(tally, folder)
+    with tempfile.TemporaryDirectory() as folder:
+        for name, text, before, after, verdict in LARGE_FILES:
+            try_large_file(tally, folder, name, text(), before, after, verdict)
+        try_many_rules(tally, folder)
     tally.finish()
 
 

@@ -1,8 +1,9 @@
-"""A claim text that is made line by line, with its files, and what an explained run has to tell of it."""
+"""Claim texts that are made line by line, with their files, and what runs over them have to tell, explained and not."""
+import tempfile
 from dataclasses import dataclass, field
 
 from lib import remedies
-from lib.program import Folder, Outcome
+from lib.program import Folder, Outcome, run
 
 
 @dataclass(frozen=True)
@@ -80,3 +81,30 @@ class ClaimText:
     def write(self, name="text.claims"):
         """Writes the claim text, and gives its path."""
         return self.files.path(name, b"\n".join([*self.lines, b""]))
+
+
+class ClaimTexts:
+    """Claim texts in a folder of their own, tried with notes and without."""
+
+    def __init__(self, tally, folder):
+        self.tally, self.files = tally, Folder(folder)
+
+    def text(self):
+        """A new claim text, whose files stand in a folder of their own."""
+        return ClaimText(Folder(tempfile.mkdtemp(dir=self.files.folder)))
+
+    def judge(self, name, text):
+        """Runs the program over the text in both ways, and compares what it prints."""
+        path, complaints = text.write(), []
+        for words in (["verify", path], ["verify", "--explain", path], ["verify", path, "--explain"]):
+            got, wanted = run(words), outcome(text.answers, "--explain" in words)
+            if got != wanted:
+                lines = zip(got.printed.split(b"\n"), wanted.printed.split(b"\n"))
+                first = next((f"{at + 1}: wanted {right}, got {left}" for at, (left, right) in enumerate(lines) if left != right), "none in another")
+                complaints.append(f"{' '.join(words)}: wanted status {wanted.status}, got {got.status} and {got.complaint}; first other line {first}")
+        self.tally.tell(f"{name}: {len(text.answers)} claims", complaints)
+
+
+def differs(generations):
+    """The verdict of a claim that fails at some cell."""
+    return f"no, cells differ after {generations}"

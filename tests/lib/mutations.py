@@ -3,6 +3,7 @@ import os
 import re
 
 from lib.gallery import found
+from lib.macrocell import EDGE
 from lib.program import ROOT, contents
 
 KINDS = ("rle", "macrocell", "rule", "claims")
@@ -11,8 +12,6 @@ KINDS = ("rle", "macrocell", "rule", "claims")
 MOST_BYTES = 4000
 
 NUMBER = re.compile(rb"\d+")
-
-EDGE = 1 << 60
 
 # Numbers at limits. 2^24 isn't among them, since so many cells are allowed and take their time.
 NUMBERS = tuple(b"%d" % it for it in (

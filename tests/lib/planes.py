@@ -1,14 +1,23 @@
-"""Large planes of squares that don't repeat, as macrocells."""
+"""Large planes of squares that don't repeat, of macrocells and of cells that lie far apart."""
 import math
 import random
+
+from lib.macrocell import EDGE
+from lib.rows import Rows, text_of
+
+# The rule of a plane that grows in all directions.
+GROWING = "B2/S"
+
+# A glider that goes down and to the right, and the generations that far gliders go.
+GLIDER, FLIGHT = Rows(0, 0, (0b010, 0b100, 0b111)), 15
 
 
 def leaves(count):
     """So many different squares of 8 by 8 cells, each a line."""
     chance, found = random.Random(count), {}
     while len(found) < count:
-        rows = ("".join(chance.choices(".*", (3, 1), k=8)).rstrip(".") for _ in range(8))
-        found["".join(f"{row}$" for row in rows)] = True
+        lines = ("".join(chance.choices(".*", (3, 1), k=8)).rstrip(".") for _ in range(8))
+        found["".join(f"{row}$" for row in lines)] = True
     return list(found)
 
 
@@ -24,3 +33,37 @@ def distinct_squares(counts, rule):
         lines += [f"{level} {at} {at + 1} {at + 2} {at + 3}" for at in range(first, first + count, 4)]
         first, count = first + count, count // 4
     return "\n".join([*lines, ""]), level
+
+
+def distinct_leaves(count, level):
+    """The nodes of a square of this level, of which the first leaves, from nw to se, are all different: leaf i has a cell at the beginning of each of its
+    first four rows, and i's bits after them, five a row."""
+    rows = ["*" + "".join(".*"[bits >> at & 1] for at in range(5)).rstrip(".") + "$" for bits in range(32)]
+    lines = []
+
+    def build(first, level):
+        if first >= count:
+            return 0
+        if level == 3:
+            lines.append(f"{rows[first & 31]}{rows[first >> 5 & 31]}{rows[first >> 10 & 31]}{rows[first >> 15]}$$$$")
+        else:
+            parts = [build(first + (at << (2 * level - 8)), level - 1) for at in range(4)]
+            lines.append(f"{level} {parts[0]} {parts[1]} {parts[2]} {parts[3]}")
+        return len(lines)
+
+    build(0, level)
+    return lines, sum(4 + bin(it).count("1") for it in range(count))
+
+
+def explosion():
+    """A random square of 8 by 8 cells, which grows in all directions, and a pair of cells far from it, so that the first tree is large."""
+    chance = random.Random(1)
+    square = tuple(chance.getrandbits(8) for _ in range(8))
+    return Rows(0, 0, (square[0] | 3 << 600, *square[1:]))
+
+
+def far_gliders(count):
+    """A claim text's two patterns of so many gliders far from each other: as they are, and the same after FLIGHT generations."""
+    chance = random.Random(count)
+    places = [(chance.randrange(-EDGE // 2, EDGE // 2), chance.randrange(-EDGE // 2, EDGE // 2)) for _ in range(count)]
+    return [text_of("B3/S23", *(it.moved(*place) for place in places)) for it in (GLIDER, GLIDER.after("B3/S23", FLIGHT))]

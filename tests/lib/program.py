@@ -9,6 +9,9 @@ from dataclasses import dataclass
 ROOT = os.path.dirname(os.path.dirname(os.path.dirname(os.path.abspath(__file__))))
 PROGRAM = os.environ.get("CAFILE", os.path.join(ROOT, "crates", "cafile", "out", "cafile"))
 
+# The most bytes that a file may have.
+MAX_FILE = 67108864
+
 # A run that takes so many seconds of a processor is ended by the system, and one that doesn't end in so many by the clock, though it waits, is ended here.
 MOST_SECONDS, MOST_WAITING = 200, 3000
 
@@ -46,6 +49,11 @@ def file_word(path):
 def ample(text):
     """The outcome of a run that prints this."""
     return Outcome(text, b"", 0)
+
+
+def figures(generation, cells, box, kind="macrocell", rule="B3/S23"):
+    """The outcome of `show`."""
+    return ample(f"format {kind}\nrule {rule}\ngen {generation}\ncells {cells}\nbox {box}\n".encode())
 
 
 def lines_outcome(verdicts):
@@ -89,6 +97,27 @@ class Folder:
             with open(path, "wb") as file:
                 file.write(content if isinstance(content, bytes) else content.encode())
         return path
+
+
+class Runs(Folder):
+    """Files in a folder of their own, and runs over them of which one test tells."""
+
+    def __init__(self, folder):
+        super().__init__(folder)
+        self.complaints, self.count = [], 0
+
+    def expect(self, name, words, wanted, **how):
+        """Runs the program with these words, and expects this."""
+        got = run(words, **how)
+        self.count += 1
+        if got != wanted:
+            told = " ".join(os.path.basename(os.fsdecode(it)) for it in words)
+            self.complaints.append(f"{name}, {told}: wanted {wanted}, got {got}")
+
+    def tell(self, tally, name):
+        """Tells the runs up to here as one test."""
+        tally.tell(f"{name}: {self.count} runs", self.complaints)
+        self.complaints, self.count = [], 0
 
 
 class Tally:

@@ -3,7 +3,7 @@ import functools
 import os
 import re
 
-from lib.program import ROOT, escaped, file_word
+from lib.program import ROOT, Outcome, escaped, file_word
 
 
 @functools.cache
@@ -88,3 +88,10 @@ def line_after(told, note, before=b"", folder=ROOT):
         with open(place, "rb") as file:
             data = file.read()
     return line(told, path, data, rule, before)
+
+
+def explained(told, note):
+    """The outcome of a run that complains of this, and explains it by this note, and tells what helps, where something does."""
+    note = note if isinstance(note, bytes) else note.encode()
+    helps = line_after(f"cafile: {told}" if told in ("too many cells", "work") else told, note)
+    return Outcome(b"", f"cafile: {told}\n".encode() + b"  " + note + b"\n" + helps, 2)

@@ -1,86 +1,17 @@
 #!/usr/bin/env -S python3 -B
-"""Claim texts, pattern files and rule texts too small and too many for examples/: what each has to come to was worked out by hand.
+"""RLE texts and the rules that they name: which cells a text holds, which texts are faulty, which spell a rule, and how rules and rows are printed.
 
-Which cells a file holds is asked by `becomes read 0 plain`, where the plain file spells out the same cells one by one, from another corner.
+What each has to come to was worked out by hand. Which cells a file holds is asked by `becomes read 0 plain`, where the plain file spells out the same cells one
+by one, from another corner.
 """
 import itertools
-import os
 import tempfile
 
-from lib.program import Outcome, Tally, fault, lines_outcome, run
-
-# 2^60: the cells of files lie from -EDGE to EDGE - 1.
-EDGE = 1152921504606846976
+from lib.claim_table import ClaimTable
+from lib.macrocell import EDGE
+from lib.program import Folder, Tally, ample, figures, run
 
 HEADER = "x = 3, y = 3, rule = B3/S23\n"
-
-# Claim texts with a fault, and the fault.
-FAULTS = (
-    ("still q\n", "1: unknown name"),
-    ("still b\nload b block.rle\n", "1: unknown name"),
-    ("load a p\nbecomes a 1 b", "2: unknown name"),
-    ("load a p\nload a q\n", "2: name taken"),
-    ("gun a\n", "1: syntax"),
-    ("load a\n", "1: syntax"),
-    ("load a b c\n", "1: syntax"),
-    ("LOAD a p\n", "1: syntax"),
-    ("load# a p\n", "1: syntax"),
-    ("load a p\nrule", "2: syntax"),
-    ("rule r\nrule r q\n", "2: syntax"),
-    ("rules r\n", "1: syntax"),
-    ("load a p\nstill a\nrule r\nstill r\n", "4: unknown name"),
-    ("load a p\nstill a a\n", "2: syntax"),
-    ("load a p\nstill\n", "2: syntax"),
-    ("load a p\noscillator a", "2: syntax"),
-    ("load a p\noscillator a x", "2: syntax"),
-    ("load a p\noscillator a -2", "2: syntax"),
-    ("load a p\nspaceship a 4 1", "2: syntax"),
-    ("load a p\nspaceship a 4 +1 1", "2: syntax"),
-    ("load a p\nspaceship a 4 1 --1", "2: syntax"),
-    ("load a p\nspaceship a 4 1 -", "2: syntax"),
-    ("load a p\nspaceship a 0 1 x", "2: syntax"),
-    ("load a p\nbecomes a 1", "2: syntax"),
-    ("load a p\nbecomes a a 1", "2: syntax"),
-    ("load a p\nbecomes a 1 a a", "2: syntax"),
-    ("load a p\noscillator a 1", "2: number"),
-    ("load a p\noscillator a 0", "2: number"),
-    ("load a p\noscillator a 4294967296", "2: number"),
-    ("load a p\nspaceship a 4 0 0", "2: number"),
-    ("load a p\nspaceship a 1 -0 0", "2: number"),
-    ("load a p\nspaceship a 0 1 1", "2: number"),
-    ("load a p\nspaceship a 1 0 1152921504606846977", "2: number"),
-    ("load a p\nspaceship a 1 -1152921504606846977 0", "2: number"),
-    ("load a p\nspaceship a 1 -9999999999999999999999999999999999999999 1", "2: number"),
-    ("load a p\nbecomes a 1152921504606846977 a", "2: number"),
-    ("load a p\nbecomes a 9999999999999999999999999999999999999999 a", "2: number"),
-    # The number is told, not the name.
-    ("oscillator b 0", "1: number"),
-)
-
-# Claim texts without a fault, and their verdicts.
-CLAIM_TEXTS = {
-    "numbers at their limits": (
-        f"load a lost.rle\noscillator a 4294967295\nbecomes a {EDGE} a\nspaceship a 1 -{EDGE} 0\nspaceship a 0004 -000 {EDGE}\n",
-        [(at, "refused, no file") for at in (2, 3, 4, 5)],
-    ),
-    "rule files of no claim": ("rule lost.rule\nload a lost.rle\nrule lost.rle\n\n rule  lost.rule\r\n", []),
-    "numbers with leading zeros": (
-        "load a examples/glider.rle\nload b tests/files/lwss.rle\nspaceship a 0004 1 01\nspaceship b 4 -002 -000\nbecomes a 000 a\noscillator a 002\n",
-        [(3, "yes"), (4, "yes"), (5, "yes"), (6, "no, cells differ after 2")],
-    ),
-    "two names of one path": (
-        "load a examples/block.rle\nload b examples/blinker.rle\nload c examples/block.rle\nbecomes b 0 c\nbecomes a 0 c\nbecomes c 0 b\nbecomes b 2 b\n",
-        [(4, "no, cells differ after 0"), (5, "yes"), (6, "no, cells differ after 0"), (7, "yes")],
-    ),
-    "lines that end with CR LF": (
-        "# two patterns\r\n\r\n\tload a  tests/files/beehive.rle \r\n  #still a\r\nload b examples/blinker.rle\r\nstill b\r\n\r\nstill a",
-        [(6, "no, cells differ after 1"), (8, "yes")],
-    ),
-    "a file that is not there": (
-        "# patterns\nload b examples/block.rle\n\nload m lost.rle\nload c examples/block.rle\nstill b\nstill m\n still c\r\nstill b",
-        [(6, "yes"), (7, "refused, no file"), (8, "yes"), (9, "yes")],
-    ),
-}
 
 # Bodies after a usual header, and their live cells.
 BODIES = (
@@ -129,14 +60,16 @@ BAD_BODIES = (
     ("1 2o!", "syntax"), ("3 4o!", "syntax"), ("p A!", "syntax"), ("o#!", "syntax"), ("o # o!", "syntax"), ("0yP!", "syntax"),
     ("99999999999999999999b2!", "syntax"), ("99999999999999999999999999999999999999999o?", "syntax"),
     ("yP!", "bad state"), ("yX!", "bad state"),
-    ("9999999999999999999b!", "range"), ("99999999999999999999999999999999999999999b!", "range"), (f"{4 * EDGE + 1}b!", "range"), (f"{4 * EDGE + 1}$!", "range"),
+    ("9999999999999999999b!", "range"), ("99999999999999999999999999999999999999999b!", "range"), (f"{4 * EDGE + 1}b!", "range"),
+    (f"{4 * EDGE + 1}$!", "range"),
     (f"{EDGE}bo!", "range"), (f"{4 * EDGE}$o!", "range"), (f"{4 * EDGE}${4 * EDGE}$o!", "range"), (f"{EDGE + 1}o!", "range"),
     ("16777217o!", "too many cells"), (f"{EDGE}o!", "too many cells"),
 )
 
 # Whole files, and what is wrong with them.
 BAD_FILES = (
-    ("", "header"), ("#C only a comment", "header"), ("#C only a comment\n", "header"), (" [M2]\n", "header"), ("[M1]\n", "header"), ("[M2", "header"), ("bo$!", "header"), ("bo$2bo$3o!", "header"),
+    ("", "header"), ("#C only a comment", "header"), ("#C only a comment\n", "header"), (" [M2]\n", "header"), ("[M1]\n", "header"), ("[M2", "header"),
+    ("bo$!", "header"), ("bo$2bo$3o!", "header"),
     ("\ufeffx = 1, y = 1\no!", "header"), ("x = 3, y = 3,\n3o!", "header"), ("x = 3, y = 3, rules = B3/S23\no!", "header"), ("X = 3, y = 3\n3o!", "header"),
     ("x = -3, y = 3\n3o!", "header"), ("x = 3, y = \n3o!", "header"), ("x = 3\ny = 3\n3o!", "header"), ("#r 23/3\nx = 1, y = 1,\no!", "header"),
     ("#r 23/3\nx = 1, y = 1\no!", "xlife rule"), ("#r 23/3\nx = 1, y = 1\n0o!", "xlife rule"), (" #r\t\n# c\nx = 1, y = 1, rule =\no!", "xlife rule"),
@@ -237,6 +170,23 @@ COUNTED = (
     ("B1/SH", "B/S6H", [(-1, -1), (0, -1), (-1, 0), (1, 0), (0, 1), (1, 1)]),
 )
 
+# A name longer than the printed form of any other rule.
+LONG_NAME = "A-rule-whose-name-is-longer-than-any-printed-form"
+
+TABLE = f"@RULE {LONG_NAME}\n@TABLE\nn_states:3\nneighborhood:vonNeumann\nsymmetries:rotate4\nvar a={{1,2}}\n0a000a\n"
+
+# Rows of cells at every second place and what stands beside them, and their text: an item that doesn't fit goes to the next line whole, the end too.
+FOLDED = (
+    ("every second of 79 cells", "x = 79, y = 1\n" + "ob" * 39 + "o!", "x = 79, y = 1, rule = B3/S23\n" + "ob" * 35 + "\n" + "ob" * 4 + "o!\n"),
+    ("an end alone", "x = 70, y = 1\n" + "ob" * 34 + "2o!", "x = 70, y = 1, rule = B3/S23\n" + "ob" * 34 + "2o\n!\n"),
+    ("an item of two bytes", "x = 68, y = 2\nbo$" + "ob" * 33 + "2o!", "x = 68, y = 2, rule = B3/S23\nbo$" + "ob" * 33 + "\n2o!\n"),
+)
+
+
+def block(rule):
+    """A block under this rule."""
+    return f"x = 2, y = 2, rule = {rule}\n2o$2o!\n"
+
 
 def plain(cells, rule="B3/S23"):
     """A file of these cells, with no counts, from the corner above and left of them where that is in range."""
@@ -249,68 +199,9 @@ def plain(cells, rule="B3/S23"):
     return f"#CXRLE Pos={left},{top}\nx = 1, y = 1, rule = {rule}\n{'$'.join(rows)}!\n"
 
 
-class Table:
-    """Claims about files that are written for them, judged in one run."""
-
-    def __init__(self, folder):
-        self.folder = tempfile.mkdtemp(dir=folder)
-        self.names = {}
-        self.claims = []
-
-    def name(self, text):
-        """The name of a file of this text, which is written where there is none."""
-        content = text if isinstance(text, bytes) else text.encode()
-        if content not in self.names:
-            self.names[content] = f"p{len(self.names)}"
-            with open(self.path(self.names[content]), "wb") as file:
-                file.write(content)
-        return self.names[content]
-
-    def path(self, name):
-        """The path of the file with this name."""
-        return os.path.join(self.folder, name)
-
-    def still(self, text, verdict):
-        """Claims that the text's pattern is a still life, which has to come to this verdict."""
-        self.claims.append((f"still {self.name(text)}", verdict, text))
-
-    def becomes(self, text, generations, other, verdict="yes"):
-        """Claims that the text's pattern becomes the other's."""
-        self.claims.append((f"becomes {self.name(text)} {generations} {self.name(other)}", verdict, (text, other)))
-
-    def judge(self, tally, what):
-        """Runs the program, and compares the lines that it prints."""
-        loads = [f"load {name} {self.path(name)}" for name in self.names.values()]
-        text = self.path("text.claims")
-        with open(text, "w", encoding="ascii") as file:
-            file.write("\n".join([*loads, *(claim for claim, _, _ in self.claims)]) + "\n")
-        outcome = run(["verify", text])
-        wanted = lines_outcome([(len(loads) + 1 + at, verdict) for at, (_, verdict, _) in enumerate(self.claims)])
-        pairs = itertools.zip_longest(outcome.printed.split(b"\n"), wanted.printed.split(b"\n"), self.claims)
-        complaints = [f"wanted {right}, got {left}, of {asked}" for left, right, asked in pairs if left != right]
-        if (outcome.complaint, outcome.status) != (wanted.complaint, wanted.status):
-            complaints.append(str(Outcome(b"", outcome.complaint, outcome.status)))
-        tally.tell(f"{what}: {len(self.claims)}", complaints)
-
-
-def try_claim_texts(tally, folder):
-    """Claim texts with a fault and without one."""
-    path = os.path.join(folder, "text.claims")
-
-    def ran(text):
-        with open(path, "w", encoding="ascii", newline="") as file:
-            file.write(text)
-        return run(["verify", path])
-
-    for text, told in FAULTS:
-        tally.expect(f"the fault {told}, of {text!r}", ran(text), fault(f"claims line {told}"))
-    for what, (text, verdicts) in CLAIM_TEXTS.items():
-        tally.expect(what, ran(text), lines_outcome(verdicts))
-
-
 def try_cells(tally, folder):
     """Files that hold these cells and no others."""
-    table = Table(folder)
+    table = ClaimTable(folder)
     for text, cells in [*((HEADER + body, cells) for body, cells in BODIES), *FILES]:
         table.becomes(text, 0, plain(cells))
         table.becomes(text, 0, plain(cells[1:] if cells else [(0, 0)]), "no, cells differ after 0")
@@ -319,7 +210,7 @@ def try_cells(tally, folder):
 
 def try_faults(tally, folder):
     """Files that don't read."""
-    table = Table(folder)
+    table = ClaimTable(folder)
     for text, told in [*((HEADER + body, told) for body, told in BAD_BODIES), *BAD_FILES]:
         table.still(text, f"refused, bad pattern: rle {told}")
     table.judge(tally, "files that do not read")
@@ -328,7 +219,7 @@ def try_faults(tally, folder):
 def try_cut_text(tally, folder):
     """A text cut at each place."""
     text = HEADER + "b2o$2o$bo!"
-    table = Table(folder)
+    table = ClaimTable(folder)
     for length in range(len(text)):
         # A header without a rule, or with a rule of one letter at least, stands there whole.
         is_headed = length == len("x = 3, y = 3") or length >= len("x = 3, y = 3, rule =")
@@ -339,7 +230,7 @@ def try_cut_text(tally, folder):
 
 def try_each_byte(tally, folder):
     """Bodies of one byte and an end."""
-    table = Table(folder)
+    table = ClaimTable(folder)
     for byte in range(256):
         verdict = "refused, bad pattern: rle syntax"
         if byte in b"b.$! \t\r\n":
@@ -356,17 +247,14 @@ def try_each_byte(tally, folder):
 
 def try_rules(tally, folder):
     """Texts that name a rule, and which are of one rule; and texts that name none."""
-    def block(rule):
-        return f"x = 2, y = 2, rule = {rule}\n2o$2o!\n"
-
-    table = Table(folder)
+    table = ClaimTable(folder)
     for printed, texts in SPELLINGS.items():
         for text in texts.split():
             table.becomes(block(text), 0, block(printed))
     for one, other in itertools.permutations([*SPELLINGS, "B3/S2", "B3/S23H"], 2):
         table.becomes(block(one), 0, block(other), "refused, mixed rules")
     table.judge(tally, "spellings of rules")
-    table = Table(folder)
+    table = ClaimTable(folder)
     for told, texts in NO_RULES.items():
         for text in texts.split():
             table.still(block(text), f"refused, bad rule: {told}")
@@ -375,7 +263,7 @@ def try_rules(tally, folder):
 
 def try_patterns(tally, folder):
     """Patterns under rules of each neighbourhood."""
-    table = Table(folder)
+    table = ClaimTable(folder)
     for rule, body, verdict in STILL_LIFES:
         table.still(f"x = 1, y = 1, rule = {rule}\n{body}\n", verdict)
     large, other = "x = 1, y = 1, rule = B3/S23\nB!", plain([(0, 0)], "B3/S2")
@@ -391,10 +279,27 @@ def try_patterns(tally, folder):
     table.judge(tally, "patterns and their rules")
 
 
+def try_printed_rules(tally, folder):
+    """Each spelling of a rule in its printed form, and the name of a rule file's table."""
+    files = Folder(folder)
+    for printed, texts in SPELLINGS.items():
+        for text in (printed, *texts.split()):
+            tally.expect(f"the rule {text}", run(["show", files.path("block.rle", block(text))]), figures(0, 4, "0 0 2 2", "rle", printed))
+    table = files.path("long.rule", TABLE)
+    tally.expect("a long name", run(["show", files.path("block.rle", block(LONG_NAME)), "--rule", table]), figures(0, 4, "0 0 2 2", "rle", LONG_NAME))
+
+
+def try_printed_rows(tally, folder):
+    """Lines of 70 bytes at most."""
+    for name, text, wanted in FOLDED:
+        path = Folder(folder).path("rows.rle", text)
+        tally.expect(name, run(["convert", path, "--to", "rle"]), ample(f"#CXRLE Pos=0,0\n{wanted}".encode()))
+
+
 def main():
     tally = Tally()
     with tempfile.TemporaryDirectory() as folder:
-        for it in (try_claim_texts, try_cells, try_faults, try_cut_text, try_each_byte, try_rules, try_patterns):
+        for it in (try_cells, try_faults, try_cut_text, try_each_byte, try_rules, try_patterns, try_printed_rules, try_printed_rows):
             it(tally, folder)
     tally.finish()
 

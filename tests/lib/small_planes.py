@@ -1,16 +1,11 @@
-#!/usr/bin/env -S python3 -B
-"""Leaps beside the naive steps of lib/steps.py: random planes under random rules and tables, anywhere on the plane, and small patterns that come back, after
-any number of generations."""
-import random
-import tempfile
-
+"""Small planes beside naive steps, and claims about them: random ones, and patterns that come back."""
 from lib import rle, steps
 from lib.claim_text import ClaimText, outcome
-from lib.program import Folder, Tally, run
-from tables import random_tables
+from lib.macrocell import EDGE
+from lib.program import run
 
-# Cells of files lie from -EDGE to EDGE - 1. The longest period, and the most cells of a plane that is stepped here.
-EDGE, LONGEST, MOST = 1 << 60, (1 << 32) - 1, 3000
+# The longest period, and the most cells of a plane that is stepped here.
+LONGEST, MOST = (1 << 32) - 1, 3000
 
 # Small patterns that come back, each with its rule, found by a search of random ones: oscillators of the periods 2 to 26, and spaceships.
 RETURNING = (
@@ -98,22 +93,6 @@ def stepped(cells, rule, count):
     return cells, count
 
 
-def try_planes(tally, files):
-    """Random planes under random rules and tables, anywhere."""
-    chance = random.Random(60)
-    rules = [(random_rule(chance), None) for _ in range(60)]
-    rules += [(table, it) for it, table in random_tables(chance, 2)]
-    text = Text(files)
-    for rule, made in rules:
-        if made:
-            text.rule(made.text)
-        cells = made.cells if made else random_cells(chance, chance.randint(1, 12), chance.randint(1, 12), 2)
-        later, count = stepped(cells, rule, chance.choice((1, 2, 3, 4, 5, 7, 8, 9, 15, 16, 17, 24, 31, 32, 33, 40)) if len(rule.ring) < 8 or not made else 5)
-        at = chance.choice(CORNERS), chance.choice(CORNERS)
-        text.becomes(chance, moved(cells, at), rule, count, moved(later, at))
-    judge(tally, "random planes", text)
-
-
 class Returning:
     """A pattern that comes back after its period, the least, moved by a vector."""
 
@@ -177,24 +156,3 @@ def claim_returns(chance, text, it):
         later = moved(it.after(count), at)
         if all(-EDGE <= part < EDGE for place in later for part in place):
             text.becomes(chance, moved(it.planes[0], at), it.rule, count, later)
-
-
-def try_returns(tally, files):
-    """Patterns that come back."""
-    chance = random.Random(61)
-    for name, body in RETURNING:
-        text, it = Text(files), returning(name, body)
-        claim_returns(chance, text, it)
-        judge(tally, f"{name}, {body}, period {it.period}, moved by {it.vector}", text)
-
-
-def main():
-    tally = Tally()
-    with tempfile.TemporaryDirectory() as folder:
-        for it in (try_planes, try_returns):
-            it(tally, Folder(folder))
-    tally.finish()
-
-
-if __name__ == "__main__":
-    main()
