@@ -249,7 +249,7 @@ def try_more(tally, files):
     """On a terminal a run with a refusal or a fault of which there is more to tell ends with a line that says so, once; explained, and elsewhere, none does."""
     unknown, full, lost = "examples/unknown.rle", "examples/macrocell/full_square.mc", "examples/lost.rle"
     bad = files.path("bad.rule", "faulty")
-    mixed = files.path("mixed.claims", "load a examples/block.rle\nload b examples/generations/brain.rle\nbecomes a 0 a\n")
+    mixed = files.path("mixed.claims", "load a examples/block.rle\nload b tests/files/generations/brians_brain_oscillator.rle\nbecomes a 0 b\n")
     has_more = (
         ["show", unknown], ["convert", unknown, "--to", "mc"], ["draw", unknown], ["show", "examples/bad/syntax.rle"], ["convert", full, "--to", "rle"],
         ["show", unknown, "--rule", bad],
