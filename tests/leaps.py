@@ -19,8 +19,8 @@ from lib.program import ROOT, Folder, Tally, contents
 from lib.rows import Rows, text_of
 from lib.work import excess, timed
 
-# How many times the known work a run may take.
-BOUND = 800
+# How many times the known work a run may take, and one that mostly waits for memory, which a busy machine makes slower than all else.
+BOUND, WAITING = 400, 1000
 
 # The bytes of address space that a run has which is to want memory.
 SPACE = 25_000_000
@@ -368,7 +368,7 @@ def try_a_million_squares(claims):
     text.load("plane", content)
     text.load("nothing", "x = 1, y = 1, rule = B/S\n!")
     text.claim("becomes plane 32 nothing", "yes")
-    claims.judge("a plane of 1398132 squares", text)
+    claims.judge("a plane of 1398132 squares", text, most=WAITING)
 
 
 def try_beside_many_squares(claims):
@@ -379,7 +379,7 @@ def try_beside_many_squares(claims):
     text.load_path("gun", "examples/gun.rle")
     text.load("far", f"#CXRLE Pos={-FAR},{-FAR}\nx = 1, y = 1, rule = B3/S23\n{far}!\n")
     text.claim(f"becomes gun {count} far", f"no, cells differ after {count}")
-    claims.judge("a gun beside cells far apart", text)
+    claims.judge("a gun beside cells far apart", text, most=WAITING)
 
 
 def try_dense_beside_sparse(claims):
@@ -415,7 +415,7 @@ def try_want_of_memory(claims):
     for claim, verdict in (("still block", "yes"), (f"becomes soup {FAR} soup", "refused, memory"), (f"becomes block {FAR} block", "yes"),
                            (f"oscillator soup {LONGEST}", "refused, memory"), (f"spaceship soup {LONGEST} 1 1", "refused, memory"), ("still block", "yes")):
         text.claim(claim, verdict)
-    claims.judge("want of memory", text, preexec_fn=lambda: resource.setrlimit(resource.RLIMIT_AS, (SPACE, SPACE)))
+    claims.judge("want of memory", text, most=WAITING, preexec_fn=lambda: resource.setrlimit(resource.RLIMIT_AS, (SPACE, SPACE)))
 
 
 def main():
