@@ -1,17 +1,14 @@
 -- What holds of each kind of claim: a further kind adds its case here.
-use Rattle.std.proofs.Common.{◌≡◌, ◌∷◌, map, ◌≤◌, Option, None, Some, option_map, refl, sym, ap, subst, ◌∙◌, arith}
+use Rattle.std.proofs.Common.{◌≡◌, ◌∷◌, ◌≤◌, refl, sym, subst, ◌∙◌, arith}
 use Rattle.std.specs.Prelude.{pos}
-use Rattle.std.specs.List.{AllByRecursion}
-use Rattle.std.specs.Option.{option_to_list}
 use Rattle.std.proofs.lemmas.Int.{ints}
-use Rattle.ca_text.specs.declared.line.Claim.{Claim as ClaimOf}
 use Rattle.ca_text.specs.declared.line.Kind.{Kind}
 use Rattle.ca_text.specs.declared.line.Kind.TheVariants.{Still, Oscillator, Spaceship, Becomes, BecomesShifted, Dies}
 use Rattle.ca_text.specs.declared.asks.Asks.{Asks}
 use Rattle.ca_text.specs.declared.asks.Barred.{Barred}
 use Rattle.ca_text.specs.declared.asks.Barred.TheVariants.{Nothing, InPlace, Anywhere, EmptyPlane}
 use Rattle.ca_plane.specs.Limits.{most_generations}
-use Rattle.ca_text.specs.Text.{patterns_of, map_patterns, IsShift, HasGoodNumbers}
+use Rattle.ca_text.specs.Text.{IsShift, HasGoodNumbers}
 use Rattle.ca_text.specs.Asks.{asks_of}
 use Rattle.ca_claims.specs.inner.Decided.{BarsReturns, IsBounded}
 

@@ -1,9 +1,7 @@
 -- Which claims are true of pictures under a rule, and what a verdict has to show (our own; docs/CLAIMS.md).
-use Rattle.std.specs.Prelude.{◌≡◌, ◌≢◌, ℕ, ◌≤◌, ◌<◌, ℤ, pos, List, [], true, false, IsTrue}
+use Rattle.std.specs.Prelude.{◌≡◌, ◌≢◌, ℕ, ◌≤◌, ◌<◌, ℤ, pos, List, [], IsTrue}
 use Rattle.ca_plane.specs.Plane.{Picture, cell, shifted, IsLive}
 use Rattle.ca_plane.specs.Generations.{after, IsAfter}
-use Rattle.ca_text.specs.declared.line.Kind.{Kind}
-use Rattle.ca_text.specs.declared.line.Kind.TheVariants.{Still, Oscillator, Spaceship, Becomes, BecomesShifted, Dies}
 use Rattle.ca_text.specs.declared.asks.Asks.{Asks}
 use Rattle.ca_text.specs.declared.asks.Wanted.{Wanted}
 use Rattle.ca_text.specs.declared.asks.Wanted.TheVariants.{Own, Other, NoCells}

@@ -1,8 +1,6 @@
 -- A pattern that was read for a claim, and why one isn't.
 use Rattle.std.specs.Prelude.{◌≡◌, ℕ, ◌<◌, List, [], ◌∷◌, Option, ◌⊎◌}
 use Rattle.std.specs.List.{AllByRecursion}
-use Rattle.ca_text.specs.declared.one_or_two.OneOrTwo.{OneOrTwo}
-use Rattle.ca_text.specs.declared.one_or_two.OneOrTwo.TheVariants.{One, Two}
 use Rattle.ca_claims.specs.declared.ruled.RuledPattern.{RuledPattern}
 use Rattle.ca_claims.specs.declared.ruled.UnnamedRule.{UnnamedRule}
 use Rattle.ca_claims.specs.declared.decide.ClaimTrees.{ClaimTrees}

@@ -4,7 +4,7 @@ ghost use Rattle.std.specs.Prelude.{◌≡◌, ◌≤◌, ◌++◌, ◌∷◌, [
 ghost use Rattle.ca_plane.specs.Limits.{longest_period};
 ghost use Rattle.ca_quad.specs.Boxes.{AreSquareBoxes};
 ghost use Rattle.ca_quad.specs.Trees.{IsTree, IsTrimmed, cell};
-ghost use Rattle.ca_run.specs.Leaping.{LeaperGrows, EndsAtLimit};
+ghost use Rattle.ca_run.specs.Leaping.{LeaperGrows};
 ghost use Rattle.ca_claims.specs.inner.Stages.{IsFirst, AreEarly};
 
 use super::later::later_tree;
