@@ -5,7 +5,8 @@ use Rattle.std.proofs.lemmas.Int.{ints}
 use Rattle.ca_quad.specs.declared.node.Node.{Node}
 use Rattle.ca_quad.specs.declared.tree.Tree.{Tree}
 use Rattle.ca_quad.specs.Squares.{cell_of}
-use Rattle.ca_quad.specs.Trees.{IsEmpty, from_corner, cell}
+use Rattle.ca_quad.specs.Trees.{IsEmpty, cell}
+use Rattle.ca_plane.specs.Shown.{from_corner}
 use Rattle.ca_quad.specs.Boxes.{IsDead}
 use Rattle.ca_quad.proofs.Differ.{cell_at}
 

@@ -11,7 +11,7 @@ use Rattle.ca_quad.specs.declared.tree.Tree.{Tree}
 use Rattle.ca_quad.specs.Boxes.{IsDead}
 use Rattle.ca_quad.specs.Trees as trees
 use Rattle.ca_run.specs.declared.fault.LeapFault.{LeapFault}
-use Rattle.ca_run.proofs.After.{after_same}
+use Rattle.ca_plane.proofs.After.{after_same}
 use Rattle.ca_text.specs.declared.line.Kind.TheVariants as kind
 use Rattle.ca_claims.specs.declared.identification.ending.Ending.TheVariants.{Death}
 use Rattle.ca_claims.specs.declared.identification.stage.First.{First}

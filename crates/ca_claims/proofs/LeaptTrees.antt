@@ -13,7 +13,7 @@ use Rattle.ca_quad.specs.Trees.{IsTree, cell}
 use Rattle.ca_quad.specs.Shifted.{shifted_cells}
 use Rattle.ca_quad.proofs.Cells.{of_stays}
 use Rattle.ca_quad.proofs.Trims.{trees_stay}
-use Rattle.ca_run.proofs.After.{after_same}
+use Rattle.ca_plane.proofs.After.{after_same}
 use Rattle.ca_text.specs.declared.asks.Asks.{Asks}
 use Rattle.ca_text.specs.declared.asks.Wanted.{Wanted}
 use Rattle.ca_claims.specs.declared.decide.ClaimTrees.{ClaimTrees}

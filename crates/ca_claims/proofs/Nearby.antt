@@ -5,7 +5,7 @@ use Rattle.std.proofs.lemmas.Bool.{cases_eq}
 use Rattle.std.proofs.lemmas.Int.{ints}
 use Rattle.ca_plane.specs.Sparse.{IsInPlane}
 use Rattle.ca_plane.specs.Generations.{cells_after}
-use Rattle.ca_run.proofs.After.{after_dead}
+use Rattle.ca_plane.proofs.After.{after_dead}
 use Rattle.ca_macro.specs.Pattern.{AreInRange}
 
 -- where cells are in range, few generations later

@@ -17,7 +17,7 @@ use Rattle.ca_macro.specs.Faults.{IsFirstMacrocellFault, IsFirstMacrocellFaultOn
 use Rattle.ca_macro.proofs.OneMeaning as macrocell
 use Rattle.ca_rule.specs.TableNext.{TableRule}
 use Rattle.ca_rule.specs.Rule.{RuleValue, next_of}
-use Rattle.ca_run.proofs.After.{after_same, after_seen}
+use Rattle.ca_plane.proofs.After.{after_same, after_seen}
 use Rattle.ca_run.proofs.Returns.{after_stands, back_times, vector_times}
 use Rattle.ca_run.proofs.Vectors.{no_vector, live-moved}
 use Rattle.ca_text.specs.declared.asks.Barred.TheVariants.{InPlace, Anywhere, EmptyPlane}

@@ -11,7 +11,7 @@ use Rattle.ca_quad.specs.Trees as trees
 use Rattle.ca_rule.specs.TableNext.{TableRule}
 use Rattle.ca_rule.specs.Rule.{RuleValue, rule_value, next_of}
 use Rattle.ca_macro.specs.Pattern.{AreInRange}
-use Rattle.ca_run.proofs.After.{after_same}
+use Rattle.ca_plane.proofs.After.{after_same}
 use Rattle.ca_run.proofs.Costs.{power_more}
 use Rattle.ca_claims.specs.declared.conversion.ConvertFault.{ConvertFault}
 use Rattle.ca_claims.specs.declared.conversion.ConvertFault.TheVariants.{BadPattern, BadRule, StateTooLarge, TooManyCells, Memory}

@@ -12,10 +12,10 @@ use Rattle.ca_quad.specs.declared.tree.WideBounds.{WideBounds}
 use Rattle.ca_quad.specs.Sound.{IsSoundStore, Grows}
 use Rattle.ca_quad.specs.Boxes.{IsLeastWideBox, IsInWideBox, AreSquareBoxes}
 use Rattle.ca_quad.specs.Trees.{cell, IsTrimmed, HoldsAll}
-use Rattle.ca_quad.proofs.Growth.{below_or_not}
+use Rattle.ca_plane.proofs.Numbers.{below_or_not}
 use Rattle.ca_quad.proofs.Measures.{boxes_stay}
 use Rattle.ca_quad.proofs.Trims.{trees_stay}
-use Rattle.ca_run.proofs.After.{after_same, after_again}
+use Rattle.ca_plane.proofs.After.{after_same, after_again}
 use Rattle.ca_run.proofs.Costs.{power_more, power_suc}
 use Rattle.ca_claims.specs.Identified.{run_work}
 use Rattle.ca_plane.specs.Limits.{longest_period}

@@ -13,9 +13,9 @@ use Rattle.ca_quad.specs.Shifted.{shifted_cells}
 use Rattle.ca_quad.specs.Sound.{IsSoundStore, Grows}
 use Rattle.ca_quad.specs.Trees.{cell, HoldsAll}
 use Rattle.ca_quad.specs.declared.tree.Tree.{Tree}
-use Rattle.ca_quad.proofs.Growth.{below_or_not}
+use Rattle.ca_plane.proofs.Numbers.{below_or_not}
 use Rattle.ca_quad.proofs.Trims.{trees_stay}
-use Rattle.ca_run.proofs.After.{after_same, after_seen, after_again, after_dead}
+use Rattle.ca_plane.proofs.After.{after_same, after_seen, after_again, after_dead}
 use Rattle.ca_run.proofs.Returning.{settles_alike}
 use Rattle.ca_claims.specs.declared.identification.stage.First.{First}
 use Rattle.ca_claims.specs.declared.identification.stage.Stage.TheVariants.{Other}

@@ -1,7 +1,6 @@
 //! Whether a claim is true of patterns that stand in a leaper's store, by leaps.
 
-ghost use Rattle.std.specs.Prelude.{◌≡◌, ◌≢◌, ◌⊎◌, ℤ, None, IfOk, IsOk};
-ghost use Rattle.std.specs.Prelude.{IfSome, IsTrue, IsFalse, MatchOption};
+ghost use Rattle.std.specs.Prelude.{◌≡◌, ◌≢◌, ◌⊎◌, ℤ, None, IfOk, IsOk, IfSome, IsTrue, IsFalse, MatchOption};
 ghost use Rattle.ca_plane.specs.Plane.{Picture, cell as plane_cell};
 ghost use Rattle.ca_plane.specs.Generations.{after, IsAfter};
 ghost use Rattle.ca_quad.specs.Boxes.{IsDead};

@@ -7,8 +7,7 @@ ghost use Rattle.ca_rule.specs.TableFaults.{IsTableTextFault};
 ghost use Rattle.ca_rule.specs.declared.fault.RuleFault.TheVariants as rule_fault;
 ghost use Rattle.ca_rule.specs.declared.table.fault.TableFault.TheVariants as table_fault;
 ghost use Rattle.ca_claims.specs.Means.{contents, HoldsRuleText, MayWantMemory};
-ghost use Rattle.ca_claims.specs.Unknown.{IsUnreadFile, HoldsUnknownRule, AreUnknownRules};
-ghost use Rattle.ca_claims.specs.Unknown.{IsNamedTable};
+ghost use Rattle.ca_claims.specs.Unknown.{IsUnreadFile, HoldsUnknownRule, AreUnknownRules, IsNamedTable};
 ghost use Rattle.ca_claims.specs.inner.Unknown.{AreAskedBefore, AddsAsked};
 
 use crate::file::File;

@@ -5,7 +5,7 @@ use Rattle.std.proofs.Math.Nat.{div-eq_of_lt, div-mul-le_self, lt-div-mul-add, a
 use Rattle.ca_quad.specs.declared.node.Node.{Node}
 use Rattle.ca_quad.specs.Squares.{joined_cells, cell_of}
 use Rattle.ca_quad.specs.Trees.{IsEmpty}
-use Rattle.ca_quad.proofs.Growth.{below_or_not}
+use Rattle.ca_plane.proofs.Numbers.{below_or_not}
 use Rattle.ca_quad.proofs.Cells.{in_nw, in_ne, in_sw, in_se, at_ne, at_sw, at_se, cell_ends}
 use Rattle.ca_draw.specs.inner.Blanks.{IsBlankIn}
 use Rattle.ca_draw.proofs.Strips.{over}

@@ -8,8 +8,9 @@ use Rattle.std.proofs.Math.Nat.{div-eq_of_lt, div-mul-le_self, add-mul, pow-le-p
 use Rattle.ca_quad.specs.declared.node.Node.{Node}
 use Rattle.ca_quad.specs.declared.tree.Tree.{Tree}
 use Rattle.ca_quad.specs.Squares.{cell_of}
-use Rattle.ca_quad.specs.Trees.{from_corner, cell}
-use Rattle.ca_quad.proofs.Growth.{below_or_not}
+use Rattle.ca_quad.specs.Trees.{cell}
+use Rattle.ca_plane.specs.Shown.{from_corner}
+use Rattle.ca_plane.proofs.Numbers.{below_or_not}
 use Rattle.ca_quad.proofs.Edges.{IsOff, outside_x, outside_y}
 use Rattle.ca_draw.specs.Windows.{strip_of}
 use Rattle.ca_draw.specs.Marks.{IsBlankSquare, has_live}

@@ -3,7 +3,7 @@ use Rattle.std.proofs.Common.{◌≡◌, ℕ, suc, ◌+◌, ◌-◌, ◌*◌, �
 use Rattle.std.proofs.lemmas.Int.{ints}
 use Rattle.std.proofs.lemmas.Nat.{pow_pos, shr-shr, div-mul-add, div-add-mod', mod_below, div_below, le-div}
 use Rattle.std.proofs.Math.Nat.{div-mul-le_self, div-one, add-mul-div_right, add-mul}
-use Rattle.ca_quad.proofs.Growth.{below_or_not}
+use Rattle.ca_plane.proofs.Numbers.{below_or_not}
 use Rattle.ca_draw.specs.Windows.{strip_of}
 
 -- at scale 0 each number is one

@@ -13,8 +13,8 @@ use Rattle.ca_plane.specs.Plane.{Picture, IsPicture, cell, shifted}
 use Rattle.ca_plane.proofs.Pictures.{place-from_true, cell-first}
 use Rattle.ca_plane.proofs.Shifts.{cell-shifted}
 use Rattle.ca_quad.specs.Squares.{one_cell, joined_cells}
-use Rattle.ca_quad.specs.Trees.{from_corner, row_cells}
-use Rattle.ca_quad.proofs.Growth.{below_or_not}
+use Rattle.ca_plane.specs.Shown.{from_corner, row_cells}
+use Rattle.ca_plane.proofs.Numbers.{below_or_not}
 use Rattle.ca_quad.specs.inner.Measure.{EndsWithin}
 use Rattle.ca_quad.proofs.Cells.{in_nw, in_ne, in_sw, in_se, dot_ends, together_ends}
 use Rattle.ca_quad.proofs.Edges.{off_x, off_y}

@@ -8,7 +8,7 @@ use Rattle.ca_quad.specs.declared.node.Node.{Node as Kept}
 use Rattle.ca_quad.specs.Squares.{one_cell, joined_cells, cell_of}
 use Rattle.ca_quad.specs.Sound.{IsSoundStore, Grows}
 use Rattle.ca_quad.specs.Trees.{ShowsSquare}
-use Rattle.ca_quad.proofs.Growth.{below_or_not}
+use Rattle.ca_plane.proofs.Numbers.{below_or_not}
 use Rattle.ca_quad.proofs.ShownSquares.{shows_as, shows_stays}
 use Rattle.ca_quad.proofs.Walks.{dot_empty, together_empty}
 use Rattle.ca_macro.specs.inner.Reading.{AreEmpties}

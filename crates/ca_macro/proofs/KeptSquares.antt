@@ -10,7 +10,8 @@ use Rattle.ca_quad.specs.declared.node.Node.{Node as Kept}
 use Rattle.ca_quad.specs.declared.tree.Tree.{Tree}
 use Rattle.ca_quad.specs.Squares.{one_cell, joined_cells, cell_of}
 use Rattle.ca_quad.specs.Sound.{IsSoundStore, Grows}
-use Rattle.ca_quad.specs.Trees.{ShowsSquare, AreFour, IsTree, row_cells, from_corner, cell as tree_cell}
+use Rattle.ca_quad.specs.Trees.{ShowsSquare, AreFour, IsTree, cell as tree_cell}
+use Rattle.ca_plane.specs.Shown.{row_cells, from_corner}
 use Rattle.ca_quad.proofs.Cells.{cell_ends, cells_stay, of_stays}
 use Rattle.ca_quad.proofs.ShownSquares.{shows_stays}
 use Rattle.ca_macro.specs.declared.read.squares.Squares.{Squares}

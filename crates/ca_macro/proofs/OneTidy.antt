@@ -9,7 +9,7 @@ use Rattle.ca_plane.specs.Plane.{cell}
 use Rattle.ca_plane.proofs.Shifts.{cell-shifted}
 use Rattle.ca_quad.specs.Squares.{joined_cells}
 use Rattle.ca_quad.proofs.Cells.{same_nw, same_ne, same_sw, same_se}
-use Rattle.ca_quad.proofs.Growth.{below_or_not}
+use Rattle.ca_plane.proofs.Numbers.{below_or_not}
 use Rattle.ca_macro.specs.Nodes.{Node, Leaf, Cells, Parts, node_level, NamesPart, MayFollow}
 use Rattle.ca_macro.specs.Shown.{numbered_square, squares_of, centred_picture, root_picture, picture_of_nodes, leaf_state}
 use Rattle.ca_macro.specs.Tidy.{lowest_level, IsLeastLevel, AreInPlace, HasForm, is_empty, node_parts, walks_after, walk_of, numbers_once, tidy_lines, IsTidyMacrocell}

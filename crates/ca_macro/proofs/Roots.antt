@@ -11,11 +11,12 @@ use Rattle.ca_plane.proofs.Shifts.{cell-shifted}
 use Rattle.ca_quad.specs.declared.node.Node.{Node as Kept}
 use Rattle.ca_quad.specs.declared.tree.Tree.{Tree}
 use Rattle.ca_quad.specs.Squares as squares
-use Rattle.ca_quad.specs.Trees.{from_corner, IsEmpty, IsTree, cell, IsTrimmed}
+use Rattle.ca_quad.specs.Trees.{IsEmpty, IsTree, cell, IsTrimmed}
+use Rattle.ca_plane.specs.Shown.{from_corner}
 use Rattle.ca_quad.specs.inner.Measure.{EndsWithin}
 use Rattle.ca_quad.proofs.Cells.{cell_ends}
 use Rattle.ca_quad.proofs.Differ.{cell_at}
-use Rattle.ca_quad.proofs.Growth.{below_or_not}
+use Rattle.ca_plane.proofs.Numbers.{below_or_not}
 use Rattle.ca_macro.specs.Nodes.{Node, Cells, Parts, node_level}
 use Rattle.ca_macro.specs.Shown.{numbered_square, squares_of, centred_picture, root_picture, picture_of_nodes}
 use Rattle.ca_macro.specs.Pattern.{AreInRange}

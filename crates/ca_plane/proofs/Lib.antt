@@ -1,3 +1,4 @@
+pub mod After
 pub mod BitPlanes
 pub mod Boxes
 pub mod FirstWords
@@ -17,3 +18,4 @@ pub mod Rising
 pub mod Sends
 pub mod Shifts
 pub mod TrimmedBytes
+pub mod Shown

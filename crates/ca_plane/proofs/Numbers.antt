@@ -1,7 +1,8 @@
 -- The number that digits write.
-use Rattle.std.proofs.Common.{◌≡◌, ℕ, zero, suc, ◌+◌, ◌-◌, ◌*◌, ◌^◌, ◌<◌, min, List, [], ◌∷◌, ◌++◌, length, take, get_or, refl, ap, ◌∙◌, arith, w64, to_z, of_z}
+use Rattle.std.proofs.Common.{◌≡◌, ℕ, zero, suc, ◌+◌, ◌-◌, ◌*◌, ◌^◌, ◌<◌, ◌≤◌, ◌⊎◌, inl, inr, min, List, [], ◌∷◌, ◌++◌, length, take, get_or, refl, ap, ◌∙◌, arith, w64, to_z, of_z}
 use Rattle.std.specs.Prelude.{ℤ, pos, neg_ℤ, negsuc, ◌+ℤ◌, ◌-ℤ◌, ◌≤ℤ◌, ◌<ℤ◌, FitsSigned}
 use Rattle.std.proofs.lemmas.Int.{ints, to_z-of_z}
+use Rattle.std.proofs.lemmas.Bool.Decides.{leb_tells}
 use Rattle.std.proofs.lemmas.List.{take_more}
 use Rattle.ca_plane.specs.Bytes.{value_from, value, nearest_i64}
 
@@ -39,3 +40,7 @@ nearest_minus (suc v) (suc n) i e f =
     let less : pos 0 -ℤ pos (suc n) ≡ negsuc n = omega (arith, ints) in
     let same : i ≡ negsuc (min v (2 ^ 63 - 1)) = f ∙ ap nearest_i64 less ∙ ap negsuc (omega arith) in
     reads i (omega (arith, ints)) (omega (arith, ints)) ∙ same
+
+-- of two numbers
+pub below_or_not : (a b : ℕ) → (a < b) ⊎ (b ≤ a)
+below_or_not a b = elim (leb_tells b a) [ inl e ↦ inr e.1 | inr e ↦ inl e.1 ]

@@ -1,5 +1,5 @@
 -- The least box round the live cells, and planes that are moved.
-use Rattle.std.specs.Prelude.{◌≢◌, ℤ, ◌≤ℤ◌, ◌+ℤ◌}
+use Rattle.std.specs.Prelude.{◌≢◌, ℕ, ℤ, pos, ◌≤ℤ◌, ◌+ℤ◌, ◌-ℤ◌}
 use Rattle.ca_plane.specs.declared.point.Point.{Point}
 use Rattle.ca_plane.specs.declared.point.Bounds.{Bounds}
 use Rattle.ca_plane.specs.Plane.{Picture, cell}
@@ -8,6 +8,10 @@ use Rattle.ca_plane.specs.Sparse.{IsInPlane}
 -- the place is in the box, both ends included
 abbrev pub IsInBox : Bounds → ℤ → ℤ → Type 0
 IsInBox box x y = (box.x0 ≤ℤ x) × (x ≤ℤ box.x1) × (box.y0 ≤ℤ y) × (y ≤ℤ box.y1)
+
+-- (u, v) lies within n of (x, y) in each direction
+abbrev pub IsWithin : ℕ → ℤ → ℤ → ℤ → ℤ → Type 0
+IsWithin n x y u v = IsInBox (record { x0 = x -ℤ pos n; y0 = y -ℤ pos n; x1 = x +ℤ pos n; y1 = y +ℤ pos n }) u v
 
 -- the least box round the live cells: they are all in it, and one lies on each of its sides
 pub record IsLeastBox (cells : Picture) (box : Bounds) : Type 0 where

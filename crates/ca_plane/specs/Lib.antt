@@ -9,6 +9,7 @@ pub mod Bytes
 pub mod Device
 pub mod Box
 pub mod BitPlane
+pub mod Shown
 pub mod Limits
 pub mod Population
 pub mod inner

@@ -5,7 +5,7 @@ use Rattle.ca_quad.specs.declared.square.Square.TheVariants.{Parts}
 use Rattle.ca_quad.specs.Squares.{place_id, square_of, level_of, cell_of}
 use Rattle.ca_quad.specs.Sound.{IsSoundStore, Grows, AddsOnly}
 use Rattle.ca_quad.specs.Added.{IsPartOf, itself, in_part, IsCopy, AddsCopies}
-use Rattle.ca_quad.proofs.Growth.{below_or_not}
+use Rattle.ca_plane.proofs.Numbers.{below_or_not}
 use Rattle.ca_quad.proofs.ShownSquares.{shows_stays}
 
 -- nothing is added

@@ -15,7 +15,8 @@ use Rattle.ca_plane.specs.Limits.{reach}
 use Rattle.ca_plane.proofs.BitPlanes.{AddsWord-at_end}
 use Rattle.ca_quad.specs.declared.tree.Spot.{Spot}
 use Rattle.ca_quad.specs.declared.node.Node.{Node}
-use Rattle.ca_quad.specs.Trees.{ShowsSquare, row_cells, HoldsAll}
+use Rattle.ca_quad.specs.Trees.{ShowsSquare, HoldsAll}
+use Rattle.ca_plane.specs.Shown.{row_cells}
 use Rattle.ca_quad.specs.inner.BitParts.{cells_of_word, HaveCells, HasNoCell, IsBoxOfWord, AreApart, AddsCells, AreShiftedBits}
 use Rattle.ca_quad.specs.inner.Filled.{cells_from, HoldsBox}
 use Rattle.ca_quad.specs.inner.Window.{ShowsFrom}

@@ -7,7 +7,8 @@ use Rattle.ca_quad.specs.declared.tree.Tree.{Tree}
 use Rattle.ca_quad.specs.declared.tree.WideBounds.{WideBounds}
 use Rattle.ca_quad.specs.declared.store.extent.Extent.{Extent}
 use Rattle.ca_quad.specs.Squares.{cell_of}
-use Rattle.ca_quad.specs.Trees.{IsEmpty, from_corner, cell}
+use Rattle.ca_quad.specs.Trees.{IsEmpty, cell}
+use Rattle.ca_plane.specs.Shown.{from_corner}
 use Rattle.ca_quad.specs.Boxes.{IsLeastWideBox}
 use Rattle.ca_quad.specs.inner.Extent.{FitsSide, IsExtent}
 

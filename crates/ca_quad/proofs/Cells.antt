@@ -10,7 +10,8 @@ use Rattle.ca_quad.specs.Squares.{square_of, level, IsOf, one_cell, joined_cells
 use Rattle.ca_quad.specs.Sound.{IsSoundStore, Grows}
 use Rattle.ca_quad.specs.inner.Measure.{EndsWithin}
 use Rattle.ca_quad.specs.inner.Whole.{IsWhole}
-use Rattle.ca_quad.proofs.Growth.{below_or_not, square_stays}
+use Rattle.ca_quad.proofs.Growth.{square_stays}
+use Rattle.ca_plane.proofs.Numbers.{below_or_not}
 use Rattle.ca_quad.proofs.Views.{square_whole, known_by_square}
 
 -- the quarter in which a cell lies

@@ -5,7 +5,8 @@ use Rattle.ca_quad.specs.declared.square.Square.TheVariants.{Parts}
 use Rattle.ca_quad.specs.Squares.{square_of, level, level_of, IsOf, joined_cells, cell_of}
 use Rattle.ca_quad.specs.Sound.{IsSoundStore, Grows, HasParts}
 use Rattle.ca_quad.specs.declared.tree.Tree.{Tree}
-use Rattle.ca_quad.specs.Trees.{IsIn, ShowsSquare, AreFour, IsTree, from_corner, cell, IsTrimmed}
+use Rattle.ca_quad.specs.Trees.{IsIn, ShowsSquare, AreFour, IsTree, cell, IsTrimmed}
+use Rattle.ca_plane.specs.Shown.{from_corner}
 use Rattle.ca_quad.specs.Added.{IsCopy, AreCopies}
 use Rattle.ca_quad.proofs.ShownSquares.{shows_stays, shows_as, four_show_together, shown_together}
 use Rattle.ca_quad.proofs.Walks.{parts_show}

@@ -9,7 +9,7 @@ use Rattle.ca_quad.specs.Sound.{IsSoundStore, Grows}
 use Rattle.ca_quad.specs.Trees.{IsIn, ShowsSquare}
 use Rattle.ca_quad.specs.Added.{IsPartOf, LiesIn, itself, in_part, IsCopy, AddsCopies}
 use Rattle.ca_quad.specs.inner.Whole.{IsWhole}
-use Rattle.ca_quad.proofs.Growth.{below_or_not}
+use Rattle.ca_plane.proofs.Numbers.{below_or_not}
 use Rattle.ca_quad.proofs.Views.{square_whole}
 use Rattle.ca_quad.proofs.Cells.{cells_stay, of_stays, same_cells}
 use Rattle.ca_quad.proofs.ShownSquares.{shows_self, shows_as, shows_stays}

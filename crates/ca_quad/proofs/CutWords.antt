@@ -6,13 +6,14 @@ use Rattle.std.proofs.lemmas.Bool.Decides.{nat_tests}
 use Rattle.std.proofs.lemmas.Nat.Bits.{bit_at-lt, bit_at_and, bit_at_or, bit_at_cat_low, bit_at_cat_high}
 use Rattle.ca_quad.specs.declared.neighbours.Neighbours.{Neighbours}
 use Rattle.ca_quad.specs.declared.node.Node.{Node}
-use Rattle.ca_quad.specs.declared.store.cut.Way.{Way}
+use Rattle.ca_quad.specs.declared.store.cut.Offset.{Offset}
 use Rattle.ca_quad.specs.Squares.{cell_of}
-use Rattle.ca_quad.specs.Trees.{ShowsSquare, word_cells}
+use Rattle.ca_quad.specs.Trees.{ShowsSquare}
+use Rattle.ca_plane.specs.Shown.{word_cells}
 use Rattle.ca_quad.specs.inner.Cut.{cells_of_four, IsCutWord}
 use Rattle.ca_quad.specs.inner.Window.{ShowsFrom}
 use Rattle.ca_quad.proofs.Cells.{in_nw, in_ne, in_sw, in_se}
-use Rattle.ca_quad.proofs.Growth.{below_or_not}
+use Rattle.ca_plane.proofs.Numbers.{below_or_not}
 use Rattle.ca_quad.proofs.Bits.{above_shift, down_shift}
 
 -- the low bits of a number
@@ -128,7 +129,7 @@ module _ (nodes : List Node) (four : Neighbours) (nw ne sw se : ℕ) (a : (x y :
       ]
 
 -- the square of such a word is cut out of the four
-pub word_window : {E : Type 0} (old new : List Node) (four : Neighbours) (place : Way) (level word : ℕ) (r : Result ℕ E) → IsCutWord old level four place word → IfOk r (λ id. ShowsSquare new id 3 (word_cells word))
+pub word_window : {E : Type 0} (old new : List Node) (four : Neighbours) (place : Offset) (level word : ℕ) (r : Result ℕ E) → IsCutWord old level four place word → IfOk r (λ id. ShowsSquare new id 3 (word_cells word))
     → IfOk r (λ id. ShowsFrom new id level (cells_of_four old level four) place.x place.y)
 word_window old new four place level word (Ok id) is h =
     subst (λ l. ShowsFrom new id l (cells_of_four old l four) place.x place.y) (sym is.is_level) (record { is_square = h.is_square; has_cells = λ x y i j. h.has_cells x y ∙ is.has_cells x y i j })

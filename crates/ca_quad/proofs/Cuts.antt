@@ -6,7 +6,7 @@ use Rattle.std.proofs.lemmas.Bool.Decides.{nat_tests}
 use Rattle.std.proofs.lemmas.Nat.{mod_below, mod-pow-add}
 use Rattle.ca_quad.specs.declared.neighbours.Neighbours.{Neighbours}
 use Rattle.ca_quad.specs.declared.node.Node.{Node}
-use Rattle.ca_quad.specs.declared.store.cut.Way.{Way}
+use Rattle.ca_quad.specs.declared.store.cut.Offset.{Offset}
 use Rattle.ca_quad.specs.contracts.neighbours.NeighboursPartialEq.TheImpl.{eq-value}
 use Rattle.ca_quad.specs.Squares.{IsOf, level_of, one_cell, joined_cells, cell_of}
 use Rattle.ca_quad.specs.Sound.{IsSoundStore, Grows}
@@ -14,7 +14,8 @@ use Rattle.ca_quad.specs.Trees.{ShowsSquare, AreFour, AreQuarters, AreCorners}
 use Rattle.ca_quad.specs.inner.Cut.{AreNeighbours, cells_of_four, half_of, neighbours_at, overlapping_fours, IsCut, AreCuts, AreSixteen, AreSixteenCells, cut_value}
 use Rattle.ca_quad.specs.inner.Window.{ShowsFrom}
 use Rattle.ca_quad.proofs.Cells.{one_up, at_nw, at_ne, at_sw, at_se, cells_stay, of_stays}
-use Rattle.ca_quad.proofs.Growth.{below_or_not, grows_same, grows_on}
+use Rattle.ca_quad.proofs.Growth.{grows_same, grows_on}
+use Rattle.ca_plane.proofs.Numbers.{below_or_not}
 use Rattle.ca_quad.proofs.FilledSquares.{grows_three, grows_four, can_join, joined}
 use Rattle.ca_quad.proofs.Windows.{FourWindows, window_stays, four_windows, together_shows}
 
@@ -178,23 +179,23 @@ module _ (cells : ℕ → ℕ → ℕ) (x y a b c d : ℕ) (p : a ≡ cells x y)
   corners_window new (Err e) h = tt
 
 -- what is cut out of four squares that show cells shows them too
-pub cut_within : (nodes : List Node) (k : ℕ) (cells : ℕ → ℕ → ℕ) (left top : ℕ) (way : Way) (four : Neighbours) (id : ℕ) → FourWindows nodes k cells left top four.nw four.ne four.sw four.se
-    → IsCut nodes way four id → ShowsFrom nodes id k cells (left + way.x % 2 ^ k) (top + way.y % 2 ^ k)
-cut_within nodes k cells left top way four id windows cut =
+pub cut_within : (nodes : List Node) (k : ℕ) (cells : ℕ → ℕ → ℕ) (left top : ℕ) (offset : Offset) (four : Neighbours) (id : ℕ) → FourWindows nodes k cells left top four.nw four.ne four.sw four.se
+    → IsCut nodes offset four id → ShowsFrom nodes id k cells (left + offset.x % 2 ^ k) (top + offset.y % 2 ^ k)
+cut_within nodes k cells left top offset four id windows cut =
     let level : cut.level ≡ k = sym cut.four.is_nw.is_level ∙ windows.a.is_square.is_level in
-    let shows : ShowsFrom nodes id k (cells_of_four nodes k four) (way.x % 2 ^ k) (way.y % 2 ^ k) =
-    subst (λ l. ShowsFrom nodes id l (cells_of_four nodes l four) (way.x % 2 ^ l) (way.y % 2 ^ l)) level cut.shows
+    let shows : ShowsFrom nodes id k (cells_of_four nodes k four) (offset.x % 2 ^ k) (offset.y % 2 ^ k) =
+    subst (λ l. ShowsFrom nodes id l (cells_of_four nodes l four) (offset.x % 2 ^ l) (offset.y % 2 ^ l)) level cut.shows
     in
     let low : (n : ℕ) → n % 2 ^ k < 2 ^ k = λ n. mod_below n (2 ^ k) (one_up k) in
     let side = two-pow-succ k in
     record {
       is_square = shows.is_square;
       has_cells = λ x y i j.
-          let e : left + (way.x % 2 ^ k + x) ≡ left + way.x % 2 ^ k + x = omega arith in
-          let f : top + (way.y % 2 ^ k + y) ≡ top + way.y % 2 ^ k + y = omega arith in
+          let e : left + (offset.x % 2 ^ k + x) ≡ left + offset.x % 2 ^ k + x = omega arith in
+          let f : top + (offset.y % 2 ^ k + y) ≡ top + offset.y % 2 ^ k + y = omega arith in
           shows.has_cells x y i j
-          ∙ (together_shows nodes k cells left top four.nw four.ne four.sw four.se windows (way.x % 2 ^ k + x) (way.y % 2 ^ k + y) (omega (arith, low way.x)) (omega (arith, low way.y))
-          ∙ (ap (λ n. cells n (top + (way.y % 2 ^ k + y))) e ∙ ap (cells (left + way.x % 2 ^ k + x)) f));
+          ∙ (together_shows nodes k cells left top four.nw four.ne four.sw four.se windows (offset.x % 2 ^ k + x) (offset.y % 2 ^ k + y) (omega (arith, low offset.x)) (omega (arith, low offset.y))
+          ∙ (ap (λ n. cells n (top + (offset.y % 2 ^ k + y))) e ∙ ap (cells (left + offset.x % 2 ^ k + x)) f));
     }
 
 one_further : (x h : ℕ) → (x + 1) * h ≡ x * h + h
@@ -215,7 +216,7 @@ neighbours_same a b e =
     (subst (λ n. built a.nw a.ne a.sw a.se ≡ built a.nw a.ne n b.se) sw (subst (λ n. built a.nw a.ne a.sw a.se ≡ built a.nw a.ne a.sw n) se refl)))
 
 -- the cells of old squares stay
-module _ (old new : List Node) (sound : IsSoundStore old) (grows : Grows old new) (way : Way) (four : Neighbours) (id : ℕ) where
+module _ (old new : List Node) (sound : IsSoundStore old) (grows : Grows old new) (offset : Offset) (four : Neighbours) (id : ℕ) where
   pub same_four : (k : ℕ) → AreNeighbours old k four → cells_of_four new k four ≡ cells_of_four old k four
   same_four k are =
       let a = cells_stay old new sound grows k four.nw are.is_nw in
@@ -225,7 +226,7 @@ module _ (old new : List Node) (sound : IsSoundStore old) (grows : Grows old new
       rw (a, b, c, d) refl
 
   -- a square that shows cells of old squares is cut out of them
-  pub cut_is : (k : ℕ) → AreNeighbours old k four → (x y : ℕ) → x ≡ way.x % 2 ^ k → y ≡ way.y % 2 ^ k → ShowsFrom new id k (cells_of_four old k four) x y → IsCut new way four id
+  pub cut_is : (k : ℕ) → AreNeighbours old k four → (x y : ℕ) → x ≡ offset.x % 2 ^ k → y ≡ offset.y % 2 ^ k → ShowsFrom new id k (cells_of_four old k four) x y → IsCut new offset four id
   cut_is k are x y e f shows = record {
     level = k;
     four = record {
@@ -235,34 +236,34 @@ module _ (old new : List Node) (sound : IsSoundStore old) (grows : Grows old new
       is_sw = of_stays old new sound grows four.sw k are.is_sw;
       is_se = of_stays old new sound grows four.se k are.is_se;
     };
-    shows = subst (λ f. ShowsFrom new id k f (way.x % 2 ^ k) (way.y % 2 ^ k)) (sym (same_four k are)) (window_at new id k (cells_of_four old k four) x y (way.x % 2 ^ k) (way.y % 2 ^ k) e f shows);
+    shows = subst (λ f. ShowsFrom new id k f (offset.x % 2 ^ k) (offset.y % 2 ^ k)) (sym (same_four k are)) (window_at new id k (cells_of_four old k four) x y (offset.x % 2 ^ k) (offset.y % 2 ^ k) e f shows);
   }
 
   -- what was cut out stays so
-  pub cut_stays : IsCut old way four id → IsCut new way four id
+  pub cut_stays : IsCut old offset four id → IsCut new offset four id
   cut_stays cut =
-      cut_is cut.level cut.four (way.x % 2 ^ cut.level) (way.y % 2 ^ cut.level) refl refl
-      (window_stays old new sound grows id cut.level (way.x % 2 ^ cut.level) (way.y % 2 ^ cut.level) (cells_of_four old cut.level four) cut.shows)
+      cut_is cut.level cut.four (offset.x % 2 ^ cut.level) (offset.y % 2 ^ cut.level) refl refl
+      (window_stays old new sound grows id cut.level (offset.x % 2 ^ cut.level) (offset.y % 2 ^ cut.level) (cells_of_four old cut.level four) cut.shows)
 
-pub cuts_stay : (old new : List Node) → IsSoundStore old → Grows old new → (way : Way) (values : List (Neighbours × ℕ)) → AreCuts old way values → AreCuts new way values
-cuts_stay old new sound grows way values are four id e = cut_stays old new sound grows way four id (are four id e)
+pub cuts_stay : (old new : List Node) → IsSoundStore old → Grows old new → (offset : Offset) (values : List (Neighbours × ℕ)) → AreCuts old offset values → AreCuts new offset values
+cuts_stay old new sound grows offset values are four id e = cut_stays old new sound grows offset four id (are four id e)
 
-pub still_cuts : {A E : Type 0} (old new : List Node) (r : Result A E) → IsSoundStore old → Grows old new → (way : Way) (values : List (Neighbours × ℕ)) → AreCuts old way values → OnOk r (AreCuts new way values)
-still_cuts old new (Ok value) sound grows way values are = cuts_stay old new sound grows way values are
-still_cuts old new (Err e) sound grows way values are = tt
+pub still_cuts : {A E : Type 0} (old new : List Node) (r : Result A E) → IsSoundStore old → Grows old new → (offset : Offset) (values : List (Neighbours × ℕ)) → AreCuts old offset values → OnOk r (AreCuts new offset values)
+still_cuts old new (Ok value) sound grows offset values are = cuts_stay old new sound grows offset values are
+still_cuts old new (Err e) sound grows offset values are = tt
 
 some_same : {v w : ℕ} → Some v ≡ Some w → v ≡ w
 some_same e = cc
 
 -- with one more, each is still cut out of its four
-pub one_cut_more : (nodes : List Node) (way : Way) (old new : List (Neighbours × ℕ)) (four : Neighbours) (id : ℕ) → AreCuts nodes way old → IsCut nodes way four id
-    → ((other : Neighbours) → cut_value new other ≡ cond ((eq-value).it four other) (Some id) (cut_value old other)) → AreCuts nodes way new
-one_cut_more nodes way old new four id are is put other found h =
+pub one_cut_more : (nodes : List Node) (offset : Offset) (old new : List (Neighbours × ℕ)) (four : Neighbours) (id : ℕ) → AreCuts nodes offset old → IsCut nodes offset four id
+    → ((other : Neighbours) → cut_value new other ≡ cond ((eq-value).it four other) (Some id) (cut_value old other)) → AreCuts nodes offset new
+one_cut_more nodes offset old new four id are is put other found h =
     elim (cases_Bool ((eq-value).it four other)) [
       | inl e ↦
           let f : cond ((eq-value).it four other) (Some id) (cut_value old other) ≡ Some id = rw e refl in
           let g : id ≡ found = some_same (sym f ∙ (sym (put other) ∙ h)) in
-          subst (IsCut nodes way other) g (subst (λ (n : Neighbours). IsCut nodes way n id) (neighbours_same four other e) is)
+          subst (IsCut nodes offset other) g (subst (λ (n : Neighbours). IsCut nodes offset n id) (neighbours_same four other e) is)
       | inr e ↦
           let f : cond ((eq-value).it four other) (Some id) (cut_value old other) ≡ cut_value old other = rw e refl in
           are other found (sym f ∙ (sym (put other) ∙ h))
@@ -304,22 +305,22 @@ pub further : (x h r u : ℕ) → x * h + r ≡ u → (x + 1) * h + r ≡ u + h
 further x h r u e = omega (arith, one_further x h)
 
 -- what is cut out of the group on the way shows the cells from (x, y) on, where the group's squares are of this level
-pub record LeadsTo (nodes : List Node) (level : ℕ) (cells : ℕ → ℕ → ℕ) (way : Way) (x y : ℕ) (group : Neighbours) : Type 0 where
+pub record LeadsTo (nodes : List Node) (level : ℕ) (cells : ℕ → ℕ → ℕ) (offset : Offset) (x y : ℕ) (group : Neighbours) : Type 0 where
   pub left : ℕ
   pub top : ℕ
   pub windows : FourWindows nodes level cells left top group.nw group.ne group.sw group.se
-  pub is_x : left + way.x % 2 ^ level ≡ x
-  pub is_y : top + way.y % 2 ^ level ≡ y
+  pub is_x : left + offset.x % 2 ^ level ≡ x
+  pub is_y : top + offset.y % 2 ^ level ≡ y
 
 -- the four groups lead to the four parts of the square that shows the cells from (x, y) on
-pub record LeadToParts (nodes : List Node) (level : ℕ) (cells : ℕ → ℕ → ℕ) (way : Way) (x y : ℕ) (groups : Neighbours × Neighbours × Neighbours × Neighbours) : Type 0 where
-  pub nw : LeadsTo nodes level cells way x y groups.0
-  pub ne : LeadsTo nodes level cells way (x + 2 ^ level) y groups.1
-  pub sw : LeadsTo nodes level cells way x (y + 2 ^ level) groups.2
-  pub se : LeadsTo nodes level cells way (x + 2 ^ level) (y + 2 ^ level) groups.3
+pub record LeadToParts (nodes : List Node) (level : ℕ) (cells : ℕ → ℕ → ℕ) (offset : Offset) (x y : ℕ) (groups : Neighbours × Neighbours × Neighbours × Neighbours) : Type 0 where
+  pub nw : LeadsTo nodes level cells offset x y groups.0
+  pub ne : LeadsTo nodes level cells offset (x + 2 ^ level) y groups.1
+  pub sw : LeadsTo nodes level cells offset x (y + 2 ^ level) groups.2
+  pub se : LeadsTo nodes level cells offset (x + 2 ^ level) (y + 2 ^ level) groups.3
 
 -- one of them, when squares were added
-module _ (old new : List Node) (sound : IsSoundStore old) (grows : Grows old new) {level : ℕ} {cells : ℕ → ℕ → ℕ} {way : Way} {x y : ℕ} {group : Neighbours} (leads : LeadsTo old level cells way x y group) where
+module _ (old new : List Node) (sound : IsSoundStore old) (grows : Grows old new) {level : ℕ} {cells : ℕ → ℕ → ℕ} {offset : Offset} {x y : ℕ} {group : Neighbours} (leads : LeadsTo old level cells offset x y group) where
   windows : FourWindows new level cells leads.left leads.top group.nw group.ne group.sw group.se
   windows =
       let w = leads.windows in
@@ -334,22 +335,22 @@ module _ (old new : List Node) (sound : IsSoundStore old) (grows : Grows old new
   pub group_stays : level ≤ 124 → (level_of new group.nw ≡ level) × ((k : ℕ) × AreNeighbours new k group)
   group_stays low = (windows.a.is_square.is_level, (level, four_windows new level cells leads.left leads.top group.nw group.ne group.sw group.se windows low))
 
-  pub part_cut : (id : ℕ) → IsCut new way group id → ShowsFrom new id level cells x y
+  pub part_cut : (id : ℕ) → IsCut new offset group id → ShowsFrom new id level cells x y
   part_cut id cut =
-      window_at new id level cells (leads.left + way.x % 2 ^ level) (leads.top + way.y % 2 ^ level) x y leads.is_x leads.is_y
-      (cut_within new level cells leads.left leads.top way group id windows cut)
+      window_at new id level cells (leads.left + offset.x % 2 ^ level) (leads.top + offset.y % 2 ^ level) x y leads.is_x leads.is_y
+      (cut_within new level cells leads.left leads.top offset group id windows cut)
 
 -- four squares, and the place on them from which a square is cut out
-module _ (old : List Node) (sound : IsSoundStore old) (four : Neighbours) (way place : Way) (level : ℕ) (is_level : level ≡ level_of old four.nw) (squares : (k : ℕ) × AreNeighbours old k four)
-    (at_x : place.x ≡ way.x % 2 ^ level) (at_y : place.y ≡ way.y % 2 ^ level) where
+module _ (old : List Node) (sound : IsSoundStore old) (four : Neighbours) (offset place : Offset) (level : ℕ) (is_level : level ≡ level_of old four.nw) (squares : (k : ℕ) × AreNeighbours old k four)
+    (at_x : place.x ≡ offset.x % 2 ^ level) (at_y : place.y ≡ offset.y % 2 ^ level) where
   pub are_four : AreNeighbours old level four
   are_four = subst (λ k. AreNeighbours old k four) (sym squares.1.is_nw.is_level ∙ sym is_level) squares.1
 
-  pub first_cut : place.x ≡ 0 → place.y ≡ 0 → IsCut old way four four.nw
-  first_cut e f = cut_is old old sound (grows_same old sound) way four four.nw level are_four 0 0 (sym e ∙ at_x) (sym f ∙ at_y) (first_shows old level four are_four)
+  pub first_cut : place.x ≡ 0 → place.y ≡ 0 → IsCut old offset four four.nw
+  first_cut e f = cut_is old old sound (grows_same old sound) offset four four.nw level are_four 0 0 (sym e ∙ at_x) (sym f ∙ at_y) (first_shows old level four are_four)
 
-  pub made_cut : {E : Type 0} (new : List Node) → Grows old new → (r : Result ℕ E) → IfOk r (λ id. ShowsFrom new id level (cells_of_four old level four) place.x place.y) → IfOk r (IsCut new way four)
-  made_cut new grows (Ok id) shows = cut_is old new sound grows way four id level are_four place.x place.y at_x at_y shows
+  pub made_cut : {E : Type 0} (new : List Node) → Grows old new → (r : Result ℕ E) → IfOk r (λ id. ShowsFrom new id level (cells_of_four old level four) place.x place.y) → IfOk r (IsCut new offset four)
+  made_cut new grows (Ok id) shows = cut_is old new sound grows offset four id level are_four place.x place.y at_x at_y shows
   made_cut new grows (Err e) shows = tt
 
   -- the fours of their parts that lead to the parts of the square
@@ -362,8 +363,8 @@ module _ (old : List Node) (sound : IsSoundStore old) (four : Neighbours) (way p
         let all : AreSixteen old (level - 1) cells ids = subst (λ l. AreSixteen old (level - 1) (cells_of_four old l four) ids) next (sixteen (level - 1) (subst (λ l. AreNeighbours old l four) (sym next) are_four)) in
         subst (λ m. ShowsFrom old (slice_index ids m) (level - 1) cells (x * 2 ^ (level - 1)) (y * 2 ^ (level - 1))) e (all x y low_x low_y)
 
-    leads : (u v n x y : ℕ) → 4 * v + u ≡ n → u ≤ 2 → v ≤ 2 → u * 2 ^ (level - 1) + way.x % 2 ^ (level - 1) ≡ x → v * 2 ^ (level - 1) + way.y % 2 ^ (level - 1) ≡ y
-        → LeadsTo old (level - 1) (cells_of_four old level four) way x y (neighbours_at ids n)
+    leads : (u v n x y : ℕ) → 4 * v + u ≡ n → u ≤ 2 → v ≤ 2 → u * 2 ^ (level - 1) + offset.x % 2 ^ (level - 1) ≡ x → v * 2 ^ (level - 1) + offset.y % 2 ^ (level - 1) ≡ y
+        → LeadsTo old (level - 1) (cells_of_four old level four) offset x y (neighbours_at ids n)
     leads u v n x y e low_u low_v is_x is_y =
         let cells = cells_of_four old level four in
         let h = 2 ^ (level - 1) in
@@ -382,17 +383,17 @@ module _ (old : List Node) (sound : IsSoundStore old) (four : Neighbours) (way p
         }
 
     pub lead_to_parts : (groups : Neighbours × Neighbours × Neighbours × Neighbours) → groups ≡ overlapping_fours ids (4 * half_of place.y half + half_of place.x half)
-        → LeadToParts old (level - 1) (cells_of_four old level four) way place.x place.y groups
+        → LeadToParts old (level - 1) (cells_of_four old level four) offset place.x place.y groups
     lead_to_parts groups is =
         let h = 2 ^ (level - 1) in
         let u = half_of place.x half in
         let v = half_of place.y half in
         let low_u = half_most place.x half in
         let low_v = half_most place.y half in
-        let is_x : u * h + way.x % h ≡ place.x = rest_in_half way.x level half place.x (omega arith) is_half at_x ∙ sym at_x in
-        let is_y : v * h + way.y % h ≡ place.y = rest_in_half way.y level half place.y (omega arith) is_half at_y ∙ sym at_y in
-        let to_x = further u h (way.x % h) place.x is_x in
-        let to_y = further v h (way.y % h) place.y is_y in
+        let is_x : u * h + offset.x % h ≡ place.x = rest_in_half offset.x level half place.x (omega arith) is_half at_x ∙ sym at_x in
+        let is_y : v * h + offset.y % h ≡ place.y = rest_in_half offset.y level half place.y (omega arith) is_half at_y ∙ sym at_y in
+        let to_x = further u h (offset.x % h) place.x is_x in
+        let to_y = further v h (offset.y % h) place.y is_y in
         rw is (record {
           nw = leads u v (4 * v + u) place.x place.y refl (omega arith) (omega arith) is_x is_y;
           ne = leads (u + 1) v (4 * v + u + 1) (place.x + h) place.y (omega arith) (omega arith) (omega arith) to_x is_y;
@@ -401,9 +402,9 @@ module _ (old : List Node) (sound : IsSoundStore old) (four : Neighbours) (way p
         })
 
 -- the parts that were cut out, one after the other
-module _ (old s1 s2 s3 s4 : List Node) (sound : IsSoundStore old) (g1 : Grows old s1) (g2 : Grows s1 s2) (g3 : Grows s2 s3) (g4 : Grows s3 s4) (level : ℕ) (large : 2 ≤ level) {cells : ℕ → ℕ → ℕ} {way : Way} {x y : ℕ}
-    {groups : Neighbours × Neighbours × Neighbours × Neighbours} (leads : LeadToParts old (level - 1) cells way x y groups) (nw ne sw se : ℕ)
-    (a : IsCut s1 way groups.0 nw) (b : IsCut s2 way groups.1 ne) (c : IsCut s3 way groups.2 sw) (d : IsCut s4 way groups.3 se) where
+module _ (old s1 s2 s3 s4 : List Node) (sound : IsSoundStore old) (g1 : Grows old s1) (g2 : Grows s1 s2) (g3 : Grows s2 s3) (g4 : Grows s3 s4) (level : ℕ) (large : 2 ≤ level) {cells : ℕ → ℕ → ℕ} {offset : Offset} {x y : ℕ}
+    {groups : Neighbours × Neighbours × Neighbours × Neighbours} (leads : LeadToParts old (level - 1) cells offset x y groups) (nw ne sw se : ℕ)
+    (a : IsCut s1 offset groups.0 nw) (b : IsCut s2 offset groups.1 ne) (c : IsCut s3 offset groups.2 sw) (d : IsCut s4 offset groups.3 se) where
   abbrev h : ℕ
   h = 2 ^ (level - 1)
 

@@ -4,7 +4,8 @@ use Rattle.std.proofs.Math.Nat.{two-pow-succ, pow-le-pow_right}
 use Rattle.ca_quad.specs.declared.node.Node.{Node}
 use Rattle.ca_quad.specs.Squares.{IsOf, cell_of}
 use Rattle.ca_quad.specs.declared.tree.Tree.{Tree}
-use Rattle.ca_quad.specs.Trees.{from_corner, cell}
+use Rattle.ca_quad.specs.Trees.{cell}
+use Rattle.ca_plane.specs.Shown.{from_corner}
 use Rattle.ca_quad.specs.Sound.{IsSoundStore}
 use Rattle.ca_quad.specs.inner.Difference.{DifferInSquare, AreEqual, TellsDifference, AreUnequal}
 use Rattle.ca_quad.proofs.Cells.{same_cells}

@@ -14,10 +14,11 @@ use Rattle.ca_quad.specs.declared.tree.Spot.{Spot}
 use Rattle.ca_quad.specs.declared.tree.Tree.{Tree}
 use Rattle.ca_quad.specs.Squares.{square_of, level, level_of, IsOf, one_cell, joined_cells, cell_of}
 use Rattle.ca_quad.specs.Sound.{HasParts}
-use Rattle.ca_quad.specs.Trees.{IsIn, IsTree, from_corner, cell as tree_cell}
+use Rattle.ca_quad.specs.Trees.{IsIn, IsTree, cell as tree_cell}
+use Rattle.ca_plane.specs.Shown.{from_corner}
 use Rattle.ca_quad.specs.Expanded.{FitsPlane}
 use Rattle.ca_quad.specs.inner.Drawn.{square_cells, side_of, cells_at_corner, CanDraw, ArePartCorners, Agrees, IsLiveAt, IsReadyToDraw}
-use Rattle.ca_quad.proofs.Growth.{below_or_not}
+use Rattle.ca_plane.proofs.Numbers.{below_or_not}
 use Rattle.ca_quad.specs.inner.Measure.{EndsWithin}
 use Rattle.ca_quad.proofs.Cells.{in_nw, in_ne, in_sw, in_se, cell_ends, dot_ends}
 use Rattle.ca_quad.proofs.Walks.{four_show, parts_show}

@@ -5,7 +5,8 @@ use Rattle.std.proofs.Math.Nat.{two-pow-succ}
 use Rattle.ca_quad.specs.declared.node.Node.{Node}
 use Rattle.ca_quad.specs.declared.tree.Tree.{Tree}
 use Rattle.ca_quad.specs.Squares.{cell_of}
-use Rattle.ca_quad.specs.Trees.{ShowsSquare, IsEmpty, from_corner, cell}
+use Rattle.ca_quad.specs.Trees.{ShowsSquare, IsEmpty, cell}
+use Rattle.ca_plane.specs.Shown.{from_corner}
 use Rattle.ca_quad.specs.inner.Measure.{EndsWithin}
 use Rattle.ca_quad.proofs.Cells.{cell_ends}
 

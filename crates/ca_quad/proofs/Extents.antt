@@ -4,7 +4,7 @@ use Rattle.std.proofs.lemmas.Bool.Decides.{nat_tests}
 use Rattle.ca_quad.specs.declared.store.extent.Extent.{Extent}
 use Rattle.ca_quad.specs.Trees.{IsEmpty}
 use Rattle.ca_quad.specs.inner.Extent.{box_of_two, IsExtent}
-use Rattle.ca_quad.proofs.Growth.{below_or_not}
+use Rattle.ca_plane.proofs.Numbers.{below_or_not}
 
 live_as : (a b : ℕ) → a ≡ b → b ≢ 0 → a ≢ 0
 live_as a b e h i = h (sym e ∙ i)

@@ -20,7 +20,8 @@ use Rattle.ca_quad.specs.inner.Window.{ShowsFrom}
 use Rattle.ca_quad.proofs.Cells.{twice}
 use Rattle.ca_quad.proofs.Differ.{cell_at}
 use Rattle.ca_quad.proofs.Edges.{IsOff, outside_x, outside_y}
-use Rattle.ca_quad.proofs.Growth.{below_or_not, grows_on}
+use Rattle.ca_quad.proofs.Growth.{grows_on}
+use Rattle.ca_plane.proofs.Numbers.{below_or_not}
 use Rattle.ca_quad.proofs.ShownSquares.{shows_stays}
 use Rattle.ca_quad.proofs.Walks.{nw_empty}
 use Rattle.ca_quad.proofs.Windows.{FourWindows, gathered, four_windows, window_joined}

@@ -5,11 +5,12 @@ use Rattle.std.proofs.lemmas.Int.{ints}
 use Rattle.ca_quad.specs.declared.node.Node.{Node}
 use Rattle.ca_quad.specs.declared.tree.Tree.{Tree}
 use Rattle.ca_quad.specs.Squares.{one_cell, joined_cells, cell_of}
-use Rattle.ca_quad.specs.Trees.{from_corner, IsTree, cell}
+use Rattle.ca_quad.specs.Trees.{IsTree, cell}
+use Rattle.ca_plane.specs.Shown.{from_corner}
 use Rattle.ca_quad.specs.inner.Greatest.{IsGreatest, IsGreatestOf}
 use Rattle.ca_quad.specs.inner.Measure.{EndsWithin, IsJoined}
 use Rattle.ca_quad.proofs.Cells.{at_nw, at_ne, at_sw, at_se}
-use Rattle.ca_quad.proofs.Growth.{below_or_not}
+use Rattle.ca_plane.proofs.Numbers.{below_or_not}
 
 -- a live cell lies within the side
 pub live_within : (side : ℕ) (cells : ℕ → ℕ → ℕ) → EndsWithin side cells → (x y : ℕ) → cells x y ≢ 0 → (x < side) × (y < side)

@@ -4,10 +4,10 @@ use Rattle.std.proofs.lemmas.Bool.{cases_Bool}
 use Rattle.std.proofs.lemmas.Bool.Decides.{nat_tests, leb_tells}
 use Rattle.std.proofs.Math.ListN.{get_or-append}
 use Rattle.std.proofs.Math.Seq.{get_or-append_seam}
-use Rattle.std.specs.List.{list_any}
+use Rattle.std.specs.List.{list_any, slice_get}
 use Rattle.std.proofs.lemmas.List.Folds.{list_any_at}
-use Rattle.std.specs.List.{slice_get}
 use Rattle.std.proofs.lemmas.Option.{get_or_from_slice_get, slice_get_within}
+use Rattle.ca_plane.proofs.Numbers.{below_or_not}
 use Rattle.indexmap.specs.IndexSet.{insert_key}
 use Rattle.ca_quad.specs.declared.named.IdForm.{IdForm}
 use Rattle.ca_quad.specs.declared.named.IdForm.TheVariants.{Cells2, Cells4, Kept}
@@ -16,9 +16,6 @@ use Rattle.ca_quad.specs.declared.node.Node.TheVariants.{Leaf, Block, Join}
 use Rattle.ca_quad.specs.Squares.{meaning_of_id, place_id, node_square, square_named, square_of, level, IsAmong}
 use Rattle.ca_quad.proofs.Nodes.{node_eq, node_eq-self, node_eq-same}
 use Rattle.ca_quad.specs.Sound.{IsStorable, node_at, IsSoundStore, Grows, AddsOnly}
-
-pub below_or_not : (a b : ℕ) → (a < b) ⊎ (b ≤ a)
-below_or_not a b = elim (leb_tells b a) [ inl e ↦ inr e.1 | inr e ↦ inl e.1 ]
 
 -- the number of a name by value is small, and a place is one of the first
 abbrev pub IsBelow : ℕ → IdForm → Type 0

@@ -15,10 +15,11 @@ use Rattle.ca_plane.proofs.Pictures.{point-same}
 use Rattle.ca_quad.specs.declared.node.Node.{Node}
 use Rattle.ca_quad.specs.declared.tree.Tree.{Tree}
 use Rattle.ca_quad.specs.Squares.{cell_of}
-use Rattle.ca_quad.specs.Trees.{from_corner, IsTree, cell}
+use Rattle.ca_quad.specs.Trees.{IsTree, cell}
+use Rattle.ca_plane.specs.Shown.{from_corner}
 use Rattle.ca_quad.specs.inner.Population.{sum_below, cell_population, live_cells_of_tree, IsCountOf}
 use Rattle.ca_quad.proofs.Cells.{cell_ends}
-use Rattle.ca_quad.proofs.Growth.{below_or_not}
+use Rattle.ca_plane.proofs.Numbers.{below_or_not}
 use Rattle.ca_quad.proofs.Population.{sum_split, sum_same, count_exact}
 
 -- numbered cells, each with a place of its own

@@ -11,7 +11,7 @@ use Rattle.ca_quad.specs.inner.Numbered.{IsKeptOtherwise}
 use Rattle.ca_quad.specs.inner.Measure.{EndsWithin}
 use Rattle.ca_quad.proofs.Cells.{at_nw, at_ne, at_sw, at_se, cell_ends, dot_ends, no_level}
 use Rattle.ca_quad.proofs.Greatest.{live_within}
-use Rattle.ca_quad.proofs.Growth.{below_or_not}
+use Rattle.ca_plane.proofs.Numbers.{below_or_not}
 use Rattle.ca_quad.proofs.Views.{square_whole}
 
 -- one of four that lie together has one

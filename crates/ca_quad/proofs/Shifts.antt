@@ -4,7 +4,7 @@ use Rattle.std.proofs.lemmas.Int.{ints}
 use Rattle.std.proofs.Math.Nat.{pow-le-pow_right}
 use Rattle.ca_quad.specs.declared.neighbours.Neighbours.{Neighbours}
 use Rattle.ca_quad.specs.declared.node.Node.{Node}
-use Rattle.ca_quad.specs.declared.store.cut.Way.{Way}
+use Rattle.ca_quad.specs.declared.store.cut.Offset.{Offset}
 use Rattle.ca_quad.specs.declared.tree.Spot.{Spot}
 use Rattle.ca_quad.specs.declared.tree.Tree.{Tree}
 use Rattle.ca_quad.specs.declared.tree.WideBounds.{WideBounds}
@@ -21,7 +21,7 @@ use Rattle.ca_quad.proofs.Cells.{one_up, twice, of_stays, no_level}
 use Rattle.ca_quad.proofs.Cuts.{window_at, same_four}
 use Rattle.ca_quad.proofs.Differ.{cell_at}
 use Rattle.ca_quad.proofs.FilledSquares.{tree_shows}
-use Rattle.ca_quad.proofs.Growth.{below_or_not}
+use Rattle.ca_plane.proofs.Numbers.{below_or_not}
 use Rattle.ca_quad.proofs.Reach.{tree_holds}
 use Rattle.ca_quad.proofs.Views.{square_whole}
 
@@ -81,9 +81,9 @@ short_fits nodes sound tree is to low near_x near_y x y live =
 pub holds_as : (level : ℕ) (p q : ℤ → ℤ → ℕ) → ((x y : ℤ) → q x y ≡ p x y) → HoldsAll level p → HoldsAll level q
 holds_as level p q same holds x y live = holds x y (λ z. live (same x y ∙ z))
 
--- an eighth of a side that is less than a way is that of a low level
-pub room_left : (level way half : ℕ) → 3 ≤ level → way ≤ 2 ^ 63 → half ≡ 2 ^ (level - 2 - 1) → half < way → level ≤ 66
-room_left level way half some short is less =
+-- an eighth of a side that is less than an offset is that of a low level
+pub room_left : (level offset half : ℕ) → 3 ≤ level → offset ≤ 2 ^ 63 → half ≡ 2 ^ (level - 2 - 1) → half < offset → level ≤ 66
+room_left level offset half some short is less =
     elim (below_or_not level 67) [
       | inl h ↦ omega arith
       | inr h ↦
@@ -145,38 +145,38 @@ module _ (old : List Node) (wide : Tree) (to : Spot) (can : CanMove old wide to)
 -- what is cut out of the parts of a tree shows its cells
 module _ (old new : List Node) (sound : IsSoundStore old) (grows : Grows old new) (wide : Tree) (to : Spot) (can : CanMove old wide to) (four : Neighbours)
     (quarters : AreQuarters old wide.root (wide.level - 1) (four.nw ∷ four.ne ∷ four.sw ∷ four.se ∷ [])) where
-  module _ (way : Way) (root : ℕ) (cut : IsCut new way four root) where
+  module _ (offset : Offset) (root : ℕ) (cut : IsCut new offset four root) where
     level : cut.level ≡ wide.level - 1
     level = sym cut.four.is_nw.is_level ∙ (of_stays old new sound grows four.nw (wide.level - 1) quarters.is_nw).is_level
 
     pub cut_tree : IsTree new (record { root = root; level = wide.level - 1 })
     cut_tree = subst (IsOf new root) level cut.shows.is_square
 
-    module _ (half : ℕ) (is : half ≡ 2 ^ (wide.level - 1 - 1)) (is_x : pos way.x ≡ pos half -ℤ to.x) (is_y : pos way.y ≡ pos half -ℤ to.y) where
+    module _ (half : ℕ) (is : half ≡ 2 ^ (wide.level - 1 - 1)) (is_x : pos offset.x ≡ pos half -ℤ to.x) (is_y : pos offset.y ≡ pos half -ℤ to.y) where
       low : (c : ℕ) (d : ℤ) → pos c ≡ pos half -ℤ d → IsNoFarther (2 ^ (wide.level - 3)) d → c % 2 ^ (wide.level - 1) ≡ c
       low c d e near = mod-eq_of_lt (omega (arith, ints, quarter wide.level can.least, eighth wide.level can.least, one_up (wide.level - 3)))
 
-      shows : ShowsFrom new root (wide.level - 1) (cell_of old wide.level wide.root) way.x way.y
+      shows : ShowsFrom new root (wide.level - 1) (cell_of old wide.level wide.root) offset.x offset.y
       shows =
           let n = wide.level - 1 in
           let next : suc n ≡ wide.level = omega (arith, can.least) in
-          let first : ShowsFrom new root n (cells_of_four new n four) (way.x % 2 ^ n) (way.y % 2 ^ n) =
-          subst (λ l. ShowsFrom new root l (cells_of_four new l four) (way.x % 2 ^ l) (way.y % 2 ^ l)) level cut.shows
+          let first : ShowsFrom new root n (cells_of_four new n four) (offset.x % 2 ^ n) (offset.y % 2 ^ n) =
+          subst (λ l. ShowsFrom new root l (cells_of_four new l four) (offset.x % 2 ^ l) (offset.y % 2 ^ l)) level cut.shows
           in
-          let second : ShowsFrom new root n (cells_of_four old n four) way.x way.y =
-          window_at new root n (cells_of_four old n four) (way.x % 2 ^ n) (way.y % 2 ^ n) way.x way.y (low way.x to.x is_x can.near_x) (low way.y to.y is_y can.near_y)
-          (subst (λ f. ShowsFrom new root n f (way.x % 2 ^ n) (way.y % 2 ^ n)) (same_four old new sound grows way four root n (parts_of_tree old wide to can four.nw four.ne four.sw four.se quarters)) first)
+          let second : ShowsFrom new root n (cells_of_four old n four) offset.x offset.y =
+          window_at new root n (cells_of_four old n four) (offset.x % 2 ^ n) (offset.y % 2 ^ n) offset.x offset.y (low offset.x to.x is_x can.near_x) (low offset.y to.y is_y can.near_y)
+          (subst (λ f. ShowsFrom new root n f (offset.x % 2 ^ n) (offset.y % 2 ^ n)) (same_four old new sound grows offset four root n (parts_of_tree old wide to can four.nw four.ne four.sw four.se quarters)) first)
           in
-          subst (λ l. ShowsFrom new root n (cell_of old l wide.root) way.x way.y) next
-          (record { is_square = second.is_square; has_cells = λ x y i j. second.has_cells x y i j ∙ sym (quarters.has_cells (way.x + x) (way.y + y)) })
+          subst (λ l. ShowsFrom new root n (cell_of old l wide.root) offset.x offset.y) next
+          (record { is_square = second.is_square; has_cells = λ x y i j. second.has_cells x y i j ∙ sym (quarters.has_cells (offset.x + x) (offset.y + y)) })
 
       pub tree_moved : (x y : ℤ) → cell new (record { root = root; level = wide.level - 1 }) x y ≡ shifted_cells (cell old wide) to.x to.y x y
-      tree_moved = cut_moved old new wide to can root way.x way.y (is_x ∙ ap (λ n. pos n -ℤ to.x) is) (is_y ∙ ap (λ n. pos n -ℤ to.y) is) shows
+      tree_moved = cut_moved old new wide to can root offset.x offset.y (is_x ∙ ap (λ n. pos n -ℤ to.x) is) (is_y ∙ ap (λ n. pos n -ℤ to.y) is) shows
 
 -- with room, the tree may be moved
-pub can_move : (old new : List Node) → IsSoundStore old → (small wide : Tree) → IsTree old small → (way : ℕ) (to : Spot) → IsShort to → IsNoFarther way to.x → IsNoFarther way to.y
-    → HasRoom new (cell old small) (small.level + 2) way wide → CanMove new wide to
-can_move old new sound small wide is way to short near_x near_y room =
+pub can_move : (old new : List Node) → IsSoundStore old → (small wide : Tree) → IsTree old small → (offset : ℕ) (to : Spot) → IsShort to → IsNoFarther offset to.x → IsNoFarther offset to.y
+    → HasRoom new (cell old small) (small.level + 2) offset wide → CanMove new wide to
+can_move old new sound small wide is offset to short near_x near_y room =
     let some = some_level old sound small is in
     record {
       is_tree = room.is_tree;

@@ -6,9 +6,10 @@ use Rattle.ca_quad.specs.declared.node.Node.{Node}
 use Rattle.ca_quad.specs.declared.tree.Tree.{Tree}
 use Rattle.ca_quad.specs.Squares.{cell_of}
 use Rattle.ca_quad.specs.Sound.{IsSoundStore, Grows}
-use Rattle.ca_quad.specs.Trees.{IsTree, from_corner, cell, HoldsAll, IsTrimmed}
+use Rattle.ca_quad.specs.Trees.{IsTree, cell, HoldsAll, IsTrimmed}
+use Rattle.ca_plane.specs.Shown.{from_corner}
 use Rattle.ca_quad.specs.inner.Ring.{IsOut, IsRinged, HasNoRing}
-use Rattle.ca_quad.proofs.Growth.{below_or_not}
+use Rattle.ca_plane.proofs.Numbers.{below_or_not}
 use Rattle.ca_quad.proofs.Cells.{cells_stay}
 use Rattle.ca_quad.proofs.Differ.{cell_at}
 

@@ -6,9 +6,11 @@ use Rattle.std.proofs.lemmas.Nat.Bits.{bit_at_above, bit_at-zero}
 use Rattle.ca_quad.specs.declared.node.Node.{Node}
 use Rattle.ca_quad.specs.Squares.{cell_of, joined_cells}
 use Rattle.ca_quad.specs.Sound.{IsSoundStore, Grows}
-use Rattle.ca_quad.specs.Trees.{ShowsSquare, AreFour, row_cells}
+use Rattle.ca_quad.specs.Trees.{ShowsSquare, AreFour}
+use Rattle.ca_plane.specs.Shown.{row_cells}
 use Rattle.ca_quad.specs.inner.Window.{ShowsFrom}
-use Rattle.ca_quad.proofs.Growth.{below_or_not, grows_on}
+use Rattle.ca_quad.proofs.Growth.{grows_on}
+use Rattle.ca_plane.proofs.Numbers.{below_or_not}
 use Rattle.ca_quad.specs.inner.Measure.{EndsWithin}
 use Rattle.ca_quad.proofs.Cells.{in_nw, in_ne, in_sw, in_se, cells_stay, of_stays}
 

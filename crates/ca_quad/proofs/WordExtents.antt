@@ -1,12 +1,12 @@
 -- The least box round the live cells of a word.
-use Rattle.std.proofs.Common.{◌≡◌, ◌≢◌, ℕ, zero, suc, ◌+◌, ◌-◌, ◌*◌, ◌/◌, ◌%◌, ◌^◌, ◌<◌, ◌≤◌, max, inl, inr, refl, sym, ap, subst, ◌∙◌, arith, List, Option, Some, None}
+use Rattle.std.proofs.Common.{◌≡◌, ◌≢◌, ℕ, zero, suc, ◌+◌, ◌-◌, ◌*◌, ◌/◌, ◌%◌, ◌^◌, ◌<◌, ◌≤◌, max, inl, inr, refl, sym, ap, subst, ◌∙◌, arith, List, Option, Some, None, w64}
 use Rattle.std.specs.Prelude.{bit_and, bit_or}
 use Rattle.std.specs.Int.{bit_at, trailing_zeros, leading_zeros}
-use Rattle.std.proofs.Common.{w64}
 use Rattle.std.proofs.lemmas.Nat.{leading_top}
 use Rattle.std.proofs.lemmas.Bool.{cond_below, cond_above}
 use Rattle.std.proofs.lemmas.Nat.Bits.{bit_at-zero, bit_at-lt, bit_at_and, bit_at_or, bit_at_above, bit_at_ones, bit_at_ones_above, bit_at_cat_high, bit_at-trailing_zeros}
-use Rattle.ca_quad.specs.Trees.{word_cells, IsEmpty}
+use Rattle.ca_quad.specs.Trees.{IsEmpty}
+use Rattle.ca_plane.specs.Shown.{word_cells}
 use Rattle.ca_quad.specs.declared.store.extent.Extent.{Extent}
 use Rattle.ca_quad.specs.declared.store.word_extent.BitEnds.{BitEnds}
 use Rattle.ca_quad.specs.declared.node.Node.{Node}
@@ -17,7 +17,7 @@ use Rattle.ca_quad.specs.inner.Bits.{place}
 use Rattle.ca_quad.specs.inner.Extent.{IsExtent, IsSquareExtent}
 use Rattle.ca_quad.specs.inner.WordExtent.{AreEnds, AreColumns}
 use Rattle.ca_quad.proofs.Bits.{down_shift}
-use Rattle.ca_quad.proofs.Growth.{below_or_not}
+use Rattle.ca_plane.proofs.Numbers.{below_or_not}
 use Rattle.ca_quad.proofs.Words.{is_word}
 
 -- ---- the ends

@@ -10,12 +10,13 @@ use Rattle.ca_quad.specs.declared.node.Node.TheVariants.{Block}
 use Rattle.ca_quad.specs.declared.square.Square.TheVariants.{Parts}
 use Rattle.ca_quad.specs.Squares.{digit, node_square, square_named, square_of, level, IsOf, one_cell, joined_cells, cell_of}
 use Rattle.ca_quad.specs.Sound.{IsSoundStore, HasParts}
-use Rattle.ca_quad.specs.Trees.{IsIn, ShowsSquare, word_cells}
+use Rattle.ca_quad.specs.Trees.{IsIn, ShowsSquare}
+use Rattle.ca_plane.specs.Shown.{word_cells}
 use Rattle.ca_quad.specs.inner.Bits.{place}
 use Rattle.ca_quad.specs.inner.Numbered.{AreFourDigits, IsNumberOfNode}
 use Rattle.ca_quad.specs.inner.Measure.{EndsWithin}
 use Rattle.ca_quad.proofs.Cells.{cell_ends, is_under, is_over}
-use Rattle.ca_quad.proofs.Growth.{below_or_not}
+use Rattle.ca_plane.proofs.Numbers.{below_or_not}
 use Rattle.ca_quad.proofs.NumberedSquares.{of_number}
 use Rattle.ca_quad.proofs.Walks.{four_show, parts_show}
 

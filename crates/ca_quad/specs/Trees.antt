@@ -1,10 +1,10 @@
 -- What calls give: squares with stated cells, and the cells of trees on the unbounded plane.
-use Rattle.std.specs.Prelude.{◌≡◌, ◌≢◌, ℕ, suc, ◌+◌, ◌-◌, ◌*◌, ◌^◌, ◌<◌, ◌≤◌, nat_lt, if◌then◌else◌, ℤ, pos, neg_ℤ, ◌+ℤ◌, ◌<ℤ◌, ◌≤ℤ◌, List, [], ◌∷◌, length, slice_index}
-use Rattle.std.specs.Int.{bit_at}
+use Rattle.std.specs.Prelude.{◌≡◌, ◌≢◌, ℕ, suc, ◌+◌, ◌-◌, ◌*◌, ◌^◌, ◌<◌, ◌≤◌, ℤ, pos, neg_ℤ, ◌+ℤ◌, ◌<ℤ◌, ◌≤ℤ◌, List, [], ◌∷◌, length, slice_index}
 use Rattle.ca_quad.specs.declared.node.Node.{Node}
 use Rattle.ca_quad.specs.declared.square.Square.{Square}
 use Rattle.ca_quad.specs.declared.square.Square.TheVariants.{Four, Parts}
 use Rattle.ca_quad.specs.declared.tree.Tree.{Tree}
+use Rattle.ca_plane.specs.Shown.{from_corner}
 use Rattle.ca_quad.specs.Squares.{place_id, level_of, IsOf, one_cell, joined_cells, cell_of}
 
 -- the id is one of these nodes' squares
@@ -38,14 +38,6 @@ pub record Stays (old new : List Node) (id level : ℕ) : Type 0 where
   pub is_square : IsOf new id level
   pub has_cells : (x y : ℕ) → cell_of new level id x y ≡ cell_of old level id x y
 
--- the cells of rows from the top, a bit each, the lowest in the west
-abbrev pub row_cells : List ℕ → ℕ → ℕ → ℕ
-row_cells rows x y = bit_at (slice_index rows y) x
-
--- the cells of a word: 8 rows of 8 bits, of which the bit 8 * y + x is the cell at (x, y)
-abbrev pub word_cells : ℕ → ℕ → ℕ → ℕ
-word_cells word x y = if nat_lt x 8 then bit_at word (8 * y + x) else 0
-
 -- some cell has a state above 1
 abbrev pub HasMoreStates : (ℕ → ℕ → ℕ) → Type 0
 HasMoreStates cells = (x : ℕ) × (y : ℕ) × (2 ≤ cells x y)
@@ -78,11 +70,6 @@ parts (Parts level nw ne sw se) = nw ∷ ne ∷ sw ∷ se ∷ []
 -- the tree's root is a square of its level
 abbrev pub IsTree : List Node → Tree → Type 0
 IsTree nodes tree = IsOf nodes tree.root tree.level
-
--- cells that are counted from a corner; above it and to the left of it all is 0
-abbrev pub from_corner : (ℕ → ℕ → ℕ) → ℤ → ℤ → ℕ
-from_corner cells (pos x) (pos y) = cells x y
-from_corner cells _ _ = 0
 
 -- the state at (x, y) of a tree, whose middle is the corner of the cell (0, 0)
 abbrev pub cell : List Node → Tree → ℤ → ℤ → ℕ

@@ -1,7 +1,6 @@
 //! The cells of items, drawn one after another.
 
-ghost use Rattle.std.specs.Prelude.{◌≡◌, ◌≢◌, ℕ, ℤ, ◌<◌, ◌≤◌, ⊤, List};
-ghost use Rattle.std.specs.Prelude.{Some, MatchOption, OnOk, IfOk};
+ghost use Rattle.std.specs.Prelude.{◌≡◌, ◌≢◌, ℕ, ℤ, ◌<◌, ◌≤◌, ⊤, List, Some, MatchOption, OnOk, IfOk};
 ghost use Rattle.ca_plane.specs.BitPlane.{bit_cell};
 ghost use Rattle.ca_plane.specs.Plane.{IsPicture, cell};
 ghost use Rattle.ca_plane.specs.Sparse.{IsSparse};

@@ -10,10 +10,10 @@ use Rattle.ca_rule.specs.declared.table.neighbourhood.Neighbourhood.{Neighbourho
 use Rattle.ca_rule.specs.TableOrders.{ring, ring_size, picks, every_order}
 use Rattle.ca_rule.specs.TableNext.{States, Transition, admits, fits, result_state}
 use Rattle.ca_rule.specs.inner.TablePlaces.{slots_admit, taken_at, outcome_at}
-use Rattle.ca_rule.specs.inner.TableSieve.{first_inputs, takable, HasIdle, GivesNone}
+use Rattle.ca_rule.specs.inner.TransitionIndices.{first_inputs, takable, HasIdle, GivesNone}
 use Rattle.ca_rule.proofs.PermutedLists.{Alike, count-cons, length-alike, orders-alike, each-more}
 use Rattle.ca_rule.proofs.EqualPlaces.{none-of-unfit}
-use Rattle.ca_rule.proofs.SievedSlots.{each, unfit, other-bit}
+use Rattle.ca_rule.proofs.IndexedSlots.{each, unfit, other-bit}
 
 -- one more cell that the slot doesn't admit
 pub one-more : (variables : List States) (nine : List ℕ) (slots : List Slot) (place : ℕ) (places later : List ℕ) → places ≡ place ∷ later

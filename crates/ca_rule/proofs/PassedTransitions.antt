@@ -8,7 +8,7 @@ use Rattle.std.proofs.lemmas.Nat.{and_le_l}
 use Rattle.std.proofs.lemmas.Nat.Bits.{bit_at-zero, bit_at_clear_same, bit_at_clear_other}
 use Rattle.ca_rule.specs.TableNext.{States, Transition}
 use Rattle.ca_rule.specs.inner.TablePlaces.{outcome_at, next_at}
-use Rattle.ca_rule.specs.inner.TableSieve.{GivesNone, PassesOver, IsSieve, AreSieves}
+use Rattle.ca_rule.specs.inner.TransitionIndices.{GivesNone, PassesOver, IsIndex, AreIndices}
 
 module _ (variables : List States) (nine : List ℕ) (ps : List (List ℕ)) where
   -- where the first n transitions give nothing, the state lies with the others
@@ -57,20 +57,20 @@ cleared-less bits at few set =
     (let same : zero ≡ suc zero = sym (bit_at_clear_same w64 bits at few) ∙ ap (λ n. bit_at n at) e ∙ set in cc) in
     omega arith
 
--- one more sieve
+-- one more index
 one-more : (n : ℕ) → 64 + 64 * n ≡ 64 * suc n
 one-more n = omega arith
 
-pub sieves-push : (variables : List States) (ts : List Transition) (sieves : List (List (List ℕ))) (rows : List (List ℕ)) → AreSieves variables ts sieves
-    → IsSieve variables (drop (64 * length sieves) ts) rows → AreSieves variables ts (sieves ++ rows ∷ [])
-sieves-push variables ts [] rows all one = (one, refl)
-sieves-push variables ts (s ∷ ss) rows all one =
+pub indices-push : (variables : List States) (ts : List Transition) (indices : List (List (List ℕ))) (rows : List (List ℕ)) → AreIndices variables ts indices
+    → IsIndex variables (drop (64 * length indices) ts) rows → AreIndices variables ts (indices ++ rows ∷ [])
+indices-push variables ts [] rows all one = (one, refl)
+indices-push variables ts (s ∷ ss) rows all one =
     let there : drop (64 * length ss) (drop 64 ts) ≡ drop (64 * suc (length ss)) ts = drop-drop (64 * length ss) 64 ts ∙ ap (λ n. drop n ts) (one-more (length ss)) in
-    (all.0, sieves-push variables (drop 64 ts) ss rows all.1 (subst (λ l. IsSieve variables l rows) (sym there) one))
+    (all.0, indices-push variables (drop 64 ts) ss rows all.1 (subst (λ l. IsIndex variables l rows) (sym there) one))
 
 pub next-64 : (ts left : List Transition) (n m : ℕ) → m ≡ n + 1 → left ≡ drop (64 * n) ts → drop 64 left ≡ drop (64 * m) ts
 next-64 ts left n m e from = ap (drop 64) from ∙ drop-drop 64 (64 * n) ts ∙ ap (λ k. drop k ts) (omega arith)
 
-pub one-longer : (sieves : List (List (List ℕ))) (rows : List (List ℕ)) → length (sieves ++ rows ∷ []) ≡ length sieves + 1
+pub one-longer : (indices : List (List (List ℕ))) (rows : List (List ℕ)) → length (indices ++ rows ∷ []) ≡ length indices + 1
 one-longer [] rows = refl
 one-longer (s ∷ ss) rows = let more = one-longer ss rows in omega arith

@@ -6,7 +6,7 @@ pub mod TableSearch
 pub mod TableChoice
 pub mod TableCrowd
 pub mod TableStates
-pub mod TableSieve
+pub mod TransitionIndices
 pub mod TableDistinct
 pub mod TableStored
 pub mod TableReading

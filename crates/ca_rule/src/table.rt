@@ -5,6 +5,7 @@ mod crowd;
 pub(crate) mod fault;
 pub(crate) mod fields;
 mod head;
+mod indexed;
 mod laws;
 mod lines;
 pub(crate) mod names;
@@ -14,8 +15,6 @@ mod placement;
 mod reading;
 pub(crate) mod said_lines;
 pub(crate) mod settings;
-mod sieve;
-mod sifted;
 pub(crate) mod slot;
 mod state_set;
 pub(crate) mod statement;
@@ -23,19 +22,20 @@ pub(crate) mod statement_fault;
 pub(crate) mod statements;
 mod text_laws;
 mod transition;
+mod transition_index;
 pub(crate) mod transition_slots;
 pub(crate) mod variable_line;
 
 use ca_plane::{Automaton, Nine};
 pub use fault::TableFault;
 use head::table_lines;
+use indexed::{IndexedTransitions, first_outcome};
 pub use laws::{worked_cells, worked_orders, worked_texts, worked_transitions};
 pub use neighbourhood::{Neighbourhood, Symmetry};
 pub(crate) use parts_fault::PartsFault;
 use placement::Orders;
 use reading::read_statements;
 use settings::read_settings;
-use sifted::{SiftedTransitions, first_outcome};
 pub use slot::Slot;
 use state_set::StateSet;
 use std::alloc::Global;
@@ -51,7 +51,7 @@ pub struct Table {
     states: u16,
     neighbourhood: Neighbourhood,
     symmetry: Symmetry,
-    sifted: SiftedTransitions,
+    indexed: IndexedTransitions,
 }
 
 impl Model for Table {
@@ -60,12 +60,12 @@ impl Model for Table {
 
     ghost Value = { TableRule };
 
-    ghost view = { λ t. stored_table t.name.items t.states t.neighbourhood t.symmetry t.sifted.variables
-        t.sifted.transitions };
+    ghost view = { λ t. stored_table t.name.items t.states t.neighbourhood t.symmetry t.indexed.variables
+        t.indexed.transitions };
 
     ghost invariant = { λ t. IsStoredTable
         (stored_table t.name.items t.states t.neighbourhood t.symmetry
-        t.sifted.variables t.sifted.transitions) };
+        t.indexed.variables t.indexed.transitions) };
 }
 
 impl Table {
@@ -111,7 +111,7 @@ impl Table {
     /// # Errors
     ///
     /// `Wakes` where it would turn nine zeros into another state, however much memory there is. Else fails
-    /// where there is no memory for sieves of the transitions.
+    /// where there is no memory for indices of the transitions.
     pub(crate) fn of_parts(
         alloc: Global,
         name: Vec<u8>,
@@ -138,7 +138,7 @@ impl Table {
         if first_outcome(&variables, &transitions, orders, &[0; 9]) != 0 {
             return Err(PartsFault::Wakes);
         }
-        let Ok(sifted) = SiftedTransitions::of(alloc, states, variables, transitions) else {
+        let Ok(indexed) = IndexedTransitions::of(alloc, states, variables, transitions) else {
             return Err(PartsFault::Memory);
         };
         Ok(Table {
@@ -146,7 +146,7 @@ impl Table {
             states,
             neighbourhood,
             symmetry,
-            sifted,
+            indexed,
         })
     }
 
@@ -175,7 +175,7 @@ impl Automaton for Table {
 
     fn next(&self, nine: &Nine) -> u8 {
         let orders = Orders::of(self.neighbourhood, self.symmetry);
-        self.sifted.next(orders, nine)
+        self.indexed.next(orders, nine)
     }
 
     /// None: whether a table goes by the number of live neighbours isn't looked for.

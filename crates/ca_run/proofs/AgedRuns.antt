@@ -1,4 +1,4 @@
--- What walls of cells that age cost.
+-- What grids of cells that age cost.
 use Rattle.std.proofs.Common.{◌≡◌, ℕ, suc, ◌+◌, ◌-◌, ◌*◌, ◌<◌, ◌≤◌, ◌^◌, refl, arith}
 use Rattle.std.proofs.Math.Nat.{mul-le-mul}
 use Rattle.ca_quad.specs.Sound.{IsSoundStore}
@@ -17,10 +17,10 @@ at_aging_cost l spent spends sound n count time few most =
       costs = record { most = omega (arith, most, all); made = omega (arith, spends.rises) };
     }
 
--- and the wall becomes a tree
-pub at_aged_wall_cost : {Rule : Type 0} {a b d : LeaperView Rule} (k reach : ℕ) → reach < k + 6 → 7 ≤ k → GoesOnAtCost Rule a b (2 ^ 28) 0 → GoesOnAtCost Rule b d (21 * 14 ^ (reach - 2)) 125
+-- and the grid becomes a tree
+pub at_aged_grid_cost : {Rule : Type 0} {a b d : LeaperView Rule} (k reach : ℕ) → reach < k + 6 → 7 ≤ k → GoesOnAtCost Rule a b (2 ^ 28) 0 → GoesOnAtCost Rule b d (21 * 14 ^ (reach - 2)) 125
     → GoesOnAtCost Rule a d (2 * 14 ^ (k + 4)) 125
-at_aged_wall_cost k reach near least h g =
+at_aged_grid_cost k reach near least h g =
     let more = power_more (reach - 2) (k + 3) (omega (arith, near)) in
     let low = power_more 10 (k + 3) (omega (arith, least)) in
     let next = power_suc (k + 3) in

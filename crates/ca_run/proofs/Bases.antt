@@ -6,10 +6,11 @@ use Rattle.ca_plane.specs.Generations.{cells_after}
 use Rattle.ca_quad.specs.declared.node.Node.{Node}
 use Rattle.ca_quad.specs.Squares.{IsOf, one_cell, joined_cells, cell_of}
 use Rattle.ca_quad.specs.Sound.{IsSoundStore, Grows}
-use Rattle.ca_quad.specs.Trees.{ShowsSquare, AreFour, AreCorners, IsEmpty, from_corner}
+use Rattle.ca_quad.specs.Trees.{ShowsSquare, AreFour, AreCorners, IsEmpty}
+use Rattle.ca_plane.specs.Shown.{from_corner, ShowsPlane}
 use Rattle.ca_run.specs.Centre.{IsCentre, IsLeap}
-use Rattle.ca_run.specs.inner.Shown.{ShowsPlane, ShowsAt, FourShow, sixteen}
-use Rattle.ca_run.proofs.After.{after_same, after_none}
+use Rattle.ca_run.specs.inner.Shown.{ShowsAt, FourShow, sixteen}
+use Rattle.ca_plane.proofs.After.{after_same, after_none}
 use Rattle.ca_run.proofs.ShowsPlane.{looks_together, looks_centre}
 use Rattle.ca_run.proofs.ShownPlanes.{is_centre_at, four_was, four_go, four_stay, at_corner}
 

@@ -7,7 +7,8 @@ use Rattle.ca_quad.specs.declared.node.Node.{Node}
 use Rattle.ca_quad.specs.declared.tree.Tree.{Tree}
 use Rattle.ca_quad.specs.Squares.{level_of, cell_of}
 use Rattle.ca_quad.specs.Sound.{IsSoundStore, Grows}
-use Rattle.ca_quad.specs.Trees.{ShowsSquare, from_corner}
+use Rattle.ca_quad.specs.Trees.{ShowsSquare}
+use Rattle.ca_plane.specs.Shown.{from_corner}
 use Rattle.ca_quad.specs.Added.{IsCopy}
 use Rattle.ca_quad.proofs.ShownSquares.{shows_stays}
 use Rattle.ca_quad.proofs.Cells.{cells_stay, of_stays}

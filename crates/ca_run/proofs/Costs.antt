@@ -2,7 +2,7 @@
 use Rattle.std.proofs.Common.{◌≡◌, ℕ, suc, ◌+◌, ◌-◌, ◌*◌, ◌/◌, ◌%◌, ◌^◌, ◌<◌, ◌≤◌, inl, inr, min, max, length, sym, ap, subst, arith}
 use Rattle.std.proofs.Math.Nat.{pow-succ', one-le-pow, pow-le-pow_right, div-eq_of_lt, mod-le, mod-lt, mul-le-mul, mul-le-mul_right}
 use Rattle.std.proofs.Math.Pow.{pow_mono}
-use Rattle.ca_quad.proofs.Growth.{below_or_not}
+use Rattle.ca_plane.proofs.Numbers.{below_or_not}
 use Rattle.ca_quad.specs.Sound.{IsSoundStore}
 use Rattle.ca_run.specs.Leaping.{LeaperView, Costs}
 use Rattle.ca_run.specs.inner.AtCost.{GoesOnAtCost}
@@ -147,9 +147,9 @@ bricks_cost n count k time few least =
     let power = power_more 8 (k + 4) (omega (arith, least)) in
     omega (arith, most, power)
 
--- eight walls
-pub walls_cost : (i k : ℕ) → i ≤ 8 → i * (2 * 14 ^ (k + 4)) ≤ 14 ^ (k + 6)
-walls_cost i k few =
+-- eight grids
+pub grids_cost : (i k : ℕ) → i ≤ 8 → i * (2 * 14 ^ (k + 4)) ≤ 14 ^ (k + 6)
+grids_cost i k few =
     let most : i * (2 * 14 ^ (k + 4)) ≤ 8 * (2 * 14 ^ (k + 4)) = mul-le-mul_right (2 * 14 ^ (k + 4)) few in
     let e = power_suc (k + 4) in
     let f = power_suc (suc (k + 4)) in
@@ -160,13 +160,13 @@ walls_cost i k few =
 pub dense_cost : (k d : ℕ) → 7 ≤ k → 6 ≤ d → 14 ^ (k + 6) + 61 * 14 ^ (max k d + 2) ≤ 14 ^ (k + d + 2)
 dense_cost k d least many =
     let top = max k d + 2 in
-    let walls = power_more (k + 6) (k + d) (omega (arith, many)) in
+    let grids = power_more (k + 6) (k + d) (omega (arith, many)) in
     let leaps = power_more (suc (suc top)) (k + d) (omega (arith, least, many)) in
     let e = power_suc top in
     let f = power_suc (suc top) in
     let twice = power_twice (k + d) in
     let all = power_more (suc (k + d)) (k + d + 2) (omega arith) in
-    omega (arith, walls, leaps, e, f, twice, all)
+    omega (arith, grids, leaps, e, f, twice, all)
 
 -- ---- runs in a store of their own
 

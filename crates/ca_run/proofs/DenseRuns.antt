@@ -15,8 +15,8 @@ use Rattle.ca_run.specs.Leaping.{Costs, LeaperView, Spent, Spends}
 use Rattle.ca_run.specs.inner.Apart.{IsCopyOfTree}
 use Rattle.ca_run.specs.inner.AtCost.{GoesOnAtCost}
 use Rattle.ca_run.specs.inner.Dense.{HasReached, IsIdle, IsDense, HasLeapt, HasParted}
-use Rattle.ca_run.proofs.After.{after_same, after_again}
-use Rattle.ca_run.proofs.Costs.{costs_then, costs_more, at_cost_more, at_both_costs, power_more, one_more, six_digits, bricks_cost, walls_cost, dense_cost, countable_cost, countable_one}
+use Rattle.ca_plane.proofs.After.{after_same, after_again}
+use Rattle.ca_run.proofs.Costs.{costs_then, costs_more, at_cost_more, at_both_costs, power_more, one_more, six_digits, bricks_cost, grids_cost, dense_cost, countable_cost, countable_one}
 use Rattle.ca_run.proofs.Levels.{low_stays, later_level, trimmed_low}
 use Rattle.ca_run.proofs.Trees.{tree_stays}
 
@@ -169,7 +169,7 @@ module _ {Rule : Type 0} {old mid : LeaperView Rule} (first : Tree) (n : ℕ) (s
       let many = dense.many in
       absurd (omega (arith, many, single))
 
--- ---- what walls cost
+-- ---- what grids cost
 
 -- bricks are stepped: work is counted, and nothing else is done
 pub at_stepping_cost : {Rule : Type 0} (l : LeaperView Rule) (spent : Spent) → Spends l.spent spent → IsSoundStore l.nodes → (n count k : ℕ) → n ≤ 1024 → count ≤ 2 ^ 18 → 7 ≤ k → spent.used ≤ l.spent.used + n * count
@@ -181,18 +181,18 @@ at_stepping_cost l spent spends sound n count k time few least most =
       costs = record { most = omega (arith, most, cost); made = omega (arith, spends.rises) };
     }
 
--- and the wall becomes a tree
-pub at_wall_cost : {Rule : Type 0} {a b d : LeaperView Rule} (k reach : ℕ) → reach ≤ k + 6 → GoesOnAtCost Rule a b (14 ^ (k + 4)) 0 → GoesOnAtCost Rule b d (14 ^ (reach - 2)) 125
+-- and the grid becomes a tree
+pub at_grid_cost : {Rule : Type 0} {a b d : LeaperView Rule} (k reach : ℕ) → reach ≤ k + 6 → GoesOnAtCost Rule a b (14 ^ (k + 4)) 0 → GoesOnAtCost Rule b d (14 ^ (reach - 2)) 125
     → GoesOnAtCost Rule a d (2 * 14 ^ (k + 4)) 125
-at_wall_cost k reach near h g =
+at_grid_cost k reach near h g =
     let more = power_more (reach - 2) (k + 4) (omega (arith, near)) in
     at_cost_more (at_both_costs h g) (omega (arith, more)) (omega arith)
 
 module _ {Rule : Type 0} {old mid new : LeaperView Rule} (first : Tree) (i : ℕ) (before : Costs Rule old mid (i * (2 * 14 ^ (first.level + 4))) (255 * i)) (now : Costs Rule mid new (2 * 14 ^ (first.level + 4)) 255) where
-  -- one wall after others
-  pub wall_more : Costs Rule old new ((i + 1) * (2 * 14 ^ (first.level + 4))) (255 * (i + 1))
-  wall_more = costs_then before now (one_more i (2 * 14 ^ (first.level + 4)) (2 * 14 ^ (first.level + 4)) (omega arith)) (omega arith)
+  -- one grid after others
+  pub grid_more : Costs Rule old new ((i + 1) * (2 * 14 ^ (first.level + 4))) (255 * (i + 1))
+  grid_more = costs_then before now (one_more i (2 * 14 ^ (first.level + 4)) (2 * 14 ^ (first.level + 4)) (omega arith)) (omega arith)
 
--- and all walls are no more than eight
-pub walls_done : {Rule : Type 0} {old new : LeaperView Rule} (first : Tree) (n i : ℕ) → 7 ≤ first.level → 32 ≤ n → i ≤ 8 → Costs Rule old new (i * (2 * 14 ^ (first.level + 4))) (255 * i) → IsDense Rule old first n new
-walls_done first n i least many few costs = record { least = least; many = many; costs = costs_more costs (walls_cost i first.level few) (omega (arith, few)) }
+-- and all grids are no more than eight
+pub grids_done : {Rule : Type 0} {old new : LeaperView Rule} (first : Tree) (n i : ℕ) → 7 ≤ first.level → 32 ≤ n → i ≤ 8 → Costs Rule old new (i * (2 * 14 ^ (first.level + 4))) (255 * i) → IsDense Rule old first n new
+grids_done first n i least many few costs = record { least = least; many = many; costs = costs_more costs (grids_cost i first.level few) (omega (arith, few)) }

@@ -5,11 +5,12 @@ use Rattle.ca_plane.specs.Generations.{cells_after}
 use Rattle.ca_quad.specs.declared.node.Node.{Node}
 use Rattle.ca_quad.specs.Squares.{cell_of}
 use Rattle.ca_quad.specs.Sound.{IsSoundStore, Grows}
-use Rattle.ca_quad.specs.Trees.{from_corner, word_cells, HasMoreStates}
+use Rattle.ca_quad.specs.Trees.{HasMoreStates}
+use Rattle.ca_plane.specs.Shown.{from_corner, word_cells}
 use Rattle.ca_run.specs.Centre.{IsCentre}
 use Rattle.ca_run.specs.inner.Centres.{HasCentre}
 use Rattle.ca_run.specs.inner.Shown.{ShowsAt, side}
-use Rattle.ca_run.specs.inner.Words.{WordShows}
+use Rattle.ca_bricks.specs.Words.{WordShows}
 use Rattle.ca_run.proofs.ShownPlanes.{is_centre_at, at_corner}
 
 -- the word of a square that shows a plane shows it

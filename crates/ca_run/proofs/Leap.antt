@@ -5,7 +5,8 @@ use Rattle.ca_plane.specs.Generations.{cells_after}
 use Rattle.ca_quad.specs.declared.node.Node.{Node}
 use Rattle.ca_quad.specs.Squares.{IsOf, cell_of}
 use Rattle.ca_quad.specs.Sound.{IsSoundStore, Grows}
-use Rattle.ca_quad.specs.Trees.{AreFour, from_corner}
+use Rattle.ca_quad.specs.Trees.{AreFour}
+use Rattle.ca_plane.specs.Shown.{from_corner}
 use Rattle.ca_quad.proofs.Growth.{grows_same, grows_on}
 use Rattle.ca_quad.proofs.Cells.{of_stays}
 use Rattle.ca_run.specs.declared.leaper.trio.Trio.{Trio}

@@ -8,7 +8,7 @@ use Rattle.ca_quad.specs.declared.node.Node.{Node}
 use Rattle.ca_quad.specs.declared.tree.Tree.{Tree}
 use Rattle.ca_quad.specs.Trees.{cell, IsWithinLevel, HoldsAll, IsTrimmed}
 use Rattle.ca_quad.proofs.FilledSquares.{place_on}
-use Rattle.ca_quad.proofs.Growth.{below_or_not}
+use Rattle.ca_plane.proofs.Numbers.{below_or_not}
 use Rattle.ca_quad.proofs.Reach.{tree_holds}
 use Rattle.ca_run.specs.inner.Beyond.{IsBeyond, DiesBeyond}
 use Rattle.ca_run.specs.Leaping.{Costs, LeaperView}

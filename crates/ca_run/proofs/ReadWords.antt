@@ -1,19 +1,17 @@
 -- Squares read as words: where the words of their parts lie.
-use Rattle.std.proofs.Common.{◌≡◌, ℕ, suc, ◌+◌, ◌-◌, ◌*◌, ◌%◌, ◌≤◌, ◌<◌, ◌^◌, nat_lt, if◌then◌else◌, Bool, true, false, Option, IfSome, inl, inr, refl, sym, ap, ◌∙◌, arith}
+use Rattle.std.proofs.Common.{◌≡◌, ℕ, suc, ◌+◌, ◌-◌, ◌*◌, ◌%◌, ◌≤◌, ◌<◌, ◌^◌, nat_lt, if◌then◌else◌, true, false, Option, IfSome, inl, inr, ap, ◌∙◌, arith}
 use Rattle.std.specs.Prelude.{ℤ, pos, ◌+ℤ◌}
 use Rattle.std.proofs.lemmas.Int.{ints}
 use Rattle.std.proofs.Math.Nat.{two-pow-succ}
 use Rattle.std.proofs.Math.Pow.{pow_mono}
 use Rattle.std.proofs.lemmas.Nat.{mod-mul-add, pow-add}
 use Rattle.std.proofs.lemmas.Bool.Decides.{nat_tests}
-use Rattle.ca_quad.proofs.Growth.{below_or_not}
-use Rattle.std.specs.Int.{bit_at}
+use Rattle.ca_plane.proofs.Numbers.{below_or_not}
 use Rattle.std.proofs.lemmas.Nat.Bits.{bit_at-zero}
-use Rattle.ca_quad.specs.Trees.{word_cells}
 use Rattle.ca_run.specs.inner.Shown.{side}
-use Rattle.ca_run.specs.inner.Words.{WordShows, eight}
+use Rattle.ca_bricks.specs.Words.{WordShows, eight}
 use Rattle.ca_run.proofs.Trees.{some_as}
-use Rattle.ca_run.proofs.Words.{word_from}
+use Rattle.ca_bricks.proofs.Words.{word_from}
 
 -- a smaller number is its own remainder
 own_rest : (n m : ℕ) → n < m → n % m ≡ n
@@ -47,26 +45,7 @@ module _ (k i h : ℕ) (e : h ≡ 2 ^ k) where
 pub found_from : (r : Option ℕ) (p : ℤ → ℤ → ℕ) (a b c d : ℤ) → a ≡ c → b ≡ d → IfSome r (λ word. WordShows word p a b) → IfSome r (λ word. WordShows word p c d)
 found_from r p a b c d e f h = some_as r (λ word. WordShows word p a b) (λ word. WordShows word p c d) (λ word shows. word_from word p a b c d e f shows) h
 
--- ---- words without a live cell
-
-none_at : (x y : ℕ) → word_cells 0 x y ≡ 0
-none_at x y = either (nat_lt x 8)
-  where
-    either : (low : Bool) → (if low then bit_at 0 (8 * y + x) else 0) ≡ 0
-    either true = bit_at-zero (8 * y + x)
-    either false = refl
-
--- an empty word shows a plane that is empty there
-pub word_empty : (p : ℤ → ℤ → ℕ) (a b : ℤ) → ((x y : ℕ) → x < 8 → y < 8 → p (a +ℤ pos x) (b +ℤ pos y) ≡ 0) → WordShows 0 p a b
-word_empty p a b none = record { looks = λ x y i j. none_at x y ∙ sym (none x y i j) }
-
--- the cells along the side of a square, and its words
-pub side_words : (k : ℕ) → 2 ^ suc (suc (suc k)) ≡ 8 * 2 ^ k
-side_words k =
-    let up = two-pow-succ k in
-    let up1 = two-pow-succ (suc k) in
-    let up2 = two-pow-succ (suc (suc k)) in
-    omega (arith, up, up1, up2)
+-- ---- words
 
 -- ---- pieces of 64 by 64 cells
 

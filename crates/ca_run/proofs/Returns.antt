@@ -13,7 +13,7 @@ use Rattle.ca_plane.proofs.Shifts.{cell-shifted}
 use Rattle.ca_run.specs.Later.{IsBackInPlace, IsBackAnywhere, IsLeast}
 use Rattle.ca_run.specs.Primes.{IsPrime}
 use Rattle.ca_run.proofs.Primes.{times_by_prime}
-use Rattle.ca_run.proofs.After.{after_same, after_seen, after_again}
+use Rattle.ca_plane.proofs.After.{after_same, after_seen, after_again}
 use Rattle.ca_run.proofs.Vectors.{no_vector}
 
 -- ---- pictures that are moved

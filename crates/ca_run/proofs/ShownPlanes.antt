@@ -10,20 +10,22 @@ use Rattle.ca_plane.specs.declared.counting.Counting.{Counting}
 use Rattle.ca_quad.specs.declared.node.Node.{Node}
 use Rattle.ca_quad.specs.Squares.{IsOf, joined_cells, cell_of}
 use Rattle.ca_quad.specs.Sound.{IsSoundStore, Grows}
-use Rattle.ca_quad.specs.Trees.{ShowsSquare, AreFour, AreQuarters, from_corner}
+use Rattle.ca_quad.specs.Trees.{ShowsSquare, AreFour, AreQuarters}
+use Rattle.ca_plane.specs.Shown.{from_corner, ShowsPlane}
 use Rattle.ca_quad.proofs.Growth.{grows_on}
 use Rattle.ca_quad.proofs.Cells.{cells_stay, of_stays}
 use Rattle.ca_run.specs.declared.leaper.trio.Trio.{Trio}
 use Rattle.ca_run.specs.Centre.{centre, IsCentre, IsLeap}
 use Rattle.ca_run.specs.Leaping.{Spent, Spends, LeaperView, LeaperGrows}
-use Rattle.ca_run.specs.inner.Shown.{ShowsPlane, ShowsAt, FourShow, ThreeShow, TwoShow, AreThree, side}
+use Rattle.ca_run.specs.inner.Shown.{ShowsAt, FourShow, ThreeShow, TwoShow, AreThree, side}
 use Rattle.ca_run.specs.inner.Pages.{MemoView, HasFullLeap, HasSingle, RemembersNoMore, IsBoundedMemo}
 use Rattle.ca_run.specs.inner.Slots.{SlotsView, HasRecent}
 use Rattle.ca_run.specs.Memo.{LeapResult, FullLeap, Centre, LeapOfFour, IsTrueResult}
 use Rattle.ca_run.specs.inner.Tables.{IsLeaper}
 use Rattle.ca_run.proofs.LeapResults.{AreFullLeaps, AreSingles, AreRecentCentres, AreRecentLeaps, full_leaps_of, singles_of, centres_of, leaps_of, leaper_with}
-use Rattle.ca_run.proofs.After.{after_again}
-use Rattle.ca_run.proofs.ShowsPlane.{quarters_each, looks_from, looks_together, looks_nw, looks_ne, looks_sw, looks_se, looks_centre}
+use Rattle.ca_plane.proofs.After.{after_again}
+use Rattle.ca_run.proofs.ShowsPlane.{quarters_each, looks_together, looks_nw, looks_ne, looks_sw, looks_se, looks_centre}
+use Rattle.ca_plane.proofs.Shown.{looks_from}
 
 -- ---- growth
 

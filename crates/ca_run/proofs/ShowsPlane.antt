@@ -3,18 +3,14 @@ use Rattle.std.proofs.Common.{◌≡◌, ℕ, ◌+◌, ◌-◌, ◌<◌, ◌≤�
 use Rattle.std.specs.Prelude.{ℤ, pos, negsuc, ◌+ℤ◌}
 use Rattle.std.proofs.lemmas.Int.{ints}
 use Rattle.ca_plane.specs.Generations.{cells_after}
+use Rattle.ca_plane.specs.Shown.{ShowsPlane, from_corner}
 use Rattle.ca_quad.specs.Squares.{joined_cells}
-use Rattle.ca_quad.specs.Trees.{from_corner}
-use Rattle.ca_quad.proofs.Growth.{below_or_not}
+use Rattle.ca_plane.proofs.Numbers.{below_or_not}
 use Rattle.ca_quad.proofs.Cells.{in_nw, in_ne, in_sw, in_se, at_nw, at_ne, at_sw, at_se}
-use Rattle.ca_run.specs.Later.{IsWithin}
+use Rattle.ca_plane.specs.Box.{IsWithin}
 use Rattle.ca_run.specs.Centre.{centre}
-use Rattle.ca_run.specs.inner.Shown.{ShowsPlane, QuartersShow}
-use Rattle.ca_run.proofs.After.{after_near, after_seen}
-
--- the same from a place by another name
-pub looks_from : (side : ℕ) (cells : ℕ → ℕ → ℕ) (p : ℤ → ℤ → ℕ) (a b c d : ℤ) → a ≡ c → b ≡ d → ShowsPlane side cells p a b → ShowsPlane side cells p c d
-looks_from side cells p a b c d e f h x y i j = h x y i j ∙ ap₂ (λ s t. p (s +ℤ pos x) (t +ℤ pos y)) e f
+use Rattle.ca_run.specs.inner.Shown.{QuartersShow}
+use Rattle.ca_plane.proofs.After.{after_near, after_seen}
 
 -- where each quarter shows something else, or in another way, so does the whole
 pub quarters_each : {T U : Type 0} {Was : T → (ℤ → ℤ → ℕ) → ℤ → ℤ → Type 0} {wide : ℤ} {nw ne sw se : T} {p : ℤ → ℤ → ℕ} {a b : ℤ} (Is : U → (ℤ → ℤ → ℕ) → ℤ → ℤ → Type 0) (w x y z : U) (q : ℤ → ℤ → ℕ)

@@ -6,11 +6,10 @@ use Rattle.std.proofs.lemmas.Int.{ints}
 use Rattle.ca_plane.specs.declared.point.Bounds.{Bounds}
 use Rattle.ca_plane.specs.Plane.{Picture, cell, IsLive}
 use Rattle.ca_plane.specs.Generations.{after}
-use Rattle.ca_plane.specs.Box.{IsInBox}
+use Rattle.ca_plane.specs.Box.{IsInBox, IsWithin}
 use Rattle.ca_plane.proofs.Pictures.{cell-from_not_live}
-use Rattle.ca_run.specs.Later.{IsWithin}
 use Rattle.ca_run.specs.Reach.{grown_box}
-use Rattle.ca_run.proofs.After.{after_dead}
+use Rattle.ca_plane.proofs.After.{after_dead}
 
 -- a picture that isn't live shows 0 after n generations too
 pub none_after : (next : List ℕ → ℕ) (p : Picture) → next (replicate 9 0) ≡ 0 → (IsLive p → ⊥) → (n : ℕ) (x y : ℤ) → after next p n x y ≡ 0

@@ -1,16 +1,16 @@
 -- Tiles and words: the bits of rows and bytes.
 use Rattle.std.proofs.Common.{◌≡◌, ℕ, zero, suc, ◌+◌, ◌-◌, ◌*◌, ◌/◌, ◌%◌, ◌<◌, ◌≤◌, ◌^◌, inl, inr, List, [], ◌∷◌, map, get_or, length, refl, sym, ap, ap₂, subst, ◌∙◌, arith}
 use Rattle.std.specs.Prelude.{ℤ, pos, negsuc, ◌+ℤ◌, ◌-ℤ◌, slice_index, bit_or, replicate}
-use Rattle.std.specs.Int.{bit_at, w64, to_le_bytes, from_le_bytes}
+use Rattle.std.specs.Int.{bit_at, w64, from_le_bytes}
 use Rattle.std.specs.List.{All, range_with_len}
 use Rattle.std.proofs.lemmas.Int.{ints}
 use Rattle.std.proofs.lemmas.Bool.{cond_below, cond_above}
 use Rattle.std.proofs.Math.Nat.{pow-suc}
 use Rattle.std.proofs.lemmas.Grind.{or_before_shift}
-use Rattle.std.proofs.lemmas.Nat.{pow-add, shr-shr, mod_below, le_bytes_8}
+use Rattle.std.proofs.lemmas.Nat.{pow-add, shr-shr, mod_below}
 use Rattle.std.proofs.lemmas.Nat.Bits.{bit_at-lt, bit_at_cat_low, bit_at_cat_high}
 use Rattle.std.proofs.lemmas.List.FromFn.{get_or-map-range_with_len, length-map-range_with_len}
-use Rattle.std.proofs.lemmas.List.{get_or_past, get_or-replicate}
+use Rattle.std.proofs.lemmas.List.{get_or-replicate}
 use Rattle.std.proofs.lemmas.Simd.{length-zip2, get_or-zip2, get_or_narrower}
 use Rattle.std.specs.Simd.Lanes.{zip2, digits_l, number_l}
 use Rattle.std.proofs.lemmas.List.Elements.{All-from_recursion}
@@ -18,31 +18,19 @@ use Rattle.ca_plane.specs.Generations.{around, cells_after}
 use Rattle.ca_plane.specs.Counting.{counting_next}
 use Rattle.ca_plane.specs.declared.counting.Counting.{Counting}
 use Rattle.ca_quad.specs.Squares.{joined_cells}
-use Rattle.ca_quad.specs.Trees.{row_cells, word_cells}
-use Rattle.ca_quad.proofs.Growth.{below_or_not}
+use Rattle.ca_plane.specs.Shown.{row_cells, word_cells}
+use Rattle.ca_plane.proofs.Numbers.{below_or_not}
 use Rattle.ca_quad.proofs.Cells.{in_nw, in_ne, in_sw, in_se}
 use Rattle.ca_run.specs.declared.leaper.words.Words.{Words}
-use Rattle.ca_run.specs.Lanes.{tile_cell, IsWithinEdge}
-use Rattle.ca_run.specs.inner.Words.{WordShows, WordsShow, TileShows, byte_of, word_bytes_at, inner_byte}
-use Rattle.ca_run.specs.Counting.{GoesBy}
-use Rattle.ca_run.specs.Later.{IsWithin}
-use Rattle.ca_run.proofs.After.{around-same, around-nine_states}
-use Rattle.ca_run.proofs.BitRows.{bit_low}
+use Rattle.ca_bricks.specs.Lanes.{tile_cell, IsWithinEdge}
+use Rattle.ca_run.specs.inner.Words.{WordsShow, TileShows, word_bytes_at, inner_byte}
+use Rattle.ca_bricks.specs.Words.{WordShows, byte_of}
+use Rattle.ca_bricks.specs.Counting.{GoesBy}
+use Rattle.ca_plane.specs.Box.{IsWithin}
+use Rattle.ca_plane.proofs.After.{around-same, around-nine_states}
+use Rattle.ca_bricks.proofs.BitRows.{bit_low}
+use Rattle.ca_bricks.proofs.Words.{bit_shifted, byte_bit, byte_low, made_byte}
 use Rattle.ca_run.proofs.ShowsPlane.{looks_together}
-
--- ---- bits
-
--- the bits of a number that is shifted down are those further up
-bit_shifted : (n k i : ℕ) → bit_at (n / 2 ^ k) i ≡ bit_at n (k + i)
-bit_shifted n k i = ap (λ m. m % 2) (shr-shr n k i)
-
--- the bits of a word's byte
-pub byte_bit_at : (word y x : ℕ) → x < 8 → bit_at (byte_of word y) x ≡ bit_at word (8 * y + x)
-byte_bit_at word y x h = bit_low (word / 2 ^ (8 * y)) 8 x h ∙ bit_shifted word (8 * y) x
-
--- they are cells of one row
-pub byte_bit : (word y x : ℕ) → x < 8 → bit_at (byte_of word y) x ≡ word_cells word x y
-byte_bit word y x h = byte_bit_at word y x h ∙ cond_below x 8 (bit_at word (8 * y + x)) 0 h
 
 -- ---- the bytes of words
 
@@ -93,9 +81,6 @@ bit_west e w x h = bit_at_cat_low e 8 w x h
 
 bit_east : (e w x : ℕ) → w < 256 → 8 ≤ x → bit_at (e * 256 + w) x ≡ bit_at e (x - 8)
 bit_east e w x low h = bit_at_cat_high e 8 w x low h
-
-pub byte_low : (word y : ℕ) → byte_of word y < 256
-byte_low word y = mod_below (word / 2 ^ (8 * y)) 256 (omega arith)
 
 -- the rows of four words show their cells
 rows_cells : (words : Words) (rows : List ℕ) → IsRowsOf words rows → (x y : ℕ) → x < 16 → y < 16
@@ -152,32 +137,6 @@ joined_shows f g is_or is_up words west east l m are_west are_east = tile_shows 
     joined_rows f g is_or is_up west east l m y i h k ∙ ap₂ (λ a b. a * 256 + b) (are_east y i) (are_west y i))
 
 -- ---- the middle of a tile
-
--- the bytes of a word that is made of eight
-word_bytes : (word : ℕ) → to_le_bytes w64 word ≡ map (byte_of word) (range_with_len 0 8)
-word_bytes word =
-    let e : word % 256 ≡ byte_of word 0 = omega arith in
-    cc
-
--- eight bytes that are given by their places are bytes
-bytes_fit : (f : ℕ → ℕ) → ((i : ℕ) → f i < 256) → (i : ℕ) → get_or (map f (range_with_len 0 8)) i 0 < 256
-bytes_fit f fit i =
-    elim (below_or_not i 8) [
-      | inl l ↦
-          let e = get_or-map-range_with_len f 0 8 i i 0 l (omega arith) in
-          omega (arith, e, fit i)
-      | inr l ↦
-          let e = get_or_past (map f (range_with_len 0 8)) i 0 (omega (arith, length-map-range_with_len f 0 8)) in
-          omega (arith, e)
-    ]
-
--- and so they are those of the word that is made of them
-pub made_byte : (f : ℕ → ℕ) → ((i : ℕ) → f i < 256) → (bytes : List ℕ) (word y : ℕ) → bytes ≡ map f (range_with_len 0 8) → word ≡ from_le_bytes w64 bytes → y < 8 → byte_of word y ≡ f y
-made_byte f fit bytes word y e made j =
-    let all = map f (range_with_len 0 8) in
-    let g : to_le_bytes w64 word ≡ all = le_bytes_8 all word refl (bytes_fit f fit) (made ∙ ap (from_le_bytes w64) e) in
-    sym (get_or-map-range_with_len (byte_of word) 0 8 y y 0 j (omega arith)) ∙ ap (λ l. get_or l y 0) (sym (word_bytes word) ∙ g)
-    ∙ get_or-map-range_with_len f 0 8 y y 0 j (omega arith)
 
 -- a word that is made of the bytes in the middle of a tile shows the cells there
 middle_byte : (rows bytes : List ℕ) (word y : ℕ) → bytes ≡ map (inner_byte rows) (range_with_len 0 8) → word ≡ from_le_bytes w64 bytes → y < 8 → byte_of word y ≡ inner_byte rows y

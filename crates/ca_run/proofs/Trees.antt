@@ -10,15 +10,16 @@ use Rattle.ca_quad.specs.declared.node.Node.{Node}
 use Rattle.ca_quad.specs.declared.tree.Tree.{Tree}
 use Rattle.ca_quad.specs.Squares.{cell_of}
 use Rattle.ca_quad.specs.Sound.{IsSoundStore, Grows}
-use Rattle.ca_quad.specs.Trees.{IsTree, from_corner, cell}
-use Rattle.ca_quad.proofs.Growth.{below_or_not}
+use Rattle.ca_quad.specs.Trees.{IsTree, cell}
+use Rattle.ca_plane.specs.Shown.{from_corner}
+use Rattle.ca_plane.proofs.Numbers.{below_or_not}
 use Rattle.ca_quad.proofs.Cells.{cell_ends, cells_stay}
 use Rattle.ca_quad.proofs.Edges.{outside_x, outside_y}
 use Rattle.ca_run.specs.Centre.{IsCentre}
 use Rattle.ca_run.specs.inner.Shown.{ShowsAt, side}
 use Rattle.ca_run.specs.inner.Padded.{IsPadded}
 use Rattle.ca_run.specs.inner.Beyond.{IsBeyond, DiesBeyond}
-use Rattle.ca_run.proofs.After.{after_same, after_dead}
+use Rattle.ca_plane.proofs.After.{after_same, after_dead}
 use Rattle.ca_run.proofs.ShownPlanes.{at_from, centre_at}
 
 -- a tree is empty beyond half its side

@@ -3,7 +3,8 @@ use Rattle.std.specs.Prelude.{◌≡◌, ℕ, suc, ◌+◌, ◌≤◌, ◌<◌, 
 use Rattle.ca_plane.specs.Generations.{cells_after}
 use Rattle.ca_quad.specs.declared.node.Node.{Node}
 use Rattle.ca_quad.specs.Squares.{IsOf, cell_of}
-use Rattle.ca_quad.specs.Trees.{AreFour, from_corner}
+use Rattle.ca_quad.specs.Trees.{AreFour}
+use Rattle.ca_plane.specs.Shown.{from_corner}
 use Rattle.ca_run.specs.inner.Shown.{ShowsAt, FourShow, side}
 
 -- the centre of a square after n generations, counted from the centre's own corner: the square lies with its upper left

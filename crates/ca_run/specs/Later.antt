@@ -1,12 +1,8 @@
 -- Pictures over the generations: which cells a later cell depends on, and when a picture is back (our own).
-use Rattle.std.specs.Prelude.{◌≡◌, ℕ, ◌≤◌, ℤ, pos, ◌+ℤ◌, ◌-ℤ◌, List}
+use Rattle.std.specs.Prelude.{◌≡◌, ℕ, ◌≤◌, ℤ, List}
 use Rattle.ca_plane.specs.Plane.{Picture, cell, shifted}
 use Rattle.ca_plane.specs.Generations.{IsAfter}
-use Rattle.ca_plane.specs.Box.{IsInBox}
-
--- (u, v) lies within n of (x, y) in each direction
-abbrev pub IsWithin : ℕ → ℤ → ℤ → ℤ → ℤ → Type 0
-IsWithin n x y u v = IsInBox (record { x0 = x -ℤ pos n; y0 = y -ℤ pos n; x1 = x +ℤ pos n; y1 = y +ℤ pos n }) u v
+use Rattle.ca_plane.specs.Box.{IsWithin}
 
 -- the two pictures show the same cells at all places within n of (x, y)
 abbrev pub AgreeWithin : ℕ → ℤ → ℤ → Picture → Picture → Type 0

@@ -5,7 +5,5 @@ pub mod Centre
 pub mod Leaping
 pub mod Advanced
 pub mod Stepped
-pub mod Lanes
-pub mod Counting
 pub mod Memo
 pub mod inner

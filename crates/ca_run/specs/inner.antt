@@ -9,11 +9,7 @@ pub mod Padded
 pub mod Words
 pub mod Centres
 pub mod Beyond
-pub mod Tiles
-pub mod Bricks
-pub mod Aged
 pub mod AgedPlanes
-pub mod States
 pub mod Frames
 pub mod Dense
 pub mod Apart

@@ -9,7 +9,8 @@ use Rattle.ca_quad.specs.declared.node.Node.{Node as Kept}
 use Rattle.ca_quad.specs.declared.tree.Tree.{Tree}
 use Rattle.ca_quad.specs.Squares.{cell_of}
 use Rattle.ca_quad.specs.Sound.{IsSoundStore}
-use Rattle.ca_quad.specs.Trees.{ShowsSquare, IsTree, from_corner}
+use Rattle.ca_quad.specs.Trees.{ShowsSquare, IsTree}
+use Rattle.ca_plane.specs.Shown.{from_corner}
 use Rattle.ca_macro.specs.declared.fault.MacroFault.{MacroFault}
 use Rattle.ca_macro.specs.declared.fault.MacroFault.TheVariants.{Forward, Level, Memory}
 use Rattle.ca_macro.specs.declared.line.numbers.Numbers.{Numbers}

@@ -5,7 +5,8 @@ use Rattle.ca_plane.specs.Plane.{Picture, cell}
 use Rattle.ca_quad.specs.declared.node.Node.{Node as Kept}
 use Rattle.ca_quad.specs.Squares as squares
 use Rattle.ca_quad.specs.SquareValues.{square_value}
-use Rattle.ca_quad.specs.Trees.{AreQuarters, from_corner}
+use Rattle.ca_quad.specs.Trees.{AreQuarters}
+use Rattle.ca_plane.specs.Shown.{from_corner}
 use Rattle.ca_macro.specs.declared.write.written.WrittenNode.{WrittenNode}
 use Rattle.ca_macro.specs.declared.write.written.WrittenNode.TheVariants.{Leaf, Cells, Parts}
 use Rattle.ca_macro.specs.Nodes.{Node, node_level, NamesPart, MayFollow}

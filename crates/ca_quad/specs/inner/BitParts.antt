@@ -8,7 +8,7 @@ use Rattle.ca_plane.specs.Limits.{reach}
 use Rattle.ca_quad.specs.declared.store.quarters.Quarters.{Quarters}
 use Rattle.ca_quad.specs.declared.store.to_plane.Corners.{Corners}
 use Rattle.ca_quad.specs.declared.tree.Spot.{Spot}
-use Rattle.ca_quad.specs.Trees.{row_cells}
+use Rattle.ca_plane.specs.Shown.{row_cells}
 use Rattle.ca_quad.specs.inner.Filled.{cells_from}
 
 -- the cells of one word

@@ -3,10 +3,11 @@ use Rattle.std.specs.Prelude.{◌≡◌, ℕ, ◌+◌, ◌*◌, ◌<◌, ◌^◌
 use Rattle.std.specs.Map.{lookup}
 use Rattle.ca_quad.specs.declared.neighbours.Neighbours.{Neighbours}
 use Rattle.ca_quad.specs.declared.node.Node.{Node}
-use Rattle.ca_quad.specs.declared.store.cut.Way.{Way}
+use Rattle.ca_quad.specs.declared.store.cut.Offset.{Offset}
 use Rattle.ca_quad.specs.contracts.neighbours.NeighboursPartialEq.TheImpl.{eq-value}
 use Rattle.ca_quad.specs.Squares.{joined_cells, cell_of}
-use Rattle.ca_quad.specs.Trees.{AreFour, word_cells}
+use Rattle.ca_quad.specs.Trees.{AreFour}
+use Rattle.ca_plane.specs.Shown.{word_cells}
 use Rattle.ca_quad.specs.inner.Window.{ShowsFrom}
 
 -- they are squares of this level
@@ -17,19 +18,19 @@ AreNeighbours nodes level four = AreFour nodes level four.nw four.ne four.sw fou
 abbrev pub cells_of_four : List Node → ℕ → Neighbours → ℕ → ℕ → ℕ
 cells_of_four nodes level four = joined_cells (2 ^ level) (cell_of nodes level four.nw) (cell_of nodes level four.ne) (cell_of nodes level four.sw) (cell_of nodes level four.se)
 
--- the square is as large as each of the four, and shows their cells from where the way's remainders by its side lead
-pub record IsCut (nodes : List Node) (way : Way) (squares : Neighbours) (id : ℕ) : Type 0 where
+-- the square is as large as each of the four, and shows their cells from where the offset's remainders by its side lead
+pub record IsCut (nodes : List Node) (offset : Offset) (squares : Neighbours) (id : ℕ) : Type 0 where
   pub level : ℕ
   pub four : AreNeighbours nodes level squares
-  pub shows : ShowsFrom nodes id level (cells_of_four nodes level squares) (way.x % 2 ^ level) (way.y % 2 ^ level)
+  pub shows : ShowsFrom nodes id level (cells_of_four nodes level squares) (offset.x % 2 ^ level) (offset.y % 2 ^ level)
 
 -- the square that is remembered for four, if there is one
 abbrev pub cut_value : List (Neighbours × ℕ) → Neighbours → Option ℕ
 cut_value values four = lookup (λ (other : Neighbours). (eq-value).it four other) values
 
 -- each is cut out of its four
-abbrev pub AreCuts : List Node → Way → List (Neighbours × ℕ) → Type 0
-AreCuts nodes way values = (four : Neighbours) (id : ℕ) → cut_value values four ≡ Some id → IsCut nodes way four id
+abbrev pub AreCuts : List Node → Offset → List (Neighbours × ℕ) → Type 0
+AreCuts nodes offset values = (four : Neighbours) (id : ℕ) → cut_value values four ≡ Some id → IsCut nodes offset four id
 
 -- sixteen squares of this level, row by row, show cells side by side
 abbrev pub AreSixteen : List Node → ℕ → (ℕ → ℕ → ℕ) → List ℕ → Type 0
@@ -57,7 +58,7 @@ abbrev pub overlapping_fours : List ℕ → ℕ → Neighbours × Neighbours × 
 overlapping_fours ids first = (neighbours_at ids first, neighbours_at ids (first + 1), neighbours_at ids (first + 4), neighbours_at ids (first + 5))
 
 -- the word has the cells of four squares of level 3 from this place on
-pub record IsCutWord (nodes : List Node) (level : ℕ) (four : Neighbours) (place : Way)
+pub record IsCutWord (nodes : List Node) (level : ℕ) (four : Neighbours) (place : Offset)
     (word : ℕ) : Type 0 where
   pub is_level : level ≡ 3
   pub has_cells : (x y : ℕ) → x < 8 → y < 8 → word_cells word x y ≡ cells_of_four nodes 3 four (place.x + x) (place.y + y)

@@ -8,7 +8,7 @@ use Rattle.ca_quad.specs.declared.store.draw.PlacedSquare.{PlacedSquare}
 use Rattle.ca_quad.specs.declared.store.to_plane.Corners.{Corners}
 use Rattle.ca_quad.specs.declared.tree.Spot.{Spot}
 use Rattle.ca_quad.specs.Squares.{level_of, IsOf, cell_of}
-use Rattle.ca_quad.specs.Trees.{from_corner}
+use Rattle.ca_plane.specs.Shown.{from_corner}
 use Rattle.ca_quad.specs.Expanded.{FitsPlane}
 
 -- the cells of an id's square

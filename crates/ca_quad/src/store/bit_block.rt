@@ -7,7 +7,7 @@ ghost use Rattle.std.specs.Int.{bit_at};
 ghost use Rattle.ca_plane.specs.BitPlane.{bit_cell};
 ghost use Rattle.ca_plane.specs.Limits.{reach};
 ghost use Rattle.ca_quad.specs.Sound.{Grows};
-ghost use Rattle.ca_quad.specs.Trees.{row_cells};
+ghost use Rattle.ca_plane.specs.Shown.{row_cells};
 ghost use Rattle.ca_quad.specs.inner.BitParts.{AddsCells, AreShiftedBits};
 ghost use Rattle.ca_quad.specs.inner.Filled.{cells_from, LiesNear};
 ghost use Rattle.ca_quad.specs.inner.Window.{ShowsFrom};

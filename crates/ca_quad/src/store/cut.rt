@@ -14,32 +14,32 @@ use crate::id::Id;
 use crate::neighbours::Neighbours;
 use ca_plane::Memory;
 
-// A way to the right and downward.
+// An offset to the right and downward.
 #[derive(Clone, Copy, Drop)]
-pub(crate) struct Way {
+pub(crate) struct Offset {
     pub x: u128,
     pub y: u128,
 }
 
 impl Store {
-    // The square as large as each of the four whose corner is so far from theirs as the way's remainders by
-    // its side tell, given some that were cut out on the same way.
+    // The square as large as each of the four whose corner is so far from theirs as the offset's remainders by
+    // its side tell, given some that were cut out with the same offset.
     pub(super) fn cut_out(
         &mut self,
         four: Neighbours,
-        way: Way,
+        offset: Offset,
         cuts: &mut Cuts,
     ) -> Result<Id, Memory>
         requires four { (level : ℕ) × AreNeighbours self.old level four }
-        requires cuts { AreCuts self.old way cuts.old }
-        ensures cut { IfOk result (IsCut self.new way four) }
-        ensures cuts { OnOk result (AreCuts self.new way cuts.new) }
+        requires cuts { AreCuts self.old offset cuts.old }
+        ensures cut { IfOk result (IsCut self.new offset four) }
+        ensures cuts { OnOk result (AreCuts self.new offset cuts.new) }
         ensures grows { Grows self.old self.new }
     {
         let _ = &self.nodes;
         let corner = four.nw;
         let level = self.level(corner);
-        let place = remainders(way, level);
+        let place = remainders(offset, level);
         if place.x == 0 && place.y == 0 {
             return Ok(corner);
         }
@@ -57,17 +57,17 @@ impl Store {
         let (north_west, north_east, south_west, south_east) = overlapping_fours(
             &parts, place, half,
         );
-        let nw = self.cut_out(north_west, way, cuts)?;
-        let ne = self.cut_out(north_east, way, cuts)?;
-        let sw = self.cut_out(south_west, way, cuts)?;
-        let se = self.cut_out(south_east, way, cuts)?;
+        let nw = self.cut_out(north_west, offset, cuts)?;
+        let ne = self.cut_out(north_east, offset, cuts)?;
+        let sw = self.cut_out(south_west, offset, cuts)?;
+        let se = self.cut_out(south_east, offset, cuts)?;
         let cut = self.join(nw, ne, sw, se)?;
         cuts.put(four, cut)?;
         Ok(cut)
     }
 
     // The same for squares of level 1.
-    fn cut_cells(&mut self, four: Neighbours, place: Way) -> Result<Id, Memory>
+    fn cut_cells(&mut self, four: Neighbours, place: Offset) -> Result<Id, Memory>
         requires four { AreNeighbours self.old 1 four }
         requires x { place.x < 2 }
         requires y { place.y < 2 }
@@ -111,17 +111,17 @@ impl Store {
     }
 }
 
-// The remainders of a way by the side of squares of this level.
-fn remainders(way: Way, level: u8) -> Way
+// The remainders of an offset by the side of squares of this level.
+fn remainders(offset: Offset, level: u8) -> Offset
     requires least { 1 ≤ level }
     requires most { level ≤ 125 }
-    ensures x { result.x ≡ way.x % 2 ^ level }
-    ensures y { result.y ≡ way.y % 2 ^ level }
+    ensures x { result.x ≡ offset.x % 2 ^ level }
+    ensures y { result.y ≡ offset.y % 2 ^ level }
 {
     let side = 2 * half_side(level);
-    Way {
-        x: way.x % side,
-        y: way.y % side,
+    Offset {
+        x: offset.x % side,
+        y: offset.y % side,
     }
 }
 
@@ -138,7 +138,7 @@ fn half_of(place: u128, half: u128) -> usize
 // The fours of sixteen parts of which the cut ones make what is cut out of all, that far from their corner.
 fn overlapping_fours(
     parts: &[Id; 16],
-    place: Way,
+    place: Offset,
     half: u128,
 ) -> (Neighbours, Neighbours, Neighbours, Neighbours)
     ensures { result ≡ overlapping_fours parts.now (4 * half_of place.y half + half_of place.x half) }

@@ -1,17 +1,17 @@
 //! Squares of 8 by 8 cells of two states that are cut out of four, as words.
 
 ghost use Rattle.std.specs.Prelude.{◌≡◌, ℕ, ◌+◌, ◌-◌, ◌*◌, ◌/◌, ◌<◌, ◌≤◌, ◌^◌, IfSome};
-ghost use Rattle.ca_quad.specs.Trees.{word_cells};
+ghost use Rattle.ca_plane.specs.Shown.{word_cells};
 ghost use Rattle.ca_quad.specs.inner.Cut.{AreNeighbours, IsCutWord};
 
 use super::Store;
-use super::cut::Way;
+use super::cut::Offset;
 use crate::neighbours::Neighbours;
 
 impl Store {
     // The cells of the square that is cut out of four so far from their corner. It is told where the squares
     // have level 3 and no cell has a state above 1.
-    pub(super) fn cut_word(&self, level: u8, four: Neighbours, place: Way) -> Option<u64>
+    pub(super) fn cut_word(&self, level: u8, four: Neighbours, place: Offset) -> Option<u64>
         requires four { AreNeighbours self.now level four }
         requires x { place.x < 2 ^ level }
         requires y { place.y < 2 ^ level }

@@ -3,7 +3,8 @@
 ghost use Rattle.std.specs.Prelude.{◌≡◌, ℕ, ◌+◌, ◌<◌, ◌≤◌, length, IfOk, OnErr};
 ghost use Rattle.ca_quad.specs.Squares.{level_of, cell_of};
 ghost use Rattle.ca_quad.specs.Sound.{Grows, AddsOnly};
-ghost use Rattle.ca_quad.specs.Trees.{IsIn, ShowsSquare, row_cells};
+ghost use Rattle.ca_quad.specs.Trees.{IsIn, ShowsSquare};
+ghost use Rattle.ca_plane.specs.Shown.{row_cells};
 
 use super::Store;
 use crate::id::Id;

@@ -10,7 +10,7 @@ ghost use Rattle.ca_quad.specs.inner.Reach.{IsBoxInReach, IsBoxOutOfReach};
 ghost use Rattle.ca_quad.specs.inner.Shifted.{IsNoFarther, IsShort, HasRoom, CanMove, shifted_box};
 
 use super::Store;
-use super::cut::Way;
+use super::cut::Offset;
 use super::cuts::Cuts;
 use super::read::half_side;
 use crate::neighbours::Neighbours;
@@ -73,35 +73,35 @@ impl Store {
     }
 
     // The tree of at least two levels more with the same cells, an eighth of whose side is no less than the
-    // way.
-    fn with_room(&mut self, tree: Tree, way: u128) -> Result<Tree, Memory>
+    // offset.
+    fn with_room(&mut self, tree: Tree, offset: u128) -> Result<Tree, Memory>
         requires tree { IsTree self.old tree }
         requires least { 1 ≤ tree.level }
         requires low { tree.level ≤ 65 }
-        requires short { way ≤ 2 ^ 63 }
-        ensures room { IfOk result (HasRoom self.new (cell self.old tree) (tree.level + 2) way) }
+        requires short { offset ≤ 2 ^ 63 }
+        ensures room { IfOk result (HasRoom self.new (cell self.old tree) (tree.level + 2) offset) }
         ensures grows { Grows self.old self.new }
     {
         let wide = self.pad(tree)?;
         let wider = self.pad(wide)?;
-        self.padded_for(wider, way)
+        self.padded_for(wider, offset)
     }
 
     // The same of at least the level of the tree.
-    fn padded_for(&mut self, tree: Tree, way: u128) -> Result<Tree, Memory>
+    fn padded_for(&mut self, tree: Tree, offset: u128) -> Result<Tree, Memory>
         requires tree { IsTree self.old tree }
         requires least { 3 ≤ tree.level }
         requires most { tree.level ≤ 67 }
-        requires short { way ≤ 2 ^ 63 }
-        ensures room { IfOk result (HasRoom self.new (cell self.old tree) tree.level way) }
+        requires short { offset ≤ 2 ^ 63 }
+        ensures room { IfOk result (HasRoom self.new (cell self.old tree) tree.level offset) }
         ensures grows { Grows self.old self.new }
     {
         let _ = &self.nodes;
-        if way <= half_side(tree.level - 2) {
+        if offset <= half_side(tree.level - 2) {
             return Ok(tree);
         }
         let wide = self.pad(tree)?;
-        self.padded_for(wide, way)
+        self.padded_for(wide, offset)
     }
 
     // The tree whose middle is moved there.
@@ -115,9 +115,9 @@ impl Store {
     {
         let alloc = *self.nodes.allocator();
         let [nw, ne, sw, se] = self.children(tree.root);
-        let way = way_back(half_side(tree.level - 1), to);
+        let offset = offset_back(half_side(tree.level - 1), to);
         let parts = Neighbours { nw, ne, sw, se };
-        let root = self.cut_out(parts, way, &mut Cuts::new(alloc))?;
+        let root = self.cut_out(parts, offset, &mut Cuts::new(alloc))?;
         self.trim(Tree {
             root,
             level: tree.level - 1,
@@ -147,8 +147,8 @@ fn farthest(to: Spot) -> u128
     to.x.unsigned_abs().max(to.y.unsigned_abs())
 }
 
-// The way from a place to that one on the diagonal.
-fn way_back(diagonal: u128, to: Spot) -> Way
+// The offset from a place to that one on the diagonal.
+fn offset_back(diagonal: u128, to: Spot) -> Offset
     requires most { diagonal ≤ 2 ^ 65 }
     requires short { IsShort to }
     requires near_x { to.x ≤ℤ pos diagonal }
@@ -157,7 +157,7 @@ fn way_back(diagonal: u128, to: Spot) -> Way
     ensures y { pos result.y ≡ pos diagonal -ℤ to.y }
 {
     let place = diagonal as i128;
-    Way {
+    Offset {
         x: (place - to.x) as u128,
         y: (place - to.y) as u128,
     }

@@ -3,7 +3,8 @@
 ghost use Rattle.std.specs.Prelude.{◌≡◌, ℕ, ◌+◌, ◌≤◌, length, IfOk, OnErr, MatchOption};
 ghost use Rattle.ca_quad.specs.Squares.{level_of, cell_of};
 ghost use Rattle.ca_quad.specs.Sound.{Grows, AddsOnly};
-ghost use Rattle.ca_quad.specs.Trees.{IsIn, ShowsSquare, word_cells, HasMoreStates};
+ghost use Rattle.ca_quad.specs.Trees.{IsIn, ShowsSquare, HasMoreStates};
+ghost use Rattle.ca_plane.specs.Shown.{word_cells};
 
 use super::Store;
 use super::bits::{corners, rows};

@@ -6,7 +6,8 @@ use Rattle.ca_quad.specs.Squares.{IsOf}
 use Rattle.ca_run.specs.declared.leaper.lanes.CentreWords.{CentreWords}
 use Rattle.ca_run.specs.declared.leaper.lanes.CentreWords.TheVariants.{One, Four}
 use Rattle.ca_run.specs.inner.Shown.{ShowsAt, side}
-use Rattle.ca_run.specs.inner.Words.{WordShows, WordsShow}
+use Rattle.ca_run.specs.inner.Words.{WordsShow}
+use Rattle.ca_bricks.specs.Words.{WordShows}
 
 -- a square of level k + 2, whose centre after 2 ^ j generations is known from its own cells
 pub record HasCentre (nodes : List Node) (id k j : ℕ) : Type 0 where

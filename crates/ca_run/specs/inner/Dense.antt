@@ -8,7 +8,7 @@ use Rattle.ca_quad.specs.Trees.{IsTree, cell, HoldsAll}
 use Rattle.ca_quad.specs.declared.tree.Tree.{Tree}
 use Rattle.ca_run.specs.declared.fault.LeapFault.{LeapFault}
 use Rattle.ca_run.specs.Leaping.{Costs, LeaperView}
-use Rattle.ca_run.specs.Counting.{GoesBy}
+use Rattle.ca_bricks.specs.Counting.{GoesBy}
 use Rattle.ca_run.specs.declared.leaper.dense.DenseRule.{DenseRule}
 use Rattle.ca_run.specs.declared.leaper.dense.DenseRule.TheVariants.{ByCounting, ByAgeing}
 use Rattle.ca_run.specs.declared.leaper.dense.ReachedTree.{ReachedTree}

@@ -7,8 +7,8 @@ use Rattle.ca_quad.specs.declared.tree.WideBounds.{WideBounds}
 use Rattle.ca_quad.specs.Trees.{IsTree}
 use Rattle.ca_run.specs.declared.bricks.frame.Span.{Span}
 use Rattle.ca_run.specs.declared.bricks.frame.Frame.{Frame}
-use Rattle.ca_run.specs.declared.bricks.wall.Wall.{Wall}
-use Rattle.ca_run.specs.inner.Bricks.{HasMargin}
+use Rattle.ca_bricks.specs.declared.grid.BrickGrid.{BrickGrid}
+use Rattle.ca_bricks.specs.Bricks.{HasMargin}
 
 -- where a piece begins, and so a column of bricks
 abbrev pub piece_start : ℕ → ℤ
@@ -44,8 +44,8 @@ pub record Spans (low high : ℤ) (m : ℕ) (span : Span) : Type 0 where
   pub before : (piece_start span.first +ℤ pos (64 + m)) ≤ℤ low
   pub behind : (high +ℤ pos (64 + m)) <ℤ piece_start (span.first + span.count)
 
--- a wall has so many bricks at most
-pub record IsWallFrame (frame : Frame) : Type 0 where
+-- a grid has so many bricks at most
+pub record IsGridFrame (frame : Frame) : Type 0 where
   pub columns : IsSpan frame.columns
   pub rows : IsSpan frame.rows
   pub few : frame.columns.count * frame.rows.count ≤ 2 ^ 16
@@ -55,13 +55,13 @@ pub record IsFramed (m : ℕ) (frame : Frame) (p : ℤ → ℤ → ℕ) : Type 0
   pub inside : (x y : ℤ) → IsOutOf frame.columns x ⊎ IsOutOf frame.rows y → p x y ≡ 0
   pub margin : HasMargin m frame.columns.count (4 * frame.rows.count) p (piece_start frame.columns.first) (piece_start frame.rows.first)
 
--- the wall lies in the frame, and has a brick for each place
-pub record IsOfFrame (frame : Frame) (wall : Wall) : Type 0 where
-  pub x : wall.x ≡ piece_start frame.columns.first
-  pub y : wall.y ≡ piece_start frame.rows.first
-  pub across : wall.across ≡ frame.columns.count
-  pub down : wall.down ≡ 4 * frame.rows.count
-  pub size : length wall.bricks.items ≡ 4 * (frame.columns.count * frame.rows.count)
+-- the grid lies in the frame, and has a brick for each place
+pub record IsOfFrame (frame : Frame) (grid : BrickGrid) : Type 0 where
+  pub x : grid.x ≡ piece_start frame.columns.first
+  pub y : grid.y ≡ piece_start frame.rows.first
+  pub across : grid.across ≡ frame.columns.count
+  pub down : grid.down ≡ 4 * frame.rows.count
+  pub size : length grid.bricks.items ≡ 4 * (frame.columns.count * frame.rows.count)
 
 -- the tree can be read brick by brick
 pub record IsReadByBricks (nodes : List Node) (tree : Tree) : Type 0 where

@@ -1,13 +1,10 @@
 -- Squares that show a plane from some place on (our own).
-use Rattle.std.specs.Prelude.{◌≡◌, ℕ, ◌<◌, ◌≤◌, ◌^◌, ℤ, pos, ◌+ℤ◌, List, [], ◌∷◌, Option, Some, None}
+use Rattle.std.specs.Prelude.{ℕ, ◌≤◌, ◌^◌, ℤ, pos, ◌+ℤ◌, List, [], ◌∷◌, Option, Some, None}
+use Rattle.ca_plane.specs.Shown.{ShowsPlane}
 use Rattle.ca_quad.specs.declared.node.Node.{Node}
 use Rattle.ca_quad.specs.Squares.{IsOf, cell_of}
 use Rattle.ca_run.specs.declared.leaper.trio.Trio.{Trio}
 use Rattle.ca_run.specs.declared.leaper.trio.Rows.{Rows}
-
--- as far as the side reaches, the cells are those of the plane from (a, b) on
-abbrev pub ShowsPlane : ℕ → (ℕ → ℕ → ℕ) → (ℤ → ℤ → ℕ) → ℤ → ℤ → Type 0
-ShowsPlane side cells p a b = (x y : ℕ) → x < side → y < side → cells x y ≡ p (a +ℤ pos x) (b +ℤ pos y)
 
 -- the id names a square of this level, which shows the plane from (a, b) on
 pub record ShowsAt (nodes : List Node) (id level : ℕ) (p : ℤ → ℤ → ℕ) (a b : ℤ) : Type 0 where

@@ -7,7 +7,7 @@ use Rattle.ca_quad.specs.Sound.{IsSoundStore}
 use Rattle.ca_run.specs.declared.leaper.key.Key.{Key}
 use Rattle.ca_run.specs.declared.leaper.key.Key.TheVariants.{Page as OfPage, Single}
 use Rattle.ca_run.specs.declared.leaper.page.Page.{Page}
-use Rattle.ca_run.specs.Counting.{GoesBy}
+use Rattle.ca_bricks.specs.Counting.{GoesBy}
 use Rattle.ca_run.specs.Memo.{LeapResult, FullLeap, Centre, LeapOfFour, Remembers}
 use Rattle.ca_run.specs.inner.Pages.{MemoView, IsBoundedMemo}
 use Rattle.ca_run.specs.inner.Slots.{SlotsView}

@@ -1,15 +1,11 @@
--- Words and tiles that show a plane from some place on (our own). A word holds 8 by 8 cells of two states, a tile 16 by 16: sixteen rows
+-- Squares of words, and tiles, that show a plane from some place on (our own). A tile holds 16 by 16 cells of two states: sixteen rows
 -- from the top, of which bit 0 is the western-most cell.
-use Rattle.std.specs.Prelude.{◌≡◌, ℕ, ◌+◌, ◌-◌, ◌*◌, ◌/◌, ◌%◌, ◌^◌, ◌<◌, ◌≤◌, ℤ, pos, ◌+ℤ◌, List}
-use Rattle.std.specs.Prelude.{nat_lt, if◌then◌else◌, slice_index}
-use Rattle.ca_quad.specs.Trees.{row_cells, word_cells}
+use Rattle.std.specs.Prelude.{◌≡◌, ℕ, ◌+◌, ◌-◌, ◌*◌, ◌/◌, ◌%◌, ◌^◌, ◌<◌, ◌≤◌, ℤ, pos, ◌+ℤ◌, List, nat_lt, if◌then◌else◌, slice_index}
+use Rattle.ca_plane.specs.Shown.{row_cells}
+use Rattle.ca_bricks.specs.Words.{WordShows, byte_of}
 use Rattle.ca_run.specs.declared.leaper.words.Words.{Words}
 use Rattle.ca_run.specs.declared.leaper.wide_square.WideSquare.{WideSquare}
-use Rattle.ca_run.specs.inner.Shown.{ShowsPlane, QuartersShow}
-
--- the word shows the plane from (a, b) on
-pub record WordShows (word : ℕ) (p : ℤ → ℤ → ℕ) (a b : ℤ) : Type 0 where
-  pub looks : ShowsPlane 8 (word_cells word) p a b
+use Rattle.ca_run.specs.inner.Shown.{QuartersShow}
 
 -- the four words of a square of 16 by 16 cells show it
 abbrev pub WordsShow : Words → (ℤ → ℤ → ℕ) → ℤ → ℤ → Type 0
@@ -23,10 +19,6 @@ WideSquareShows wide p a b = QuartersShow WordsShow (pos 16) wide.nw wide.ne wid
 pub record TileShows (rows : List ℕ) (margin : ℕ) (p : ℤ → ℤ → ℕ) (a b : ℤ) : Type 0 where
   pub looks : (x y : ℕ) → margin ≤ x → x + margin < 16 → margin ≤ y → y + margin < 16 → row_cells rows x y ≡ p (a +ℤ pos x) (b +ℤ pos y)
 
--- the byte of a word at a place, the lowest at place 0: a row of its cells
-abbrev pub byte_of : ℕ → ℕ → ℕ
-byte_of word place = word / 2 ^ (8 * place) % 256
-
 -- the bytes of two words, the lowest first
 abbrev pub word_bytes_at : ℕ → ℕ → ℕ → ℕ
 word_bytes_at north south place = if nat_lt place 8 then byte_of north place else byte_of south (place - 8)
@@ -34,7 +26,3 @@ word_bytes_at north south place = if nat_lt place 8 then byte_of north place els
 -- the eight cells in the middle of a tile's row
 abbrev pub inner_byte : List ℕ → ℕ → ℕ
 inner_byte rows y = slice_index rows (4 + y) / 16 % 256
-
--- eight cells for each word
-abbrev pub eight : ℤ → ℤ
-eight i = i +ℤ i +ℤ i +ℤ i +ℤ i +ℤ i +ℤ i +ℤ i

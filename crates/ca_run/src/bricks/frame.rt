@@ -2,17 +2,17 @@
 
 ghost use Rattle.std.specs.Prelude.{◌≡◌, ◌+◌, ◌≤◌, ◌^◌, pos, ◌-ℤ◌, false, IfSome};
 ghost use Rattle.ca_plane.specs.Limits.{most_generations};
-ghost use Rattle.ca_run.specs.inner.Frames.{IsSpan, IsWallFrame, IsNearBox, Spans, piece_start};
+ghost use Rattle.ca_run.specs.inner.Frames.{IsSpan, IsGridFrame, IsNearBox, Spans, piece_start};
 
 use ca_quad::WideBounds;
 
-// The most pieces of a wall: their bricks take 64 MiB.
+// The most pieces of a grid: their bricks take 64 MiB.
 const MOST_PIECES: usize = 1 << 16;
 
 // How far the first piece of all lies before the origin.
 const BEFORE: i128 = 1 << 62;
 
-/// Pieces of 64 cells along one side of a wall. Piece k begins at 64 * k - 2^62.
+/// Pieces of 64 cells along one side of a grid. Piece k begins at 64 * k - 2^62.
 #[derive(Clone, Copy)]
 pub(crate) struct Span {
     /// The first piece.
@@ -24,7 +24,7 @@ pub(crate) struct Span {
     pub high: usize,
 }
 
-/// The pieces of both sides of a wall. A piece has four rows of bricks.
+/// The pieces of both sides of a grid. A piece has four rows of bricks.
 #[derive(Clone, Copy)]
 pub(crate) struct Frame {
     pub columns: Span,
@@ -76,7 +76,7 @@ fn span_of(low: usize, high: usize, margin: usize) -> Option<Span>
 pub(crate) fn frame_of(bounds: WideBounds, margin: usize) -> Option<Frame>
     requires near { IsNearBox bounds }
     requires margin { margin ≤ most_generations }
-    ensures frame { IfSome result IsWallFrame }
+    ensures frame { IfSome result IsGridFrame }
     ensures columns { IfSome result (λ frame. Spans bounds.x0 bounds.x1 margin frame.columns) }
     ensures rows { IfSome result (λ frame. Spans bounds.y0 bounds.y1 margin frame.rows) }
 {

@@ -6,22 +6,23 @@ ghost use Rattle.ca_plane.specs.Limits.{most_generations};
 ghost use Rattle.ca_quad.specs.Trees.{IsTree, cell};
 ghost use Rattle.ca_run.specs.Leaping.{EndsAtLimit};
 ghost use Rattle.ca_run.specs.inner.AtCost.{GoesOnAtCost};
-ghost use Rattle.ca_run.specs.inner.Aged.{AgedWallShows, CanAgeFor, IsBeside};
-ghost use Rattle.ca_run.specs.inner.Bricks.{LiesNearOrigin, IsAligned};
+ghost use Rattle.ca_bricks.specs.Aged.{AgedGridShows, IsBeside};
+ghost use Rattle.ca_bricks.specs.Bricks.{LiesNearOrigin, IsAligned};
 ghost use Rattle.ca_run.specs.inner.Dense.{HasReached, AgesBy};
 
 use super::Leaper;
 use super::dense::{AT_A_TIME, MOST_GROWTH, ReachedTree, Stretch};
-use crate::bricks::AgedWall;
+use crate::bricks::aged_grid_after;
 use crate::fault::LeapFault;
 use crate::watch::Watch;
+use ca_bricks::AgedGrid;
 use ca_plane::{Ageing, Automaton, Memory};
 use ca_quad::Tree;
 use std::alloc::Global;
 
 impl<A: Automaton> Leaper<A> {
-    // What is reached by one wall more of cells that age, where the plane is not too large.
-    pub(super) fn step_aged_wall<W: Watch>(
+    // What is reached by one grid more of cells that age, where the plane is not too large.
+    pub(super) fn step_aged_grid<W: Watch>(
         &mut self,
         ageing: Ageing,
         first: &Tree,
@@ -43,14 +44,14 @@ impl<A: Automaton> Leaper<A> {
     {
         let alloc = self.recent_centres.allocator();
         let left = (n - reached.generations).min(AT_A_TIME);
-        let Some(wall) = self.aged_wall(alloc, ageing.states, &reached.tree, left)? else {
+        let Some(grid) = self.aged_grid(alloc, ageing.states, &reached.tree, left)? else {
             return Ok(None);
         };
-        let reach = wall.live.reach();
+        let reach = grid.live.reach();
         if reach >= first.level + MOST_GROWTH {
             return Ok(None);
         }
-        let later = self.later_aged_wall(wall, ageing, left, first, reached.generations, watch)?;
+        let later = self.later_aged_grid(grid, ageing, left, first, reached.generations, watch)?;
         let tree = self.tree_of_aged(&later, reach)?;
         let tree = self.trim(tree)?;
         Ok(Some(Stretch {
@@ -63,29 +64,29 @@ impl<A: Automaton> Leaper<A> {
         }))
     }
 
-    // The wall some generations on. The run began with a tree, so many generations before. The bricks that
+    // The grid some generations on. The run began with a tree, so many generations before. The bricks that
     // are stepped are counted.
-    fn later_aged_wall<W: Watch>(
+    fn later_aged_grid<W: Watch>(
         &mut self,
-        wall: AgedWall,
+        grid: AgedGrid,
         ageing: Ageing,
         generations: u64,
         first: &Tree,
         reached: u64,
         watch: &mut W,
-    ) -> Result<AgedWall, LeapFault>
+    ) -> Result<AgedGrid, LeapFault>
         requires ages { AgesBy (A.next_of self.old.rule) ageing }
-        requires states { wall.states ≡ ageing.states }
-        requires shows { AgedWallShows wall generations
+        requires states { grid.states ≡ ageing.states }
+        requires shows { AgedGridShows grid generations
             (cells_after (A.next_of self.old.rule) (cell self.old.nodes first.now) reached) }
-        requires room { wall.live.across + length wall.live.bricks.items < 2 ^ 63 }
-        requires few { length wall.live.bricks.items ≤ 2 ^ 18 }
+        requires room { grid.live.across + length grid.live.bricks.items < 2 ^ 63 }
+        requires few { length grid.live.bricks.items ≤ 2 ^ 18 }
         requires margin { generations ≤ 1024 }
         requires time { reached + generations ≤ most_generations }
-        requires fresh { wall.live.work ≡ 0 }
-        ensures shows { IfOk result (λ later. AgedWallShows later 0 (cells_after (A.next_of self.old.rule)
+        requires fresh { grid.live.work ≡ 0 }
+        ensures shows { IfOk result (λ later. AgedGridShows later 0 (cells_after (A.next_of self.old.rule)
             (cell self.old.nodes first.now) (reached + generations))) }
-        ensures place { IfOk result (λ later. IsBeside wall.live later.live) }
+        ensures place { IfOk result (λ later. IsBeside grid.live later.live) }
         ensures same { self.new.nodes ≡ self.old.nodes }
         ensures counts { IfOk result (λ later. self.new.spent.used
             ≡ self.old.spent.used + later.live.work) }
@@ -94,7 +95,8 @@ impl<A: Automaton> Leaper<A> {
     {
         let alloc = self.recent_centres.allocator();
         let mut spent = self.work;
-        let later = wall.later(
+        let later = aged_grid_after(
+            grid,
             alloc,
             ageing,
             generations,
@@ -108,33 +110,33 @@ impl<A: Automaton> Leaper<A> {
         later
     }
 
-    // The wall of a tree with a margin of so many cells, where it is not too large.
-    fn aged_wall(
+    // The grid of a tree with a margin of so many cells, where it is not too large.
+    fn aged_grid(
         &self,
         alloc: Global,
         states: u16,
         tree: &Tree,
         margin: u64,
-    ) -> Result<Option<AgedWall>, Memory>
+    ) -> Result<Option<AgedGrid>, Memory>
         requires tree { IsTree self.now.nodes tree.now }
         requires margin { margin ≤ most_generations }
         requires least { 2 ≤ states }
         requires most { states ≤ 256 }
         ensures shows { IfOk result (λ found. IfSome found
-            (λ wall. AgedWallShows wall margin (cell self.now.nodes tree.now))) }
-        ensures states { IfOk result (λ found. IfSome found (λ wall. wall.states ≡ states)) }
-        ensures near { IfOk result (λ found. IfSome found (λ wall. LiesNearOrigin wall.live)) }
-        ensures aligned { IfOk result (λ found. IfSome found (λ wall. IsAligned wall.live)) }
+            (λ grid. AgedGridShows grid margin (cell self.now.nodes tree.now))) }
+        ensures states { IfOk result (λ found. IfSome found (λ grid. grid.states ≡ states)) }
+        ensures near { IfOk result (λ found. IfSome found (λ grid. LiesNearOrigin grid.live)) }
+        ensures aligned { IfOk result (λ found. IfSome found (λ grid. IsAligned grid.live)) }
         ensures room { IfOk result (λ found. IfSome found
-            (λ wall. wall.live.across + length wall.live.bricks.items < 2 ^ 63)) }
+            (λ grid. grid.live.across + length grid.live.bricks.items < 2 ^ 63)) }
         ensures few { IfOk result (λ found. IfSome found
-            (λ wall. length wall.live.bricks.items ≤ 2 ^ 18)) }
-        ensures fresh { IfOk result (λ found. IfSome found (λ wall. wall.live.work ≡ 0)) }
+            (λ grid. length grid.live.bricks.items ≤ 2 ^ 18)) }
+        ensures fresh { IfOk result (λ found. IfSome found (λ grid. grid.live.work ≡ 0)) }
         ensures some { margin ≡ 0 → result ≡ Ok None }
     {
         let Some(frame) = self.dense_frame(alloc, tree, margin)? else {
             return Ok(None);
         };
-        self.aged_wall_of(alloc, states, tree, &frame)
+        self.aged_grid_of(alloc, states, tree, &frame)
     }
 }

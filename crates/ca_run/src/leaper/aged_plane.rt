@@ -4,11 +4,11 @@ ghost use Rattle.std.specs.Prelude.{◌≡◌, ℕ, suc, ◌<◌, ℤ, pos, ◌+
 ghost use Rattle.std.specs.Int.{bit_at};
 ghost use Rattle.ca_quad.specs.Squares.{IsOf};
 ghost use Rattle.ca_run.specs.inner.Shown.{ShowsAt, side};
-ghost use Rattle.ca_run.specs.inner.Words.{WordShows};
+ghost use Rattle.ca_bricks.specs.Words.{WordShows};
 ghost use Rattle.ca_run.specs.inner.AgedPlanes.{aged_bit};
 
 use super::Leaper;
-use crate::bricks::has_digit;
+use ca_bricks::has_digit;
 use ca_plane::Automaton;
 use ca_quad::Id;
 
@@ -36,7 +36,7 @@ impl StatePlane for TwoStates {
     }
 }
 
-/// A plane of a wall of cells that age, under a rule of so many states.
+/// A plane of a grid of cells that age, under a rule of so many states.
 #[derive(Clone, Copy)]
 pub(super) enum AgedPlane {
     /// The live cells.

@@ -1,22 +1,22 @@
 //! Planes that are stepped brick by brick: those of squares that hardly repeat.
 
-ghost use Rattle.std.specs.Prelude.{◌≡◌, ◌+◌, ◌*◌, ◌<◌, ◌≤◌, ◌^◌, ◌⊎◌};
-ghost use Rattle.std.specs.Prelude.{length, Ok, None, IfOk, IsOk, IfSome};
+ghost use Rattle.std.specs.Prelude.{◌≡◌, ◌+◌, ◌*◌, ◌<◌, ◌≤◌, ◌^◌, ◌⊎◌, length, Ok, None, IfOk, IsOk, IfSome};
 ghost use Rattle.ca_plane.specs.Generations.{cells_after};
 ghost use Rattle.ca_plane.specs.Limits.{most_generations};
 ghost use Rattle.ca_quad.specs.Trees.{IsTree, cell};
 ghost use Rattle.ca_run.specs.Leaping.{LeaperGrows, EndsAtLimit};
 ghost use Rattle.ca_run.specs.inner.AtCost.{GoesOnAtCost};
-ghost use Rattle.ca_run.specs.Counting.{GoesBy};
-ghost use Rattle.ca_run.specs.inner.Bricks.{WallShows, IsInPlace, LiesNearOrigin, IsAligned};
+ghost use Rattle.ca_bricks.specs.Counting.{GoesBy};
+ghost use Rattle.ca_bricks.specs.Bricks.{GridShows, IsInPlace, LiesNearOrigin, IsAligned};
 ghost use Rattle.ca_run.specs.inner.Dense.{HasReached, IsIdle, IsDense, GoesDensely};
-ghost use Rattle.ca_run.specs.inner.Frames.{IsReadByBricks, IsWallFrame, IsFramed};
+ghost use Rattle.ca_run.specs.inner.Frames.{IsReadByBricks, IsGridFrame, IsFramed};
 
 use super::Leaper;
 use super::aged_plane::TwoStates;
-use crate::bricks::{Frame, Wall, frame_of};
+use crate::bricks::{Frame, frame_of, grid_after};
 use crate::fault::LeapFault;
 use crate::watch::Watch;
+use ca_bricks::BrickGrid;
 use ca_plane::{Ageing, Automaton, Counting, Memory};
 use ca_quad::{Tree, WideBounds};
 use std::alloc::Global;
@@ -32,16 +32,16 @@ const LEAST: u8 = 7;
 
 const GREATEST: u8 = 62;
 
-// For how many generations a wall has a margin.
+// For how many generations a grid has a margin.
 pub(super) const AT_A_TIME: u64 = 1024;
 
-// How many walls are made at most, one after the other.
+// How many grids are made at most, one after the other.
 const MOST_WALLS: u64 = 8;
 
-// How many levels more than the first tree the tree of a wall has at most, as a reach.
+// How many levels more than the first tree the tree of a grid has at most, as a reach.
 pub(super) const MOST_GROWTH: u8 = 6;
 
-// How many bricks a wall has at most for each that is stepped in a generation.
+// How many bricks a grid has at most for each that is stepped in a generation.
 const MOST_RESTING: u64 = 320;
 
 /// A tree that a run has reached, and after how many generations.
@@ -51,7 +51,7 @@ pub(super) struct ReachedTree {
     pub(super) generations: u64,
 }
 
-// What is reached by one wall, how many bricks it has, and how many of them were stepped in a generation.
+// What is reached by one grid, how many bricks it has, and how many of them were stepped in a generation.
 #[derive(Clone, Copy)]
 pub(super) struct Stretch {
     pub(super) reached: ReachedTree,
@@ -100,11 +100,11 @@ impl<A: Automaton> Leaper<A> {
         if !self.is_dense(tree)? {
             return Ok(reached);
         }
-        self.step_walls(rule, tree, reached, n, watch)
+        self.step_grids(rule, tree, reached, n, watch)
     }
 
-    // What is reached by one wall after another, until few of the bricks of one are stepped.
-    fn step_walls<W: Watch>(
+    // What is reached by one grid after another, until few of the bricks of one are stepped.
+    fn step_grids<W: Watch>(
         &mut self,
         rule: DenseRule,
         first: &Tree,
@@ -127,7 +127,7 @@ impl<A: Automaton> Leaper<A> {
     {
         let _ = &self.store;
         let mut most = 0;
-        'walls: for _ in 0..MOST_WALLS {
+        'grids: for _ in 0..MOST_WALLS {
             let Some(stretch) = self.step_by_rule(rule, first, &reached, n, watch)? else {
                 return Ok(reached);
             };
@@ -187,7 +187,7 @@ impl<A: Automaton> Leaper<A> {
         Some(DenseRule::ByAgeing(ageing))
     }
 
-    // What is reached by one wall more, where the plane is not too large.
+    // What is reached by one grid more, where the plane is not too large.
     fn step_by_rule<W: Watch>(
         &mut self,
         rule: DenseRule,
@@ -209,13 +209,13 @@ impl<A: Automaton> Leaper<A> {
         ensures work { EndsAtLimit self.new.spent result }
     {
         match rule {
-            DenseRule::ByCounting(counting) => self.step_wall(counting, first, reached, n, watch),
-            DenseRule::ByAgeing(ageing) => self.step_aged_wall(ageing, first, reached, n, watch),
+            DenseRule::ByCounting(counting) => self.step_grid(counting, first, reached, n, watch),
+            DenseRule::ByAgeing(ageing) => self.step_aged_grid(ageing, first, reached, n, watch),
         }
     }
 
     // The same, by a rule of two states.
-    fn step_wall<W: Watch>(
+    fn step_grid<W: Watch>(
         &mut self,
         counting: Counting,
         first: &Tree,
@@ -237,14 +237,14 @@ impl<A: Automaton> Leaper<A> {
     {
         let alloc = self.recent_centres.allocator();
         let left = (n - reached.generations).min(AT_A_TIME);
-        let Some(wall) = self.dense_wall(alloc, &reached.tree, left)? else {
+        let Some(grid) = self.dense_grid(alloc, &reached.tree, left)? else {
             return Ok(None);
         };
-        let reach = wall.reach();
+        let reach = grid.reach();
         if reach > first.level + MOST_GROWTH {
             return Ok(None);
         }
-        let later = self.later_wall(wall, counting, left, first, reached.generations, watch)?;
+        let later = self.later_grid(grid, counting, left, first, reached.generations, watch)?;
         let tree = self.tree_of(&later, reach)?;
         let tree = self.trim(tree)?;
         Ok(Some(Stretch {
@@ -257,29 +257,29 @@ impl<A: Automaton> Leaper<A> {
         }))
     }
 
-    // The wall some generations on. The run began with a tree, so many generations before. The bricks that
+    // The grid some generations on. The run began with a tree, so many generations before. The bricks that
     // are stepped are counted.
-    fn later_wall<W: Watch>(
+    fn later_grid<W: Watch>(
         &mut self,
-        wall: Wall,
+        grid: BrickGrid,
         counting: Counting,
         generations: u64,
         first: &Tree,
         reached: u64,
         watch: &mut W,
-    ) -> Result<Wall, LeapFault>
+    ) -> Result<BrickGrid, LeapFault>
         requires counting { GoesBy (A.next_of self.old.rule) counting }
-        requires shows { WallShows wall generations
+        requires shows { GridShows grid generations
             (cells_after (A.next_of self.old.rule) (cell self.old.nodes first.now) reached) }
-        requires room { wall.across + length wall.bricks.items < 2 ^ 63 }
-        requires few { length wall.bricks.items ≤ 2 ^ 18 }
+        requires room { grid.across + length grid.bricks.items < 2 ^ 63 }
+        requires few { length grid.bricks.items ≤ 2 ^ 18 }
         requires least { 7 ≤ first.now.level }
         requires margin { generations ≤ 1024 }
         requires time { reached + generations ≤ most_generations }
-        requires fresh { wall.work ≡ 0 }
-        ensures shows { IfOk result (λ later. WallShows later 0 (cells_after (A.next_of self.old.rule)
+        requires fresh { grid.work ≡ 0 }
+        ensures shows { IfOk result (λ later. GridShows later 0 (cells_after (A.next_of self.old.rule)
             (cell self.old.nodes first.now) (reached + generations))) }
-        ensures place { IfOk result (IsInPlace wall) }
+        ensures place { IfOk result (IsInPlace grid) }
         ensures same { self.new.nodes ≡ self.old.nodes }
         ensures counts { IfOk result (λ later. self.new.spent.used ≡ self.old.spent.used + later.work) }
         ensures at_cost { GoesOnAtCost A self.old self.new (14 ^ (first.now.level + 4)) 0 }
@@ -287,7 +287,8 @@ impl<A: Automaton> Leaper<A> {
     {
         let alloc = self.recent_centres.allocator();
         let mut spent = self.work;
-        let later = wall.later(
+        let later = grid_after(
+            grid,
             alloc,
             counting,
             generations,
@@ -311,7 +312,7 @@ impl<A: Automaton> Leaper<A> {
         requires tree { IsTree self.now.nodes tree.now }
         requires margin { margin ≤ most_generations }
         ensures read { IfOk result (λ found. IfSome found (λ _. IsReadByBricks self.now.nodes tree.now)) }
-        ensures frame { IfOk result (λ found. IfSome found IsWallFrame) }
+        ensures frame { IfOk result (λ found. IfSome found IsGridFrame) }
         ensures framed { IfOk result (λ found. IfSome found
             (λ frame. IsFramed margin frame (cell self.now.nodes tree.now))) }
         ensures some { margin ≡ 0 → result ≡ Ok None }
@@ -325,24 +326,29 @@ impl<A: Automaton> Leaper<A> {
         Ok(frame_of(bounds, margin as usize))
     }
 
-    // The wall of a tree with a margin of so many cells, where it is not too large.
-    fn dense_wall(&self, alloc: Global, tree: &Tree, margin: u64) -> Result<Option<Wall>, Memory>
+    // The grid of a tree with a margin of so many cells, where it is not too large.
+    fn dense_grid(
+        &self,
+        alloc: Global,
+        tree: &Tree,
+        margin: u64,
+    ) -> Result<Option<BrickGrid>, Memory>
         requires tree { IsTree self.now.nodes tree.now }
         requires margin { margin ≤ most_generations }
         ensures shows { IfOk result (λ found. IfSome found
-            (λ wall. WallShows wall margin (cell self.now.nodes tree.now))) }
+            (λ grid. GridShows grid margin (cell self.now.nodes tree.now))) }
         ensures near { IfOk result (λ found. IfSome found LiesNearOrigin) }
         ensures aligned { IfOk result (λ found. IfSome found IsAligned) }
         ensures room { IfOk result (λ found. IfSome found
-            (λ wall. wall.across + length wall.bricks.items < 2 ^ 63)) }
-        ensures few { IfOk result (λ found. IfSome found (λ wall. length wall.bricks.items ≤ 2 ^ 18)) }
-        ensures fresh { IfOk result (λ found. IfSome found (λ wall. wall.work ≡ 0)) }
+            (λ grid. grid.across + length grid.bricks.items < 2 ^ 63)) }
+        ensures few { IfOk result (λ found. IfSome found (λ grid. length grid.bricks.items ≤ 2 ^ 18)) }
+        ensures fresh { IfOk result (λ found. IfSome found (λ grid. grid.work ≡ 0)) }
         ensures some { margin ≡ 0 → result ≡ Ok None }
     {
         let Some(frame) = self.dense_frame(alloc, tree, margin)? else {
             return Ok(None);
         };
-        self.wall_of(alloc, TwoStates, tree, &frame)
+        self.grid_of(alloc, TwoStates, tree, &frame)
     }
 }
 

@@ -3,17 +3,17 @@
 ghost use Rattle.std.specs.Prelude.{◌≡◌, ℤ};
 ghost use Rattle.ca_plane.specs.Generations.{cells_after};
 ghost use Rattle.ca_quad.specs.Trees.{cell};
-ghost use Rattle.ca_run.specs.inner.Aged.{AgedWallShows};
-ghost use Rattle.ca_run.specs.inner.Bricks.{WallShows};
+ghost use Rattle.ca_bricks.specs.Aged.{AgedGridShows};
+ghost use Rattle.ca_bricks.specs.Bricks.{GridShows};
 
 use super::Leaper;
-use crate::bricks::{AgedWall, Wall};
+use ca_bricks::{AgedGrid, BrickGrid};
 use ca_plane::Automaton;
 use ca_quad::{Store, Tree};
 use std::marker::Model;
 
 /// A number of generations that a run reports. It is made in this module's crate alone, with a tree or a
-/// wall of bricks that shows the plane of some tree after that many generations. That this is the tree with
+/// grid of bricks that shows the plane of some tree after that many generations. That this is the tree with
 /// which the run began is tested.
 #[derive(Clone, Copy)]
 pub struct Milestone {
@@ -57,14 +57,14 @@ impl Milestone {
         Milestone { generations }
     }
 
-    // What a run has reached that began with a tree and holds a wall.
-    pub(crate) fn with_wall<A: Automaton>(
+    // What a run has reached that began with a tree and holds a grid.
+    pub(crate) fn with_grid<A: Automaton>(
         leaper: &Leaper<A>,
         first: &Tree,
-        held: &Wall,
+        held: &BrickGrid,
         generations: u64,
     ) -> Milestone
-        requires { WallShows held.now 0
+        requires { GridShows held.now 0
             (cells_after (A.next_of leaper.now.rule) (cell leaper.now.nodes first.now) generations) }
         ensures { result ≡ generations }
     {
@@ -74,14 +74,14 @@ impl Milestone {
         Milestone { generations }
     }
 
-    // What a run has reached that began with a tree and holds a wall of cells that age.
-    pub(crate) fn with_aged_wall<A: Automaton>(
+    // What a run has reached that began with a tree and holds a grid of cells that age.
+    pub(crate) fn with_aged_grid<A: Automaton>(
         leaper: &Leaper<A>,
         first: &Tree,
-        held: &AgedWall,
+        held: &AgedGrid,
         generations: u64,
     ) -> Milestone
-        requires { AgedWallShows held.now 0
+        requires { AgedGridShows held.now 0
             (cells_after (A.next_of leaper.now.rule) (cell leaper.now.nodes first.now) generations) }
         ensures { result ≡ generations }
     {

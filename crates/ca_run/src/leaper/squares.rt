@@ -4,7 +4,8 @@ ghost use Rattle.std.specs.Prelude.{ℕ, ℤ, IfOk, IfSome};
 ghost use Rattle.ca_quad.specs.Squares.{IsOf};
 ghost use Rattle.ca_run.specs.inner.AtCost.{GoesOnAtCost};
 ghost use Rattle.ca_run.specs.inner.Shown.{ShowsAt};
-ghost use Rattle.ca_run.specs.inner.Words.{WordShows, WordsShow, WideSquareShows};
+ghost use Rattle.ca_run.specs.inner.Words.{WordsShow, WideSquareShows};
+ghost use Rattle.ca_bricks.specs.Words.{WordShows};
 
 use super::Leaper;
 use super::wide_square::WideSquare;

@@ -2,12 +2,12 @@
 
 ghost use Rattle.std.specs.Prelude.{◌≡◌, ℕ, ◌/◌, ◌%◌, ◌<◌, ℤ, pos, ◌+ℤ◌, List, length, slice_index};
 ghost use Rattle.ca_plane.specs.Generations.{cells_after};
-ghost use Rattle.ca_run.specs.inner.Words.{WordShows, WordsShow, TileShows, word_bytes_at};
-ghost use Rattle.ca_run.specs.Counting.{GoesBy};
+ghost use Rattle.ca_run.specs.inner.Words.{WordsShow, TileShows, word_bytes_at};
+ghost use Rattle.ca_bricks.specs.Words.{WordShows};
+ghost use Rattle.ca_bricks.specs.Counting.{GoesBy};
 
 use super::words::Words;
-use crate::kernel::{Bits, CountInTile, next_tile};
-use crate::neighbours::{EightNeighbours, FourNeighbours, SixNeighbours};
+use ca_bricks::{Bits, CountInTile, EightNeighbours, FourNeighbours, SixNeighbours, next_tile};
 use ca_plane::{Counting, Neighbourhood};
 use std::simd::prelude::*;
 

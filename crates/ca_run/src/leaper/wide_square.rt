@@ -3,8 +3,9 @@
 ghost use Rattle.std.specs.Prelude.{ℕ, ◌+◌, ◌≤◌, ℤ, pos, ◌+ℤ◌, List};
 ghost use Rattle.ca_plane.specs.Generations.{cells_after};
 ghost use Rattle.ca_run.specs.inner.Shown.{PairShows, TrioShows, RowsShow};
-ghost use Rattle.ca_run.specs.inner.Words.{WordShows, WordsShow, WideSquareShows};
-ghost use Rattle.ca_run.specs.Counting.{GoesBy};
+ghost use Rattle.ca_run.specs.inner.Words.{WordsShow, WideSquareShows};
+ghost use Rattle.ca_bricks.specs.Words.{WordShows};
+ghost use Rattle.ca_bricks.specs.Counting.{GoesBy};
 
 use super::trio::{Rows, Trio};
 use super::words::Words;

@@ -2,8 +2,9 @@
 
 ghost use Rattle.std.specs.Prelude.{ℕ, ◌≤◌, ℤ, pos, ◌+ℤ◌, List};
 ghost use Rattle.ca_plane.specs.Generations.{cells_after};
-ghost use Rattle.ca_run.specs.inner.Words.{WordShows, WordsShow};
-ghost use Rattle.ca_run.specs.Counting.{GoesBy};
+ghost use Rattle.ca_run.specs.inner.Words.{WordsShow};
+ghost use Rattle.ca_bricks.specs.Words.{WordShows};
+ghost use Rattle.ca_bricks.specs.Counting.{GoesBy};
 
 use super::tile::{later_tile, middle, tile_of};
 use ca_plane::Counting;

@@ -22,56 +22,56 @@ pub returns-then-place-eq0-2-clause-cut : goal.returns-then-place-eq0-2-clause-c
 returns-then-place-eq0-2-clause-cut t c =
     let zero_x : c.remainders-place.result.x ≡ 0 = grind (arith, nat_tests) in
     let zero_y : c.remainders-place.result.y ≡ 0 = grind (arith, nat_tests) in
-    first_cut c.args.self.now (subst IsSoundStore c.self.view_is c.self.invariant) c.args.four c.args.way c.remainders-place.result c.level-level.result c.level-level.ensures.level c.requires.four c.remainders-place.ensures.x c.remainders-place.ensures.y zero_x zero_y
+    first_cut c.args.self.now (subst IsSoundStore c.self.view_is c.self.invariant) c.args.four c.args.offset c.remainders-place.result c.level-level.result c.level-level.ensures.level c.requires.four c.remainders-place.ensures.x c.remainders-place.ensures.y zero_x zero_y
 
 pub returns-in-Some-clause-cut : goal.returns-in-Some-clause-cut
 returns-in-Some-clause-cut t c =
-    made_cut c.args.self.now (subst IsSoundStore c.self.view_is c.self.invariant) c.args.four c.args.way c.remainders-place.result c.level-level.result c.level-level.ensures.level c.requires.four c.remainders-place.ensures.x c.remainders-place.ensures.y c.from_word.new.self c.from_word.ensures.grows c.from_word.result
+    made_cut c.args.self.now (subst IsSoundStore c.self.view_is c.self.invariant) c.args.four c.args.offset c.remainders-place.result c.level-level.result c.level-level.ensures.level c.requires.four c.remainders-place.ensures.x c.remainders-place.ensures.y c.from_word.new.self c.from_word.ensures.grows c.from_word.result
     (word_window c.args.self.now c.from_word.new.self c.args.four c.remainders-place.result c.level-level.result c.in-Some.word c.from_word.result c.in-Some.ensures c.from_word.ensures.shows)
 
 pub returns-in-Some-clause-cuts : goal.returns-in-Some-clause-cuts
-returns-in-Some-clause-cuts t c = still_cuts c.args.self.now c.from_word.new.self c.from_word.result (subst IsSoundStore c.self.view_is c.self.invariant) c.from_word.ensures.grows c.args.way c.args.cuts.now c.requires.cuts
+returns-in-Some-clause-cuts t c = still_cuts c.args.self.now c.from_word.new.self c.from_word.result (subst IsSoundStore c.self.view_is c.self.invariant) c.from_word.ensures.grows c.args.offset c.args.cuts.now c.requires.cuts
 
 pub returns-then-level-eq1-clause-cut : goal.returns-then-level-eq1-clause-cut
 returns-then-level-eq1-clause-cut t c =
     let at = c.remainders-place.result in
     let one : 1 ≡ c.level-level.result = grind (arith, nat_tests) in
-    made_cut c.args.self.now (subst IsSoundStore c.self.view_is c.self.invariant) c.args.four c.args.way c.remainders-place.result c.level-level.result c.level-level.ensures.level c.requires.four c.remainders-place.ensures.x c.remainders-place.ensures.y c.cut_cells.new.self c.cut_cells.ensures.grows c.cut_cells.result
+    made_cut c.args.self.now (subst IsSoundStore c.self.view_is c.self.invariant) c.args.four c.args.offset c.remainders-place.result c.level-level.result c.level-level.ensures.level c.requires.four c.remainders-place.ensures.x c.remainders-place.ensures.y c.cut_cells.new.self c.cut_cells.ensures.grows c.cut_cells.result
     (subst (λ (l : ℕ). IfOk c.cut_cells.result (λ id. ShowsFrom c.cut_cells.new.self id l (cells_of_four c.args.self.now l c.args.four) at.x at.y)) one c.cut_cells.ensures.shows)
 
 pub returns-then-level-eq1-clause-cuts : goal.returns-then-level-eq1-clause-cuts
-returns-then-level-eq1-clause-cuts t c = still_cuts c.args.self.now c.cut_cells.new.self c.cut_cells.result (subst IsSoundStore c.self.view_is c.self.invariant) c.cut_cells.ensures.grows c.args.way c.args.cuts.now c.requires.cuts
+returns-then-level-eq1-clause-cuts t c = still_cuts c.args.self.now c.cut_cells.new.self c.cut_cells.result (subst IsSoundStore c.self.view_is c.self.invariant) c.cut_cells.ensures.grows c.args.offset c.args.cuts.now c.requires.cuts
 
 pub sixteen_parts-parts-requires : goal.sixteen_parts-parts-requires
 sixteen_parts-parts-requires t c =
     let two : c.level-level.result ≡ suc (suc (c.level-level.result - 2)) = grind (arith, nat_tests) in
-    (c.level-level.result - 2, subst (λ l. AreNeighbours c.args.self.now l c.args.four) two (are_four c.args.self.now (subst IsSoundStore c.self.view_is c.self.invariant) c.args.four c.args.way c.remainders-place.result c.level-level.result c.level-level.ensures.level c.requires.four c.remainders-place.ensures.x c.remainders-place.ensures.y))
+    (c.level-level.result - 2, subst (λ l. AreNeighbours c.args.self.now l c.args.four) two (are_four c.args.self.now (subst IsSoundStore c.self.view_is c.self.invariant) c.args.four c.args.offset c.remainders-place.result c.level-level.result c.level-level.ensures.level c.requires.four c.remainders-place.ensures.x c.remainders-place.ensures.y))
 
 pub cut_out-requires : goal.cut_out-requires
 cut_out-requires t c =
     let large : 2 ≤ c.level-level.result = grind (arith, nat_tests) in
-    let leads = lead_to_parts c.args.self.now (subst IsSoundStore c.self.view_is c.self.invariant) c.args.four c.args.way c.remainders-place.result c.level-level.result c.level-level.ensures.level c.requires.four c.remainders-place.ensures.x c.remainders-place.ensures.y large c.sixteen_parts-parts.result c.sixteen_parts-parts.ensures c.half_side-half.result c.half_side-half.ensures.half c.overlapping_fours.result c.overlapping_fours.ensures in
+    let leads = lead_to_parts c.args.self.now (subst IsSoundStore c.self.view_is c.self.invariant) c.args.four c.args.offset c.remainders-place.result c.level-level.result c.level-level.ensures.level c.requires.four c.remainders-place.ensures.x c.remainders-place.ensures.y large c.sixteen_parts-parts.result c.sixteen_parts-parts.ensures c.half_side-half.result c.half_side-half.ensures.half c.overlapping_fours.result c.overlapping_fours.ensures in
     let group = group_stays c.args.self.now c.args.self.now (subst IsSoundStore c.self.view_is c.self.invariant) (grows_same c.args.self.now (subst IsSoundStore c.self.view_is c.self.invariant)) leads.nw (omega (arith, c.level-level.ensures.most)) in
     (omega (arith, c.decreases, c.level-level.ensures.level, group.0), (group.1, c.requires.cuts))
 
 pub cut_out-requires-2 : goal.cut_out-requires-2
 cut_out-requires-2 t c =
     let large : 2 ≤ c.level-level.result = grind (arith, nat_tests) in
-    let leads = lead_to_parts c.args.self.now (subst IsSoundStore c.self.view_is c.self.invariant) c.args.four c.args.way c.remainders-place.result c.level-level.result c.level-level.ensures.level c.requires.four c.remainders-place.ensures.x c.remainders-place.ensures.y large c.sixteen_parts-parts.result c.sixteen_parts-parts.ensures c.half_side-half.result c.half_side-half.ensures.half c.overlapping_fours.result c.overlapping_fours.ensures in
+    let leads = lead_to_parts c.args.self.now (subst IsSoundStore c.self.view_is c.self.invariant) c.args.four c.args.offset c.remainders-place.result c.level-level.result c.level-level.ensures.level c.requires.four c.remainders-place.ensures.x c.remainders-place.ensures.y large c.sixteen_parts-parts.result c.sixteen_parts-parts.ensures c.half_side-half.result c.half_side-half.ensures.half c.overlapping_fours.result c.overlapping_fours.ensures in
     let group = group_stays c.args.self.now c.cut_out.new.self (subst IsSoundStore c.self.view_is c.self.invariant) (c.cut_out.ensures.grows) leads.ne (omega (arith, c.level-level.ensures.most)) in
     (omega (arith, c.decreases, c.level-level.ensures.level, group.0), (group.1, c.in_ok-nw.ensures.cuts))
 
 pub cut_out-requires-3 : goal.cut_out-requires-3
 cut_out-requires-3 t c =
     let large : 2 ≤ c.level-level.result = grind (arith, nat_tests) in
-    let leads = lead_to_parts c.args.self.now (subst IsSoundStore c.self.view_is c.self.invariant) c.args.four c.args.way c.remainders-place.result c.level-level.result c.level-level.ensures.level c.requires.four c.remainders-place.ensures.x c.remainders-place.ensures.y large c.sixteen_parts-parts.result c.sixteen_parts-parts.ensures c.half_side-half.result c.half_side-half.ensures.half c.overlapping_fours.result c.overlapping_fours.ensures in
+    let leads = lead_to_parts c.args.self.now (subst IsSoundStore c.self.view_is c.self.invariant) c.args.four c.args.offset c.remainders-place.result c.level-level.result c.level-level.ensures.level c.requires.four c.remainders-place.ensures.x c.remainders-place.ensures.y large c.sixteen_parts-parts.result c.sixteen_parts-parts.ensures c.half_side-half.result c.half_side-half.ensures.half c.overlapping_fours.result c.overlapping_fours.ensures in
     let group = group_stays c.args.self.now c.cut_out-2.new.self (subst IsSoundStore c.self.view_is c.self.invariant) (grows_on c.args.self.now c.cut_out.new.self c.cut_out-2.new.self c.cut_out.ensures.grows c.cut_out-2.ensures.grows) leads.sw (omega (arith, c.level-level.ensures.most)) in
     (omega (arith, c.decreases, c.level-level.ensures.level, group.0), (group.1, c.in_ok-ne.ensures.cuts))
 
 pub cut_out-requires-4 : goal.cut_out-requires-4
 cut_out-requires-4 t c =
     let large : 2 ≤ c.level-level.result = grind (arith, nat_tests) in
-    let leads = lead_to_parts c.args.self.now (subst IsSoundStore c.self.view_is c.self.invariant) c.args.four c.args.way c.remainders-place.result c.level-level.result c.level-level.ensures.level c.requires.four c.remainders-place.ensures.x c.remainders-place.ensures.y large c.sixteen_parts-parts.result c.sixteen_parts-parts.ensures c.half_side-half.result c.half_side-half.ensures.half c.overlapping_fours.result c.overlapping_fours.ensures in
+    let leads = lead_to_parts c.args.self.now (subst IsSoundStore c.self.view_is c.self.invariant) c.args.four c.args.offset c.remainders-place.result c.level-level.result c.level-level.ensures.level c.requires.four c.remainders-place.ensures.x c.remainders-place.ensures.y large c.sixteen_parts-parts.result c.sixteen_parts-parts.ensures c.half_side-half.result c.half_side-half.ensures.half c.overlapping_fours.result c.overlapping_fours.ensures in
     let group = group_stays c.args.self.now c.cut_out-3.new.self (subst IsSoundStore c.self.view_is c.self.invariant) (grows_three c.args.self.now c.cut_out.new.self c.cut_out-2.new.self c.cut_out-3.new.self c.cut_out.ensures.grows c.cut_out-2.ensures.grows c.cut_out-3.ensures.grows) leads.se (omega (arith, c.level-level.ensures.most)) in
     (omega (arith, c.decreases, c.level-level.ensures.level, group.0), (group.1, c.in_ok-sw.ensures.cuts))
 
@@ -91,25 +91,25 @@ returns-clause-grows t c = grows_five c.args.self.now c.cut_out.new.self c.cut_o
 pub join-requires : goal.join-requires
 join-requires t c =
     let large : 2 ≤ c.level-level.result = grind (arith, nat_tests) in
-    let leads = lead_to_parts c.args.self.now (subst IsSoundStore c.self.view_is c.self.invariant) c.args.four c.args.way c.remainders-place.result c.level-level.result c.level-level.ensures.level c.requires.four c.remainders-place.ensures.x c.remainders-place.ensures.y large c.sixteen_parts-parts.result c.sixteen_parts-parts.ensures c.half_side-half.result c.half_side-half.ensures.half c.overlapping_fours.result c.overlapping_fours.ensures in
+    let leads = lead_to_parts c.args.self.now (subst IsSoundStore c.self.view_is c.self.invariant) c.args.four c.args.offset c.remainders-place.result c.level-level.result c.level-level.ensures.level c.requires.four c.remainders-place.ensures.x c.remainders-place.ensures.y large c.sixteen_parts-parts.result c.sixteen_parts-parts.ensures c.half_side-half.result c.half_side-half.ensures.half c.overlapping_fours.result c.overlapping_fours.ensures in
     (c.level-level.result - 1, can_join_cuts c.args.self.now c.cut_out.new.self c.cut_out-2.new.self c.cut_out-3.new.self c.cut_out-4.new.self (subst IsSoundStore c.self.view_is c.self.invariant) c.cut_out.ensures.grows c.cut_out-2.ensures.grows c.cut_out-3.ensures.grows c.cut_out-4.ensures.grows c.level-level.result large leads c.in_ok-nw.nw c.in_ok-ne.ne c.in_ok-sw.sw c.in_ok-se.se c.in_ok-nw.ensures.cut c.in_ok-ne.ensures.cut c.in_ok-sw.ensures.cut c.in_ok-se.ensures.cut c.level-level.ensures.most)
 
 pub returns-clause-cut : goal.returns-clause-cut
 returns-clause-cut t c =
     let large : 2 ≤ c.level-level.result = grind (arith, nat_tests) in
-    let leads = lead_to_parts c.args.self.now (subst IsSoundStore c.self.view_is c.self.invariant) c.args.four c.args.way c.remainders-place.result c.level-level.result c.level-level.ensures.level c.requires.four c.remainders-place.ensures.x c.remainders-place.ensures.y large c.sixteen_parts-parts.result c.sixteen_parts-parts.ensures c.half_side-half.result c.half_side-half.ensures.half c.overlapping_fours.result c.overlapping_fours.ensures in
+    let leads = lead_to_parts c.args.self.now (subst IsSoundStore c.self.view_is c.self.invariant) c.args.four c.args.offset c.remainders-place.result c.level-level.result c.level-level.ensures.level c.requires.four c.remainders-place.ensures.x c.remainders-place.ensures.y large c.sixteen_parts-parts.result c.sixteen_parts-parts.ensures c.half_side-half.result c.half_side-half.ensures.half c.overlapping_fours.result c.overlapping_fours.ensures in
     let shows = cuts_joined c.args.self.now c.cut_out.new.self c.cut_out-2.new.self c.cut_out-3.new.self c.cut_out-4.new.self (subst IsSoundStore c.self.view_is c.self.invariant) c.cut_out.ensures.grows c.cut_out-2.ensures.grows c.cut_out-3.ensures.grows c.cut_out-4.ensures.grows c.level-level.result large leads c.in_ok-nw.nw c.in_ok-ne.ne c.in_ok-sw.sw c.in_ok-se.se c.in_ok-nw.ensures.cut c.in_ok-ne.ensures.cut c.in_ok-sw.ensures.cut c.in_ok-se.ensures.cut c.join.new.self c.join.result c.join.ensures.shows in
-    subst (λ r. IfOk r (IsCut c.join.new.self c.args.way c.args.four)) c.in_ok-cut.was
-    (made_cut c.args.self.now (subst IsSoundStore c.self.view_is c.self.invariant) c.args.four c.args.way c.remainders-place.result c.level-level.result c.level-level.ensures.level c.requires.four c.remainders-place.ensures.x c.remainders-place.ensures.y c.join.new.self (grows_five c.args.self.now c.cut_out.new.self c.cut_out-2.new.self c.cut_out-3.new.self c.cut_out.ensures.grows c.cut_out-2.ensures.grows c.cut_out-3.ensures.grows c.cut_out-4.new.self c.join.new.self c.cut_out-4.ensures.grows c.join.ensures.grows) c.join.result shows)
+    subst (λ r. IfOk r (IsCut c.join.new.self c.args.offset c.args.four)) c.in_ok-cut.was
+    (made_cut c.args.self.now (subst IsSoundStore c.self.view_is c.self.invariant) c.args.four c.args.offset c.remainders-place.result c.level-level.result c.level-level.ensures.level c.requires.four c.remainders-place.ensures.x c.remainders-place.ensures.y c.join.new.self (grows_five c.args.self.now c.cut_out.new.self c.cut_out-2.new.self c.cut_out-3.new.self c.cut_out.ensures.grows c.cut_out-2.ensures.grows c.cut_out-3.ensures.grows c.cut_out-4.new.self c.join.new.self c.cut_out-4.ensures.grows c.join.ensures.grows) c.join.result shows)
 
 pub returns-clause-cuts : goal.returns-clause-cuts
 returns-clause-cuts t c =
     let cuts = c.cut_out-4.new.cuts in
-    one_cut_more c.join.new.self c.args.way cuts c.put.new.self c.args.four c.in_ok-cut.cut
-    (cuts_stay c.cut_out-4.new.self c.join.new.self c.cut_out-4.ensures.grows.sound c.join.ensures.grows c.args.way cuts c.in_ok-se.ensures.cuts) (returns-clause-cut t c) c.in_ok-put.ensures
+    one_cut_more c.join.new.self c.args.offset cuts c.put.new.self c.args.four c.in_ok-cut.cut
+    (cuts_stay c.cut_out-4.new.self c.join.new.self c.cut_out-4.ensures.grows.sound c.join.ensures.grows c.args.offset cuts c.in_ok-se.ensures.cuts) (returns-clause-cut t c) c.in_ok-put.ensures
 
 pub cut_word-requires-clause-x : goal.cut_word-requires-clause-x
-cut_word-requires-clause-x t c = rest_low c.args.way.x c.level-level.result c.remainders-place.result.x c.remainders-place.ensures.x
+cut_word-requires-clause-x t c = rest_low c.args.offset.x c.level-level.result c.remainders-place.result.x c.remainders-place.ensures.x
 
 pub cut_word-requires-clause-y : goal.cut_word-requires-clause-y
-cut_word-requires-clause-y t c = rest_low c.args.way.y c.level-level.result c.remainders-place.result.y c.remainders-place.ensures.y
+cut_word-requires-clause-y t c = rest_low c.args.offset.y c.level-level.result c.remainders-place.result.y c.remainders-place.ensures.y

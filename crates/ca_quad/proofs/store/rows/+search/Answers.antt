@@ -1,5 +1,5 @@
 use Rattle.std.proofs.Common.{◌+◌, inl, inr, arith}
-use Rattle.ca_quad.proofs.Growth.{below_or_not}
+use Rattle.ca_plane.proofs.Numbers.{below_or_not}
 use Rattle.ca_quad.proofs.RowPlaces.{comes_earlier}
 use Rattle.ca_quad.proofs.store.rows.+search.Goals as goal
 

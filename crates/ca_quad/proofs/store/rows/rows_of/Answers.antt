@@ -1,6 +1,6 @@
 use Rattle.std.proofs.Common.{ℕ, ◌<◌, inl, inr, arith}
 use Rattle.ca_quad.specs.inner.Rows.{HaveRowAt}
-use Rattle.ca_quad.proofs.Growth.{below_or_not}
+use Rattle.ca_plane.proofs.Numbers.{below_or_not}
 use Rattle.ca_quad.proofs.RowPlaces.{HaveRowAt-push, AreRows-push}
 use Rattle.ca_quad.proofs.store.rows.rows_of.Goals as goal
 

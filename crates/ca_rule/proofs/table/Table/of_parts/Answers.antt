@@ -32,18 +32,18 @@ returns-clause-quiet c =
     let same = stored-next c.args.name.items c.args.states c.args.neighbourhood c.args.symmetry c.args.variables.items c.args.transitions.items
     (replicate 9 0) (placements_of c.of-orders.result) c.of-orders.ensures.placements in
     let zero : c.first_outcome.result ≡ 0 = grind (arith, nat_tests) in
-    let kept : stored_table c.args.name.items c.args.states c.args.neighbourhood c.args.symmetry c.in-Ok.sifted.variables c.in-Ok.sifted.transitions
+    let kept : stored_table c.args.name.items c.args.states c.args.neighbourhood c.args.symmetry c.in-Ok.indexed.variables c.in-Ok.indexed.transitions
     ≡ stored_table c.args.name.items c.args.states c.args.neighbourhood c.args.symmetry c.args.variables.items c.args.transitions.items
-    = ap (λ v. stored_table c.args.name.items c.args.states c.args.neighbourhood c.args.symmetry v c.in-Ok.sifted.transitions) c.in-Ok.ensures.variables
+    = ap (λ v. stored_table c.args.name.items c.args.states c.args.neighbourhood c.args.symmetry v c.in-Ok.indexed.transitions) c.in-Ok.ensures.variables
     ∙ ap (λ t. stored_table c.args.name.items c.args.states c.args.neighbourhood c.args.symmetry c.args.variables.items t) c.in-Ok.ensures.transitions in
     ap (λ t. table_next t (replicate 9 0)) kept ∙ sym same ∙ sym found ∙ zero
 
 pub invariant_of-result : goal.invariant_of-result
 invariant_of-result c =
     let some : 0 < c.args.states = omega arith in
-    let kept : stored_table c.args.name.items c.args.states c.args.neighbourhood c.args.symmetry c.in-Ok.sifted.variables c.in-Ok.sifted.transitions
+    let kept : stored_table c.args.name.items c.args.states c.args.neighbourhood c.args.symmetry c.in-Ok.indexed.variables c.in-Ok.indexed.transitions
     ≡ stored_table c.args.name.items c.args.states c.args.neighbourhood c.args.symmetry c.args.variables.items c.args.transitions.items
-    = ap (λ v. stored_table c.args.name.items c.args.states c.args.neighbourhood c.args.symmetry v c.in-Ok.sifted.transitions) c.in-Ok.ensures.variables
+    = ap (λ v. stored_table c.args.name.items c.args.states c.args.neighbourhood c.args.symmetry v c.in-Ok.indexed.transitions) c.in-Ok.ensures.variables
     ∙ ap (λ t. stored_table c.args.name.items c.args.states c.args.neighbourhood c.args.symmetry c.args.variables.items t) c.in-Ok.ensures.transitions in
     let sound : IsSoundTable (stored_table c.args.name.items c.args.states c.args.neighbourhood c.args.symmetry c.args.variables.items c.args.transitions.items) = record {
       low = c.requires.low;

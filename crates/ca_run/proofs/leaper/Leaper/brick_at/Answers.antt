@@ -1,14 +1,14 @@
-use Rattle.std.proofs.Common.{◌≡◌, ℕ, ◌≤◌, ◌+◌, ◌-◌, ◌*◌, ◌/◌, ◌%◌, ◌^◌, suc, ap, subst, sym, ◌∙◌, arith}
+use Rattle.std.proofs.Common.{◌≡◌, ℕ, ◌≤◌, ◌+◌, ◌-◌, ◌*◌, ◌/◌, ◌%◌, ◌^◌, ap, subst, sym, ◌∙◌, arith}
 use Rattle.std.specs.Prelude.{ℤ, pos, neg_ℤ, ◌+ℤ◌}
 use Rattle.std.proofs.lemmas.Int.{ints}
 use Rattle.std.proofs.lemmas.Nat.{pow-add}
 use Rattle.ca_quad.specs.Squares.{IsOf}
 use Rattle.ca_quad.specs.Trees.{cell}
-use Rattle.ca_run.specs.inner.Words.{eight}
+use Rattle.ca_bricks.specs.Words.{eight}
 use Rattle.ca_run.specs.inner.Shown.{ShowsAt}
 use Rattle.ca_run.specs.inner.Frames.{piece_start, row_start}
 use Rattle.ca_run.proofs.Trees.{tree_dies, root_at}
-use Rattle.ca_run.proofs.WallBricks.{blank_shows, blank_piece, column_dead, row_dead, eight_from}
+use Rattle.ca_run.proofs.GridBricks.{blank_shows, blank_piece, column_dead, row_dead, eight_from}
 use Rattle.ca_run.proofs.leaper.Leaper.brick_at.Goals as goal
 
 pub returns-in_default : goal.returns-in_default

@@ -1,4 +1,5 @@
-use Rattle.ca_run.specs.inner.Words.{WordShows, WordsShow}
+use Rattle.ca_run.specs.inner.Words.{WordsShow}
+use Rattle.ca_bricks.specs.Words.{WordShows}
 use Rattle.ca_run.proofs.Lanes.{centre_shown}
 use Rattle.ca_run.proofs.leaper.Leaper.centre_words.Goals as goal
 

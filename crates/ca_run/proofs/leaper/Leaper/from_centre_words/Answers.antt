@@ -1,6 +1,7 @@
 use Rattle.std.proofs.Common.{subst}
 use Rattle.ca_quad.specs.Sound.{IsSoundStore}
-use Rattle.ca_run.specs.inner.Words.{WordShows, WordsShow}
+use Rattle.ca_run.specs.inner.Words.{WordsShow}
+use Rattle.ca_bricks.specs.Words.{WordShows}
 use Rattle.ca_run.proofs.Lanes.{centre_made}
 use Rattle.ca_run.proofs.leaper.Leaper.from_centre_words.Goals as goal
 

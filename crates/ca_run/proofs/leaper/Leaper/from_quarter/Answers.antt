@@ -1,7 +1,7 @@
 use Rattle.std.proofs.Common.{◌+◌, arith}
 use Rattle.std.specs.Prelude.{pos, ◌+ℤ◌}
 use Rattle.std.proofs.lemmas.Int.{ints}
-use Rattle.ca_run.proofs.AgedSquares.{part_shows}
+use Rattle.ca_bricks.proofs.AgedSquares.{part_shows}
 use Rattle.ca_run.proofs.Costs.{at_cost_more, at_both_costs}
 use Rattle.ca_run.proofs.ShownPlanes.{four_made}
 use Rattle.ca_run.proofs.leaper.Leaper.from_quarter.Goals as goal

@@ -2,7 +2,7 @@ use Rattle.std.proofs.Common.{ℕ, List}
 use Rattle.std.specs.Prelude.{ℤ}
 use Rattle.ca_plane.specs.Generations.{cells_after}
 use Rattle.ca_run.specs.inner.Words.{TileShows}
-use Rattle.ca_run.specs.Counting.{GoesBy}
+use Rattle.ca_bricks.specs.Counting.{GoesBy}
 use Rattle.ca_run.proofs.leaper.tile.later_counted.Given as goal
 
 -- as many generations on as were counted

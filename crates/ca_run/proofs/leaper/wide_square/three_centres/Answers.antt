@@ -1,6 +1,6 @@
 use Rattle.std.specs.Prelude.{pos, ◌+ℤ◌}
 use Rattle.ca_plane.specs.Generations.{cells_after}
-use Rattle.ca_run.specs.inner.Words.{WordShows}
+use Rattle.ca_bricks.specs.Words.{WordShows}
 use Rattle.ca_run.proofs.Overlaps.{trio_lies}
 use Rattle.ca_run.proofs.leaper.wide_square.three_centres.Goals as goal
 

@@ -1,8 +1,8 @@
 use Rattle.std.proofs.Common.{◌+◌}
 use Rattle.std.specs.Prelude.{pos, ◌+ℤ◌}
 use Rattle.ca_plane.specs.Generations.{cells_after}
-use Rattle.ca_run.specs.inner.Words.{WordShows}
-use Rattle.ca_run.proofs.After.{after_again}
+use Rattle.ca_bricks.specs.Words.{WordShows}
+use Rattle.ca_plane.proofs.After.{after_again}
 use Rattle.ca_run.proofs.Words.{words_of_same}
 use Rattle.ca_run.proofs.Overlaps.{four_lie}
 use Rattle.ca_run.proofs.leaper.wide_square.WideSquare.centre.Goals as goal

@@ -1,7 +1,0 @@
-use Rattle.std.proofs.Common.{◌≡◌, drop}
-use Rattle.ca_rule.specs.inner.TableSieve.{TellsBefore}
-use Rattle.ca_rule.proofs.table.sieve.bits_of.Given as goal
-
--- the transitions from this one on are left, and the bits so far are right
-abbrev pub invariant-transitions : goal.invariant-transitions
-invariant-transitions l = (l.left ≡ drop l.at l.transitions) × TellsBefore l.variables l.transitions l.slot l.state l.bits l.at

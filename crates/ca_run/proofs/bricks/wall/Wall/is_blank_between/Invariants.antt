@@ -1,9 +1,0 @@
-use Rattle.std.proofs.Common.{ℕ, ◌*◌, ◌/◌}
-use Rattle.std.specs.Prelude.{ℤ}
-use Rattle.ca_run.specs.inner.Bricks.{WallShows}
-use Rattle.ca_run.proofs.Walls.{IsDeadThere}
-use Rattle.ca_run.proofs.bricks.wall.Wall.is_blank_between.Given as goal
-
--- the rows so far are blank
-abbrev pub invariant-rows : goal.invariant-rows
-invariant-rows l = (m : ℕ) (p : ℤ → ℤ → ℕ) → WallShows l.fn.self m p → IsDeadThere p l.fn.self.x l.fn.self.y (64 * l.columns.0) (64 * l.columns.1) (16 * (l.fn.j.0 / 2)) (16 * l.row)

@@ -1,5 +1,0 @@
-use Rattle.ca_run.proofs.BrickBits.{pair_of_three}
-use Rattle.ca_run.proofs.bricks.word.add3.Goals as goal
-
-pub returns : goal.returns
-returns c = pair_of_three c.args.a c.args.b c.args.c

@@ -1,5 +1,0 @@
-use Rattle.ca_run.proofs.BrickBits.{rest_bit}
-use Rattle.ca_run.proofs.bricks.word.and_not.Goals as goal
-
-pub returns : goal.returns
-returns c = rest_bit c.args.a c.args.b

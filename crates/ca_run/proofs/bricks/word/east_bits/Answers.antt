@@ -1,5 +1,0 @@
-use Rattle.ca_run.proofs.BrickBits.{east_bit}
-use Rattle.ca_run.proofs.bricks.word.east_bits.Goals as goal
-
-pub returns : goal.returns
-returns c = λ west x h. east_bit c.args.row c.args.east x c.ranges.row.fits h

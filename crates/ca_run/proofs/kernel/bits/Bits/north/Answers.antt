@@ -1,5 +1,0 @@
-use Rattle.ca_run.proofs.BitRows.{bits_north}
-use Rattle.ca_run.proofs.kernel.bits.Bits.north.Goals as goal
-
-pub returns : goal.returns
-returns c = bits_north c.args.self.rows c.args.self.sixteen

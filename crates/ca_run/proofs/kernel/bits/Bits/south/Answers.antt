@@ -1,5 +1,0 @@
-use Rattle.ca_run.proofs.BitRows.{bits_south}
-use Rattle.ca_run.proofs.kernel.bits.Bits.south.Goals as goal
-
-pub returns : goal.returns
-returns c = bits_south c.args.self.rows c.args.self.sixteen

@@ -1,9 +1,0 @@
-use Rattle.std.proofs.Common.{◌∙◌, ap}
-use Rattle.ca_quad.specs.Trees.{row_cells}
-use Rattle.ca_run.specs.inner.Tiles.{number, sum_round}
-use Rattle.ca_run.proofs.TileCells.{next_within}
-use Rattle.ca_run.proofs.kernel.next_tile.Goals as goal
-
-pub returns : goal.returns
-returns g c = next_within c.args.counting c.args.alive.rows c.next_bits.result.rows (number c.count.result)
-    (λ x y h k. c.count.ensures x y h k ∙ ap (λ counted. sum_round counted (row_cells c.args.alive.rows) x y) c.requires) c.next_bits.ensures

@@ -1,0 +1,14 @@
+use Rattle.std.proofs.Common.{IfSome, subst}
+use Rattle.ca_quad.specs.Trees.{cell}
+use Rattle.ca_run.specs.inner.Frames.{IsReadByBricks, IsGridFrame, IsFramed}
+use Rattle.ca_run.proofs.leaper.Leaper.aged_grid.Goals as goal
+
+pub aged_grid_of-requires-clause-tree : goal.aged_grid_of-requires-clause-tree
+aged_grid_of-requires-clause-tree g c = subst (λ found. IfSome found (λ _. IsReadByBricks c.args.self.now.nodes c.args.tree.now)) c.in-Some.is c.in_ok-frame.ensures.read
+
+pub aged_grid_of-requires-clause-frame : goal.aged_grid_of-requires-clause-frame
+aged_grid_of-requires-clause-frame g c = subst (λ found. IfSome found IsGridFrame) c.in-Some.is c.in_ok-frame.ensures.frame
+
+pub returns-clause-shows : goal.returns-clause-shows
+returns-clause-shows g c =
+    c.aged_grid_of.ensures.shows c.args.margin (subst (λ found. IfSome found (λ frame. IsFramed c.args.margin frame (cell c.args.self.now.nodes c.args.tree.now))) c.in-Some.is c.in_ok-frame.ensures.framed)

@@ -1,0 +1,17 @@
+use Rattle.std.proofs.Common.{◌≡◌, ℕ, ◌<◌, get_or, length}
+use Rattle.std.specs.List.{All}
+use Rattle.ca_quad.specs.Trees.{cell}
+use Rattle.ca_bricks.specs.declared.grid.BrickGrid.{BrickGrid}
+use Rattle.ca_bricks.specs.Aged.{dying_digit}
+use Rattle.ca_bricks.specs.Bricks.{GridShows}
+use Rattle.ca_run.specs.inner.Frames.{IsFramed, IsOfFrame}
+use Rattle.ca_run.proofs.leaper.Leaper.aged_grid_of.Given as goal
+
+-- the planes of digits so far
+abbrev pub invariant-digits : goal.invariant-digits
+invariant-digits g l = record {
+  size : length l.dying.items ≡ l.digit;
+  of_frame : All (IsOfFrame l.frame) l.dying.items;
+  shows : (m : ℕ) → IsFramed m l.frame (cell l.self.nodes l.tree) → (k : ℕ) (d : BrickGrid) → k < l.digit
+      → GridShows (get_or l.dying.items k d) m (λ x y. dying_digit l.states k (cell l.self.nodes l.tree x y));
+}
