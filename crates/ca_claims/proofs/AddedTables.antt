@@ -162,5 +162,5 @@ module _ (files : List (List ℕ × List ℕ)) where
     -- a true verdict is true with more tables, but that a rule isn't known
     pub verdict_stays : (claim : Claim) (verdict : Verdict) → verdict ≢ Refused (BadRule Unknown) → IsTrueVerdict files rules claim verdict → IsTrueVerdict files (rules ++ more) claim verdict
     verdict_stays claim Yes other (cells, others, rule, judged, true_claim) = (cells, others, rule, judged_stays claim cells others rule judged, true_claim)
-    verdict_stays claim (No why) other (cells, others, rule, judged, reason) = (cells, others, rule, judged_stays claim cells others rule judged, reason)
+    verdict_stays claim (No refutation) other (cells, others, rule, judged, reason) = (cells, others, rule, judged_stays claim cells others rule judged, reason)
     verdict_stays claim (Refused cause) other h = cause_stays (asks_of claim.kind) (patterns_of claim) cause (λ same. other (ap Refused same)) h

@@ -17,8 +17,8 @@ use Rattle.ca_claims.specs.declared.pattern.Loaded.{Loaded}
 use Rattle.ca_text.specs.declared.line.Claim.{Claim as ClaimOf}
 use Rattle.ca_text.specs.declared.line.Kind.{Kind}
 use Rattle.ca_text.specs.declared.asks.Asks.{Asks}
-use Rattle.ca_text.specs.declared.asks.Wanted.{Wanted}
-use Rattle.ca_text.specs.declared.asks.Wanted.TheVariants.{Own, Other, NoCells}
+use Rattle.ca_text.specs.declared.asks.Expected.{Expected}
+use Rattle.ca_text.specs.declared.asks.Expected.TheVariants.{Own, Other, NoCells}
 use Rattle.ca_claims.specs.declared.verdict.Cause.{Cause}
 use Rattle.ca_claims.specs.declared.verdict.Cause.TheVariants.{NoFile, BadTable, BadPattern, BadRule, StateTooLarge, MixedRules, TooManyCells, Work, Memory}
 use Rattle.ca_claims.specs.declared.verdict.Verdict.{Verdict}
@@ -43,13 +43,13 @@ use Rattle.ca_text.specs.Text.{Claim, patterns_of, map_patterns, HasGoodNumbers}
 use Rattle.ca_text.specs.Places.{path_at}
 use Rattle.ca_claims.specs.Means.{bytes_at, IsReadable, MayWantMemory}
 use Rattle.ca_text.specs.Asks.{asks_of}
-use Rattle.ca_claims.specs.Truth.{wanted_cells}
+use Rattle.ca_claims.specs.Truth.{expected_cells}
 use Rattle.ca_claims.specs.inner.Decided.{IsBounded, IsDecided}
 use Rattle.ca_claims.specs.Limited.{IsNoMoreThan}
 use Rattle.ca_text.specs.SomeOf.{SomeOf}
 use Rattle.ca_claims.specs.Answers.{IsPatternFaultOn, IsBadPatternOn, AreTables, IsMissing, IsThere, IsReadableFile, HasRule, IsSmall, FirstIs, HaveOtherRules, HasCause, IsGoodPattern, AreGood, IsJudged, IsTrueVerdict, IsBadPattern, IsUnnamed, IsUnnamedBy, IsLarge, IsCrowded, WantsMemory}
 use Rattle.ca_claims.specs.inner.Subjects.{ShowsTree, IsPattern, AreShown, IsSubject}
-use Rattle.ca_claims.specs.inner.PreparedClaim.{IsPrepared, IsFit, AreFewCounted, IsCountRefused, wanted_tree, wanted_part, last_part, refusal_for, disagreement_refusal}
+use Rattle.ca_claims.specs.inner.PreparedClaim.{IsPrepared, IsFit, AreFewCounted, IsCountRefused, expected_tree, expected_part, last_part, refusal_for, disagreement_refusal}
 use Rattle.ca_claims.specs.inner.Found.{IsFound}
 use Rattle.ca_claims.specs.inner.Spending.{HasLimits}
 use Rattle.ca_claims.specs.inner.Refusals.{IsRefusal, IsOnVerdict, IsJudgedOn}
@@ -57,7 +57,7 @@ use Rattle.ca_text.specs.OneOrTwo.{items}
 use Rattle.ca_claims.specs.inner.Patterns.{IsEachOnce, FirstBadAt, IsReadFrom, IsUnreadFor, HasName, IsUnnamedFor, rule_of, IsRuledAs, ShowsLarge, ShowsSmall, AreOfOneRule, AreMixed, Disagree, AreBoth}
 use Rattle.ca_text.proofs.ClaimPatterns.{paths_of}
 use Rattle.ca_claims.proofs.ClaimKinds.{asks_bounded}
-use Rattle.ca_claims.proofs.PatternsRead.{fault_on, IsReadAt, IsRuledAt, path_has_fault, path_has_rule, path_is_unnamed, path_reads, ruled_path_reads, ruled_at, ruled_has_rule, ruled_is_good, ruled_is_large, ruled_is_small, ruled_picture, ruled_reads, tree_shows, wanted}
+use Rattle.ca_claims.proofs.PatternsRead.{fault_on, IsReadAt, IsRuledAt, path_has_fault, path_has_rule, path_is_unnamed, path_reads, ruled_path_reads, ruled_at, ruled_has_rule, ruled_is_good, ruled_is_large, ruled_is_small, ruled_picture, ruled_reads, tree_shows, reads_may_want}
 use Rattle.ca_claims.proofs.EqualCells.{few_shown, many_shown, few_none, none_many}
 use Rattle.ca_claims.proofs.Spending.{used_up}
 use Rattle.ca_claims.proofs.WrittenForms.{read_pattern}
@@ -210,7 +210,7 @@ judged_of_all files tables each all cells other rule (inr (x, e, d)) h =
     subst (λ l. AreGood files tables l cells other rule) (sym d) (judged_twice files tables x cells other rule (subst (λ l. AreGood files tables l cells other rule) e h))
 
 reads_want : (files : List (List ℕ × List ℕ)) (path : List ℕ) → IsReadableFile files path → WantsMemory files path
-reads_want files path reads = (reads.0, reads.1, wanted reads.0 reads.2)
+reads_want files path reads = (reads.0, reads.1, reads_may_want reads.0 reads.2)
 
 module _ (files : List (List ℕ × List ℕ)) (every rules : List (List ℕ)) (asks : Asks) (tables : List TableRule) (are : AreTables files rules tables) where
   module _ (each : List (List ℕ)) (there : List (Bor (List ℕ))) (at : AllZip (λ path b. bytes_at files path ≡ Some b.now) each there) (part : WhichPattern) where
@@ -243,7 +243,7 @@ module _ (files : List (List ℕ × List ℕ)) (every rules : List (List ℕ)) (
         tables,
         (are, all_there files each there at),
         zip_front (λ path b. bytes_at files path ≡ Some b.now) (WantsMemory files) (λ b. IsReadable b.now) (λ b. MayWantMemory b.now)
-            (λ path b e reads. (b.now, e, wanted b.now reads)) (λ path b e wants. (b.now, e, wants)) each there at (first_part (λ b. IsReadable b.now) (λ b. MayWantMemory b.now) part there bad),
+            (λ path b e reads. (b.now, e, reads_may_want b.now reads)) (λ path b e wants. (b.now, e, wants)) each there at (first_part (λ b. IsReadable b.now) (λ b. MayWantMemory b.now) part there bad),
       );
       idle = λ e. cc;
       on = inr (inr refl);
@@ -398,30 +398,30 @@ module _ (files : List (List ℕ × List ℕ)) (every rules : List (List ℕ)) (
     some_is : {X : Type 0} {x y : X} → Some x ≡ Some y → x ≡ y
     some_is e = cc
 
-    -- where the wanted tree's cells are too many, so are those that are wanted
-    many_wanted : (subject : ClaimTrees) (cells other : Picture) → AreShown nodes subject cells other → (wanted : Wanted) (tree : Tree) → wanted_tree wanted subject ≡ Some tree
-        → HasTooManyCells (trees.cell nodes tree) → HasTooManyCells (cell (wanted_cells wanted cells other))
-    many_wanted subject cells other shown Own tree is many =
+    -- where the expected tree's cells are too many, so are those that are expected
+    many_expected : (subject : ClaimTrees) (cells other : Picture) → AreShown nodes subject cells other → (expected : Expected) (tree : Tree) → expected_tree expected subject ≡ Some tree
+        → HasTooManyCells (trees.cell nodes tree) → HasTooManyCells (cell (expected_cells expected cells other))
+    many_expected subject cells other shown Own tree is many =
         many_shown (trees.cell nodes subject.pattern) (cell cells) (λ x y. sym (shown.one x y)) (subst (λ t. HasTooManyCells (trees.cell nodes t)) (sym (some_is is)) many)
-    many_wanted subject cells other shown Other tree is many =
+    many_expected subject cells other shown Other tree is many =
         many_shown (trees.cell nodes subject.other) (cell other) (λ x y. sym (shown.two x y)) (subst (λ t. HasTooManyCells (trees.cell nodes t)) (sym (some_is is)) many)
-    many_wanted subject cells other shown NoCells tree is many = let no : ⊥ = cc in absurd no
+    many_expected subject cells other shown NoCells tree is many = let no : ⊥ = cc in absurd no
 
     -- and where they are few
-    few_wanted : (subject : ClaimTrees) (cells other : Picture) → AreShown nodes subject cells other → (wanted : Wanted)
-        → IfSome (wanted_tree wanted subject) (λ tree. HasFewCells (trees.cell nodes tree)) → HasFewCells (cell (wanted_cells wanted cells other))
-    few_wanted subject cells other shown Own few = few_shown (trees.cell nodes subject.pattern) (cell cells) (λ x y. sym (shown.one x y)) few
-    few_wanted subject cells other shown Other few = few_shown (trees.cell nodes subject.other) (cell other) (λ x y. sym (shown.two x y)) few
-    few_wanted subject cells other shown NoCells few = few_none
+    few_expected : (subject : ClaimTrees) (cells other : Picture) → AreShown nodes subject cells other → (expected : Expected)
+        → IfSome (expected_tree expected subject) (λ tree. HasFewCells (trees.cell nodes tree)) → HasFewCells (cell (expected_cells expected cells other))
+    few_expected subject cells other shown Own few = few_shown (trees.cell nodes subject.pattern) (cell cells) (λ x y. sym (shown.one x y)) few
+    few_expected subject cells other shown Other few = few_shown (trees.cell nodes subject.other) (cell other) (λ x y. sym (shown.two x y)) few
+    few_expected subject cells other shown NoCells few = few_none
 
     -- that pattern is crowded
     part_crowded : (paths : List (List ℕ)) (patterns : List RuledPattern) → AllZip At paths patterns → (cells other : Picture) (rule : RuleValue) → AreGood files tables paths cells other rule
-        → (wanted : Wanted) → HasTooManyCells (cell (wanted_cells wanted cells other)) → FirstBadAt (wanted_part wanted (last_part patterns)) paths (IsSmall files tables) (IsCrowded files tables)
-    part_crowded [] patterns ruled cells other rule good wanted many = absurd good
-    part_crowded (p ∷ paths) [] ruled cells other rule good wanted many = absurd ruled
-    part_crowded (p ∷ []) (a ∷ b ∷ patterns) ruled cells other rule good wanted many = absurd ruled.1
-    part_crowded (p ∷ q ∷ paths) (a ∷ []) ruled cells other rule good wanted many = absurd ruled.1
-    part_crowded (p ∷ q ∷ o ∷ paths) (a ∷ b ∷ patterns) ruled cells other rule good wanted many = absurd good
+        → (expected : Expected) → HasTooManyCells (cell (expected_cells expected cells other)) → FirstBadAt (expected_part expected (last_part patterns)) paths (IsSmall files tables) (IsCrowded files tables)
+    part_crowded [] patterns ruled cells other rule good expected many = absurd good
+    part_crowded (p ∷ paths) [] ruled cells other rule good expected many = absurd ruled
+    part_crowded (p ∷ []) (a ∷ b ∷ patterns) ruled cells other rule good expected many = absurd ruled.1
+    part_crowded (p ∷ q ∷ paths) (a ∷ []) ruled cells other rule good expected many = absurd ruled.1
+    part_crowded (p ∷ q ∷ o ∷ paths) (a ∷ b ∷ patterns) ruled cells other rule good expected many = absurd good
     part_crowded (p ∷ []) (a ∷ []) ruled cells other rule good Own many = (cells, rule, good.0, many)
     part_crowded (p ∷ []) (a ∷ []) ruled cells other rule good Other many = (cells, rule, good.0, subst (λ o. HasTooManyCells (cell o)) good.1 many)
     part_crowded (p ∷ []) (a ∷ []) ruled cells other rule good NoCells many = absurd (none_many many)
@@ -436,14 +436,14 @@ module _ (files : List (List ℕ × List ℕ)) (every rules : List (List ℕ)) (
         → IsCountRefused nodes asks subject (last_part (items patterns)) refusal → IsRefusal files every rules asks paths refusal
     crowded paths patterns subject rule refusal ruled small one both (inl memory) =
         subst (IsRefusal files every rules asks paths) (sym memory) (record { holds = wanting paths patterns ruled; idle = λ e. cc; on = inr (inr refl) })
-    crowded paths patterns subject rule refusal ruled small one both (inr (is, counted, tree, wanted, crowd)) =
+    crowded paths patterns subject rule refusal ruled small one both (inr (is, counted, tree, expected, crowd)) =
         let all = agreed paths patterns rule ruled small one in
         let shown = all_shown paths patterns subject rule ruled small one both in
-        let cells = many_wanted subject all.shown all.other_shown shown asks.wanted tree wanted crowd in
+        let cells = many_expected subject all.shown all.other_shown shown asks.expected tree expected crowd in
         subst (IsRefusal files every rules asks paths) (sym is) (record {
           holds = (all.shown, all.other_shown, rule, (tables, are, all.good), (counted, cells));
           idle = λ e. cc;
-          on = (refl, refl, tables, are, part_crowded paths (items patterns) ruled all.shown all.other_shown rule all.good asks.wanted cells);
+          on = (refl, refl, tables, are, part_crowded paths (items patterns) ruled all.shown all.other_shown rule all.good asks.expected cells);
         })
 
     -- a leaper over the trees is prepared
@@ -458,7 +458,7 @@ module _ (files : List (List ℕ × List ℕ)) (every rules : List (List ℕ)) (
           other = all.other_shown;
           shown = subst (λ n. AreShown n prepared.subject all.shown all.other_shown) same shown;
           agree = (tables, are, subst (AreGood files tables paths all.shown all.other_shown) under all.good);
-          few = λ counted. few_wanted prepared.subject all.shown all.other_shown shown asks.wanted (few counted);
+          few = λ counted. few_expected prepared.subject all.shown all.other_shown shown asks.expected (few counted);
         }
 
   -- a claim that is judged may want memory
@@ -477,7 +477,7 @@ module _ (files : List (List ℕ × List ℕ)) (every rules : List (List ℕ)) (
 decided_true : (files : List (List ℕ × List ℕ)) (rules : List (List ℕ)) (claim : Claim) (cells other : Picture) (rule : RuleValue) (verdict : Verdict)
     → IsJudged files rules claim cells other rule → IsDecided (next_of rule) cells other (asks_of claim.kind) verdict → IsTrueVerdict files rules claim verdict
 decided_true files rules claim cells other rule Yes judged decided = (cells, other, rule, judged, decided)
-decided_true files rules claim cells other rule (No why) judged decided = (cells, other, rule, judged, decided)
+decided_true files rules claim cells other rule (No refutation) judged decided = (cells, other, rule, judged, decided)
 decided_true files rules claim cells other rule (Refused cause) judged (inl work) =
     subst (HasCause files rules (asks_of claim.kind) (patterns_of claim)) (sym work) (cells, other, rule, judged.0, judged.1)
 decided_true files rules claim cells other rule (Refused cause) judged (inr decided) =
@@ -488,7 +488,7 @@ decided_true files rules claim cells other rule (Refused cause) judged (inr deci
 decided_on : (files : List (List ℕ × List ℕ)) (paths rules patterns : List (List ℕ)) (next : List ℕ → ℕ) (cells other : Picture) (asks : Asks) (verdict : Verdict)
     → IsDecided next cells other asks verdict → IsOnVerdict files paths rules patterns verdict about.Claim
 decided_on files paths rules patterns next cells other asks Yes decided = tt
-decided_on files paths rules patterns next cells other asks (No why) decided = tt
+decided_on files paths rules patterns next cells other asks (No refutation) decided = tt
 decided_on files paths rules patterns next cells other asks (Refused cause) decided = inr decided
 
 -- so it is one of a claim about paths of which each is given once

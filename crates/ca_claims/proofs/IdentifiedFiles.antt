@@ -13,10 +13,10 @@ use Rattle.ca_rule.specs.TableNext.{TableRule}
 use Rattle.ca_rule.specs.Rule.{next_of}
 use Rattle.ca_run.proofs.After.{after_same}
 use Rattle.ca_text.specs.declared.asks.Asks.{Asks}
-use Rattle.ca_text.specs.declared.asks.Wanted.{Wanted}
-use Rattle.ca_text.specs.declared.asks.Wanted.TheVariants.{Own, Other, NoCells}
-use Rattle.ca_text.specs.declared.asks.Barred.{Barred}
-use Rattle.ca_text.specs.declared.asks.Barred.TheVariants.{Nothing, InPlace, Anywhere, EmptyPlane}
+use Rattle.ca_text.specs.declared.asks.Expected.{Expected}
+use Rattle.ca_text.specs.declared.asks.Expected.TheVariants.{Own, Other, NoCells}
+use Rattle.ca_text.specs.declared.asks.Forbidden.{Forbidden}
+use Rattle.ca_text.specs.declared.asks.Forbidden.TheVariants.{Nothing, InPlace, Anywhere, EmptyPlane}
 use Rattle.ca_text.specs.declared.line.Kind.{Kind}
 use Rattle.ca_claims.specs.declared.identity.Identity.{Identity}
 use Rattle.ca_claims.specs.declared.identity.Identity.TheVariants.{Empty, StillLife, Oscillator, Spaceship, Dies, Unknown}
@@ -28,7 +28,7 @@ use Rattle.ca_claims.specs.declared.verdict.Cause.{Cause}
 use Rattle.ca_claims.specs.declared.verdict.Cause.TheVariants.{NoFile, BadTable, BadPattern, BadRule, StateTooLarge, MixedRules, TooManyCells, Work, Memory}
 use Rattle.ca_claims.specs.Identified.{IsTrueWithin, IsIdentity, IsIdentified, IsIdentifiedAfter, IsLookAt, HoldsSmallPattern, MayNeedWork, MayNeedWorkAfter, IsUnidentifiedFor, IsUnidentified, IsUnidentifiedAfterFor, IsUnidentifiedAfter}
 use Rattle.ca_text.specs.Asks.{asks_of}
-use Rattle.ca_claims.specs.Truth.{wanted_cells, IsTrueClaim, ShowsNothingBarred}
+use Rattle.ca_claims.specs.Truth.{expected_cells, IsTrueClaim, ShowsNothingForbidden}
 use Rattle.ca_claims.specs.inner.Patterns.{rule_of}
 use Rattle.ca_claims.specs.inner.Ready.{IsReady}
 use Rattle.ca_claims.specs.inner.Stages.{TakesRunAndSearch}
@@ -72,22 +72,22 @@ module _ (next : List ℕ → ℕ) (p q : Picture) (same : (x y : ℤ) → plane
   same_shifted : (dx dy x y : ℤ) → plane.cell (shifted p dx dy) x y ≡ plane.cell (shifted q dx dy) x y
   same_shifted dx dy x y = cell-shifted p dx dy x y ∙ same (x -ℤ dx) (y -ℤ dy) ∙ sym (cell-shifted q dx dy x y)
 
-  same_claimed : (wanted : Wanted) (dx dy x y : ℤ) → plane.cell (shifted (wanted_cells wanted p p) dx dy) x y ≡ plane.cell (shifted (wanted_cells wanted q q) dx dy) x y
+  same_claimed : (expected : Expected) (dx dy x y : ℤ) → plane.cell (shifted (expected_cells expected p p) dx dy) x y ≡ plane.cell (shifted (expected_cells expected q q) dx dy) x y
   same_claimed Own dx dy x y = same_shifted dx dy x y
   same_claimed Other dx dy x y = same_shifted dx dy x y
   same_claimed NoCells dx dy x y = refl
 
-  same_barred : (barred : Barred) (m : ℕ) → ShowsNothingBarred next p barred m → ShowsNothingBarred next q barred m
-  same_barred Nothing m none = tt
-  same_barred InPlace m changed = (changed.0, changed.1, λ e. changed.2 (same_later m changed.0 changed.1 ∙ e ∙ sym (same changed.0 changed.1)))
-  same_barred Anywhere m nowhere = λ dx dy is. nowhere dx dy (λ x y. same_later m x y ∙ is x y ∙ sym (same_shifted dx dy x y))
-  same_barred EmptyPlane m live = (live.0, live.1, λ none. live.2 (same_later m live.0 live.1 ∙ none))
+  same_forbidden : (forbidden : Forbidden) (m : ℕ) → ShowsNothingForbidden next p forbidden m → ShowsNothingForbidden next q forbidden m
+  same_forbidden Nothing m none = tt
+  same_forbidden InPlace m changed = (changed.0, changed.1, λ e. changed.2 (same_later m changed.0 changed.1 ∙ e ∙ sym (same changed.0 changed.1)))
+  same_forbidden Anywhere m nowhere = λ dx dy is. nowhere dx dy (λ x y. same_later m x y ∙ is x y ∙ sym (same_shifted dx dy x y))
+  same_forbidden EmptyPlane m live = (live.0, live.1, λ none. live.2 (same_later m live.0 live.1 ∙ none))
 
   pub same_claim : (asks : Asks) → IsTrueClaim next p p asks → IsTrueClaim next q q asks
   same_claim asks true = record {
     live = λ must. same_live (true.live must);
-    stands = λ x y. sym (same_later asks.generations x y) ∙ true.stands x y ∙ same_claimed asks.wanted asks.dx asks.dy x y;
-    least = λ m some less. same_barred asks.barred m (true.least m some less);
+    stands = λ x y. sym (same_later asks.generations x y) ∙ true.stands x y ∙ same_claimed asks.expected asks.dx asks.dy x y;
+    least = λ m some less. same_forbidden asks.forbidden m (true.least m some less);
   }
 
   same_within : (limit : ℕ) (kind : Kind) → IsTrueWithin next p limit kind → IsTrueWithin next q limit kind

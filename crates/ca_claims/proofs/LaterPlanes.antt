@@ -24,9 +24,9 @@ use Rattle.ca_quad.proofs.LiveCells.{tree_population}
 use Rattle.ca_quad.proofs.Reach.{low_fits}
 use Rattle.ca_quad.proofs.Shifts.{some_level}
 use Rattle.ca_macro.specs.Pattern.{AreInRange}
-use Rattle.ca_claims.specs.Ahead.{HasCellOutOfRange}
+use Rattle.ca_claims.specs.Evolved.{HasCellOutOfRange}
 use Rattle.ca_claims.specs.inner.Cells.{IsBoxOutOfRange}
-use Rattle.ca_claims.specs.inner.Glance.{AreNearBounds, IsLowTree}
+use Rattle.ca_claims.specs.inner.Summed.{AreNearBounds, IsLowTree}
 use Rattle.ca_claims.proofs.FilesRead.{All-each}
 use Rattle.ca_claims.proofs.CellsNearMiddle.{range_held, later_held, trimmed_low}
 

@@ -15,13 +15,13 @@ use Rattle.ca_quad.proofs.Cells.{of_stays}
 use Rattle.ca_quad.proofs.Trims.{trees_stay}
 use Rattle.ca_run.proofs.After.{after_same}
 use Rattle.ca_text.specs.declared.asks.Asks.{Asks}
-use Rattle.ca_text.specs.declared.asks.Wanted.{Wanted}
+use Rattle.ca_text.specs.declared.asks.Expected.{Expected}
 use Rattle.ca_claims.specs.declared.decide.ClaimTrees.{ClaimTrees}
 use Rattle.ca_claims.specs.declared.decide.Case.{Case}
-use Rattle.ca_claims.specs.declared.verdict.Why.{Why}
-use Rattle.ca_claims.specs.declared.verdict.Why.TheVariants.{Empty, Differs, Earlier, Died}
-use Rattle.ca_claims.specs.Truth.{wanted_cells, claimed_cells}
-use Rattle.ca_claims.specs.inner.Subjects.{ShowsTree, HasLive, IsPattern, IsNearTree, IsCase, BarsReturn, BarsDeath, AreShown, IsEndTree, IsDifference}
+use Rattle.ca_claims.specs.declared.verdict.Refutation.{Refutation}
+use Rattle.ca_claims.specs.declared.verdict.Refutation.TheVariants.{Empty, Differs, Earlier, Died}
+use Rattle.ca_claims.specs.Truth.{expected_cells, claimed_cells}
+use Rattle.ca_claims.specs.inner.Subjects.{ShowsTree, HasLive, IsPattern, IsNearTree, IsCase, ForbidsReturn, ForbidsDeath, AreShown, IsEndTree, IsDifference}
 
 -- ---- the store grows
 
@@ -54,17 +54,17 @@ module _ (old new : List Node) (sound : IsSoundStore old) (grows : Grows old new
   live_stays : (tree : Tree) → IsTree old tree → HasLive (cell old tree) → HasLive (cell new tree)
   live_stays tree is live = (live.0, live.1, λ z. live.2 (sym (trees_stay old new sound grows tree is live.0 live.1) ∙ z))
 
-  pub bars_stays : (case : Case) → BarsReturn old case → BarsReturn new case
-  bars_stays case h = record {
+  pub forbids_stays : (case : Case) → ForbidsReturn old case → ForbidsReturn new case
+  forbids_stays case h = record {
     subject = case_stays case h.subject;
-    barred = h.barred;
+    forbidden = h.forbidden;
     live = live_stays case.subject.pattern h.subject.pattern.is_tree h.live;
   }
 
-  pub death_stays : (case : Case) → BarsDeath old case → BarsDeath new case
+  pub death_stays : (case : Case) → ForbidsDeath old case → ForbidsDeath new case
   death_stays case h = record {
     subject = case_stays case h.subject;
-    barred = h.barred;
+    forbidden = h.forbidden;
     live = live_stays case.subject.pattern h.subject.pattern.is_tree h.live;
   }
 
@@ -91,10 +91,10 @@ pub moved_shown : (old new : List Node) (other tree : Tree) (p : Picture) (dx dy
     → ShowsTree new tree (shifted p dx dy)
 moved_shown old new other tree p dx dy shows is = λ x y. cell-shifted p dx dy x y ∙ shows (x -ℤ dx) (y -ℤ dy) ∙ sym (is x y)
 
--- the claimed cells are those that are wanted, moved
-pub claimed_shown : (nodes : List Node) (tree : Tree) (asks : Asks) (wanted : Wanted) (cells other : Picture) → asks.wanted ≡ wanted
-    → ShowsTree nodes tree (shifted (wanted_cells wanted cells other) asks.dx asks.dy) → ShowsTree nodes tree (claimed_cells asks cells other)
-claimed_shown nodes tree asks wanted cells other is shows = subst (λ w. ShowsTree nodes tree (shifted (wanted_cells w cells other) asks.dx asks.dy)) (sym is) shows
+-- the claimed cells are those that are expected, moved
+pub claimed_shown : (nodes : List Node) (tree : Tree) (asks : Asks) (expected : Expected) (cells other : Picture) → asks.expected ≡ expected
+    → ShowsTree nodes tree (shifted (expected_cells expected cells other) asks.dx asks.dy) → ShowsTree nodes tree (claimed_cells asks cells other)
+claimed_shown nodes tree asks expected cells other is shows = subst (λ w. ShowsTree nodes tree (shifted (expected_cells w cells other) asks.dx asks.dy)) (sym is) shows
 
 -- the tree some generations on shows what the picture has then
 pub shows_after : (next : List ℕ → ℕ) (old new : List Node) (pattern end : Tree) (n : ℕ) (cells : Picture) → IsEndTree next old pattern n new end → ShowsTree old pattern cells
@@ -103,8 +103,8 @@ shows_after next old new pattern end n cells is shows x y =
     after_same next (plane.cell cells) (cell old pattern) n shows x y ∙ sym (is.shows x y)
 
 -- what differs there differs from the claimed cells
-pub difference_as : (p q r s : ℤ → ℤ → ℕ) (n : ℕ) (why : Option Why) → ((x y : ℤ) → r x y ≡ p x y) → ((x y : ℤ) → s x y ≡ q x y)
-    → MatchOption why ((x y : ℤ) → p x y ≡ q x y) (IsDifference p q n) → MatchOption why ((x y : ℤ) → r x y ≡ s x y) (IsDifference r s n)
+pub difference_as : (p q r s : ℤ → ℤ → ℕ) (n : ℕ) (refutation : Option Refutation) → ((x y : ℤ) → r x y ≡ p x y) → ((x y : ℤ) → s x y ≡ q x y)
+    → MatchOption refutation ((x y : ℤ) → p x y ≡ q x y) (IsDifference p q n) → MatchOption refutation ((x y : ℤ) → r x y ≡ s x y) (IsDifference r s n)
 difference_as p q r s n None e f same = λ x y. e x y ∙ same x y ∙ sym (f x y)
 difference_as p q r s n (Some Empty) e f other = absurd other
 difference_as p q r s n (Some (Differs x y found claimed generations)) e f other = (other.0, e x y ∙ other.1, f x y ∙ other.2, other.3)
@@ -112,15 +112,15 @@ difference_as p q r s n (Some (Earlier m dx dy)) e f other = absurd other
 difference_as p q r s n (Some (Died m)) e f other = absurd other
 
 -- what is found of the tree some generations on and of the claimed one is found of their pictures
-pub wrong_cell : (next : List ℕ → ℕ) (s0 s1 s2 : List Node) (pattern end wanted : Tree) (n : ℕ) → IsEndTree next s0 pattern n s1 end → Grows s0 s1 → Grows s1 s2 → (cells claimed_cells : Picture)
-    → ShowsTree s0 pattern cells → ShowsTree s2 wanted claimed_cells → (why : Option Why) → MatchOption why ((x y : ℤ) → cell s2 end x y ≡ cell s2 wanted x y) (IsDifference (cell s2 end) (cell s2 wanted) n)
-    → MatchOption why (IsAfter next cells n claimed_cells) (IsDifference (after next cells n) (plane.cell claimed_cells) n)
-wrong_cell next s0 s1 s2 pattern end wanted n is grows grows_on cells claimed_cells shows stands why told =
-    difference_as (cell s2 end) (cell s2 wanted) (after next cells n) (plane.cell claimed_cells) n why
+pub wrong_cell : (next : List ℕ → ℕ) (s0 s1 s2 : List Node) (pattern end expected : Tree) (n : ℕ) → IsEndTree next s0 pattern n s1 end → Grows s0 s1 → Grows s1 s2 → (cells claimed_cells : Picture)
+    → ShowsTree s0 pattern cells → ShowsTree s2 expected claimed_cells → (refutation : Option Refutation) → MatchOption refutation ((x y : ℤ) → cell s2 end x y ≡ cell s2 expected x y) (IsDifference (cell s2 end) (cell s2 expected) n)
+    → MatchOption refutation (IsAfter next cells n claimed_cells) (IsDifference (after next cells n) (plane.cell claimed_cells) n)
+wrong_cell next s0 s1 s2 pattern end expected n is grows grows_on cells claimed_cells shows stands refutation told =
+    difference_as (cell s2 end) (cell s2 expected) (after next cells n) (plane.cell claimed_cells) n refutation
     (λ x y. shows_after next s0 s1 pattern end n cells is shows x y ∙ sym (trees_stay s1 s2 grows.sound grows_on end is.near.is_tree x y)) stands told
 
 -- what is told of a place that was found is told of the trees as they were before
-pub difference_told : (p q r s : ℤ → ℤ → ℕ) (n : ℕ) (why : Option Why) (found : Option Spot) → ((x y : ℤ) → r x y ≡ p x y) → ((x y : ℤ) → s x y ≡ q x y)
-    → (IsNone found → (x y : ℤ) → r x y ≡ s x y) → MatchOption why (found ≡ None) (IsDifference p q n) → MatchOption why ((x y : ℤ) → r x y ≡ s x y) (IsDifference r s n)
+pub difference_told : (p q r s : ℤ → ℤ → ℕ) (n : ℕ) (refutation : Option Refutation) (found : Option Spot) → ((x y : ℤ) → r x y ≡ p x y) → ((x y : ℤ) → s x y ≡ q x y)
+    → (IsNone found → (x y : ℤ) → r x y ≡ s x y) → MatchOption refutation (found ≡ None) (IsDifference p q n) → MatchOption refutation ((x y : ℤ) → r x y ≡ s x y) (IsDifference r s n)
 difference_told p q r s n None found e f same none = same (subst IsNone (sym none) refl)
-difference_told p q r s n (Some why) found e f same told = difference_as p q r s n (Some why) e f told
+difference_told p q r s n (Some refutation) found e f same told = difference_as p q r s n (Some refutation) e f told

@@ -10,7 +10,7 @@ use Rattle.ca_quad.specs.Sound.{IsSoundStore, Grows}
 use Rattle.ca_quad.specs.Trees.{cell}
 use Rattle.ca_claims.specs.declared.decide.Case.{Case}
 use Rattle.ca_claims.specs.inner.Returns.{IsLifeSpan}
-use Rattle.ca_claims.specs.inner.Subjects.{ShowsTree, HasLive, BarsDeath, IsEndTree, AreLifeBounds}
+use Rattle.ca_claims.specs.inner.Subjects.{ShowsTree, HasLive, ForbidsDeath, IsEndTree, AreLifeBounds}
 use Rattle.ca_claims.proofs.Deaths.{live_at_all}
 use Rattle.ca_claims.proofs.LeaptTrees.{shows_after, shows_stays}
 
@@ -26,11 +26,11 @@ module _ (next : List ℕ → ℕ) (nodes : List Node) (case : Case) where
 -- ---- a time between that is tried
 
 module _ {R : Type 0} (next_of : R → List ℕ → ℕ) (rule later : R) (same : later ≡ rule) (s0 s1 s2 s : List Node) (case : Case) (sound : IsSoundStore s0) (grows : Grows s0 s1) (kept : s ≡ s2)
-    (bars : BarsDeath s0 case) (low high : ℕ) (bounds : AreLifeBounds (next_of rule) s0 case low high) (middle : ℕ) (above : low < middle) (below : middle < high) (end : Tree)
+    (forbids : ForbidsDeath s0 case) (low high : ℕ) (bounds : AreLifeBounds (next_of rule) s0 case low high) (middle : ℕ) (above : low < middle) (below : middle < high) (end : Tree)
     (is : IsEndTree (next_of later) s1 case.subject.pattern middle s2 end) where
   ends : (cells : Picture) → ShowsTree s0 case.subject.pattern cells → (x y : ℤ) → after (next_of rule) cells middle x y ≡ cell s end x y
   ends cells shows x y =
-      let later_shows = shows_stays s0 s1 sound grows case.subject.pattern cells bars.subject.pattern.is_tree shows in
+      let later_shows = shows_stays s0 s1 sound grows case.subject.pattern cells forbids.subject.pattern.is_tree shows in
       shows_after (next_of rule) s1 s2 case.subject.pattern end middle cells
       (subst (λ r. IsEndTree (next_of r) s1 case.subject.pattern middle s2 end) same is) later_shows x y
       ∙ ap (λ nodes. cell nodes end x y) (sym kept)

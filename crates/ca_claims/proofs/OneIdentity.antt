@@ -20,7 +20,7 @@ use Rattle.ca_rule.specs.Rule.{RuleValue, next_of}
 use Rattle.ca_run.proofs.After.{after_same, after_seen}
 use Rattle.ca_run.proofs.Returns.{after_stands, back_times, vector_times}
 use Rattle.ca_run.proofs.Vectors.{no_vector, live-moved}
-use Rattle.ca_text.specs.declared.asks.Barred.TheVariants.{InPlace, Anywhere, EmptyPlane}
+use Rattle.ca_text.specs.declared.asks.Forbidden.TheVariants.{InPlace, Anywhere, EmptyPlane}
 use Rattle.ca_text.specs.declared.line.Kind.TheVariants as kind
 use Rattle.ca_claims.specs.declared.conversion.ConvertFault.{ConvertFault}
 use Rattle.ca_claims.specs.declared.conversion.ConvertFault.TheVariants as convert_fault
@@ -34,7 +34,7 @@ use Rattle.ca_claims.specs.declared.verdict.Cause.TheVariants.{NoFile, BadTable,
 use Rattle.ca_claims.specs.Answers.{IsPatternFaultOn}
 use Rattle.ca_claims.specs.Converted.{IsSummaryFault}
 use Rattle.ca_claims.specs.Identified.{IsGrowth, IsIdentity, IsIdentityAfter, HoldsSmallPattern, IsUnidentifiedFor, IsUnidentifiedAfterFor}
-use Rattle.ca_claims.specs.Truth.{ShowsNothingBarred}
+use Rattle.ca_claims.specs.Truth.{ShowsNothingForbidden}
 use Rattle.ca_claims.specs.inner.Patterns.{cause_of}
 use Rattle.ca_claims.proofs.IdentifiedFiles.{same_identity}
 use Rattle.ca_claims.proofs.OneConversion.{one_box, ready_or_fault, one_summary_fault}
@@ -168,14 +168,14 @@ module _ (next : List ℕ → ℕ) (cells : Picture) (limit : ℕ) where
   same_kind : (a b : Identity) → place a ≡ place b → IsIdentity next cells limit a → IsIdentity next cells limit b → a ≡ b
   same_kind Empty Empty e h k = refl
   same_kind (Dies m) (Dies n) e h k =
-      ap Dies (one_first (λ t. IsAfter next cells t []) (ShowsNothingBarred next cells EmptyPlane) (λ t empty live. live.2 (empty live.0 live.1)) m n
+      ap Dies (one_first (λ t. IsAfter next cells t []) (ShowsNothingForbidden next cells EmptyPlane) (λ t empty live. live.2 (empty live.0 live.1)) m n
       h.numbers.0 k.numbers.0 h.holds.stands k.holds.stands h.holds.least k.holds.least)
   same_kind StillLife StillLife e h k = refl
   same_kind (Oscillator p) (Oscillator q) e h k =
-      ap Oscillator (one_first (λ t. IsAfter next cells t (shifted cells (pos 0) (pos 0))) (ShowsNothingBarred next cells InPlace) (λ t. back next cells InPlace t (pos 0) (pos 0) (refl, refl)) p q
+      ap Oscillator (one_first (λ t. IsAfter next cells t (shifted cells (pos 0) (pos 0))) (ShowsNothingForbidden next cells InPlace) (λ t. back next cells InPlace t (pos 0) (pos 0) (refl, refl)) p q
       (omega (arith, h.numbers.0)) (omega (arith, k.numbers.0)) h.holds.stands k.holds.stands h.holds.least k.holds.least)
   same_kind (Spaceship p dx dy) (Spaceship q u v) e h k =
-      let time = one_first (λ t. (x : ℤ) × (y : ℤ) × IsAfter next cells t (shifted cells x y)) (ShowsNothingBarred next cells Anywhere) (λ t there. back next cells Anywhere t there.0 there.1 tt there.2) p q
+      let time = one_first (λ t. (x : ℤ) × (y : ℤ) × IsAfter next cells t (shifted cells x y)) (ShowsNothingForbidden next cells Anywhere) (λ t there. back next cells Anywhere t there.0 there.1 tt there.2) p q
       h.numbers.0 k.numbers.0 (dx, dy, h.holds.stands) (u, v, k.holds.stands) h.holds.least k.holds.least in
       let vector = one_vector cells dx dy u v (h.holds.live refl) (λ x y. sym (h.holds.stands x y) ∙ ap (λ t. after next cells t x y) time ∙ k.holds.stands x y) in
       let right = vector.0 in

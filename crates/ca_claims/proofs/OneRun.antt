@@ -23,7 +23,7 @@ use Rattle.ca_claims.specs.declared.pattern.Summary.{Summary}
 use Rattle.ca_claims.specs.declared.reached.Reached.{Reached}
 use Rattle.ca_claims.specs.declared.reached.ReachFault.{ReachFault}
 use Rattle.ca_claims.specs.declared.reached.ReachFault.TheVariants.{Convert, GenTooLarge, Work, Range}
-use Rattle.ca_claims.specs.Ahead.{HoldsSmallRuledPattern, IsReached, IsSameReached, IsReachFault, IsAhead, IsSummaryAfter, IsConvertedAfter, HasCellOutOfRange, IsConvertFaultAfter}
+use Rattle.ca_claims.specs.Evolved.{HoldsSmallRuledPattern, IsReached, IsSameReached, IsReachFault, IsEvolved, IsSummaryAfter, IsConvertedAfter, HasCellOutOfRange, IsConvertFaultAfter}
 use Rattle.ca_claims.specs.Converted.{IsTidyAs, IsSameSummary}
 use Rattle.ca_claims.specs.Means.{format_of, MeansAs, IsReadableAs}
 use Rattle.ca_claims.proofs.OneConversion.{ready_or_fault, one_summary_fault, few_shown, one_bounds}
@@ -75,21 +75,21 @@ module _ (bytes : List ℕ) (tables : List TableRule) where
       }
 
   -- a plane that is reached has no cause for which it isn't
-  pub ahead_or_fault : (n work : ℕ) (p : Picture) (r : RuleValue) (g : ℕ) (fault : ReachFault) → fault ≢ Convert Memory → fault ≢ Work → HoldsSmallRuledPattern bytes tables p r g
+  pub evolved_or_fault : (n work : ℕ) (p : Picture) (r : RuleValue) (g : ℕ) (fault : ReachFault) → fault ≢ Convert Memory → fault ≢ Work → HoldsSmallRuledPattern bytes tables p r g
       → g + n < generation_limit → IsReachFault bytes tables n work fault → ⊥
-  ahead_or_fault n work p r g (Convert fault) m w begins low wrong = ready_or_fault bytes tables p r g fault (λ e. m (ap Convert e)) begins.holds begins.small wrong
-  ahead_or_fault n work p r g GenTooLarge m w begins low (q, s, h, begun, high) =
+  evolved_or_fault n work p r g (Convert fault) m w begins low wrong = ready_or_fault bytes tables p r g fault (λ e. m (ap Convert e)) begins.holds begins.small wrong
+  evolved_or_fault n work p r g GenTooLarge m w begins low (q, s, h, begun, high) =
       let one = one_start p q r s g h begins begun in
       let same = one.2 in
       omega (arith, low, high, same)
-  ahead_or_fault n work p r g Work m w begins low wrong = w refl
-  ahead_or_fault n work p r g Range m w begins low wrong = wrong
+  evolved_or_fault n work p r g Work m w begins low wrong = w refl
+  evolved_or_fault n work p r g Range m w begins low wrong = wrong
 
   pub reached_or_fault : (n work : ℕ) (reached : Reached) (fault : ReachFault) → fault ≢ Convert Memory → fault ≢ Work → IsReached bytes tables n reached → IsReachFault bytes tables n work fault → ⊥
   reached_or_fault n work reached fault m w h wrong =
       let below = h.low in
       let added = h.added in
-      ahead_or_fault n work h.cells (rule_value reached.rule) h.begun fault m w h.begins (omega (arith, below, added)) wrong
+      evolved_or_fault n work h.cells (rule_value reached.rule) h.begun fault m w h.begins (omega (arith, below, added)) wrong
 
   -- there is one cause
   pub one_reach_fault : (n work : ℕ) (f g : ReachFault) → f ≢ Convert Memory → f ≢ Work → g ≢ Convert Memory → g ≢ Work → IsReachFault bytes tables n work f → IsReachFault bytes tables n work g → f ≡ g
@@ -104,7 +104,7 @@ module _ (bytes : List ℕ) (tables : List TableRule) where
 
   -- ---- what is told and written of them
 
-  module _ (n : ℕ) (later other : Picture) (r s : RuleValue) (g h : ℕ) (one : IsAhead bytes tables n later r g) (two : IsAhead bytes tables n other s h) where
+  module _ (n : ℕ) (later other : Picture) (r s : RuleValue) (g h : ℕ) (one : IsEvolved bytes tables n later r g) (two : IsEvolved bytes tables n other s h) where
     same_rule : r ≡ s
     same_rule = (one_start one.cells two.cells r s one.begun two.begun one.begins two.begins).1
 
@@ -114,36 +114,36 @@ module _ (bytes : List ℕ) (tables : List TableRule) where
     same_later : IsSame later other
     same_later x y = sym (one.stands x y) ∙ one_plane n one.cells two.cells r s one.begun two.begun one.begins two.begins x y ∙ two.stands x y
 
-  module _ (n work : ℕ) (later : Picture) (r : RuleValue) (g : ℕ) (ahead : IsAhead bytes tables n later r g) where
+  module _ (n work : ℕ) (later : Picture) (r : RuleValue) (g : ℕ) (evolved : IsEvolved bytes tables n later r g) where
     stands_or_fault : (fault : ReachFault) → fault ≢ Convert Memory → fault ≢ Work → IsReachFault bytes tables n work fault → ⊥
     stands_or_fault fault m w wrong =
-        let below = ahead.low in
-        let added = ahead.added in
-        ahead_or_fault n work ahead.cells r ahead.begun fault m w ahead.begins (omega (arith, below, added)) wrong
+        let below = evolved.low in
+        let added = evolved.added in
+        evolved_or_fault n work evolved.cells r evolved.begun fault m w evolved.begins (omega (arith, below, added)) wrong
 
   pub one_summary_after : (n : ℕ) (a b : Summary) → IsSummaryAfter bytes tables n a → IsSummaryAfter bytes tables n b → IsSameSummary a b
   one_summary_after n a b h k =
-      let same = same_later n h.later k.later h.rule k.rule a.generation b.generation h.ahead k.ahead in
+      let same = same_later n h.later k.later h.rule k.rule a.generation b.generation h.evolved k.evolved in
       record {
         kind = h.kind ∙ sym k.kind;
-        rule_text = h.printed ∙ ap printed_form (same_rule n h.later k.later h.rule k.rule a.generation b.generation h.ahead k.ahead) ∙ sym k.printed;
-        generation = same_generation n h.later k.later h.rule k.rule a.generation b.generation h.ahead k.ahead;
+        rule_text = h.printed ∙ ap printed_form (same_rule n h.later k.later h.rule k.rule a.generation b.generation h.evolved k.evolved) ∙ sym k.printed;
+        generation = same_generation n h.later k.later h.rule k.rule a.generation b.generation h.evolved k.evolved;
         cells = same_population (cell h.later) (cell k.later) same a.cells b.cells h.population k.population;
         bounds = one_bounds k.later a.bounds b.bounds (bounds_as h.later k.later same a.bounds h.bounds) k.bounds;
       }
 
   pub summary_after_or_fault : (n work : ℕ) (summary : Summary) (fault : ReachFault) → fault ≢ Convert Memory → fault ≢ Work → IsSummaryAfter bytes tables n summary
       → IsReachFault bytes tables n work fault → ⊥
-  summary_after_or_fault n work summary fault m w h wrong = stands_or_fault n work h.later h.rule summary.generation h.ahead fault m w wrong
+  summary_after_or_fault n work summary fault m w h wrong = stands_or_fault n work h.later h.rule summary.generation h.evolved fault m w wrong
 
   -- ---- texts
 
   module _ (n : ℕ) (target : Format) where
     pub one_text_after : (t u : List ℕ) → IsConvertedAfter bytes tables n target t → IsConvertedAfter bytes tables n target u → t ≡ u
     one_text_after t u a b =
-        let same = same_later n a.later b.later a.rule b.rule a.generation b.generation a.ahead b.ahead in
-        let rule = same_rule n a.later b.later a.rule b.rule a.generation b.generation a.ahead b.ahead in
-        let time = same_generation n a.later b.later a.rule b.rule a.generation b.generation a.ahead b.ahead in
+        let same = same_later n a.later b.later a.rule b.rule a.generation b.generation a.evolved b.evolved in
+        let rule = same_rule n a.later b.later a.rule b.rule a.generation b.generation a.evolved b.evolved in
+        let time = same_generation n a.later b.later a.rule b.rule a.generation b.generation a.evolved b.evolved in
         let shown = tidy_as a.later b.later same target t (printed_form a.rule) a.generation (states_of a.rule) a.tidy in
         let ruled = subst (λ r. IsTidyAs target t b.later (printed_form r) a.generation (states_of r)) rule shown in
         let timed = subst (λ g. IsTidyAs target t b.later (printed_form b.rule) g (states_of b.rule)) time ruled in
@@ -154,22 +154,22 @@ module _ (bytes : List ℕ) (tables : List TableRule) where
       pub text_after_or_fault : (text : List ℕ) (fault : ReachFault) → fault ≢ Convert Memory → fault ≢ Work → IsConvertedAfter bytes tables n target text
           → IsConvertFaultAfter bytes tables n work target fault → ⊥
       text_after_or_fault text (Convert TooManyCells) m w a (rle, p, r, g, begins, low, range, (count, population, many)) =
-          let plane = one_plane n p a.ahead.cells r a.rule g a.ahead.begun begins a.ahead.begins in
+          let plane = one_plane n p a.evolved.cells r a.rule g a.evolved.begun begins a.evolved.begins in
           let few = few_shown (format_of text) text a.later (printed_form a.rule) a.generation (a.format ∙ rle) a.text_holds.readable a.text_holds.means in
-          let all = population-le a.later count (after (next_of r) p n) (λ x y. plane x y ∙ a.ahead.stands x y) population in
+          let all = population-le a.later count (after (next_of r) p n) (λ x y. plane x y ∙ a.evolved.stands x y) population in
           omega (arith, few, all, many)
       text_after_or_fault text Range m w a (p, r, g, begins, low, out) =
-          let plane = one_plane n p a.ahead.cells r a.rule g a.ahead.begun begins a.ahead.begins in
+          let plane = one_plane n p a.evolved.cells r a.rule g a.evolved.begun begins a.evolved.begins in
           let range = read_in_range (format_of text) text a.later (printed_form a.rule) a.generation a.text_holds.readable a.text_holds.means in
-          in_range_or_out (cell a.later) (after (next_of r) p n) (λ x y. sym (a.ahead.stands x y) ∙ sym (plane x y)) range out
-      text_after_or_fault text fault m w a wrong = stands_or_fault n work a.later a.rule a.generation a.ahead fault m w wrong
+          in_range_or_out (cell a.later) (after (next_of r) p n) (λ x y. sym (a.evolved.stands x y) ∙ sym (plane x y)) range out
+      text_after_or_fault text fault m w a wrong = stands_or_fault n work a.later a.rule a.generation a.evolved fault m w wrong
 
       -- a cause that comes only of a plane that is reached, and any other
       late_or_early : (p : Picture) (r : RuleValue) (g : ℕ) (fault : ReachFault) → fault ≢ Convert Memory → fault ≢ Work → fault ≢ Convert TooManyCells → fault ≢ Range
           → HoldsSmallRuledPattern bytes tables p r g → g + n < generation_limit → IsConvertFaultAfter bytes tables n work target fault → ⊥
       late_or_early p r g (Convert TooManyCells) m w many out begins low wrong = many refl
       late_or_early p r g Range m w many out begins low wrong = out refl
-      late_or_early p r g fault m w many out begins low wrong = ahead_or_fault n work p r g fault m w begins low wrong
+      late_or_early p r g fault m w many out begins low wrong = evolved_or_fault n work p r g fault m w begins low wrong
 
       -- there is one cause
       pub one_fault_after : (f g : ReachFault) → f ≢ Convert Memory → f ≢ Work → g ≢ Convert Memory → g ≢ Work → IsConvertFaultAfter bytes tables n work target f

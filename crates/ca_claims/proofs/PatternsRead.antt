@@ -32,12 +32,12 @@ use Rattle.ca_claims.proofs.EqualCells.{small_shown, large_shown}
 -- ---- files that read
 
 -- memory may run out for them
-wanted_as : (format : Format) (bytes : List ℕ) → IsReadableAs format bytes → MayWantMemoryAs format bytes
-wanted_as Rle bytes reads = reads
-wanted_as Mc bytes reads = inr (reads.0, reads.1)
+reads_may_want_as : (format : Format) (bytes : List ℕ) → IsReadableAs format bytes → MayWantMemoryAs format bytes
+reads_may_want_as Rle bytes reads = reads
+reads_may_want_as Mc bytes reads = inr (reads.0, reads.1)
 
-pub wanted : (bytes : List ℕ) → IsReadable bytes → MayWantMemory bytes
-wanted bytes reads = wanted_as (format_of bytes) bytes reads
+pub reads_may_want : (bytes : List ℕ) → IsReadable bytes → MayWantMemory bytes
+reads_may_want bytes reads = reads_may_want_as (format_of bytes) bytes reads
 
 -- ---- files that don't
 

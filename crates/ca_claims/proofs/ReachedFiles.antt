@@ -20,17 +20,17 @@ use Rattle.ca_claims.specs.declared.pattern.Summary.{Summary}
 use Rattle.ca_claims.specs.declared.reached.Reached.{Reached}
 use Rattle.ca_claims.specs.declared.reached.ReachFault.TheVariants.{Convert, Work}
 use Rattle.ca_claims.specs.declared.ruled.RuledPattern.{RuledPattern}
-use Rattle.ca_claims.specs.Ahead.{HoldsSmallRuledPattern, IsReached, MayNeedRun, IsReachFault, IsAhead, IsSummaryAfter, IsConvertFaultAfter}
+use Rattle.ca_claims.specs.Evolved.{HoldsSmallRuledPattern, IsReached, MayNeedRun, IsReachFault, IsEvolved, IsSummaryAfter, IsConvertFaultAfter}
 use Rattle.ca_claims.specs.Answers.{HasSmallStates}
 use Rattle.ca_claims.specs.Means.{MayWantMemory}
-use Rattle.ca_claims.specs.inner.Glance.{IsSummaryOf}
+use Rattle.ca_claims.specs.inner.Summed.{IsSummaryOf}
 use Rattle.ca_claims.specs.inner.Patterns.{rule_of}
 use Rattle.ca_claims.specs.inner.Ready.{IsReady, AreUnwritten}
 use Rattle.ca_claims.specs.inner.Spending.{Takes}
 use Rattle.ca_claims.specs.inner.Stages.{IsLaterTree}
 use Rattle.ca_claims.proofs.CellsNearMiddle.{trimmed_low}
 use Rattle.ca_claims.proofs.LaterPlanes.{picture_of, range_shown}
-use Rattle.ca_claims.proofs.PatternsRead.{wanted}
+use Rattle.ca_claims.proofs.PatternsRead.{reads_may_want}
 use Rattle.ca_claims.proofs.EqualCells.{many_shown, population_shown}
 use Rattle.ca_claims.proofs.WrittenForms.{file_begins}
 
@@ -77,7 +77,7 @@ module _ (nodes : List Node) (bytes : List ℕ) (tables : List TableRule) (ruled
     file_wants_work low work need = (ready.read.cells, rule_of ruled, ruled.pattern.generation, begins, low, need)
 
   pub file_wants_memory : MayWantMemory bytes
-  file_wants_memory = wanted bytes ready.read.loaded.holds.readable
+  file_wants_memory = reads_may_want bytes ready.read.loaded.holds.readable
 
 -- ---- what is reached
 
@@ -88,8 +88,8 @@ module _ (bytes : List ℕ) (tables : List TableRule) (n : ℕ) (reached : Reach
   abbrev f : ℤ → ℤ → ℕ
   f = trees.cell reached.store reached.tree
 
-  is_ahead : (later : Picture) → ((x y : ℤ) → f x y ≡ plane.cell later x y) → IsAhead bytes tables n later rule reached.generation
-  is_ahead later shows = record { cells = is.cells; begun = is.begun; begins = is.begins; stands = λ x y. sym (is.shows x y) ∙ shows x y; added = is.added; low = is.low }
+  is_evolved : (later : Picture) → ((x y : ℤ) → f x y ≡ plane.cell later x y) → IsEvolved bytes tables n later rule reached.generation
+  is_evolved later shows = record { cells = is.cells; begun = is.begun; begins = is.begins; stands = λ x y. sym (is.shows x y) ∙ shows x y; added = is.added; low = is.low }
 
   -- what is told of it is the summary
   pub reached_told : (summary : Summary) → IsSummaryOf reached.kind (trees.cell reached.store reached.tree) (rule_value reached.rule) reached.generation summary → IsSummaryAfter bytes tables n summary
@@ -98,7 +98,7 @@ module _ (bytes : List ℕ) (tables : List TableRule) (n : ℕ) (reached : Reach
       record {
         later = later;
         rule = rule;
-        ahead = subst (IsAhead bytes tables n later rule) (sym told.generation_is) (is_ahead later shows);
+        evolved = subst (IsEvolved bytes tables n later rule) (sym told.generation_is) (is_evolved later shows);
         kind = told.kind_is ∙ is.kind_is;
         printed = told.printed;
         population = population_shown f (plane.cell later) shows summary.cells told.population;
@@ -109,7 +109,7 @@ module _ (bytes : List ℕ) (tables : List TableRule) (n : ℕ) (reached : Reach
   low = let below = is.low in let added = is.added in omega (arith, below, added)
 
   pub reached_wants_memory : MayWantMemory bytes
-  reached_wants_memory = wanted bytes is.begins.holds.holds.readable
+  reached_wants_memory = reads_may_want bytes is.begins.holds.holds.readable
 
   pub reached_unwritten : (work : ℕ) (target : Format) → AreInRange (trees.cell reached.store reached.tree) → (fault : ConvertFault) → AreUnwritten target (trees.cell reached.store reached.tree) fault
       → IsConvertFaultAfter bytes tables n work target (Convert fault)

@@ -9,8 +9,8 @@ use Rattle.ca_quad.specs.Trees.{IsTrimmed}
 use Rattle.ca_run.specs.Leaping.{Costs, LeaperView, LeaperGrows, Spent}
 use Rattle.ca_run.proofs.Costs.{power_more}
 use Rattle.ca_text.specs.declared.asks.Asks.{Asks}
-use Rattle.ca_text.specs.declared.asks.Barred.{Barred}
-use Rattle.ca_text.specs.declared.asks.Barred.TheVariants.{Nothing, InPlace, Anywhere, EmptyPlane}
+use Rattle.ca_text.specs.declared.asks.Forbidden.{Forbidden}
+use Rattle.ca_text.specs.declared.asks.Forbidden.TheVariants.{Nothing, InPlace, Anywhere, EmptyPlane}
 use Rattle.ca_claims.specs.Limited.{most_runs, IsNoMoreThan, MayBeUsedUp}
 use Rattle.ca_claims.specs.inner.Subjects.{ShowsTree}
 use Rattle.ca_claims.specs.inner.Spending.{Takes, TakesHalves, most_halvings, most_looks}
@@ -85,7 +85,7 @@ halves_all old new left level n some takes = takes_fewer old new takes.runs (mos
 -- what is no more than a tree may need is no more than a larger one may
 larger : (work : ℕ) (asks : Asks) (low level : ℕ) → low ≤ level → IsNoMoreThan work asks low → IsNoMoreThan work asks level
 larger work asks low level more most d less =
-    let runs = most_runs asks.barred asks.generations in
+    let runs = most_runs asks.forbidden asks.generations in
     let power = power_more (low + d + 2) (level + d + 2) (omega (arith, more)) in
     let all : runs * 14 ^ (low + d + 2) ≤ runs * 14 ^ (level + d + 2) = mul-le-mul_left runs power in
     let few = most d less in
@@ -97,14 +97,14 @@ used_up nodes tree cells work asks trimmed shows most level some holds =
     larger work asks tree.level level (trimmed_low nodes tree (cell cells) level some trimmed (λ x y. sym (shows x y)) holds) most
 
 -- a claim takes one run at least
-pub some_runs : (barred : Barred) (n : ℕ) → (barred ≢ Nothing → 1 ≤ n) → 1 ≤ most_runs barred n
+pub some_runs : (forbidden : Forbidden) (n : ℕ) → (forbidden ≢ Nothing → 1 ≤ n) → 1 ≤ most_runs forbidden n
 some_runs Nothing n some = omega arith
 some_runs InPlace n some = some (λ e. cc)
 some_runs Anywhere n some = some (λ e. cc)
 some_runs EmptyPlane n some = let least = some (λ e. cc) in omega (arith, least)
 
--- and where a return is barred, one and one for each earlier time
-pub all_runs : (barred : Barred) (n : ℕ) → barred ≢ Nothing → barred ≢ EmptyPlane → (barred ≢ Nothing → 1 ≤ n) → 1 + (n - 1) ≤ most_runs barred n
+-- and where a return is forbidden, one and one for each earlier time
+pub all_runs : (forbidden : Forbidden) (n : ℕ) → forbidden ≢ Nothing → forbidden ≢ EmptyPlane → (forbidden ≢ Nothing → 1 ≤ n) → 1 + (n - 1) ≤ most_runs forbidden n
 all_runs Nothing n other lives some = absurd (other refl)
 all_runs InPlace n other lives some = let least = some other in omega (arith, least)
 all_runs Anywhere n other lives some = let least = some other in omega (arith, least)

@@ -19,21 +19,21 @@ use Rattle.ca_macro.specs.Shown as macrocell_shown
 use Rattle.ca_macro.proofs.OneMeaning as macrocell
 use Rattle.ca_plane.proofs.Populations.{not_both}
 use Rattle.ca_claims.proofs.Times.{unmoved}
-use Rattle.ca_claims.specs.declared.verdict.Why.{Why}
-use Rattle.ca_claims.specs.declared.verdict.Why.TheVariants.{Empty, Differs, Earlier, Died}
+use Rattle.ca_claims.specs.declared.verdict.Refutation.{Refutation}
+use Rattle.ca_claims.specs.declared.verdict.Refutation.TheVariants.{Empty, Differs, Earlier, Died}
 use Rattle.ca_claims.specs.declared.verdict.PatternFault.{PatternFault}
 use Rattle.ca_claims.specs.declared.verdict.PatternFault.TheVariants as pattern_fault
 use Rattle.ca_claims.specs.declared.verdict.Cause.{Cause}
 use Rattle.ca_claims.specs.declared.verdict.Cause.TheVariants.{NoFile, BadTable, BadPattern, BadRule, StateTooLarge, MixedRules, TooManyCells, Work, Memory}
 use Rattle.ca_text.specs.declared.asks.Asks.{Asks}
-use Rattle.ca_text.specs.declared.asks.Barred.{Barred}
-use Rattle.ca_text.specs.declared.asks.Barred.TheVariants.{Nothing, InPlace, Anywhere, EmptyPlane}
+use Rattle.ca_text.specs.declared.asks.Forbidden.{Forbidden}
+use Rattle.ca_text.specs.declared.asks.Forbidden.TheVariants.{Nothing, InPlace, Anywhere, EmptyPlane}
 use Rattle.ca_claims.specs.declared.format.Format.{Format}
 use Rattle.ca_claims.specs.declared.format.Format.TheVariants as formats
 use Rattle.ca_claims.specs.Means.{format_of, MeansAs, Means, IsReadableAs, IsReadable, HoldsRuledPattern, HasRuleFault}
 use Rattle.ca_text.specs.Text.{Claim, patterns_of}
 use Rattle.ca_text.specs.Asks.{asks_of}
-use Rattle.ca_claims.specs.Truth.{wanted_cells, ShowsNothingBarred, MayReturnBy, IsTrueClaim, IsReason}
+use Rattle.ca_claims.specs.Truth.{expected_cells, ShowsNothingForbidden, MayReturnBy, IsTrueClaim, IsReason}
 use Rattle.ca_text.specs.SomeOf.{SomeOf}
 use Rattle.ca_claims.specs.Answers.{IsPatternFault, IsQuietTable, IsTableFault, HasLargeState, HasSmallStates, HoldsOfFile, IsTableAt, AreTables, IsRuled, IsMissing, IsThere, HoldsTable, IsReadableFile, HasRule, IsSmall, FirstBad, HaveOtherRules, FilesAreThere, TablesAreGood, PatternsAreRead, PatternsHaveRules, StatesAreSmall, AgreeOn, HasFewCounted, HasTooManyCounted, HasCause, IsCauseFor, IsGoodPattern, AreGood, IsJudged, IsBadTable, IsBadPattern, IsUnnamed, IsLarge}
 use Rattle.ca_claims.proofs.PatternsRead.{ruled_path_reads}
@@ -42,25 +42,25 @@ use Rattle.ca_claims.proofs.PairedLists.{zip_left}
 -- ---- a claim is true or there is a reason against it, not both
 
 -- a pattern that is back by a vector that counts is back
-pub back : (next : List ℕ → ℕ) (cells : Picture) (barred : Barred) (m : ℕ) (dx dy : ℤ) → MayReturnBy barred dx dy → IsAfter next cells m (shifted cells dx dy) → ShowsNothingBarred next cells barred m → ⊥
+pub back : (next : List ℕ → ℕ) (cells : Picture) (forbidden : Forbidden) (m : ℕ) (dx dy : ℤ) → MayReturnBy forbidden dx dy → IsAfter next cells m (shifted cells dx dy) → ShowsNothingForbidden next cells forbidden m → ⊥
 back next cells Nothing m dx dy may h not = may
 back next cells InPlace m dx dy may h not = not.2 (h not.0 not.1 ∙ unmoved cells dx dy not.0 not.1 may.0 may.1)
 back next cells Anywhere m dx dy may h not = not dx dy h
 back next cells EmptyPlane m dx dy may h not = may
 
--- a plane that is empty, where that is barred, shows what is barred
-pub dead : (next : List ℕ → ℕ) (cells : Picture) (barred : Barred) (m : ℕ) → barred ≡ EmptyPlane → IsAfter next cells m [] → ShowsNothingBarred next cells barred m → ⊥
-dead next cells barred m is empty not =
-    let live = subst (λ b. ShowsNothingBarred next cells b m) is not in
+-- a plane that is empty, where that is forbidden, shows what is forbidden
+pub dead : (next : List ℕ → ℕ) (cells : Picture) (forbidden : Forbidden) (m : ℕ) → forbidden ≡ EmptyPlane → IsAfter next cells m [] → ShowsNothingForbidden next cells forbidden m → ⊥
+dead next cells forbidden m is empty not =
+    let live = subst (λ b. ShowsNothingForbidden next cells b m) is not in
     live.2 (empty live.0 live.1)
 
 -- where there is a reason against a claim, it isn't true
-pub false_from_reason : (next : List ℕ → ℕ) (cells other : Picture) (asks : Asks) (why : Why) → IsReason next cells other asks why → IsTrueClaim next cells other asks → ⊥
+pub false_from_reason : (next : List ℕ → ℕ) (cells other : Picture) (asks : Asks) (refutation : Refutation) → IsReason next cells other asks refutation → IsTrueClaim next cells other asks → ⊥
 false_from_reason next cells other asks Empty reason true = reason.1 (true.live reason.0)
-false_from_reason next cells other asks (Differs x y found wanted generations) reason true =
+false_from_reason next cells other asks (Differs x y found expected generations) reason true =
     reason.4 (sym reason.2 ∙ ap (λ n. after next cells n x y) reason.1 ∙ true.stands x y ∙ reason.3)
-false_from_reason next cells other asks (Earlier m dx dy) reason true = back next cells asks.barred m dx dy reason.4 reason.5 (true.least m reason.2 reason.3)
-false_from_reason next cells other asks (Died m) reason true = dead next cells asks.barred m reason.4 reason.5 (true.least m reason.2 reason.3)
+false_from_reason next cells other asks (Earlier m dx dy) reason true = back next cells asks.forbidden m dx dy reason.4 reason.5 (true.least m reason.2 reason.3)
+false_from_reason next cells other asks (Died m) reason true = dead next cells asks.forbidden m reason.4 reason.5 (true.least m reason.2 reason.3)
 
 -- ---- one meaning
 
@@ -326,8 +326,8 @@ module _ (files : List (List ℕ × List ℕ)) (rules : List (List ℕ)) (asks :
   few_or_many : (p q o v : Picture) (r s : RuleValue) → AgreeOn files rules paths p o r → AgreeOn files rules paths q v s → HasFewCounted asks p o → HasTooManyCounted asks q v → ⊥
   few_or_many p q o v r s agree same few many =
       let one = one_agreed p q o v r s agree same in
-      not_both (cell (wanted_cells asks.wanted p o)) (cell (wanted_cells asks.wanted q v))
-      (λ x y. ap (λ l. cell l x y) (ap₂ (wanted_cells asks.wanted) one.0 one.1)) (few many.0) many.1
+      not_both (cell (expected_cells asks.expected p o)) (cell (expected_cells asks.expected q v))
+      (λ x y. ap (λ l. cell l x y) (ap₂ (expected_cells asks.expected) one.0 one.1)) (few many.0) many.1
 
   -- nor one fewer
   past_one_fewer : (n : ℕ) → IsPast files rules paths (suc n) → IsPast files rules paths n
@@ -451,10 +451,10 @@ module _ (files : List (List ℕ × List ℕ)) (rules : List (List ℕ)) (claim 
   judged_or_cause cells other rule cause m w judged h = agreed_or_cause files rules (asks_of claim.kind) (patterns_of claim) cells other rule cause m w judged.0 judged.1 h
 
   -- a claim that is judged is true or false, not both
-  pub yes_or_no : (asks : Asks) (why : Why) (p q o v : Picture) (r s : RuleValue) → IsJudged files rules claim p o r → IsJudged files rules claim q v s
-      → IsTrueClaim (next_of r) p o asks → IsReason (next_of s) q v asks why → ⊥
-  yes_or_no asks why p q o v r s a b true reason =
+  pub yes_or_no : (asks : Asks) (refutation : Refutation) (p q o v : Picture) (r s : RuleValue) → IsJudged files rules claim p o r → IsJudged files rules claim q v s
+      → IsTrueClaim (next_of r) p o asks → IsReason (next_of s) q v asks refutation → ⊥
+  yes_or_no asks refutation p q o v r s a b true reason =
       let one = one_agreed files rules (asks_of claim.kind) (patterns_of claim) p q o v r s a.0 b.0 in
       let by_rule = subst (λ u. IsTrueClaim (next_of u) p o asks) one.2 true in
       let by_cells = subst (λ c. IsTrueClaim (next_of s) c o asks) one.0 by_rule in
-      false_from_reason (next_of s) q v asks why reason (subst (λ c. IsTrueClaim (next_of s) q c asks) one.1 by_cells)
+      false_from_reason (next_of s) q v asks refutation reason (subst (λ c. IsTrueClaim (next_of s) q c asks) one.1 by_cells)

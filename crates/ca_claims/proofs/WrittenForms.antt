@@ -14,16 +14,16 @@ use Rattle.ca_claims.specs.declared.format.Format.{Format}
 use Rattle.ca_claims.specs.declared.conversion.ConvertFault.{ConvertFault}
 use Rattle.ca_claims.specs.declared.conversion.ConvertFault.TheVariants.{BadPattern, BadRule, StateTooLarge, TooManyCells, Memory}
 use Rattle.ca_claims.specs.Means.{format_of, HoldsRuledPattern}
-use Rattle.ca_claims.specs.Ahead.{HoldsSmallRuledPattern}
+use Rattle.ca_claims.specs.Evolved.{HoldsSmallRuledPattern}
 use Rattle.ca_claims.specs.declared.detailed_fault.DetailedFault.{DetailedFault}
 use Rattle.ca_claims.specs.DetailedFault.{IsDetailOf, HasDetail}
 use Rattle.ca_claims.specs.Converted.{IsConverted, IsSummary, IsConvertFault}
-use Rattle.ca_claims.specs.inner.Glance.{IsSummaryOf}
+use Rattle.ca_claims.specs.inner.Summed.{IsSummaryOf}
 use Rattle.ca_claims.specs.inner.Patterns.{IsReadFrom, rule_of}
 use Rattle.ca_claims.specs.inner.Ready.{IsReady, HoldsCells, IsWrittenAs, AreUnwritten, with_no_detail}
 use Rattle.ca_claims.specs.inner.Subjects.{IsPattern}
 use Rattle.ca_claims.proofs.CellsNearMiddle.{range_held, trimmed_low}
-use Rattle.ca_claims.proofs.PatternsRead.{wanted}
+use Rattle.ca_claims.proofs.PatternsRead.{reads_may_want}
 use Rattle.ca_claims.proofs.EqualCells.{small_shown, many_shown, population_shown}
 
 -- the tree that is read from a file is that of a pattern
@@ -69,7 +69,7 @@ module _ (bytes : List ℕ) (tables : List TableRule) (f : ℤ → ℤ → ℕ) 
   unwritten target (BadRule fault) h = absurd h
   unwritten target StateTooLarge h = absurd h
   unwritten target TooManyCells h = (h.0, file.picture, rule, generation, file.begins.holds, file.begins.small, many_shown f (cell file.picture) file.shows h.1)
-  unwritten target Memory h = wanted bytes file.begins.holds.holds.readable
+  unwritten target Memory h = reads_may_want bytes file.begins.holds.holds.readable
 
   pub refused : (A : Type 0) (target : Format) (r : Result A ConvertFault) (w : Result A (DetailedFault ConvertFault)) → w ≡ with_no_detail r → IfErr r (AreUnwritten target f)
       → IfErr w (λ k. IsConvertFault bytes tables target k.fault)

@@ -30,7 +30,7 @@ use Rattle.ca_text.specs.SomeOf.{SomeOf}
 use Rattle.ca_text.specs.Text.{Claim, patterns_of}
 use Rattle.ca_claims.specs.Means.{bytes_at, format_of, IsReadable, HoldsRuleText, HoldsRuledPattern, HasRuleFault, MayWantMemory}
 use Rattle.ca_text.specs.Asks.{asks_of}
-use Rattle.ca_claims.specs.Truth.{wanted_cells, IsTrueClaim, IsReason}
+use Rattle.ca_claims.specs.Truth.{expected_cells, IsTrueClaim, IsReason}
 
 -- the fault for which the bytes of a pattern aren't read; out of memory is none of them
 abbrev pub IsPatternFault : List ℕ → PatternFault → Type 0
@@ -199,10 +199,10 @@ IsCounted asks = IsTrue asks.moved
 
 -- cells are counted, and are too many; and where they are counted, they aren't
 abbrev pub HasTooManyCounted : Asks → Picture → Picture → Type 0
-HasTooManyCounted asks cells other = IsCounted asks × HasTooManyCells (cell (wanted_cells asks.wanted cells other))
+HasTooManyCounted asks cells other = IsCounted asks × HasTooManyCells (cell (expected_cells asks.expected cells other))
 
 abbrev pub HasFewCounted : Asks → Picture → Picture → Type 0
-HasFewCounted asks cells other = IsCounted asks → HasFewCells (cell (wanted_cells asks.wanted cells other))
+HasFewCounted asks cells other = IsCounted asks → HasFewCells (cell (expected_cells asks.expected cells other))
 
 -- the cause of a refusal: a claim gets through these stages, and this is wrong at the next. Out of work comes after them all. Out of
 -- memory comes at any stage after the second, and only where the first of the patterns may need memory. The claim asks this, of patterns at these paths
@@ -278,8 +278,8 @@ AreWithinWork files rules work claims answers = AllZip (λ numbered answer. IsWi
 abbrev pub IsTrueVerdict : List (List ℕ × List ℕ) → List (List ℕ) → Claim → Verdict → Type 0
 IsTrueVerdict files rules claim Yes = (cells : Picture) × (other : Picture) × (rule : RuleValue) × IsJudged files rules claim cells other rule
     × IsTrueClaim (next_of rule) cells other (asks_of claim.kind)
-IsTrueVerdict files rules claim (No why) = (cells : Picture) × (other : Picture) × (rule : RuleValue) × IsJudged files rules claim cells other rule
-    × IsReason (next_of rule) cells other (asks_of claim.kind) why
+IsTrueVerdict files rules claim (No refutation) = (cells : Picture) × (other : Picture) × (rule : RuleValue) × IsJudged files rules claim cells other rule
+    × IsReason (next_of rule) cells other (asks_of claim.kind) refutation
 IsTrueVerdict files rules claim (Refused cause) = IsCauseFor files rules claim cause
 
 -- the answer has the number of the claim's line, and a true verdict

@@ -23,7 +23,7 @@ use Rattle.ca_text.specs.Asks.{asks_of}
 use Rattle.ca_claims.specs.Truth.{IsTrueClaim}
 use Rattle.ca_claims.specs.Means.{HoldsRuleText, HoldsRuledPattern, HasRuleFault, MayWantMemory}
 use Rattle.ca_claims.specs.Answers.{IsPatternFaultOn, HasLargeState}
-use Rattle.ca_claims.specs.Ahead.{HoldsSmallRuledPattern}
+use Rattle.ca_claims.specs.Evolved.{HoldsSmallRuledPattern}
 
 -- a claim of this kind is about one pattern alone
 abbrev pub IsOfOnePattern : Kind → Type 0

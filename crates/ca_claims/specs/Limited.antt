@@ -3,8 +3,8 @@ use Rattle.std.specs.Prelude.{ℕ, ◌+◌, ◌*◌, ◌<◌, ◌≤◌, ◌^◌
 use Rattle.ca_plane.specs.Limits.{most_memo}
 use Rattle.ca_quad.specs.Trees.{HoldsAll}
 use Rattle.ca_text.specs.declared.asks.Asks.{Asks}
-use Rattle.ca_text.specs.declared.asks.Barred.{Barred}
-use Rattle.ca_text.specs.declared.asks.Barred.TheVariants.{Nothing, InPlace, Anywhere, EmptyPlane}
+use Rattle.ca_text.specs.declared.asks.Forbidden.{Forbidden}
+use Rattle.ca_text.specs.declared.asks.Forbidden.TheVariants.{Nothing, InPlace, Anywhere, EmptyPlane}
 use Rattle.ca_claims.specs.declared.limits.Limits.{Limits}
 
 -- the memo has an entry at least, and no more than it may have; any work may be allowed
@@ -12,9 +12,9 @@ pub record AreGoodLimits (limits : Limits) : Type 0 where
   pub least : 1 ≤ limits.memo
   pub most : limits.memo ≤ most_memo
 
--- how often a pattern may be taken some generations on for a claim that asks this: once, and where something is barred at earlier times,
+-- how often a pattern may be taken some generations on for a claim that asks this: once, and where something is forbidden at earlier times,
 -- no more often than it claims generations; where that is an empty plane, also no more than 64 times, since a death is found by halves
-abbrev pub most_runs : Barred → (generations : ℕ) → ℕ
+abbrev pub most_runs : Forbidden → (generations : ℕ) → ℕ
 most_runs Nothing generations = 1
 most_runs InPlace generations = generations
 most_runs Anywhere generations = generations
@@ -23,7 +23,7 @@ most_runs EmptyPlane generations = min generations 64
 -- the work is no more than so many runs may need of a tree of this level: 14 to the power of the level, the binary digits of the
 -- generations, and 2
 abbrev pub IsNoMoreThan : ℕ → Asks → (level : ℕ) → Type 0
-IsNoMoreThan work asks level = (digits : ℕ) → asks.generations < 2 ^ digits → work ≤ most_runs asks.barred asks.generations * 14 ^ (level + digits + 2)
+IsNoMoreThan work asks level = (digits : ℕ) → asks.generations < 2 ^ digits → work ≤ most_runs asks.forbidden asks.generations * 14 ^ (level + digits + 2)
 
 -- the same of any level that holds these cells
 abbrev pub MayBeUsedUp : ℕ → Asks → (ℤ → ℤ → ℕ) → Type 0

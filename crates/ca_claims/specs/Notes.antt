@@ -4,7 +4,7 @@ use Rattle.ca_claims.specs.declared.note.Note.{Note}
 use Rattle.ca_claims.specs.declared.note.Note.TheVariants.{Nothing, Cell, Pattern, RuleFile}
 use Rattle.ca_claims.specs.declared.verdict.Verdict.{Verdict}
 use Rattle.ca_claims.specs.declared.verdict.Verdict.TheVariants.{Yes, No, Refused}
-use Rattle.ca_claims.specs.declared.verdict.Why.TheVariants.{Empty, Differs, Earlier, Died}
+use Rattle.ca_claims.specs.declared.verdict.Refutation.TheVariants.{Empty, Differs, Earlier, Died}
 use Rattle.ca_claims.specs.declared.verdict.Cause.{Cause}
 use Rattle.ca_claims.specs.Answers.{FirstBad, FirstIs, IsOfClaim, IsOfPattern, IsOfRuleFile}
 
@@ -15,8 +15,8 @@ IsFirstBad patterns name path Good Bad = FirstBad (λ p. Good p.1) (λ p. (p ≡
 -- what a note says of a verdict on a claim about these patterns
 abbrev pub IsNote : List (List ℕ × List ℕ) → List (List ℕ) → List (List ℕ × List ℕ) → Verdict → Note → Type 0
 IsNote files rules patterns verdict Nothing = Unit {0}
-IsNote files rules patterns verdict (Cell name) = (x : ℤ) × (y : ℤ) × (found : ℕ) × (wanted : ℕ) × (generations : ℕ)
-    × (verdict ≡ No (Differs x y found wanted generations)) × FirstIs (λ p. p.0 ≡ name.now) patterns
+IsNote files rules patterns verdict (Cell name) = (x : ℤ) × (y : ℤ) × (found : ℕ) × (expected : ℕ) × (generations : ℕ)
+    × (verdict ≡ No (Differs x y found expected generations)) × FirstIs (λ p. p.0 ≡ name.now) patterns
 IsNote files rules patterns verdict (Pattern name path line text) = (cause : Cause) × (verdict ≡ Refused cause)
     × IsOfPattern files rules cause (IsFirstBad patterns name.now path.now) line text
 IsNote files rules patterns verdict (RuleFile path) = (cause : Cause) × (verdict ≡ Refused cause) × IsOfRuleFile files rules (map (λ p. p.1) patterns) cause path.now
@@ -25,7 +25,7 @@ IsNote files rules patterns verdict (RuleFile path) = (cause : Cause) × (verdic
 abbrev pub HasNote : Verdict → Type 0
 HasNote Yes = ⊥
 HasNote (No Empty) = ⊥
-HasNote (No (Differs x y found wanted generations)) = Unit {0}
+HasNote (No (Differs x y found expected generations)) = Unit {0}
 HasNote (No (Earlier m dx dy)) = ⊥
 HasNote (No (Died m)) = ⊥
 HasNote (Refused cause) = IsOfClaim cause → ⊥

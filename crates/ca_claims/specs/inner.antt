@@ -1,7 +1,7 @@
 pub mod Cells
 pub mod Decided
 pub mod Found
-pub mod Glance
+pub mod Summed
 pub mod Kept
 pub mod Patterns
 pub mod PreparedClaim

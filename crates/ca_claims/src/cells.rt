@@ -4,7 +4,7 @@ ghost use Rattle.std.specs.Prelude.{◌≤◌, IsTrue, IsFalse, IfOk, MatchOptio
 ghost use Rattle.ca_quad.specs.Trees.{IsTree, cell};
 ghost use Rattle.ca_macro.specs.Pattern.{AreInRange};
 ghost use Rattle.ca_plane.specs.Population.{HasFewCells, HasTooManyCells};
-ghost use Rattle.ca_claims.specs.Ahead.{HasCellOutOfRange};
+ghost use Rattle.ca_claims.specs.Evolved.{HasCellOutOfRange};
 ghost use Rattle.ca_claims.specs.inner.Patterns.{ShowsLarge, ShowsSmall};
 ghost use Rattle.ca_claims.specs.inner.Cells.{IsBoxInRange, IsBoxOutOfRange, IsPlaneOf};
 

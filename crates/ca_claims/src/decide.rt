@@ -25,11 +25,11 @@ mod primes;
 mod returns;
 
 use crate::observer::Observer;
-use crate::verdict::{Cause, Verdict, Why};
+use crate::verdict::{Cause, Verdict, Refutation};
 use ca_plane::{Automaton, Memory, MoveFault, Plane};
 use ca_quad::{Spot, Store, Tree};
 use ca_run::{LeapFault, Leaper};
-use ca_text::{Asks, Barred, Wanted};
+use ca_text::{Asks, Forbidden, Expected};
 use deaths::first_death;
 use returns::first_return;
 pub(crate) use returns::{distance, vector_if_back};
@@ -65,9 +65,9 @@ pub(crate) fn decide<A: Automaton, O: Observer>(
     ensures work { leaper.old.spent.used ≡ 0 → result ≡ Refused Work
         → IsNoMoreThan leaper.old.spent.limit case.now.asks case.now.subject.pattern.level }
 {
-    match why_not(leaper, case, observer) {
+    match refutation_of(leaper, case, observer) {
         Ok(None) => Verdict::Yes,
-        Ok(Some(why)) => Verdict::No(why),
+        Ok(Some(refutation)) => Verdict::No(refutation),
         Err(fault) => Verdict::Refused(cause_of_leap_fault(fault)),
     }
 }
@@ -84,33 +84,33 @@ fn cause_of_leap_fault(fault: LeapFault) -> Cause
 }
 
 // Why the claim is false, if it is.
-fn why_not<A: Automaton, O: Observer>(
+fn refutation_of<A: Automaton, O: Observer>(
     leaper: &mut Leaper<A>,
     case: &Case,
     observer: &mut O,
-) -> Result<Option<Why>, LeapFault>
+) -> Result<Option<Refutation>, LeapFault>
     requires { IsCase leaper.old.nodes case.now }
-    ensures why { (cells other : Picture) → AreShown leaper.old.nodes case.now.subject cells other
-        → IfOk result (λ why. MatchOption why
+    ensures refutation { (cells other : Picture) → AreShown leaper.old.nodes case.now.subject cells other
+        → IfOk result (λ refutation. MatchOption refutation
         (IsTrueClaim (A.next_of leaper.old.rule) cells other case.now.asks)
         (IsReason (A.next_of leaper.old.rule) cells other case.now.asks)) }
     ensures goes_on { LeaperGrows A leaper.old leaper.new }
     ensures takes { Takes leaper.old.spent.used leaper.new.spent.used
-        (most_runs case.now.asks.barred case.now.asks.generations)
+        (most_runs case.now.asks.forbidden case.now.asks.generations)
         case.now.subject.pattern.level case.now.asks.generations }
     ensures work { EndsAtLimit leaper.new.spent result }
 {
     // Says what holds of every leaper.
     let _ = leaper.store();
     if is_wrongly_dead(leaper, case) {
-        return Ok(Some(Why::Empty));
+        return Ok(Some(Refutation::Empty));
     }
-    if let Some(why) = find_wrong_cell(leaper, case, observer)? {
-        return Ok(Some(why));
+    if let Some(refutation) = find_wrong_cell(leaper, case, observer)? {
+        return Ok(Some(refutation));
     }
-    match case.asks.barred {
-        Barred::Nothing => Ok(None),
-        Barred::EmptyPlane => first_death(leaper, case, observer),
+    match case.asks.forbidden {
+        Forbidden::Nothing => Ok(None),
+        Forbidden::EmptyPlane => first_death(leaper, case, observer),
         _ => first_return(leaper, case, observer),
     }
 }
@@ -140,10 +140,10 @@ fn find_wrong_cell<A: Automaton, O: Observer>(
     leaper: &mut Leaper<A>,
     case: &Case,
     observer: &mut O,
-) -> Result<Option<Why>, LeapFault>
+) -> Result<Option<Refutation>, LeapFault>
     requires { IsCase leaper.old.nodes case.now }
     ensures wrong { (cells other : Picture) → AreShown leaper.old.nodes case.now.subject cells other
-        → IfOk result (λ why. MatchOption why
+        → IfOk result (λ refutation. MatchOption refutation
         (IsAfter (A.next_of leaper.old.rule) cells case.now.asks.generations
         (claimed_cells case.now.asks cells other))
         (IsDifference (after (A.next_of leaper.old.rule) cells case.now.asks.generations)
@@ -158,8 +158,8 @@ fn find_wrong_cell<A: Automaton, O: Observer>(
     let _ = leaper.store();
     let generations = case.asks.generations;
     let end = tree_after(leaper, &case.subject.pattern, generations, observer)?;
-    let wanted = claimed_tree(leaper, case)?;
-    find_difference(leaper, &end, &wanted, generations)
+    let expected = claimed_tree(leaper, case)?;
+    find_difference(leaper, &end, &expected, generations)
 }
 
 // The tree of the claimed cells.
@@ -172,10 +172,10 @@ fn claimed_tree<A: Automaton>(leaper: &mut Leaper<A>, case: &Case) -> Result<Tre
     ensures spent { leaper.new.spent ≡ leaper.old.spent }
 {
     let asks = case.asks;
-    match asks.wanted {
-        Wanted::Own => moved_tree(leaper, case.subject.pattern, asks.dx, asks.dy),
-        Wanted::Other => moved_tree(leaper, case.subject.other, asks.dx, asks.dy),
-        Wanted::NoCells => empty_tree(case.alloc, leaper),
+    match asks.expected {
+        Expected::Own => moved_tree(leaper, case.subject.pattern, asks.dx, asks.dy),
+        Expected::Other => moved_tree(leaper, case.subject.other, asks.dx, asks.dy),
+        Expected::NoCells => empty_tree(case.alloc, leaper),
     }
 }
 
@@ -261,58 +261,58 @@ pub(crate) fn tree_after<A: Automaton, O: Observer>(
 fn find_difference<A: Automaton>(
     leaper: &mut Leaper<A>,
     end: &Tree,
-    wanted: &Tree,
+    expected: &Tree,
     gens: u64,
-) -> Result<Option<Why>, LeapFault>
+) -> Result<Option<Refutation>, LeapFault>
     requires end { IsNearTree leaper.old.nodes end.now }
-    requires wanted { IsNearTree leaper.old.nodes wanted.now }
-    ensures difference { IfOk result (λ why. MatchOption why
-        ((x y : ℤ) → cell leaper.old.nodes end.now x y ≡ cell leaper.old.nodes wanted.now x y)
-        (IsDifference (cell leaper.old.nodes end.now) (cell leaper.old.nodes wanted.now) gens)) }
+    requires expected { IsNearTree leaper.old.nodes expected.now }
+    ensures difference { IfOk result (λ refutation. MatchOption refutation
+        ((x y : ℤ) → cell leaper.old.nodes end.now x y ≡ cell leaper.old.nodes expected.now x y)
+        (IsDifference (cell leaper.old.nodes end.now) (cell leaper.old.nodes expected.now) gens)) }
     ensures goes_on { LeaperGrows A leaper.old leaper.new }
     ensures spent { leaper.new.spent ≡ leaper.old.spent }
     ensures work { EndsAtLimit leaper.new.spent result }
 {
     // Says what holds of every leaper.
     let _ = leaper.store();
-    let found = leaper.difference(*end, *wanted)?;
-    Ok(difference_of(leaper.store(), *end, *wanted, found, gens))
+    let found = leaper.difference(*end, *expected)?;
+    Ok(difference_of(leaper.store(), *end, *expected, found, gens))
 }
 
 // What is reported of a place where two trees differ.
 fn difference_of(
     store: &Store,
     end: Tree,
-    wanted: Tree,
+    expected: Tree,
     found: Option<Spot>,
     gens: u64,
-) -> Option<Why>
+) -> Option<Refutation>
     requires end { IsNearTree store.now end }
-    requires wanted { IsNearTree store.now wanted }
-    requires other { IfSome found (λ at. cell store.now end at.x at.y ≢ cell store.now wanted at.x at.y) }
+    requires expected { IsNearTree store.now expected }
+    requires other { IfSome found (λ at. cell store.now end at.x at.y ≢ cell store.now expected at.x at.y) }
     ensures { MatchOption result (found ≡ None)
-        (IsDifference (cell store.now end) (cell store.now wanted) gens) }
+        (IsDifference (cell store.now end) (cell store.now expected) gens) }
 {
     let at = found?;
-    Some(difference_at(store, end, wanted, at, gens))
+    Some(difference_at(store, end, expected, at, gens))
 }
 
 // The cells of two trees at a place where they differ.
-fn difference_at(store: &Store, end: Tree, wanted: Tree, at: Spot, gens: u64) -> Why
+fn difference_at(store: &Store, end: Tree, expected: Tree, at: Spot, gens: u64) -> Refutation
     requires end { IsNearTree store.now end }
-    requires wanted { IsNearTree store.now wanted }
-    requires other { cell store.now end at.x at.y ≢ cell store.now wanted at.x at.y }
-    ensures { IsDifference (cell store.now end) (cell store.now wanted) gens result }
+    requires expected { IsNearTree store.now expected }
+    requires other { cell store.now end at.x at.y ≢ cell store.now expected at.x at.y }
+    ensures { IsDifference (cell store.now end) (cell store.now expected) gens result }
 {
     let found = store.cell(end, at);
-    let claimed = store.cell(wanted, at);
+    let claimed = store.cell(expected, at);
     let Ok(x) = i64::try_from(at.x) else {
         unreachable!();
     };
     let Ok(y) = i64::try_from(at.y) else {
         unreachable!();
     };
-    Why::Differs {
+    Refutation::Differs {
         x,
         y,
         found,

@@ -16,7 +16,7 @@ use crate::note::Note;
 use crate::noting::note_on;
 use crate::observer::Observer;
 use crate::verdict::Answer;
-use crate::verifier::{Library, NeededFiles, Tables, Task, find_files, verdict_on};
+use crate::verifier::{PatternCache, NeededFiles, Tables, Task, find_files, verdict_on};
 use ca_plane::Memory;
 use ca_run::Unwatched;
 use ca_text::Claims;
@@ -31,7 +31,7 @@ pub struct Judge<'a> {
     files: &'a [File<'a>],
     claims: &'a Claims,
     needed: NeededFiles<'a>,
-    library: Library<'a>,
+    cache: PatternCache<'a>,
     limits: Limits,
     index: usize,
 }
@@ -80,7 +80,7 @@ impl<'a> Judge<'a> {
             files,
             claims,
             needed,
-            library: library_for(alloc, claims),
+            cache: cache_for(alloc, claims),
             limits,
             index: 0,
         })
@@ -124,7 +124,7 @@ impl<'a> Judge<'a> {
         }
         let noted = answer_to(
             self.alloc,
-            &mut self.library,
+            &mut self.cache,
             self.claims,
             self.index,
             &self.needed,
@@ -157,16 +157,16 @@ pub(crate) fn look_up<'a>(
     Ok(NeededFiles { found, tables })
 }
 
-/// A library for the claims of a text. For one claim alone nothing is kept.
-fn library_for<'a>(alloc: Global, claims: &Claims) -> Library<'a> {
-    Library::new(alloc, claims.claim_count() != 1)
+/// A cache for the claims of a text. For one claim alone nothing is kept.
+fn cache_for<'a>(alloc: Global, claims: &Claims) -> PatternCache<'a> {
+    PatternCache::new(alloc, claims.claim_count() != 1)
 }
 
 /// The answer to the claim with this index, and a note on it, where these are the bytes of the files with the
 /// paths of the text and what its rule lines' files hold.
 fn answer_to<'a, 'f, O: Observer>(
     alloc: Global,
-    library: &mut Library<'f>,
+    cache: &mut PatternCache<'f>,
     claims: &'a Claims,
     index: usize,
     needed: &NeededFiles<'f>,
@@ -188,7 +188,7 @@ fn answer_to<'a, 'f, O: Observer>(
         needed,
         limits,
     };
-    let judged = verdict_on(alloc, library, &task, observer);
+    let judged = verdict_on(alloc, cache, &task, observer);
     observer.ends();
     let answer = Answer {
         line: asked.line,

@@ -2,8 +2,8 @@
 //! are converted.
 #![tactic(auto)]
 
-mod ahead;
-pub mod ahead_laws;
+mod evolution;
+pub mod evolution_laws;
 mod cells;
 mod conversion;
 pub mod conversion_laws;
@@ -11,7 +11,7 @@ mod decide;
 mod detailed_fault;
 mod file;
 mod format;
-mod glance;
+mod summary;
 mod identification;
 mod identity;
 pub mod identity_laws;
@@ -32,7 +32,7 @@ mod verdict;
 pub mod verdict_laws;
 mod verifier;
 
-pub use ahead::{convert_after, run_on, summary_after};
+pub use evolution::{convert_after, run_on, summary_after};
 pub use ca_plane::limits::MOST_MEMO;
 pub use ca_text::{
     ClaimFault, Claims, WordSet, no_fault_in_claim_text, one_fault, one_meaning, read_claims,
@@ -42,7 +42,7 @@ pub use conversion::{ConvertFault, convert, convert_with_detail};
 pub use detailed_fault::DetailedFault;
 pub use file::File;
 pub use format::{Format, Format as Target};
-pub use glance::{summary, summary_with_detail};
+pub use summary::{summary, summary_with_detail};
 pub use identification::{identify, identify_after, look_after};
 pub use identity::{Growth, Identity};
 pub use judge::Judge;
@@ -54,5 +54,5 @@ pub use reached::{ReachFault, Reached};
 pub use read::read_pattern;
 pub use scope::{Look, Scope};
 pub use unknown::{NamedTable, rule_text_of, table_named, unknown_rules};
-pub use verdict::{Answer, Cause, PatternFault, Verdict, Why};
+pub use verdict::{Answer, Cause, PatternFault, Verdict, Refutation};
 pub use verifier::verify;

@@ -10,7 +10,7 @@ ghost use Rattle.ca_claims.specs.inner.Refusals.{IsOnVerdict};
 
 use crate::note::Note;
 use crate::refusal::{About, JudgedClaim, WhichPattern};
-use crate::verdict::{Verdict, Why};
+use crate::verdict::{Verdict, Refutation};
 use ca_text::{Claims, NamedPath, OneOrTwo};
 
 /// The note on a verdict on a claim about these patterns.
@@ -28,7 +28,7 @@ pub(crate) fn note_on<'a>(
         × HasItsNote judged.verdict result }
 {
     match (judged.verdict, judged.about) {
-        (Verdict::No(Why::Differs { .. }), _) => Note::Cell {
+        (Verdict::No(Refutation::Differs { .. }), _) => Note::Cell {
             name: named_part(patterns, WhichPattern::First).name,
         },
         (

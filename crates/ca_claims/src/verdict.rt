@@ -7,7 +7,7 @@ use thiserror::Error;
 
 /// Why a claim is false.
 #[derive(Clone, Copy, Debug, PartialEq, Eq)]
-pub enum Why {
+pub enum Refutation {
     /// The claim asks for a live pattern, and no cell is live.
     Empty,
     /// After `gens` generations, the claimed number, the cell at (`x`, `y`) is `found`, and the claim says
@@ -91,7 +91,7 @@ pub enum Verdict {
     /// The claim is true of the whole plane.
     Yes,
     /// The claim is false.
-    No(Why),
+    No(Refutation),
     /// The claim isn't judged.
     Refused(Cause),
 }

@@ -17,8 +17,8 @@ ghost use Rattle.ca_claims.specs.Truth.{IsChanged, IsNowhere, IsLiveAfter, IsTru
 ghost use Rattle.ca_claims.specs.Truth.{IsReason, IsSameReason};
 ghost use Rattle.ca_claims.specs.Answers.{IsTrueVerdict, HoldsTable};
 ghost use Rattle.ca_claims.specs.Examples.{life, blinker, block};
-ghost use Rattle.ca_claims.specs.declared.verdict.Why.{Why};
-ghost use Rattle.ca_claims.specs.declared.verdict.Why.TheVariants.{Empty, Differs, Earlier, Died};
+ghost use Rattle.ca_claims.specs.declared.verdict.Refutation.{Refutation};
+ghost use Rattle.ca_claims.specs.declared.verdict.Refutation.TheVariants.{Empty, Differs, Earlier, Died};
 ghost use Rattle.ca_claims.specs.declared.verdict.Verdict.{Verdict};
 ghost use Rattle.ca_claims.specs.declared.verdict.Verdict.TheVariants.{Yes, No, Refused};
 ghost use Rattle.ca_claims.specs.declared.verdict.Cause.{Cause};
@@ -66,19 +66,19 @@ pub fn death_by_the_last_generation()
 pub fn false_claims()
     ensures still_empty { (next : List ℕ → ℕ) (cells other : Picture)
         → IsReason next cells other (asks_of Still) Empty ↔ (IsLive cells → ⊥) }
-    ensures still_differs { (next : List ℕ → ℕ) (cells other : Picture) (x y : ℤ) (found wanted n : ℕ)
-        → IsReason next cells other (asks_of Still) (Differs x y found wanted n)
-        ↔ (IsLive cells × (n ≡ 1) × (after next cells 1 x y ≡ found) × (cell cells x y ≡ wanted)
-        × (found ≢ wanted)) }
+    ensures still_differs { (next : List ℕ → ℕ) (cells other : Picture) (x y : ℤ) (found expected n : ℕ)
+        → IsReason next cells other (asks_of Still) (Differs x y found expected n)
+        ↔ (IsLive cells × (n ≡ 1) × (after next cells 1 x y ≡ found) × (cell cells x y ≡ expected)
+        × (found ≢ expected)) }
     ensures still_earlier { (next : List ℕ → ℕ) (cells other : Picture) (m : ℕ) (dx dy : ℤ)
         → IsReason next cells other (asks_of Still) (Earlier m dx dy) → ⊥ }
     ensures oscillator_empty { (next : List ℕ → ℕ) (cells other : Picture) (period : ℕ)
         → IsReason next cells other (asks_of (Oscillator period)) Empty ↔ (IsLive cells → ⊥) }
     ensures oscillator_differs { (next : List ℕ → ℕ) (cells other : Picture) (period : ℕ) (x y : ℤ)
-        (found wanted n : ℕ)
-        → IsReason next cells other (asks_of (Oscillator period)) (Differs x y found wanted n)
-        ↔ (IsLive cells × (n ≡ period) × (after next cells period x y ≡ found) × (cell cells x y ≡ wanted)
-        × (found ≢ wanted)) }
+        (found expected n : ℕ)
+        → IsReason next cells other (asks_of (Oscillator period)) (Differs x y found expected n)
+        ↔ (IsLive cells × (n ≡ period) × (after next cells period x y ≡ found) × (cell cells x y ≡ expected)
+        × (found ≢ expected)) }
     ensures oscillator_earlier { (next : List ℕ → ℕ) (cells other : Picture) (period m : ℕ) (dx dy : ℤ)
         → IsReason next cells other (asks_of (Oscillator period)) (Earlier m dx dy)
         ↔ (IsLive cells × IsAfter next cells period cells × (1 ≤ m) × (m < period) × (dx ≡ pos 0)
@@ -87,10 +87,10 @@ pub fn false_claims()
     ensures spaceship_empty { (next : List ℕ → ℕ) (cells other : Picture) (period : ℕ) (dx dy : ℤ)
         → IsReason next cells other (asks_of (Spaceship period dx dy)) Empty ↔ (IsLive cells → ⊥) }
     ensures spaceship_differs { (next : List ℕ → ℕ) (cells other : Picture) (period : ℕ) (dx dy x y : ℤ)
-        (found wanted n : ℕ)
-        → IsReason next cells other (asks_of (Spaceship period dx dy)) (Differs x y found wanted n)
+        (found expected n : ℕ)
+        → IsReason next cells other (asks_of (Spaceship period dx dy)) (Differs x y found expected n)
         ↔ (IsLive cells × (n ≡ period) × (after next cells period x y ≡ found)
-        × (cell (shifted cells dx dy) x y ≡ wanted) × (found ≢ wanted)) }
+        × (cell (shifted cells dx dy) x y ≡ expected) × (found ≢ expected)) }
     ensures spaceship_earlier { (next : List ℕ → ℕ) (cells other : Picture) (period m : ℕ) (dx dy u v : ℤ)
         → IsReason next cells other (asks_of (Spaceship period dx dy)) (Earlier m u v)
         ↔ (IsLive cells × IsAfter next cells period (shifted cells dx dy) × (1 ≤ m) × (m < period)
@@ -99,29 +99,29 @@ pub fn false_claims()
     ensures becomes_empty { (next : List ℕ → ℕ) (cells other : Picture) (generations : ℕ)
         → IsReason next cells other (asks_of (Becomes generations)) Empty → ⊥ }
     ensures becomes_differs { (next : List ℕ → ℕ) (cells other : Picture) (generations : ℕ) (x y : ℤ)
-        (found wanted n : ℕ)
-        → IsReason next cells other (asks_of (Becomes generations)) (Differs x y found wanted n)
-        ↔ ((n ≡ generations) × (after next cells generations x y ≡ found) × (cell other x y ≡ wanted)
-        × (found ≢ wanted)) }
+        (found expected n : ℕ)
+        → IsReason next cells other (asks_of (Becomes generations)) (Differs x y found expected n)
+        ↔ ((n ≡ generations) × (after next cells generations x y ≡ found) × (cell other x y ≡ expected)
+        × (found ≢ expected)) }
     ensures becomes_earlier { (next : List ℕ → ℕ) (cells other : Picture) (generations m : ℕ) (dx dy : ℤ)
         → IsReason next cells other (asks_of (Becomes generations)) (Earlier m dx dy) → ⊥ }
     ensures shifted_empty { (next : List ℕ → ℕ) (cells other : Picture) (generations : ℕ) (dx dy : ℤ)
         → IsReason next cells other (asks_of (BecomesShifted generations dx dy)) Empty → ⊥ }
     ensures shifted_differs { (next : List ℕ → ℕ) (cells other : Picture) (generations : ℕ) (dx dy x y : ℤ)
-        (found wanted n : ℕ)
-        → IsReason next cells other (asks_of (BecomesShifted generations dx dy)) (Differs x y found wanted n)
+        (found expected n : ℕ)
+        → IsReason next cells other (asks_of (BecomesShifted generations dx dy)) (Differs x y found expected n)
         ↔ ((n ≡ generations) × (after next cells generations x y ≡ found)
-        × (cell (shifted other dx dy) x y ≡ wanted) × (found ≢ wanted)) }
+        × (cell (shifted other dx dy) x y ≡ expected) × (found ≢ expected)) }
     ensures shifted_earlier { (next : List ℕ → ℕ) (cells other : Picture) (generations m : ℕ)
         (dx dy u v : ℤ)
         → IsReason next cells other (asks_of (BecomesShifted generations dx dy)) (Earlier m u v) → ⊥ }
     ensures dies_empty { (next : List ℕ → ℕ) (cells other : Picture) (generations : ℕ)
         → IsReason next cells other (asks_of (Dies generations)) Empty ↔ (IsLive cells → ⊥) }
     ensures dies_differs { (next : List ℕ → ℕ) (cells other : Picture) (generations : ℕ) (x y : ℤ)
-        (found wanted n : ℕ)
-        → IsReason next cells other (asks_of (Dies generations)) (Differs x y found wanted n)
-        ↔ (IsLive cells × (n ≡ generations) × (after next cells generations x y ≡ found) × (wanted ≡ 0)
-        × (found ≢ wanted)) }
+        (found expected n : ℕ)
+        → IsReason next cells other (asks_of (Dies generations)) (Differs x y found expected n)
+        ↔ (IsLive cells × (n ≡ generations) × (after next cells generations x y ≡ found) × (expected ≡ 0)
+        × (found ≢ expected)) }
     ensures dies_earlier { (next : List ℕ → ℕ) (cells other : Picture) (generations m : ℕ) (dx dy : ℤ)
         → IsReason next cells other (asks_of (Dies generations)) (Earlier m dx dy) → ⊥ }
     ensures dies_died { (next : List ℕ → ℕ) (cells other : Picture) (generations m : ℕ)
@@ -134,14 +134,14 @@ pub fn false_claims()
 
 /// Where there is a reason against a claim, the claim isn't true.
 pub fn no_is_false()
-    ensures { (next : List ℕ → ℕ) (cells other : Picture) (kind : Kind) (why : Why)
-        → IsReason next cells other (asks_of kind) why → IsTrueClaim next cells other (asks_of kind) → ⊥ }
+    ensures { (next : List ℕ → ℕ) (cells other : Picture) (kind : Kind) (refutation : Refutation)
+        → IsReason next cells other (asks_of kind) refutation → IsTrueClaim next cells other (asks_of kind) → ⊥ }
 {}
 
 /// A claim is false for one kind of reason at most: two reasons are both want of live cells, or both cells
 /// that differ after the claimed generations (which cells is open), or the same earlier return or death.
 pub fn one_reason()
-    ensures { (next : List ℕ → ℕ) (cells other : Picture) (kind : Kind) (one two : Why)
+    ensures { (next : List ℕ → ℕ) (cells other : Picture) (kind : Kind) (one two : Refutation)
         → IsReason next cells other (asks_of kind) one
         → IsReason next cells other (asks_of kind) two → IsSameReason one two }
 {}
@@ -157,14 +157,14 @@ pub fn one_meaning_of_a_file()
 /// where no other cause is. Nor are out of memory and a file that isn't there, or out of memory and a bad
 /// table.
 pub fn one_kind_of_verdict()
-    ensures yes_or_no { (files : List (List ℕ × List ℕ)) (rules : List (List ℕ)) (claim : Claim) (why : Why)
-        → IsTrueVerdict files rules claim Yes → IsTrueVerdict files rules claim (No why) → ⊥ }
+    ensures yes_or_no { (files : List (List ℕ × List ℕ)) (rules : List (List ℕ)) (claim : Claim) (refutation : Refutation)
+        → IsTrueVerdict files rules claim Yes → IsTrueVerdict files rules claim (No refutation) → ⊥ }
     ensures yes_or_refused { (files : List (List ℕ × List ℕ)) (rules : List (List ℕ)) (claim : Claim)
         (cause : Cause) → cause ≢ Memory → cause ≢ Work
         → IsTrueVerdict files rules claim Yes → IsTrueVerdict files rules claim (Refused cause) → ⊥ }
     ensures no_or_refused { (files : List (List ℕ × List ℕ)) (rules : List (List ℕ)) (claim : Claim)
-        (why : Why) (cause : Cause) → cause ≢ Memory → cause ≢ Work
-        → IsTrueVerdict files rules claim (No why) → IsTrueVerdict files rules claim (Refused cause) → ⊥ }
+        (refutation : Refutation) (cause : Cause) → cause ≢ Memory → cause ≢ Work
+        → IsTrueVerdict files rules claim (No refutation) → IsTrueVerdict files rules claim (Refused cause) → ⊥ }
     ensures work_or_refused { (files : List (List ℕ × List ℕ)) (rules : List (List ℕ)) (claim : Claim)
         (cause : Cause) → cause ≢ Memory → cause ≢ Work
         → IsTrueVerdict files rules claim (Refused Work) → IsTrueVerdict files rules claim (Refused cause)

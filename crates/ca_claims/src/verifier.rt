@@ -22,7 +22,7 @@ ghost use Rattle.ca_claims.specs.inner.Tasks.{CanBeJudged, IsOnFiles};
 
 mod agreement;
 mod counts;
-mod library;
+mod pattern_cache;
 mod needed;
 mod patterns;
 mod prepared;
@@ -38,7 +38,7 @@ use crate::refusal::{About, JudgedClaim, Refusal};
 use crate::verdict::{Answer, Cause, Verdict};
 use ca_plane::Memory;
 use ca_text::{Asks, Claim, Claims, OneOrTwo};
-pub(crate) use library::Library;
+pub(crate) use pattern_cache::PatternCache;
 pub(crate) use needed::NeededFiles;
 use prepared::{PreparedClaim, prepare};
 use std::alloc::Global;
@@ -95,11 +95,11 @@ pub(crate) fn find_files<'a>(
     Ok(found)
 }
 
-/// The verdict on a claim. Where there is no memory to judge it beside what the library keeps, that is let
+/// The verdict on a claim. Where there is no memory to judge it beside what the cache keeps, that is let
 /// go.
 pub(crate) fn verdict_on<'a, O: Observer>(
     alloc: Global,
-    library: &mut Library<'a>,
+    cache: &mut PatternCache<'a>,
     task: &Task<'_, 'a>,
     observer: &mut O,
 ) -> JudgedClaim
@@ -109,12 +109,12 @@ pub(crate) fn verdict_on<'a, O: Observer>(
         → IsJudgedOn files paths rules task.now.limits.work
         (map_patterns (path_at paths) task.now.claim.now) result.verdict result.about }
 {
-    let judged = as_judged(judge(alloc, library, task, observer));
-    if library.is_empty() || !wants_memory(&judged.verdict) {
+    let judged = as_judged(judge(alloc, cache, task, observer));
+    if cache.is_empty() || !wants_memory(&judged.verdict) {
         return judged;
     }
-    library.clear();
-    let mut empty = Library::new(alloc, false);
+    cache.clear();
+    let mut empty = PatternCache::new(alloc, false);
     as_judged(judge(alloc, &mut empty, task, observer))
 }
 
@@ -145,7 +145,7 @@ fn as_judged(judged: Result<Verdict, Refusal>) -> JudgedClaim
 /// The verdict on a claim, or why there is none.
 fn judge<'a, O: Observer>(
     alloc: Global,
-    library: &mut Library<'a>,
+    cache: &mut PatternCache<'a>,
     task: &Task<'_, 'a>,
     observer: &mut O,
 ) -> Result<Verdict, Refusal>
@@ -162,7 +162,7 @@ fn judge<'a, O: Observer>(
     let places = places_of(task.claim);
     let prepared = prepare(
         alloc,
-        library,
+        cache,
         &places,
         asks,
         &task.needed.found,

@@ -12,7 +12,7 @@ use Rattle.ca_rule.specs.declared.table.fault.TableFault.{TableFault}
 use Rattle.ca_rule.specs.declared.table.fault.TableFault.TheVariants as table_fault
 use Rattle.ca_claims.specs.Answers.{AreTrueAnswers, AreWithinWork, IsQuietTable}
 use Rattle.ca_claims.specs.Converted.{IsSummary, IsSummaryFault, IsConverted, IsConvertFault}
-use Rattle.ca_claims.specs.Ahead.{IsSummaryAfter, IsReachFault, IsConvertedAfter, IsConvertFaultAfter}
+use Rattle.ca_claims.specs.Evolved.{IsSummaryAfter, IsReachFault, IsConvertedAfter, IsConvertFaultAfter}
 use Rattle.ca_claims.specs.declared.verdict.Answer.{Answer}
 use Rattle.ca_claims.specs.declared.pattern.Summary.{Summary}
 use Rattle.ca_claims.specs.declared.conversion.ConvertFault.{ConvertFault}

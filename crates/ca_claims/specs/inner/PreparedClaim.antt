@@ -7,8 +7,8 @@ use Rattle.ca_quad.specs.declared.tree.Tree.{Tree}
 use Rattle.ca_quad.specs.Trees as trees
 use Rattle.ca_rule.specs.Rule.{rule_value}
 use Rattle.ca_text.specs.declared.asks.Asks.{Asks}
-use Rattle.ca_text.specs.declared.asks.Wanted.{Wanted}
-use Rattle.ca_text.specs.declared.asks.Wanted.TheVariants.{Own, Other, NoCells}
+use Rattle.ca_text.specs.declared.asks.Expected.{Expected}
+use Rattle.ca_text.specs.declared.asks.Expected.TheVariants.{Own, Other, NoCells}
 use Rattle.ca_claims.specs.declared.decide.ClaimTrees.{ClaimTrees}
 use Rattle.ca_claims.specs.declared.limits.Limits.{Limits}
 use Rattle.ca_claims.specs.declared.refusal.About.TheVariants as about
@@ -39,11 +39,11 @@ pub record IsPrepared (files : List (List ℕ × List ℕ)) (rules : List (List 
   pub agree : AgreeOn files rules paths cells other (rule_value prepared.leaper.rule)
   pub few : HasFewCounted asks cells other
 
--- the tree of the pattern whose cells are wanted, where some are
-abbrev pub wanted_tree : Wanted → ClaimTrees → Option Tree
-wanted_tree Own subject = Some subject.pattern
-wanted_tree Other subject = Some subject.other
-wanted_tree NoCells subject = None
+-- the tree of the pattern whose cells are expected, where some are
+abbrev pub expected_tree : Expected → ClaimTrees → Option Tree
+expected_tree Own subject = Some subject.pattern
+expected_tree Other subject = Some subject.other
+expected_tree NoCells subject = None
 
 -- the other of a claim's patterns is the last one
 abbrev pub last_part : List RuledPattern → WhichPattern
@@ -51,15 +51,15 @@ last_part [] = First
 last_part (a ∷ []) = First
 last_part (a ∷ b ∷ patterns) = Second
 
--- which of a claim's patterns has the cells that are wanted
-abbrev pub wanted_part : Wanted → WhichPattern → WhichPattern
-wanted_part Own other = First
-wanted_part Other other = other
-wanted_part NoCells other = First
+-- which of a claim's patterns has the cells that are expected
+abbrev pub expected_part : Expected → WhichPattern → WhichPattern
+expected_part Own other = First
+expected_part Other other = other
+expected_part NoCells other = First
 
 -- the cells that are counted aren't too many
 abbrev pub AreFewCounted : List Node → Asks → ClaimTrees → Type 0
-AreFewCounted nodes asks subject = IsCounted asks → IfSome (wanted_tree asks.wanted subject) (λ tree. HasFewCells (trees.cell nodes tree))
+AreFewCounted nodes asks subject = IsCounted asks → IfSome (expected_tree asks.expected subject) (λ tree. HasFewCells (trees.cell nodes tree))
 
 -- the refusal of a claim with a pattern that has too many cells
 abbrev pub refusal_for_count : WhichPattern → Refusal
@@ -68,8 +68,8 @@ refusal_for_count part = record { cause = TooManyCells; about = about.Pattern pa
 -- why they aren't known to be few: no memory, or there are too many
 abbrev pub IsCountRefused : List Node → Asks → ClaimTrees → WhichPattern → Refusal → Type 0
 IsCountRefused nodes asks subject other refusal = (refusal ≡ record { cause = cause.Memory; about = about.Claim })
-    ⊎ ((refusal ≡ refusal_for_count (wanted_part asks.wanted other)) × IsCounted asks
-    × (tree : Tree) × (wanted_tree asks.wanted subject ≡ Some tree) × HasTooManyCells (trees.cell nodes tree))
+    ⊎ ((refusal ≡ refusal_for_count (expected_part asks.expected other)) × IsCounted asks
+    × (tree : Tree) × (expected_tree asks.expected subject ≡ Some tree) × HasTooManyCells (trees.cell nodes tree))
 
 -- the refusal of a claim with a pattern that isn't read
 abbrev pub refusal_for : WhichPattern → PatternFault → Option ℕ → Refusal

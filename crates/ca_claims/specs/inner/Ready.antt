@@ -20,7 +20,7 @@ use Rattle.ca_claims.specs.declared.format.Format.{Format}
 use Rattle.ca_claims.specs.declared.format.Format.TheVariants.{Rle}
 use Rattle.ca_claims.specs.declared.conversion.ConvertFault.{ConvertFault}
 use Rattle.ca_claims.specs.declared.conversion.ConvertFault.TheVariants.{TooManyCells, Memory}
-use Rattle.ca_claims.specs.Ahead.{HoldsSmallRuledPattern}
+use Rattle.ca_claims.specs.Evolved.{HoldsSmallRuledPattern}
 use Rattle.ca_claims.specs.Means.{format_of, HoldsPattern}
 use Rattle.ca_claims.specs.Answers.{HasSmallStates}
 use Rattle.ca_claims.specs.Converted.{IsTidyAs}

@@ -32,7 +32,7 @@ pub record IsRefusal (files : List (List ℕ × List ℕ)) (paths rules : List (
 abbrev pub IsOnVerdict : List (List ℕ × List ℕ) → (paths rules patterns : List (List ℕ)) → Verdict → About
     → Type 0
 IsOnVerdict files paths rules patterns Yes about = Unit {0}
-IsOnVerdict files paths rules patterns (No why) about = Unit {0}
+IsOnVerdict files paths rules patterns (No refutation) about = Unit {0}
 IsOnVerdict files paths rules patterns (Refused cause) about = IsCauseAbout files paths rules patterns cause about
 
 -- the verdict is true, out of work only within the work that the claim may take, and its cause is about this

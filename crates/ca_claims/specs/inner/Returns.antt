@@ -3,11 +3,11 @@ use Rattle.std.specs.Prelude.{ℕ, ◌≤◌, ◌<◌, ◌^◌, ℤ, pos, neg_�
 use Rattle.ca_plane.specs.Plane.{Picture, shifted}
 use Rattle.ca_plane.specs.Generations.{IsAfter}
 use Rattle.ca_plane.specs.Limits.{reach}
-use Rattle.ca_claims.specs.declared.verdict.Why.{Why}
-use Rattle.ca_claims.specs.declared.verdict.Why.TheVariants.{Earlier, Died}
-use Rattle.ca_text.specs.declared.asks.Barred.{Barred}
-use Rattle.ca_text.specs.declared.asks.Barred.TheVariants.{EmptyPlane}
-use Rattle.ca_claims.specs.Truth.{IsLiveAfter, ShowsNothingBarred, MayReturnBy}
+use Rattle.ca_claims.specs.declared.verdict.Refutation.{Refutation}
+use Rattle.ca_claims.specs.declared.verdict.Refutation.TheVariants.{Earlier, Died}
+use Rattle.ca_text.specs.declared.asks.Forbidden.{Forbidden}
+use Rattle.ca_text.specs.declared.asks.Forbidden.TheVariants.{EmptyPlane}
+use Rattle.ca_claims.specs.Truth.{IsLiveAfter, ShowsNothingForbidden, MayReturnBy}
 
 -- a coordinate in the square of a plane
 abbrev pub IsWide : ℤ → Type 0
@@ -17,20 +17,20 @@ IsWide n = (neg_ℤ reach ≤ℤ n) × (n ≤ℤ reach)
 abbrev pub IsBroad : ℤ → Type 0
 IsBroad n = (neg_ℤ (pos (2 ^ 61)) ≤ℤ n) × (n ≤ℤ pos (2 ^ 61))
 
--- at no time from 1 on before n is what is barred shown
-abbrev pub IsSparedBefore : (List ℕ → ℕ) → Picture → Barred → ℕ → Type 0
-IsSparedBefore next cells barred n = (k : ℕ) → 1 ≤ k → k < n → ShowsNothingBarred next cells barred k
+-- at no time from 1 on before n is what is forbidden shown
+abbrev pub IsSparedBefore : (List ℕ → ℕ) → Picture → Forbidden → ℕ → Type 0
+IsSparedBefore next cells forbidden n = (k : ℕ) → 1 ≤ k → k < n → ShowsNothingForbidden next cells forbidden k
 
 -- the first return of the pattern, and it is before n
-abbrev pub IsFirstReturn : (List ℕ → ℕ) → Picture → Barred → ℕ → Why → Type 0
-IsFirstReturn next cells barred n (Earlier m dx dy) = (1 ≤ m) × (m < n) × MayReturnBy barred dx dy
-    × IsAfter next cells m (shifted cells dx dy) × IsSparedBefore next cells barred m
-IsFirstReturn next cells barred n why = ⊥
+abbrev pub IsFirstReturn : (List ℕ → ℕ) → Picture → Forbidden → ℕ → Refutation → Type 0
+IsFirstReturn next cells forbidden n (Earlier m dx dy) = (1 ≤ m) × (m < n) × MayReturnBy forbidden dx dy
+    × IsAfter next cells m (shifted cells dx dy) × IsSparedBefore next cells forbidden m
+IsFirstReturn next cells forbidden n refutation = ⊥
 
 -- the least time after which the plane is empty, and it is before n
-abbrev pub IsFirstDeath : (List ℕ → ℕ) → Picture → ℕ → Why → Type 0
+abbrev pub IsFirstDeath : (List ℕ → ℕ) → Picture → ℕ → Refutation → Type 0
 IsFirstDeath next cells n (Died m) = (1 ≤ m) × (m < n) × IsAfter next cells m [] × IsSparedBefore next cells EmptyPlane m
-IsFirstDeath next cells n why = ⊥
+IsFirstDeath next cells n refutation = ⊥
 
 -- the plane is empty after n generations, and before that it isn't
 pub record IsLifeSpan (next : List ℕ → ℕ) (cells : Picture) (n : ℕ) : Type 0 where

@@ -11,15 +11,15 @@ use Rattle.ca_quad.specs.Trees.{IsTree, cell, IsTrimmed}
 use Rattle.ca_quad.specs.Shifted.{shifted_cells}
 use Rattle.ca_macro.specs.Pattern.{AreInRange}
 use Rattle.ca_text.specs.declared.asks.Asks.{Asks}
-use Rattle.ca_text.specs.declared.asks.Barred.{Barred}
-use Rattle.ca_text.specs.declared.asks.Barred.TheVariants.{EmptyPlane}
+use Rattle.ca_text.specs.declared.asks.Forbidden.{Forbidden}
+use Rattle.ca_text.specs.declared.asks.Forbidden.TheVariants.{EmptyPlane}
 use Rattle.ca_claims.specs.declared.decide.ClaimTrees.{ClaimTrees}
 use Rattle.ca_claims.specs.declared.decide.Case.{Case}
-use Rattle.ca_claims.specs.declared.verdict.Why.{Why}
-use Rattle.ca_claims.specs.declared.verdict.Why.TheVariants.{Differs}
+use Rattle.ca_claims.specs.declared.verdict.Refutation.{Refutation}
+use Rattle.ca_claims.specs.declared.verdict.Refutation.TheVariants.{Differs}
 use Rattle.ca_plane.specs.Limits.{most_generations}
-use Rattle.ca_claims.specs.Truth.{MayReturnBy, IsLiveAfter, ShowsNothingBarred}
-use Rattle.ca_claims.specs.inner.Decided.{BarsReturns, IsBounded}
+use Rattle.ca_claims.specs.Truth.{MayReturnBy, IsLiveAfter, ShowsNothingForbidden}
+use Rattle.ca_claims.specs.inner.Decided.{ForbidsReturns, IsBounded}
 
 -- a picture shows the cells of a tree
 abbrev pub ShowsTree : List Node → Tree → Picture → Type 0
@@ -63,15 +63,15 @@ abbrev pub HasLive : (ℤ → ℤ → ℕ) → Type 0
 HasLive cells = (x : ℤ) × (y : ℤ) × (cells x y ≢ 0)
 
 -- what is judged, of a live pattern that may not be back early
-pub record BarsReturn (nodes : List Node) (case : Case) : Type 0 where
+pub record ForbidsReturn (nodes : List Node) (case : Case) : Type 0 where
   pub subject : IsCase nodes case
-  pub barred : BarsReturns case.asks.barred
+  pub forbidden : ForbidsReturns case.asks.forbidden
   pub live : HasLive (cell nodes case.subject.pattern)
 
 -- what is judged, of a live pattern that may not die early
-pub record BarsDeath (nodes : List Node) (case : Case) : Type 0 where
+pub record ForbidsDeath (nodes : List Node) (case : Case) : Type 0 where
   pub subject : IsCase nodes case
-  pub barred : case.asks.barred ≡ EmptyPlane
+  pub forbidden : case.asks.forbidden ≡ EmptyPlane
   pub live : HasLive (cell nodes case.subject.pattern)
 
 -- a tree shows the cells of another one, moved by (dx, dy)
@@ -99,9 +99,9 @@ pub record IsMoved (old : List Node) (other : Tree) (dx dy : ℤ) (nodes : List 
   pub shows : (x y : ℤ) → cell nodes tree x y ≡ shifted_cells (cell old other) dx dy x y
 
 -- a cell that one plane has after n generations, and another hasn't
-abbrev pub IsDifference : (ℤ → ℤ → ℕ) → (ℤ → ℤ → ℕ) → ℕ → Why → Type 0
-IsDifference end wanted n (Differs x y found claimed generations) = (generations ≡ n) × (end x y ≡ found) × (wanted x y ≡ claimed) × (found ≢ claimed)
-IsDifference end wanted n why = ⊥
+abbrev pub IsDifference : (ℤ → ℤ → ℕ) → (ℤ → ℤ → ℕ) → ℕ → Refutation → Type 0
+IsDifference end expected n (Differs x y found claimed generations) = (generations ≡ n) × (end x y ≡ found) × (expected x y ≡ claimed) × (found ≢ claimed)
+IsDifference end expected n refutation = ⊥
 
 -- one time at which some cell is live, and a later one after which the plane is empty, where it is after the claim's generations
 pub record AreLifeBounds (next : List ℕ → ℕ) (nodes : List Node) (case : Case) (low high : ℕ) : Type 0 where
@@ -110,18 +110,18 @@ pub record AreLifeBounds (next : List ℕ → ℕ) (nodes : List Node) (case : C
   pub holds : (cells : Picture) → ShowsTree nodes case.subject.pattern cells → IsAfter next cells case.asks.generations []
       → IsLiveAfter next cells low × IsAfter next cells high []
 
--- after n generations the pattern is there again, by this vector, which is barred
-abbrev pub IsBackBy : (List ℕ → ℕ) → Picture → Barred → ℕ → ℤ × ℤ → Type 0
-IsBackBy next cells barred n v = MayReturnBy barred v.0 v.1 × IsAfter next cells n (shifted cells v.0 v.1)
+-- after n generations the pattern is there again, by this vector, which is forbidden
+abbrev pub IsBackBy : (List ℕ → ℕ) → Picture → Forbidden → ℕ → ℤ × ℤ → Type 0
+IsBackBy next cells forbidden n v = MayReturnBy forbidden v.0 v.1 × IsAfter next cells n (shifted cells v.0 v.1)
 
 -- how far the first return is found: the pattern is back at this time, which is the claim's or, by this vector, an earlier one; and where
--- k times m generations make the time, nothing that is barred is shown at m, or k divides what is left of the time to be tried
+-- k times m generations make the time, nothing that is forbidden is shown at m, or k divides what is left of the time to be tried
 pub record IsNarrowed (next : List ℕ → ℕ) (nodes : List Node) (case : Case) (time left : ℕ)
     (found : Option (ℤ × ℤ)) : Type 0 where
   pub some : 1 ≤ time
   pub within : time ≤ case.asks.generations
   pub part : left ∣ time
   pub back : (cells : Picture) → ShowsTree nodes case.subject.pattern cells
-      → MatchOption found (time ≡ case.asks.generations) (λ v. (time < case.asks.generations) × IsBackBy next cells case.asks.barred time v)
+      → MatchOption found (time ≡ case.asks.generations) (λ v. (time < case.asks.generations) × IsBackBy next cells case.asks.forbidden time v)
   pub before : (cells : Picture) → ShowsTree nodes case.subject.pattern cells → (k m : ℕ) → k * m ≡ time
-      → ShowsNothingBarred next cells case.asks.barred m ⊎ (k ∣ left)
+      → ShowsNothingForbidden next cells case.asks.forbidden m ⊎ (k ∣ left)

@@ -3,15 +3,15 @@
 ghost use Rattle.std.specs.Prelude.{◌≡◌, ◌+◌, ◌/◌, ◌≤◌, [], IfOk, MatchOption};
 ghost use Rattle.ca_plane.specs.Plane.{Picture};
 ghost use Rattle.ca_plane.specs.Generations.{IsAfter};
-ghost use Rattle.ca_text.specs.declared.asks.Barred.TheVariants.{EmptyPlane};
+ghost use Rattle.ca_text.specs.declared.asks.Forbidden.TheVariants.{EmptyPlane};
 ghost use Rattle.ca_run.specs.Leaping.{LeaperGrows, EndsAtLimit};
 ghost use Rattle.ca_claims.specs.inner.Spending.{Takes, most_looks};
 ghost use Rattle.ca_claims.specs.inner.Returns.{IsSparedBefore, IsFirstDeath, IsLifeSpan};
-ghost use Rattle.ca_claims.specs.inner.Subjects.{ShowsTree, BarsDeath};
+ghost use Rattle.ca_claims.specs.inner.Subjects.{ShowsTree, ForbidsDeath};
 
 use super::{Case, is_dead, tree_after};
 use crate::observer::Observer;
-use crate::verdict::Why;
+use crate::verdict::Refutation;
 use ca_plane::Automaton;
 use ca_run::{LeapFault, Leaper};
 
@@ -20,11 +20,11 @@ pub(super) fn first_death<A: Automaton, O: Observer>(
     leaper: &mut Leaper<A>,
     case: &Case,
     observer: &mut O,
-) -> Result<Option<Why>, LeapFault>
-    requires { BarsDeath leaper.old.nodes case.now }
-    ensures why { (cells : Picture) → ShowsTree leaper.old.nodes case.now.subject.pattern cells
+) -> Result<Option<Refutation>, LeapFault>
+    requires { ForbidsDeath leaper.old.nodes case.now }
+    ensures refutation { (cells : Picture) → ShowsTree leaper.old.nodes case.now.subject.pattern cells
         → IsAfter (A.next_of leaper.old.rule) cells case.now.asks.generations []
-        → IfOk result (λ why. MatchOption why
+        → IfOk result (λ refutation. MatchOption refutation
         (IsSparedBefore (A.next_of leaper.old.rule) cells EmptyPlane case.now.asks.generations)
         (IsFirstDeath (A.next_of leaper.old.rule) cells case.now.asks.generations)) }
     ensures goes_on { LeaperGrows A leaper.old leaper.new }
@@ -36,7 +36,7 @@ pub(super) fn first_death<A: Automaton, O: Observer>(
     if m == case.asks.generations {
         return Ok(None);
     }
-    Ok(Some(Why::Died { m }))
+    Ok(Some(Refutation::Died { m }))
 }
 
 // After how many generations a live pattern's plane is empty first, where it's empty after the claim's. An
@@ -46,7 +46,7 @@ fn life_span<A: Automaton, O: Observer>(
     case: &Case,
     observer: &mut O,
 ) -> Result<u64, LeapFault>
-    requires { BarsDeath leaper.old.nodes case.now }
+    requires { ForbidsDeath leaper.old.nodes case.now }
     ensures some { IfOk result (λ m. 1 ≤ m) }
     ensures most { IfOk result (λ m. m ≤ case.now.asks.generations) }
     ensures span { (cells : Picture) → ShowsTree leaper.old.nodes case.now.subject.pattern cells

@@ -7,36 +7,36 @@ ghost use Rattle.ca_plane.specs.Limits.{most_generations};
 ghost use Rattle.ca_quad.specs.Trees.{cell};
 ghost use Rattle.ca_run.specs.Leaping.{LeaperGrows, EndsAtLimit};
 ghost use Rattle.ca_claims.specs.inner.Spending.{Takes};
-ghost use Rattle.ca_claims.specs.Truth.{MayReturnBy, ShowsNothingBarred};
+ghost use Rattle.ca_claims.specs.Truth.{MayReturnBy, ShowsNothingForbidden};
 ghost use Rattle.ca_claims.specs.inner.Returns.{IsSparedBefore, IsFirstReturn, IsBroad, IsWide};
-ghost use Rattle.ca_claims.specs.inner.Subjects.{ShowsTree, IsNearTree, IsPattern, BarsReturn, HasLive};
+ghost use Rattle.ca_claims.specs.inner.Subjects.{ShowsTree, IsNearTree, IsPattern, ForbidsReturn, HasLive};
 ghost use Rattle.ca_claims.specs.inner.Subjects.{IsMove, IsNoMove, IsOnlyMove, IsBackBy};
 
 use super::primes::{prime_factor, without_prime};
 use super::{Case, moved_inside, tree_after};
 use crate::observer::Observer;
-use crate::verdict::Why;
+use crate::verdict::Refutation;
 use ca_plane::{Automaton, Memory};
 use ca_quad::{Store, Tree};
 use ca_run::{LeapFault, Leaper};
-use ca_text::Barred;
+use ca_text::Forbidden;
 use std::alloc::Global;
 
 /// The first return of the pattern before the claim's generations are over. Where the pattern is back then,
-/// moved by a vector that is barred, and for no prime that divides their number after the number divided by
+/// moved by a vector that is forbidden, and for no prime that divides their number after the number divided by
 /// it, it is back at no earlier time. Where it is for one, that is a smaller number of the same kind.
 pub(super) fn first_return<A: Automaton, O: Observer>(
     leaper: &mut Leaper<A>,
     case: &Case,
     observer: &mut O,
-) -> Result<Option<Why>, LeapFault>
-    requires { BarsReturn leaper.old.nodes case.now }
-    ensures why { (cells : Picture) → ShowsTree leaper.old.nodes case.now.subject.pattern cells → (u v : ℤ)
-        → MayReturnBy case.now.asks.barred u v
+) -> Result<Option<Refutation>, LeapFault>
+    requires { ForbidsReturn leaper.old.nodes case.now }
+    ensures refutation { (cells : Picture) → ShowsTree leaper.old.nodes case.now.subject.pattern cells → (u v : ℤ)
+        → MayReturnBy case.now.asks.forbidden u v
         → IsAfter (A.next_of leaper.old.rule) cells case.now.asks.generations (shifted cells u v)
-        → IfOk result (λ why. MatchOption why
-        (IsSparedBefore (A.next_of leaper.old.rule) cells case.now.asks.barred case.now.asks.generations)
-        (IsFirstReturn (A.next_of leaper.old.rule) cells case.now.asks.barred case.now.asks.generations)) }
+        → IfOk result (λ refutation. MatchOption refutation
+        (IsSparedBefore (A.next_of leaper.old.rule) cells case.now.asks.forbidden case.now.asks.generations)
+        (IsFirstReturn (A.next_of leaper.old.rule) cells case.now.asks.forbidden case.now.asks.generations)) }
     ensures goes_on { LeaperGrows A leaper.old leaper.new }
     ensures takes { Takes leaper.old.spent.used leaper.new.spent.used
         (case.now.asks.generations - 1) case.now.subject.pattern.level case.now.asks.generations }
@@ -61,22 +61,22 @@ pub(super) fn first_return<A: Automaton, O: Observer>(
     let Some((dx, dy)) = found else {
         return Ok(None);
     };
-    Ok(Some(Why::Earlier { m: time, dx, dy }))
+    Ok(Some(Refutation::Earlier { m: time, dx, dy }))
 }
 
-// The vector by which the pattern is there again after m generations, if it is and that is barred.
+// The vector by which the pattern is there again after m generations, if it is and that is forbidden.
 fn return_at<A: Automaton, O: Observer>(
     leaper: &mut Leaper<A>,
     case: &Case,
     m: u64,
     observer: &mut O,
 ) -> Result<Option<(i64, i64)>, LeapFault>
-    requires case { BarsReturn leaper.old.nodes case.now }
+    requires case { ForbidsReturn leaper.old.nodes case.now }
     requires few { m ≤ most_generations }
     ensures back { (cells : Picture) → ShowsTree leaper.old.nodes case.now.subject.pattern cells
         → IfOk result (λ back. MatchOption back
-        (ShowsNothingBarred (A.next_of leaper.old.rule) cells case.now.asks.barred m)
-        (IsBackBy (A.next_of leaper.old.rule) cells case.now.asks.barred m)) }
+        (ShowsNothingForbidden (A.next_of leaper.old.rule) cells case.now.asks.forbidden m)
+        (IsBackBy (A.next_of leaper.old.rule) cells case.now.asks.forbidden m)) }
     ensures goes_on { LeaperGrows A leaper.old leaper.new }
     ensures takes { Takes leaper.old.spent.used leaper.new.spent.used 1 case.now.subject.pattern.level m }
     ensures work { EndsAtLimit leaper.new.spent result }
@@ -85,8 +85,8 @@ fn return_at<A: Automaton, O: Observer>(
     let _ = leaper.store();
     let end = tree_after(leaper, &case.subject.pattern, m, observer)?;
     let pattern = &case.subject.pattern;
-    match case.asks.barred {
-        Barred::Anywhere => return_anywhere(case.alloc, leaper, &end, pattern),
+    match case.asks.forbidden {
+        Forbidden::Anywhere => return_anywhere(case.alloc, leaper, &end, pattern),
         _ => match leaper.difference(end, *pattern)? {
             None => Ok(Some((0, 0))),
             Some(_) => Ok(None),

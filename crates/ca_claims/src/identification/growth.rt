@@ -2,11 +2,11 @@
 
 ghost use Rattle.std.specs.Prelude.{IfOk};
 ghost use Rattle.ca_quad.specs.Trees.{cell};
-ghost use Rattle.ca_claims.specs.inner.Glance.{IsLowTree};
+ghost use Rattle.ca_claims.specs.inner.Summed.{IsLowTree};
 ghost use Rattle.ca_claims.specs.inner.Stages.{IsGrowthOf};
 ghost use Rattle.ca_claims.specs.inner.Subjects.{HasLive};
 
-use crate::glance::bounds_of;
+use crate::summary::bounds_of;
 use crate::identity::Growth;
 use ca_plane::Memory;
 use ca_quad::{Store, Tree};

@@ -3,8 +3,8 @@
 ghost use Rattle.std.specs.Prelude.{◌≡◌, OnOk, IfErr, Some};
 ghost use Rattle.ca_text.specs.OneOrTwo.{items};
 ghost use Rattle.ca_claims.specs.inner.Patterns.{AreBoth};
-ghost use Rattle.ca_claims.specs.inner.PreparedClaim.{AreFewCounted, IsCountRefused, last_part, wanted_part};
-ghost use Rattle.ca_claims.specs.inner.PreparedClaim.{wanted_tree, refusal_for_count};
+ghost use Rattle.ca_claims.specs.inner.PreparedClaim.{AreFewCounted, IsCountRefused, last_part, expected_part};
+ghost use Rattle.ca_claims.specs.inner.PreparedClaim.{expected_tree, refusal_for_count};
 ghost use Rattle.ca_claims.specs.inner.Subjects.{IsPattern};
 
 use crate::cells::has_too_many_cells;
@@ -13,7 +13,7 @@ use crate::refusal::{About, Refusal, WhichPattern};
 use crate::ruled::RuledPattern;
 use crate::verdict::Cause;
 use ca_quad::{Store, Tree};
-use ca_text::{Asks, OneOrTwo, Wanted};
+use ca_text::{Asks, OneOrTwo, Expected};
 use std::alloc::Global;
 
 /// No memory for a claim.
@@ -65,40 +65,40 @@ pub(crate) fn check_count(
     if !asks.moved {
         return Ok(());
     }
-    let Some(tree) = wanted_tree(asks.wanted, subject) else {
+    let Some(tree) = expected_tree(asks.expected, subject) else {
         return Ok(());
     };
     match has_too_many_cells(alloc, store, tree) {
         Ok(false) => Ok(()),
-        Ok(true) => Err(refusal_for_count(wanted_part(asks.wanted, other))),
+        Ok(true) => Err(refusal_for_count(expected_part(asks.expected, other))),
         Err(_) => Err(OUT_OF_MEMORY),
     }
 }
 
-/// The tree of the pattern whose cells are wanted, where some are.
-fn wanted_tree(wanted: Wanted, subject: &ClaimTrees) -> Option<Tree>
-    ensures { result ≡ wanted_tree wanted subject.now }
+/// The tree of the pattern whose cells are expected, where some are.
+fn expected_tree(expected: Expected, subject: &ClaimTrees) -> Option<Tree>
+    ensures { result ≡ expected_tree expected subject.now }
 {
-    match wanted {
-        Wanted::Own => Some(Tree {
+    match expected {
+        Expected::Own => Some(Tree {
             root: subject.pattern.root,
             level: subject.pattern.level,
         }),
-        Wanted::Other => Some(Tree {
+        Expected::Other => Some(Tree {
             root: subject.other.root,
             level: subject.other.level,
         }),
-        Wanted::NoCells => None,
+        Expected::NoCells => None,
     }
 }
 
 /// Which of a claim's patterns that is; the other one is this of them.
-fn wanted_part(wanted: Wanted, other: WhichPattern) -> WhichPattern
-    ensures { result ≡ wanted_part wanted other }
+fn expected_part(expected: Expected, other: WhichPattern) -> WhichPattern
+    ensures { result ≡ expected_part expected other }
 {
-    match wanted {
-        Wanted::Own | Wanted::NoCells => WhichPattern::First,
-        Wanted::Other => other,
+    match expected {
+        Expected::Own | Expected::NoCells => WhichPattern::First,
+        Expected::Other => other,
     }
 }
 

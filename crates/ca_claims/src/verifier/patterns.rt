@@ -7,7 +7,7 @@ ghost use Rattle.ca_text.specs.OneOrTwo.{items};
 ghost use Rattle.ca_claims.specs.inner.Patterns.{FirstBadAt, IsReadFrom, IsUnread, HasName};
 ghost use Rattle.ca_claims.specs.inner.Patterns.{IsUnnamedFor, IsRuledAs};
 
-use super::library::Library;
+use super::pattern_cache::PatternCache;
 use crate::pattern::Loaded;
 use crate::read::BadPattern;
 use crate::refusal::WhichPattern;
@@ -24,10 +24,10 @@ pub(crate) struct BadPart<W> {
     pub(crate) why: W,
 }
 
-/// The patterns of files with these bytes, put into the store by the library, or the first that isn't read.
+/// The patterns of files with these bytes, put into the store by the cache, or the first that isn't read.
 pub(crate) fn read_each<'a>(
     alloc: Global,
-    library: &mut Library<'a>,
+    cache: &mut PatternCache<'a>,
     store: &mut Store,
     files: &OneOrTwo<&'a [u8]>,
 ) -> Result<OneOrTwo<Loaded>, BadPart<BadPattern>>
@@ -38,12 +38,12 @@ pub(crate) fn read_each<'a>(
 {
     match *files {
         OneOrTwo::One(only) => {
-            let only = at_part(WhichPattern::First, library.pattern(alloc, store, only))?;
+            let only = at_part(WhichPattern::First, cache.pattern(alloc, store, only))?;
             Ok(OneOrTwo::One(only))
         }
         OneOrTwo::Two(first, second) => {
-            let first = at_part(WhichPattern::First, library.pattern(alloc, store, first))?;
-            let second = at_part(WhichPattern::Second, library.pattern(alloc, store, second))?;
+            let first = at_part(WhichPattern::First, cache.pattern(alloc, store, first))?;
+            let second = at_part(WhichPattern::Second, cache.pattern(alloc, store, second))?;
             Ok(OneOrTwo::Two(first, second))
         }
     }

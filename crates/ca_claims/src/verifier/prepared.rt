@@ -20,7 +20,7 @@ ghost use Rattle.ca_claims.specs.inner.Tables.{AreRead};
 
 use super::agreement::{Disagreement, agreed_rule};
 use super::counts::{OUT_OF_MEMORY, check_count, last_part, subject_of};
-use super::library::Library;
+use super::pattern_cache::PatternCache;
 use super::patterns::{BadPart, read_each, with_rules};
 use super::tables::Tables;
 use crate::decide::ClaimTrees;
@@ -46,7 +46,7 @@ pub(crate) struct PreparedClaim<'t> {
 /// What a claim that asks this of the patterns at these places is judged on, or why it isn't judged.
 pub(crate) fn prepare<'a, 't>(
     alloc: Global,
-    library: &mut Library<'a>,
+    cache: &mut PatternCache<'a>,
     places: &OneOrTwo<usize>,
     asks: Asks,
     found: &[Option<&'a [u8]>],
@@ -66,14 +66,14 @@ pub(crate) fn prepare<'a, 't>(
         Err(part) => return Err(of_pattern(Cause::NoFile, part, None)),
     };
     let tables = tables.all()?;
-    prepare_by(alloc, library, &files, asks, tables, limits)
+    prepare_by(alloc, cache, &files, asks, tables, limits)
 }
 
 /// What a claim about the patterns whose files have these bytes is judged on, or why it isn't judged under
 /// the text's tables.
 fn prepare_by<'a, 't>(
     alloc: Global,
-    library: &mut Library<'a>,
+    cache: &mut PatternCache<'a>,
     there: &OneOrTwo<&'a [u8]>,
     asks: Asks,
     tables: &'t [Table],
@@ -87,7 +87,7 @@ fn prepare_by<'a, 't>(
     ensures fit { IfOk result (IsFit limits) }
 {
     let mut store = Store::new(alloc);
-    let patterns = match read_each(alloc, library, &mut store, there) {
+    let patterns = match read_each(alloc, cache, &mut store, there) {
         Ok(patterns) => patterns,
         Err(unread) => return Err(reading_refusal(unread)),
     };

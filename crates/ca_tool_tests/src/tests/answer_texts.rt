@@ -1,7 +1,7 @@
 //! Lines of answers and faults that no text causes, and causes and faults in the words of their crates.
 
 use super::devices::expect;
-use ca_claims::{Answer, Cause, ClaimFault, ConvertFault, PatternFault, Verdict, Why};
+use ca_claims::{Answer, Cause, ClaimFault, ConvertFault, PatternFault, Verdict, Refutation};
 use ca_macro::MacroFault;
 use ca_plane::{Dev, Memory};
 use ca_rle::RleFault;
@@ -17,7 +17,7 @@ const ANSWERS: &[Answer] = &[
     },
     Answer {
         line: u64::MAX,
-        verdict: Verdict::No(Why::Differs {
+        verdict: Verdict::No(Refutation::Differs {
             x: -1,
             y: i64::MIN,
             found: 255,
@@ -27,7 +27,7 @@ const ANSWERS: &[Answer] = &[
     },
     Answer {
         line: 13,
-        verdict: Verdict::No(Why::Earlier {
+        verdict: Verdict::No(Refutation::Earlier {
             m: 4_294_967_294,
             dx: i64::MIN,
             dy: -1,
@@ -35,7 +35,7 @@ const ANSWERS: &[Answer] = &[
     },
     Answer {
         line: 9,
-        verdict: Verdict::No(Why::Died { m: u64::MAX }),
+        verdict: Verdict::No(Refutation::Died { m: u64::MAX }),
     },
 ];
 

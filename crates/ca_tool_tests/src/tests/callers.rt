@@ -1,7 +1,7 @@
 //! The callers that the libraries' pages show, and what a text says and no verdict shows.
 
 use super::devices::expect;
-use ca_claims::{Answer, Cause, ClaimFault, File, Limits, Verdict, Why, read_claims, verify};
+use ca_claims::{Answer, Cause, ClaimFault, File, Limits, Verdict, Refutation, read_claims, verify};
 use ca_macro::{MacroFault, read_macro};
 use ca_plane::{Automaton, Dev};
 use ca_quad::{Spot, Store};
@@ -126,7 +126,7 @@ const ANSWERS: &[Answer] = &[
     },
     Answer {
         line: 4,
-        verdict: Verdict::No(Why::Empty),
+        verdict: Verdict::No(Refutation::Empty),
     },
 ];
 
@@ -160,7 +160,7 @@ const WORKLESS_ANSWERS: &[Answer] = &[
     },
     Answer {
         line: 4,
-        verdict: Verdict::No(Why::Empty),
+        verdict: Verdict::No(Refutation::Empty),
     },
     Answer {
         line: 5,

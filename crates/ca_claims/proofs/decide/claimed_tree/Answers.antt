@@ -1,4 +1,4 @@
-use Rattle.ca_text.specs.declared.asks.Wanted.TheVariants.{Own, Other}
+use Rattle.ca_text.specs.declared.asks.Expected.TheVariants.{Own, Other}
 use Rattle.ca_claims.proofs.LeaptTrees.{ok_as, moved_shown, claimed_shown}
 use Rattle.ca_claims.proofs.Times.{shift_reads}
 use Rattle.ca_claims.proofs.decide.claimed_tree.Goals as goal

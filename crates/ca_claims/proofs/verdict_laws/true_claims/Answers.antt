@@ -6,12 +6,12 @@ use Rattle.ca_claims.proofs.Times.{cell_shifted_0}
 use Rattle.ca_claims.proofs.verdict_laws.true_claims.Goals as goal
 
 -- cells that stand moved by (0, 0) stand in their place
-in_place : (next : List ℕ → ℕ) (cells wanted : Picture) (n : ℕ) → IsAfter next cells n (shifted wanted (pos 0) (pos 0)) → IsAfter next cells n wanted
-in_place next cells wanted n stands = λ x y. stands x y ∙ cell_shifted_0 wanted x y
+in_place : (next : List ℕ → ℕ) (cells expected : Picture) (n : ℕ) → IsAfter next cells n (shifted expected (pos 0) (pos 0)) → IsAfter next cells n expected
+in_place next cells expected n stands = λ x y. stands x y ∙ cell_shifted_0 expected x y
 
 -- and the other way round
-moved_by_none : (next : List ℕ → ℕ) (cells wanted : Picture) (n : ℕ) → IsAfter next cells n wanted → IsAfter next cells n (shifted wanted (pos 0) (pos 0))
-moved_by_none next cells wanted n stands = λ x y. stands x y ∙ sym (cell_shifted_0 wanted x y)
+moved_by_none : (next : List ℕ → ℕ) (cells expected : Picture) (n : ℕ) → IsAfter next cells n expected → IsAfter next cells n (shifted expected (pos 0) (pos 0))
+moved_by_none next cells expected n stands = λ x y. stands x y ∙ sym (cell_shifted_0 expected x y)
 
 pub returns-clause-still : goal.returns-clause-still
 returns-clause-still c = λ next cells other. (

@@ -1,7 +1,7 @@
 use Rattle.std.proofs.Common.{refl}
 use Rattle.std.specs.Prelude.{pos, Some, None}
 use Rattle.ca_run.proofs.ShownPlanes.{goes_on_again}
-use Rattle.ca_claims.proofs.LeaptTrees.{bars_stays, shows_stays, pattern_stays, ok_as}
+use Rattle.ca_claims.proofs.LeaptTrees.{forbids_stays, shows_stays, pattern_stays, ok_as}
 use Rattle.ca_claims.proofs.DividedReturns.{back_here, back_there}
 use Rattle.ca_claims.proofs.Spending.{takes_before}
 use Rattle.ca_claims.proofs.decide.returns.return_at.Goals as goal
@@ -14,7 +14,7 @@ return_anywhere-requires-clause-pattern g c =
     pattern_stays c.args.leaper.now.nodes c.tree_after.new.leaper.nodes c.store.ensures.sound c.in_ok-end.ensures.goes_on.grows c.args.case.now.subject.pattern c.requires.case.subject.pattern
 
 pub return_anywhere-requires-clause-live : goal.return_anywhere-requires-clause-live
-return_anywhere-requires-clause-live g c = (bars_stays c.args.leaper.now.nodes c.tree_after.new.leaper.nodes c.store.ensures.sound c.in_ok-end.ensures.goes_on.grows c.args.case.now c.requires.case).live
+return_anywhere-requires-clause-live g c = (forbids_stays c.args.leaper.now.nodes c.tree_after.new.leaper.nodes c.store.ensures.sound c.in_ok-end.ensures.goes_on.grows c.args.case.now c.requires.case).live
 
 pub returns-in-Anywhere-clause-back : goal.returns-in-Anywhere-clause-back
 returns-in-Anywhere-clause-back g c = λ cells shows.

@@ -1,7 +1,7 @@
 use Rattle.std.proofs.Common.{◌≡◌, ℕ, List, refl, sym, subst, arith}
 use Rattle.std.specs.Prelude.{ℤ, replicate}
 use Rattle.ca_quad.specs.Trees.{cell}
-use Rattle.ca_claims.specs.inner.Glance.{IsLowTree}
+use Rattle.ca_claims.specs.inner.Summed.{IsLowTree}
 use Rattle.ca_claims.specs.inner.Stages.{IsGrowthOf}
 use Rattle.ca_claims.specs.inner.Subjects.{HasLive}
 use Rattle.ca_claims.proofs.Identities.{found_growth}

@@ -7,7 +7,7 @@ use Rattle.ca_run.specs.Leaping.{LeaperGrows}
 use Rattle.ca_run.proofs.After.{after_same}
 use Rattle.ca_run.proofs.ShownPlanes.{goes_on_again}
 use Rattle.ca_claims.specs.Identified.{IsIdentity}
-use Rattle.ca_claims.specs.inner.Glance.{IsLowTree}
+use Rattle.ca_claims.specs.inner.Summed.{IsLowTree}
 use Rattle.ca_claims.specs.inner.Stages.{IsWalk, IsHalted, IsGrowthOf, TakesSearch, TakesSearchFrom}
 use Rattle.ca_claims.specs.inner.Subjects.{HasLive}
 use Rattle.ca_claims.proofs.Identities.{last_live, found_none, whole_look, search_needs}

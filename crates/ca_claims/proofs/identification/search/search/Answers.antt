@@ -9,7 +9,7 @@ use Rattle.ca_run.proofs.ShownPlanes.{goes_on_again}
 use Rattle.ca_claims.specs.declared.identification.stage.First.{First}
 use Rattle.ca_claims.specs.declared.identity.Identity.TheVariants.{Unknown}
 use Rattle.ca_claims.specs.Identified.{IsIdentity}
-use Rattle.ca_claims.specs.inner.Glance.{IsLowTree}
+use Rattle.ca_claims.specs.inner.Summed.{IsLowTree}
 use Rattle.ca_claims.specs.inner.Stages.{IsWalk, IsEnding, IsGrowthOf, AreOtherUpTo, IsLaterTree, IsHalted, HasNoReturn, AreEarly, TakesSteps, TakesEarly, TakesSearchFrom, early_work, leap_work}
 use Rattle.ca_claims.specs.inner.Subjects.{HasLive}
 use Rattle.ca_claims.proofs.Identities.{picture_nowhere, last_live, found_none}

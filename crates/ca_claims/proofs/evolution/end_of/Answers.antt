@@ -4,7 +4,7 @@ use Rattle.ca_plane.specs.Generations.{cells_after}
 use Rattle.ca_quad.specs.Trees.{cell}
 use Rattle.ca_claims.proofs.LaterPlanes.{later_is_low, later_small}
 use Rattle.ca_claims.proofs.Nearby.{end_outside}
-use Rattle.ca_claims.proofs.ahead.end_of.Goals as goal
+use Rattle.ca_claims.proofs.evolution.end_of.Goals as goal
 
 pub returns-clause-end : goal.returns-clause-end
 returns-clause-end g c =

@@ -10,8 +10,8 @@ ghost use Rattle.ca_claims.specs.declared.reached.Reached.{Reached};
 ghost use Rattle.ca_claims.specs.declared.reached.ReachFault.{ReachFault};
 ghost use Rattle.ca_claims.specs.declared.reached.ReachFault.TheVariants.{Convert, Work};
 ghost use Rattle.ca_claims.specs.declared.conversion.ConvertFault.TheVariants.{Memory};
-ghost use Rattle.ca_claims.specs.Ahead.{IsReached, IsReachFault, IsSameReached, IsSummaryAfter};
-ghost use Rattle.ca_claims.specs.Ahead.{IsConvertedAfter, IsConvertFaultAfter};
+ghost use Rattle.ca_claims.specs.Evolved.{IsReached, IsReachFault, IsSameReached, IsSummaryAfter};
+ghost use Rattle.ca_claims.specs.Evolved.{IsConvertedAfter, IsConvertFaultAfter};
 ghost use Rattle.ca_claims.specs.Converted.{IsSameSummary};
 
 /// So many generations on from a file one plane at most is reached, or none for one cause, and not both; out

@@ -1,6 +1,6 @@
 use Rattle.std.proofs.Common.{ℕ, refl, sym, subst, ◌∙◌}
 use Rattle.ca_quad.specs.Trees.{cell}
-use Rattle.ca_claims.specs.inner.Glance.{IsSummaryOf}
+use Rattle.ca_claims.specs.inner.Summed.{IsSummaryOf}
 use Rattle.ca_claims.specs.inner.Patterns.{rule_of}
 use Rattle.ca_plane.specs.Plane.{cell as plane_cell}
 use Rattle.ca_plane.specs.Population.{HasPopulation}
@@ -9,7 +9,7 @@ use Rattle.ca_rle.proofs.JudgedTexts.{text_bounds}
 use Rattle.ca_claims.proofs.OneText.{match_shown}
 use Rattle.ca_claims.proofs.RleFiles.{text_population}
 use Rattle.ca_claims.proofs.WrittenForms.{read_pattern, ready_file, summed_up}
-use Rattle.ca_claims.proofs.glance.summary_with_detail.Goals as goal
+use Rattle.ca_claims.proofs.summary.summary_with_detail.Goals as goal
 
 pub returns-in-Rle-clause-summary : goal.returns-in-Rle-clause-summary
 returns-in-Rle-clause-summary c =

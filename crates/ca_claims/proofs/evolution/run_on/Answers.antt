@@ -4,13 +4,13 @@ use Rattle.ca_quad.specs.Trees.{cell}
 use Rattle.ca_rule.specs.Rule.{rule_value, next_of}
 use Rattle.ca_claims.specs.declared.reached.ReachFault.{ReachFault}
 use Rattle.ca_claims.specs.declared.detailed_fault.DetailedFault.{DetailedFault}
-use Rattle.ca_claims.specs.Ahead.{IsReachFault}
+use Rattle.ca_claims.specs.Evolved.{IsReachFault}
 use Rattle.ca_claims.specs.Answers.{HasSmallStates}
 use Rattle.ca_claims.specs.inner.Stages.{IsLaterTree}
 use Rattle.ca_claims.specs.inner.Subjects.{IsPattern}
 use Rattle.ca_claims.proofs.ReachedFiles.{file_reaches, file_needs_run, file_wants_work, file_wants_memory}
 use Rattle.ca_claims.proofs.WrittenForms.{read_pattern}
-use Rattle.ca_claims.proofs.ahead.run_on.Goals as goal
+use Rattle.ca_claims.proofs.evolution.run_on.Goals as goal
 
 pub end_of-requires-clause-run : goal.end_of-requires-clause-run
 end_of-requires-clause-run g c =

@@ -1,5 +1,5 @@
 use Rattle.ca_claims.proofs.ReachedFiles.{reached_told}
-use Rattle.ca_claims.proofs.ahead.summary_after.Goals as goal
+use Rattle.ca_claims.proofs.evolution.summary_after.Goals as goal
 
 pub returns-in-Ok-clause-summary : goal.returns-in-Ok-clause-summary
 returns-in-Ok-clause-summary g c =

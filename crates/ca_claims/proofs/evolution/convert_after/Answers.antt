@@ -1,11 +1,11 @@
 use Rattle.std.proofs.Common.{sym, subst}
 use Rattle.ca_claims.specs.declared.reached.ReachFault.{ReachFault}
 use Rattle.ca_claims.specs.declared.detailed_fault.DetailedFault.{DetailedFault}
-use Rattle.ca_claims.specs.Ahead.{IsConvertFaultAfter}
+use Rattle.ca_claims.specs.Evolved.{IsConvertFaultAfter}
 use Rattle.ca_claims.specs.DetailedFault.{HasReachDetail}
 use Rattle.ca_claims.proofs.ReachedFiles.{reached_unwritten}
 use Rattle.ca_claims.proofs.WrittenForms.{undetailed}
-use Rattle.ca_claims.proofs.ahead.convert_after.Goals as goal
+use Rattle.ca_claims.proofs.evolution.convert_after.Goals as goal
 
 pub returns-clause-fault : goal.returns-clause-fault
 returns-clause-fault g c =

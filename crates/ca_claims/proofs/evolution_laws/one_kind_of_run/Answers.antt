@@ -1,5 +1,5 @@
 use Rattle.ca_claims.proofs.OneRun.{one_reached, reached_or_fault, one_reach_fault}
-use Rattle.ca_claims.proofs.ahead_laws.one_kind_of_run.Goals as goal
+use Rattle.ca_claims.proofs.evolution_laws.one_kind_of_run.Goals as goal
 
 pub returns-clause-one_plane : goal.returns-clause-one_plane
 returns-clause-one_plane c = λ bytes tables n one two h k. one_reached bytes tables n one two h k

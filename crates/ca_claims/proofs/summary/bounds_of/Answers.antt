@@ -3,7 +3,7 @@ use Rattle.std.specs.Option.{MatchOption}
 use Rattle.ca_quad.specs.Boxes.{IsDead, IsLeastWideBox}
 use Rattle.ca_quad.specs.Trees.{cell}
 use Rattle.ca_claims.proofs.LaterPlanes.{near_bounds}
-use Rattle.ca_claims.proofs.glance.bounds_of.Goals as goal
+use Rattle.ca_claims.proofs.summary.bounds_of.Goals as goal
 
 pub bounds_of_wide-requires : goal.bounds_of_wide-requires
 bounds_of_wide-requires c =

@@ -1,5 +1,5 @@
 use Rattle.ca_claims.proofs.OneRun.{one_text_after, text_after_or_fault, one_fault_after}
-use Rattle.ca_claims.proofs.ahead_laws.one_kind_of_later_conversion.Goals as goal
+use Rattle.ca_claims.proofs.evolution_laws.one_kind_of_later_conversion.Goals as goal
 
 pub returns-clause-one_text : goal.returns-clause-one_text
 returns-clause-one_text c = λ bytes tables n target one two h k. one_text_after bytes tables n target one two h k

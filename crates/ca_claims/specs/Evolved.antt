@@ -58,7 +58,7 @@ IsReachFault bytes tables n work Work = (cells : Picture) × (rule : RuleValue) 
 IsReachFault bytes tables n work Range = ⊥
 
 -- n generations on from the file's pattern, under its rule, the plane has these cells, at this generation, which is below the limit
-pub record IsAhead (bytes : List ℕ) (tables : List TableRule) (n : ℕ) (later : Picture) (rule : RuleValue)
+pub record IsEvolved (bytes : List ℕ) (tables : List TableRule) (n : ℕ) (later : Picture) (rule : RuleValue)
     (generation : ℕ) : Type 0 where
   pub cells : Picture
   pub begun : ℕ
@@ -73,7 +73,7 @@ pub record IsSummaryAfter (bytes : List ℕ) (tables : List TableRule) (n : ℕ)
     (summary : Summary) : Type 0 where
   pub later : Picture
   pub rule : RuleValue
-  pub ahead : IsAhead bytes tables n later rule summary.generation
+  pub evolved : IsEvolved bytes tables n later rule summary.generation
   pub kind : summary.kind ≡ format_of bytes
   pub printed : summary.rule_text.items ≡ printed_form rule
   pub population : HasPopulation (cell later) summary.cells
@@ -86,7 +86,7 @@ pub record IsConvertedAfter (bytes : List ℕ) (tables : List TableRule) (n : �
   pub later : Picture
   pub rule : RuleValue
   pub generation : ℕ
-  pub ahead : IsAhead bytes tables n later rule generation
+  pub evolved : IsEvolved bytes tables n later rule generation
   pub format : format_of text ≡ target
   pub text_holds : HoldsPattern text later (printed_form rule) generation
   pub tidy : IsTidyAs target text later (printed_form rule) generation (states_of rule)

@@ -14,9 +14,9 @@ use std::marker::Model;
 /// How many patterns are kept: a claim is about one or two.
 const ROOM: usize = 2;
 
-/// The patterns that were last read, the latest at the end. A closed library keeps none.
+/// The patterns that were last read, the latest at the end. A closed cache keeps none.
 #[derive(Drop)]
-pub(crate) struct Library<'a> {
+pub(crate) struct PatternCache<'a> {
     is_open: bool,
     kept: Vec<KeptPattern<'a>>,
     ghost few: { length kept.items ≤ 2 },
@@ -41,14 +41,14 @@ impl<'a> Model for KeptPattern<'a> {
     ghost invariant = { λ k. IsReadFrom k.store k.bytes.now k.pattern };
 }
 
-impl<'a> Library<'a> {
-    /// A library that has nothing yet. One that isn't open keeps nothing: for a claim that has no memory
+impl<'a> PatternCache<'a> {
+    /// A cache that has nothing yet. One that isn't open keeps nothing: for a claim that has no memory
     /// beside what is kept.
-    pub(crate) fn new(alloc: Global, is_open: bool) -> Library<'a>
+    pub(crate) fn new(alloc: Global, is_open: bool) -> PatternCache<'a>
         ensures open { result.is_open ≡ is_open }
         ensures kept { result.kept.items ≡ [] }
     {
-        Library {
+        PatternCache {
             is_open,
             kept: Vec::new(alloc),
         }

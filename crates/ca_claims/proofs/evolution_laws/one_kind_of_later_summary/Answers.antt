@@ -1,5 +1,5 @@
 use Rattle.ca_claims.proofs.OneRun.{one_summary_after, summary_after_or_fault}
-use Rattle.ca_claims.proofs.ahead_laws.one_kind_of_later_summary.Goals as goal
+use Rattle.ca_claims.proofs.evolution_laws.one_kind_of_later_summary.Goals as goal
 
 pub returns-clause-one_summary : goal.returns-clause-one_summary
 returns-clause-one_summary c = λ bytes tables n one two h k. one_summary_after bytes tables n one two h k

@@ -8,7 +8,7 @@ ghost use Rattle.ca_quad.specs.Trees.{cell};
 ghost use Rattle.ca_rule.specs.Rule.{rule_value};
 ghost use Rattle.ca_claims.specs.Converted.{IsSummary, IsSummaryFault};
 ghost use Rattle.ca_claims.specs.DetailedFault.{HasDetail};
-ghost use Rattle.ca_claims.specs.inner.Glance.{AreNearBounds, IsLowTree, IsSummaryOf};
+ghost use Rattle.ca_claims.specs.inner.Summed.{AreNearBounds, IsLowTree, IsSummaryOf};
 
 use crate::conversion::ConvertFault;
 use crate::detailed_fault::DetailedFault;
