@@ -9,9 +9,9 @@ use Rattle.ca_rule.specs.Rule.{rule_value, states_of, next_of}
 use Rattle.ca_plane.specs.Generations.{after}
 use Rattle.ca_plane.specs.Limits.{generation_limit}
 use Rattle.ca_draw.proofs.SameCells.{same_drawing}
-use Rattle.ca_claims.specs.declared.reached.Reached.{Reached}
-use Rattle.ca_claims.specs.Evolved.{IsReached}
-use Rattle.ca_claims.proofs.PatternsRead.{reads_may_want}
+use Rattle.ca_pattern.specs.declared.reached.Reached.{Reached}
+use Rattle.ca_pattern.specs.Evolved.{IsReached}
+use Rattle.ca_pattern.proofs.PatternsRead.{reads_may_want}
 use Rattle.ca_tool.specs.declared.drawing.DrawRequest.{DrawRequest}
 use Rattle.ca_tool.specs.declared.fault.ToolFault.{ToolFault}
 use Rattle.ca_tool.specs.declared.fault.ToolFault.TheVariants.{Convert, Window, Write, Memory}

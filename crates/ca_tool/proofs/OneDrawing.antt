@@ -11,11 +11,11 @@ use Rattle.ca_rule.specs.Rule.{states_of, next_of}
 use Rattle.ca_draw.specs.declared.window.Window.{Window}
 use Rattle.ca_draw.specs.Drawings.{drawing}
 use Rattle.ca_draw.specs.Windows.{IsWindow, strip_of}
-use Rattle.ca_claims.specs.declared.conversion.ConvertFault.TheVariants as convert_fault
-use Rattle.ca_claims.specs.declared.reached.ReachFault.{ReachFault}
-use Rattle.ca_claims.specs.declared.reached.ReachFault.TheVariants as reach_fault
-use Rattle.ca_claims.specs.Evolved.{IsReachFault}
-use Rattle.ca_claims.proofs.OneRun.{one_start, one_plane, evolved_or_fault, one_reach_fault}
+use Rattle.ca_pattern.specs.declared.conversion.ConvertFault.TheVariants as convert_fault
+use Rattle.ca_pattern.specs.declared.reached.ReachFault.{ReachFault}
+use Rattle.ca_pattern.specs.declared.reached.ReachFault.TheVariants as reach_fault
+use Rattle.ca_pattern.specs.Evolved.{IsReachFault}
+use Rattle.ca_pattern.proofs.OneRun.{one_start, one_plane, evolved_or_fault, one_reach_fault}
 use Rattle.ca_tool.specs.declared.drawing.DrawRequest.{DrawRequest}
 use Rattle.ca_tool.specs.declared.fault.ToolFault.{ToolFault}
 use Rattle.ca_tool.specs.declared.fault.ToolFault.TheVariants.{Input, BadTable, Convert, GenTooLarge, Work, Range, Window as NoWindow, Write, Memory}

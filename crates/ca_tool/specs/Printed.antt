@@ -13,24 +13,24 @@ use Rattle.ca_rle.specs.declared.fault.RleFault.TheVariants as rle
 use Rattle.ca_macro.specs.declared.fault.MacroFault.TheVariants as macrocell
 use Rattle.ca_text.specs.declared.fault.ClaimFault.{ClaimFault}
 use Rattle.ca_text.specs.declared.fault.ClaimFault.TheVariants as claims
-use Rattle.ca_claims.specs.declared.verdict.Answer.{Answer}
-use Rattle.ca_claims.specs.declared.verdict.Verdict.{Verdict}
-use Rattle.ca_claims.specs.declared.verdict.Verdict.TheVariants.{Yes, No, Refused}
-use Rattle.ca_claims.specs.declared.verdict.Refutation.{Refutation}
-use Rattle.ca_claims.specs.declared.verdict.Refutation.TheVariants.{Empty, Differs, Earlier, Died}
-use Rattle.ca_claims.specs.declared.verdict.PatternFault.{PatternFault}
-use Rattle.ca_claims.specs.declared.verdict.PatternFault.TheVariants as patterns
-use Rattle.ca_claims.specs.declared.verdict.Cause.{Cause}
-use Rattle.ca_claims.specs.declared.verdict.Cause.TheVariants as causes
-use Rattle.ca_claims.specs.declared.file.File.{File}
-use Rattle.ca_claims.specs.declared.note.Note.{Note}
-use Rattle.ca_claims.specs.declared.note.Note.TheVariants as notes
-use Rattle.ca_claims.specs.declared.format.Format.{Format}
-use Rattle.ca_claims.specs.declared.format.Format.TheVariants.{Rle, Mc}
-use Rattle.ca_claims.specs.declared.conversion.ConvertFault.{ConvertFault}
-use Rattle.ca_claims.specs.declared.conversion.ConvertFault.TheVariants as converts
-use Rattle.ca_claims.specs.declared.pattern.Summary.{Summary}
-use Rattle.ca_claims.specs.declared.detailed_fault.DetailedFault.{DetailedFault as RefusedFor}
+use Rattle.ca_verify.specs.declared.verdict.Answer.{Answer}
+use Rattle.ca_verify.specs.declared.verdict.Verdict.{Verdict}
+use Rattle.ca_verify.specs.declared.verdict.Verdict.TheVariants.{Yes, No, Refused}
+use Rattle.ca_verify.specs.declared.verdict.Refutation.{Refutation}
+use Rattle.ca_verify.specs.declared.verdict.Refutation.TheVariants.{Empty, Differs, Earlier, Died}
+use Rattle.ca_pattern.specs.declared.pattern_fault.PatternFault.{PatternFault}
+use Rattle.ca_pattern.specs.declared.pattern_fault.PatternFault.TheVariants as patterns
+use Rattle.ca_pattern.specs.declared.cause.Cause.{Cause}
+use Rattle.ca_pattern.specs.declared.cause.Cause.TheVariants as causes
+use Rattle.ca_verify.specs.declared.file.File.{File}
+use Rattle.ca_verify.specs.declared.note.Note.{Note}
+use Rattle.ca_verify.specs.declared.note.Note.TheVariants as notes
+use Rattle.ca_pattern.specs.declared.format.Format.{Format}
+use Rattle.ca_pattern.specs.declared.format.Format.TheVariants.{Rle, Mc}
+use Rattle.ca_pattern.specs.declared.conversion.ConvertFault.{ConvertFault}
+use Rattle.ca_pattern.specs.declared.conversion.ConvertFault.TheVariants as converts
+use Rattle.ca_pattern.specs.declared.pattern.Summary.{Summary}
+use Rattle.ca_pattern.specs.declared.detailed_fault.DetailedFault.{DetailedFault as RefusedFor}
 use Rattle.ca_tool.specs.declared.fault.Fault.{Fault}
 use Rattle.ca_tool.specs.declared.fault.Fault.TheVariants as faults
 use Rattle.ca_tool.specs.declared.fault.InputFault.{InputFault}

@@ -14,9 +14,10 @@ use crate::printing::answer_pieces;
 use crate::remedy::{Remedy, bytes_of, cause_remedy, remedy_line_pieces};
 use crate::rule_folder::FaultyRule;
 use crate::texts::{table_kind, table_line};
-use ca_claims::{Answer, Cause, File, Note, Verdict, Refutation};
+use ca_pattern::Cause;
 use ca_plane::{Dev, Memory, WriteFault, send};
 use ca_rule::TableFault;
+use ca_verify::{Answer, File, Note, Refutation, Verdict};
 use std::io::Write;
 
 /// How the answers of a text are printed.
@@ -191,7 +192,11 @@ fn note_pieces<'a>(style: &ReportStyle<'a>, verdict: Verdict, note: &'a Note<'a>
         ≡ note_text style.now.before.now style.now.faulty.now style.now.missing.now verdict note.now }
 {
     match (verdict, note) {
-        (Verdict::No(refutation), Note::Cell { name }) => cell_pieces(style.before, name, refutation),
+        (Verdict::No(refutation), Note::Cell { name }) => cell_pieces(
+            style.before,
+            name,
+            refutation,
+        ),
         (
             Verdict::Refused(_),
             Note::Pattern {

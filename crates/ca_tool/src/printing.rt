@@ -2,17 +2,18 @@
 
 ghost use Rattle.std.specs.Prelude.{◌≡◌, ◌≢◌, ◌++◌, List, ◌∷◌, [], IfOk, OnErr};
 ghost use Rattle.std.specs.List.{list_any};
-ghost use Rattle.ca_claims.specs.declared.verdict.Answer.{Answer as AnswerValue};
-ghost use Rattle.ca_claims.specs.declared.verdict.Verdict.TheVariants.{No, Refused};
+ghost use Rattle.ca_verify.specs.declared.verdict.Answer.{Answer as AnswerValue};
+ghost use Rattle.ca_verify.specs.declared.verdict.Verdict.TheVariants.{No, Refused};
 ghost use Rattle.ca_tool.specs.Printed.{return_text, refutation_text, table_fault_text, cause_text, verdict_text};
 ghost use Rattle.ca_tool.specs.Printed.{answer_line, answer_lines, status_of, is_refusal, is_no};
 ghost use Rattle.ca_tool.specs.inner.Pieces.{pieces_text};
 
 use crate::pieces::{Piece, in_pieces, push_pieces};
 use crate::texts::{pattern_fault_bytes, rule_fault_bytes, table_kind};
-use ca_claims::{Answer, Cause, Verdict, Refutation};
+use ca_pattern::Cause;
 use ca_plane::Memory;
 use ca_rule::TableFault;
+use ca_verify::{Answer, Refutation, Verdict};
 use std::alloc::Global;
 
 fn return_pieces<'a>(generations: u64, dx: i64, dy: i64) -> [Piece<'a>; 6]

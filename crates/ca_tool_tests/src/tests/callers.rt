@@ -1,13 +1,15 @@
 //! The callers that the libraries' pages show, and what a text says and no verdict shows.
 
 use super::devices::expect;
-use ca_claims::{Answer, Cause, ClaimFault, File, Limits, Verdict, Refutation, read_claims, verify};
 use ca_macro::{MacroFault, read_macro};
+use ca_pattern::{Cause, Limits};
 use ca_plane::{Automaton, Dev};
 use ca_quad::{Spot, Store};
 use ca_rle::{RleFault, read_rle};
 use ca_rule::resolve;
+use ca_text::{ClaimFault, read_claims};
 use ca_tool::verify_run;
+use ca_verify::{Answer, File, Refutation, Verdict, verify};
 use std::alloc::Global;
 use std::test::*;
 
