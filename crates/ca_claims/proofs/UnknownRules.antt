@@ -1,5 +1,5 @@
 -- Rule texts that name no rule, and the files that have them.
-use Rattle.std.proofs.Common.{◌≡◌, ℕ, zero, suc, ◌+◌, ◌<◌, ltb, true, false, Bool, IsTrue, List, ◌∷◌, map, slice_get, get_or, length, Bor, Option, Some, None, Result, Ok, Err, IfOk, ◌⊎◌, inl, inr, ◌↔◌, refl, sym, ap, subst, ◌∙◌, arith}
+use Rattle.std.proofs.Common.{◌≡◌, ℕ, zero, suc, ◌+◌, ◌<◌, ltb, true, false, Bool, IsTrue, List, [], ◌∷◌, map, slice_get, get_or, length, Bor, Option, Some, None, Result, Ok, Err, IfOk, ◌⊎◌, inl, inr, ◌↔◌, refl, sym, ap, subst, ◌∙◌, arith}
 use Rattle.std.specs.List.{list_any, AllZip}
 use Rattle.std.specs.Option.{option_copied}
 use Rattle.std.specs.Str.{bytes_eq}
@@ -26,6 +26,7 @@ use Rattle.ca_pattern.proofs.OneMeaning.{one_meaning, reads_without_fault}
 use Rattle.ca_verify.proofs.Verdicts.{one_tables}
 
 -- ---- one file
+
 module _ (bytes : List ℕ) where
   -- a file has one rule text
   one_text : (n m : List ℕ) → HoldsRuleText n bytes → HoldsRuleText m bytes → n ≡ m
@@ -40,6 +41,7 @@ module _ (bytes : List ℕ) where
   none_if_unread tables (fault, wrong) name h = reads_without_fault bytes fault h.0.2.readable wrong
 
 -- ---- names that are added
+
 -- a name is among others with one put after them where it was before, or is that one
 among_put : (names : List (List ℕ)) (put name : List ℕ) → IsTrue (list_any (bytes_eq name) (with_word names put)) ↔ (IsTrue (list_any (bytes_eq name) names) ⊎ (name ≡ put))
 among_put names put name = elim (cases_Bool (list_any (bytes_eq put) names)) [
@@ -93,6 +95,7 @@ module _ (tables : List TableRule) (needed : List Bool) (found : List (Option (B
   )
 
 -- ---- the files of a text
+
 -- what holds of two lists place by place holds at a place
 zip_at : {A B : Type 0} (R : A → B → Type 0) (xs : List A) (ys : List B) (i : ℕ) (d : A) (e : B) → AllZip R xs ys → i < length xs → R (get_or xs i d) (get_or ys i e)
 zip_at R [] [] i d e all within = let no : ⊥ = omega (arith, within) in absurd no

@@ -1,4 +1,4 @@
--- Rule texts that name no rule, and tables that would give them one.
+-- Rule texts that name no rule, and the files that have them.
 use Rattle.std.specs.Prelude.{◌≡◌, ◌↔◌, ℕ, List, Some, IsTrue, slice_get}
 use Rattle.std.specs.List.{list_any}
 use Rattle.std.specs.Str.{bytes_eq}

@@ -1,4 +1,4 @@
-//! The rules that a text's patterns name and that aren't known, and tables that may give them.
+//! The rules that a text's patterns name and that aren't known.
 
 ghost use Rattle.std.specs.Prelude.{◌≡◌, ◌≢◌, ◌↔◌, ℕ, ◌<◌, List, [], length, IsTrue, IfOk, OnOk, OnErr};
 ghost use Rattle.std.specs.Prelude.{MatchOption};

@@ -1,4 +1,4 @@
--- By which vector a tree can be another one, moved: the one between the corners of their least boxes.
+-- How far the corners of the planes' least boxes are.
 use Rattle.std.proofs.Common.{ℕ, ◌^◌, arith}
 use Rattle.std.specs.Prelude.{ℤ, pos, neg_ℤ, ◌≤ℤ◌}
 use Rattle.std.proofs.lemmas.Int.{ints}

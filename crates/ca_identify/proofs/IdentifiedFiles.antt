@@ -59,6 +59,7 @@ module _ (nodes : List Node) (bytes : List ℕ) (tables : List TableRule) (ruled
       omega (arith, none, all, most, more)
 
 -- ---- after no generations
+
 -- what is true of one picture is true of another one with the same cells
 module _ (next : List ℕ → ℕ) (p q : Picture) (same : (x y : ℤ) → plane.cell p x y ≡ plane.cell q x y) where
   same_later : (n : ℕ) (x y : ℤ) → after next p n x y ≡ after next q n x y

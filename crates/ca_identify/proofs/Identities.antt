@@ -1,5 +1,5 @@
 -- Which claims are true of pictures, by what their planes show after one generation after the other.
-use Rattle.std.proofs.Common.{◌≡◌, ◌≢◌, ℕ, zero, suc, ◌+◌, ◌-◌, ◌≤◌, ◌<◌, List, Result, sym, subst, ◌∙◌, arith}
+use Rattle.std.proofs.Common.{◌≡◌, ◌≢◌, ℕ, zero, suc, ◌+◌, ◌-◌, ◌≤◌, ◌<◌, List, [], Result, sym, subst, ◌∙◌, arith}
 use Rattle.std.specs.Prelude.{ℤ, pos, ◌-ℤ◌, replicate, IfOk}
 use Rattle.std.proofs.lemmas.Int.{ints}
 use Rattle.ca_plane.specs.Plane.{Picture, shifted, IsLive}
@@ -34,6 +34,7 @@ use Rattle.ca_identify.proofs.Starts.{start_near, picture_after}
 use Rattle.ca_identify.proofs.Stages.{changes, least_right, most_right, least_down, most_down}
 
 -- ---- a pattern that is never back, and lives
+
 -- no claim is true of it
 none_back : (next : List ℕ → ℕ) → next (replicate 9 0) ≡ 0 → (cells : Picture) (limit : ℕ) → HasNoReturn next cells limit → IsLiveAfter next cells limit → HasNoTrueClaim next cells limit
 none_back next quiet cells limit without alive kind.Still one some within true = without 1 some within (pos 0) (pos 0) true.stands
@@ -46,6 +47,7 @@ none_back next quiet cells limit without alive (kind.Dies n) one some within tru
     live.2 (true.stands live.0 live.1)
 
 -- ---- a live pattern's tree, none of whose first n generations is dead or the pattern, moved
+
 module _ (next : List ℕ → ℕ) (quiet : next (replicate 9 0) ≡ 0) (nodes : List Node) (first : First) (is : IsFirst nodes first) (cells : Picture) (shows : ShowsTree nodes first.tree cells) where
   abbrev pub p : ℤ → ℤ → ℕ
   p = trees.cell nodes first.tree
@@ -108,6 +110,7 @@ module _ (next : List ℕ → ℕ) (quiet : next (replicate 9 0) ≡ 0) (nodes :
       (found_return (n - 1) again.before limit (omega (arith, some, within)) short dx dy (subst (λ k. AreMoved p (cells_after next p k) dx dy) (sym last) again.moved))
 
 -- ---- a picture of the first cells
+
 module _ (next : List ℕ → ℕ) (p : ℤ → ℤ → ℕ) (cells : Picture) (shows : (x y : ℤ) → plane.cell cells x y ≡ p x y) where
   -- what it has after m generations
   later : (m : ℕ) (x y : ℤ) → after next cells m x y ≡ cells_after next p m x y
@@ -152,6 +155,7 @@ module _ (next : List ℕ → ℕ) (p : ℤ → ℤ → ℕ) (cells : Picture) (
   death_ends n live some others dead = (some, picture_live live, record { empty = picture_dies n dead; live = lives_before n live others })
 
 -- ---- a pattern that dies
+
 -- that it does is a true claim
 pub death_true : (next : List ℕ → ℕ) (cells : Picture) (limit n : ℕ) → n ≤ limit → limit ≤ longest_period → IsEnding next cells (Death n) → IsTrueWithin next cells limit (kind.Dies n)
 death_true next cells limit n within short is = record {
@@ -161,6 +165,7 @@ death_true next cells limit n within short is = record {
 }
 
 -- ---- a pattern that is back for the first time
+
 module _ (next : List ℕ → ℕ) (cells : Picture) (limit n : ℕ) (dx dy : ℤ) (within : n ≤ limit) (short : limit ≤ longest_period) (is : IsReturn next cells n dx dy) where
   -- in its place
   in_place : dx ≡ pos 0 → dy ≡ pos 0 → IsAfter next cells n (shifted cells (pos 0) (pos 0))
@@ -180,6 +185,7 @@ last_live next p n nodes now is others some =
     (live.0, live.1, λ none. live.2 (sym (is.shows live.0 live.1) ∙ none))
 
 -- ---- a plane some generations on
+
 -- what is found of its tree is found of the plane
 pub found_later : {T : Type 0} (next : List ℕ → ℕ) (p : ℤ → ℤ → ℕ) (cells : Picture) (n : ℕ) (nodes : List Node) (start : Tree) (IsFound : Picture → T → Type 0) (result : Result T LeapFault)
     → ((x y : ℤ) → plane.cell cells x y ≡ p x y) → IsLaterTree next p n nodes start
@@ -190,6 +196,7 @@ found_later next p cells n nodes start IsFound result shows is told =
     ok_as result _ _ (λ identity found. (last, picture_after next p cells last n nodes start shows is shown, found)) (told last shown)
 
 -- ---- looks
+
 -- one that goes to the end of its scope
 pub whole_look : (next : List ℕ → ℕ) (cells : Picture) (scope : Scope) (identity : Identity) → 1 ≤ scope.limit → IsIdentity next cells scope.limit identity
     → IsLook next cells scope (record { identity = identity; limit = scope.limit })

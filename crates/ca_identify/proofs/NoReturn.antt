@@ -1,5 +1,5 @@
 -- Patterns that are back at no time: how the plane long after shows that.
-use Rattle.std.proofs.Common.{◌≡◌, ℕ, ◌+◌, ◌-◌, ◌*◌, ◌≤◌, List, refl, sym, ◌∙◌, arith}
+use Rattle.std.proofs.Common.{◌≡◌, ℕ, ◌+◌, ◌-◌, ◌*◌, ◌≤◌, List, [], refl, sym, ◌∙◌, arith}
 use Rattle.std.specs.Prelude.{ℤ, pos, replicate, Option, None, Some, IsTrue, IfSome}
 use Rattle.std.specs.Option.{is_some}
 use Rattle.std.proofs.lemmas.Int.{ints}
@@ -62,6 +62,7 @@ some_ends next cells n None found is few = cc
 some_ends next cells n (Some ending) found is few = (ending, is, few)
 
 -- ---- a tree of the plane some generations on
+
 -- a picture has the box of its cells
 picture_box : (f : ℤ → ℤ → ℕ) (cells : Picture) → ((x y : ℤ) → f x y ≡ cell cells x y) → (box : WideBounds) → IsLeastWideBox f box → IsLeastBox cells (box_of box)
 picture_box f cells same box least = record {

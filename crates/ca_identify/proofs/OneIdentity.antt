@@ -1,5 +1,5 @@
 -- A pattern is found to be one thing at most within a limit, and a file's pattern that or not identified for one cause.
-use Rattle.std.proofs.Common.{◌≡◌, ◌≢◌, ℕ, zero, suc, ◌+◌, ◌-◌, ◌*◌, ◌≤◌, ◌<◌, List, Option, None, Some, refl, sym, ap, ap₂, subst, ◌∙◌, inl, inr, arith}
+use Rattle.std.proofs.Common.{◌≡◌, ◌≢◌, ℕ, zero, suc, ◌+◌, ◌-◌, ◌*◌, ◌≤◌, ◌<◌, List, [], Option, None, Some, refl, sym, ap, ap₂, subst, ◌∙◌, inl, inr, arith}
 use Rattle.std.specs.Prelude.{ℤ, pos, negsuc, ◌+ℤ◌, ◌-ℤ◌, ◌*ℤ◌}
 use Rattle.std.specs.Option.{MatchOption}
 use Rattle.std.proofs.Math.Nat.{suc-mul, mul_comm}
@@ -45,6 +45,7 @@ use Rattle.ca_text.proofs.Truths.{back}
 use Rattle.ca_pattern.proofs.OneMeaning.{one_ruled}
 
 -- ---- multiples
+
 no_less : (k n : ℕ) → 1 ≤ k → n ≤ k * n
 no_less zero n some = absurd (omega (arith, some))
 no_less (suc k) n some = omega (arith, suc-mul k n)
@@ -60,6 +61,7 @@ no_multiple k (negsuc n) some e =
     absurd (omega (arith, none, no_less k (suc n) some))
 
 -- ---- a plane that is empty
+
 -- it has one state everywhere after n generations,
 one_state : (next : List ℕ → ℕ) (n : ℕ) (x y u v : ℤ) → cells_after next (λ _ _. 0) n x y ≡ cells_after next (λ _ _. 0) n u v
 one_state next n x y u v =
@@ -96,6 +98,7 @@ module _ (next : List ℕ → ℕ) (cells : Picture) (live : IsLive cells) where
       (no_multiple m dx some (sym vector.0 ∙ *ℤ-zero (pos n)), no_multiple m dy some (sym vector.1 ∙ *ℤ-zero (pos n)))
 
 -- ---- times
+
 -- two times at which something is shown, and at no earlier one, are one
 one_first : (Shown Hidden : ℕ → Type 0) → ((k : ℕ) → Shown k → Hidden k → ⊥) → (m n : ℕ) → 1 ≤ m → 1 ≤ n → Shown m → Shown n
     → ((k : ℕ) → 1 ≤ k → k < m → Hidden k) → ((k : ℕ) → 1 ≤ k → k < n → Hidden k) → m ≡ n
@@ -107,6 +110,7 @@ one_first Shown Hidden not_both m n first other shows shows_too before before_to
     ]
 
 -- ---- identities
+
 -- the place of an identity in an order
 abbrev place : Identity → ℕ
 place Empty = 0
@@ -196,6 +200,7 @@ one_identity_after next cells n limit a b (p, stands, is) (q, goes, are) =
     one_identity next q limit a b (same_identity next p q (λ x y. sym (stands x y) ∙ goes x y) limit a is) are
 
 -- ---- lines
+
 -- a fault stands on one line, or on none
 one_line_or_none : (First : Type 0) (On : ℕ → Type 0) → ((n : ℕ) → On n → First) → ((m n : ℕ) → On m → On n → m ≡ n) → (a b : Option ℕ)
     → MatchOption a (First → ⊥) On → MatchOption b (First → ⊥) On → a ≡ b
@@ -212,6 +217,7 @@ one_line_of bytes (pattern_fault.Macro f) a b h k =
 one_line_of bytes pattern_fault.Memory a b h k = absurd h
 
 -- ---- files
+
 module _ (bytes : List ℕ) (tables : List TableRule) where
   -- what one thing at most is of cells under a rule, one thing at most is of a file
   pub one_found : (Is : (List ℕ → ℕ) → Picture → Identity → Type 0) → ((next : List ℕ → ℕ) (cells : Picture) (a b : Identity) → Is next cells a → Is next cells b → a ≡ b)

@@ -10,6 +10,7 @@ takes_one old new level n costs d less =
     omega (arith, most)
 
 -- ---- a share of the work
+
 -- the same leaper, with another limit of at least what is used up
 abbrev pub limited : {Rule : Type 0} → LeaperView Rule → ℕ → LeaperView Rule
 limited l limit = record { rule = l.rule; nodes = l.nodes; memo = l.memo; spent = record { used = l.spent.used; limit = max l.spent.used limit } }

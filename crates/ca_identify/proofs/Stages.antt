@@ -50,6 +50,7 @@ changes p q near near_later nowhere =
     ]
 
 -- ---- how far a pattern moves
+
 module _ (next : List ℕ → ℕ) (quiet : next (replicate 9 0) ≡ 0) (p : ℤ → ℤ → ℕ) (box : WideBounds) (least : IsLeastWideBox p box) (n : ℕ) where
   module _ (dx dy : ℤ) (moved : AreMoved p (cells_after next p n) dx dy) where
     -- no farther to the left than n
@@ -73,6 +74,7 @@ module _ (next : List ℕ → ℕ) (quiet : next (replicate 9 0) ≡ 0) (p : ℤ
         (λ u v within inside. omega (arith, ints, within, inside))
 
 -- ---- cells that are the same at every x and y
+
 -- they have one least box
 least_as : (p q : ℤ → ℤ → ℕ) (box : WideBounds) → ((x y : ℤ) → p x y ≡ q x y) → IsLeastWideBox p box → IsLeastWideBox q box
 least_as p q box same least = record {
@@ -125,6 +127,7 @@ start_goes_on next nodes tree quiet is n few = record {
 }
 
 -- ---- one generation on
+
 -- no generation on
 pub first_tree : (next : List ℕ → ℕ) (nodes : List Node) (tree : Tree) → IsStart nodes tree → IsLaterTree next (cell nodes tree) 0 nodes tree
 first_tree next nodes tree is = record { near = near_start nodes tree is; low = let low = is.low in omega (arith, low); trimmed = is.trimmed; shows = λ x y. refl }
@@ -154,6 +157,7 @@ one_more_other next p n before now m some within =
     ]
 
 -- ---- what a step tells of a leaper's first store and rule
+
 module _ {R : Type 0} (next_of : R → List ℕ → ℕ) {rule later : R} (same : later ≡ rule) {s0 s : List Node} (sound : IsSoundStore s0) (grows : Grows s0 s) {first : First} (is : IsFirst s0 first) (n : ℕ) where
   first_same : (x y : ℤ) → cell s first.tree x y ≡ cell s0 first.tree x y
   first_same = trees_stay s0 s sound grows first.tree is.start.is_tree
@@ -178,6 +182,7 @@ module _ {R : Type 0} (next_of : R → List ℕ → ℕ) {rule later : R} (same 
       (subst (λ r. IsStage (cell s first.tree) (cells_after (next_of r) (cell s first.tree) n) stage) same told)
 
 -- ---- walks
+
 -- nothing was looked at yet
 pub first_walk : (next : List ℕ → ℕ) (nodes : List Node) (tree : Tree) → IsStart nodes tree → (walk : Walk) → walk.tree ≡ tree → walk.generations ≡ 0 → AreSquareBoxes nodes walk.boxes
     → IsWalk next (cell nodes tree) nodes walk
@@ -204,6 +209,7 @@ walk_stays next p old new sound grows walk is = record {
 }
 
 -- ---- walks that are halted
+
 -- one that goes on is, where it is
 pub halted_here : (next : List ℕ → ℕ) (p : ℤ → ℤ → ℕ) (nodes : List Node) (walk : Walk) (begun end : ℕ) → begun ≤ walk.generations → walk.generations ≤ end → IsWalk next p nodes walk → IsHalted next p nodes begun end walk
 halted_here next p nodes walk begun end some few is = record { now = is.now; others = is.others; later = some; within = few }
@@ -225,6 +231,7 @@ halted_as next p q nodes walk begun end same is = record {
 }
 
 -- ---- the work that steps take
+
 -- none
 pub no_step : (old new : ℕ) (stages : ℕ → ℤ → ℤ → ℕ) (limit n : ℕ) → new ≡ old → TakesSteps old new stages limit n
 no_step old new stages limit n same level some holds = omega (arith, same)

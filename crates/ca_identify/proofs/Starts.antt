@@ -41,6 +41,7 @@ start_stays old new sound grows tree is =
     }
 
 -- ---- what its plane shows some generations on
+
 module _ (next : List ℕ → ℕ) (p : ℤ → ℤ → ℕ) (n : ℕ) (quiet : next (replicate 9 0) ≡ 0) (within : HoldsAll 62 p) (few : n ≤ 2 ^ 61) where
   -- the live cells lie in a square of 2^63 cells a side
   start_holds : HoldsAll 63 (cells_after next p n)
@@ -55,6 +56,7 @@ module _ (next : List ℕ → ℕ) (p : ℤ → ℤ → ℕ) (n : ℕ) (quiet : 
   start_is_low nodes tree trimmed shows = trimmed_low nodes tree (cells_after next p n) 63 (omega arith) trimmed shows start_holds
 
 -- ---- pictures
+
 -- a picture of a tree some generations on is what the plane has then
 pub picture_after : (next : List ℕ → ℕ) (p : ℤ → ℤ → ℕ) (cells later : Picture) (n : ℕ) (nodes : List Node) (tree : Tree) → ((x y : ℤ) → plane.cell cells x y ≡ p x y)
     → IsLaterTree next p n nodes tree → ShowsTree nodes tree later → (x y : ℤ) → after next cells n x y ≡ plane.cell later x y

@@ -1,5 +1,5 @@
 -- Strides: what the plane at the end of one shows of the generations within it.
-use Rattle.std.proofs.Common.{◌≡◌, ℕ, zero, suc, ◌+◌, ◌-◌, ◌≤◌, ◌<◌, List, ◌∷◌, ◌++◌, length, take, Some, slice_get, inl, inr, refl, sym, subst, ap, ap₂, ◌∙◌, arith}
+use Rattle.std.proofs.Common.{◌≡◌, ℕ, zero, suc, ◌+◌, ◌-◌, ◌≤◌, ◌<◌, List, [], ◌∷◌, ◌++◌, length, take, Some, slice_get, inl, inr, refl, sym, subst, ap, ap₂, ◌∙◌, arith}
 use Rattle.std.specs.Prelude.{ℤ, neg_ℤ, ◌+ℤ◌, ◌-ℤ◌, replicate}
 use Rattle.std.proofs.lemmas.Int.{ints}
 use Rattle.std.proofs.lemmas.Option.{none-some, same_Some}
@@ -78,6 +78,7 @@ module _ (next : List ℕ → ℕ) (p : ℤ → ℤ → ℕ) where
       picture_nowhere next p cells shows q nowhere u v (settles_alike next cells settled m j q u v (some, dx, dy, picture_moved next p cells shows m dx dy back) there again)
 
 -- ---- the first planes
+
 -- what holds of each element by its place, with one more at the end
 pushed_at : {X : Type 0} (P : ℕ → X → Type 0) (xs : List X) (x : X) → ((k : ℕ) (y : X) → slice_get xs k ≡ Some y → P k y) → P (length xs) x → (k : ℕ) (y : X) → slice_get (xs ++ x ∷ []) k ≡ Some y → P k y
 pushed_at P [] x all here zero y is = subst (P 0) (same_Some x y is) here
@@ -106,6 +107,7 @@ early_as next p q nodes same planes are = λ k plane at.
     record { is_first = is.is_first; shows = λ x y. is.shows x y ∙ after_same next p q k same x y }
 
 -- ---- elements of lists by their places
+
 -- each place has one
 pub element_at : {X : Type 0} (xs : List X) (k : ℕ) → k < length xs → (y : X) × (slice_get xs k ≡ Some y)
 element_at [] k less = absurd (omega (arith, less))
@@ -127,6 +129,7 @@ at_part (x ∷ xs) (suc n) zero y less is = is
 at_part (x ∷ xs) (suc n) (suc k) y less is = at_part xs n k y (omega (arith, less)) is
 
 -- ---- the tree at a stride's end
+
 -- later cells that the first ones are moved onto by no vector, over cells that are the same
 pub nowhere_as : (p q f g : ℤ → ℤ → ℕ) → ((x y : ℤ) → p x y ≡ f x y) → ((x y : ℤ) → q x y ≡ g x y) → AreMovedNowhere p q → AreMovedNowhere f g
 nowhere_as p q f g first later nowhere = λ dx dy moved. nowhere dx dy (λ x y. later x y ∙ moved x y ∙ sym (first (x -ℤ dx) (y -ℤ dy)))

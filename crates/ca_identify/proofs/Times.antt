@@ -19,6 +19,7 @@ same_far a b c d far wide_a wide_b wide_c wide_d one two =
     ap (of_z w128) (ap₂ (λ u v. u -ℤ v) (wide_reads a wide_a) (wide_reads b wide_b) ∙ sym one ∙ two ∙ sym (ap₂ (λ u v. u -ℤ v) (wide_reads c wide_c) (wide_reads d wide_d)))
 
 -- ---- how far apart the sides of boxes are
+
 -- a number of few digits reads so
 pub number_reads : (n : ℤ) (m : ℕ) → n ≡ pos m → m < 2 ^ 64 → to_z w128 (of_z w128 n) ≡ n
 number_reads n m is few = let fits : FitsSigned w128 n = omega (arith, ints, is, few) in to_z-of_z w128 n fits

@@ -1,5 +1,5 @@
 -- Planes some generations on: where they are live, what states they have, and what is told and written of them.
-use Rattle.std.proofs.Common.{◌≡◌, ℕ, zero, suc, ◌<◌, ◌≤◌, ◌^◌, List, ◌∷◌, length, refl, sym, ap, ◌∙◌, inl, inr, arith, true, false, Bool, ◌&&◌}
+use Rattle.std.proofs.Common.{◌≡◌, ℕ, zero, suc, ◌<◌, ◌≤◌, ◌^◌, List, [], ◌∷◌, length, refl, sym, ap, ◌∙◌, inl, inr, arith, true, false, Bool, ◌&&◌}
 use Rattle.std.specs.Prelude.{ℤ, ◌⊎◌, replicate, if◌then◌else◌}
 use Rattle.std.specs.List.{All}
 use Rattle.std.specs.Ordering.{int_eq}
@@ -31,6 +31,7 @@ use Rattle.ca_pattern.proofs.FilesRead.{All-each}
 use Rattle.ca_pattern.proofs.CellsNearMiddle.{range_held, later_held, trimmed_low}
 
 -- ---- where they are live
+
 module _ (next : List ℕ → ℕ) (p : ℤ → ℤ → ℕ) (n : ℕ) (quiet : next (replicate 9 0) ≡ 0) (range : AreInRange p) (few : n ≤ 2 ^ 60) where
   -- few generations after cells in range the live ones lie in a square of 2^62 cells a side
   pub later_holds : HoldsAll 62 (cells_after next p n)
@@ -41,6 +42,7 @@ module _ (next : List ℕ → ℕ) (p : ℤ → ℤ → ℕ) (n : ℕ) (quiet : 
   later_is_low nodes tree trimmed shows = trimmed_low nodes tree (cells_after next p n) 62 (omega arith) trimmed shows later_holds
 
 -- ---- what states they have
+
 -- states below a number stay below it, where nine of them lead to such a one
 pub later_small : (next : List ℕ → ℕ) (p : ℤ → ℤ → ℕ) (k : ℕ) → ((nine : List ℕ) → length nine ≡ 9 → All (λ s. s < k) nine → next nine < k)
     → ((x y : ℤ) → p x y < k) → (n : ℕ) (x y : ℤ) → cells_after next p n x y < k
@@ -51,6 +53,7 @@ later_small next p k closed small (suc n) x y =
     (All-each (λ s. s < k) (around (cells_after next p n) x y) (before _ _, (before _ _, (before _ _, (before _ _, (before _ _, (before _ _, (before _ _, (before _ _, (before _ _, tt))))))))))
 
 -- ---- boxes
+
 module _ (cells : ℤ → ℤ → ℕ) where
   pub box_out_of_range : (box : WideBounds) → IsLeastWideBox cells box → IsBoxOutOfRange box → HasCellOutOfRange cells
   box_out_of_range box least (inl h) = (box.x0, least.left.0, least.left.1, λ i. absurd (omega (arith, ints, h, i.0)))
@@ -63,6 +66,7 @@ module _ (f g : ℤ → ℤ → ℕ) (same : (x y : ℤ) → f x y ≡ g x y) wh
   range_shown range x y live = range x y (λ dead. live (sym (same x y) ∙ dead))
 
 -- ---- pictures of cells
+
 module _ (f : ℤ → ℤ → ℕ) where
   -- the picture that lists these places, each with its state
   abbrev pub listed : List Point → Picture
@@ -107,6 +111,7 @@ module _ (f : ℤ → ℤ → ℕ) where
   picture_of count has = (listed has.0, picture_of_places has.0 has.1)
 
 -- ---- low trees
+
 -- the sides of their boxes are those of a plane's cells
 pub near_bounds : (nodes : List Node) → IsSoundStore nodes → (tree : Tree) → IsLowTree nodes tree → (box : WideBounds) → IsLeastWideBox (trees.cell nodes tree) box → AreNearBounds box
 near_bounds nodes sound tree is box least =

@@ -1,4 +1,4 @@
--- Trees as a leaper goes on: what was known of them stays, and what the pictures that they show have after some generations.
+-- Trees as a leaper goes on: what was known of them stays.
 use Rattle.std.proofs.Common.{List, Result, Ok, Err, sym, ◌∙◌}
 use Rattle.std.specs.Prelude.{IfOk}
 use Rattle.ca_plane.specs.Plane.{Picture}
@@ -11,6 +11,7 @@ use Rattle.ca_quad.proofs.Trims.{trees_stay}
 use Rattle.ca_pattern.specs.PatternTrees.{ShowsTree, IsPattern, IsNearTree}
 
 -- ---- the store grows
+
 module _ (old new : List Node) (sound : IsSoundStore old) (grows : Grows old new) where
   pub shows_stays : (tree : Tree) (p : Picture) → IsTree old tree → ShowsTree old tree p → ShowsTree new tree p
   shows_stays tree p is shows = λ x y. shows x y ∙ sym (trees_stay old new sound grows tree is x y)
@@ -30,7 +31,6 @@ module _ (old new : List Node) (sound : IsSoundStore old) (grows : Grows old new
     range = λ x y live. h.range x y (λ z. live (trees_stay old new sound grows tree h.is_tree x y ∙ z));
   }
 
--- ---- pictures that are shown
 -- what follows of an `Ok`
 pub ok_as : {T E : Type 0} (r : Result T E) (P Q : T → Type 0) → ((t : T) → P t → Q t) → IfOk r P → IfOk r Q
 ok_as (Ok t) P Q turn h = turn t h

@@ -23,6 +23,7 @@ use Rattle.ca_pattern.proofs.OneMeaning.{reads_without_fault, one_fault_of, one_
 use Rattle.ca_pattern.proofs.PicturePopulations.{population-le}
 
 -- ---- causes
+
 module _ (bytes : List ℕ) (tables : List TableRule) where
   -- bytes of small states have no cause without a summary
   pub ready_or_fault : (p : Picture) (r : RuleValue) (g : ℕ) (fault : ConvertFault) → fault ≢ Memory → HoldsRuledPattern bytes tables p r g → HasSmallStates r (cell p) → IsSummaryFault bytes tables fault → ⊥
@@ -49,6 +50,7 @@ module _ (bytes : List ℕ) (tables : List TableRule) where
   one_summary_fault StateTooLarge StateTooLarge m n a b = refl
 
 -- ---- conversions
+
 -- a text of a format that reads, and what it means
 pub few_shown : (format : Format) (text : List ℕ) (shown : Picture) (rule_text : List ℕ) (generation : ℕ) → format ≡ Rle → IsReadableAs format text → MeansAs format text shown rule_text generation
     → length shown ≤ most_cells
@@ -96,6 +98,7 @@ module _ (bytes : List ℕ) (tables : List TableRule) (target : Format) where
   one_convert_fault StateTooLarge StateTooLarge m n a b = refl
 
 -- ---- summaries
+
 -- a box that holds all live cells goes as far as another, on whose sides some lie
 box_within : (p : Picture) (a b : Bounds) → IsLeastBox p a → IsLeastBox p b → (a.x0 ≤ℤ b.x0) × (b.x1 ≤ℤ a.x1) × (a.y0 ≤ℤ b.y0) × (b.y1 ≤ℤ a.y1)
 box_within p a b one two =

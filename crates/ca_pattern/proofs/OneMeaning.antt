@@ -12,7 +12,6 @@ use Rattle.ca_macro.specs.Shown as macrocell_shown
 use Rattle.ca_macro.proofs.OneMeaning as macrocell
 use Rattle.ca_pattern.specs.declared.pattern_fault.PatternFault.{PatternFault}
 use Rattle.ca_pattern.specs.declared.pattern_fault.PatternFault.TheVariants as pattern_fault
-use Rattle.ca_pattern.specs.declared.cause.Cause.TheVariants.{Memory}
 use Rattle.ca_pattern.specs.declared.format.Format.{Format}
 use Rattle.ca_pattern.specs.declared.format.Format.TheVariants as formats
 use Rattle.ca_pattern.specs.Means.{format_of, MeansAs, Means, IsReadableAs, IsReadable, HoldsRuledPattern, HasRuleFault}
@@ -20,6 +19,7 @@ use Rattle.ca_pattern.specs.Faults.{IsPatternFault}
 use Rattle.ca_pattern.specs.States.{HasLargeState, HasSmallStates}
 
 -- ---- one meaning
+
 -- bytes of a format mean one picture, one rule text and one generation
 one_meaning_as : (format : Format) (bytes : List ℕ) (p q : Picture) (t u : List ℕ) (g h : ℕ) → MeansAs format bytes p t g → MeansAs format bytes q u h → (p ≡ q) × (t ≡ u) × (g ≡ h)
 one_meaning_as formats.Rle bytes p q t u g h a b =
@@ -34,6 +34,7 @@ pub one_meaning : (bytes : List ℕ) (p q : Picture) (t u : List ℕ) (g h : ℕ
 one_meaning bytes p q t u g h a b = one_meaning_as (format_of bytes) bytes p q t u g h a b
 
 -- ---- one fault
+
 -- bytes that read have no fault
 pub reads_without_fault : (bytes : List ℕ) (fault : PatternFault) → IsReadable bytes → IsPatternFault bytes fault → ⊥
 reads_without_fault bytes (pattern_fault.Rle fault) reads wrong =

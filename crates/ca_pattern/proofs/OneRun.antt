@@ -32,6 +32,7 @@ use Rattle.ca_pattern.proofs.PicturePopulations.{population-le}
 use Rattle.ca_pattern.proofs.OneMeaning.{one_ruled}
 
 -- ---- pictures
+
 -- bounds round the live cells of a picture are so round those of one that shows the same
 bounds_as : (p q : Picture) → IsSame p q → (found : Option Bounds) → MatchOption found (IsLive p → ⊥) (IsLeastBox p) → MatchOption found (IsLive q → ⊥) (IsLeastBox q)
 bounds_as p q same None dead = λ live. dead (live.0, live.1, λ e. live.2 (sym (same live.0 live.1) ∙ e))

@@ -1,4 +1,4 @@
--- The patterns of files that were read into a store, and what they say of the files' paths.
+-- Pattern files that read and that don't, and what is listed of a plane.
 use Rattle.std.proofs.Common.{◌≡◌, ℕ, ◌≤◌, ◌<◌, List, get_or, Option, inr, sym, subst, ◌∙◌, arith}
 use Rattle.std.specs.List.{All}
 use Rattle.ca_plane.specs.declared.point.Point.{Point}
@@ -17,6 +17,7 @@ use Rattle.ca_pattern.specs.Faults.{IsPatternFault, IsPatternFaultOn}
 use Rattle.ca_pattern.specs.States.{HasSmallStates}
 
 -- ---- files that read
+
 -- memory may run out for them
 reads_may_want_as : (format : Format) (bytes : List ℕ) → IsReadableAs format bytes → MayWantMemoryAs format bytes
 reads_may_want_as Rle bytes reads = reads
@@ -26,6 +27,7 @@ pub reads_may_want : (bytes : List ℕ) → IsReadable bytes → MayWantMemory b
 reads_may_want bytes reads = reads_may_want_as (format_of bytes) bytes reads
 
 -- ---- files that don't
+
 -- a fault on a line is a fault
 pub fault_on : (bytes : List ℕ) (fault : PatternFault) (line : Option ℕ) → IsPatternFaultOn bytes fault line → IsPatternFault bytes fault
 fault_on bytes (pattern_fault.Rle fault) line on = (on.0, on.1, on.2.0)

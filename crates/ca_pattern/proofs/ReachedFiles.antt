@@ -35,6 +35,7 @@ use Rattle.ca_pattern.proofs.EqualCells.{many_shown, population_shown}
 use Rattle.ca_pattern.proofs.WrittenForms.{file_begins}
 
 -- ---- what is reached
+
 module _ (bytes : List ℕ) (tables : List TableRule) (n : ℕ) (reached : Reached) (is : IsReached bytes tables n reached) where
   abbrev rule : RuleValue
   rule = rule_value reached.rule
@@ -76,6 +77,7 @@ module _ (bytes : List ℕ) (tables : List TableRule) (n : ℕ) (reached : Reach
   reached_unwritten work target range Memory h = reached_wants_memory
 
 -- ---- from the file
+
 module _ (nodes : List Node) (bytes : List ℕ) (tables : List TableRule) (ruled : RuledPattern) (ready : IsReady nodes bytes tables ruled) where
   abbrev pub first : ℤ → ℤ → ℕ
   first = trees.cell nodes ruled.pattern.tree

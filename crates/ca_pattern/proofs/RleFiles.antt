@@ -42,6 +42,7 @@ module _ (bytes : List ℕ) (file : RleFile) (f : ℤ → ℤ → ℕ) (rule_tex
   }
 
 -- ---- a text that was judged
+
 module _ (bytes : List ℕ) (text : RleText) (is : IsRleText bytes text) where
   -- the text's picture
   abbrev pub text_picture : Picture

@@ -7,6 +7,7 @@ use Rattle.ca_plane.proofs.Shifts.{cell-shifted}
 use Rattle.ca_run.proofs.Vectors.{no_vector}
 
 -- ---- the vector of a return
+
 -- where a picture shows the same moved by either vector, it shows what it does moved by their difference
 by_difference : (p : Picture) (dx dy u v : ℤ) → IsSame (shifted p dx dy) (shifted p u v) → IsSame p (shifted p (u -ℤ dx) (v -ℤ dy))
 by_difference p dx dy u v same = λ x y.

@@ -32,6 +32,7 @@ use Rattle.ca_pattern.proofs.FilesRead.{in_format}
 use Rattle.ca_pattern.proofs.EqualCells.{small_shown, many_shown}
 
 -- ---- the format
+
 -- a tidy RLE begins with `#`
 tidy_is_rle : (text : List ℕ) (cells : Picture) (rule_text : List ℕ) (generation states : ℕ) → rle.IsTidyRle text cells rule_text generation states → format_of text ≡ Rle
 tidy_is_rle text cells rule_text generation states tidy = ap format_of tidy.spelled ∙ refl
@@ -41,6 +42,7 @@ file_is_macro : (text : List ℕ) (file : macrocell_file.MacrocellFile) → macr
 file_is_macro text file is = rw is.begins refl
 
 -- ---- an RLE
+
 -- a plane that was made of a tree is its plane
 pub plane_is : (nodes : List Node) (tree : Tree) (found : Option Picture) (picture : Picture) → found ≡ Some picture
     → MatchOption found (HasTooManyCells (cell nodes tree)) (IsPlaneOf nodes tree) → IsPlaneOf nodes tree picture
@@ -97,6 +99,7 @@ module _ (f g : ℤ → ℤ → ℕ) (same : (x y : ℤ) → f x y ≡ g x y) wh
   unwritten_err (Err e) h = unwritten e h
 
 -- ---- a macrocell
+
 -- a text that is tidy for cells is so for the same cells
 module _ (f g : ℤ → ℤ → ℕ) (same : (x y : ℤ) → f x y ≡ g x y) where
   pub tidy_shown : (text rule_text : List ℕ) (generation states : ℕ) → macrocell.IsTidyMacrocell text f rule_text generation states → macrocell.IsTidyMacrocell text g rule_text generation states

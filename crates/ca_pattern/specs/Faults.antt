@@ -8,7 +8,6 @@ use Rattle.ca_macro.specs.Faults as macrocell_faults
 use Rattle.ca_macro.specs.declared.fault.MacroFault.TheVariants as macrocell_fault
 use Rattle.ca_pattern.specs.declared.format.Format.TheVariants as formats
 use Rattle.ca_pattern.specs.declared.pattern_fault.PatternFault.TheVariants as pattern_fault
-use Rattle.ca_pattern.specs.declared.cause.Cause.TheVariants.{Memory}
 use Rattle.ca_pattern.specs.Means.{format_of}
 
 -- the fault for which the bytes of a pattern aren't read; out of memory is none of them

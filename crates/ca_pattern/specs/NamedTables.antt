@@ -7,7 +7,6 @@ use Rattle.ca_rule.specs.TableText.{IsTable}
 use Rattle.ca_rule.specs.TableFaults as table_faults
 use Rattle.ca_rule.specs.declared.table.fault.TableFault.{TableFault}
 use Rattle.ca_rule.specs.declared.table.fault.TableFault.TheVariants as table_fault
-use Rattle.ca_pattern.specs.declared.cause.Cause.TheVariants.{Memory}
 
 -- the bytes are the text of this table, which leaves the empty plane empty
 abbrev pub IsQuietTable : List ℕ → TableRule → Type 0

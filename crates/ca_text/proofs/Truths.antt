@@ -8,7 +8,6 @@ use Rattle.ca_text.specs.declared.asks.Forbidden.{Forbidden}
 use Rattle.ca_text.specs.declared.asks.Forbidden.TheVariants.{Nothing, InPlace, Anywhere, EmptyPlane}
 use Rattle.ca_text.specs.Truth.{ShowsNothingForbidden, MayReturnBy}
 
--- ---- a claim is true or there is a reason against it, not both
 -- a pattern that is back by a vector that counts is back
 pub back : (next : List ℕ → ℕ) (cells : Picture) (forbidden : Forbidden) (m : ℕ) (dx dy : ℤ) → MayReturnBy forbidden dx dy → IsAfter next cells m (shifted cells dx dy) → ShowsNothingForbidden next cells forbidden m → ⊥
 back next cells Nothing m dx dy may h not = may

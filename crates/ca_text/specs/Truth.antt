@@ -1,5 +1,5 @@
 -- Which claims are true of pictures under a rule (our own; docs/CLAIMS.md).
-use Rattle.std.specs.Prelude.{◌≡◌, ◌≢◌, ℕ, ◌≤◌, ◌<◌, ℤ, pos, List, IsTrue}
+use Rattle.std.specs.Prelude.{◌≡◌, ◌≢◌, ℕ, ◌≤◌, ◌<◌, ℤ, pos, List, [], IsTrue}
 use Rattle.ca_plane.specs.Plane.{Picture, cell, shifted, IsLive}
 use Rattle.ca_plane.specs.Generations.{after, IsAfter, IsLiveAfter}
 use Rattle.ca_text.specs.declared.asks.Asks.{Asks}

@@ -1,5 +1,5 @@
 -- Rule lines that are added after others: verdicts stay.
-use Rattle.std.proofs.Common.{◌≡◌, ◌≢◌, ℕ, List, ◌∷◌, ◌++◌, Some, inl, inr, refl, ap, ◌∙◌}
+use Rattle.std.proofs.Common.{◌≡◌, ◌≢◌, ℕ, List, [], ◌∷◌, ◌++◌, Some, inl, inr, refl, ap, ◌∙◌}
 use Rattle.std.specs.List.{AllByRecursion}
 use Rattle.std.specs.Str.{bytes_eq}
 use Rattle.std.specs.Option.{option_or}
@@ -20,6 +20,7 @@ use Rattle.ca_text.specs.SomeOf.{SomeOf}
 use Rattle.ca_verify.specs.Answers.{AreTables, IsRuled, IsMissing, IsThere, HoldsTable, HasRule, IsSmall, FirstBad, HaveOtherRules, FilesAreThere, AgreeOn, HasCause, IsGoodPattern, AreGood, IsJudged, IsBadTable, IsUnnamed, IsLarge, IsTrueVerdict}
 
 -- ---- lists
+
 -- what holds of some holds of some of a longer list
 some_longer : {X : Type 0} (P : X → Type 0) (xs ys : List X) → SomeOf P xs → SomeOf P (xs ++ ys)
 some_longer P [] ys some = absurd some
@@ -52,6 +53,7 @@ first_as Good Right Bad Wrong f g (x ∷ xs) (inl here) = inl (g x here)
 first_as Good Right Bad Wrong f g (x ∷ xs) (inr later) = inr (f x later.0, first_as Good Right Bad Wrong f g xs later.1)
 
 -- ---- names
+
 -- the first table of a name is the first still
 first_stays : (name : List ℕ) (tables more : List TableRule) (table : TableRule) → first_named name tables ≡ Some table → first_named name (tables ++ more) ≡ Some table
 first_stays name tables more table h = find-append (λ (t : TableRule). bytes_eq t.name name) tables more ∙ ap (λ o. option_or o (first_named name more)) h
@@ -100,6 +102,7 @@ module _ (tables more : List TableRule) where
     all_good_stay (p ∷ q ∷ r ∷ ps) cells other rule h = h
 
 -- ---- verdicts
+
 module _ (files : List (List ℕ × List ℕ)) where
   -- tables of one list and of another are tables of both together
   both_tables : (rules more : List (List ℕ)) (tables : List TableRule) → AreTables files rules tables → AllByRecursion (HoldsTable files) more → (added : List TableRule) × AreTables files (rules ++ more) (tables ++ added)

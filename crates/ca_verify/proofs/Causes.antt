@@ -1,5 +1,5 @@
 -- Why a claim isn't judged, and its verdict where it is, from the patterns of its files.
-use Rattle.std.proofs.Common.{◌≡◌, ℕ, zero, suc, ◌<◌, List, ◌∷◌, map, length, get_or, Bor, Option, Some, None, Result, refl, sym, ap, subst, ◌∙◌, inl, inr, arith}
+use Rattle.std.proofs.Common.{◌≡◌, ℕ, zero, suc, ◌<◌, List, [], ◌∷◌, map, length, get_or, Bor, Option, Some, None, Result, refl, sym, ap, subst, ◌∙◌, inl, inr, arith}
 use Rattle.std.specs.Prelude.{IfSome}
 use Rattle.std.specs.List.{AllByRecursion, AllZip}
 use Rattle.std.specs.Option.{option_copied}
@@ -71,6 +71,7 @@ use Rattle.ca_verify.proofs.Parts.{first_part, zip_part}
 use Rattle.ca_verify.proofs.PairedLists.{some_first, zip_left, zip_beside, zip_first, zip_front, zip_through}
 
 -- ---- the paths of a claim's patterns
+
 -- what is each once stays so
 once_map : {P Q : Type 0} (f : P → Q) (each all : List P) → IsEachOnce each all → IsEachOnce (map f each) (map f all)
 once_map f each all (inl same) = inl (ap (map f) same)
@@ -122,6 +123,7 @@ module _ (files : List (List ℕ × List ℕ)) (paths : List (List ℕ)) (found 
           ((none.0.0.now, bytes_found files paths found i (Some none.0.0) same all.0 none.0.1), bytes_found files paths found k None same all.1.0 none.1)
 
 -- ---- what is said of each path is said of all
+
 module _ (files : List (List ℕ × List ℕ)) (tables : List TableRule) where
   judged_twice : (path : List ℕ) (cells other : Picture) (rule : RuleValue) → AreGood files tables (path ∷ []) cells other rule → AreGood files tables (path ∷ path ∷ []) cells other rule
   judged_twice path cells other rule one = (one.0, rule, subst (λ o. IsGoodPattern files tables path o rule) (sym one.1) one.0, same-refl rule)
@@ -156,11 +158,13 @@ passed_on Holds Refuses r e h holds =
     subst (λ o. MatchResult o Holds Refuses) (sym p.1) (subst Refuses (sym p.2) holds)
 
 -- ---- files that are there
+
 -- the files of paths with these bytes are there
 pub all_there : (files : List (List ℕ × List ℕ)) (paths : List (List ℕ)) (there : List (Bor (List ℕ))) → AllZip (λ path b. bytes_at files path ≡ Some b.now) paths there → AllByRecursion (IsThere files) paths
 all_there files = zip_left (λ path b. bytes_at files path ≡ Some b.now) (IsThere files) (λ path b e. (b.now, e))
 
 -- ---- patterns that were read
+
 module _ (nodes : List Node) (files : List (List ℕ × List ℕ)) where
   -- the patterns of files that were read
   pub read_at : (paths : List (List ℕ)) (there : List (Bor (List ℕ))) (patterns : List Loaded) → AllZip (λ path b. bytes_at files path ≡ Some b.now) paths there
@@ -204,6 +208,7 @@ both_are_patterns nodes (a ∷ []) subject all both = (subst (IsPattern nodes) (
 both_are_patterns nodes (a ∷ b ∷ patterns) subject all both = (subst (IsPattern nodes) (sym both.0) all.0, subst (IsPattern nodes) (sym both.1) all.1.0)
 
 -- ---- causes and verdicts, where the tables are good
+
 judged_of_all : (files : List (List ℕ × List ℕ)) (tables : List TableRule) (each all : List (List ℕ)) (cells other : Picture) (rule : RuleValue)
     → IsEachOnce each all → AreGood files tables each cells other rule → AreGood files tables all cells other rule
 judged_of_all files tables each all cells other rule (inl same) h = subst (λ l. AreGood files tables l cells other rule) (sym same) h
@@ -508,6 +513,7 @@ true_verdict files rules at limits claim paths prepared verdict once is fit spen
     }
 
 -- ---- what is judged is fit for it
+
 module _ (nodes : List Node) where
   pub all_fit : (patterns : List RuledPattern) (limits : Limits) (prepared : PreparedClaim) → nodes ≡ prepared.leaper.nodes → AllByRecursion (λ r. IsPattern nodes r.pattern.tree) patterns → AreBoth patterns prepared.subject
       → prepared.leaper.spent.used ≡ 0 → HasLimits limits prepared.leaper → IsFit limits prepared

@@ -1,4 +1,4 @@
--- By which vector a tree can be another one, moved: the one between the corners of their least boxes.
+-- Patterns in range: a shift moves no cell out of a plane's square, and their corners are shifts.
 use Rattle.std.proofs.Common.{ℕ, arith}
 use Rattle.std.specs.Prelude.{ℤ, ◌-ℤ◌}
 use Rattle.std.proofs.lemmas.Int.{ints}

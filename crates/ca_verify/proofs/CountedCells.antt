@@ -1,5 +1,5 @@
 -- Whether an empty picture has few cells.
-use Rattle.std.proofs.Common.{◌≡◌, ◌≢◌, List, ◌∷◌, length, refl, sym, arith, rules}
+use Rattle.std.proofs.Common.{◌≡◌, ◌≢◌, List, [], ◌∷◌, length, refl, sym, arith, rules}
 use Rattle.std.specs.List.{AllByRecursion}
 use Rattle.ca_plane.specs.declared.point.Point.{Point}
 use Rattle.ca_plane.specs.Plane.{cell}

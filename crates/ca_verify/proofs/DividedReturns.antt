@@ -65,6 +65,7 @@ module _ (next : List ℕ → ℕ) (s0 s1 : List Node) (case : Case) (forbids : 
       subst (λ b. MatchOption back (ShowsNothingForbidden next cells b m) (IsBackBy next cells b m)) (sym place) (anywhere next cells m s1 end pattern back ends later told)
 
 -- ---- the pattern at one time
+
 -- in its place
 in_place : (next : List ℕ → ℕ) (cells : Picture) (forbidden : Forbidden) (n : ℕ) (p q : ℤ → ℤ → ℕ) (back : Option (ℤ × ℤ)) → ForbidsReturns forbidden → forbidden ≢ Anywhere
     → ((x y : ℤ) → after next cells n x y ≡ p x y) → ((x y : ℤ) → cell cells x y ≡ q x y)
@@ -78,6 +79,7 @@ in_place next cells InPlace n p q (Some v) some place ends shows told =
     ((told.0, told.1), λ x y. ends x y ∙ told.2 x y ∙ sym (shows x y) ∙ sym (unmoved cells v.0 v.1 x y told.0 told.1))
 
 -- ---- the primes of the time
+
 -- what is shown at no multiple of a time isn't shown at that time
 spared_once : (next : List ℕ → ℕ) (p : Picture) (forbidden : Forbidden) (k m : ℕ) → ForbidsReturns forbidden → ShowsNothingForbidden next p forbidden (k * m) → ShowsNothingForbidden next p forbidden m
 spared_once next p Nothing k m some spared = absurd some

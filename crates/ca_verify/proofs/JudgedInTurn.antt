@@ -1,5 +1,5 @@
 -- Claims that were judged one after another.
-use Rattle.std.proofs.Common.{◌≡◌, ◌≢◌, ℕ, ◌+◌, suc, length, arith, List, ◌∷◌, ◌++◌, drop, slice_get, Some, Result, Ok, Err, OnErr, add-one, refl, sym, ap, subst, ◌∙◌}
+use Rattle.std.proofs.Common.{◌≡◌, ◌≢◌, ℕ, ◌+◌, suc, length, arith, List, [], ◌∷◌, ◌++◌, drop, slice_get, Some, Result, Ok, Err, OnErr, add-one, refl, sym, ap, subst, ◌∙◌}
 use Rattle.std.proofs.Math.Seq.{drop-cons}
 use Rattle.std.proofs.lemmas.List.{append_assoc}
 use Rattle.std.proofs.lemmas.Option.{slice_get_within, get_or_from_slice_get}

@@ -1,4 +1,4 @@
--- Trees as a leaper goes on: what was known of them stays, and what the pictures that they show have after some generations.
+-- What is judged as a leaper goes on: it stays so; and what the pictures that trees show have after some generations.
 use Rattle.std.proofs.Common.{◌≡◌, ℕ, List, Option, Some, None, MatchOption, refl, sym, subst, ◌∙◌}
 use Rattle.std.specs.Prelude.{ℤ, ◌-ℤ◌, IsNone}
 use Rattle.ca_plane.specs.Plane.{Picture, shifted}
@@ -24,7 +24,7 @@ use Rattle.ca_pattern.specs.PatternTrees.{ShowsTree, HasLive, IsEndTree}
 use Rattle.ca_verify.specs.inner.Subjects.{IsCase, ForbidsReturn, ForbidsDeath, AreShown, IsDifference}
 use Rattle.ca_pattern.proofs.LeaptTrees.{pattern_stays, shows_stays}
 
--- the same of what is judged
+-- what is judged stays so as the store grows
 module _ (old new : List Node) (sound : IsSoundStore old) (grows : Grows old new) where
   pub case_stays : (case : Case) → IsCase old case → IsCase new case
   case_stays case h = record {
@@ -52,8 +52,8 @@ module _ (old new : List Node) (sound : IsSoundStore old) (grows : Grows old new
 
   pub shown_stays : (subject : ClaimTrees) → IsTree old subject.pattern → IsTree old subject.other → (cells other : Picture) → AreShown old subject cells other → AreShown new subject cells other
   shown_stays subject one two cells other shown = record {
-    one = shows_stays subject.pattern cells one shown.one;
-    two = shows_stays subject.other other two shown.two;
+    one = shows_stays old new sound grows subject.pattern cells one shown.one;
+    two = shows_stays old new sound grows subject.other other two shown.two;
   }
 
 -- a tree that shows another one's cells, moved, shows a picture of that one, moved

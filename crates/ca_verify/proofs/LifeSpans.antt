@@ -1,5 +1,5 @@
 -- After how many generations a live pattern is dead, found between a time at which it lives and one at which it is dead.
-use Rattle.std.proofs.Common.{◌≡◌, ℕ, ◌-◌, ◌≤◌, ◌<◌, List, sym, ap, subst, ◌∙◌, arith}
+use Rattle.std.proofs.Common.{◌≡◌, ℕ, ◌-◌, ◌≤◌, ◌<◌, List, [], sym, ap, subst, ◌∙◌, arith}
 use Rattle.std.specs.Prelude.{ℤ, replicate}
 use Rattle.ca_plane.specs.Plane.{Picture}
 use Rattle.ca_plane.specs.Generations.{after, IsAfter}
@@ -26,6 +26,7 @@ module _ (next : List ℕ → ℕ) (nodes : List Node) (case : Case) where
   }
 
 -- ---- a time between that is tried
+
 module _ {R : Type 0} (next_of : R → List ℕ → ℕ) (rule later : R) (same : later ≡ rule) (s0 s1 s2 s : List Node) (case : Case) (sound : IsSoundStore s0) (grows : Grows s0 s1) (kept : s ≡ s2)
     (forbids : ForbidsDeath s0 case) (low high : ℕ) (bounds : AreLifeBounds (next_of rule) s0 case low high) (middle : ℕ) (above : low < middle) (below : middle < high) (end : Tree)
     (is : IsEndTree (next_of later) s1 case.subject.pattern middle s2 end) where

@@ -16,6 +16,7 @@ use Rattle.ca_verify.proofs.Verdicts.{dead}
 use Rattle.ca_pattern.proofs.Vectors.{one_vector}
 
 -- ---- the time of a return
+
 -- of two first returns neither is the earlier
 no_earlier : (next : List ℕ → ℕ) (cells other : Picture) (asks : Asks) (m n : ℕ) (dx dy u v : ℤ) → IsReason next cells other asks (Earlier m dx dy)
     → IsReason next cells other asks (Earlier n u v) → m < n → ⊥
@@ -44,6 +45,7 @@ one_death next cells other asks m n one two =
     ]
 
 -- ---- the kinds
+
 -- where a cell isn't the claimed one, the claimed cells don't stand
 not_both : (next : List ℕ → ℕ) (cells other : Picture) (asks : Asks) (x y : ℤ) (found expected n : ℕ)
     → IsReason next cells other asks (Differs x y found expected n) → IsAfter next cells asks.generations (claimed_cells asks cells other) → ⊥

@@ -1,5 +1,5 @@
 -- Lists whose elements belong together, one by one: what holds of the one holds of the other.
-use Rattle.std.proofs.Common.{◌≡◌, ℕ, zero, suc, ◌+◌, List, ◌∷◌, ◌++◌, take, slice_get, Some, add-one, inl, inr, ap, subst, sym, arith}
+use Rattle.std.proofs.Common.{◌≡◌, ℕ, zero, suc, ◌+◌, List, [], ◌∷◌, ◌++◌, take, slice_get, Some, add-one, inl, inr, ap, subst, sym, arith}
 use Rattle.std.specs.List.{All, AllByRecursion, AllZip}
 use Rattle.std.proofs.Math.Seq.{take-suc}
 use Rattle.std.proofs.lemmas.Option.{same_Some, none-some, slice_get_within, get_or_from_slice_get}
@@ -68,6 +68,7 @@ each-All P [] h = tt
 each-All P (x ∷ xs) h = (h zero x (omega arith), each-All P xs (λ k d l. h (suc k) d (omega arith)))
 
 -- ---- lists that are gone through from the left
+
 -- the first elements and the next one
 take-more : {X : Type 0} (xs : List X) (i : ℕ) (x : X) → slice_get xs i ≡ Some x → take (i + 1) xs ≡ take i xs ++ x ∷ []
 take-more xs i x e =

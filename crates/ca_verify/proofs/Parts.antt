@@ -1,5 +1,5 @@
 -- One of a claim's one or two patterns, which is bad, after one that is good.
-use Rattle.std.proofs.Common.{ℕ, List, ◌∷◌, Option, Vec, Global, inl, inr, sym, subst}
+use Rattle.std.proofs.Common.{ℕ, List, [], ◌∷◌, Option, Vec, Global, inl, inr, sym, subst}
 use Rattle.std.specs.List.{AllByRecursion, AllZip}
 use Rattle.ca_verify.specs.declared.refusal.About.{About}
 use Rattle.ca_verify.specs.declared.refusal.About.TheVariants as about

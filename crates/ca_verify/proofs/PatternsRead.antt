@@ -23,6 +23,7 @@ use Rattle.ca_verify.specs.inner.Patterns.{HasName}
 use Rattle.ca_pattern.proofs.EqualCells.{small_shown, large_shown}
 
 -- ---- patterns of a store that grows
+
 module _ (old new : List Node) (grows : Grows old new) (sound : IsSoundStore old) where
   -- a tree of the least level stays one
   trimmed_stays : (tree : _) → trees.IsTree old tree → IsTrimmed old tree → IsTrimmed new tree
@@ -49,6 +50,7 @@ module _ (old new : List Node) (grows : Grows old new) (sound : IsSoundStore old
       }
 
 -- ---- a pattern that was read
+
 -- a file whose pattern has a rule reads
 pub ruled_path_reads : (files : List (List ℕ × List ℕ)) (tables : List TableRule) (path : List ℕ) (cells : Picture) (rule : RuleValue) → IsRuled files tables path cells rule → IsReadableFile files path
 ruled_path_reads files tables path cells rule ruled = (ruled.0, ruled.1, ruled.2.1.holds.readable)

@@ -1,5 +1,5 @@
 -- What is told of a claim by the cells that differ and by the first return.
-use Rattle.std.proofs.Common.{◌≡◌, ◌≢◌, ℕ, List, Option, Some, None, MatchOption, refl, sym, ap, subst, ◌∙◌}
+use Rattle.std.proofs.Common.{◌≡◌, ◌≢◌, ℕ, List, [], Option, Some, None, MatchOption, refl, sym, ap, subst, ◌∙◌}
 use Rattle.std.specs.Prelude.{ℤ, Result, IfOk, IsTrue}
 use Rattle.ca_plane.specs.Plane.{Picture, cell, shifted, IsLive}
 use Rattle.ca_plane.specs.Generations.{after, IsAfter}

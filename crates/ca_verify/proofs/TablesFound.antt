@@ -1,5 +1,5 @@
 -- The tables at the places of rule lines, and what is wrong with the first that is faulty.
-use Rattle.std.proofs.Common.{◌≡◌, ℕ, ◌<◌, List, ◌∷◌, map, length, get_or, Bor, Option, Some, None, ap, subst, inl, inr}
+use Rattle.std.proofs.Common.{◌≡◌, ℕ, ◌<◌, List, [], ◌∷◌, map, length, get_or, Bor, Option, Some, None, ap, subst, inl, inr}
 use Rattle.std.specs.List.{AllByRecursion, AllZip}
 use Rattle.std.specs.Option.{option_copied}
 use Rattle.ca_rule.specs.TableNext.{TableRule}

@@ -1,5 +1,5 @@
 -- A claim is true or there is a reason against it, and one kind of verdict is true of it.
-use Rattle.std.proofs.Common.{◌≡◌, ◌≢◌, ℕ, zero, suc, ◌+◌, ◌-◌, ◌≤◌, List, ◌∷◌, refl, sym, ap, ap₂, subst, ◌∙◌, inl, inr, arith}
+use Rattle.std.proofs.Common.{◌≡◌, ◌≢◌, ℕ, zero, suc, ◌+◌, ◌-◌, ◌≤◌, List, [], ◌∷◌, refl, sym, ap, ap₂, subst, ◌∙◌, inl, inr, arith}
 use Rattle.std.specs.List.{AllByRecursion}
 use Rattle.std.proofs.lemmas.Bool.{cases_order}
 use Rattle.std.proofs.lemmas.Option.{same_Some, none-some}
@@ -49,6 +49,7 @@ false_from_reason next cells other asks (Earlier m dx dy) reason true = back nex
 false_from_reason next cells other asks (Died m) reason true = dead next cells asks.forbidden m reason.4 reason.5 (true.least m reason.2 reason.3)
 
 -- ---- a path is good or bad, not both
+
 module _ (files : List (List ℕ × List ℕ)) (path : List ℕ) where
   pub there_or_none : IsThere files path → IsMissing files path → ⊥
   there_or_none a none = none-some a.0 (sym none ∙ a.1)
@@ -126,6 +127,7 @@ pub tables_there : (files : List (List ℕ × List ℕ)) (rules : List (List ℕ
 tables_there files = zip_left (IsTableAt files) (IsThere files) (λ path table at. (at.0, at.1))
 
 -- ---- lists of paths
+
 all_weaker : (P Q : List ℕ → Type 0) → ((p : List ℕ) → P p → Q p) → (ps : List (List ℕ)) → AllByRecursion P ps → AllByRecursion Q ps
 all_weaker P Q h [] all = tt
 all_weaker P Q h (p ∷ ps) all = (h p all.0, all_weaker P Q h ps all.1)
@@ -151,6 +153,7 @@ one_first Good Bad Worse Same h k same (p ∷ ps) (inr a) (inl b) = absurd (k p 
 one_first Good Bad Worse Same h k same (p ∷ ps) (inr a) (inr b) = one_first Good Bad Worse Same h k same ps a.1 b.1
 
 -- ---- good patterns
+
 module _ (files : List (List ℕ × List ℕ)) (tables : List TableRule) where
   -- the rules of good patterns with one rule are the same
   no_others : (p q : List ℕ) (cells other : Picture) (rule other_rule : RuleValue) → IsGoodPattern files tables p cells rule → IsGoodPattern files tables q other other_rule → IsSameRule rule other_rule
@@ -201,6 +204,7 @@ module _ (files : List (List ℕ × List ℕ)) (tables : List TableRule) where
   one_good (path ∷ other ∷ third ∷ paths) p q o v r s a b = absurd a
 
 -- ---- causes, in their order
+
 -- the place of a cause in the order
 abbrev place : Cause → ℕ
 place NoFile = 0
@@ -343,6 +347,7 @@ module _ (files : List (List ℕ × List ℕ)) (rules : List (List ℕ)) (asks :
   bad_table_or_memory fault bad (tables, (are, all), first) = tables_or_fault fault tables are bad.1
 
 -- ---- judged claims
+
 module _ (files : List (List ℕ × List ℕ)) (rules : List (List ℕ)) (asks : Asks) (paths : List (List ℕ)) where
   -- where they agree, no cause holds before the one that counts cells
   agreed_or_early : (cells other : Picture) (rule : RuleValue) (cause : Cause) → suc (place cause) ≤ 6 → AgreeOn files rules paths cells other rule → HasCause files rules asks paths cause → ⊥

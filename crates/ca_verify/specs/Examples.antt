@@ -1,5 +1,5 @@
 -- Small patterns, for which the definitions are worked out.
-use Rattle.std.specs.Prelude.{ℕ, pos, List, ◌∷◌, codes}
+use Rattle.std.specs.Prelude.{ℕ, pos, List, [], ◌∷◌, codes}
 use Rattle.ca_plane.specs.Plane.{Picture}
 use Rattle.ca_rule.specs.Counts.{counts_of}
 use Rattle.ca_rule.specs.Next.{bs_next}

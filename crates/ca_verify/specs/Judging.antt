@@ -1,5 +1,5 @@
 -- What is left to be judged.
-use Rattle.std.specs.Prelude.{◌≡◌, ℕ, List, ◌∷◌}
+use Rattle.std.specs.Prelude.{◌≡◌, ℕ, List, [], ◌∷◌}
 use Rattle.ca_verify.specs.declared.verdict.Answer.{Answer}
 use Rattle.ca_verify.specs.declared.note.Note.{Note}
 use Rattle.ca_text.specs.Text.{Claim}

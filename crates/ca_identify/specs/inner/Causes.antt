@@ -1,10 +1,8 @@
 -- The cause for which a pattern file isn't identified.
-use Rattle.ca_pattern.specs.declared.read.BadPattern.{BadPattern}
 use Rattle.ca_pattern.specs.declared.conversion.ConvertFault.{ConvertFault}
 use Rattle.ca_pattern.specs.declared.conversion.ConvertFault.TheVariants as convert_fault
 use Rattle.ca_pattern.specs.declared.cause.Cause.{Cause}
 use Rattle.ca_pattern.specs.declared.cause.Cause.TheVariants as cause
-use Rattle.ca_pattern.specs.declared.pattern_fault.PatternFault.TheVariants.{Memory}
 
 -- a fault of a pattern file as a cause
 abbrev pub cause_of : ConvertFault → Cause

@@ -1,5 +1,5 @@
 -- How long a pattern lives.
-use Rattle.std.specs.Prelude.{ℕ, ◌<◌, List}
+use Rattle.std.specs.Prelude.{ℕ, ◌<◌, List, []}
 use Rattle.ca_plane.specs.Plane.{Picture}
 use Rattle.ca_plane.specs.Generations.{IsAfter, IsLiveAfter}
 

@@ -1,5 +1,5 @@
 -- What is kept while the claims of a text are judged.
-use Rattle.std.specs.Prelude.{◌≡◌, ◌≢◌, ℕ, ◌≤◌, List, drop, length, slice_get, Option, Some}
+use Rattle.std.specs.Prelude.{◌≡◌, ◌≢◌, ℕ, ◌≤◌, List, [], drop, length, slice_get, Option, Some}
 use Rattle.std.specs.Borrow.{Bor}
 use Rattle.ca_verify.specs.declared.verifier.tables.Tables.{Tables}
 use Rattle.ca_verify.specs.declared.verdict.Answer.{Answer}

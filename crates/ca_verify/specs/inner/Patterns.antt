@@ -1,5 +1,5 @@
 -- One or two patterns of a claim, which of them is bad, and whether they agree.
-use Rattle.std.specs.Prelude.{◌≡◌, List, ◌∷◌, ◌⊎◌}
+use Rattle.std.specs.Prelude.{◌≡◌, List, [], ◌∷◌, ◌⊎◌}
 use Rattle.std.specs.List.{AllByRecursion}
 use Rattle.ca_pattern.specs.declared.ruled.RuledPattern.{RuledPattern}
 use Rattle.ca_verify.specs.declared.decide.ClaimTrees.{ClaimTrees}
@@ -9,7 +9,6 @@ use Rattle.ca_rule.specs.Rule.{RuleValue, IsSameRule, NamesRule}
 use Rattle.ca_pattern.specs.declared.pattern.Loaded.{Loaded}
 use Rattle.ca_verify.specs.declared.refusal.WhichPattern.{WhichPattern}
 use Rattle.ca_verify.specs.declared.refusal.WhichPattern.TheVariants.{First, Second}
-use Rattle.ca_pattern.specs.declared.pattern_fault.PatternFault.TheVariants.{Memory}
 use Rattle.ca_verify.specs.declared.verifier.agreement.Disagreement.{Disagreement}
 use Rattle.ca_verify.specs.declared.verifier.agreement.Disagreement.TheVariants.{Large, Mixed}
 use Rattle.ca_verify.specs.declared.verifier.agreement.Disagreement.TheVariants as disagreement

@@ -1,5 +1,5 @@
 -- When a pattern is back, or dead, before a claim's generations are over.
-use Rattle.std.specs.Prelude.{ℕ, ◌≤◌, ◌<◌, List}
+use Rattle.std.specs.Prelude.{ℕ, ◌≤◌, ◌<◌, List, []}
 use Rattle.ca_plane.specs.Plane.{Picture, shifted}
 use Rattle.ca_plane.specs.Generations.{IsAfter}
 use Rattle.ca_verify.specs.declared.verdict.Refutation.{Refutation}

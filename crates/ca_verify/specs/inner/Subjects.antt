@@ -1,5 +1,5 @@
 -- What a claim is judged on: squares of a leaper's store, and how the verdict follows from them.
-use Rattle.std.specs.Prelude.{◌≡◌, ◌≢◌, ◌⊎◌, ℕ, ◌*◌, ◌≤◌, ◌<◌, ℤ, List, Option, MatchOption}
+use Rattle.std.specs.Prelude.{◌≡◌, ◌≢◌, ◌⊎◌, ℕ, ◌*◌, ◌≤◌, ◌<◌, ℤ, List, [], Option, MatchOption}
 use Rattle.std.specs.Int.{◌∣◌}
 use Rattle.ca_plane.specs.Plane.{Picture, shifted}
 use Rattle.ca_plane.specs.Generations.{IsAfter, IsLiveAfter}
