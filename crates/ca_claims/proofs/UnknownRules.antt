@@ -1,5 +1,5 @@
 -- Rule texts that name no rule, and the files that have them.
-use Rattle.std.proofs.Common.{◌≡◌, ℕ, zero, suc, ◌+◌, ◌<◌, ltb, true, false, Bool, IsTrue, List, [], ◌∷◌, map, slice_get, get_or, length, Bor, Option, Some, None, Result, Ok, Err, IfOk, Vec, Global, ◌⊎◌, inl, inr, ◌↔◌, refl, sym, ap, subst, ◌∙◌, arith}
+use Rattle.std.proofs.Common.{◌≡◌, ℕ, zero, suc, ◌+◌, ◌<◌, ltb, true, false, Bool, IsTrue, List, [], ◌∷◌, map, slice_get, get_or, length, Bor, Option, Some, None, Result, Ok, Err, IfOk, ◌⊎◌, inl, inr, ◌↔◌, refl, sym, ap, subst, ◌∙◌, arith}
 use Rattle.std.specs.List.{list_any, AllZip}
 use Rattle.std.specs.Option.{option_copied}
 use Rattle.std.specs.Str.{bytes_eq}
@@ -10,22 +10,20 @@ use Rattle.std.proofs.lemmas.Slice.Eq.{bytes_eq-Decides}
 use Rattle.ca_rule.specs.TableNext.{TableRule}
 use Rattle.ca_rule.specs.Rule.{IsRuleFault}
 use Rattle.ca_rule.specs.declared.fault.RuleFault.TheVariants.{Unknown}
-use Rattle.ca_claims.specs.declared.verifier.tables.FaultyTable.{FaultyTable}
 use Rattle.ca_text.specs.Text.{ClaimText}
 use Rattle.ca_text.specs.Places.{path_at}
 use Rattle.ca_text.specs.NeededFiles.{IsNeeded}
-use Rattle.ca_claims.specs.Means.{bytes_at, HoldsRuleText}
-use Rattle.ca_claims.specs.Answers.{IsTableAt, AreTables, IsThere, IsMissing, HoldsTable, FirstBad}
-use Rattle.ca_claims.specs.Unknown.{IsUnreadFile, HoldsUnknownRule, IsUnknownRule, AreUnknownRules}
+use Rattle.ca_verify.specs.Files.{bytes_at}
+use Rattle.ca_pattern.specs.Means.{HoldsRuleText}
+use Rattle.ca_verify.specs.Answers.{AreTables}
+use Rattle.ca_pattern.specs.Faults.{IsUnreadFile}
+use Rattle.ca_claims.specs.Unknown.{HoldsUnknownRule, IsUnknownRule, AreUnknownRules}
 use Rattle.ca_text.specs.Words.{with_word}
-use Rattle.ca_claims.specs.declared.verifier.tables.Tables.{Tables}
-use Rattle.ca_claims.specs.declared.verifier.tables.Tables.TheVariants.{Missing, Faulty, Read}
-use Rattle.ca_claims.specs.inner.Tables.{IsFaultyAt, AreRead}
 use Rattle.ca_claims.specs.inner.Unknown.{AsksFor, IsAskedBefore, AreAskedBefore, AddsAsked}
-use Rattle.ca_claims.proofs.Causes.{bytes_found}
-use Rattle.ca_claims.proofs.FoundFiles.{found-length}
-use Rattle.ca_claims.proofs.Verdicts.{one_meaning, reads_without_fault, one_tables, tables_there, there_or_none, all_or_some, table_or_fault}
-use Rattle.ca_claims.proofs.PairedLists.{first_weaker, some_first, zip_left}
+use Rattle.ca_verify.proofs.Causes.{bytes_found}
+use Rattle.ca_verify.proofs.FoundFiles.{found-length}
+use Rattle.ca_pattern.proofs.OneMeaning.{one_meaning, reads_without_fault}
+use Rattle.ca_verify.proofs.Verdicts.{one_tables}
 
 -- ---- one file
 
@@ -171,22 +169,3 @@ module _ (files : List (List ℕ × List ℕ)) (asked : ClaimText) (needed : Lis
 -- where the rule lines' files aren't all tables nothing is asked for
 pub none_without_tables : (files : List (List ℕ × List ℕ)) (asked : ClaimText) → ((tables : List TableRule) → AreTables files asked.rules tables → ⊥) → AreUnknownRules files asked []
 none_without_tables files asked none = λ name. (λ h. absurd (false≢true h), λ u. absurd (none u.tables u.known))
-
-module _ (files : List (List ℕ × List ℕ)) (rules : List (List ℕ)) (tables : List TableRule) (are : AreTables files rules tables) where
-  -- none is missing
-  none_missing : (path : List ℕ) → FirstBad (IsThere files) (λ p. (p ≡ path) × IsMissing files p) rules → ⊥
-  none_missing path first = all_or_some (IsThere files) (IsMissing files) (there_or_none files) rules (tables_there files rules tables are)
-      (some_first (IsThere files) (IsMissing files) rules (first_weaker (IsThere files) (λ p. (p ≡ path) × IsMissing files p) (IsMissing files) (λ p h. h.1) rules first))
-
-  -- nor faulty
-  none_bad : (paths : List (List ℕ)) (faulty : FaultyTable) → FirstBad (HoldsTable files) (IsFaultyAt files paths faulty) rules → ⊥
-  none_bad paths faulty first = all_or_some (HoldsTable files) (IsFaultyAt files paths faulty) (λ p good bad. table_or_fault files p faulty.fault good bad.1) rules
-      (zip_left (IsTableAt files) (HoldsTable files) (λ path table at. (table, at)) rules tables are)
-      (some_first (HoldsTable files) (IsFaultyAt files paths faulty) rules first)
-
--- tables that aren't read are none
-pub unread_tables : (files : List (List ℕ × List ℕ)) (paths rules : List (List ℕ)) (tables : Tables) → ((ts : Vec TableRule Global) → tables ≡ Read ts → ⊥) → AreRead files paths rules tables
-    → (us : List TableRule) → AreTables files rules us → ⊥
-unread_tables files paths rules (Missing place) other read us are = none_missing files rules us are (path_at paths place) read.1
-unread_tables files paths rules (Faulty faulty) other read us are = none_bad files rules us are paths faulty read.2
-unread_tables files paths rules (Read ts) other read us are = absurd (other ts refl)

@@ -1,5 +1,5 @@
--- Rule texts that name no rule, and tables that would give them one.
-use Rattle.std.specs.Prelude.{◌≡◌, ◌≢◌, ◌↔◌, ℕ, List, Some, IsTrue, slice_get}
+-- Rule texts that name no rule, and the files that have them.
+use Rattle.std.specs.Prelude.{◌≡◌, ◌↔◌, ℕ, List, Some, IsTrue, slice_get}
 use Rattle.std.specs.List.{list_any}
 use Rattle.std.specs.Str.{bytes_eq}
 use Rattle.ca_rule.specs.TableNext.{TableRule}
@@ -7,15 +7,8 @@ use Rattle.ca_rule.specs.Rule.{IsRuleFault}
 use Rattle.ca_rule.specs.declared.fault.RuleFault.TheVariants.{Unknown}
 use Rattle.ca_text.specs.Text.{ClaimText}
 use Rattle.ca_text.specs.NeededFiles.{IsNeeded}
-use Rattle.ca_claims.specs.Means.{HoldsRuleText}
-use Rattle.ca_claims.specs.declared.verdict.PatternFault.{PatternFault}
-use Rattle.ca_claims.specs.declared.unknown.NamedTable.{NamedTable}
-use Rattle.ca_claims.specs.declared.unknown.NamedTable.TheVariants.{Good, OtherName, Faulty}
-use Rattle.ca_claims.specs.Answers.{IsPatternFault, AreTables, HoldsOfFile, IsQuietTable, IsTableFault}
-
--- the bytes have a fault as a pattern file, and aren't read
-abbrev pub IsUnreadFile : List ℕ → Type 0
-IsUnreadFile bytes = (fault : PatternFault) × IsPatternFault bytes fault
+use Rattle.ca_pattern.specs.Means.{HoldsRuleText}
+use Rattle.ca_verify.specs.Answers.{AreTables, HoldsOfFile}
 
 -- the bytes are a pattern file that is read, and this is its rule text, which is a name: no rule of its own, and no table's
 abbrev pub HoldsUnknownRule : List TableRule → (name bytes : List ℕ) → Type 0
@@ -34,9 +27,3 @@ pub record IsUnknownRule (files : List (List ℕ × List ℕ)) (asked : ClaimTex
 -- the names are all of these
 abbrev pub AreUnknownRules : List (List ℕ × List ℕ) → ClaimText → List (List ℕ) → Type 0
 AreUnknownRules files asked names = (name : List ℕ) → IsTrue (list_any (bytes_eq name) names) ↔ IsUnknownRule files asked name
-
--- what the text of a rule file holds that is looked for by a name: a good table of this name, or of another; or it has this fault
-abbrev pub IsNamedTable : (name bytes : List ℕ) → NamedTable → Type 0
-IsNamedTable name bytes Good = (table : TableRule) × IsQuietTable bytes table × (table.name ≡ name)
-IsNamedTable name bytes OtherName = (table : TableRule) × IsQuietTable bytes table × (table.name ≢ name)
-IsNamedTable name bytes (Faulty fault) = IsTableFault bytes fault

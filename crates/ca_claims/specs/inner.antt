@@ -1,16 +1,1 @@
-pub mod Cells
-pub mod Decided
-pub mod Found
-pub mod Glance
-pub mod Kept
-pub mod Patterns
-pub mod PreparedClaim
-pub mod Ready
-pub mod Refusals
-pub mod Returns
-pub mod Spending
-pub mod Stages
-pub mod Tables
-pub mod Tasks
-pub mod Subjects
 pub mod Unknown

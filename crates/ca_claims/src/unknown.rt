@@ -1,23 +1,21 @@
-//! The rules that a text's patterns name and that aren't known, and tables that may give them.
+//! The rules that a text's patterns name and that aren't known.
 
 ghost use Rattle.std.specs.Prelude.{◌≡◌, ◌≢◌, ◌↔◌, ℕ, ◌<◌, List, [], length, IsTrue, IfOk, OnOk, OnErr};
 ghost use Rattle.std.specs.Prelude.{MatchOption};
 ghost use Rattle.ca_rule.specs.Rule.{IsRuleFault};
-ghost use Rattle.ca_rule.specs.TableFaults.{IsTableTextFault};
 ghost use Rattle.ca_rule.specs.declared.fault.RuleFault.TheVariants as rule_fault;
 ghost use Rattle.ca_rule.specs.declared.table.fault.TableFault.TheVariants as table_fault;
-ghost use Rattle.ca_claims.specs.Means.{contents, HoldsRuleText, MayWantMemory};
-ghost use Rattle.ca_claims.specs.Unknown.{IsUnreadFile, HoldsUnknownRule, AreUnknownRules, IsNamedTable};
+ghost use Rattle.ca_verify.specs.Files.{contents};
+ghost use Rattle.ca_pattern.specs.Means.{MayWantMemory};
+ghost use Rattle.ca_claims.specs.Unknown.{HoldsUnknownRule, AreUnknownRules};
 ghost use Rattle.ca_claims.specs.inner.Unknown.{AreAskedBefore, AddsAsked};
 
-use crate::file::File;
-use crate::judge::look_up;
-use crate::read::read_pattern;
-use crate::verdict::PatternFault;
+use ca_pattern::rule_text_of;
 use ca_plane::Memory;
 use ca_quad::Store;
 use ca_rule::{RuleFault, Table, TableFault, resolve};
 use ca_text::{Claims, WordSet};
+use ca_verify::{File, look_up};
 use std::alloc::Global;
 
 /// The rule texts of the patterns that the text's claims need, of those whose files were handed in and are read,
@@ -102,25 +100,6 @@ fn unknown_rule(alloc: Global, bytes: &[u8], tables: &[Table]) -> Result<Option<
     Ok(None)
 }
 
-/// The rule text of the pattern file with these bytes: what its header or its `#R` line says, else `B3/S23`.
-/// None where the file isn't read.
-///
-/// # Errors
-///
-/// Fails where there is no memory for the pattern of the file.
-pub fn rule_text_of(alloc: Global, bytes: &[u8]) -> Result<Option<Vec<u8>>, Memory>
-    ensures text { IfOk result (λ found. MatchOption found (IsUnreadFile bytes.now)
-        (λ text. HoldsRuleText text.items bytes.now)) }
-    ensures memory { OnErr result (MayWantMemory bytes.now) }
-{
-    let mut store = Store::new(alloc);
-    match read_pattern(alloc, &mut store, bytes) {
-        Ok(pattern) => Ok(Some(pattern.rule_text)),
-        Err(PatternFault::Memory) => Err(Memory),
-        Err(_) => Ok(None),
-    }
-}
-
 /// Whether the text names no rule, neither one of its own nor one of these tables.
 fn is_unknown(text: &[u8], tables: &[Table]) -> bool
     ensures { IsTrue result ↔ IsRuleFault text.now tables.now rule_fault.Unknown }
@@ -132,35 +111,4 @@ fn is_unknown(text: &[u8], tables: &[Table]) -> bool
             _ => false,
         },
     }
-}
-
-/// What a rule file holds that is looked for by a name.
-#[derive(Clone, Copy, Debug, PartialEq, Eq)]
-pub enum NamedTable {
-    /// A good table of that name.
-    Good,
-    /// A good table of another name.
-    OtherName,
-    /// No good table, for this fault, which is never `Memory`.
-    Faulty(TableFault),
-}
-
-/// What the text of a rule file holds that is looked for by this name.
-///
-/// # Errors
-///
-/// Fails where there is no memory for the table.
-pub fn table_named(alloc: Global, name: &[u8], text: &[u8]) -> Result<NamedTable, Memory>
-    ensures named { IfOk result (IsNamedTable name.now text.now) }
-    ensures memory { OnErr result (IsTableTextFault text.now table_fault.Memory) }
-{
-    let table = match Table::parse(alloc, text) {
-        Ok(table) => table,
-        Err(TableFault::Memory) => return Err(Memory),
-        Err(fault) => return Ok(NamedTable::Faulty(fault)),
-    };
-    if table.name() == name {
-        return Ok(NamedTable::Good);
-    }
-    Ok(NamedTable::OtherName)
 }

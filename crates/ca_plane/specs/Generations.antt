@@ -23,3 +23,7 @@ after next p = cells_after next (cell p)
 -- after n generations the plane has this picture's cells, at every x and y
 abbrev pub IsAfter : (List ℕ → ℕ) → Picture → ℕ → Picture → Type 0
 IsAfter next cells n picture = (x y : ℤ) → after next cells n x y ≡ cell picture x y
+
+-- after n generations some cell is live
+abbrev pub IsLiveAfter : (List ℕ → ℕ) → Picture → ℕ → Type 0
+IsLiveAfter next cells n = (x : ℤ) × (y : ℤ) × (after next cells n x y ≢ 0)

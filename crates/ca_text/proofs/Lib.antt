@@ -9,3 +9,5 @@ pub mod NextLines
 pub mod AllLines
 pub mod OneMeaning
 pub mod RuleLines
+pub mod Shifts
+pub mod Truths

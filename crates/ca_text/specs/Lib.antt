@@ -7,4 +7,5 @@ pub mod SomeOf
 pub mod Places
 pub mod NeededFiles
 pub mod Examples
+pub mod Truth
 pub mod inner

@@ -6,9 +6,9 @@ ghost use Rattle.ca_text.specs.Asks.{asks_of};
 
 use crate::line::Kind;
 
-/// Whose cells the claim wants to see.
+/// Whose cells the claim expects to see.
 #[derive(Clone, Copy)]
-pub enum Wanted {
+pub enum Expected {
     /// The pattern's own.
     Own,
     /// Those of the other pattern that the claim names.
@@ -19,7 +19,7 @@ pub enum Wanted {
 
 /// What no earlier time may show.
 #[derive(Clone, Copy, PartialEq, Eq)]
-pub enum Barred {
+pub enum Forbidden {
     /// All may be shown.
     Nothing,
     /// The pattern in its place.
@@ -35,10 +35,10 @@ pub enum Barred {
 pub struct Asks {
     /// Whether the pattern must be live.
     pub live: bool,
-    /// After how many generations the plane shows the wanted cells.
+    /// After how many generations the plane shows the expected cells.
     pub generations: u64,
-    /// Whose cells are wanted.
-    pub wanted: Wanted,
+    /// Whose cells are expected.
+    pub expected: Expected,
     /// How far to the right they are moved.
     pub dx: i64,
     /// How far down they are moved.
@@ -46,18 +46,18 @@ pub struct Asks {
     /// Whether the claim moves them, by (0, 0) too. Of cells that are moved there may not be too many.
     pub moved: bool,
     /// What no earlier time, starting at 1, may show.
-    pub barred: Barred,
+    pub forbidden: Forbidden,
 }
 
 // What a claim of a still life asks.
 const STILL: Asks = Asks {
     live: true,
     generations: 1,
-    wanted: Wanted::Own,
+    expected: Expected::Own,
     dx: 0,
     dy: 0,
     moved: false,
-    barred: Barred::Nothing,
+    forbidden: Forbidden::Nothing,
 };
 
 impl Kind {
@@ -69,7 +69,7 @@ impl Kind {
             Kind::Still => STILL,
             Kind::Oscillator { period } => Asks {
                 generations: period,
-                barred: Barred::InPlace,
+                forbidden: Forbidden::InPlace,
                 ..STILL
             },
             Kind::Spaceship { period, dx, dy } => Asks {
@@ -77,7 +77,7 @@ impl Kind {
                 dx,
                 dy,
                 moved: true,
-                barred: Barred::Anywhere,
+                forbidden: Forbidden::Anywhere,
                 ..STILL
             },
             Kind::Becomes { generations } => becomes(generations),
@@ -93,8 +93,8 @@ impl Kind {
             },
             Kind::Dies { generations } => Asks {
                 generations,
-                wanted: Wanted::NoCells,
-                barred: Barred::EmptyPlane,
+                expected: Expected::NoCells,
+                forbidden: Forbidden::EmptyPlane,
                 ..STILL
             },
         }
@@ -108,7 +108,7 @@ fn becomes(generations: u64) -> Asks
     Asks {
         live: false,
         generations,
-        wanted: Wanted::Other,
+        expected: Expected::Other,
         ..STILL
     }
 }

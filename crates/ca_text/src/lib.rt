@@ -15,7 +15,7 @@ mod version;
 mod word_set;
 mod words;
 
-pub use asks::{Asks, Barred, Wanted};
+pub use asks::{Asks, Expected, Forbidden};
 pub use claims::Claims;
 pub use fault::ClaimFault;
 pub use laws::{no_fault_in_claim_text, one_fault, one_meaning, worked_examples};

@@ -14,16 +14,16 @@ use Rattle.ca_plane.proofs.Decimals.{decimal_writes, signed_writes}
 use Rattle.ca_plane.proofs.Fronts.{every_append}
 use Rattle.ca_rule.specs.TableNext.{TableRule}
 use Rattle.ca_text.specs.declared.line.Kind.TheVariants as kind
-use Rattle.ca_claims.specs.declared.file.File.{File}
-use Rattle.ca_claims.specs.declared.identity.Identity.{Identity}
-use Rattle.ca_claims.specs.declared.identity.Growth.{Growth}
-use Rattle.ca_claims.specs.declared.scope.Scope.{Scope}
-use Rattle.ca_claims.specs.declared.verdict.Cause.{Cause}
-use Rattle.ca_claims.specs.declared.verdict.Cause.TheVariants as causes
-use Rattle.ca_claims.specs.declared.identity.Identity.TheVariants.{Empty, StillLife, Oscillator, Spaceship, Dies, Unknown}
+use Rattle.ca_verify.specs.declared.file.File.{File}
+use Rattle.ca_identify.specs.declared.identity.Identity.{Identity}
+use Rattle.ca_identify.specs.declared.identity.Growth.{Growth}
+use Rattle.ca_identify.specs.declared.scope.Scope.{Scope}
+use Rattle.ca_pattern.specs.declared.cause.Cause.{Cause}
+use Rattle.ca_pattern.specs.declared.cause.Cause.TheVariants as causes
+use Rattle.ca_identify.specs.declared.identity.Identity.TheVariants.{Empty, StillLife, Oscillator, Spaceship, Dies, Unknown}
 use Rattle.ca_plane.specs.Limits.{greatest_shift}
 use Rattle.ca_text.specs.Text.{ClaimTextLine, Version, Rule, Load, Claims, is_second, path_of, ClaimLinesSay}
-use Rattle.ca_claims.specs.Identified.{IsIdentity}
+use Rattle.ca_identify.specs.Identified.{IsIdentity}
 use Rattle.ca_text.proofs.LinesSaid.{path_of-append}
 use Rattle.ca_text.proofs.PathLists.{bytes_eq_self}
 use Rattle.ca_tool.specs.declared.entry.Content.{Content}

@@ -5,8 +5,8 @@ use Rattle.std.proofs.lemmas.List.{append-nil}
 use Rattle.ca_plane.specs.Device.{Counted, Rises, AppendsPrefix}
 use Rattle.ca_plane.proofs.Sends.{sent_both, prefix_of_second}
 use Rattle.ca_rule.specs.TableNext.{TableRule}
-use Rattle.ca_claims.specs.declared.file.File.{File}
-use Rattle.ca_claims.specs.declared.scope.Scope.{Scope}
+use Rattle.ca_verify.specs.declared.file.File.{File}
+use Rattle.ca_identify.specs.declared.scope.Scope.{Scope}
 use Rattle.ca_tool.specs.declared.entry.Entry.{Entry}
 use Rattle.ca_tool.specs.declared.entry.Subject.{Subject}
 use Rattle.ca_tool.specs.declared.fault.ToolFault.{ToolFault}

@@ -7,10 +7,10 @@ use Rattle.ca_rule.specs.declared.table.fault.TableFault.{TableFault}
 use Rattle.ca_rule.specs.declared.table.fault.TableFault.TheVariants as tables
 use Rattle.ca_rle.specs.declared.fault.RleFault.TheVariants as rle
 use Rattle.ca_macro.specs.declared.fault.MacroFault.TheVariants as macrocell
-use Rattle.ca_claims.specs.declared.verdict.PatternFault.{PatternFault}
-use Rattle.ca_claims.specs.declared.verdict.PatternFault.TheVariants as patterns
-use Rattle.ca_claims.specs.declared.verdict.Cause.{Cause}
-use Rattle.ca_claims.specs.declared.verdict.Cause.TheVariants as causes
+use Rattle.ca_pattern.specs.declared.pattern_fault.PatternFault.{PatternFault}
+use Rattle.ca_pattern.specs.declared.pattern_fault.PatternFault.TheVariants as patterns
+use Rattle.ca_pattern.specs.declared.cause.Cause.{Cause}
+use Rattle.ca_pattern.specs.declared.cause.Cause.TheVariants as causes
 use Rattle.ca_tool.specs.Printed.{rule_fault_text, table_fault_text, pattern_fault_text, cause_text, at_line}
 use Rattle.ca_tool.proofs.Saying.{is_inner}
 use Rattle.ca_tool.proofs.NameWords.{decimal_inner}

@@ -9,9 +9,9 @@ use Rattle.ca_rule.specs.Rule.{rule_value, states_of, next_of}
 use Rattle.ca_plane.specs.Generations.{after}
 use Rattle.ca_plane.specs.Limits.{generation_limit}
 use Rattle.ca_draw.proofs.SameCells.{same_drawing}
-use Rattle.ca_claims.specs.declared.reached.Reached.{Reached}
-use Rattle.ca_claims.specs.Ahead.{IsReached}
-use Rattle.ca_claims.proofs.PatternsRead.{wanted}
+use Rattle.ca_pattern.specs.declared.reached.Reached.{Reached}
+use Rattle.ca_pattern.specs.Evolved.{IsReached}
+use Rattle.ca_pattern.proofs.PatternsRead.{reads_may_want}
 use Rattle.ca_tool.specs.declared.drawing.DrawRequest.{DrawRequest}
 use Rattle.ca_tool.specs.declared.fault.ToolFault.{ToolFault}
 use Rattle.ca_tool.specs.declared.fault.ToolFault.TheVariants.{Convert, Window, Write, Memory}
@@ -113,7 +113,7 @@ undrawn_of bytes tables request reached (Window f) h none = record {
   low = reached_low h.begun reached.generation request.generations h.added h.low;
   holds = no_window_too (cell reached.store reached.tree) (after (next_of (rule_value reached.rule)) h.cells request.generations) h.shows request f none;
 }
-undrawn_of bytes tables request reached Memory h none = wanted bytes h.begins.holds.holds.readable
+undrawn_of bytes tables request reached Memory h none = reads_may_want bytes h.begins.holds.holds.readable
 undrawn_of bytes tables request reached told h none = absurd none
 
 -- of that no more is known

@@ -9,7 +9,7 @@ use Rattle.std.proofs.lemmas.List.Concat.{flat_map-append}
 use Rattle.ca_plane.specs.Device.{AppendsPrefix}
 use Rattle.ca_plane.proofs.Sends.{sent_both, prefix_of_second}
 use Rattle.ca_rule.specs.TableNext.{TableRule}
-use Rattle.ca_claims.specs.declared.scope.Scope.{Scope}
+use Rattle.ca_identify.specs.declared.scope.Scope.{Scope}
 use Rattle.ca_plane.specs.Limits.{longest_period, most_generations}
 use Rattle.ca_tool.specs.declared.entry.Content.{Content}
 use Rattle.ca_tool.specs.declared.entry.Content.TheVariants.{Bytes, Missing, FaultyRule}

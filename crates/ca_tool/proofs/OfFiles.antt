@@ -5,10 +5,10 @@ use Rattle.std.specs.Io.KnownBytes.{Appends}
 use Rattle.ca_plane.specs.Device.{Counted, AppendsPrefix}
 use Rattle.ca_rule.specs.TableNext.{TableRule}
 use Rattle.ca_rule.specs.declared.table.fault.TableFault.{TableFault}
-use Rattle.ca_claims.specs.declared.conversion.ConvertFault.{ConvertFault}
-use Rattle.ca_claims.specs.declared.conversion.ConvertFault.TheVariants as convert_fault
-use Rattle.ca_claims.specs.declared.reached.ReachFault.{ReachFault}
-use Rattle.ca_claims.specs.declared.reached.ReachFault.TheVariants as reach_fault
+use Rattle.ca_pattern.specs.declared.conversion.ConvertFault.{ConvertFault}
+use Rattle.ca_pattern.specs.declared.conversion.ConvertFault.TheVariants as convert_fault
+use Rattle.ca_pattern.specs.declared.reached.ReachFault.{ReachFault}
+use Rattle.ca_pattern.specs.declared.reached.ReachFault.TheVariants as reach_fault
 use Rattle.ca_tool.specs.declared.fault.InputFault.TheVariants as inputs
 use Rattle.ca_tool.specs.declared.fault.ToolFault.{ToolFault}
 use Rattle.ca_tool.specs.declared.fault.ToolFault.TheVariants.{Input, Convert, GenTooLarge, Work, Range, Write, Memory}

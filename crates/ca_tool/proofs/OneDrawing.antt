@@ -11,11 +11,11 @@ use Rattle.ca_rule.specs.Rule.{states_of, next_of}
 use Rattle.ca_draw.specs.declared.window.Window.{Window}
 use Rattle.ca_draw.specs.Drawings.{drawing}
 use Rattle.ca_draw.specs.Windows.{IsWindow, strip_of}
-use Rattle.ca_claims.specs.declared.conversion.ConvertFault.TheVariants as convert_fault
-use Rattle.ca_claims.specs.declared.reached.ReachFault.{ReachFault}
-use Rattle.ca_claims.specs.declared.reached.ReachFault.TheVariants as reach_fault
-use Rattle.ca_claims.specs.Ahead.{IsReachFault}
-use Rattle.ca_claims.proofs.OneRun.{one_start, one_plane, ahead_or_fault, one_reach_fault}
+use Rattle.ca_pattern.specs.declared.conversion.ConvertFault.TheVariants as convert_fault
+use Rattle.ca_pattern.specs.declared.reached.ReachFault.{ReachFault}
+use Rattle.ca_pattern.specs.declared.reached.ReachFault.TheVariants as reach_fault
+use Rattle.ca_pattern.specs.Evolved.{IsReachFault}
+use Rattle.ca_pattern.proofs.OneRun.{one_start, one_plane, evolved_or_fault, one_reach_fault}
 use Rattle.ca_tool.specs.declared.drawing.DrawRequest.{DrawRequest}
 use Rattle.ca_tool.specs.declared.fault.ToolFault.{ToolFault}
 use Rattle.ca_tool.specs.declared.fault.ToolFault.TheVariants.{Input, BadTable, Convert, GenTooLarge, Work, Range, Window as NoWindow, Write, Memory}
@@ -186,7 +186,7 @@ module _ (bytes : List ℕ) (tables : List TableRule) (request : DrawRequest) wh
       → TellsReach (IsReachFault bytes tables n request.limits.work) told → ⊥
   later_or_fault Holds told m w a wrong =
       let (fault, other, nor_work, is, same) = reach_fault_of told m w (IsReachFault bytes tables n request.limits.work) wrong in
-      ahead_or_fault bytes tables n request.limits.work a.cells a.rule a.generation fault other nor_work a.begins a.low is
+      evolved_or_fault bytes tables n request.limits.work a.cells a.rule a.generation fault other nor_work a.begins a.low is
 
   -- of which either a picture is drawn or none for one cause
   pub drawn_or_fault : (text : List ℕ) (told : ToolFault) → told ≢ Memory → told ≢ Work → IsDrawn bytes tables request text → IsDrawFault bytes tables request told → ⊥

@@ -8,11 +8,11 @@ use Rattle.std.proofs.lemmas.Slice.Zip.{AllZip-long}
 use Rattle.ca_plane.specs.Device.{AppendsPrefix}
 use Rattle.ca_plane.proofs.Sends.{sent_both, prefix_of_first, prefix_of_second}
 use Rattle.ca_text.specs.Text.{Claim}
-use Rattle.ca_claims.specs.declared.verdict.Answer.{Answer}
-use Rattle.ca_claims.specs.declared.note.Note.{Note}
-use Rattle.ca_claims.specs.Answers.{IsTrueAnswer, AreTrueAnswers, IsWithinWork, AreWithinWork}
-use Rattle.ca_claims.specs.Notes.{IsNote, HasItsNote}
-use Rattle.ca_claims.specs.Judging.{Judging, JudgesAndNotes}
+use Rattle.ca_verify.specs.declared.verdict.Answer.{Answer}
+use Rattle.ca_verify.specs.declared.note.Note.{Note}
+use Rattle.ca_verify.specs.Answers.{IsTrueAnswer, AreTrueAnswers, IsWithinWork, AreWithinWork}
+use Rattle.ca_verify.specs.Notes.{IsNote, HasItsNote}
+use Rattle.ca_verify.specs.Judging.{Judging, JudgesAndNotes}
 use Rattle.ca_tool.specs.declared.finding.ReportStyle.{ReportStyle}
 use Rattle.ca_tool.specs.declared.finding.Finding.{Finding}
 use Rattle.ca_tool.specs.Printed.{answer_line, answer_lines, note_text, second_line, verdict_remedy_line, last_line, finding_text, findings_text, status_of}

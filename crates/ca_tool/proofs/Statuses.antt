@@ -1,7 +1,7 @@
 -- The exit status of some answers and one more.
 use Rattle.std.proofs.Common.{◌≡◌, List, [], ◌∷◌, ◌++◌, Bool, true, false, ◌||◌, max, if◌then◌else◌, refl, ap, ◌∙◌, sym}
 use Rattle.std.specs.List.{list_any}
-use Rattle.ca_claims.specs.declared.verdict.Answer.{Answer}
+use Rattle.ca_verify.specs.declared.verdict.Answer.{Answer}
 use Rattle.ca_tool.specs.Printed.{status_of, is_refusal, is_no}
 
 -- whether it holds of one of some elements or of one more

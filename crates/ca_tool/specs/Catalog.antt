@@ -5,15 +5,16 @@ use Rattle.std.specs.List.{flat_map, list_all, list_any, AllZip}
 use Rattle.ca_plane.specs.Device.{Counted}
 use Rattle.ca_rule.specs.TableNext.{TableRule}
 use Rattle.ca_rule.specs.declared.table.fault.TableFault.{TableFault}
-use Rattle.ca_claims.specs.declared.file.File.{File}
-use Rattle.ca_claims.specs.declared.identity.Identity.{Identity}
-use Rattle.ca_claims.specs.declared.identity.Identity.TheVariants.{Empty, StillLife, Oscillator, Spaceship, Dies, Unknown}
-use Rattle.ca_claims.specs.declared.identity.Growth.{Growth}
-use Rattle.ca_claims.specs.declared.scope.Scope.{Scope}
-use Rattle.ca_claims.specs.declared.verdict.Cause.{Cause}
-use Rattle.ca_claims.specs.declared.verdict.Cause.TheVariants as causes
-use Rattle.ca_claims.specs.Answers.{IsQuietTable, IsTableFault, FirstBad}
-use Rattle.ca_claims.specs.Identified.{IsLookAt, IsUnidentifiedAfter}
+use Rattle.ca_verify.specs.declared.file.File.{File}
+use Rattle.ca_identify.specs.declared.identity.Identity.{Identity}
+use Rattle.ca_identify.specs.declared.identity.Identity.TheVariants.{Empty, StillLife, Oscillator, Spaceship, Dies, Unknown}
+use Rattle.ca_identify.specs.declared.identity.Growth.{Growth}
+use Rattle.ca_identify.specs.declared.scope.Scope.{Scope}
+use Rattle.ca_pattern.specs.declared.cause.Cause.{Cause}
+use Rattle.ca_pattern.specs.declared.cause.Cause.TheVariants as causes
+use Rattle.ca_pattern.specs.NamedTables.{IsQuietTable, IsTableFault}
+use Rattle.ca_verify.specs.Answers.{FirstBad}
+use Rattle.ca_identify.specs.Identified.{IsLookAt, IsUnidentifiedAfter}
 use Rattle.ca_tool.specs.declared.entry.Content.{Content}
 use Rattle.ca_tool.specs.declared.entry.Content.TheVariants.{Bytes, Missing, FaultyRule}
 use Rattle.ca_tool.specs.declared.entry.Subject.{Subject}

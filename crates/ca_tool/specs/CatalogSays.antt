@@ -3,10 +3,10 @@ use Rattle.std.specs.Prelude.{◌≡◌, ℕ, List, [], ◌∷◌, ◌++◌, map
 use Rattle.std.specs.List.{flat_map, AllByRecursion}
 use Rattle.ca_text.specs.declared.line.Kind.{Kind}
 use Rattle.ca_text.specs.declared.line.Kind.TheVariants as kind
-use Rattle.ca_claims.specs.declared.file.File.{File}
-use Rattle.ca_claims.specs.declared.identity.Identity.{Identity}
-use Rattle.ca_claims.specs.declared.identity.Identity.TheVariants.{Empty, StillLife, Oscillator, Spaceship, Dies, Unknown}
-use Rattle.ca_claims.specs.declared.scope.Scope.{Scope}
+use Rattle.ca_verify.specs.declared.file.File.{File}
+use Rattle.ca_identify.specs.declared.identity.Identity.{Identity}
+use Rattle.ca_identify.specs.declared.identity.Identity.TheVariants.{Empty, StillLife, Oscillator, Spaceship, Dies, Unknown}
+use Rattle.ca_identify.specs.declared.scope.Scope.{Scope}
 use Rattle.ca_text.specs.Text.{ClaimTextLine, Version, Rule, Load, Claims, IsClaimText, said_lines}
 use Rattle.ca_tool.specs.declared.entry.Outcome.{Outcome}
 use Rattle.ca_tool.specs.declared.entry.Outcome.TheVariants.{Identified}

@@ -1,8 +1,8 @@
 -- What is known of a fault for which a run over a pattern file writes nothing.
 use Rattle.std.specs.Prelude.{◌≡◌, ℕ, List, Option, None, Vec, Result, Ok, Err}
 use Rattle.std.specs.declared.alloc.Global.{Global}
-use Rattle.ca_claims.specs.declared.detailed_fault.DetailedFault.{DetailedFault}
-use Rattle.ca_claims.specs.DetailedFault.{IsDetailOf}
+use Rattle.ca_pattern.specs.declared.detailed_fault.DetailedFault.{DetailedFault}
+use Rattle.ca_pattern.specs.DetailedFault.{IsDetailOf}
 use Rattle.ca_tool.specs.declared.fault.ToolFault.{ToolFault}
 use Rattle.ca_tool.specs.declared.fault.ToolFault.TheVariants.{Convert}
 

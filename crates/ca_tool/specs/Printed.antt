@@ -13,24 +13,24 @@ use Rattle.ca_rle.specs.declared.fault.RleFault.TheVariants as rle
 use Rattle.ca_macro.specs.declared.fault.MacroFault.TheVariants as macrocell
 use Rattle.ca_text.specs.declared.fault.ClaimFault.{ClaimFault}
 use Rattle.ca_text.specs.declared.fault.ClaimFault.TheVariants as claims
-use Rattle.ca_claims.specs.declared.verdict.Answer.{Answer}
-use Rattle.ca_claims.specs.declared.verdict.Verdict.{Verdict}
-use Rattle.ca_claims.specs.declared.verdict.Verdict.TheVariants.{Yes, No, Refused}
-use Rattle.ca_claims.specs.declared.verdict.Why.{Why}
-use Rattle.ca_claims.specs.declared.verdict.Why.TheVariants.{Empty, Differs, Earlier, Died}
-use Rattle.ca_claims.specs.declared.verdict.PatternFault.{PatternFault}
-use Rattle.ca_claims.specs.declared.verdict.PatternFault.TheVariants as patterns
-use Rattle.ca_claims.specs.declared.verdict.Cause.{Cause}
-use Rattle.ca_claims.specs.declared.verdict.Cause.TheVariants as causes
-use Rattle.ca_claims.specs.declared.file.File.{File}
-use Rattle.ca_claims.specs.declared.note.Note.{Note}
-use Rattle.ca_claims.specs.declared.note.Note.TheVariants as notes
-use Rattle.ca_claims.specs.declared.format.Format.{Format}
-use Rattle.ca_claims.specs.declared.format.Format.TheVariants.{Rle, Mc}
-use Rattle.ca_claims.specs.declared.conversion.ConvertFault.{ConvertFault}
-use Rattle.ca_claims.specs.declared.conversion.ConvertFault.TheVariants as converts
-use Rattle.ca_claims.specs.declared.pattern.Summary.{Summary}
-use Rattle.ca_claims.specs.declared.detailed_fault.DetailedFault.{DetailedFault as RefusedFor}
+use Rattle.ca_verify.specs.declared.verdict.Answer.{Answer}
+use Rattle.ca_verify.specs.declared.verdict.Verdict.{Verdict}
+use Rattle.ca_verify.specs.declared.verdict.Verdict.TheVariants.{Yes, No, Refused}
+use Rattle.ca_verify.specs.declared.verdict.Refutation.{Refutation}
+use Rattle.ca_verify.specs.declared.verdict.Refutation.TheVariants.{Empty, Differs, Earlier, Died}
+use Rattle.ca_pattern.specs.declared.pattern_fault.PatternFault.{PatternFault}
+use Rattle.ca_pattern.specs.declared.pattern_fault.PatternFault.TheVariants as patterns
+use Rattle.ca_pattern.specs.declared.cause.Cause.{Cause}
+use Rattle.ca_pattern.specs.declared.cause.Cause.TheVariants as causes
+use Rattle.ca_verify.specs.declared.file.File.{File}
+use Rattle.ca_verify.specs.declared.note.Note.{Note}
+use Rattle.ca_verify.specs.declared.note.Note.TheVariants as notes
+use Rattle.ca_pattern.specs.declared.format.Format.{Format}
+use Rattle.ca_pattern.specs.declared.format.Format.TheVariants.{Rle, Mc}
+use Rattle.ca_pattern.specs.declared.conversion.ConvertFault.{ConvertFault}
+use Rattle.ca_pattern.specs.declared.conversion.ConvertFault.TheVariants as converts
+use Rattle.ca_pattern.specs.declared.pattern.Summary.{Summary}
+use Rattle.ca_pattern.specs.declared.detailed_fault.DetailedFault.{DetailedFault as RefusedFor}
 use Rattle.ca_tool.specs.declared.fault.Fault.{Fault}
 use Rattle.ca_tool.specs.declared.fault.Fault.TheVariants as faults
 use Rattle.ca_tool.specs.declared.fault.InputFault.{InputFault}
@@ -55,11 +55,11 @@ abbrev pub return_text : ℕ → ℤ → ℤ → List ℕ
 return_text generations dx dy = codes "the same after " ++ (decimal generations ++ (codes ", shifted by " ++ (signed_decimal dx ++ (codes "," ++ signed_decimal dy))))
 
 -- why a claim is false
-abbrev pub why_text : Why → List ℕ
-why_text Empty = codes "empty"
-why_text (Differs x y found claimed gens) = codes "cells differ after " ++ decimal gens
-why_text (Earlier m dx dy) = return_text m dx dy
-why_text (Died m) = codes "empty after " ++ decimal m
+abbrev pub refutation_text : Refutation → List ℕ
+refutation_text Empty = codes "empty"
+refutation_text (Differs x y found claimed gens) = codes "cells differ after " ++ decimal gens
+refutation_text (Earlier m dx dy) = return_text m dx dy
+refutation_text (Died m) = codes "empty after " ++ decimal m
 
 -- why a text names no rule
 abbrev pub rule_fault_text : RuleFault → List ℕ
@@ -138,7 +138,7 @@ cause_text causes.Memory = codes "memory"
 -- what is said of a claim
 abbrev pub verdict_text : Verdict → List ℕ
 verdict_text Yes = codes "yes"
-verdict_text (No why) = codes "no, " ++ why_text why
+verdict_text (No refutation) = codes "no, " ++ refutation_text refutation
 verdict_text (Refused cause) = codes "refused, " ++ cause_text cause
 
 -- the line of an answer
@@ -152,13 +152,13 @@ answer_lines answers = flat_map answer_line answers
 -- whether the claim isn't judged
 abbrev pub is_refusal : Verdict → Bool
 is_refusal Yes = false
-is_refusal (No why) = false
+is_refusal (No refutation) = false
 is_refusal (Refused cause) = true
 
 -- whether the claim is false
 abbrev pub is_no : Verdict → Bool
 is_no Yes = false
-is_no (No why) = true
+is_no (No refutation) = true
 is_no (Refused cause) = false
 
 -- the exit status: 2 where an answer is refused, else 1 where one is no, else 0
@@ -224,11 +224,11 @@ abbrev pub generations_word : ℕ → List ℕ
 generations_word n = if nat_eq n 1 then codes " generation" else codes " generations"
 
 -- the line about a cell that differs, of the pattern with this name, after a text that stands before each line
-abbrev pub cell_line : List ℕ → List ℕ → Why → List ℕ
+abbrev pub cell_line : List ℕ → List ℕ → Refutation → List ℕ
 cell_line before name (Differs x y found claimed gens) =
     before ++ (codes "  " ++ (escaped name ++ (codes " at " ++ (signed_decimal x ++ (codes "," ++ (signed_decimal y ++ (codes ": " ++ (decimal found
     ++ (codes " after " ++ (decimal gens ++ (generations_word gens ++ (codes ", claimed " ++ (decimal claimed ++ 10 ∷ [])))))))))))))
-cell_line before name why = []
+cell_line before name refutation = []
 
 -- on which line a file is faulty, where it has such a line
 abbrev pub at_line : Option ℕ → List ℕ
@@ -269,9 +269,9 @@ cause_line (causes.BadTable fault) = Some (table_line fault)
 cause_line cause = None
 
 -- the line of a note on a no
-abbrev pub no_note_text : List ℕ → Why → Note → List ℕ
-no_note_text before why (notes.Cell name) = cell_line before name.now why
-no_note_text before why note = []
+abbrev pub no_note_text : List ℕ → Refutation → Note → List ℕ
+no_note_text before refutation (notes.Cell name) = cell_line before name.now refutation
+no_note_text before refutation note = []
 
 -- a rule text that names no rule
 abbrev pub rule_words : Option (Vec ℕ Global) → List ℕ
@@ -307,7 +307,7 @@ refusal_note_text before faulty missing cause note = []
 -- the second line, of a note on a verdict, where there is something to tell
 abbrev pub note_text : List ℕ → List FaultyRule → List MissingFile → Verdict → Note → List ℕ
 note_text before faulty missing Yes note = []
-note_text before faulty missing (No why) note = no_note_text before why note
+note_text before faulty missing (No refutation) note = no_note_text before refutation note
 note_text before faulty missing (Refused cause) note = refusal_note_text before faulty missing cause note
 
 -- whether a claim is refused, and there is a line of a note on that

@@ -9,12 +9,12 @@ use Rattle.ca_rule.specs.declared.fault.RuleFault.{RuleFault}
 use Rattle.ca_rule.specs.declared.fault.RuleFault.TheVariants as rules
 use Rattle.ca_text.specs.declared.fault.ClaimFault.{ClaimFault}
 use Rattle.ca_text.specs.declared.fault.ClaimFault.TheVariants as claims
-use Rattle.ca_claims.specs.declared.file.File.{File}
-use Rattle.ca_claims.specs.declared.verdict.PatternFault.{PatternFault}
-use Rattle.ca_claims.specs.declared.verdict.PatternFault.TheVariants as patterns
-use Rattle.ca_claims.specs.declared.verdict.Cause.{Cause}
-use Rattle.ca_claims.specs.declared.verdict.Cause.TheVariants as causes
-use Rattle.ca_claims.specs.declared.conversion.ConvertFault.TheVariants as converts
+use Rattle.ca_verify.specs.declared.file.File.{File}
+use Rattle.ca_pattern.specs.declared.pattern_fault.PatternFault.{PatternFault}
+use Rattle.ca_pattern.specs.declared.pattern_fault.PatternFault.TheVariants as patterns
+use Rattle.ca_pattern.specs.declared.cause.Cause.{Cause}
+use Rattle.ca_pattern.specs.declared.cause.Cause.TheVariants as causes
+use Rattle.ca_pattern.specs.declared.conversion.ConvertFault.TheVariants as converts
 use Rattle.ca_tool.specs.declared.fault.ToolFault.{ToolFault}
 use Rattle.ca_tool.specs.declared.fault.ToolFault.TheVariants as tools
 use Rattle.ca_tool.specs.declared.remedy.Remedy.{Remedy}

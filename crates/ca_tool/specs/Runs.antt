@@ -4,21 +4,22 @@ use Rattle.std.specs.Io.KnownBytes.{Consumes, IsAtEnd}
 use Rattle.std.specs.List.{AllZip, AllByRecursion}
 use Rattle.ca_plane.specs.Device.{Counted, Rises}
 use Rattle.ca_text.specs.Text.{ClaimText, Claim}
-use Rattle.ca_claims.specs.Judging.{Judging}
-use Rattle.ca_claims.specs.Notes.{IsNote, HasItsNote}
+use Rattle.ca_verify.specs.Judging.{Judging}
+use Rattle.ca_verify.specs.Notes.{IsNote, HasItsNote}
 use Rattle.ca_rule.specs.TableNext.{TableRule}
 use Rattle.ca_rule.specs.TableFaults as table_faults
 use Rattle.ca_rule.specs.declared.table.fault.TableFault.{TableFault}
 use Rattle.ca_rule.specs.declared.table.fault.TableFault.TheVariants as table_fault
-use Rattle.ca_claims.specs.Answers.{AreTrueAnswers, AreWithinWork, IsQuietTable}
-use Rattle.ca_claims.specs.Converted.{IsSummary, IsSummaryFault, IsConverted, IsConvertFault}
-use Rattle.ca_claims.specs.Ahead.{IsSummaryAfter, IsReachFault, IsConvertedAfter, IsConvertFaultAfter}
-use Rattle.ca_claims.specs.declared.verdict.Answer.{Answer}
-use Rattle.ca_claims.specs.declared.pattern.Summary.{Summary}
-use Rattle.ca_claims.specs.declared.conversion.ConvertFault.{ConvertFault}
-use Rattle.ca_claims.specs.declared.conversion.ConvertFault.TheVariants as convert_fault
-use Rattle.ca_claims.specs.declared.reached.ReachFault.{ReachFault}
-use Rattle.ca_claims.specs.declared.reached.ReachFault.TheVariants as reach_fault
+use Rattle.ca_verify.specs.Answers.{AreTrueAnswers, AreWithinWork}
+use Rattle.ca_pattern.specs.NamedTables.{IsQuietTable}
+use Rattle.ca_pattern.specs.Converted.{IsSummary, IsSummaryFault, IsConverted, IsConvertFault}
+use Rattle.ca_pattern.specs.Evolved.{IsSummaryAfter, IsReachFault, IsConvertedAfter, IsConvertFaultAfter}
+use Rattle.ca_verify.specs.declared.verdict.Answer.{Answer}
+use Rattle.ca_pattern.specs.declared.pattern.Summary.{Summary}
+use Rattle.ca_pattern.specs.declared.conversion.ConvertFault.{ConvertFault}
+use Rattle.ca_pattern.specs.declared.conversion.ConvertFault.TheVariants as convert_fault
+use Rattle.ca_pattern.specs.declared.reached.ReachFault.{ReachFault}
+use Rattle.ca_pattern.specs.declared.reached.ReachFault.TheVariants as reach_fault
 use Rattle.ca_tool.specs.declared.fault.InputFault.{InputFault}
 use Rattle.ca_tool.specs.declared.fault.InputFault.TheVariants as inputs
 use Rattle.ca_tool.specs.declared.fault.ToolFault.{ToolFault}

@@ -2,8 +2,8 @@
 
 ghost use Rattle.std.specs.Prelude.{◌≡◌, ℕ, ◌≤◌, List, IfOk, IfErr};
 ghost use Rattle.std.specs.Option.{option_copied};
-ghost use Rattle.ca_claims.specs.Limited.{AreGoodLimits};
-ghost use Rattle.ca_claims.specs.DetailedFault.{HasReachDetail};
+ghost use Rattle.ca_pattern.specs.Limited.{AreGoodLimits};
+ghost use Rattle.ca_pattern.specs.DetailedFault.{HasReachDetail};
 ghost use Rattle.ca_plane.specs.Limits.{most_generations};
 ghost use Rattle.ca_tool.specs.Details.{HasRunDetail, fault_alone};
 ghost use Rattle.ca_tool.specs.Runs.{TellsReach, IsFormAfter, IsFormFaultAfter, WritesUnder};
@@ -11,7 +11,7 @@ ghost use Rattle.ca_tool.specs.Runs.{TellsReach, IsFormAfter, IsFormFaultAfter, 
 use crate::fault::ToolFault;
 use crate::pattern_run::{TextForm, convert_refusal, known_table, table_slice, write};
 use crate::summary::summary_lines;
-use ca_claims::{
+use ca_pattern::{
     ConvertFault, DetailedFault, Limits, Observer, ReachFault, convert_after, summary_after,
 };
 use ca_plane::Dev;

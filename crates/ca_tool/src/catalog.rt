@@ -17,8 +17,8 @@ use crate::explanation::{
     outcome_explanation_pieces, outcome_has_explanation, outcome_remedy_pieces,
 };
 use crate::pieces::{Piece, in_pieces, send_both};
-use ca_claims::File;
 use ca_plane::{Dev, Memory, WriteFault};
+use ca_verify::File;
 use std::alloc::Global;
 use std::io::Write;
 use std::marker::Model;
@@ -169,7 +169,7 @@ pub(crate) fn head_pieces<'a>(rule_lines: &'a [u8]) -> [Piece<'a>; 2]
 }
 
 /// A law: the text that `identify_run` writes is a claim text, and so is what it has written of it after each file,
-/// which is the text on the first so many of them. Read as one, as `ca_claims::read_claims` reads it, it says just
+/// which is the text on the first so many of them. Read as one, as `ca_text::read_claims` reads it, it says just
 /// the names of the files that are identified and the claims that are true of them, and the rule files, whose paths
 /// have to be words; and no line of it is faulty. Of planes some generations on it makes no claim.
 pub fn says_its_claims()

@@ -8,8 +8,9 @@ ghost use Rattle.ca_tool.specs.inner.Pieces.{pieces_text};
 use crate::names::is_claim_path;
 use crate::pieces::{NOTHING, Piece, in_pieces, send_pieces};
 use crate::remedy::file_word;
-use ca_claims::{ClaimFault, File};
 use ca_plane::{Dev, WriteFault};
+use ca_text::ClaimFault;
+use ca_verify::File;
 use std::io::Write;
 
 // Whether a text begins as a macrocell does, or as an RLE does with its header or a line about it.

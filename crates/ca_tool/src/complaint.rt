@@ -10,9 +10,10 @@ use crate::fault::{Fault, InputFault, ToolFault};
 use crate::pieces::{Piece, in_pieces, send_pieces};
 use crate::texts::{pattern_fault_bytes, rule_fault_bytes, table_kind, table_line};
 use crate::view::WindowFault;
-use ca_claims::{ClaimFault, ConvertFault};
+use ca_pattern::ConvertFault;
 use ca_plane::{Dev, WriteFault};
 use ca_rule::TableFault;
+use ca_text::ClaimFault;
 use std::io::Write;
 
 // The text of a fault in three pieces.

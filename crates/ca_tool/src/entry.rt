@@ -1,7 +1,8 @@
 //! Files that are to be identified, and what came of them.
 
 use crate::rule_folder::FaultyRule;
-use ca_claims::{Cause, DetailedFault, Look};
+use ca_identify::Look;
+use ca_pattern::{Cause, DetailedFault};
 
 /// What a file that is to be identified gave.
 #[derive(Clone, Copy, Debug)]

@@ -2,7 +2,7 @@
 
 ghost use Rattle.std.specs.Prelude.{◌≡◌, ◌+◌, ◌<◌, ◌^◌, ◌++◌, ◌∷◌, [], codes, decimal, OnOk};
 ghost use Rattle.std.specs.Fmt.{signed_decimal};
-ghost use Rattle.ca_claims.specs.declared.identity.Identity.TheVariants.{Unknown};
+ghost use Rattle.ca_identify.specs.declared.identity.Identity.TheVariants.{Unknown};
 ghost use Rattle.ca_tool.specs.declared.entry.Outcome.TheVariants.{Identified};
 ghost use Rattle.ca_plane.specs.Puts.{Puts};
 ghost use Rattle.ca_tool.specs.Catalog.{load_line, identity_line, refused_line, unnameable_line};
@@ -17,9 +17,11 @@ use crate::finding::{at_pieces, generations_word};
 use crate::growth::{push_counted, push_none};
 use crate::pieces::{Piece, in_pieces, push_pieces};
 use crate::printing::cause_pieces;
-use ca_claims::{Cause, File, Growth, Identity, Look};
+use ca_identify::{Growth, Identity, Look};
+use ca_pattern::Cause;
 use ca_plane::Memory;
 use ca_plane::text::push_text;
+use ca_verify::File;
 
 fn load_pieces<'a>(name: &'a [u8], path: &'a [u8]) -> [Piece<'a>; 5]
     ensures { pieces_text result ≡ load_line name.now path.now }

@@ -12,8 +12,9 @@ use crate::fault::ToolFault;
 use crate::finding::{at_pieces, rule_file_pieces, rule_pieces};
 use crate::pieces::{NOTHING, Piece, in_pieces, send_both};
 use crate::remedy::{bytes_of, cause_remedy, remedy_line_pieces, run_remedy};
-use ca_claims::{Cause, DetailedFault, File};
+use ca_pattern::{Cause, DetailedFault};
 use ca_plane::{Dev, WriteFault};
+use ca_verify::File;
 use std::io::Write;
 
 /// The files of a run: that of the pattern, and the path of the rule file, if there is one.

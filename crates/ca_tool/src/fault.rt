@@ -1,8 +1,9 @@
 //! Faults of the program.
 
 use crate::view::WindowFault;
-use ca_claims::{ClaimFault, ConvertFault};
+use ca_pattern::ConvertFault;
 use ca_rule::TableFault;
+use ca_text::ClaimFault;
 use thiserror::Error;
 
 /// Why a file was not read.

@@ -14,9 +14,10 @@ use crate::printing::answer_pieces;
 use crate::remedy::{Remedy, bytes_of, cause_remedy, remedy_line_pieces};
 use crate::rule_folder::FaultyRule;
 use crate::texts::{table_kind, table_line};
-use ca_claims::{Answer, Cause, File, Note, Verdict, Why};
+use ca_pattern::Cause;
 use ca_plane::{Dev, Memory, WriteFault, send};
 use ca_rule::TableFault;
+use ca_verify::{Answer, File, Note, Refutation, Verdict};
 use std::io::Write;
 
 /// How the answers of a text are printed.
@@ -52,16 +53,16 @@ pub(crate) fn generations_word<'a>(generations: u64) -> &'a [u8]
 }
 
 // The line about a cell that differs, with the name of the pattern.
-fn cell_pieces<'a>(before: &'a [u8], name: &'a [u8], why: Why) -> [Piece<'a>; 16]
-    ensures { pieces_text result ≡ cell_line before.now name.now why }
+fn cell_pieces<'a>(before: &'a [u8], name: &'a [u8], refutation: Refutation) -> [Piece<'a>; 16]
+    ensures { pieces_text result ≡ cell_line before.now name.now refutation }
 {
-    let Why::Differs {
+    let Refutation::Differs {
         x,
         y,
         found,
         claimed,
         gens,
-    } = why
+    } = refutation
     else {
         return [NOTHING; 16];
     };
@@ -191,7 +192,11 @@ fn note_pieces<'a>(style: &ReportStyle<'a>, verdict: Verdict, note: &'a Note<'a>
         ≡ note_text style.now.before.now style.now.faulty.now style.now.missing.now verdict note.now }
 {
     match (verdict, note) {
-        (Verdict::No(why), Note::Cell { name }) => cell_pieces(style.before, name, why),
+        (Verdict::No(refutation), Note::Cell { name }) => cell_pieces(
+            style.before,
+            name,
+            refutation,
+        ),
         (
             Verdict::Refused(_),
             Note::Pattern {

@@ -6,7 +6,7 @@ ghost use Rattle.ca_tool.specs.Catalog.{cells_word, growth_text, none_text};
 
 use crate::finding::generations_word;
 use crate::summary::push_side;
-use ca_claims::Growth;
+use ca_identify::Growth;
 use ca_plane::Memory;
 use ca_plane::text::push_text;
 use itoa::Buffer;

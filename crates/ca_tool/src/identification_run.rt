@@ -4,8 +4,9 @@
 ghost use Rattle.std.specs.Prelude.{◌≡◌, ◌≢◌, ◌≤◌, ◌++◌, ◌∷◌, [], IfOk, IfErr, OnOk, OnErr};
 ghost use Rattle.ca_rule.specs.TableNext.{TableRule};
 ghost use Rattle.ca_rule.specs.declared.table.fault.TableFault.TheVariants as table_fault;
-ghost use Rattle.ca_claims.specs.Answers.{IsQuietTable, IsTableFault, FirstBad};
-ghost use Rattle.ca_claims.specs.Limited.{AreGoodLimits};
+ghost use Rattle.ca_pattern.specs.NamedTables.{IsQuietTable, IsTableFault};
+ghost use Rattle.ca_verify.specs.Answers.{FirstBad};
+ghost use Rattle.ca_pattern.specs.Limited.{AreGoodLimits};
 ghost use Rattle.ca_plane.specs.Limits.{longest_period, most_generations};
 ghost use Rattle.ca_tool.specs.Catalog.{entry_lines, IsOutcome, IsEntry};
 ghost use Rattle.ca_tool.specs.Catalog.{AreRuleTables, WritesCatalog, EndsCatalog};
@@ -19,9 +20,11 @@ use crate::fault::ToolFault;
 use crate::names::{add_name, is_claim_path};
 use crate::pieces::send_pieces;
 use crate::taken_names::TakenNames;
-use ca_claims::{DetailedFault, File, Limits, Observer, Scope, look_after};
+use ca_identify::{Scope, look_after};
+use ca_pattern::{DetailedFault, Limits, Observer};
 use ca_plane::{Dev, Memory, send};
 use ca_rule::{Table, TableFault};
+use ca_verify::File;
 use std::alloc::Global;
 use std::io::Write;
 

@@ -2,9 +2,9 @@
 
 ghost use Rattle.std.specs.Prelude.{◌≡◌, ℕ, List, IfOk, IfErr};
 ghost use Rattle.std.specs.Option.{option_copied, option_to_list};
-ghost use Rattle.ca_claims.specs.Converted.{IsConverted, IsSummaryFault, IsConvertFault};
+ghost use Rattle.ca_pattern.specs.Converted.{IsConverted, IsSummaryFault, IsConvertFault};
 ghost use Rattle.ca_tool.specs.declared.fault.InputFault.TheVariants as inputs;
-ghost use Rattle.ca_claims.specs.DetailedFault.{HasDetail};
+ghost use Rattle.ca_pattern.specs.DetailedFault.{HasDetail};
 ghost use Rattle.ca_tool.specs.Details.{HasRunDetail, fault_alone};
 ghost use Rattle.ca_tool.specs.Writing.{Sends};
 ghost use Rattle.ca_tool.specs.Runs.{ReadsAll, TakesFile, AreKnownTables, IsShown, IsRuleFileFault, RunsOver};
@@ -14,7 +14,7 @@ ghost use Rattle.ca_tool.specs.inner.Refusals.{IsReadingFault};
 use crate::fault::ToolFault;
 use crate::read::read_all;
 use crate::summary::summary_lines;
-use ca_claims::{ConvertFault, DetailedFault, Target, convert_with_detail, summary_with_detail};
+use ca_pattern::{ConvertFault, DetailedFault, Target, convert_with_detail, summary_with_detail};
 use ca_plane::{Dev, send};
 use ca_rule::{Table, TableFault};
 use std::alloc::Global;

@@ -2,17 +2,18 @@
 
 ghost use Rattle.std.specs.Prelude.{◌≡◌, ◌≢◌, ◌++◌, List, ◌∷◌, [], IfOk, OnErr};
 ghost use Rattle.std.specs.List.{list_any};
-ghost use Rattle.ca_claims.specs.declared.verdict.Answer.{Answer as AnswerValue};
-ghost use Rattle.ca_claims.specs.declared.verdict.Verdict.TheVariants.{No, Refused};
-ghost use Rattle.ca_tool.specs.Printed.{return_text, why_text, table_fault_text, cause_text, verdict_text};
+ghost use Rattle.ca_verify.specs.declared.verdict.Answer.{Answer as AnswerValue};
+ghost use Rattle.ca_verify.specs.declared.verdict.Verdict.TheVariants.{No, Refused};
+ghost use Rattle.ca_tool.specs.Printed.{return_text, refutation_text, table_fault_text, cause_text, verdict_text};
 ghost use Rattle.ca_tool.specs.Printed.{answer_line, answer_lines, status_of, is_refusal, is_no};
 ghost use Rattle.ca_tool.specs.inner.Pieces.{pieces_text};
 
 use crate::pieces::{Piece, in_pieces, push_pieces};
 use crate::texts::{pattern_fault_bytes, rule_fault_bytes, table_kind};
-use ca_claims::{Answer, Cause, Verdict, Why};
+use ca_pattern::Cause;
 use ca_plane::Memory;
 use ca_rule::TableFault;
+use ca_verify::{Answer, Refutation, Verdict};
 use std::alloc::Global;
 
 fn return_pieces<'a>(generations: u64, dx: i64, dy: i64) -> [Piece<'a>; 6]
@@ -23,14 +24,14 @@ fn return_pieces<'a>(generations: u64, dx: i64, dy: i64) -> [Piece<'a>; 6]
     ]
 }
 
-fn why_pieces<'a>(why: Why) -> [Piece<'a>; 6]
-    ensures { pieces_text result ≡ why_text why }
+fn refutation_pieces<'a>(refutation: Refutation) -> [Piece<'a>; 6]
+    ensures { pieces_text result ≡ refutation_text refutation }
 {
-    match why {
-        Why::Empty => in_pieces![6; text b"empty"],
-        Why::Differs { gens, .. } => in_pieces![6; text b"cells differ after ", number gens],
-        Why::Earlier { m, dx, dy } => return_pieces(m, dx, dy),
-        Why::Died { m } => in_pieces![6; text b"empty after ", number m],
+    match refutation {
+        Refutation::Empty => in_pieces![6; text b"empty"],
+        Refutation::Differs { gens, .. } => in_pieces![6; text b"cells differ after ", number gens],
+        Refutation::Earlier { m, dx, dy } => return_pieces(m, dx, dy),
+        Refutation::Died { m } => in_pieces![6; text b"empty after ", number m],
     }
 }
 
@@ -66,10 +67,10 @@ fn refusal_pieces<'a>(cause: Cause) -> [Piece<'a>; 7]
     in_pieces![7; text b"refused, ", piece first, piece second]
 }
 
-fn no_pieces<'a>(why: Why) -> [Piece<'a>; 7]
-    ensures { pieces_text result ≡ verdict_text (No why) }
+fn no_pieces<'a>(refutation: Refutation) -> [Piece<'a>; 7]
+    ensures { pieces_text result ≡ verdict_text (No refutation) }
 {
-    let [a, b, c, d, e, f] = why_pieces(why);
+    let [a, b, c, d, e, f] = refutation_pieces(refutation);
     [Piece::Text(b"no, "), a, b, c, d, e, f]
 }
 
@@ -78,7 +79,7 @@ fn verdict_pieces<'a>(verdict: Verdict) -> [Piece<'a>; 7]
 {
     match verdict {
         Verdict::Yes => in_pieces![7; text b"yes"],
-        Verdict::No(why) => no_pieces(why),
+        Verdict::No(refutation) => no_pieces(refutation),
         Verdict::Refused(cause) => refusal_pieces(cause),
     }
 }

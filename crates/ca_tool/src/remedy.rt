@@ -10,10 +10,11 @@ ghost use Rattle.ca_tool.specs.inner.Pieces.{pieces_text};
 use crate::fault::ToolFault;
 use crate::pieces::{NOTHING, Piece, in_pieces};
 use crate::rule_folder::is_file_name;
-use ca_claims::{Cause, ConvertFault, File, PatternFault};
 use ca_macro::MacroFault;
+use ca_pattern::{Cause, ConvertFault, PatternFault};
 use ca_rle::RleFault;
 use ca_rule::RuleFault;
+use ca_verify::File;
 
 /// What helps where a file is refused.
 #[derive(Clone, Copy, Debug, PartialEq, Eq)]

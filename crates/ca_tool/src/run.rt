@@ -1,9 +1,9 @@
 //! Runs of `verify`: claims in, the lines of their answers out, each before the next claim is judged.
 
 ghost use Rattle.std.specs.Prelude.{MatchOption, ◌∷◌, []};
-ghost use Rattle.ca_claims.specs.Means.{contents};
-ghost use Rattle.ca_claims.specs.Judging.{IsDone};
-ghost use Rattle.ca_claims.specs.Limited.{AreGoodLimits};
+ghost use Rattle.ca_verify.specs.Files.{contents};
+ghost use Rattle.ca_verify.specs.Judging.{IsDone};
+ghost use Rattle.ca_pattern.specs.Limited.{AreGoodLimits};
 ghost use Rattle.ca_tool.specs.Writing.{WritesOneOf};
 ghost use Rattle.ca_tool.specs.Runs.{all_claims, IsReport, NeedsMemory, WritesReport, WritesPlainReport};
 ghost use Rattle.ca_tool.specs.inner.Judged.{WereJudged, IsReportPart, WereAllJudged};
@@ -11,9 +11,11 @@ ghost use Rattle.ca_tool.specs.inner.Judged.{WereJudged, IsReportPart, WereAllJu
 use crate::fault::ToolFault;
 use crate::finding::{Finding, ReportStyle, remember_note, send_finding};
 use crate::printing::worse_status;
-use ca_claims::{Claims, File, Judge, Limits, Observer};
+use ca_pattern::{Limits, Observer};
 use ca_plane::Dev;
 use ca_run::Unwatched;
+use ca_text::Claims;
+use ca_verify::{File, Judge};
 use std::alloc::Global;
 use std::io::Write;
 

@@ -6,7 +6,7 @@ ghost use Rattle.ca_plane.specs.Puts.{Puts};
 ghost use Rattle.ca_tool.specs.Printed.{format_name, side_length, pair_text, bounds_text, box_text, word_line};
 ghost use Rattle.ca_tool.specs.Printed.{summary_text};
 
-use ca_claims::{Summary, Target};
+use ca_pattern::{Summary, Target};
 use ca_plane::text::{push_integer, push_text};
 use ca_plane::{Bounds, Memory};
 use itoa::Buffer;

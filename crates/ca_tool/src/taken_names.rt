@@ -5,9 +5,9 @@ ghost use Rattle.ca_plane.specs.Puts.{Puts};
 ghost use Rattle.ca_tool.specs.Names.{is_taken, numbered_name, IsFreeName};
 ghost use Rattle.ca_tool.specs.inner.Tried.{IsTried};
 
-use ca_claims::WordSet;
 use ca_plane::Memory;
 use ca_plane::text::{push_number, push_text};
+use ca_text::WordSet;
 use indexmap::IndexMap;
 use std::alloc::Global;
 use std::marker::Model;

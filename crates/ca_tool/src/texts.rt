@@ -4,8 +4,8 @@ ghost use Rattle.std.specs.Prelude.{◌≡◌, ◌≢◌, ℕ, List, ◌++◌};
 ghost use Rattle.ca_rule.specs.declared.table.fault.TableFault.TheVariants as table_fault;
 ghost use Rattle.ca_tool.specs.Printed.{table_text, table_line, rule_fault_text, pattern_fault_text};
 
-use ca_claims::PatternFault;
 use ca_macro::MacroFault;
+use ca_pattern::PatternFault;
 use ca_rle::RleFault;
 use ca_rule::{RuleFault, TableFault};
 

@@ -8,7 +8,7 @@ use Rattle.ca_plane.specs.Limits.{most_memo, longest_period, most_generations}
 use Rattle.ca_quad.specs.declared.tree.Spot.{Spot}
 use Rattle.ca_draw.specs.declared.drawing.ImageFormat.{ImageFormat}
 use Rattle.ca_draw.specs.declared.drawing.ImageFormat.TheVariants.{Text, Pgm}
-use Rattle.ca_claims.specs.declared.scope.Scope.{Scope}
+use Rattle.ca_identify.specs.declared.scope.Scope.{Scope}
 use Rattle.ca_tool.specs.declared.view.Size.{Size}
 use Rattle.ca_tool.specs.declared.view.View.{View}
 

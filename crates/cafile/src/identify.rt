@@ -5,13 +5,14 @@ use crate::files::{FaultyFile, LoadedFile, load_rule_file, read_file, views};
 use crate::progress::{Heading, Progress};
 use crate::streams::Streams;
 use crate::words::IdentifyExtras;
-use ca_claims::{Cause, DetailedFault, File, rule_text_of};
+use ca_pattern::{Cause, DetailedFault, rule_text_of};
 use ca_plane::Memory;
 use ca_rule::{RuleFault, Table, TableFault, resolve};
 use ca_tool::{
     Catalog, Content, Fault, InputFault, RunFiles, Subject, ToolFault, complain, explain,
     has_explanation, identify_run, is_claim_path,
 };
+use ca_verify::File;
 use std::alloc::Global;
 use std::rt::{Clock, Files};
 

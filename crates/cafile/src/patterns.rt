@@ -5,7 +5,7 @@ use crate::files::{LoadedFile, load_rule_file, open_source, read_file};
 use crate::progress::{Heading, Progress};
 use crate::streams::Streams;
 use crate::words::{DrawWords, PatternExtras};
-use ca_claims::{ConvertFault, DetailedFault, File};
+use ca_pattern::{ConvertFault, DetailedFault};
 use ca_plane::limits::MOST_GENERATIONS;
 use ca_plane::{Dev, Memory, send};
 use ca_rule::RuleFault;
@@ -14,6 +14,7 @@ use ca_tool::{
     CaptionedPicture, Fault, InputFault, RunFiles, TextForm, ToolFault, complain, draw_bytes,
     draw_with_caption, explain, has_explanation, read_all, write_form, write_form_after,
 };
+use ca_verify::File;
 use std::rt::{Clock, Files, Stderr, Stdin};
 
 /// What is written of a pattern file.

@@ -1,6 +1,6 @@
 //! The line on standard error that tells how far a long claim or run is.
 
-use ca_claims::Observer;
+use ca_pattern::Observer;
 use ca_plane::text::{push_number, push_text};
 use ca_plane::{Dev, Memory, send};
 use ca_run::{Milestone, Watch};

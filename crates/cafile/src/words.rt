@@ -10,7 +10,7 @@ mod values;
 mod verification;
 
 use crate::texts;
-use ca_claims::Target;
+use ca_pattern::Target;
 use ca_tool::is_claim_path;
 use clap::error::ErrorKind;
 use clap::{ArgMatches, Command, Error};

@@ -1,7 +1,7 @@
 -- What a loop over claims judged and reported.
 use Rattle.std.specs.Prelude.{◌≡◌, ℕ, List, [], ◌++◌}
 use Rattle.ca_text.specs.Text.{Claim}
-use Rattle.ca_claims.specs.Judging.{Judging}
+use Rattle.ca_verify.specs.Judging.{Judging}
 use Rattle.ca_tool.specs.declared.finding.ReportStyle.{ReportStyle}
 use Rattle.ca_tool.specs.declared.finding.Finding.{Finding}
 use Rattle.ca_tool.specs.Printed.{findings_text, status_of}

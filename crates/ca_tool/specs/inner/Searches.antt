@@ -3,7 +3,7 @@ use Rattle.std.specs.Prelude.{◌≡◌, ◌+◌, ◌^◌, ◌≤◌, ◌<◌, �
 use Rattle.std.specs.List.{flat_map}
 use Rattle.ca_plane.specs.Device.{Counted}
 use Rattle.ca_plane.specs.Limits.{longest_period, most_generations}
-use Rattle.ca_claims.specs.Limited.{AreGoodLimits}
+use Rattle.ca_pattern.specs.Limited.{AreGoodLimits}
 use Rattle.ca_tool.specs.declared.identification_run.Search.{Search}
 use Rattle.ca_tool.specs.declared.entry.Entry.{Entry}
 use Rattle.ca_tool.specs.declared.entry.Outcome.{Outcome}

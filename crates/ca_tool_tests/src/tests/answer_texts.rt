@@ -1,12 +1,14 @@
 //! Lines of answers and faults that no text causes, and causes and faults in the words of their crates.
 
 use super::devices::expect;
-use ca_claims::{Answer, Cause, ClaimFault, ConvertFault, PatternFault, Verdict, Why};
 use ca_macro::MacroFault;
+use ca_pattern::{Cause, ConvertFault, PatternFault};
 use ca_plane::{Dev, Memory};
 use ca_rle::RleFault;
 use ca_rule::{RuleFault, TableFault};
+use ca_text::ClaimFault;
 use ca_tool::{Fault, InputFault, ToolFault, WindowFault, complain, lines};
+use ca_verify::{Answer, Refutation, Verdict};
 use std::alloc::{AllocError, Global};
 use std::test::*;
 
@@ -17,7 +19,7 @@ const ANSWERS: &[Answer] = &[
     },
     Answer {
         line: u64::MAX,
-        verdict: Verdict::No(Why::Differs {
+        verdict: Verdict::No(Refutation::Differs {
             x: -1,
             y: i64::MIN,
             found: 255,
@@ -27,7 +29,7 @@ const ANSWERS: &[Answer] = &[
     },
     Answer {
         line: 13,
-        verdict: Verdict::No(Why::Earlier {
+        verdict: Verdict::No(Refutation::Earlier {
             m: 4_294_967_294,
             dx: i64::MIN,
             dy: -1,
@@ -35,7 +37,7 @@ const ANSWERS: &[Answer] = &[
     },
     Answer {
         line: 9,
-        verdict: Verdict::No(Why::Died { m: u64::MAX }),
+        verdict: Verdict::No(Refutation::Died { m: u64::MAX }),
     },
 ];
 

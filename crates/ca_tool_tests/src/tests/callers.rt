@@ -1,7 +1,10 @@
 //! The callers that the libraries' pages show, and what a text says and no verdict shows.
 
 use super::devices::expect;
-use ca_claims::{Answer, Cause, ClaimFault, File, Limits, Verdict, Why, read_claims, verify};
+use ca_claims::{
+    Answer, Cause, ClaimFault, ConvertFault, File, Limits, Refutation, Target, Verdict, convert,
+    read_claims, summary, unknown_rules, verify,
+};
 use ca_macro::{MacroFault, read_macro};
 use ca_plane::{Automaton, Dev};
 use ca_quad::{Spot, Store};
@@ -126,7 +129,7 @@ const ANSWERS: &[Answer] = &[
     },
     Answer {
         line: 4,
-        verdict: Verdict::No(Why::Empty),
+        verdict: Verdict::No(Refutation::Empty),
     },
 ];
 
@@ -160,7 +163,7 @@ const WORKLESS_ANSWERS: &[Answer] = &[
     },
     Answer {
         line: 4,
-        verdict: Verdict::No(Why::Empty),
+        verdict: Verdict::No(Refutation::Empty),
     },
     Answer {
         line: 5,
@@ -206,4 +209,39 @@ fn claims_and_their_paths(rt: HostRuntime) {
     expect(&rt, is_refused(rt.alloc()) == Ok(true), "no file");
     expect(&rt, has_two_paths(rt.alloc()) == Ok(true), "two paths");
     expect(&rt, has_no_paths(rt.alloc()) == Ok(true), "no paths");
+}
+
+/// Whether a block that is written as macrocell is still one.
+fn is_converted(alloc: Global) -> Result<bool, ConvertFault> {
+    let text = convert(alloc, BLOCK, Target::Mc, &[])?;
+    let told = summary(alloc, &text, &[])?;
+    Ok(told.cells == 4 && told.rule_text.as_slice() == b"B3/S23".as_slice())
+}
+
+#[test]
+fn a_block_is_converted(rt: HostRuntime) {
+    expect(&rt, is_converted(rt.alloc()) == Ok(true), "a macrocell");
+}
+
+/// A file whose rule isn't known.
+const OF_UNKNOWN_RULE: &[File<'static>] = &[File {
+    path: b"mine.rle",
+    bytes: b"x = 1, y = 1, rule = Mine\no!",
+}];
+
+/// Whether the name of that rule is found.
+fn is_asked_for(alloc: Global) -> Result<bool, ClaimFault> {
+    let claims = read_claims(alloc, b"load mine mine.rle\nstill mine\n")?;
+    let Ok(names) = unknown_rules(alloc, &claims, OF_UNKNOWN_RULE) else {
+        return Ok(false);
+    };
+    if names.len() != 1 {
+        return Ok(false);
+    }
+    Ok(names.word(0) == b"Mine".as_slice())
+}
+
+#[test]
+fn a_rule_is_asked_for(rt: HostRuntime) {
+    expect(&rt, is_asked_for(rt.alloc()) == Ok(true), "an unknown rule");
 }

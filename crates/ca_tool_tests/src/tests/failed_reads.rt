@@ -1,7 +1,7 @@
 //! Files whose reader fails.
 
 use super::devices::{Faulty, expect};
-use ca_claims::Target;
+use ca_pattern::Target;
 use ca_plane::Dev;
 use ca_tool::{InputFault, ToolFault, convert_run, read_all, show_run};
 use std::alloc::Global;

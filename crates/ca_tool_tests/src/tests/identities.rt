@@ -1,7 +1,8 @@
 //! What patterns are, found out from their files. Periods and life spans are those of the field's collections.
 
 use super::devices::expect;
-use ca_claims::{Cause, DetailedFault, Growth, Identity, Limits, identify};
+use ca_identify::{Growth, Identity, identify};
+use ca_pattern::{Cause, DetailedFault, Limits};
 use ca_plane::Bounds;
 use ca_run::Unwatched;
 use std::alloc::Global;

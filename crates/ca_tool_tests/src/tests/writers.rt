@@ -5,8 +5,8 @@ ghost use Rattle.std.specs.List.{All};
 ghost use Rattle.ca_plane.specs.Limits.{IsInRange};
 ghost use Rattle.ca_quad.specs.Trees.{IsTree, cell};
 
-use ca_claims::read_pattern;
 use ca_macro::write_macro_to;
+use ca_pattern::read_pattern;
 use ca_plane::{Dev, Memory, Plane, Point, WriteFault};
 use ca_quad::{Store, Tree};
 use ca_rle::{read_rle, write_rle_to};

@@ -1,12 +1,12 @@
 //! What a run on claims is asked for besides these, and how much each may take.
 
 ghost use Rattle.std.specs.Prelude.{◌≡◌, codes};
-ghost use Rattle.ca_claims.specs.Limited.{AreGoodLimits};
+ghost use Rattle.ca_pattern.specs.Limited.{AreGoodLimits};
 ghost use Rattle.cafile.specs.Words.{IsNumberAfter, memo_of, work_of, squares_of};
 
 use crate::words::arguments::{MOST_MEMORY, flag_word, memo_word, memory_word, work_word};
 use crate::words::values::number_value;
-use ca_claims::Limits;
+use ca_pattern::Limits;
 use ca_plane::limits::MOST_MEMO;
 use clap::{ArgMatches, Command};
 use std::alloc::{AllocError, Global};

@@ -11,7 +11,7 @@ use crate::words::pattern::after_word;
 use crate::words::raw::path_bytes;
 use crate::words::values::{number_value, path_value, values_of};
 use crate::words::{Request, WordsFault};
-use ca_claims::Scope;
+use ca_identify::Scope;
 use ca_plane::limits::{LONGEST_PERIOD, MOST_GENERATIONS};
 use clap::{Arg, ArgMatches, Command, value_parser};
 use std::alloc::{AllocError, Global};

@@ -1,7 +1,7 @@
 //! The words of `show` and `convert`, and those that `draw` shares with them.
 
 ghost use Rattle.std.specs.Prelude.{◌≡◌, codes, IfOk};
-ghost use Rattle.ca_claims.specs.Limited.{AreGoodLimits};
+ghost use Rattle.ca_pattern.specs.Limited.{AreGoodLimits};
 ghost use Rattle.cafile.specs.Words.{IsTextAfter, IsNumberAfter, memo_of, work_of, squares_of};
 
 use crate::texts;
@@ -11,7 +11,7 @@ use crate::words::arguments::{
 use crate::words::extras::{limits_of, most_squares};
 use crate::words::values::{number_value, path_value, value_of};
 use crate::words::{Request, WordsFault};
-use ca_claims::{Limits, Target};
+use ca_pattern::{Limits, Target};
 use clap::{Arg, ArgMatches, Command, value_parser};
 use std::alloc::{AllocError, Global};
 

@@ -1,5 +1,5 @@
 use Rattle.std.proofs.Common.{subst, sym}
-use Rattle.ca_claims.specs.declared.detailed_fault.DetailedFault.{DetailedFault}
+use Rattle.ca_pattern.specs.declared.detailed_fault.DetailedFault.{DetailedFault}
 use Rattle.ca_tool.specs.declared.fault.ToolFault.{ToolFault}
 use Rattle.ca_tool.specs.Details.{HasRunDetail}
 use Rattle.ca_tool.specs.Drawn.{IsDrawFault}

@@ -1,9 +1,9 @@
 use Rattle.std.proofs.Common.{◌+◌, [], ◌∷◌, ◌++◌, take, if◌then◌else◌, ap, subst, sym, ◌∙◌}
 use Rattle.std.proofs.lemmas.Option.{slice_get-get_or}
 use Rattle.ca_rule.specs.TableNext.{TableRule}
-use Rattle.ca_claims.specs.declared.file.File.{File}
-use Rattle.ca_claims.specs.Answers.{IsQuietTable, IsTableFault}
-use Rattle.ca_claims.proofs.PairedLists.{first_behind, zip_more}
+use Rattle.ca_verify.specs.declared.file.File.{File}
+use Rattle.ca_pattern.specs.NamedTables.{IsQuietTable, IsTableFault}
+use Rattle.ca_verify.proofs.PairedLists.{first_behind, zip_more}
 use Rattle.ca_tool.specs.Catalog.{AreRuleTables}
 use Rattle.ca_tool.proofs.identification_run.parse_tables.Goals as goal
 

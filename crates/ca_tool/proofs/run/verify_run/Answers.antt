@@ -1,5 +1,5 @@
 use Rattle.std.proofs.Common.{refl, subst}
-use Rattle.ca_claims.specs.Judging.{Judging}
+use Rattle.ca_verify.specs.Judging.{Judging}
 use Rattle.ca_tool.specs.Runs.{WritesPlainReport}
 use Rattle.ca_tool.proofs.ReportedClaims.{plain_report, plain_part}
 use Rattle.ca_tool.proofs.WrittenTexts.{writes_weaker}

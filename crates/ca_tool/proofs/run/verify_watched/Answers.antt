@@ -1,5 +1,5 @@
 use Rattle.std.proofs.Common.{subst}
-use Rattle.ca_claims.specs.Judging.{Judging}
+use Rattle.ca_verify.specs.Judging.{Judging}
 use Rattle.ca_tool.specs.Runs.{WritesReport}
 use Rattle.ca_tool.proofs.ReportedClaims.{report_on_first}
 use Rattle.ca_tool.proofs.WrittenTexts.{writes_weaker}

@@ -1,4 +1,0 @@
-use Rattle.ca_claims.proofs.decide.decide.Goals as goal
-
-pub returns-in-Ok-Some-clause-decided : goal.returns-in-Ok-Some-clause-decided
-returns-in-Ok-Some-clause-decided g c = λ cells other shown. rw c.in-Ok-Some.field-0-is at (rw c.in-Ok-Some.is at (c.why_not.ensures.why cells other shown))

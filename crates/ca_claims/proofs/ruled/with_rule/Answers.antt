@@ -1,6 +1,0 @@
-use Rattle.std.proofs.Common.{refl, subst}
-use Rattle.ca_rule.specs.Rule.{IsRuleFault}
-use Rattle.ca_claims.proofs.ruled.with_rule.Goals as goal
-
-pub returns-in-Err : goal.returns-in-Err
-returns-in-Err c = (refl, subst (λ t. IsRuleFault t c.args.tables.now c.in-Err.fault) c.deref.ensures.value c.in-Err.ensures.fault)

@@ -1,5 +1,0 @@
-use Rattle.ca_claims.proofs.AddedTables.{verdict_stays}
-use Rattle.ca_claims.proofs.verdict_laws.added_rules_change_no_verdict.Goals as goal
-
-pub returns : goal.returns
-returns c = λ files rules more claim verdict all other holds. verdict_stays files rules more all claim verdict other holds

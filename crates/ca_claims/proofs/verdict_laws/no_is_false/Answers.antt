@@ -1,6 +1,0 @@
-use Rattle.ca_text.specs.Asks.{asks_of}
-use Rattle.ca_claims.proofs.Verdicts.{false_from_reason}
-use Rattle.ca_claims.proofs.verdict_laws.no_is_false.Goals as goal
-
-pub returns : goal.returns
-returns c = λ next cells other claim why. false_from_reason next cells other (asks_of claim) why

@@ -1,6 +1,0 @@
-use Rattle.ca_text.specs.Asks.{asks_of}
-use Rattle.ca_claims.proofs.OneReason.{one_reason}
-use Rattle.ca_claims.proofs.verdict_laws.one_reason.Goals as goal
-
-pub returns : goal.returns
-returns c = λ next cells other claim. one_reason next cells other (asks_of claim)

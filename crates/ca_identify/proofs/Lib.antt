@@ -1,0 +1,13 @@
+pub mod Corners
+pub mod IdentifiedFiles
+pub mod Identities
+pub mod IdentityRefusals
+pub mod LaterPlanes
+pub mod MovedPopulations
+pub mod NoReturn
+pub mod OneIdentity
+pub mod Spending
+pub mod Stages
+pub mod Starts
+pub mod Strides
+pub mod Times

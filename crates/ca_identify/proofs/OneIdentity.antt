@@ -1,0 +1,281 @@
+-- A pattern is found to be one thing at most within a limit, and a file's pattern that or not identified for one cause.
+use Rattle.std.proofs.Common.{◌≡◌, ◌≢◌, ℕ, zero, suc, ◌+◌, ◌-◌, ◌*◌, ◌≤◌, ◌<◌, List, [], Option, None, Some, refl, sym, ap, ap₂, subst, ◌∙◌, inl, inr, arith}
+use Rattle.std.specs.Prelude.{ℤ, pos, negsuc, ◌+ℤ◌, ◌-ℤ◌, ◌*ℤ◌}
+use Rattle.std.specs.Option.{MatchOption}
+use Rattle.std.proofs.Math.Nat.{suc-mul, mul_comm}
+use Rattle.std.proofs.Math.IntN.{*ℤ-zero}
+use Rattle.std.proofs.lemmas.Bool.{cases_order}
+use Rattle.std.proofs.lemmas.Int.{ints}
+use Rattle.ca_plane.specs.Plane.{Picture, cell, IsSame, shifted, IsLive}
+use Rattle.ca_plane.specs.Generations.{after, cells_after, IsAfter}
+use Rattle.ca_plane.proofs.Populations.{same_population}
+use Rattle.ca_plane.proofs.Shifts.{cell-shifted}
+use Rattle.ca_rle.specs.Faults.{IsFirstRleFault}
+use Rattle.ca_rle.specs.FaultyLine.{IsFirstRleFaultOn}
+use Rattle.ca_rle.proofs.FaultLines as rle
+use Rattle.ca_macro.specs.Faults.{IsFirstMacrocellFault, IsFirstMacrocellFaultOn}
+use Rattle.ca_macro.proofs.OneMeaning as macrocell
+use Rattle.ca_rule.specs.TableNext.{TableRule}
+use Rattle.ca_rule.specs.Rule.{RuleValue, next_of}
+use Rattle.ca_plane.proofs.After.{after_same, after_seen}
+use Rattle.ca_run.proofs.Returns.{after_stands, back_times, vector_times}
+use Rattle.ca_run.proofs.Vectors.{no_vector, live-moved}
+use Rattle.ca_text.specs.declared.asks.Forbidden.TheVariants.{InPlace, Anywhere, EmptyPlane}
+use Rattle.ca_text.specs.declared.line.Kind.TheVariants as kind
+use Rattle.ca_pattern.specs.declared.conversion.ConvertFault.{ConvertFault}
+use Rattle.ca_pattern.specs.declared.conversion.ConvertFault.TheVariants as convert_fault
+use Rattle.ca_identify.specs.declared.identity.Growth.{Growth}
+use Rattle.ca_identify.specs.declared.identity.Identity.{Identity}
+use Rattle.ca_identify.specs.declared.identity.Identity.TheVariants.{Empty, StillLife, Oscillator, Spaceship, Dies, Unknown}
+use Rattle.ca_pattern.specs.declared.pattern_fault.PatternFault.{PatternFault}
+use Rattle.ca_pattern.specs.declared.pattern_fault.PatternFault.TheVariants as pattern_fault
+use Rattle.ca_pattern.specs.declared.cause.Cause.{Cause}
+use Rattle.ca_pattern.specs.declared.cause.Cause.TheVariants.{NoFile, BadTable, BadPattern, BadRule, StateTooLarge, MixedRules, TooManyCells, Work, Memory}
+use Rattle.ca_pattern.specs.Faults.{IsPatternFaultOn}
+use Rattle.ca_pattern.specs.Converted.{IsSummaryFault}
+use Rattle.ca_identify.specs.Identified.{IsGrowth, IsIdentity, IsIdentityAfter, HoldsSmallPattern, IsUnidentifiedFor, IsUnidentifiedAfterFor}
+use Rattle.ca_text.specs.Truth.{ShowsNothingForbidden}
+use Rattle.ca_identify.specs.inner.Causes.{cause_of}
+use Rattle.ca_identify.proofs.IdentifiedFiles.{same_identity}
+use Rattle.ca_pattern.proofs.OneConversion.{one_box, ready_or_fault, one_summary_fault}
+use Rattle.ca_pattern.proofs.Vectors.{one_vector}
+use Rattle.ca_pattern.proofs.OneText.{box_shown}
+use Rattle.ca_pattern.proofs.PatternsRead.{fault_on}
+use Rattle.ca_text.proofs.Truths.{back}
+use Rattle.ca_pattern.proofs.OneMeaning.{one_ruled}
+
+-- ---- multiples
+
+no_less : (k n : ℕ) → 1 ≤ k → n ≤ k * n
+no_less zero n some = absurd (omega (arith, some))
+no_less (suc k) n some = omega (arith, suc-mul k n)
+
+-- only 0 has a multiple that is 0
+no_multiple : (k : ℕ) (d : ℤ) → 1 ≤ k → pos k *ℤ d ≡ pos 0 → d ≡ pos 0
+no_multiple k (pos n) some e =
+    let none : k * n ≡ 0 = omega (arith, ints, e) in
+    let nothing : n ≡ 0 = omega (arith, none, no_less k n some) in
+    ap pos nothing
+no_multiple k (negsuc n) some e =
+    let none : k * suc n ≡ 0 = omega (arith, ints, e) in
+    absurd (omega (arith, none, no_less k (suc n) some))
+
+-- ---- a plane that is empty
+
+-- it has one state everywhere after n generations,
+one_state : (next : List ℕ → ℕ) (n : ℕ) (x y u v : ℤ) → cells_after next (λ _ _. 0) n x y ≡ cells_after next (λ _ _. 0) n u v
+one_state next n x y u v =
+    let across : (u -ℤ x) +ℤ x ≡ u = omega (arith, ints) in
+    let down : (v -ℤ y) +ℤ y ≡ v = omega (arith, ints) in
+    after_seen next (λ _ _. 0) (u -ℤ x) (v -ℤ y) n x y ∙ ap₂ (cells_after next (λ _ _. 0) n) across down
+
+-- as no live picture has
+many_states : (p : Picture) → IsLive p → ((x y u v : ℤ) → cell p x y ≡ cell p u v) → ⊥
+many_states p live same =
+    let none = no_vector p (pos 1) (pos 0) live (λ x y. same x y (x -ℤ pos 1) (y -ℤ pos 0) ∙ sym (cell-shifted p (pos 1) (pos 0) x y)) in
+    omega (arith, ints, none.0)
+
+module _ (next : List ℕ → ℕ) (cells : Picture) (live : IsLive cells) where
+  moved_live : (dx dy : ℤ) → IsLive (shifted cells dx dy)
+  moved_live dx dy = (live.0 +ℤ dx, live.1 +ℤ dy, live-moved cells (shifted cells dx dy) dx dy live.0 live.1 (λ x y. refl) live.2)
+
+  -- so a live pattern that is back some time doesn't die
+  dead_or_back : (n g : ℕ) (dx dy : ℤ) → 1 ≤ g → IsAfter next cells n [] → IsAfter next cells g (shifted cells dx dy) → ⊥
+  dead_or_back n g dx dy some dead stands =
+      let again = back_times next cells g n dx dy stands in
+      let more : n ≤ n * g = subst (λ t. n ≤ t) (mul_comm g n) (no_less g n some) in
+      let split : n + (n * g - n) ≡ n * g = omega (arith, more) in
+      let at : (x y : ℤ) → cells_after next (λ _ _. 0) (n * g - n) x y ≡ cell (shifted cells (pos n *ℤ dx) (pos n *ℤ dy)) x y =
+      λ x y. after_same next (λ _ _. 0) (cell []) (n * g - n) (λ u v. refl) x y ∙ after_stands next cells [] n (n * g - n) dead x y
+      ∙ ap (λ t. after next cells t x y) split ∙ again x y in
+      many_states (shifted cells (pos n *ℤ dx) (pos n *ℤ dy)) (moved_live (pos n *ℤ dx) (pos n *ℤ dy)) (λ x y u v. sym (at x y) ∙ one_state next (n * g - n) x y u v ∙ at u v)
+
+  -- and one that is back in its place some time is back by no other vector
+  placed_or_moved : (m n : ℕ) (dx dy : ℤ) → 1 ≤ m → IsAfter next cells m (shifted cells (pos 0) (pos 0)) → IsAfter next cells n (shifted cells dx dy) → (dx ≡ pos 0) × (dy ≡ pos 0)
+  placed_or_moved m n dx dy some placed moved =
+      let again = subst (λ t. IsAfter next cells t (shifted cells (pos n *ℤ pos 0) (pos n *ℤ pos 0))) (mul_comm n m) (back_times next cells m n (pos 0) (pos 0) placed) in
+      let vector = vector_times next cells n m dx dy (pos n *ℤ pos 0) (pos n *ℤ pos 0) live moved again in
+      (no_multiple m dx some (sym vector.0 ∙ *ℤ-zero (pos n)), no_multiple m dy some (sym vector.1 ∙ *ℤ-zero (pos n)))
+
+-- ---- times
+
+-- two times at which something is shown, and at no earlier one, are one
+one_first : (Shown Hidden : ℕ → Type 0) → ((k : ℕ) → Shown k → Hidden k → ⊥) → (m n : ℕ) → 1 ≤ m → 1 ≤ n → Shown m → Shown n
+    → ((k : ℕ) → 1 ≤ k → k < m → Hidden k) → ((k : ℕ) → 1 ≤ k → k < n → Hidden k) → m ≡ n
+one_first Shown Hidden not_both m n first other shows shows_too before before_too =
+    elim (cases_order m n) [
+      | inl e ↦ e
+      | inr (inl less) ↦ absurd (not_both m shows (before_too m first less))
+      | inr (inr more) ↦ absurd (not_both n shows_too (before n other more))
+    ]
+
+-- ---- identities
+
+-- the place of an identity in an order
+abbrev place : Identity → ℕ
+place Empty = 0
+place (Dies generations) = 1
+place StillLife = 2
+place (Oscillator period) = 3
+place (Spaceship period dx dy) = 4
+place (Unknown growth) = 5
+
+last_place : (a : Identity) → place a ≤ 5
+last_place Empty = omega arith
+last_place (Dies generations) = omega arith
+last_place StillLife = omega arith
+last_place (Oscillator period) = omega arith
+last_place (Spaceship period dx dy) = omega arith
+last_place (Unknown growth) = omega arith
+
+module _ (next : List ℕ → ℕ) (cells : Picture) (limit : ℕ) where
+  -- a pattern that isn't empty is live
+  live_of : (a : Identity) → 1 ≤ place a → IsIdentity next cells limit a → IsLive cells
+  live_of Empty some is = absurd (omega (arith, some))
+  live_of (Dies n) some is = is.holds.live refl
+  live_of StillLife some is = is.holds.live refl
+  live_of (Oscillator p) some is = is.holds.live refl
+  live_of (Spaceship p dx dy) some is = is.holds.live refl
+  live_of (Unknown growth) some is = is.0
+
+  -- of two kinds of identity one alone is that of a pattern
+  one_kind : (a b : Identity) → place a < place b → IsIdentity next cells limit a → IsIdentity next cells limit b → ⊥
+  one_kind Empty b less dead is = dead (live_of b (omega (arith, less)) is)
+  one_kind (Dies n) StillLife less dies is = dead_or_back next cells (is.holds.live refl) n 1 (pos 0) (pos 0) (omega arith) dies.holds.stands is.holds.stands
+  one_kind (Dies n) (Oscillator p) less dies is = dead_or_back next cells (is.holds.live refl) n p (pos 0) (pos 0) (omega (arith, is.numbers.0)) dies.holds.stands is.holds.stands
+  one_kind (Dies n) (Spaceship p dx dy) less dies is = dead_or_back next cells (is.holds.live refl) n p dx dy is.numbers.0 dies.holds.stands is.holds.stands
+  one_kind (Dies n) (Unknown growth) less is unknown = unknown.1 (kind.Dies n) tt is.numbers.0 is.within is.holds
+  one_kind StillLife (Oscillator p) less still is = back next cells InPlace 1 (pos 0) (pos 0) (refl, refl) still.holds.stands (is.holds.least 1 (omega arith) (omega (arith, is.numbers.0)))
+  one_kind StillLife (Spaceship p dx dy) less still is =
+      let none = placed_or_moved next cells (is.holds.live refl) 1 p dx dy (omega arith) still.holds.stands is.holds.stands in
+      is.numbers.4 none.0 none.1
+  one_kind StillLife (Unknown growth) less is unknown = unknown.1 kind.Still tt (omega arith) is.within is.holds
+  one_kind (Oscillator q) (Spaceship p dx dy) less back_there is =
+      let none = placed_or_moved next cells (is.holds.live refl) q p dx dy (omega (arith, back_there.numbers.0)) back_there.holds.stands is.holds.stands in
+      is.numbers.4 none.0 none.1
+  one_kind (Oscillator p) (Unknown growth) less is unknown = unknown.1 (kind.Oscillator p) tt (omega (arith, is.numbers.0)) is.within is.holds
+  one_kind (Spaceship p dx dy) (Unknown growth) less is unknown = unknown.1 (kind.Spaceship p dx dy) tt is.numbers.0 is.within is.holds
+  one_kind (Unknown growth) b less h k = absurd (omega (arith, less, last_place b))
+  one_kind a b less h k = absurd (omega (arith, less))
+
+  -- a plane has grown so far in one way
+  one_growth : (p q : Picture) (a b : Growth) → IsSame p q → IsGrowth p a → IsGrowth q b → a ≡ b
+  one_growth p q a b same one two =
+      let count = same_population (cell p) (cell q) same a.cells b.cells one.population two.population in
+      let box = one_box q a.bounds b.bounds (box_shown p q same a.bounds one.bounds) two.bounds in
+      λ i. record { cells = count i; bounds = box i }
+
+  -- and two of one kind are one
+  same_kind : (a b : Identity) → place a ≡ place b → IsIdentity next cells limit a → IsIdentity next cells limit b → a ≡ b
+  same_kind Empty Empty e h k = refl
+  same_kind (Dies m) (Dies n) e h k =
+      ap Dies (one_first (λ t. IsAfter next cells t []) (ShowsNothingForbidden next cells EmptyPlane) (λ t empty live. live.2 (empty live.0 live.1)) m n
+      h.numbers.0 k.numbers.0 h.holds.stands k.holds.stands h.holds.least k.holds.least)
+  same_kind StillLife StillLife e h k = refl
+  same_kind (Oscillator p) (Oscillator q) e h k =
+      ap Oscillator (one_first (λ t. IsAfter next cells t (shifted cells (pos 0) (pos 0))) (ShowsNothingForbidden next cells InPlace) (λ t. back next cells InPlace t (pos 0) (pos 0) (refl, refl)) p q
+      (omega (arith, h.numbers.0)) (omega (arith, k.numbers.0)) h.holds.stands k.holds.stands h.holds.least k.holds.least)
+  same_kind (Spaceship p dx dy) (Spaceship q u v) e h k =
+      let time = one_first (λ t. (x : ℤ) × (y : ℤ) × IsAfter next cells t (shifted cells x y)) (ShowsNothingForbidden next cells Anywhere) (λ t there. back next cells Anywhere t there.0 there.1 tt there.2) p q
+      h.numbers.0 k.numbers.0 (dx, dy, h.holds.stands) (u, v, k.holds.stands) h.holds.least k.holds.least in
+      let vector = one_vector cells dx dy u v (h.holds.live refl) (λ x y. sym (h.holds.stands x y) ∙ ap (λ t. after next cells t x y) time ∙ k.holds.stands x y) in
+      let right = vector.0 in
+      let down = vector.1 in
+      λ i. Spaceship (time i) (right i) (down i)
+  same_kind (Unknown a) (Unknown b) e (live, none, p, is, grown) (lives, nothing, q, is_too, grows) = ap Unknown (one_growth p q a b (λ x y. sym (is x y) ∙ is_too x y) grown grows)
+  same_kind a b e h k = let no : ⊥ = omega (arith, e) in absurd no
+
+  -- so a pattern has one identity
+  pub one_identity : (a b : Identity) → IsIdentity next cells limit a → IsIdentity next cells limit b → a ≡ b
+  one_identity a b h k =
+      elim (cases_order (place a) (place b)) [
+        | inl e ↦ same_kind a b e h k
+        | inr (inl less) ↦ absurd (one_kind a b less h k)
+        | inr (inr more) ↦ absurd (one_kind b a more k h)
+      ]
+
+-- and its plane has one some generations on
+pub one_identity_after : (next : List ℕ → ℕ) (cells : Picture) (n limit : ℕ) (a b : Identity) → IsIdentityAfter next cells n limit a → IsIdentityAfter next cells n limit b → a ≡ b
+one_identity_after next cells n limit a b (p, stands, is) (q, goes, are) =
+    one_identity next q limit a b (same_identity next p q (λ x y. sym (stands x y) ∙ goes x y) limit a is) are
+
+-- ---- lines
+
+-- a fault stands on one line, or on none
+one_line_or_none : (First : Type 0) (On : ℕ → Type 0) → ((n : ℕ) → On n → First) → ((m n : ℕ) → On m → On n → m ≡ n) → (a b : Option ℕ)
+    → MatchOption a (First → ⊥) On → MatchOption b (First → ⊥) On → a ≡ b
+one_line_or_none First On is_first one None None h k = refl
+one_line_or_none First On is_first one None (Some n) h k = absurd (h (is_first n k))
+one_line_or_none First On is_first one (Some m) None h k = absurd (k (is_first m h))
+one_line_or_none First On is_first one (Some m) (Some n) h k = ap Some (one m n h k)
+
+one_line_of : (bytes : List ℕ) (fault : PatternFault) (a b : Option ℕ) → IsPatternFaultOn bytes fault a → IsPatternFaultOn bytes fault b → a ≡ b
+one_line_of bytes (pattern_fault.Rle f) a b h k =
+    one_line_or_none (IsFirstRleFault bytes f) (IsFirstRleFaultOn bytes f) (rle.fault_of_line bytes f) (λ m n on too. rle.one_faulty_line bytes m n (f, on) (f, too)) a b h.2.1 k.2.1
+one_line_of bytes (pattern_fault.Macro f) a b h k =
+    one_line_or_none (IsFirstMacrocellFault bytes f) (IsFirstMacrocellFaultOn bytes f) (macrocell.is_first bytes f) (λ m n on too. macrocell.one_faulty_line bytes m n (f, on) (f, too)) a b h.2.1 k.2.1
+one_line_of bytes pattern_fault.Memory a b h k = absurd h
+
+-- ---- files
+
+module _ (bytes : List ℕ) (tables : List TableRule) where
+  -- what one thing at most is of cells under a rule, one thing at most is of a file
+  pub one_found : (Is : (List ℕ → ℕ) → Picture → Identity → Type 0) → ((next : List ℕ → ℕ) (cells : Picture) (a b : Identity) → Is next cells a → Is next cells b → a ≡ b)
+      → (a b : Identity) → ((cells : Picture) × (rule : RuleValue) × HoldsSmallPattern bytes tables cells rule × Is (next_of rule) cells a)
+      → ((cells : Picture) × (rule : RuleValue) × HoldsSmallPattern bytes tables cells rule × Is (next_of rule) cells b) → a ≡ b
+  one_found Is one a b (p, r, holds, is) (q, s, held, are) =
+      let same = one_ruled bytes tables p q r s holds.0 held.0 holds.1.holds held.1.holds in
+      let by_rule = subst (λ u. Is (next_of u) p a) same.1 is in
+      one (next_of s) q a b (subst (λ c. Is (next_of s) c a) same.0 by_rule) are
+
+  -- a cause other than out of work and memory is why the file has no summary
+  file_fault : (work limit : ℕ) (cause : Cause) (line : Option ℕ) → cause ≢ Memory → cause ≢ Work → IsUnidentifiedFor bytes tables work limit cause line
+      → (fault : ConvertFault) × (fault ≢ convert_fault.Memory) × IsSummaryFault bytes tables fault × (cause ≡ cause_of fault)
+  file_fault work limit (BadPattern fault) line m w h = (convert_fault.BadPattern fault, (λ e. cc), fault_on bytes fault line h, refl)
+  file_fault work limit (BadRule fault) line m w h = (convert_fault.BadRule fault, (λ e. cc), h.1, refl)
+  file_fault work limit StateTooLarge line m w (none, cells, rule, generation, holds, large) = (convert_fault.StateTooLarge, (λ e. cc), (cells, rule, generation, holds, large), refl)
+  file_fault work limit NoFile line m w h = absurd h
+  file_fault work limit (BadTable fault) line m w h = absurd h
+  file_fault work limit MixedRules line m w h = absurd h
+  file_fault work limit TooManyCells line m w h = absurd h
+  file_fault work limit Work line m w h = absurd (w refl)
+  file_fault work limit Memory line m w h = absurd (m refl)
+
+  -- so a file whose pattern is taken up has none
+  pub held_or_cause : (p : Picture) (r : RuleValue) (work limit : ℕ) (cause : Cause) (line : Option ℕ) → cause ≢ Memory → cause ≢ Work → HoldsSmallPattern bytes tables p r
+      → IsUnidentifiedFor bytes tables work limit cause line → ⊥
+  held_or_cause p r work limit cause line m w (g, holds) h =
+      let (fault, other, is, same) = file_fault work limit cause line m w h in
+      ready_or_fault bytes tables p r g fault other holds.holds holds.small is
+
+  -- and a file has one, on one line or on none
+  same_line : (work limit : ℕ) (cause : Cause) (line other : Option ℕ) → IsUnidentifiedFor bytes tables work limit cause line → IsUnidentifiedFor bytes tables work limit cause other → line ≡ other
+  same_line work limit (BadPattern fault) line other h k = one_line_of bytes fault line other h k
+  same_line work limit (BadRule fault) line other h k = h.0 ∙ sym k.0
+  same_line work limit StateTooLarge line other h k = h.0 ∙ sym k.0
+  same_line work limit Work line other h k = h.0 ∙ sym k.0
+  same_line work limit Memory line other h k = h.0 ∙ sym k.0
+  same_line work limit NoFile line other h k = absurd h
+  same_line work limit (BadTable fault) line other h k = absurd h
+  same_line work limit MixedRules line other h k = absurd h
+  same_line work limit TooManyCells line other h k = absurd h
+
+  pub one_cause_of : (work limit : ℕ) (a b : Cause) (line other : Option ℕ) → a ≢ Memory → a ≢ Work → b ≢ Memory → b ≢ Work
+      → IsUnidentifiedFor bytes tables work limit a line → IsUnidentifiedFor bytes tables work limit b other → (a ≡ b) × (line ≡ other)
+  one_cause_of work limit a b line other m w n v h k =
+      let (f, not_memory, is, same) = file_fault work limit a line m w h in
+      let (g, nor_memory, are, too) = file_fault work limit b other n v k in
+      let cause : a ≡ b = same ∙ ap cause_of (one_summary_fault bytes tables f g not_memory nor_memory is are) ∙ sym too in
+      (cause, same_line work limit b line other (subst (λ c. IsUnidentifiedFor bytes tables work limit c line) cause h) k)
+
+  -- which doesn't depend on the generations
+  pub cause_now : (work n limit : ℕ) (cause : Cause) (line : Option ℕ) → cause ≢ Work → IsUnidentifiedAfterFor bytes tables work n limit cause line → IsUnidentifiedFor bytes tables work limit cause line
+  cause_now work n limit Work line w h = absurd (w refl)
+  cause_now work n limit NoFile line w h = h
+  cause_now work n limit (BadTable fault) line w h = h
+  cause_now work n limit (BadPattern fault) line w h = h
+  cause_now work n limit (BadRule fault) line w h = h
+  cause_now work n limit StateTooLarge line w h = h
+  cause_now work n limit MixedRules line w h = h
+  cause_now work n limit TooManyCells line w h = h
+  cause_now work n limit Memory line w h = h

@@ -1,0 +1,210 @@
+use Rattle.std.proofs.Common.{rules, ◌≡◌, ℕ, ◌+◌, ◌-◌, ◌≤◌, ◌<◌, List, take, refl, sym, subst, ◌∙◌, arith, w64, SFits, to_z, of_z}
+use Rattle.std.proofs.lemmas.Int.{to_z-of_z}
+use Rattle.std.specs.Prelude.{ℤ, replicate, slice_get, Some}
+use Rattle.ca_plane.specs.Generations.{cells_after}
+use Rattle.ca_quad.specs.Boxes.{IsDead}
+use Rattle.ca_quad.specs.Trees.{cell}
+use Rattle.ca_quad.proofs.Measures.{boxes_stay}
+use Rattle.ca_quad.proofs.Trims.{trees_stay}
+use Rattle.ca_run.specs.Leaping.{LeaperGrows}
+use Rattle.ca_run.proofs.ShownPlanes.{goes_on_again}
+use Rattle.ca_identify.specs.declared.identification.stage.First.{First}
+use Rattle.ca_pattern.specs.inner.LaterTrees.{IsLaterTree}
+use Rattle.ca_identify.specs.inner.Stages.{IsStage, IsWalk, IsFirstAgain, IsLastMovedFrom, AreMoved, AreMovedNowhere}
+use Rattle.ca_pattern.specs.PatternTrees.{HasLive}
+use Rattle.ca_identify.proofs.LaterPlanes.{tree_picture}
+use Rattle.ca_identify.proofs.Stages.{first_stays, later_stays, stage_to, walk_as, walk_stays}
+use Rattle.ca_identify.proofs.Strides.{element_at, part_at, at_part, nowhere_as, moved_as, live_as, stride_can_go, stride_tree, lived, stride_others, never_again}
+use Rattle.ca_identify.proofs.identification.strides.stride_to.Goals as goal
+use Rattle.ca_identify.proofs.identification.strides.stride_to.Goals.{In_ok-later, In_ok-before, In-Some, In_ok-stage}
+
+pub later_tree-requires : goal.later_tree-requires
+later_tree-requires g c =
+    stride_can_go (g.A.Automaton.next_of c.args.leaper.now.rule) (cell c.args.leaper.now.nodes c.args.first.now.tree) c.args.walk.now.generations c.args.end (omega (arith, c.requires.more))
+    c.args.leaper.now.nodes c.args.walk.now.tree c.requires.walk.now (g.met.A.Automaton.quiet c.args.leaper.now.rule c.store.ensures.rule) c.requires.first.start.within c.requires.most
+
+-- the tree at the end
+module _ (g : _) (c : In_ok-later g) where
+  abbrev next : List ℕ → ℕ
+  next = g.A.Automaton.next_of c.args.leaper.now.rule
+
+  abbrev first : ℤ → ℤ → ℕ
+  first = cell c.args.leaper.now.nodes c.args.first.now.tree
+
+  abbrev stages : ℕ → ℤ → ℤ → ℕ
+  stages = cells_after next first
+
+  quiet : next (replicate 9 0) ≡ 0
+  quiet = g.met.A.Automaton.quiet c.args.leaper.now.rule c.store.ensures.rule
+
+  end_tree : IsLaterTree next first c.args.end c.later_tree.new.leaper.nodes c.in_ok-later.later
+  end_tree = stride_tree next first c.args.walk.now.generations c.args.end (omega (arith, c.requires.more)) c.args.leaper.now.nodes c.args.walk.now.tree c.requires.walk.now c.later_tree.new.leaper.nodes c.in_ok-later.later
+      c.in_ok-later.ensures.later
+
+  -- what an early plane's tree shows now
+  early_shows : (k : ℕ) (plane : First) → slice_get c.args.early.now k ≡ Some plane → (x y : ℤ) → cell c.later_tree.new.leaper.nodes plane.tree x y ≡ stages k x y
+  early_shows k plane at x y =
+      let is = c.requires.early k plane at in
+      trees_stay c.args.leaper.now.nodes c.later_tree.new.leaper.nodes c.store.ensures.sound c.in_ok-later.ensures.goes_on.grows plane.tree is.is_first.start.is_tree x y ∙ is.shows x y
+
+pub returns-then-is_dead-clause-stride : goal.returns-then-is_dead-clause-stride
+returns-then-is_dead-clause-stride g c = λ x y.
+    let a = (goal.at.returns-then-is_dead-clause-stride g c).In_ok-later in
+    let later = c.in_ok-later.later in
+    let dead = subst (λ s. IsDead (cell s later)) c.store-2.ensures.nodes (c.if-is_dead.ensures.dead refl) in
+    sym ((end_tree g a).shows x y) ∙ dead x y
+
+pub returns-then-is_dead-clause-boxes : goal.returns-then-is_dead-clause-boxes
+returns-then-is_dead-clause-boxes g c = boxes_stay c.args.leaper.now.nodes c.later_tree.new.leaper.nodes c.store.ensures.sound c.in_ok-later.ensures.goes_on.grows _ c.requires.boxes
+
+pub plane_before-requires-clause-early : goal.plane_before-requires-clause-early
+plane_before-requires-clause-early g c = λ k plane at.
+    let there = part_at c.args.early.now (c.args.end - c.args.walk.now.generations) k plane at in
+    first_stays c.args.leaper.now.nodes c.later_tree.new.leaper.nodes c.store.ensures.sound c.in_ok-later.ensures.goes_on.grows plane (c.requires.early k plane there.0).is_first
+
+pub plane_before-requires-clause-boxes : goal.plane_before-requires-clause-boxes
+plane_before-requires-clause-boxes g c = boxes_stay c.args.leaper.now.nodes c.later_tree.new.leaper.nodes c.store.ensures.sound c.in_ok-later.ensures.goes_on.grows _ c.requires.boxes
+
+pub returns-in_default-clause-stride : goal.returns-in_default-clause-stride
+returns-in_default-clause-stride g c =
+    let a = (goal.at.returns-in_default-clause-stride g c).In_ok-later in
+    let s1 = c.later_tree.new.leaper.nodes in
+    let later = c.in_ok-later.later in
+    let steps = c.args.end - c.args.walk.now.generations in
+    let is = end_tree g a in
+    let live = subst (λ s. HasLive (cell s later)) c.store-2.ensures.nodes (c.if-is_dead.ensures.live refl) in
+    let before = rw c.in_default.is at c.in_ok-before.ensures.before in
+    let nowhere : (j : ℕ) → j < steps → c.args.end - c.args.end ≤ j → AreMovedNowhere (stages g a j) (stages g a c.args.end) = λ j less all.
+    let found = element_at c.args.early.now j (omega (arith, less, c.requires.near, c.requires.more)) in
+    nowhere_as (cell s1 found.0.tree) (cell s1 later) (stages g a j) (stages g a c.args.end) (early_shows g a j found.0 found.1) is.shows
+    (before j found.0 (at_part c.args.early.now steps j found.0 less found.1)) in (
+      later_stays (next g a) (first g a) c.args.end s1 c.plane_before.new.leaper.nodes c.in_ok-later.ensures.goes_on.grows.sound c.in_ok-before.ensures.goes_on.grows later is,
+      stride_others (next g a) (first g a) (quiet g a) c.args.walk.now.generations c.args.end c.args.end (omega arith) c.requires.walk.others (live_as (cell s1 later) (stages g a c.args.end) is.shows live) nowhere,
+    )
+
+-- how the leaper goes on till the planes are compared
+module _ (g : _) (c : In_ok-before g) where
+  on_before : LeaperGrows _ c.args.leaper.now c.plane_before.new.leaper
+  on_before = goes_on_again _ c.args.leaper.now c.later_tree.new.leaper c.plane_before.new.leaper c.in_ok-later.ensures.goes_on c.in_ok-before.ensures.goes_on
+
+pub returns-in_default-clause-goes_on : goal.returns-in_default-clause-goes_on
+returns-in_default-clause-goes_on g c = goes_on_again _ c.args.leaper.now c.later_tree.new.leaper c.plane_before.new.leaper c.in_ok-later.ensures.goes_on c.in_ok-before.ensures.goes_on
+
+-- the last of the planes of which the tree at the end is one, moved
+module _ (g : _) (c : In-Some g) where
+  found : IsLastMovedFrom c.later_tree.new.leaper.nodes (take (c.args.end - c.args.walk.now.generations) c.args.early.now) (cell c.later_tree.new.leaper.nodes c.in_ok-later.later) c.in-Some.before
+  found = rw c.in-Some.is at c.in_ok-before.ensures.before
+
+  there : (slice_get c.args.early.now c.in-Some.before ≡ Some found.0.0) × (c.in-Some.before < c.args.end - c.args.walk.now.generations)
+  there = part_at c.args.early.now (c.args.end - c.args.walk.now.generations) c.in-Some.before found.0.0 found.0.1
+
+pub stage_after-requires-clause-first : goal.stage_after-requires-clause-first
+stage_after-requires-clause-first g c =
+    let a = (goal.at.stage_after-requires-clause-first g c).In_ok-before in
+    first_stays c.args.leaper.now.nodes c.plane_before.new.leaper.nodes c.store.ensures.sound (on_before g a).grows c.args.first.now c.requires.first
+
+pub stage_after-requires-clause-walk : goal.stage_after-requires-clause-walk
+stage_after-requires-clause-walk g c =
+    let on = on_before g (goal.at.stage_after-requires-clause-walk g c).In_ok-before in
+    let rules = g.A.Automaton.next_of in
+    let s0 = c.args.leaper.now.nodes in
+    let s2 = c.plane_before.new.leaper.nodes in
+    let tree = c.args.first.now.tree in
+    let walk = c.args.walk.now in
+    let same = trees_stay s0 s2 c.store.ensures.sound on.grows tree c.requires.first.start.is_tree in
+    subst (λ r. IsWalk (rules r) (cell s2 tree) s2 walk) (sym on.rule)
+    (walk_as (rules c.args.leaper.now.rule) (cell s0 tree) (cell s2 tree) s2 walk (λ x y. sym (same x y))
+    (walk_stays (rules c.args.leaper.now.rule) (cell s0 tree) s0 s2 c.store.ensures.sound on.grows walk c.requires.walk))
+
+pub stage_after-requires-clause-from : goal.stage_after-requires-clause-from
+stage_after-requires-clause-from g c =
+    let less = (there g (goal.at.stage_after-requires-clause-from g c).In-Some).1 in
+    omega (arith, less)
+
+pub stage_after-requires-clause-few : goal.stage_after-requires-clause-few
+stage_after-requires-clause-few g c = omega (arith, c.requires.most)
+
+-- what is shown when the pattern may be back
+module _ (g : _) (c : In_ok-stage g) where
+  on_stage : LeaperGrows _ c.args.leaper.now c.stage_after.new.leaper
+  on_stage =
+      goes_on_again _ c.args.leaper.now c.plane_before.new.leaper c.stage_after.new.leaper
+      (goes_on_again _ c.args.leaper.now c.later_tree.new.leaper c.plane_before.new.leaper c.in_ok-later.ensures.goes_on c.in_ok-before.ensures.goes_on) c.in_ok-stage.ensures.goes_on
+
+  told : (on : LeaperGrows _ c.args.leaper.now c.plane_before.new.leaper) → IsStage (cell c.args.leaper.now.nodes c.args.first.now.tree)
+      (cells_after (g.A.Automaton.next_of c.args.leaper.now.rule) (cell c.args.leaper.now.nodes c.args.first.now.tree) (c.args.end - c.in-Some.before)) c.in_ok-stage.stage
+  told on = stage_to g.A.Automaton.next_of on.rule c.store.ensures.sound on.grows c.requires.first (c.args.end - c.in-Some.before) c.in_ok-stage.stage c.in_ok-stage.ensures.stage
+
+pub returns-in_err-stage-clause-goes_on : goal.returns-in_err-stage-clause-goes_on
+returns-in_err-stage-clause-goes_on g c =
+    goes_on_again _ c.args.leaper.now c.plane_before.new.leaper c.stage_after.new.leaper (on_before g (goal.at.returns-in_err-stage-clause-goes_on g c).In_ok-before) c.stage_after.ensures.goes_on
+
+pub returns-in-Back-clause-goes_on : goal.returns-in-Back-clause-goes_on
+returns-in-Back-clause-goes_on g c = on_stage g (goal.at.returns-in-Back-clause-goes_on g c).In_ok-stage
+
+pub returns-in-Other-clause-goes_on : goal.returns-in-Other-clause-goes_on
+returns-in-Other-clause-goes_on g c = on_stage g (goal.at.returns-in-Other-clause-goes_on g c).In_ok-stage
+
+pub returns-in-Back-clause-stride : goal.returns-in-Back-clause-stride
+returns-in-Back-clause-stride g c =
+    let at = goal.at.returns-in-Back-clause-stride g c in
+    let a = at.In_ok-later in
+    let s1 = c.later_tree.new.leaper.nodes in
+    let later = c.in_ok-later.later in
+    let n = c.args.walk.now.generations in
+    let end = c.args.end in
+    let q = end - c.in-Some.before in
+    let dx = c.in-Back.dx in
+    let dy = c.in-Back.dy in
+    let fits_x : SFits w64 dx = search rules in
+    let fits_y : SFits w64 dy = search rules in
+    let last = found g at.In-Some in
+    let less = (there g at.In-Some).1 in
+    let is = end_tree g a in
+    let live = subst (λ s. HasLive (cell s later)) c.store-2.ensures.nodes (c.if-is_dead.ensures.live refl) in
+    let back : AreMoved (first g a) (stages g a q) dx dy = subst (IsStage (first g a) (stages g a q)) c.in-Back.is (told g at.In_ok-stage (on_before g at.In_ok-before)) in
+    let nowhere : (k : ℕ) → k < end - n → end - (q - 1) ≤ k → AreMovedNowhere (stages g a k) (stages g a end) = λ k under above.
+    let plane = element_at c.args.early.now k (omega (arith, under, c.requires.near, c.requires.more)) in
+    nowhere_as (cell s1 plane.0.tree) (cell s1 later) (stages g a k) (stages g a end) (early_shows g a k plane.0 plane.1) is.shows
+    (last.1 k plane.0 (omega (arith, above, less)) (at_part c.args.early.now (end - n) k plane.0 under plane.1)) in
+    let again : IsFirstAgain (next g a) (first g a) q dx dy = record {
+      some = omega (arith, less);
+      before = stride_others (next g a) (first g a) (quiet g a) n end (q - 1) (omega arith) c.requires.walk.others (live_as (cell s1 later) (stages g a end) is.shows live) nowhere;
+      moved = back;
+    } in (
+      omega arith,
+      subst (λ d. IsFirstAgain (next g a) (first g a) q d (to_z w64 (of_z w64 dy))) (sym (to_z-of_z w64 dx fits_x)) (subst (λ d. IsFirstAgain (next g a) (first g a) q dx d) (sym (to_z-of_z w64 dy fits_y)) again),
+    )
+
+pub unreachable-requires : goal.unreachable-requires
+unreachable-requires g c =
+    let at = goal.at.unreachable-requires g c in
+    let a = at.In_ok-later in
+    let s1 = c.later_tree.new.leaper.nodes in
+    let later = c.in_ok-later.later in
+    let q = c.args.end - c.in-Some.before in
+    let less = (there g at.In-Some).1 in
+    let sum : c.args.end ≡ q + c.in-Some.before = omega (arith, less) in
+    let live = live_as (cell s1 later) (stages g a c.args.end) (end_tree g a).shows (subst (λ s. HasLive (cell s later)) c.store-2.ensures.nodes (c.if-is_dead.ensures.live refl)) in
+    let lives = lived (next g a) (first g a) (quiet g a) q c.in-Some.before (subst (λ k. HasLive (stages g a k)) sum live) in
+    let dead = subst (IsStage (first g a) (stages g a q)) c.in-Empty.is (told g at.In_ok-stage (on_before g at.In_ok-before)) in
+    lives.2 (dead lives.0 lives.1)
+
+pub returns-in-Other-clause-stride : goal.returns-in-Other-clause-stride
+returns-in-Other-clause-stride g c =
+    let at = goal.at.returns-in-Other-clause-stride g c in
+    let a = at.In_ok-later in
+    let s0 = c.args.leaper.now.nodes in
+    let s1 = c.later_tree.new.leaper.nodes in
+    let later = c.in_ok-later.later in
+    let j = c.in-Some.before in
+    let q = c.args.end - j in
+    let (last, after) = found g at.In-Some in
+    let held = there g at.In-Some in
+    let less = held.1 in
+    let plane = last.0 in
+    let (cells, same) = tree_picture s0 c.args.first.now.tree in
+    let (settled, shown) = tree_picture s1 plane.tree in
+    let moved = moved_as (cell s1 plane.tree) (cell s1 later) (stages g a j) (stages g a c.args.end) (early_shows g a j plane held.0) (end_tree g a).shows last.2 last.3 last.4 in
+    let other = subst (IsStage (first g a) (stages g a q)) c.in-Other.is (told g at.In_ok-stage (on_before g at.In_ok-before)) in
+    never_again (next g a) (first g a) cells settled (λ x y. sym (same x y)) j c.args.end (omega (arith, less)) (λ x y. sym (shown x y) ∙ early_shows g a j plane held.0 x y) last.2 last.3 moved other.1

@@ -1,0 +1,148 @@
+use Rattle.std.proofs.Common.{rules, ◌≡◌, ℕ, ◌+◌, ◌-◌, refl, sym, subst, arith, w64, SFits, to_z, of_z}
+use Rattle.std.specs.Prelude.{ℤ}
+use Rattle.std.proofs.lemmas.Int.{to_z-of_z}
+use Rattle.ca_plane.specs.Generations.{cells_after}
+use Rattle.ca_quad.specs.Trees.{cell}
+use Rattle.ca_run.proofs.Leap.{goes_on_same}
+use Rattle.ca_run.proofs.ShownPlanes.{goes_on_again}
+use Rattle.ca_identify.specs.inner.Stages.{IsStage, IsReturn, IsHalted, TakesSteps}
+use Rattle.ca_identify.proofs.Identities.{found_death, found_return}
+use Rattle.ca_identify.proofs.LaterPlanes.{on_err}
+use Rattle.ca_identify.proofs.Stages.{first_stays, one_more_other, later_stays, step_from, step_to, stage_to, no_step, one_more_step, fewer_steps}
+use Rattle.ca_identify.proofs.identification.walk.look_on.Goals as goal
+use Rattle.ca_identify.proofs.identification.walk.look_on.Goals.{In_ok-later}
+
+-- after one generation more
+module _ (g : _) (c : In_ok-later g) where
+  abbrev first : ℤ → ℤ → ℕ
+  first = cell c.args.leaper.now.nodes c.args.first.now.tree
+
+  abbrev stages : ℕ → ℤ → ℤ → ℕ
+  stages = cells_after (g.A.Automaton.next_of c.args.leaper.now.rule) first
+
+  -- what the first pattern's plane shows
+  told : IsStage first (stages (c.generations.walk.generations + 1)) c.in_ok-later.later.stage
+  told =
+      let inv = c.generations.invariant in
+      stage_to g.A.Automaton.next_of inv.goes_on.rule c.store.ensures.sound inv.goes_on.grows c.requires.first (c.generations.walk.generations + 1) c.in_ok-later.later.stage c.in_ok-later.ensures.stage
+
+  -- what it took so far
+  took : TakesSteps c.args.leaper.now.spent.used c.step.new.leaper.spent.used stages c.args.end (c.generations.walk.generations - c.args.walk.now.generations + 1)
+  took =
+      let inv = c.generations.invariant in
+      one_more_step _ _ _ stages c.args.end (c.generations.walk.generations - c.args.walk.now.generations) c.generations.walk.generations c.generations.leaper.nodes c.generations.walk.tree
+      inv.walk.now.trimmed inv.walk.now.shows (omega (arith, c.generations-test.true)) inv.takes c.step.ensures.takes
+
+  -- and what may be taken till the end
+  takes : TakesSteps c.args.leaper.now.spent.used c.step.new.leaper.spent.used stages c.args.end (c.args.end - c.args.walk.now.generations)
+  takes =
+      let begun = c.generations.invariant.begun in
+      fewer_steps _ _ stages c.args.end (c.generations.walk.generations - c.args.walk.now.generations + 1) (c.args.end - c.args.walk.now.generations) (omega (arith, begun, c.generations-test.true)) took
+
+pub generations-init : goal.generations-init
+generations-init g c =
+    let next = g.A.Automaton.next_of c.args.leaper.now.rule in
+    let walk = c.requires.walk in
+    record {
+      goes_on = goes_on_same _ c.args.leaper.now c.store.ensures.sound;
+      walk = walk;
+      begun = omega arith;
+      within = c.requires.within;
+      takes = no_step _ _ (cells_after next (cell c.args.leaper.now.nodes c.args.first.now.tree)) c.args.end (c.args.walk.now.generations - c.args.walk.now.generations) refl;
+    }
+
+pub step-requires-clause-first : goal.step-requires-clause-first
+step-requires-clause-first g c =
+    first_stays c.args.leaper.now.nodes c.generations.leaper.nodes c.store.ensures.sound c.generations.invariant.goes_on.grows c.args.first.now c.requires.first
+
+pub step-requires-clause-now : goal.step-requires-clause-now
+step-requires-clause-now g c =
+    let inv = c.generations.invariant in
+    step_from g.A.Automaton.next_of inv.goes_on.rule c.store.ensures.sound inv.goes_on.grows c.requires.first c.generations.walk.generations c.generations.walk.tree inv.walk.now
+
+pub returns-in_err-later-clause-halted : goal.returns-in_err-later-clause-halted
+returns-in_err-later-clause-halted g c =
+    let inv = c.generations.invariant in
+    let next = g.A.Automaton.next_of c.args.leaper.now.rule in
+    let p = cell c.args.leaper.now.nodes c.args.first.now.tree in
+    let n = c.generations.walk.generations in
+    let halted : IsHalted next p c.step.new.leaper.nodes c.args.walk.now.generations c.args.end
+    (record { tree = c.generations.walk.tree; generations = c.generations.walk.generations; boxes = c.step.new.boxes }) = record {
+      now = later_stays next p n c.generations.leaper.nodes c.step.new.leaper.nodes inv.goes_on.grows.sound c.in_err-later.ensures.goes_on.grows c.generations.walk.tree inv.walk.now;
+      others = inv.walk.others;
+      later = inv.begun;
+      within = inv.within;
+    } in
+    on_err _ _ halted
+
+pub returns-in_err-later-clause-takes : goal.returns-in_err-later-clause-takes
+returns-in_err-later-clause-takes g c =
+    let inv = c.generations.invariant in
+    let begun = inv.begun in
+    let stages = cells_after (g.A.Automaton.next_of c.args.leaper.now.rule) (cell c.args.leaper.now.nodes c.args.first.now.tree) in
+    fewer_steps _ _ stages c.args.end (c.generations.walk.generations - c.args.walk.now.generations + 1) (c.args.end - c.args.walk.now.generations) (omega (arith, begun, c.generations-test.true))
+    (one_more_step _ _ _ stages c.args.end (c.generations.walk.generations - c.args.walk.now.generations) c.generations.walk.generations c.generations.leaper.nodes c.generations.walk.tree
+    inv.walk.now.trimmed inv.walk.now.shows (omega (arith, c.generations-test.true)) inv.takes c.step.ensures.takes)
+
+pub returns-in-Empty-clause-ending : goal.returns-in-Empty-clause-ending
+returns-in-Empty-clause-ending g c =
+    let a = (goal.at.returns-in-Empty-clause-ending g c).In_ok-later in
+    let n = c.generations.walk.generations in
+    λ cells shows.
+    found_death (g.A.Automaton.next_of c.args.leaper.now.rule) (g.met.A.Automaton.quiet c.args.leaper.now.rule c.store.ensures.rule) c.args.leaper.now.nodes c.args.first.now c.requires.first
+    cells shows n c.generations.invariant.walk.others c.args.end (omega (arith, c.generations-test.true)) c.requires.most (subst (IsStage (first g a) (stages g a (n + 1))) c.in-Empty.is (told g a))
+
+pub returns-in-Empty-clause-goes_on : goal.returns-in-Empty-clause-goes_on
+returns-in-Empty-clause-goes_on g c = goes_on_again _ c.args.leaper.now c.generations.leaper c.step.new.leaper c.generations.invariant.goes_on c.in_ok-later.ensures.goes_on
+
+pub returns-in-Empty-clause-takes : goal.returns-in-Empty-clause-takes
+returns-in-Empty-clause-takes g c = takes g (goal.at.returns-in-Empty-clause-takes g c).In_ok-later
+
+pub returns-in-Back-clause-ending : goal.returns-in-Back-clause-ending
+returns-in-Back-clause-ending g c =
+    let a = (goal.at.returns-in-Back-clause-ending g c).In_ok-later in
+    let n = c.generations.walk.generations in
+    let next = g.A.Automaton.next_of c.args.leaper.now.rule in
+    let dx = c.in-Back.dx in
+    let dy = c.in-Back.dy in
+    let fits_x : SFits w64 dx = search rules in
+    let fits_y : SFits w64 dy = search rules in
+    λ cells shows.
+    let back = found_return next (g.met.A.Automaton.quiet c.args.leaper.now.rule c.store.ensures.rule) c.args.leaper.now.nodes c.args.first.now c.requires.first
+    cells shows n c.generations.invariant.walk.others c.args.end (omega (arith, c.generations-test.true)) c.requires.most dx dy
+    (subst (IsStage (first g a) (stages g a (n + 1))) c.in-Back.is (told g a)) in
+    subst (λ a. IsReturn next cells (n + 1) a (to_z w64 (of_z w64 dy))) (sym (to_z-of_z w64 dx fits_x))
+    (subst (λ b. IsReturn next cells (n + 1) dx b) (sym (to_z-of_z w64 dy fits_y)) back)
+
+pub returns-in-Back-clause-goes_on : goal.returns-in-Back-clause-goes_on
+returns-in-Back-clause-goes_on g c = goes_on_again _ c.args.leaper.now c.generations.leaper c.step.new.leaper c.generations.invariant.goes_on c.in_ok-later.ensures.goes_on
+
+pub returns-in-Back-clause-takes : goal.returns-in-Back-clause-takes
+returns-in-Back-clause-takes g c = takes g (goal.at.returns-in-Back-clause-takes g c).In_ok-later
+
+pub generations-preserved : goal.generations-preserved
+generations-preserved g c =
+    let inv = c.generations.invariant in
+    let n = c.generations.walk.generations in
+    let a = (goal.at.generations-preserved g c).In_ok-later in
+    let begun = inv.begun in
+    let sum : n - c.args.walk.now.generations + 1 ≡ n + 1 - c.args.walk.now.generations = omega (arith, begun) in
+    record {
+      goes_on = goes_on_again _ c.args.leaper.now c.generations.leaper c.step.new.leaper inv.goes_on c.in_ok-later.ensures.goes_on;
+      walk = record {
+        now = step_to g.A.Automaton.next_of inv.goes_on.rule c.store.ensures.sound inv.goes_on.grows c.requires.first (n + 1) c.step.new.leaper.nodes c.in_ok-later.later.tree c.in_ok-later.ensures.tree;
+        others = one_more_other (g.A.Automaton.next_of c.args.leaper.now.rule) (first g a) n inv.walk.others (subst (IsStage (first g a) (stages g a (n + 1))) c.in-Other.is (told g a));
+        boxes = c.in_ok-later.ensures.boxes;
+      };
+      begun = omega (arith, begun);
+      within = omega (arith, c.generations-test.true);
+      takes = subst (TakesSteps c.args.leaper.now.spent.used c.step.new.leaper.spent.used (stages g a) c.args.end) sum (took g a);
+    }
+
+pub returns-clause-takes : goal.returns-clause-takes
+returns-clause-takes g c =
+    let inv = c.generations.invariant in
+    let begun = inv.begun in
+    let within = inv.within in
+    fewer_steps _ _ (cells_after (g.A.Automaton.next_of c.args.leaper.now.rule) (cell c.args.leaper.now.nodes c.args.first.now.tree)) c.args.end (c.generations.walk.generations - c.args.walk.now.generations)
+    (c.args.end - c.args.walk.now.generations) (omega (arith, begun, within)) inv.takes

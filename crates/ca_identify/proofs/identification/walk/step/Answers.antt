@@ -1,0 +1,58 @@
+use Rattle.std.proofs.Common.{◌+◌, ◌≤◌, refl, sym, subst, arith}
+use Rattle.ca_plane.specs.Generations.{cells_after}
+use Rattle.ca_quad.specs.Trees.{cell}
+use Rattle.ca_quad.proofs.Measures.{boxes_stay}
+use Rattle.ca_quad.proofs.Trims.{trees_stay}
+use Rattle.ca_run.specs.Leaping.{Spent}
+use Rattle.ca_run.proofs.ShownPlanes.{goes_on_again}
+use Rattle.ca_identify.proofs.Stages.{near_next, later_next, later_stays, first_stays, stage_as}
+use Rattle.ca_identify.specs.inner.Stages.{step_work}
+use Rattle.ca_identify.proofs.identification.walk.step.Goals as goal
+
+pub later_tree-requires : goal.later_tree-requires
+later_tree-requires g c =
+    let nodes = c.args.leaper.now.nodes in
+    let now = c.requires.now in
+    record {
+      is_tree = now.near.is_tree;
+      low = now.low;
+      trimmed = now.trimmed;
+      few = omega arith;
+      near = near_next (g.A.Automaton.next_of c.args.leaper.now.rule) (cell nodes c.args.first.now.tree) c.args.generations nodes c.args.now now
+          (g.met.A.Automaton.quiet c.args.leaper.now.rule c.store.ensures.rule) c.requires.first.start.within c.requires.few;
+    }
+
+pub stage_of-requires-clause-first : goal.stage_of-requires-clause-first
+stage_of-requires-clause-first g c =
+    first_stays c.args.leaper.now.nodes c.later_tree.new.leaper.nodes c.store.ensures.sound c.in_ok-tree.ensures.goes_on.grows c.args.first.now c.requires.first
+
+pub stage_of-requires-clause-boxes : goal.stage_of-requires-clause-boxes
+stage_of-requires-clause-boxes g c =
+    boxes_stay c.args.leaper.now.nodes c.later_tree.new.leaper.nodes c.store.ensures.sound c.in_ok-tree.ensures.goes_on.grows _ c.requires.boxes
+
+pub returns-clause-tree : goal.returns-clause-tree
+returns-clause-tree g c =
+    let later = later_next _ _ _ _ _ c.requires.now c.later_tree.new.leaper.nodes c.in_ok-tree.tree c.in_ok-tree.ensures.later in
+    later_stays _ _ _ _ c.stage_of.new.leaper.nodes c.in_ok-tree.ensures.goes_on.grows.sound c.in_ok-stage.ensures.goes_on.grows c.in_ok-tree.tree later
+
+pub returns-clause-stage : goal.returns-clause-stage
+returns-clause-stage g c =
+    let later = later_next _ _ _ _ _ c.requires.now c.later_tree.new.leaper.nodes c.in_ok-tree.tree c.in_ok-tree.ensures.later in
+    let s1 = c.later_tree.new.leaper.nodes in
+    let first = cell c.args.leaper.now.nodes c.args.first.now.tree in
+    stage_as (cell s1 c.args.first.now.tree) (cell s1 c.in_ok-tree.tree) first (cells_after (g.A.Automaton.next_of c.args.leaper.now.rule) first (c.args.generations + 1))
+    (trees_stay _ s1 c.store.ensures.sound c.in_ok-tree.ensures.goes_on.grows c.args.first.now.tree c.requires.first.start.is_tree) later.shows c.in_ok-stage.stage c.in_ok-stage.ensures.stage
+
+pub returns-clause-goes_on : goal.returns-clause-goes_on
+returns-clause-goes_on g c = goes_on_again _ c.args.leaper.now c.later_tree.new.leaper c.stage_of.new.leaper c.in_ok-tree.ensures.goes_on c.in_ok-stage.ensures.goes_on
+
+pub returns-in_err-tree-clause-takes : goal.returns-in_err-tree-clause-takes
+returns-in_err-tree-clause-takes g c = c.later_tree.ensures.one refl
+
+pub returns-in_err-stage-clause-takes : goal.returns-in_err-stage-clause-takes
+returns-in_err-stage-clause-takes g c =
+    subst (λ (s : Spent). s.used ≤ c.args.leaper.now.spent.used + step_work c.args.now.level) (sym c.in_err-stage.ensures.spent) (c.in_ok-tree.ensures.one refl)
+
+pub returns-clause-takes : goal.returns-clause-takes
+returns-clause-takes g c =
+    subst (λ (s : Spent). s.used ≤ c.args.leaper.now.spent.used + step_work c.args.now.level) (sym c.in_ok-stage.ensures.spent) (c.in_ok-tree.ensures.one refl)

@@ -1,0 +1,2 @@
+pub mod Identified
+pub mod inner

@@ -1,0 +1,53 @@
+//! How a pattern ends: its plane is dead, or the pattern is there again.
+
+ghost use Rattle.std.specs.Prelude.{ℕ, ◌≤◌, List};
+ghost use Rattle.ca_plane.specs.Plane.{Picture};
+ghost use Rattle.ca_plane.specs.Limits.{longest_period};
+ghost use Rattle.ca_identify.specs.Identified.{IsIdentity};
+ghost use Rattle.ca_identify.specs.inner.Stages.{IsReturn, IsEnding, generations_of};
+
+use crate::identity::Identity;
+
+/// What a live pattern's plane shows after these generations, and at no earlier time, starting at 1.
+#[derive(Clone, Copy)]
+pub(super) enum Ending {
+    /// No cell is live.
+    Death { generations: u64 },
+    /// The pattern is there again, moved by this vector.
+    Return { generations: u64, dx: i64, dy: i64 },
+}
+
+/// What a pattern is that ends so.
+pub(super) fn identity_of(ending: Ending) -> Identity
+    ensures { (next : List ℕ → ℕ) (cells : Picture) (limit : ℕ) → generations_of ending ≤ limit
+        → limit ≤ longest_period → IsEnding next cells ending → IsIdentity next cells limit result }
+{
+    match ending {
+        Ending::Death { generations } => Identity::Dies { generations },
+        Ending::Return {
+            generations,
+            dx,
+            dy,
+        } => identity_of_return(generations, dx, dy),
+    }
+}
+
+// What a pattern is that is back for the first time after so many generations, by this vector.
+fn identity_of_return(generations: u64, dx: i64, dy: i64) -> Identity
+    ensures { (next : List ℕ → ℕ) (cells : Picture) (limit : ℕ) → generations ≤ limit → limit ≤ longest_period
+        → IsReturn next cells generations dx dy → IsIdentity next cells limit result }
+{
+    if dx != 0 || dy != 0 {
+        return Identity::Spaceship {
+            period: generations,
+            dx,
+            dy,
+        };
+    }
+    if generations == 1 {
+        return Identity::StillLife;
+    }
+    Identity::Oscillator {
+        period: generations,
+    }
+}

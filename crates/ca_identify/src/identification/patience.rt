@@ -1,0 +1,134 @@
+//! What a live pattern is, as far as patience goes: the first two generations are looked at in any case, and the others while
+//! the units of work that are allowed for them last.
+
+ghost use Rattle.std.specs.Prelude.{◌≡◌, ◌+◌, ◌≤◌, ℕ, None, IfOk, IfSome};
+ghost use Rattle.ca_plane.specs.Plane.{Picture};
+ghost use Rattle.ca_plane.specs.Generations.{cells_after};
+ghost use Rattle.ca_plane.specs.Limits.{longest_period};
+ghost use Rattle.ca_quad.specs.Trees.{cell};
+ghost use Rattle.ca_run.specs.Leaping.{LeaperGrows, EndsAtLimit};
+ghost use Rattle.ca_identify.specs.Identified.{IsIdentity, IsLook};
+ghost use Rattle.ca_identify.specs.inner.Stages.{IsFirst, IsWalk, IsHalted, TakesSearch, TakesSearchFrom};
+ghost use Rattle.ca_pattern.specs.PatternTrees.{ShowsTree};
+
+use super::ending::identity_of;
+use super::growth::growth_of;
+use super::search::{early_generations, first_generations, search};
+use super::stage::First;
+use super::walk::{Walk, look_on};
+use crate::identity::Identity;
+use crate::scope::{Look, Scope};
+use ca_pattern::Observer;
+use ca_plane::Automaton;
+use ca_run::{LeapFault, Leaper};
+use std::alloc::Global;
+
+/// What a live pattern is, as far as the scope says.
+pub(super) fn look<A: Automaton, O: Observer>(
+    alloc: Global,
+    leaper: &mut Leaper<A>,
+    first: First,
+    scope: Scope,
+    observer: &mut O,
+) -> Result<Look, LeapFault>
+    requires first { IsFirst leaper.old.nodes first }
+    requires some { 1 ≤ scope.limit }
+    requires most { scope.limit ≤ longest_period }
+    ensures look { (cells : Picture) → ShowsTree leaper.old.nodes first.tree cells
+        → IfOk result (IsLook (A.next_of leaper.old.rule) cells scope) }
+    ensures goes_on { LeaperGrows A leaper.old leaper.new }
+    ensures takes { TakesSearch leaper.old.spent.used leaper.new.spent.used
+        (cells_after (A.next_of leaper.old.rule) (cell leaper.old.nodes first.tree)) scope.limit }
+    ensures work { EndsAtLimit leaper.new.spent result }
+{
+    // Says what holds of every leaper.
+    let _ = leaper.store();
+    let Scope { limit, patience } = scope;
+    let early = early_generations(leaper.store().count()).min(limit);
+    let mut walk = Walk::from(alloc, first.tree);
+    let Some(units) = patience else {
+        let identity = search(alloc, leaper, &first, &mut walk, early, limit, observer)?;
+        return Ok(Look { identity, limit });
+    };
+    let sure = first_generations(early);
+    let soon = look_on(alloc, leaper, &first, &mut walk, sure, observer)?;
+    if let Some(ending) = soon {
+        let identity = identity_of(ending);
+        return Ok(Look { identity, limit });
+    }
+    let span = Span {
+        early,
+        limit,
+        units,
+    };
+    let found = patient_search(alloc, leaper, &first, &mut walk, span, observer)?;
+    if let Some(identity) = found {
+        return Ok(Look { identity, limit });
+    }
+    let growth = growth_of(alloc, leaper.store(), &walk.tree)?;
+    Ok(Look {
+        identity: Identity::Unknown { growth },
+        limit: walk.generations,
+    })
+}
+
+// How far a search with patience goes: how many generations are looked at one by one, how many are at all, and for how
+// many units of work.
+#[derive(Clone, Copy)]
+struct Span {
+    early: u64,
+    limit: u64,
+    units: u64,
+}
+
+// What a live pattern is, if no more than so many units of work are needed to find it out. Else the walk is at the last
+// generation that was looked at.
+fn patient_search<A: Automaton, O: Observer>(
+    alloc: Global,
+    leaper: &mut Leaper<A>,
+    first: &First,
+    walk: &mut Walk,
+    span: Span,
+    observer: &mut O,
+) -> Result<Option<Identity>, LeapFault>
+    requires first { IsFirst leaper.old.nodes first.now }
+    requires walk { IsWalk (A.next_of leaper.old.rule) (cell leaper.old.nodes first.now.tree)
+        leaper.old.nodes walk.old }
+    requires begun { walk.old.generations ≤ span.early }
+    requires some { 1 ≤ span.early }
+    requires within { span.early ≤ span.limit }
+    requires most { span.limit ≤ longest_period }
+    ensures identity { (cells : Picture) → ShowsTree leaper.old.nodes first.now.tree cells
+        → IfOk result (λ found. IfSome found (IsIdentity (A.next_of leaper.old.rule) cells span.limit)) }
+    ensures halted { IfOk result (λ found. found ≡ None → IsHalted (A.next_of leaper.old.rule)
+        (cell leaper.old.nodes first.now.tree) leaper.new.nodes walk.old.generations span.limit walk.new) }
+    ensures used { IfOk result
+        (λ found. found ≡ None → leaper.old.spent.used + span.units ≤ leaper.new.spent.used) }
+    ensures goes_on { LeaperGrows A leaper.old leaper.new }
+    ensures takes { TakesSearchFrom leaper.old.spent.used leaper.new.spent.used
+        (cells_after (A.next_of leaper.old.rule) (cell leaper.old.nodes first.now.tree))
+        walk.old.generations span.limit }
+    ensures work { EndsAtLimit leaper.new.spent result }
+{
+    // Says what holds of every leaper.
+    let _ = leaper.store();
+    let Span {
+        early,
+        limit,
+        units,
+    } = span;
+    let most = leaper.work_limit();
+    let used = leaper.used();
+    if units >= most - used {
+        let identity = search(alloc, leaper, first, walk, early, limit, observer)?;
+        return Ok(Some(identity));
+    }
+    leaper.limit_work(used + units);
+    let found = search(alloc, leaper, first, walk, early, limit, observer);
+    leaper.limit_work(most);
+    match found {
+        Ok(identity) => Ok(Some(identity)),
+        Err(LeapFault::Work) => Ok(None),
+        Err(LeapFault::Memory) => Err(LeapFault::Memory),
+    }
+}

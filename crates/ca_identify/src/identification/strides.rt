@@ -1,0 +1,276 @@
+//! How a pattern's plane is looked at by strides of many generations. Where the pattern is back within one, the
+//! plane at the stride's end is one of the first planes, moved, and which one tells when it is back: so one leap, or
+//! two, and some comparisons stand for a look at each of its generations.
+
+ghost use Rattle.std.specs.Prelude.{◌≡◌, ◌+◌, ◌≤◌, ◌<◌, ℕ, length, slice_get, Some, IfOk, IfSome, OnOk};
+ghost use Rattle.std.specs.Prelude.{MatchOption};
+ghost use Rattle.ca_plane.specs.Plane.{Picture};
+ghost use Rattle.ca_plane.specs.Generations.{cells_after};
+ghost use Rattle.ca_plane.specs.Limits.{longest_period};
+ghost use Rattle.ca_quad.specs.Boxes.{AreSquareBoxes};
+ghost use Rattle.ca_quad.specs.Trees.{cell};
+ghost use Rattle.ca_run.specs.Leaping.{LeaperGrows, EndsAtLimit};
+ghost use Rattle.ca_identify.specs.Identified.{IsIdentity};
+ghost use Rattle.ca_identify.specs.declared.identification.stage.First.{First};
+ghost use Rattle.ca_identify.specs.inner.Stages.{IsFirst, AreEarly, AreMovedNowhere, IsLastMovedFrom, IsStage};
+ghost use Rattle.ca_identify.specs.inner.Stages.{IsStride, IsWalk, HasNoReturn, leap_work};
+ghost use Rattle.ca_pattern.specs.PatternTrees.{IsNearTree, HasLive, ShowsTree};
+
+use super::ending::{Ending, identity_of};
+use super::later::later_tree;
+use super::leaps::growth_after;
+use super::stage::{First, Stage, stage_of};
+use super::walk::Walk;
+use crate::identity::Identity;
+use ca_pattern::{Observer, is_dead};
+use ca_plane::Automaton;
+use ca_quad::{SquareBoxes, Tree};
+use ca_run::{LeapFault, Leaper, Unwatched};
+use std::alloc::Global;
+
+// How many units of work strides may take for each generation up to the limit.
+const SHARE: u64 = 1024;
+
+/// What a stride shows.
+#[derive(Drop)]
+pub(super) enum Stride {
+    /// The tree at its end: after none of its generations the plane was dead, or the pattern there again.
+    On(Tree),
+    /// The pattern is there again, after so many generations for the first time, moved by this vector.
+    Again { generations: u64, dx: i64, dy: i64 },
+    /// The pattern is there again at no time.
+    Never,
+    /// The plane is dead at its end.
+    Dead,
+}
+
+/// Goes on from where a walk is by strides, each of as many generations as there are first planes, as far as the plane
+/// isn't dead and a share of the work is enough for them.
+/// Where they show that the pattern is back, or that it never is, it gives what the pattern is.
+pub(super) fn identity_by_strides<A: Automaton, O: Observer>(
+    alloc: Global,
+    leaper: &mut Leaper<A>,
+    first: &First,
+    early: &[First],
+    walk: &mut Walk,
+    limit: u64,
+    observer: &mut O,
+) -> Result<Option<Identity>, LeapFault>
+    requires first { IsFirst leaper.old.nodes first.now }
+    requires early { AreEarly (A.next_of leaper.old.rule) (cell leaper.old.nodes first.now.tree)
+        leaper.old.nodes early.now }
+    requires walk { IsWalk (A.next_of leaper.old.rule) (cell leaper.old.nodes first.now.tree)
+        leaper.old.nodes walk.old }
+    requires within { walk.old.generations ≤ limit }
+    requires most { limit ≤ longest_period }
+    ensures identity { (cells : Picture) → ShowsTree leaper.old.nodes first.now.tree cells
+        → IfOk result (λ found. IfSome found (IsIdentity (A.next_of leaper.old.rule) cells limit)) }
+    ensures walk { IsWalk (A.next_of leaper.old.rule) (cell leaper.old.nodes first.now.tree)
+        leaper.new.nodes walk.new }
+    ensures begun { walk.old.generations ≤ walk.new.generations }
+    ensures within { walk.new.generations ≤ limit }
+    ensures goes_on { LeaperGrows A leaper.old leaper.new }
+    ensures takes { leaper.new.spent.used ≤ leaper.old.spent.used + leap_work limit }
+    ensures work { EndsAtLimit leaper.new.spent result }
+{
+    // Says what holds of every leaper.
+    let _ = leaper.store();
+    let most = leaper.work_limit();
+    let used = leaper.used();
+    let share = (limit * SHARE).min(most - used);
+    leaper.limit_work(used + share);
+    let found = stride_on(alloc, leaper, first, early, walk, limit, observer);
+    leaper.limit_work(most);
+    match found {
+        Err(LeapFault::Work) => Ok(None),
+        other => other,
+    }
+}
+
+// The same, as far as the work goes.
+fn stride_on<A: Automaton, O: Observer>(
+    alloc: Global,
+    leaper: &mut Leaper<A>,
+    first: &First,
+    early: &[First],
+    walk: &mut Walk,
+    limit: u64,
+    observer: &mut O,
+) -> Result<Option<Identity>, LeapFault>
+    requires first { IsFirst leaper.old.nodes first.now }
+    requires early { AreEarly (A.next_of leaper.old.rule) (cell leaper.old.nodes first.now.tree)
+        leaper.old.nodes early.now }
+    requires walk { IsWalk (A.next_of leaper.old.rule) (cell leaper.old.nodes first.now.tree)
+        leaper.old.nodes walk.old }
+    requires within { walk.old.generations ≤ limit }
+    requires most { limit ≤ longest_period }
+    ensures identity { (cells : Picture) → ShowsTree leaper.old.nodes first.now.tree cells
+        → IfOk result (λ found. IfSome found (IsIdentity (A.next_of leaper.old.rule) cells limit)) }
+    ensures walk { IsWalk (A.next_of leaper.old.rule) (cell leaper.old.nodes first.now.tree)
+        leaper.new.nodes walk.new }
+    ensures begun { walk.old.generations ≤ walk.new.generations }
+    ensures within { walk.new.generations ≤ limit }
+    ensures goes_on { LeaperGrows A leaper.old leaper.new }
+{
+    // Says what holds of every leaper.
+    let _ = leaper.store();
+    if early.is_empty() {
+        return Ok(None);
+    }
+    let mut boxes = SquareBoxes::new(alloc);
+    'strides: while walk.generations < limit {
+        let end = (walk.generations + early.len() as u64).min(limit);
+        observer.goes_to(end);
+        match stride_to(alloc, leaper, first, early, walk, end, &mut boxes)? {
+            Stride::On(tree) => {
+                walk.tree = tree;
+                walk.generations = end;
+            }
+            Stride::Again {
+                generations,
+                dx,
+                dy,
+            } => {
+                return Ok(Some(identity_of(Ending::Return {
+                    generations,
+                    dx,
+                    dy,
+                })));
+            }
+            Stride::Never => return unknown_after(alloc, leaper, first, limit),
+            Stride::Dead => return Ok(None),
+        }
+    }
+    Ok(None)
+}
+
+// What a pattern is that isn't back up to the limit, if its plane isn't dead then.
+fn unknown_after<A: Automaton>(
+    alloc: Global,
+    leaper: &mut Leaper<A>,
+    first: &First,
+    limit: u64,
+) -> Result<Option<Identity>, LeapFault>
+    requires first { IsFirst leaper.old.nodes first.now }
+    requires most { limit ≤ longest_period }
+    ensures identity { (cells : Picture) → ShowsTree leaper.old.nodes first.now.tree cells
+        → HasNoReturn (A.next_of leaper.old.rule) cells limit
+        → IfOk result (λ found. IfSome found (IsIdentity (A.next_of leaper.old.rule) cells limit)) }
+    ensures goes_on { LeaperGrows A leaper.old leaper.new }
+{
+    let grown = growth_after(alloc, leaper, first, limit)?;
+    match grown {
+        Some(growth) => Ok(Some(Identity::Unknown { growth })),
+        None => Ok(None),
+    }
+}
+
+// What a stride from where a walk is shows, of no more generations than there are first planes.
+fn stride_to<A: Automaton>(
+    alloc: Global,
+    leaper: &mut Leaper<A>,
+    first: &First,
+    early: &[First],
+    walk: &Walk,
+    end: u64,
+    boxes: &mut SquareBoxes,
+) -> Result<Stride, LeapFault>
+    requires first { IsFirst leaper.old.nodes first.now }
+    requires early { AreEarly (A.next_of leaper.old.rule) (cell leaper.old.nodes first.now.tree)
+        leaper.old.nodes early.now }
+    requires walk { IsWalk (A.next_of leaper.old.rule) (cell leaper.old.nodes first.now.tree)
+        leaper.old.nodes walk.now }
+    requires more { walk.now.generations < end }
+    requires near { end ≤ walk.now.generations + length early.now }
+    requires most { end ≤ longest_period }
+    requires boxes { AreSquareBoxes leaper.old.nodes boxes.old }
+    ensures stride { IfOk result (IsStride (A.next_of leaper.old.rule)
+        (cell leaper.old.nodes first.now.tree) end leaper.new.nodes) }
+    ensures boxes { OnOk result (AreSquareBoxes leaper.new.nodes boxes.new) }
+    ensures goes_on { LeaperGrows A leaper.old leaper.new }
+{
+    // Says what holds of every leaper.
+    let _ = leaper.store();
+    let steps = end - walk.generations;
+    let later = later_tree(leaper, walk.tree, steps, &mut Unwatched)?;
+    if is_dead(leaper.store(), &later) {
+        return Ok(Stride::Dead);
+    }
+    let Some(before) = plane_before(alloc, leaper, &early[..steps as usize], &later, boxes)? else {
+        return Ok(Stride::On(later));
+    };
+    let generations = end - before as u64;
+    let stage = stage_after(alloc, leaper, first, walk, generations, boxes)?;
+    match stage {
+        Stage::Back { dx, dy } => Ok(Stride::Again {
+            generations,
+            dx,
+            dy,
+        }),
+        Stage::Other => Ok(Stride::Never),
+        Stage::Empty => unreachable!(),
+    }
+}
+
+// The number of the last of some planes, counted from 0, of which a live tree's plane is that plane, moved, if it is
+// one of them.
+fn plane_before<A: Automaton>(
+    alloc: Global,
+    leaper: &mut Leaper<A>,
+    early: &[First],
+    later: &Tree,
+    boxes: &mut SquareBoxes,
+) -> Result<Option<usize>, LeapFault>
+    requires early { (k : ℕ) (plane : First) → slice_get early.now k ≡ Some plane → IsFirst leaper.old.nodes plane }
+    requires later { IsNearTree leaper.old.nodes later.now }
+    requires live { HasLive (cell leaper.old.nodes later.now) }
+    requires boxes { AreSquareBoxes leaper.old.nodes boxes.old }
+    ensures before { IfOk result (λ found. MatchOption found
+        ((k : ℕ) (plane : First) → slice_get early.now k ≡ Some plane
+        → AreMovedNowhere (cell leaper.old.nodes plane.tree) (cell leaper.old.nodes later.now))
+        (IsLastMovedFrom leaper.old.nodes early.now (cell leaper.old.nodes later.now))) }
+    ensures boxes { OnOk result (AreSquareBoxes leaper.new.nodes boxes.new) }
+    ensures goes_on { LeaperGrows A leaper.old leaper.new }
+{
+    // Says what holds of every leaper.
+    let _ = leaper.store();
+    let mut left = early.len();
+    'planes: while left > 0 {
+        let index = left - 1;
+        match stage_of(alloc, leaper, &early[index], later, boxes)? {
+            Stage::Other => {}
+            Stage::Back { .. } => return Ok(Some(index)),
+            Stage::Empty => unreachable!(),
+        }
+        left = index;
+    }
+    Ok(None)
+}
+
+// What the plane shows of the pattern after so many generations, from where a walk is.
+fn stage_after<A: Automaton>(
+    alloc: Global,
+    leaper: &mut Leaper<A>,
+    first: &First,
+    walk: &Walk,
+    generations: u64,
+    boxes: &mut SquareBoxes,
+) -> Result<Stage, LeapFault>
+    requires first { IsFirst leaper.old.nodes first.now }
+    requires walk { IsWalk (A.next_of leaper.old.rule) (cell leaper.old.nodes first.now.tree)
+        leaper.old.nodes walk.now }
+    requires from { walk.now.generations ≤ generations }
+    requires few { generations ≤ longest_period }
+    requires boxes { AreSquareBoxes leaper.old.nodes boxes.old }
+    ensures stage { IfOk result (IsStage (cell leaper.old.nodes first.now.tree)
+        (cells_after (A.next_of leaper.old.rule) (cell leaper.old.nodes first.now.tree) generations)) }
+    ensures boxes { OnOk result (AreSquareBoxes leaper.new.nodes boxes.new) }
+    ensures goes_on { LeaperGrows A leaper.old leaper.new }
+{
+    // Says what holds of every leaper.
+    let _ = leaper.store();
+    let steps = generations - walk.generations;
+    let tree = later_tree(leaper, walk.tree, steps, &mut Unwatched)?;
+    let stage = stage_of(alloc, leaper, first, &tree, boxes)?;
+    Ok(stage)
+}

@@ -1,0 +1,11 @@
+//! What the patterns of files are: the one claim about each that is true.
+#![tactic(auto)]
+
+mod identification;
+mod identity;
+pub mod identity_laws;
+mod scope;
+
+pub use identification::{identify, identify_after, look_after};
+pub use identity::{Growth, Identity};
+pub use scope::{Look, Scope};

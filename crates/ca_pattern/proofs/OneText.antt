@@ -1,0 +1,69 @@
+-- A file is converted to one text.
+use Rattle.std.proofs.Common.{◌≡◌, ℕ, List, Option, None, Some, sym, ap, subst, ◌∙◌, inl, inr}
+use Rattle.ca_plane.specs.declared.point.Point.{Point}
+use Rattle.ca_plane.specs.declared.point.Bounds.{Bounds}
+use Rattle.std.specs.Option.{MatchOption}
+use Rattle.ca_plane.specs.Plane.{Picture, cell, IsSame, IsLive}
+use Rattle.ca_plane.specs.Box.{IsLeastBox}
+use Rattle.ca_rle.specs.Tidy as rle
+use Rattle.ca_rle.proofs.OneTidy as rle_tidy
+use Rattle.ca_macro.proofs.OneTidy as macrocell_tidy
+use Rattle.ca_rule.specs.TableNext.{TableRule}
+use Rattle.ca_rule.specs.Rule.{states_of, printed_form}
+use Rattle.ca_pattern.specs.declared.format.Format.{Format}
+use Rattle.ca_pattern.specs.declared.format.Format.TheVariants.{Rle, Mc}
+use Rattle.ca_pattern.specs.Converted.{IsTidyAs, IsConverted}
+use Rattle.ca_pattern.proofs.OneMeaning.{one_ruled}
+use Rattle.ca_pattern.proofs.WrittenMeanings.{tidy_shown}
+
+-- a text that is tidy for a picture is so for one that shows the same
+module _ (p q : Picture) (same : IsSame p q) where
+  pub box_shown : (box : Bounds) → IsLeastBox p box → IsLeastBox q box
+  box_shown box least = record {
+    all = λ x y live. least.all x y (λ e. live (sym (same x y) ∙ e));
+    left = (least.left.0, λ e. least.left.1 (same box.x0 least.left.0 ∙ e));
+    right = (least.right.0, λ e. least.right.1 (same box.x1 least.right.0 ∙ e));
+    top = (least.top.0, λ e. least.top.1 (same least.top.0 box.y0 ∙ e));
+    bottom = (least.bottom.0, λ e. least.bottom.1 (same least.bottom.0 box.y1 ∙ e));
+  }
+
+  frame_shown : (corner : Point) (width height : ℕ) → rle.IsFrame p corner width height → rle.IsFrame q corner width height
+  frame_shown corner width height (inl dead) = inl (λ live. dead.0 (live.0, live.1, λ e. live.2 (sym (same live.0 live.1) ∙ e)), dead.1, dead.2, dead.3)
+  frame_shown corner width height (inr (box, least, at, wide, high)) = inr (box, box_shown box least, at, wide, high)
+
+  pub tidy_as : (format : Format) (text rule_text : List ℕ) (generation states : ℕ) → IsTidyAs format text p rule_text generation states → IsTidyAs format text q rule_text generation states
+  tidy_as Rle text rule_text generation states tidy = record {
+    corner = tidy.corner;
+    width = tidy.width;
+    height = tidy.height;
+    items = tidy.items;
+    lines = tidy.lines;
+    frame = frame_shown tidy.corner tidy.width tidy.height tidy.frame;
+    shown = λ x y. sym (same x y) ∙ tidy.shown x y;
+    tidy = tidy.tidy;
+    have_states = tidy.have_states;
+    whole = tidy.whole;
+    lines_are = tidy.lines_are;
+    spelled = tidy.spelled;
+  }
+  tidy_as Mc text rule_text generation states tidy = tidy_shown (cell p) (cell q) same text rule_text generation states tidy
+
+-- the bounds of a picture are those of one that shows the same
+pub match_shown : (p q : Picture) → IsSame p q → (found : Option Bounds) → MatchOption found (IsLive p → ⊥) (IsLeastBox p) → MatchOption found (IsLive q → ⊥) (IsLeastBox q)
+match_shown p q same None dead = λ live. dead (live.0, live.1, λ e. live.2 (sym (same live.0 live.1) ∙ e))
+match_shown p q same (Some box) least = box_shown p q same box least
+
+-- a picture has one tidy text in each format
+pub one_tidy_as : (format : Format) (t u : List ℕ) (p : Picture) (rule_text : List ℕ) (generation states : ℕ) → IsTidyAs format t p rule_text generation states
+    → IsTidyAs format u p rule_text generation states → t ≡ u
+one_tidy_as Rle t u p rule_text generation states one two = rle_tidy.one_tidy t u p rule_text generation states one two
+one_tidy_as Mc t u p rule_text generation states one two = macrocell_tidy.one_tidy t u (cell p) rule_text generation states one two
+
+pub one_text : (bytes : List ℕ) (tables : List TableRule) (target : Format) (t u : List ℕ) → IsConverted bytes tables target t → IsConverted bytes tables target u → t ≡ u
+one_text bytes tables target t u a b =
+    let one = one_ruled bytes tables a.cells b.cells a.rule b.rule a.generation b.generation a.holds b.holds in
+    let same : IsSame a.shown b.shown = λ x y. sym (a.same x y) ∙ ap (λ p. cell p x y) one.0 ∙ b.same x y in
+    let shown = tidy_as a.shown b.shown same target t (printed_form a.rule) a.generation (states_of a.rule) a.tidy in
+    let ruled = subst (λ r. IsTidyAs target t b.shown (printed_form r) a.generation (states_of r)) one.1 shown in
+    let timed = subst (λ g. IsTidyAs target t b.shown (printed_form b.rule) g (states_of b.rule)) one.2 ruled in
+    one_tidy_as target t u b.shown (printed_form b.rule) b.generation (states_of b.rule) timed b.tidy

@@ -1,0 +1,84 @@
+-- RLE files that were read, their cells kept in one form or another.
+use Rattle.std.proofs.Common.{◌≡◌, ℕ, ◌≤◌, ◌<◌, ◌^◌, List, refl, sym, ap, subst, arith}
+use Rattle.std.specs.Prelude.{ℤ}
+use Rattle.ca_plane.specs.Plane.{Picture, cell}
+use Rattle.ca_plane.specs.Population.{HasPopulation}
+use Rattle.ca_plane.specs.declared.point.Point.{Point}
+use Rattle.ca_rle.specs.declared.rle_text.RleText.{RleText}
+use Rattle.ca_rle.specs.Judged.{IsRleText}
+use Rattle.ca_rle.specs.File.{RleFile, IsRleFile}
+use Rattle.ca_rle.specs.Limits.{IsWithinLimits}
+use Rattle.ca_rle.specs.Pattern.{HasFileParts}
+use Rattle.ca_rle.specs.Shown.{picture_of_items}
+use Rattle.ca_rule.specs.TableNext.{TableRule}
+use Rattle.ca_rule.specs.Rule.{RuleValue, NamesRule, states_of}
+use Rattle.ca_macro.specs.Pattern.{AreInRange}
+use Rattle.ca_pattern.specs.declared.format.Format.TheVariants.{Rle}
+use Rattle.ca_pattern.specs.Means.{format_of, MeansAs, IsReadableAs, HoldsPattern}
+use Rattle.ca_pattern.specs.States.{HasSmallStates, HasLargeState}
+use Rattle.ca_pattern.specs.inner.Ready.{HoldsCells}
+use Rattle.ca_pattern.proofs.FilesRead.{in_format, shown_in_range}
+use Rattle.ca_pattern.proofs.EqualCells.{small_shown}
+
+module _ (bytes : List ℕ) (file : RleFile) (f : ℤ → ℤ → ℕ) (rule_text : List ℕ) (generation : ℕ) (rle : format_of bytes ≡ Rle) (is_file : IsRleFile bytes file) (within : IsWithinLimits file) (parts : HasFileParts file f rule_text generation) where
+  -- the file's picture
+  abbrev pub picture : Picture
+  picture = picture_of_items file.corner file.items
+
+  pub holds : HoldsPattern bytes picture rule_text generation
+  holds = record {
+    readable = in_format (λ t. IsReadableAs t bytes) bytes Rle rle (file, is_file, within);
+    means = in_format (λ t. MeansAs t bytes picture rule_text generation) bytes Rle rle (file, is_file, refl, parts.rule_text_is, parts.generation_is);
+  }
+
+  pub in_range : AreInRange f
+  in_range = shown_in_range f picture parts.cells_are within.0.cells
+
+  pub holds_cells : (tables : List TableRule) (rule : RuleValue) → NamesRule rule_text tables rule → HasSmallStates rule f → HoldsCells bytes tables f rule generation
+  holds_cells tables rule names small = record {
+    picture = picture;
+    begins = record { holds = record { rule_text = rule_text; holds = holds; names = names }; small = small_shown f (cell picture) parts.cells_are rule small };
+    shows = parts.cells_are;
+  }
+
+-- ---- a text that was judged
+
+module _ (bytes : List ℕ) (text : RleText) (is : IsRleText bytes text) where
+  -- the text's picture
+  abbrev pub text_picture : Picture
+  text_picture = picture_of_items text.corner is.file.items
+
+  abbrev pub text_parts : HasFileParts is.file (cell (picture_of_items text.corner is.file.items)) is.file.rule_text text.generation
+  text_parts = record {
+    cells_are = λ x y. ap (λ (at : Point). cell (picture_of_items at is.file.items) x y) is.corner;
+    states = is.states;
+    rule_text_is = refl;
+    generation_is = is.generation;
+    low_generation = subst (λ (n : ℕ). n < 2 ^ 63) (sym is.generation) is.low_generation;
+    is_word = is.is_word;
+  }
+
+  pub text_holds : format_of bytes ≡ Rle → HoldsPattern bytes (picture_of_items is.file.corner is.file.items) is.file.rule_text text.generation
+  text_holds rle = holds bytes is.file (cell text_picture) is.file.rule_text text.generation rle is.is_file is.within text_parts
+
+  -- its states are small under a rule with more states than the greatest
+  pub text_small : (rule : RuleValue) → text.greatest < states_of rule → HasSmallStates rule (cell (picture_of_items text.corner is.file.items))
+  text_small rule low = λ x y.
+      let most : cell text_picture x y ≤ text.greatest = subst (λ (at : Point). cell (picture_of_items at is.file.items) x y ≤ text.greatest) (sym is.corner) (is.most x y) in
+      omega (arith, most, low)
+
+  -- and one is large under a rule with no more
+  pub text_large : (rule : RuleValue) → 0 < states_of rule → states_of rule ≤ text.greatest → HasLargeState rule (cell (picture_of_items is.file.corner is.file.items))
+  text_large rule some high =
+      let (x, y, shown) = is.greatest (omega (arith, some, high)) in
+      (x, y, omega (arith, shown, high))
+
+  -- so it is a file of its cells
+  pub text_file : format_of bytes ≡ Rle → (tables : List TableRule) (rule : RuleValue) → NamesRule is.file.rule_text tables rule → text.greatest < states_of rule
+      → HoldsCells bytes tables (cell (picture_of_items text.corner is.file.items)) rule text.generation
+  text_file rle tables rule names low =
+      holds_cells bytes is.file (cell text_picture) is.file.rule_text text.generation rle is.is_file is.within text_parts tables rule names (text_small rule low)
+
+  -- the number of its live cells, and their bounds
+  pub text_population : HasPopulation (cell (picture_of_items text.corner is.file.items)) text.cells
+  text_population = subst (λ (at : Point). HasPopulation (cell (picture_of_items at is.file.items)) text.cells) (sym is.corner) is.population

@@ -1,0 +1,123 @@
+-- What is written means what the pattern means.
+use Rattle.std.proofs.Common.{◌≡◌, ℕ, ◌≤◌, List, length, Option, Some, Result, Ok, Err, refl, sym, ap, subst, ◌∙◌}
+use Rattle.std.specs.Prelude.{ℤ}
+use Rattle.std.specs.Option.{MatchOption}
+use Rattle.std.specs.Result.{IfOk, IfErr}
+use Rattle.ca_plane.specs.Plane.{Picture}
+use Rattle.ca_plane.specs.Plane as plane
+use Rattle.ca_plane.specs.Limits.{most_cells}
+use Rattle.ca_plane.specs.Population.{HasTooManyCells}
+use Rattle.ca_plane.proofs.Populations.{same_population, sparse_population}
+use Rattle.ca_quad.specs.declared.node.Node.{Node}
+use Rattle.ca_quad.specs.declared.tree.Tree.{Tree}
+use Rattle.ca_quad.specs.Trees.{cell}
+use Rattle.ca_rle.specs.Tidy as rle
+use Rattle.ca_rle.specs.File as rle_file
+use Rattle.ca_rle.specs.Limits.{IsWithinLimits}
+use Rattle.ca_rle.specs.Shown as rle_shown
+use Rattle.ca_macro.specs.Tidy as macrocell
+use Rattle.ca_macro.specs.File as macrocell_file
+use Rattle.ca_macro.specs.Limits.{IsMacrocellWithinRange}
+use Rattle.ca_macro.specs.Shown as macrocell_shown
+use Rattle.ca_macro.specs.Pattern.{Holds}
+use Rattle.ca_macro.proofs.TidyFiles.{tidy_nodes_as}
+use Rattle.ca_rule.specs.Rule.{RuleValue, states_of, printed_form}
+use Rattle.ca_pattern.specs.declared.format.Format.TheVariants.{Rle, Mc}
+use Rattle.ca_pattern.specs.declared.conversion.ConvertFault.{ConvertFault}
+use Rattle.ca_pattern.specs.declared.conversion.ConvertFault.TheVariants.{BadPattern, BadRule, StateTooLarge, TooManyCells, Memory}
+use Rattle.ca_pattern.specs.Means.{format_of, MeansAs, IsReadableAs}
+use Rattle.ca_pattern.specs.inner.Cells.{IsPlaneOf}
+use Rattle.ca_pattern.specs.inner.Ready.{AreWritable, IsWritablePlane, IsWrittenAs, AreUnwritten}
+use Rattle.ca_pattern.proofs.FilesRead.{in_format}
+use Rattle.ca_pattern.proofs.EqualCells.{small_shown, many_shown}
+
+-- ---- the format
+
+-- a tidy RLE begins with `#`
+tidy_is_rle : (text : List ℕ) (cells : Picture) (rule_text : List ℕ) (generation states : ℕ) → rle.IsTidyRle text cells rule_text generation states → format_of text ≡ Rle
+tidy_is_rle text cells rule_text generation states tidy = ap format_of tidy.spelled ∙ refl
+
+-- a macrocell begins as one
+file_is_macro : (text : List ℕ) (file : macrocell_file.MacrocellFile) → macrocell_file.IsMacrocellFile text file → format_of text ≡ Mc
+file_is_macro text file is = rw is.begins refl
+
+-- ---- an RLE
+
+-- a plane that was made of a tree is its plane
+pub plane_is : (nodes : List Node) (tree : Tree) (found : Option Picture) (picture : Picture) → found ≡ Some picture
+    → MatchOption found (HasTooManyCells (cell nodes tree)) (IsPlaneOf nodes tree) → IsPlaneOf nodes tree picture
+plane_is nodes tree found picture is h = subst (λ o. MatchOption o (HasTooManyCells (cell nodes tree)) (IsPlaneOf nodes tree)) is h
+
+-- the plane of a tree has few cells
+pub plane_is_short : (nodes : List Node) (tree : Tree) (picture : Picture) → IsPlaneOf nodes tree picture → length picture ≤ most_cells
+plane_is_short nodes tree picture is =
+    let (count, has, low) = is.few in
+    subst (λ n. n ≤ most_cells) (same_population (cell nodes tree) (plane.cell picture) (λ x y. sym (is.shows x y)) count (length picture) has (sparse_population picture is.sparse)) low
+
+-- and may be written where the tree's cells may
+pub plane_is_writable : (nodes : List Node) (tree : Tree) (picture : Picture) (rule : RuleValue) (generation : ℕ) → IsPlaneOf nodes tree picture → AreWritable (cell nodes tree) rule generation → IsWritablePlane picture rule generation
+plane_is_writable nodes tree picture rule generation is writable = record {
+  sparse = is.sparse;
+  writable = record {
+    range = λ x y live. writable.range x y (λ e. live (is.shows x y ∙ e));
+    small = small_shown (cell nodes tree) (plane.cell picture) (λ x y. sym (is.shows x y)) rule writable.small;
+    low = writable.low;
+  };
+  short = plane_is_short nodes tree picture is;
+}
+
+pub written_rle : (cells : Picture) (rule : RuleValue) (generation : ℕ) (rule_text text : List ℕ) (file : rle_file.RleFile) → rule_text ≡ printed_form rule → rle.IsTidyRle text cells rule_text generation (states_of rule)
+    → rle_file.IsRleFile text file → IsWithinLimits file → rle_shown.picture_of_items file.corner file.items ≡ cells → file.rule_text ≡ rule_text → file.generation ≡ generation → IsWrittenAs Rle (plane.cell cells) rule generation text
+written_rle cells rule generation rule_text text file printed tidy is_file within shown names at =
+    let format = tidy_is_rle text cells rule_text generation (states_of rule) tidy in
+    record {
+      shown = cells;
+      same = λ x y. refl;
+      format = format;
+      holds = record {
+        readable = in_format (λ t. IsReadableAs t text) text Rle format (file, is_file, within);
+        means = in_format (λ t. MeansAs t text cells (printed_form rule) generation) text Rle format (file, is_file, sym shown, sym (names ∙ printed), sym at);
+      };
+      tidy = subst (λ t. rle.IsTidyRle text cells t generation (states_of rule)) printed tidy;
+    }
+
+-- what is written of cells is written of the same cells, and why they aren't is why those aren't
+module _ (f g : ℤ → ℤ → ℕ) (same : (x y : ℤ) → f x y ≡ g x y) where
+  pub written_ok : (rule : RuleValue) (generation : ℕ) {A : Type 0} (items : A → List ℕ) (r : Result A ConvertFault) → IfOk r (λ a. IsWrittenAs Rle f rule generation (items a)) → IfOk r (λ a. IsWrittenAs Rle g rule generation (items a))
+  written_ok rule generation items (Ok a) written = record { shown = written.shown; same = λ x y. sym (same x y) ∙ written.same x y; format = written.format; holds = written.holds; tidy = written.tidy }
+  written_ok rule generation items (Err e) written = written
+
+  unwritten : (fault : ConvertFault) → AreUnwritten Rle f fault → AreUnwritten Rle g fault
+  unwritten (BadPattern fault) h = h
+  unwritten (BadRule fault) h = h
+  unwritten StateTooLarge h = h
+  unwritten TooManyCells h = (h.0, many_shown f g same h.1)
+  unwritten Memory h = h
+
+  pub unwritten_err : {A : Type 0} (r : Result A ConvertFault) → IfErr r (AreUnwritten Rle f) → IfErr r (AreUnwritten Rle g)
+  unwritten_err (Ok a) h = h
+  unwritten_err (Err e) h = unwritten e h
+
+-- ---- a macrocell
+
+-- a text that is tidy for cells is so for the same cells
+module _ (f g : ℤ → ℤ → ℕ) (same : (x y : ℤ) → f x y ≡ g x y) where
+  pub tidy_shown : (text rule_text : List ℕ) (generation states : ℕ) → macrocell.IsTidyMacrocell text f rule_text generation states → macrocell.IsTidyMacrocell text g rule_text generation states
+  tidy_shown text rule_text generation states tidy = record { nodes = tidy.nodes; tidy = tidy_nodes_as states f g tidy.nodes same tidy.tidy; spelled = tidy.spelled }
+
+pub written_macro : (f : ℤ → ℤ → ℕ) (rule : RuleValue) (generation : ℕ) (rule_text text : List ℕ) (file : macrocell_file.MacrocellFile) → rule_text ≡ printed_form rule → macrocell.IsTidyMacrocell text f rule_text generation (states_of rule)
+    → macrocell_file.IsMacrocellFile text file → IsMacrocellWithinRange file → Holds file f rule_text generation → IsWrittenAs Mc f rule generation text
+written_macro f rule generation rule_text text file printed tidy is_file within holds =
+    let format = file_is_macro text file is_file in
+    let cells = macrocell_shown.picture_of_nodes file.nodes in
+    let same : (x y : ℤ) → f x y ≡ plane.cell cells x y = λ x y. sym (holds.shown x y) in
+    record {
+      shown = cells;
+      same = same;
+      format = format;
+      holds = record {
+        readable = in_format (λ t. IsReadableAs t text) text Mc format (file, is_file, within);
+        means = in_format (λ t. MeansAs t text cells (printed_form rule) generation) text Mc format (file, is_file, refl, sym (holds.rule_is ∙ printed), sym holds.generation_is);
+      };
+      tidy = tidy_shown f (plane.cell cells) same text (printed_form rule) generation (states_of rule) (subst (λ t. macrocell.IsTidyMacrocell text f t generation (states_of rule)) printed tidy);
+    }

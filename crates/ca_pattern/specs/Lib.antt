@@ -1,0 +1,13 @@
+pub mod Converted
+pub mod DetailedFault
+pub mod Evolved
+pub mod Faults
+pub mod Limited
+pub mod Loaded
+pub mod Means
+pub mod NamedTables
+pub mod PatternTrees
+pub mod Patterns
+pub mod Spending
+pub mod States
+pub mod inner

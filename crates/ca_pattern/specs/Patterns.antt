@@ -1,0 +1,66 @@
+-- A pattern that was read, and its rule; and why one isn't read or ruled.
+use Rattle.std.specs.Prelude.{◌≡◌, ℕ, ◌<◌, List, Option}
+use Rattle.ca_pattern.specs.declared.ruled.RuledPattern.{RuledPattern}
+use Rattle.ca_pattern.specs.declared.ruled.UnnamedRule.{UnnamedRule}
+use Rattle.ca_plane.specs.Plane.{Picture}
+use Rattle.ca_plane.specs.Bytes.{IsWord}
+use Rattle.ca_plane.specs.Limits.{generation_limit}
+use Rattle.ca_quad.specs.declared.node.Node.{Node}
+use Rattle.ca_quad.specs.Trees.{cell}
+use Rattle.ca_rule.specs.TableNext.{TableRule}
+use Rattle.ca_rule.specs.Rule.{RuleValue, rule_value, NamesRule, IsRuleFault}
+use Rattle.ca_macro.specs.Pattern.{AreInRange}
+use Rattle.ca_pattern.specs.declared.pattern.Loaded.{Loaded}
+use Rattle.ca_pattern.specs.declared.read.BadPattern.{BadPattern}
+use Rattle.ca_pattern.specs.declared.pattern_fault.PatternFault.{PatternFault}
+use Rattle.ca_pattern.specs.declared.pattern_fault.PatternFault.TheVariants.{Rle, Macro, Memory}
+use Rattle.ca_pattern.specs.Means.{MayWantMemory}
+use Rattle.ca_pattern.specs.Faults.{IsPatternFaultOn}
+use Rattle.ca_pattern.specs.States.{HasLargeState, HasSmallStates}
+use Rattle.ca_pattern.specs.Loaded.{IsLoaded}
+
+-- the bytes are a file that reads, and this is its pattern in the store of these nodes, whose live cells are in
+-- range; its generation is below the limit, and its rule text is a word
+pub record IsReadFrom (nodes : List Node) (bytes : List ℕ) (pattern : Loaded) : Type 0 where
+  pub cells : Picture
+  pub loaded : IsLoaded nodes bytes cells pattern
+  pub range : AreInRange (cell nodes pattern.tree)
+  pub generation : pattern.generation < generation_limit
+  pub word : IsWord pattern.rule_text.items
+
+-- why the bytes aren't read, and on which line: their fault, or out of memory where they may need memory
+abbrev pub IsUnreadFor : List ℕ → PatternFault → Option ℕ → Type 0
+IsUnreadFor bytes (Rle fault) line = IsPatternFaultOn bytes (Rle fault) line
+IsUnreadFor bytes (Macro fault) line = IsPatternFaultOn bytes (Macro fault) line
+IsUnreadFor bytes Memory line = MayWantMemory bytes
+
+abbrev pub IsUnread : List ℕ → BadPattern → Type 0
+IsUnread bytes bad = IsUnreadFor bytes bad.fault bad.line
+
+-- it names none, and this is the rule text and what is wrong with it
+abbrev pub IsUnnamedFor : List TableRule → Loaded → UnnamedRule → Type 0
+IsUnnamedFor tables pattern unnamed = (unnamed.rule_text ≡ pattern.rule_text) × IsRuleFault pattern.rule_text.items tables unnamed.fault
+
+-- the rule of a pattern
+abbrev pub rule_of : RuledPattern → RuleValue
+rule_of ruled = rule_value ruled.rule
+
+-- the pattern with a rule that its rule text names
+abbrev pub IsRuledAs : List TableRule → Loaded → RuledPattern → Type 0
+IsRuledAs tables pattern ruled = (ruled.pattern ≡ pattern) × NamesRule pattern.rule_text.items tables (rule_of ruled)
+
+-- some state of the pattern's cells is too large for its rule
+abbrev pub ShowsLarge : List Node → RuledPattern → Type 0
+ShowsLarge nodes ruled = HasLargeState (rule_of ruled) (cell nodes ruled.pattern.tree)
+
+-- none is
+abbrev pub ShowsSmall : List Node → RuledPattern → Type 0
+ShowsSmall nodes ruled = HasSmallStates (rule_of ruled) (cell nodes ruled.pattern.tree)
+
+-- the bytes are a file of this pattern, whose states are small under the rule that its rule text names
+pub record IsReady (nodes : List Node) (bytes : List ℕ) (tables : List TableRule)
+    (ruled : RuledPattern) : Type 0 where
+  pub read : IsReadFrom nodes bytes ruled.pattern
+  pub generation : ruled.pattern.generation < generation_limit
+  pub names : NamesRule ruled.pattern.rule_text.items tables (rule_of ruled)
+  pub small : HasSmallStates (rule_of ruled) (cell nodes ruled.pattern.tree)

@@ -1,0 +1,34 @@
+use Rattle.std.proofs.Common.{◌<◌, map, refl, sym, subst}
+use Rattle.std.specs.List.{AllByRecursion}
+use Rattle.ca_text.specs.Text.{patterns_of, map_patterns}
+use Rattle.ca_text.specs.Places.{path_at, named_path}
+use Rattle.ca_text.specs.OneOrTwo.{items}
+use Rattle.ca_verify.specs.inner.Refusals.{IsOnVerdict}
+use Rattle.ca_verify.proofs.judge.answer_to.Goals as goal
+
+pub verdict_on-judged-requires : goal.verdict_on-judged-requires
+verdict_on-judged-requires g c = record {
+  limits = c.requires.limits;
+  within = subst (λ n. AllByRecursion (λ i. i < n) (patterns_of c.claim-asked.result.claim)) (sym c.requires.found) c.claim-asked.ensures.asked.within;
+  numbers = c.claim-asked.ensures.asked.numbers;
+}
+
+pub returns : goal.returns
+returns g c = λ files e read.
+    let paths = c.args.claims.now.paths in
+    let rules = c.args.claims.now.rules in
+    let claim = map_patterns (path_at paths) c.claim-asked.result.claim in
+    let judged = c.verdict_on-judged.ensures files paths rules (record { found = e; read = read }) in
+    let same = c.patterns.ensures.claim (c.claim-asked.result.line, claim) c.claim-asked.ensures.claim in
+    let noted = c.note_on.ensures files
+    (subst (λ ps. IsOnVerdict files paths rules ps c.verdict_on-judged.result.verdict c.verdict_on-judged.result.about) same judged.on) in
+    record {
+      claim = (c.claim-asked.result.line, claim);
+      at = c.claim-asked.ensures.claim;
+      holds = (refl, judged.holds);
+      within = judged.within;
+      patterns = map (named_path paths) (items c.patterns.result);
+      named = c.patterns.ensures.patterns;
+      noted = noted.0;
+      given = noted.1;
+    }

@@ -1,0 +1,10 @@
+pub mod Decided
+pub mod Found
+pub mod Kept
+pub mod Patterns
+pub mod PreparedClaim
+pub mod Refusals
+pub mod Returns
+pub mod Spending
+pub mod Subjects
+pub mod Tasks

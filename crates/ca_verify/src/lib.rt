@@ -1,0 +1,18 @@
+//! Verdicts on claims about the patterns of files.
+#![tactic(auto)]
+
+mod decide;
+mod file;
+mod judge;
+mod note;
+mod noting;
+mod refusal;
+mod verdict;
+pub mod verdict_laws;
+mod verifier;
+
+pub use file::File;
+pub use judge::{Judge, look_up};
+pub use note::Note;
+pub use verdict::{Answer, Refutation, Verdict};
+pub use verifier::{FaultyTable, NeededFiles, Tables, verify};
