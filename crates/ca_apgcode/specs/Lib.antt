@@ -1,0 +1,3 @@
+pub mod Grids
+pub mod Representation
+pub mod inner
