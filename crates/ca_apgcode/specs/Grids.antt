@@ -1,5 +1,5 @@
 -- Cells of two states in a box.
-use Rattle.std.specs.Prelude.{◌≡◌, ℕ, ◌^◌, ◌<◌, ◌≤◌, List, length, slice_index}
+use Rattle.std.specs.Prelude.{◌≡◌, ℕ, ◌-◌, ◌^◌, ◌<◌, ◌≤◌, List, length, slice_index}
 use Rattle.std.specs.Int.{bit_at}
 
 -- the cells of a box: how high it is, and its columns from the west, each of them a binary number with the northern
@@ -25,3 +25,10 @@ pub record MakesLive (old new : GridCells) (x y : ℕ) : Type 0 where
   pub height : new.height ≡ old.height
   pub live : cell new x y ≡ 1
   pub others : (u v : ℕ) → (u ≡ x → v ≡ y → ⊥) → cell new u v ≡ cell old u v
+
+-- the box is the least one round the live cells: one of them is in each of its outermost columns and rows
+pub record IsLeastGrid (grid : GridCells) : Type 0 where
+  pub west : (y : ℕ) × (cell grid 0 y ≡ 1)
+  pub east : (y : ℕ) × (cell grid (length grid.columns - 1) y ≡ 1)
+  pub north : (x : ℕ) × (cell grid x 0 ≡ 1)
+  pub south : (x : ℕ) × (cell grid x (grid.height - 1) ≡ 1)

@@ -3,6 +3,7 @@
 use Rattle.std.specs.Prelude.{◌≡◌, ℕ, ◌+◌, ◌-◌, ◌*◌, ◌/◌, ◌<◌, ◌≤◌, nat_lt, ◌==◌, if◌then◌else◌, List, [], ◌∷◌, ◌++◌, length, map, replicate, codes, slice_index, slice_index_or}
 use Rattle.std.specs.List.{flat_map, join_with_byte, AllByRecursion}
 use Rattle.ca_plane.specs.Bytes.{letter}
+use Rattle.ca_apgcode.specs.Grids.{GridCells, IsGrid, IsLeastGrid, cell}
 
 -- the five cells of a column from a row down, as a binary number with the northern cell as 1
 abbrev pub five_cells : (ℕ → ℕ → ℕ) → ℕ → ℕ → ℕ
@@ -51,3 +52,9 @@ pub record IsRepresentation (cells : ℕ → ℕ → ℕ) (height : ℕ) (text :
   pub count : length strips ≡ (height + 4) / 5
   pub each : (i : ℕ) → i < length strips → IsStrip cells (5 * i) (slice_index_or strips i [])
   pub whole : text ≡ join_with_byte (letter "z") (map (flat_map step_text) strips)
+
+-- the text is the representation of the cells in a least box, as an apgcode has it
+pub record IsCode (grid : GridCells) (text : List ℕ) : Type 0 where
+  pub is_grid : IsGrid grid
+  pub is_least : IsLeastGrid grid
+  pub is_representation : IsRepresentation (cell grid) grid.height text

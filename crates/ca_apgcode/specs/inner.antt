@@ -1,2 +1,3 @@
 -- What only private contracts speak of.
 pub mod Puts
+pub mod Reading

@@ -2,6 +2,7 @@
 #![tactic(auto)]
 
 mod grid;
+pub mod laws;
 mod writing;
 
 pub use grid::{Grid, MOST_SIDE};

@@ -1,0 +1,16 @@
+//! Laws of representations, over the definitions alone.
+
+ghost use Rattle.std.specs.Prelude.{◌≡◌, ℕ, List};
+ghost use Rattle.ca_apgcode.specs.Grids.{GridCells};
+ghost use Rattle.ca_apgcode.specs.Representation.{IsRepresentation, IsCode};
+
+/// Cells in a box have one representation at most.
+pub fn one_text()
+    ensures { (cells : ℕ → ℕ → ℕ) (height : ℕ) (one other : List ℕ) → IsRepresentation cells height one
+        → IsRepresentation cells height other → one ≡ other }
+{}
+
+/// A text is the representation of one picture in its least box at most, so it gives the cells back.
+pub fn one_picture()
+    ensures { (one other : GridCells) (text : List ℕ) → IsCode one text → IsCode other text → one ≡ other }
+{}
