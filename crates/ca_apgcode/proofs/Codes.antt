@@ -78,7 +78,7 @@ digits_from_number a b c d e p q r s t la lb lc ld lp lq lr ls same =
     (first, second, third, fourth, omega (arith, first, second, third, fourth))
 
 -- cells with the same numbers of five are the same
-cells_from_five : (grid other : GridCells) (x i y : ℕ) → i ≡ y / 5 → five_cells (cell grid) x (5 * i) ≡ five_cells (cell other) x (5 * i) → cell grid x y ≡ cell other x y
+pub cells_from_five : (grid other : GridCells) (x i y : ℕ) → i ≡ y / 5 → five_cells (cell grid) x (5 * i) ≡ five_cells (cell other) x (5 * i) → cell grid x y ≡ cell other x y
 cells_from_five grid other x i y row same =
     let bit = λ (k : ℕ). bit_at-lt (get_or grid.columns x 0) k in
     let bit' = λ (k : ℕ). bit_at-lt (get_or other.columns x 0) k in
@@ -100,7 +100,7 @@ cells_from_five grid other x i y row same =
     ]
 
 -- what holds of each by its index holds by recursion
-each_by_index : (P : List Step → Type 0) (strips : List (List Step)) → ((i : ℕ) → i < length strips → P (get_or strips i [])) → AllByRecursion P strips
+pub each_by_index : (P : List Step → Type 0) (strips : List (List Step)) → ((i : ℕ) → i < length strips → P (get_or strips i [])) → AllByRecursion P strips
 each_by_index P [] each = tt
 each_by_index P (s ∷ ss) each = (each 0 (omega arith), each_by_index P ss (λ i below. each (suc i) (omega (arith, below))))
 
@@ -110,7 +110,7 @@ same_strips [] ts text some others each_s each_t one other = elim some [ ]
 same_strips (s ∷ ss) [] text some others each_s each_t one other = elim others [ ]
 same_strips (s ∷ ss) (t ∷ ts) text some others each_s each_t one other = one_list_of_strips (s ∷ ss) (t ∷ ts) each_s each_t (ap (λ l. 122 ∷ l) (sym one ∙ other))
 
-some_strips : (grid : GridCells) (text : List ℕ) (code : IsCode grid text) → 0 < length code.is_representation.strips
+pub some_strips : (grid : GridCells) (text : List ℕ) (code : IsCode grid text) → 0 < length code.is_representation.strips
 some_strips grid text code =
     let high : grid.height - 1 < grid.height = live_row grid code.is_least.south.0 (grid.height - 1) code.is_grid code.is_least.south.1 in
     let count : length code.is_representation.strips ≡ (grid.height + 4) / 5 = code.is_representation.count in

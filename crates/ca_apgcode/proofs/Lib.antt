@@ -4,3 +4,10 @@ pub mod Strips
 pub mod StepTexts
 pub mod StepColumns
 pub mod Codes
+pub mod StepsRead
+pub mod Drawn
+pub mod ReadTexts
+pub mod ReadCells
+pub mod Stuck
+pub mod Heights
+pub mod LeastBoxes

@@ -10,7 +10,7 @@ gap_at_front zero column k rest below = elim below [ ]
 gap_at_front (suc gap) column zero rest below = refl
 gap_at_front (suc gap) column (suc k) rest below = gap_at_front gap column k rest (omega arith)
 
-column_after_gap : (gap column : ℕ) (rest : List ℕ) → get_or ((replicate gap 0 ++ column ∷ []) ++ rest) gap 0 ≡ column
+pub column_after_gap : (gap column : ℕ) (rest : List ℕ) → get_or ((replicate gap 0 ++ column ∷ []) ++ rest) gap 0 ≡ column
 column_after_gap zero column rest = refl
 column_after_gap (suc gap) column rest = column_after_gap gap column rest
 

@@ -52,7 +52,7 @@ some_injective : {X : Type 0} (a b : X) → Some a ≡ Some b → a ≡ b
 some_injective a b same = cc
 
 -- the parts of two pairs that are one
-same_parts : (x y : Step) (a b : List ℕ) (o p : Option (Step × List ℕ)) → o ≡ Some (x, a) → p ≡ Some (y, b) → o ≡ p → (x ≡ y) × (a ≡ b)
+pub same_parts : (x y : Step) (a b : List ℕ) (o p : Option (Step × List ℕ)) → o ≡ Some (x, a) → p ≡ Some (y, b) → o ≡ p → (x ≡ y) × (a ≡ b)
 same_parts x y a b o p first second same =
     let one : Step × List ℕ = (x, a) in
     let other : Step × List ℕ = (y, b) in
@@ -61,7 +61,7 @@ same_parts x y a b o p first second same =
     (ap (λ (q : Step × List ℕ). q.0) pairs, ap (λ (q : Step × List ℕ). q.1) pairs)
 
 -- an option isn't both
-not_both : (x : Step) (a : List ℕ) (o : Option (Step × List ℕ)) → o ≡ None → o ≡ Some (x, a) → ⊥
+pub not_both : (x : Step) (a : List ℕ) (o : Option (Step × List ℕ)) → o ≡ None → o ≡ Some (x, a) → ⊥
 not_both x a o none some = cc
 
 -- steps that end where no step begins are told apart from others, and from what follows them

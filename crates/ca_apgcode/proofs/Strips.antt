@@ -9,7 +9,7 @@ use Rattle.ca_apgcode.specs.Representation.{Step, IsStrip, step_text}
 use Rattle.ca_apgcode.specs.inner.Puts.{PutsStrip}
 
 -- one more piece after others
-joined_more : (c : ℕ) (piece : List ℕ) (pieces : List (List ℕ)) (last : List ℕ) → join_with_byte c ((piece ∷ pieces) ++ last ∷ []) ≡ join_with_byte c (piece ∷ pieces) ++ c ∷ last
+pub joined_more : (c : ℕ) (piece : List ℕ) (pieces : List (List ℕ)) (last : List ℕ) → join_with_byte c ((piece ∷ pieces) ++ last ∷ []) ≡ join_with_byte c (piece ∷ pieces) ++ c ∷ last
 joined_more c piece [] last = refl
 joined_more c piece (next ∷ pieces) last = ap (λ l. piece ++ c ∷ l) (joined_more c next pieces last) ∙ sym (append_assoc piece (c ∷ join_with_byte c (next ∷ pieces)) (c ∷ last))
 

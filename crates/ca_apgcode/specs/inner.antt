@@ -1,3 +1,5 @@
 -- What only private contracts speak of.
 pub mod Puts
 pub mod Reading
+pub mod Drawing
+pub mod Boxes

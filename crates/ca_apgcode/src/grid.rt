@@ -1,8 +1,11 @@
 //! Cells of two states in a small box.
 
-ghost use Rattle.std.specs.Prelude.{◌≡◌, ℕ, ◌*◌, ◌<◌, ◌≤◌, ◌↔◌, length, IsTrue, IfOk};
-ghost use Rattle.ca_apgcode.specs.Grids.{cell, MakesLive};
+ghost use Rattle.std.specs.Prelude.{◌≡◌, ℕ, ◌+◌, ◌-◌, ◌%◌, ◌^◌, ◌<◌, ◌≤◌, ◌↔◌, length, slice_index};
+ghost use Rattle.std.specs.Prelude.{IsTrue, IfOk, IfSome, IfNone, MatchOption, SomeIndex, EachIndex};
+ghost use Rattle.std.specs.Int.{bit_at};
+ghost use Rattle.ca_apgcode.specs.Grids.{GridCells as Cells, cell, MakesLive};
 ghost use Rattle.ca_apgcode.specs.Representation.{five_cells};
+ghost use Rattle.ca_apgcode.specs.inner.Boxes.{IsLeastOf};
 
 use ca_plane::Memory;
 use std::alloc::Global;
@@ -82,6 +85,22 @@ impl Grid {
         self.columns[usize::from(x)] = column | (1 << y);
     }
 
+    /// The least box round the cells of some columns, where they begin with its column in the west and its row
+    /// in the north.
+    pub(crate) fn of_columns(columns: Vec<u64>) -> Option<Grid>
+        requires width { length columns.items ≤ 40 }
+        requires height { (x : ℕ) → slice_index columns.items x < 2 ^ 40 }
+        ensures some { IfSome result (IsLeastOf columns.items) }
+        ensures none { IfNone result ((g : Cells) → IsLeastOf columns.items g → ⊥) }
+    {
+        let columns = without_last_dead(columns);
+        if !begin_box(&columns) {
+            return None;
+        }
+        let height = height_of(&columns);
+        Some(Grid { height, columns })
+    }
+
     /// The cells of a column in the five rows from one on, as a binary number with the northern cell as 1.
     pub(crate) fn five_cells(&self, x: u8, y: u8) -> u8
         requires x { x < length self.now.columns }
@@ -91,4 +110,49 @@ impl Grid {
     {
         ((self.columns[usize::from(x)] >> y) % 32) as u8
     }
+}
+
+// The columns without those at the end that have no cells.
+fn without_last_dead(mut columns: Vec<u64>) -> Vec<u64>
+    ensures same { (x : ℕ) → slice_index result.items x ≡ slice_index columns.items x }
+    ensures last { (n : ℕ) → length result.items ≡ n + 1 → 0 < slice_index result.items n }
+    ensures width { length result.items ≤ length columns.items }
+{
+    'columns: while let Some(&last) = columns.last() {
+        if last != 0 {
+            break;
+        }
+        columns.pop();
+    }
+    columns
+}
+
+// Whether a cell is live in the first column, and one in the first row.
+fn begin_box(columns: &[u64]) -> bool
+    ensures { IsTrue result ↔ ((0 < slice_index columns.now 0)
+        × SomeIndex columns.now (λ x. slice_index columns.now x % 2 ≡ 1)) }
+{
+    !columns.is_empty() && columns[0] != 0 && columns.iter().any(|column| *column % 2 == 1)
+}
+
+// How many rows have a live cell or one below them.
+fn height_of(columns: &[u64]) -> u8
+    requires { (x : ℕ) → slice_index columns.now x < 2 ^ 40 }
+    ensures most { result ≤ 40 }
+    ensures all { (x : ℕ) → slice_index columns.now x < 2 ^ result }
+    ensures last { 0 < result → (x : ℕ) × (bit_at (slice_index columns.now x) (result - 1) ≡ 1) }
+{
+    match greatest(columns) {
+        Some(greatest) => (64 - greatest.leading_zeros()) as u8,
+        None => 0,
+    }
+}
+
+// The greatest of some columns.
+fn greatest(columns: &[u64]) -> Option<u64>
+    ensures { MatchOption result (length columns.now ≡ 0)
+        (λ m. SomeIndex columns.now (λ x. slice_index columns.now x ≡ m)
+        × EachIndex columns.now (λ x. slice_index columns.now x ≤ m)) }
+{
+    columns.iter().copied().max()
 }
