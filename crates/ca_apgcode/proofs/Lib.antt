@@ -11,3 +11,5 @@ pub mod ReadCells
 pub mod Stuck
 pub mod Heights
 pub mod LeastBoxes
+pub mod Leasts
+pub mod WorkedCodes

@@ -1,3 +1,4 @@
 pub mod Grids
 pub mod Representation
+pub mod Order
 pub mod inner

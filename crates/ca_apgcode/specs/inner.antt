@@ -3,3 +3,4 @@ pub mod Puts
 pub mod Reading
 pub mod Drawing
 pub mod Boxes
+pub mod Least

@@ -3,6 +3,7 @@
 ghost use Rattle.std.specs.Prelude.{◌≡◌, ℕ, List};
 ghost use Rattle.ca_apgcode.specs.Grids.{GridCells};
 ghost use Rattle.ca_apgcode.specs.Representation.{IsRepresentation, IsCode};
+ghost use Rattle.ca_apgcode.specs.Order.{IsLeastText};
 
 /// Cells in a box have one representation at most.
 pub fn one_text()
@@ -13,4 +14,10 @@ pub fn one_text()
 /// A text is the representation of one picture in its least box at most, so it gives the cells back.
 pub fn one_picture()
     ensures { (one other : GridCells) (text : List ℕ) → IsCode one text → IsCode other text → one ≡ other }
+{}
+
+/// Some representations have one least one.
+pub fn one_least()
+    ensures { (texts : List (List ℕ)) (one other : List ℕ) → IsLeastText texts one → IsLeastText texts other
+        → one ≡ other }
 {}
