@@ -25,7 +25,7 @@ impl Drawing {
         ensures x { IfOk result (λ d. d.x ≡ 0) }
         ensures y { IfOk result (λ d. d.y ≡ 0) }
     {
-        let columns = vec![in alloc; 0u64; 40]?;
+        let columns = vec![in alloc; 0u64; usize::from(MOST_SIDE)]?;
         Ok(Drawing {
             columns,
             x: 0,
@@ -53,7 +53,7 @@ impl Drawing {
         ensures { MatchOption result (40 ≤ self.old.y + 5)
             (λ left. (left.now ≡ rest.now) × EndsStrip self.old self.new (122 ∷ rest.now) left.now) }
     {
-        if 40 <= self.y + 5 {
+        if MOST_SIDE <= self.y + 5 {
             return None;
         }
         self.x = 0;

@@ -40,8 +40,8 @@ impl Grid {
     ///
     /// Fails where there is no memory for it.
     pub fn new(alloc: Global, width: u8, height: u8) -> Result<Grid, Memory>
-        requires width { width ≤ 40 }
-        requires height { height ≤ 40 }
+        requires width { width ≤ MOST_SIDE }
+        requires height { height ≤ MOST_SIDE }
         ensures width { IfOk result (λ g. length g.columns ≡ width) }
         ensures height { IfOk result (λ g. g.height ≡ height) }
         ensures dead { IfOk result (λ g. (x y : ℕ) → cell g x y ≡ 0) }
@@ -53,7 +53,7 @@ impl Grid {
     /// How many columns the box has.
     pub fn width(&self) -> u8
         ensures width { result ≡ length self.now.columns }
-        ensures most { result ≤ 40 }
+        ensures most { result ≤ MOST_SIDE }
     {
         self.columns.len() as u8
     }
@@ -61,7 +61,7 @@ impl Grid {
     /// How many rows the box has.
     pub fn height(&self) -> u8
         ensures height { result ≡ self.now.height }
-        ensures most { result ≤ 40 }
+        ensures most { result ≤ MOST_SIDE }
     {
         self.height
     }
