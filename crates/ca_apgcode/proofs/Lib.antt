@@ -13,3 +13,4 @@ pub mod Heights
 pub mod LeastBoxes
 pub mod Leasts
 pub mod WorkedCodes
+pub mod SomeTexts

@@ -9,8 +9,8 @@ use crate::grid::MOST_SIDE;
 use ca_plane::Memory;
 use std::alloc::Global;
 
-// Columns of cells, of which those of the strips above the row y, and in the strip from that row on those west
-// of the column x are drawn.
+// Columns of cells. Those of the strips above the row y are drawn, and in the strip from that row on those
+// west of the column x.
 #[derive(Drop)]
 pub(crate) struct Drawing {
     pub(crate) columns: Vec<u64>,

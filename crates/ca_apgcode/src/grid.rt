@@ -85,8 +85,8 @@ impl Grid {
         self.columns[usize::from(x)] = column | (1 << y);
     }
 
-    /// The least box round the cells of some columns, where they begin with its column in the west and its row
-    /// in the north.
+    /// The least box round the cells of some columns, where these begin with its column in the west and its
+    /// row in the north.
     pub(crate) fn of_columns(columns: Vec<u64>) -> Option<Grid>
         requires width { length columns.items ≤ 40 }
         requires height { (x : ℕ) → slice_index columns.items x < 2 ^ 40 }

@@ -1,9 +1,15 @@
 //! Laws of representations, over the definitions alone.
 
 ghost use Rattle.std.specs.Prelude.{◌≡◌, ℕ, List};
-ghost use Rattle.ca_apgcode.specs.Grids.{GridCells};
+ghost use Rattle.ca_apgcode.specs.Grids.{GridCells, IsGrid, cell};
 ghost use Rattle.ca_apgcode.specs.Representation.{IsRepresentation, IsCode};
 ghost use Rattle.ca_apgcode.specs.Order.{IsLeastText};
+
+/// Cells in a box of at most 40 by 40 have a representation.
+pub fn some_text()
+    ensures { (grid : GridCells) → IsGrid grid
+        → (text : List ℕ) × IsRepresentation (cell grid) grid.height text }
+{}
 
 /// Cells in a box have one representation at most.
 pub fn one_text()

@@ -12,8 +12,8 @@ use ca_plane::Memory;
 use ca_plane::text::push_text;
 use std::alloc::Global;
 
-/// The representation of a grid's cells (LifeWiki, "Apgcode"). An apgcode ends with that of the least box round
-/// the live cells.
+/// The representation of a grid's cells (LifeWiki, "Apgcode"). An apgcode ends with that of the least box
+/// round the live cells.
 ///
 /// # Errors
 ///
