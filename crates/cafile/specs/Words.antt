@@ -9,8 +9,8 @@ use Rattle.ca_quad.specs.declared.tree.Spot.{Spot}
 use Rattle.ca_draw.specs.declared.drawing.ImageFormat.{ImageFormat}
 use Rattle.ca_draw.specs.declared.drawing.ImageFormat.TheVariants.{Text, Pgm}
 use Rattle.ca_claims.specs.declared.scope.Scope.{Scope}
-use Rattle.ca_tool.specs.declared.view.Size.{Size}
-use Rattle.ca_tool.specs.declared.view.View.{View}
+use Rattle.ca_draw.specs.declared.view.Size.{Size}
+use Rattle.ca_draw.specs.declared.view.View.{View}
 
 -- the text after a word, none where the word isn't there
 abbrev pub IsTextAfter : {A : Type 0} → ArgMatches → (name : List ℕ) → Option (String A) → Type 0
