@@ -9,7 +9,6 @@ use crate::files::{
 };
 use crate::progress::{Heading, Progress};
 use crate::streams::Streams;
-use crate::words::{Extras, Folders};
 use ca_claims::{ClaimFault, Claims, File, read_claims};
 use ca_plane::Memory;
 use ca_plane::text::push_text;
@@ -17,6 +16,7 @@ use ca_tool::{
     Fault, InputFault, ReportStyle, ToolFault, complain, complain_with_path, explain_claims,
     push_escaped, verify_watched,
 };
+use ca_words::{Extras, Folders};
 use std::alloc::Global;
 use std::rt::{Clock, Files};
 
