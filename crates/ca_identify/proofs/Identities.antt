@@ -78,6 +78,16 @@ module _ (next : List ℕ → ℕ) (p : ℤ → ℤ → ℕ) (cells : Picture) (
   pub death_ends : (n : ℕ) → HasLive p → 1 ≤ n → ((m : ℕ) → 1 ≤ m → m < n → IsStage p (cells_after next p m) Other) → IsDead (cells_after next p n) → IsEnding next cells (Death n)
   death_ends n live some others dead = (some, picture_live live, record { empty = picture_dies n dead; live = lives_before n live others })
 
+-- ---- a pattern that dies
+
+-- that it does is a true claim
+pub death_true : (next : List ℕ → ℕ) (cells : Picture) (limit n : ℕ) → n ≤ limit → limit ≤ longest_period → IsEnding next cells (Death n) → IsTrueWithin next cells limit (kind.Dies n)
+death_true next cells limit n within short is = record {
+  numbers = (is.0, omega (arith, within, short));
+  within = within;
+  holds = record { live = λ _. is.1; stands = is.2.empty; least = λ m first less. is.2.live m less };
+}
+
 -- ---- a pattern that is never back, and lives
 
 -- no claim is true of it
@@ -90,6 +100,26 @@ none_back next quiet cells limit without alive (kind.BecomesShifted n dx dy) one
 none_back next quiet cells limit without alive (kind.Dies n) one some within true =
     let live = live_at_all next cells quiet n limit within alive in
     live.2 (true.stands live.0 live.1)
+
+-- ---- a pattern that is back for the first time
+
+module _ (next : List ℕ → ℕ) (cells : Picture) (limit n : ℕ) (dx dy : ℤ) (within : n ≤ limit) (short : limit ≤ longest_period) (is : IsReturn next cells n dx dy) where
+  -- in its place
+  in_place : dx ≡ pos 0 → dy ≡ pos 0 → IsAfter next cells n (shifted cells (pos 0) (pos 0))
+  in_place right down = subst (λ d. IsAfter next cells n (shifted cells (pos 0) d)) down (subst (λ d. IsAfter next cells n (shifted cells d dy)) right is.stands)
+
+  pub oscillator_true : dx ≡ pos 0 → dy ≡ pos 0 → n ≢ 1 → IsTrueWithin next cells limit (kind.Oscillator n)
+  oscillator_true right down more = record {
+    numbers = let some = is.some in (omega (arith, some, more), omega (arith, within, short));
+    within = within;
+    holds = record { live = λ _. is.live; stands = in_place right down; least = is.changed };
+  }
+
+-- where none of some generations is dead, the tree of the last one is live
+pub last_live : (next : List ℕ → ℕ) (p : ℤ → ℤ → ℕ) (n : ℕ) (nodes : List Node) (now : Tree) → IsLaterTree next p n nodes now → AreOtherUpTo next p n → 1 ≤ n → HasLive (trees.cell nodes now)
+last_live next p n nodes now is others some =
+    let live = (others n some (omega arith)).0 in
+    (live.0, live.1, λ none. live.2 (sym (is.shows live.0 live.1) ∙ none))
 
 -- ---- a live pattern's tree, none of whose first n generations is dead or the pattern, moved
 
@@ -153,36 +183,6 @@ module _ (next : List ℕ → ℕ) (quiet : next (replicate 9 0) ≡ 0) (nodes :
       let last : n - 1 + 1 ≡ n = omega (arith, some) in
       subst (λ k. IsReturn next cells k dx dy) last
       (found_return (n - 1) again.before limit (omega (arith, some, within)) short dx dy (subst (λ k. AreMoved p (cells_after next p k) dx dy) (sym last) again.moved))
-
--- ---- a pattern that dies
-
--- that it does is a true claim
-pub death_true : (next : List ℕ → ℕ) (cells : Picture) (limit n : ℕ) → n ≤ limit → limit ≤ longest_period → IsEnding next cells (Death n) → IsTrueWithin next cells limit (kind.Dies n)
-death_true next cells limit n within short is = record {
-  numbers = (is.0, omega (arith, within, short));
-  within = within;
-  holds = record { live = λ _. is.1; stands = is.2.empty; least = λ m first less. is.2.live m less };
-}
-
--- ---- a pattern that is back for the first time
-
-module _ (next : List ℕ → ℕ) (cells : Picture) (limit n : ℕ) (dx dy : ℤ) (within : n ≤ limit) (short : limit ≤ longest_period) (is : IsReturn next cells n dx dy) where
-  -- in its place
-  in_place : dx ≡ pos 0 → dy ≡ pos 0 → IsAfter next cells n (shifted cells (pos 0) (pos 0))
-  in_place right down = subst (λ d. IsAfter next cells n (shifted cells (pos 0) d)) down (subst (λ d. IsAfter next cells n (shifted cells d dy)) right is.stands)
-
-  pub oscillator_true : dx ≡ pos 0 → dy ≡ pos 0 → n ≢ 1 → IsTrueWithin next cells limit (kind.Oscillator n)
-  oscillator_true right down more = record {
-    numbers = let some = is.some in (omega (arith, some, more), omega (arith, within, short));
-    within = within;
-    holds = record { live = λ _. is.live; stands = in_place right down; least = is.changed };
-  }
-
--- where none of some generations is dead, the tree of the last one is live
-pub last_live : (next : List ℕ → ℕ) (p : ℤ → ℤ → ℕ) (n : ℕ) (nodes : List Node) (now : Tree) → IsLaterTree next p n nodes now → AreOtherUpTo next p n → 1 ≤ n → HasLive (trees.cell nodes now)
-last_live next p n nodes now is others some =
-    let live = (others n some (omega arith)).0 in
-    (live.0, live.1, λ none. live.2 (sym (is.shows live.0 live.1) ∙ none))
 
 -- ---- a plane some generations on
 
