@@ -10,12 +10,12 @@ ghost use Rattle.ca_pattern.specs.Means.{MayWantMemory};
 ghost use Rattle.ca_claims.specs.Unknown.{HoldsUnknownRule, AreUnknownRules};
 ghost use Rattle.ca_claims.specs.inner.Unknown.{AreAskedBefore, AddsAsked};
 
-use ca_pattern::rule_text_of;
+use ca_pattern::{File, rule_text_of};
 use ca_plane::Memory;
 use ca_quad::Store;
 use ca_rule::{RuleFault, Table, TableFault, resolve};
 use ca_text::{Claims, WordSet};
-use ca_verify::{File, look_up};
+use ca_verify::look_up;
 use std::alloc::Global;
 
 /// The rule texts of the patterns that the text's claims need, of those whose files were handed in and are read,

@@ -8,3 +8,4 @@ pub mod Marks
 pub mod Rows
 pub mod Seen
 pub mod SameCells
+pub mod AskedWindows

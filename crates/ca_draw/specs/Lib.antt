@@ -1,4 +1,5 @@
 pub mod Windows
 pub mod Marks
 pub mod Drawings
+pub mod Views
 pub mod inner

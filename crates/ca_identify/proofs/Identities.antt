@@ -33,6 +33,61 @@ use Rattle.ca_pattern.proofs.Starts.{near_start}
 use Rattle.ca_identify.proofs.Starts.{start_near, picture_after}
 use Rattle.ca_identify.proofs.Stages.{changes, least_right, most_right, least_down, most_down}
 
+-- ---- a picture of the first cells
+
+module _ (next : List ℕ → ℕ) (p : ℤ → ℤ → ℕ) (cells : Picture) (shows : (x y : ℤ) → plane.cell cells x y ≡ p x y) where
+  -- what it has after m generations
+  later : (m : ℕ) (x y : ℤ) → after next cells m x y ≡ cells_after next p m x y
+  later m x y = after_same next (plane.cell cells) p m shows x y
+
+  pub picture_live : HasLive p → IsLive cells
+  picture_live live = (live.0, live.1, λ none. live.2 (sym (shows live.0 live.1) ∙ none))
+
+  pub picture_moved : (m : ℕ) (dx dy : ℤ) → AreMoved p (cells_after next p m) dx dy → IsAfter next cells m (shifted cells dx dy)
+  picture_moved m dx dy moved = λ x y. later m x y ∙ moved x y ∙ sym (shows (x -ℤ dx) (y -ℤ dy)) ∙ sym (cell-shifted cells dx dy x y)
+
+  pub picture_nowhere : (m : ℕ) → AreMovedNowhere p (cells_after next p m) → IsNowhere next cells m
+  picture_nowhere m nowhere = λ dx dy is. nowhere dx dy (λ x y. sym (later m x y) ∙ is x y ∙ cell-shifted cells dx dy x y ∙ shows (x -ℤ dx) (y -ℤ dy))
+
+  pub picture_changed : (m : ℕ) → ((x : ℤ) × (y : ℤ) × (cells_after next p m x y ≢ p x y)) → IsChanged next cells m
+  picture_changed m other = (other.0, other.1, λ e. other.2 (sym (later m other.0 other.1) ∙ e ∙ shows other.0 other.1))
+
+  pub picture_lives : (m : ℕ) → HasLive (cells_after next p m) → IsLiveAfter next cells m
+  picture_lives m live = (live.0, live.1, λ none. live.2 (sym (later m live.0 live.1) ∙ none))
+
+  pub picture_dies : (m : ℕ) → IsDead (cells_after next p m) → IsAfter next cells m []
+  picture_dies m dead = λ x y. later m x y ∙ dead x y
+
+  -- where the cells are others after each generation, no claim is true
+  pub none_true : (limit : ℕ) → AreOtherUpTo next p limit → HasNoTrueClaim next cells limit
+  none_true limit others kind.Still one some within true = picture_nowhere 1 (others 1 some within).1 (pos 0) (pos 0) true.stands
+  none_true limit others (kind.Oscillator n) one some within true = picture_nowhere n (others n some within).1 (pos 0) (pos 0) true.stands
+  none_true limit others (kind.Spaceship n dx dy) one some within true = picture_nowhere n (others n some within).1 dx dy true.stands
+  none_true limit others (kind.Becomes n) one some within true = absurd one
+  none_true limit others (kind.BecomesShifted n dx dy) one some within true = absurd one
+  none_true limit others (kind.Dies n) one some within true =
+      let live = picture_lives n (others n some within).0 in
+      live.2 (true.stands live.0 live.1)
+
+  -- a plane that is live and no other one till then is live at each time before
+  lives_before : (n : ℕ) → HasLive p → ((m : ℕ) → 1 ≤ m → m < n → IsStage p (cells_after next p m) Other) → (k : ℕ) → k < n → IsLiveAfter next cells k
+  lives_before n live others zero less = picture_live live
+  lives_before n live others (suc k) less = picture_lives (suc k) (others (suc k) (omega arith) less).0
+
+  -- where they are dead then, and live before it, the pattern ends so
+  pub death_ends : (n : ℕ) → HasLive p → 1 ≤ n → ((m : ℕ) → 1 ≤ m → m < n → IsStage p (cells_after next p m) Other) → IsDead (cells_after next p n) → IsEnding next cells (Death n)
+  death_ends n live some others dead = (some, picture_live live, record { empty = picture_dies n dead; live = lives_before n live others })
+
+-- ---- a pattern that dies
+
+-- that it does is a true claim
+pub death_true : (next : List ℕ → ℕ) (cells : Picture) (limit n : ℕ) → n ≤ limit → limit ≤ longest_period → IsEnding next cells (Death n) → IsTrueWithin next cells limit (kind.Dies n)
+death_true next cells limit n within short is = record {
+  numbers = (is.0, omega (arith, within, short));
+  within = within;
+  holds = record { live = λ _. is.1; stands = is.2.empty; least = λ m first less. is.2.live m less };
+}
+
 -- ---- a pattern that is never back, and lives
 
 -- no claim is true of it
@@ -45,6 +100,26 @@ none_back next quiet cells limit without alive (kind.BecomesShifted n dx dy) one
 none_back next quiet cells limit without alive (kind.Dies n) one some within true =
     let live = live_at_all next cells quiet n limit within alive in
     live.2 (true.stands live.0 live.1)
+
+-- ---- a pattern that is back for the first time
+
+module _ (next : List ℕ → ℕ) (cells : Picture) (limit n : ℕ) (dx dy : ℤ) (within : n ≤ limit) (short : limit ≤ longest_period) (is : IsReturn next cells n dx dy) where
+  -- in its place
+  in_place : dx ≡ pos 0 → dy ≡ pos 0 → IsAfter next cells n (shifted cells (pos 0) (pos 0))
+  in_place right down = subst (λ d. IsAfter next cells n (shifted cells (pos 0) d)) down (subst (λ d. IsAfter next cells n (shifted cells d dy)) right is.stands)
+
+  pub oscillator_true : dx ≡ pos 0 → dy ≡ pos 0 → n ≢ 1 → IsTrueWithin next cells limit (kind.Oscillator n)
+  oscillator_true right down more = record {
+    numbers = let some = is.some in (omega (arith, some, more), omega (arith, within, short));
+    within = within;
+    holds = record { live = λ _. is.live; stands = in_place right down; least = is.changed };
+  }
+
+-- where none of some generations is dead, the tree of the last one is live
+pub last_live : (next : List ℕ → ℕ) (p : ℤ → ℤ → ℕ) (n : ℕ) (nodes : List Node) (now : Tree) → IsLaterTree next p n nodes now → AreOtherUpTo next p n → 1 ≤ n → HasLive (trees.cell nodes now)
+last_live next p n nodes now is others some =
+    let live = (others n some (omega arith)).0 in
+    (live.0, live.1, λ none. live.2 (sym (is.shows live.0 live.1) ∙ none))
 
 -- ---- a live pattern's tree, none of whose first n generations is dead or the pattern, moved
 
@@ -108,81 +183,6 @@ module _ (next : List ℕ → ℕ) (quiet : next (replicate 9 0) ≡ 0) (nodes :
       let last : n - 1 + 1 ≡ n = omega (arith, some) in
       subst (λ k. IsReturn next cells k dx dy) last
       (found_return (n - 1) again.before limit (omega (arith, some, within)) short dx dy (subst (λ k. AreMoved p (cells_after next p k) dx dy) (sym last) again.moved))
-
--- ---- a picture of the first cells
-
-module _ (next : List ℕ → ℕ) (p : ℤ → ℤ → ℕ) (cells : Picture) (shows : (x y : ℤ) → plane.cell cells x y ≡ p x y) where
-  -- what it has after m generations
-  later : (m : ℕ) (x y : ℤ) → after next cells m x y ≡ cells_after next p m x y
-  later m x y = after_same next (plane.cell cells) p m shows x y
-
-  pub picture_live : HasLive p → IsLive cells
-  picture_live live = (live.0, live.1, λ none. live.2 (sym (shows live.0 live.1) ∙ none))
-
-  pub picture_moved : (m : ℕ) (dx dy : ℤ) → AreMoved p (cells_after next p m) dx dy → IsAfter next cells m (shifted cells dx dy)
-  picture_moved m dx dy moved = λ x y. later m x y ∙ moved x y ∙ sym (shows (x -ℤ dx) (y -ℤ dy)) ∙ sym (cell-shifted cells dx dy x y)
-
-  pub picture_nowhere : (m : ℕ) → AreMovedNowhere p (cells_after next p m) → IsNowhere next cells m
-  picture_nowhere m nowhere = λ dx dy is. nowhere dx dy (λ x y. sym (later m x y) ∙ is x y ∙ cell-shifted cells dx dy x y ∙ shows (x -ℤ dx) (y -ℤ dy))
-
-  pub picture_changed : (m : ℕ) → ((x : ℤ) × (y : ℤ) × (cells_after next p m x y ≢ p x y)) → IsChanged next cells m
-  picture_changed m other = (other.0, other.1, λ e. other.2 (sym (later m other.0 other.1) ∙ e ∙ shows other.0 other.1))
-
-  pub picture_lives : (m : ℕ) → HasLive (cells_after next p m) → IsLiveAfter next cells m
-  picture_lives m live = (live.0, live.1, λ none. live.2 (sym (later m live.0 live.1) ∙ none))
-
-  pub picture_dies : (m : ℕ) → IsDead (cells_after next p m) → IsAfter next cells m []
-  picture_dies m dead = λ x y. later m x y ∙ dead x y
-
-  -- where the cells are others after each generation, no claim is true
-  pub none_true : (limit : ℕ) → AreOtherUpTo next p limit → HasNoTrueClaim next cells limit
-  none_true limit others kind.Still one some within true = picture_nowhere 1 (others 1 some within).1 (pos 0) (pos 0) true.stands
-  none_true limit others (kind.Oscillator n) one some within true = picture_nowhere n (others n some within).1 (pos 0) (pos 0) true.stands
-  none_true limit others (kind.Spaceship n dx dy) one some within true = picture_nowhere n (others n some within).1 dx dy true.stands
-  none_true limit others (kind.Becomes n) one some within true = absurd one
-  none_true limit others (kind.BecomesShifted n dx dy) one some within true = absurd one
-  none_true limit others (kind.Dies n) one some within true =
-      let live = picture_lives n (others n some within).0 in
-      live.2 (true.stands live.0 live.1)
-
-  -- a plane that is live and no other one till then is live at each time before
-  lives_before : (n : ℕ) → HasLive p → ((m : ℕ) → 1 ≤ m → m < n → IsStage p (cells_after next p m) Other) → (k : ℕ) → k < n → IsLiveAfter next cells k
-  lives_before n live others zero less = picture_live live
-  lives_before n live others (suc k) less = picture_lives (suc k) (others (suc k) (omega arith) less).0
-
-  -- where they are dead then, and live before it, the pattern ends so
-  pub death_ends : (n : ℕ) → HasLive p → 1 ≤ n → ((m : ℕ) → 1 ≤ m → m < n → IsStage p (cells_after next p m) Other) → IsDead (cells_after next p n) → IsEnding next cells (Death n)
-  death_ends n live some others dead = (some, picture_live live, record { empty = picture_dies n dead; live = lives_before n live others })
-
--- ---- a pattern that dies
-
--- that it does is a true claim
-pub death_true : (next : List ℕ → ℕ) (cells : Picture) (limit n : ℕ) → n ≤ limit → limit ≤ longest_period → IsEnding next cells (Death n) → IsTrueWithin next cells limit (kind.Dies n)
-death_true next cells limit n within short is = record {
-  numbers = (is.0, omega (arith, within, short));
-  within = within;
-  holds = record { live = λ _. is.1; stands = is.2.empty; least = λ m first less. is.2.live m less };
-}
-
--- ---- a pattern that is back for the first time
-
-module _ (next : List ℕ → ℕ) (cells : Picture) (limit n : ℕ) (dx dy : ℤ) (within : n ≤ limit) (short : limit ≤ longest_period) (is : IsReturn next cells n dx dy) where
-  -- in its place
-  in_place : dx ≡ pos 0 → dy ≡ pos 0 → IsAfter next cells n (shifted cells (pos 0) (pos 0))
-  in_place right down = subst (λ d. IsAfter next cells n (shifted cells (pos 0) d)) down (subst (λ d. IsAfter next cells n (shifted cells d dy)) right is.stands)
-
-  pub oscillator_true : dx ≡ pos 0 → dy ≡ pos 0 → n ≢ 1 → IsTrueWithin next cells limit (kind.Oscillator n)
-  oscillator_true right down more = record {
-    numbers = let some = is.some in (omega (arith, some, more), omega (arith, within, short));
-    within = within;
-    holds = record { live = λ _. is.live; stands = in_place right down; least = is.changed };
-  }
-
--- where none of some generations is dead, the tree of the last one is live
-pub last_live : (next : List ℕ → ℕ) (p : ℤ → ℤ → ℕ) (n : ℕ) (nodes : List Node) (now : Tree) → IsLaterTree next p n nodes now → AreOtherUpTo next p n → 1 ≤ n → HasLive (trees.cell nodes now)
-last_live next p n nodes now is others some =
-    let live = (others n some (omega arith)).0 in
-    (live.0, live.1, λ none. live.2 (sym (is.shows live.0 live.1) ∙ none))
 
 -- ---- a plane some generations on
 

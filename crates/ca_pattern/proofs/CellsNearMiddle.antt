@@ -7,10 +7,10 @@ use Rattle.ca_plane.specs.Generations.{cells_after}
 use Rattle.ca_quad.specs.declared.node.Node.{Node}
 use Rattle.ca_quad.specs.declared.tree.Tree.{Tree}
 use Rattle.ca_quad.specs.Trees.{cell, IsTrimmed, HoldsAll}
-use Rattle.ca_quad.proofs.Growth.{below_or_not}
+use Rattle.ca_plane.proofs.Numbers.{below_or_not}
 use Rattle.ca_macro.specs.Pattern.{AreInRange}
-use Rattle.ca_run.specs.Later.{IsWithin}
-use Rattle.ca_run.proofs.After.{after_dead}
+use Rattle.ca_plane.specs.Box.{IsWithin}
+use Rattle.ca_plane.proofs.After.{after_dead}
 use Rattle.ca_pattern.specs.inner.LaterTrees.{IsWithinPlane}
 use Rattle.ca_pattern.proofs.Corners.{not_above}
 

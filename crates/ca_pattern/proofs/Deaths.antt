@@ -4,8 +4,8 @@ use Rattle.std.specs.Prelude.{replicate}
 use Rattle.std.proofs.lemmas.Bool.{cases_eq}
 use Rattle.ca_plane.specs.Plane.{Picture}
 use Rattle.ca_plane.specs.Generations.{after, IsAfter, IsLiveAfter}
-use Rattle.ca_quad.proofs.Growth.{below_or_not}
-use Rattle.ca_run.proofs.After.{around-same}
+use Rattle.ca_plane.proofs.Numbers.{below_or_not}
+use Rattle.ca_plane.proofs.After.{around-same}
 use Rattle.ca_pattern.proofs.Searches.{search_within}
 
 module _ (next : List ℕ → ℕ) (p : Picture) (quiet : next (replicate 9 0) ≡ 0) where

@@ -25,7 +25,7 @@ use crate::observer::Observer;
 use crate::pattern::Summary;
 use crate::reached::{ReachFault, Reached};
 use crate::ruled::read_ruled;
-use crate::summary::sum_up;
+use crate::summaries::sum_up;
 use crate::trees::tree_after;
 use ca_plane::Automaton;
 use ca_plane::limits::GENERATION_LIMIT;

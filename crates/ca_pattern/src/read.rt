@@ -13,8 +13,7 @@ ghost use Rattle.ca_rle.specs.declared.fault.RleFault.TheVariants as rle_fault;
 ghost use Rattle.ca_pattern.specs.declared.format.Format.TheVariants.{Rle, Mc};
 ghost use Rattle.ca_pattern.specs.declared.pattern_fault.PatternFault.TheVariants as pattern_fault;
 ghost use Rattle.ca_pattern.specs.Means.{format_of, HoldsRuleText, MayWantMemory};
-ghost use Rattle.ca_pattern.specs.Faults.{IsUnreadFile};
-ghost use Rattle.ca_pattern.specs.Faults.{IsPatternFault};
+ghost use Rattle.ca_pattern.specs.Faults.{IsUnreadFile, IsPatternFault};
 ghost use Rattle.ca_pattern.specs.Loaded.{IsLoaded};
 ghost use Rattle.ca_pattern.specs.Patterns.{IsReadFrom, IsUnread};
 

@@ -7,9 +7,8 @@ ghost use Rattle.ca_pattern.specs.Converted.{IsSummaryFault};
 ghost use Rattle.ca_pattern.specs.DetailedFault.{HasDetail};
 ghost use Rattle.ca_pattern.specs.declared.format.Format.TheVariants.{Rle};
 ghost use Rattle.ca_pattern.specs.Means.{format_of};
-ghost use Rattle.ca_pattern.specs.Patterns.{IsReady};
+ghost use Rattle.ca_pattern.specs.Patterns.{IsReady, IsUnread, IsUnnamedFor, IsRuledAs};
 ghost use Rattle.ca_pattern.specs.inner.Ready.{IsReadyText};
-ghost use Rattle.ca_pattern.specs.Patterns.{IsUnread, IsUnnamedFor, IsRuledAs};
 
 use crate::cells::has_large_state;
 use crate::conversion::ConvertFault;

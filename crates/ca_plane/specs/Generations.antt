@@ -1,6 +1,6 @@
 -- The plane after n generations: all cells change at once, by one rule on a cell and its eight neighbours.
 -- It goes down from one cell and one generation to the picture's cells, and never has a plane after a step.
-use Rattle.std.specs.Prelude.{◌≡◌, ℕ, zero, suc, ℤ, pos, ◌+ℤ◌, ◌-ℤ◌, List, [], ◌∷◌}
+use Rattle.std.specs.Prelude.{◌≡◌, ◌≢◌, ℕ, zero, suc, ℤ, pos, ◌+ℤ◌, ◌-ℤ◌, List, [], ◌∷◌}
 use Rattle.ca_plane.specs.Plane.{Picture, cell}
 
 -- the nine cells round a place, row by row: NW, N, NE, W, the centre, E, SW, S, SE (y grows downward)

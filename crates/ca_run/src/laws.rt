@@ -14,7 +14,7 @@ use ca_plane::Automaton;
 
 /// The state at (x, y) after n generations depends only on the cells within n of (x, y) in each direction:
 /// two pictures that show the same cells there have the same state at (x, y) after n generations.
-#[tactic(auto, using(crate::proofs::After::after_near))]
+#[tactic(auto, using(ca_plane::proofs::After::after_near))]
 pub fn l1<A: Automaton>(rule: &A)
     ensures near { (p q : Picture) (n : ℕ) (x y : ℤ) → AgreeWithin n x y p q
         → after (A.next_of rule.now) p n x y ≡ after (A.next_of rule.now) q n x y }

@@ -11,3 +11,4 @@ pub mod OneMeaning
 pub mod RuleLines
 pub mod Shifts
 pub mod Truths
+pub mod PairedLists

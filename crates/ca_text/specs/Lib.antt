@@ -9,3 +9,4 @@ pub mod NeededFiles
 pub mod Examples
 pub mod Truth
 pub mod inner
+pub mod Firsts

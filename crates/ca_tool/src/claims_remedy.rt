@@ -1,16 +1,15 @@
 //! What helps where a claim text is faulty since it is a pattern file.
 
 ghost use Rattle.std.specs.Prelude.{◌≡◌};
-ghost use Rattle.ca_tool.specs.Remedies.{seems_pattern, claims_remedy_line};
-ghost use Rattle.ca_tool.specs.Writing.{Sends};
-ghost use Rattle.ca_tool.specs.inner.Pieces.{pieces_text};
+ghost use Rattle.ca_tool.specs.Explanations.{seems_pattern, claims_remedy_line};
+ghost use Rattle.ca_report.specs.Writing.{Sends};
+ghost use Rattle.ca_report.specs.Pieces.{pieces_text};
 
-use crate::names::is_claim_path;
-use crate::pieces::{NOTHING, Piece, in_pieces, send_pieces};
-use crate::remedy::file_word;
+use ca_catalog::is_claim_path;
+use ca_pattern::File;
 use ca_plane::{Dev, WriteFault};
+use ca_report::{NOTHING, Piece, file_word, in_pieces, send_pieces};
 use ca_text::ClaimFault;
-use ca_verify::File;
 use std::io::Write;
 
 // Whether a text begins as a macrocell does, or as an RLE does with its header or a line about it.

@@ -1,17 +1,19 @@
 //! The line that tells a fault.
 
 ghost use Rattle.std.specs.Prelude.{◌≡◌};
-ghost use Rattle.ca_tool.specs.Printed.{input_fault_text, claim_fault_text, rule_file_text};
-ghost use Rattle.ca_tool.specs.Printed.{convert_fault_text, fault_text, complaint, complaint_of};
-ghost use Rattle.ca_tool.specs.Writing.{Sends};
-ghost use Rattle.ca_tool.specs.inner.Pieces.{pieces_text};
+ghost use Rattle.ca_tool.specs.Complaints.{input_fault_text, claim_fault_text, rule_file_text};
+ghost use Rattle.ca_tool.specs.Complaints.{convert_fault_text, fault_text, complaint, complaint_of};
+ghost use Rattle.ca_report.specs.Writing.{Sends};
+ghost use Rattle.ca_report.specs.Pieces.{pieces_text};
 
-use crate::fault::{Fault, InputFault, ToolFault};
-use crate::pieces::{Piece, in_pieces, send_pieces};
-use crate::texts::{pattern_fault_bytes, rule_fault_bytes, table_kind, table_line};
-use crate::view::WindowFault;
+use crate::fault::Fault;
+use ca_draw::WindowFault;
 use ca_pattern::ConvertFault;
 use ca_plane::{Dev, WriteFault};
+use ca_report::{
+    InputFault, Piece, ToolFault, in_pieces, pattern_fault_bytes, rule_fault_bytes, send_pieces,
+    table_kind, table_line,
+};
 use ca_rule::TableFault;
 use ca_text::ClaimFault;
 use std::io::Write;

@@ -1,20 +1,16 @@
 //! The lines that explain why nothing is made of a pattern file, and what helps.
 
 ghost use Rattle.std.specs.Prelude.{◌≡◌};
-ghost use Rattle.ca_tool.specs.Printed.{pattern_line, fault_line, run_remedy_line, has_explanation, explanation};
-ghost use Rattle.ca_tool.specs.Printed.{cause_explanation, is_in_file};
-ghost use Rattle.ca_tool.specs.Catalog.{outcome_explanation, outcome_has_explanation, outcome_remedy_line};
-ghost use Rattle.ca_tool.specs.Writing.{Sends};
-ghost use Rattle.ca_tool.specs.inner.Pieces.{pieces_text};
+ghost use Rattle.ca_tool.specs.Explanations.{fault_line, run_remedy_line, has_explanation, explanation};
+ghost use Rattle.ca_report.specs.Writing.{Sends};
+ghost use Rattle.ca_report.specs.Pieces.{pieces_text};
 
-use crate::entry::Outcome;
-use crate::fault::ToolFault;
-use crate::finding::{at_pieces, rule_file_pieces, rule_pieces};
-use crate::pieces::{NOTHING, Piece, in_pieces, send_both};
-use crate::remedy::{bytes_of, cause_remedy, remedy_line_pieces, run_remedy};
-use ca_pattern::{Cause, DetailedFault};
+use ca_pattern::{DetailedFault, File};
 use ca_plane::{Dev, WriteFault};
-use ca_verify::File;
+use ca_report::{
+    NOTHING, Piece, ToolFault, pattern_pieces, remedy_line_pieces, rule_file_pieces, run_remedy,
+    send_both,
+};
 use std::io::Write;
 
 /// The files of a run: that of the pattern, and the path of the rule file, if there is one.
@@ -22,86 +18,6 @@ use std::io::Write;
 pub struct RunFiles<'a> {
     pub pattern: File<'a>,
     pub rule_path: &'a [u8],
-}
-
-// The line about a pattern file, with what is known of its fault.
-fn pattern_pieces<'a>(
-    path: &'a [u8],
-    line: Option<u64>,
-    rule_text: &'a Option<Vec<u8>>,
-) -> [Piece<'a>; 16]
-    ensures { pieces_text result ≡ pattern_line path.now line rule_text.now }
-{
-    let [at, number] = at_pieces(line);
-    let [word, text] = rule_pieces(rule_text);
-    in_pieces![16; text b"  ", escaped path, piece at, piece number, piece word, piece text, text b"\n"]
-}
-
-// The line that explains why the pattern of a file isn't identified, where there is something to tell.
-fn cause_explanation_pieces<'a>(
-    path: &'a [u8],
-    refused: &'a DetailedFault<Cause>,
-) -> [Piece<'a>; 16]
-    ensures { pieces_text result ≡ cause_explanation path.now refused.now }
-{
-    let (Cause::BadPattern(_) | Cause::BadRule(_) | Cause::StateTooLarge) = refused.fault else {
-        return [NOTHING; 16];
-    };
-    pattern_pieces(path, refused.line, &refused.rule_text)
-}
-
-// Whether the cause lies in the file.
-fn is_in_file(cause: Cause) -> bool
-    ensures { result ≡ is_in_file cause }
-{
-    matches!(
-        cause,
-        Cause::BadPattern(_) | Cause::BadRule(_) | Cause::StateTooLarge
-    )
-}
-
-/// Whether there is a line that explains what came of a file that was to be identified.
-pub(crate) fn outcome_has_explanation(outcome: &Outcome<'_>) -> bool
-    ensures { result ≡ outcome_has_explanation outcome.now }
-{
-    match outcome {
-        Outcome::Refused(why) => is_in_file(why.fault),
-        Outcome::FaultyRule(_) => true,
-        Outcome::Unnameable | Outcome::Identified(_) => false,
-    }
-}
-
-/// The line that explains what came of the file of a path that was to be identified, where there is something to
-/// tell.
-pub(crate) fn outcome_explanation_pieces<'a>(
-    path: &'a [u8],
-    outcome: &'a Outcome<'a>,
-) -> [Piece<'a>; 16]
-    ensures { pieces_text result ≡ outcome_explanation path.now outcome.now }
-{
-    match outcome {
-        Outcome::Refused(why) => cause_explanation_pieces(path, why),
-        Outcome::FaultyRule(rule) => rule_file_pieces(rule.path, rule.fault),
-        Outcome::Unnameable | Outcome::Identified(_) => [NOTHING; 16],
-    }
-}
-
-/// The line that says what helps against what came of the file of a path that was to be identified, where something
-/// does. The file is the first of `files` with that path.
-pub(crate) fn outcome_remedy_pieces<'a>(
-    files: &[File<'a>],
-    path: &'a [u8],
-    outcome: &'a Outcome<'a>,
-) -> [Piece<'a>; 6]
-    ensures { pieces_text result ≡ outcome_remedy_line files.now path.now outcome.now }
-{
-    match outcome {
-        Outcome::Refused(why) => {
-            let remedy = cause_remedy(why.fault, bytes_of(files, path), &why.rule_text);
-            remedy_line_pieces(b"", remedy, path, &why.rule_text)
-        }
-        _ => [NOTHING; 6],
-    }
 }
 
 // The line that explains a fault, where there is something to tell.

@@ -1,53 +1,23 @@
-//! Runs over devices, and the texts that they print.
+//! What the program calls: runs over devices, the texts that they print, and what is told of their faults.
 #![tactic(auto)]
 
-mod absence;
-mod ahead_run;
-mod caption;
-mod catalog;
 mod claims_remedy;
 mod complaint;
-mod drawing;
-pub mod drawing_laws;
-mod entry;
-mod entry_lines;
-mod escaped;
 mod explanation;
 mod fault;
-mod finding;
-mod growth;
-mod identification_run;
-mod names;
-mod outside;
-mod pattern_run;
-mod pieces;
-mod printing;
-mod read;
-mod remedy;
-mod rule_folder;
-mod run;
-mod summary;
-mod taken_names;
-mod texts;
-mod view;
 
-pub use absence::{Absence, MissingFile};
-pub use ahead_run::write_form_after;
-pub use catalog::{Catalog, says_its_claims};
+pub use ca_catalog::{Catalog, Content, Subject, identify_run, is_claim_path, says_its_claims};
+pub use ca_draw::{Size, View, WindowFault};
+pub use ca_pattern_runs::{
+    CaptionedPicture, DrawRequest, TextForm, convert_run, draw_bytes, draw_with_caption,
+    drawing_laws, show_run, write_form, write_form_after,
+};
+pub use ca_report::{
+    Absence, FaultyRule, InputFault, MAX_FILE, MissingFile, ToolFault, lies_outside, path_in,
+    push_escaped, read_all, rule_path,
+};
+pub use ca_verdict_lines::{ReportStyle, lines, status, verify_run, verify_watched};
 pub use claims_remedy::explain_claims;
 pub use complaint::{complain, complain_with_path};
-pub use drawing::{CaptionedPicture, DrawRequest, draw_bytes, draw_with_caption};
-pub use entry::{Content, Subject};
-pub use escaped::push_escaped;
 pub use explanation::{RunFiles, explain, has_explanation};
-pub use fault::{Fault, InputFault, ToolFault};
-pub use finding::ReportStyle;
-pub use identification_run::identify_run;
-pub use names::is_claim_path;
-pub use outside::{lies_outside, path_in};
-pub use pattern_run::{TextForm, convert_run, show_run, write_form};
-pub use printing::{lines, status};
-pub use read::{MAX_FILE, read_all};
-pub use rule_folder::{FaultyRule, rule_path};
-pub use run::{verify_run, verify_watched};
-pub use view::{Size, View, WindowFault};
+pub use fault::Fault;

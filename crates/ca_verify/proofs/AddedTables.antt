@@ -17,7 +17,8 @@ use Rattle.ca_pattern.specs.declared.cause.Cause.TheVariants.{NoFile, BadTable, 
 use Rattle.ca_text.specs.Text.{Claim, patterns_of}
 use Rattle.ca_text.specs.Asks.{asks_of}
 use Rattle.ca_text.specs.SomeOf.{SomeOf}
-use Rattle.ca_verify.specs.Answers.{AreTables, IsRuled, IsMissing, IsThere, HoldsTable, HasRule, IsSmall, FirstBad, HaveOtherRules, FilesAreThere, AgreeOn, HasCause, IsGoodPattern, AreGood, IsJudged, IsBadTable, IsUnnamed, IsLarge, IsTrueVerdict}
+use Rattle.ca_verify.specs.Answers.{AreTables, IsRuled, IsMissing, IsThere, HoldsTable, HasRule, IsSmall, HaveOtherRules, FilesAreThere, AgreeOn, HasCause, IsGoodPattern, AreGood, IsJudged, IsBadTable, IsUnnamed, IsLarge, IsTrueVerdict}
+use Rattle.ca_text.specs.Firsts.{FirstBad}
 
 -- ---- lists
 

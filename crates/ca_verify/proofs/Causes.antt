@@ -49,7 +49,8 @@ use Rattle.ca_verify.specs.inner.Decided.{IsBounded, IsDecided}
 use Rattle.ca_verify.specs.Work.{IsNoMoreThan}
 use Rattle.ca_text.specs.SomeOf.{SomeOf}
 use Rattle.ca_pattern.specs.Faults.{IsPatternFaultOn}
-use Rattle.ca_verify.specs.Answers.{IsBadPatternOn, AreTables, IsMissing, IsThere, IsReadableFile, HasRule, IsSmall, FirstIs, HaveOtherRules, HasCause, IsGoodPattern, AreGood, IsJudged, IsTrueVerdict, IsBadPattern, IsUnnamed, IsUnnamedBy, IsLarge, IsCrowded, WantsMemory}
+use Rattle.ca_verify.specs.Answers.{IsBadPatternOn, AreTables, IsMissing, IsThere, IsReadableFile, HasRule, IsSmall, HaveOtherRules, HasCause, IsGoodPattern, AreGood, IsJudged, IsTrueVerdict, IsBadPattern, IsUnnamed, IsUnnamedBy, IsLarge, IsCrowded, WantsMemory}
+use Rattle.ca_text.specs.Firsts.{FirstIs}
 use Rattle.ca_pattern.specs.PatternTrees.{ShowsTree, IsPattern}
 use Rattle.ca_verify.specs.inner.Subjects.{AreShown, IsSubject}
 use Rattle.ca_verify.specs.inner.PreparedClaim.{IsPrepared, IsFit, AreFewCounted, IsCountRefused, expected_tree, expected_part, last_part, refusal_for, disagreement_refusal}
@@ -68,7 +69,7 @@ use Rattle.ca_verify.proofs.CountedCells.{few_none, none_many}
 use Rattle.ca_verify.proofs.Spending.{used_up}
 use Rattle.ca_pattern.proofs.WrittenForms.{read_pattern}
 use Rattle.ca_verify.proofs.Parts.{first_part, zip_part}
-use Rattle.ca_verify.proofs.PairedLists.{some_first, zip_left, zip_beside, zip_first, zip_front, zip_through}
+use Rattle.ca_text.proofs.PairedLists.{some_first, zip_left, zip_beside, zip_first, zip_front, zip_through}
 
 -- ---- the paths of a claim's patterns
 

@@ -34,6 +34,20 @@ not_before next p InPlace n u v may back tested = λ k some less. changed_before
 not_before next p EmptyPlane n u v may back tested = absurd may
 not_before next p Anywhere n u v may back tested = λ k some less. nowhere_before next p n u v back tested k k (omega arith) some less
 
+-- ---- the pattern at one time
+
+-- in its place
+in_place : (next : List ℕ → ℕ) (cells : Picture) (forbidden : Forbidden) (n : ℕ) (p q : ℤ → ℤ → ℕ) (back : Option (ℤ × ℤ)) → ForbidsReturns forbidden → forbidden ≢ Anywhere
+    → ((x y : ℤ) → after next cells n x y ≡ p x y) → ((x y : ℤ) → cell cells x y ≡ q x y)
+    → MatchOption back ((x : ℤ) × (y : ℤ) × (p x y ≢ q x y)) (λ v. (v.0 ≡ pos 0) × (v.1 ≡ pos 0) × ((x y : ℤ) → p x y ≡ q x y))
+    → MatchOption back (ShowsNothingForbidden next cells forbidden n) (IsBackBy next cells forbidden n)
+in_place next cells Nothing n p q back some place ends shows told = absurd some
+in_place next cells EmptyPlane n p q back some place ends shows told = absurd some
+in_place next cells Anywhere n p q back some place ends shows told = absurd (place refl)
+in_place next cells InPlace n p q None some place ends shows told = (told.0, told.1, λ e. told.2 (sym (ends told.0 told.1) ∙ e ∙ shows told.0 told.1))
+in_place next cells InPlace n p q (Some v) some place ends shows told =
+    ((told.0, told.1), λ x y. ends x y ∙ told.2 x y ∙ sym (shows x y) ∙ sym (unmoved cells v.0 v.1 x y told.0 told.1))
+
 -- anywhere
 anywhere : (next : List ℕ → ℕ) (cells : Picture) (n : ℕ) (nodes : List Node) (end pattern : Tree) (back : Option (ℤ × ℤ)) → ((x y : ℤ) → after next cells n x y ≡ trees.cell nodes end x y)
     → ShowsTree nodes pattern cells → MatchOption back (IsNoMove nodes end pattern) (λ v. IsMove nodes end pattern v.0 v.1)
@@ -63,20 +77,6 @@ module _ (next : List ℕ → ℕ) (s0 s1 : List Node) (case : Case) (forbids : 
       → MatchOption back (ShowsNothingForbidden next cells case.asks.forbidden m) (IsBackBy next cells case.asks.forbidden m)
   back_there place told =
       subst (λ b. MatchOption back (ShowsNothingForbidden next cells b m) (IsBackBy next cells b m)) (sym place) (anywhere next cells m s1 end pattern back ends later told)
-
--- ---- the pattern at one time
-
--- in its place
-in_place : (next : List ℕ → ℕ) (cells : Picture) (forbidden : Forbidden) (n : ℕ) (p q : ℤ → ℤ → ℕ) (back : Option (ℤ × ℤ)) → ForbidsReturns forbidden → forbidden ≢ Anywhere
-    → ((x y : ℤ) → after next cells n x y ≡ p x y) → ((x y : ℤ) → cell cells x y ≡ q x y)
-    → MatchOption back ((x : ℤ) × (y : ℤ) × (p x y ≢ q x y)) (λ v. (v.0 ≡ pos 0) × (v.1 ≡ pos 0) × ((x y : ℤ) → p x y ≡ q x y))
-    → MatchOption back (ShowsNothingForbidden next cells forbidden n) (IsBackBy next cells forbidden n)
-in_place next cells Nothing n p q back some place ends shows told = absurd some
-in_place next cells EmptyPlane n p q back some place ends shows told = absurd some
-in_place next cells Anywhere n p q back some place ends shows told = absurd (place refl)
-in_place next cells InPlace n p q None some place ends shows told = (told.0, told.1, λ e. told.2 (sym (ends told.0 told.1) ∙ e ∙ shows told.0 told.1))
-in_place next cells InPlace n p q (Some v) some place ends shows told =
-    ((told.0, told.1), λ x y. ends x y ∙ told.2 x y ∙ sym (shows x y) ∙ sym (unmoved cells v.0 v.1 x y told.0 told.1))
 
 -- ---- the primes of the time
 

@@ -9,7 +9,7 @@ use Rattle.std.proofs.lemmas.Option.{same_Some, none-some}
 use Rattle.std.proofs.Math.Seq.{take-suc}
 use Rattle.std.proofs.lemmas.List.{length-map, map-append}
 use Rattle.std.proofs.lemmas.Slice.Eq.{bytes_eq-Decides}
-use Rattle.ca_verify.specs.declared.file.File.{File}
+use Rattle.ca_pattern.specs.declared.file.File.{File}
 use Rattle.ca_verify.specs.Files.{contents, bytes_at}
 use Rattle.ca_text.proofs.PathLists.{bytes_eq_self}
 

@@ -3,12 +3,13 @@ use Rattle.std.proofs.Common.{◌≡◌, ℕ, List, Vec, Global, refl}
 use Rattle.ca_rule.specs.TableNext.{TableRule}
 use Rattle.ca_verify.specs.declared.verifier.tables.FaultyTable.{FaultyTable}
 use Rattle.ca_text.specs.Places.{path_at}
-use Rattle.ca_verify.specs.Answers.{IsTableAt, AreTables, IsThere, IsMissing, HoldsTable, FirstBad}
+use Rattle.ca_verify.specs.Answers.{IsTableAt, AreTables, IsThere, IsMissing, HoldsTable}
+use Rattle.ca_text.specs.Firsts.{FirstBad}
 use Rattle.ca_verify.specs.declared.verifier.tables.Tables.{Tables}
 use Rattle.ca_verify.specs.declared.verifier.tables.Tables.TheVariants.{Missing, Faulty, Read}
 use Rattle.ca_verify.specs.NeededFiles.{IsFaultyAt, AreRead}
 use Rattle.ca_verify.proofs.Verdicts.{tables_there, there_or_none, all_or_some, table_or_fault}
-use Rattle.ca_verify.proofs.PairedLists.{first_weaker, some_first, zip_left}
+use Rattle.ca_text.proofs.PairedLists.{first_weaker, some_first, zip_left}
 
 module _ (files : List (List ℕ × List ℕ)) (rules : List (List ℕ)) (tables : List TableRule) (are : AreTables files rules tables) where
   -- none is missing

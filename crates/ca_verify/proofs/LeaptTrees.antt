@@ -12,7 +12,7 @@ use Rattle.ca_quad.specs.Sound.{IsSoundStore, Grows}
 use Rattle.ca_quad.specs.Trees.{IsTree, cell}
 use Rattle.ca_quad.specs.Shifted.{shifted_cells}
 use Rattle.ca_quad.proofs.Trims.{trees_stay}
-use Rattle.ca_run.proofs.After.{after_same}
+use Rattle.ca_plane.proofs.After.{after_same}
 use Rattle.ca_text.specs.declared.asks.Asks.{Asks}
 use Rattle.ca_text.specs.declared.asks.Expected.{Expected}
 use Rattle.ca_verify.specs.declared.decide.ClaimTrees.{ClaimTrees}

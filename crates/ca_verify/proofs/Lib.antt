@@ -11,7 +11,6 @@ pub mod JudgedInTurn
 pub mod LeaptTrees
 pub mod LifeSpans
 pub mod OneReason
-pub mod PairedLists
 pub mod Parts
 pub mod PatternsRead
 pub mod PrimeFactors

@@ -8,7 +8,8 @@ use Rattle.ca_verify.specs.declared.refusal.WhichPattern.TheVariants.{First, Sec
 use Rattle.ca_pattern.specs.declared.cause.Cause.{Cause}
 use Rattle.ca_pattern.specs.declared.cause.Cause.TheVariants.{NoFile, BadPattern, BadRule, StateTooLarge, TooManyCells}
 use Rattle.ca_text.specs.Places.{path_at}
-use Rattle.ca_verify.specs.Answers.{IsThere, FirstBad, IsOfPattern, IsOfRuleFile}
+use Rattle.ca_verify.specs.Answers.{IsThere, IsOfPattern, IsOfRuleFile}
+use Rattle.ca_text.specs.Firsts.{FirstBad}
 use Rattle.ca_verify.specs.inner.Patterns.{IsEachOnce, FirstBadAt}
 use Rattle.ca_verify.specs.inner.Refusals.{IsCauseAbout}
 

@@ -9,13 +9,14 @@ use Rattle.ca_text.specs.declared.asks.Asks.{Asks}
 use Rattle.ca_text.specs.Places.{path_at}
 use Rattle.ca_verify.specs.Files.{bytes_at}
 use Rattle.ca_text.specs.SomeOf.{SomeOf}
-use Rattle.ca_verify.specs.Answers.{IsMissing, IsThere, HoldsTable, AreTables, IsBadTable, FirstBad}
+use Rattle.ca_verify.specs.Answers.{IsMissing, IsThere, HoldsTable, AreTables, IsBadTable}
+use Rattle.ca_text.specs.Firsts.{FirstBad}
 use Rattle.ca_verify.specs.inner.Found.{IsFound, IsTableFound, IsFaultFound}
 use Rattle.ca_verify.specs.NeededFiles.{IsFaultyAt}
 use Rattle.ca_verify.specs.declared.refusal.About.TheVariants as about
 use Rattle.ca_verify.specs.inner.Refusals.{IsRefusal}
 use Rattle.ca_verify.proofs.Causes.{bytes_found}
-use Rattle.ca_verify.proofs.PairedLists.{first_weaker, some_first}
+use Rattle.ca_text.proofs.PairedLists.{first_weaker, some_first}
 use Rattle.ca_verify.proofs.FoundFiles.{found-length}
 
 -- what holds of all holds of one of them

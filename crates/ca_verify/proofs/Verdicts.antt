@@ -28,9 +28,10 @@ use Rattle.ca_verify.specs.Refutations.{IsReason}
 use Rattle.ca_text.specs.SomeOf.{SomeOf}
 use Rattle.ca_pattern.specs.Faults.{IsPatternFault}
 use Rattle.ca_pattern.specs.NamedTables.{IsQuietTable, IsTableFault}
-use Rattle.ca_verify.specs.Answers.{HoldsOfFile, IsTableAt, AreTables, IsRuled, IsMissing, IsThere, HoldsTable, IsReadableFile, HasRule, IsSmall, FirstBad, HaveOtherRules, FilesAreThere, TablesAreGood, PatternsAreRead, PatternsHaveRules, StatesAreSmall, AgreeOn, HasFewCounted, HasTooManyCounted, HasCause, IsCauseFor, IsGoodPattern, AreGood, IsJudged, IsBadTable, IsBadPattern, IsUnnamed, IsLarge}
+use Rattle.ca_verify.specs.Answers.{HoldsOfFile, IsTableAt, AreTables, IsRuled, IsMissing, IsThere, HoldsTable, IsReadableFile, HasRule, IsSmall, HaveOtherRules, FilesAreThere, TablesAreGood, PatternsAreRead, PatternsHaveRules, StatesAreSmall, AgreeOn, HasFewCounted, HasTooManyCounted, HasCause, IsCauseFor, IsGoodPattern, AreGood, IsJudged, IsBadTable, IsBadPattern, IsUnnamed, IsLarge}
+use Rattle.ca_text.specs.Firsts.{FirstBad}
 use Rattle.ca_verify.proofs.PatternsRead.{ruled_path_reads}
-use Rattle.ca_verify.proofs.PairedLists.{zip_left}
+use Rattle.ca_text.proofs.PairedLists.{zip_left}
 use Rattle.ca_text.proofs.Truths.{back}
 use Rattle.ca_pattern.proofs.OneMeaning.{named_or_fault, one_fault_of, one_rule_fault_of, one_ruled, reads_without_fault, small_or_large}
 

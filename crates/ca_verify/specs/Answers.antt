@@ -1,5 +1,5 @@
 -- True answers: what a yes, a no and a refusal say of the files that were handed in, and what a refusal is about.
-use Rattle.std.specs.Prelude.{◌≡◌, ℕ, IsTrue, List, ◌∷◌, Option, Some, None, Vec, ◌⊎◌}
+use Rattle.std.specs.Prelude.{◌≡◌, ℕ, IsTrue, List, [], ◌∷◌, Option, Some, None, Vec, ◌⊎◌}
 use Rattle.std.specs.declared.alloc.Global.{Global}
 use Rattle.std.specs.List.{AllZip, AllByRecursion}
 use Rattle.ca_plane.specs.Plane.{Picture, cell}
@@ -14,6 +14,7 @@ use Rattle.ca_verify.specs.declared.verdict.Verdict.TheVariants.{Yes, No, Refuse
 use Rattle.ca_pattern.specs.declared.pattern_fault.PatternFault.{PatternFault}
 use Rattle.ca_pattern.specs.declared.cause.Cause.{Cause}
 use Rattle.ca_pattern.specs.declared.cause.Cause.TheVariants.{NoFile, BadTable, BadPattern, BadRule, StateTooLarge, MixedRules, TooManyCells, Work, Memory}
+use Rattle.ca_text.specs.Firsts.{FirstBad, FirstIs}
 use Rattle.ca_text.specs.declared.asks.Asks.{Asks}
 use Rattle.ca_verify.specs.Work.{MayBeUsedUp}
 use Rattle.ca_text.specs.SomeOf.{SomeOf}
@@ -66,16 +67,6 @@ HasRule files tables path = (cells : Picture) × (rule : RuleValue) × IsRuled f
 -- and its states are small
 abbrev pub IsSmall : List (List ℕ × List ℕ) → List TableRule → List ℕ → Type 0
 IsSmall files tables path = (cells : Picture) × (rule : RuleValue) × IsRuled files tables path cells rule × HasSmallStates rule (cell cells)
-
--- this is bad of one element, and those before it are good
-abbrev pub FirstBad : {X : Type 0} → (X → Type 0) → (X → Type 0) → List X → Type 0
-FirstBad Good Bad [] = ⊥
-FirstBad Good Bad (x ∷ xs) = Bad x ⊎ (Good x × FirstBad Good Bad xs)
-
--- this holds of the first element
-abbrev pub FirstIs : {X : Type 0} → (X → Type 0) → List X → Type 0
-FirstIs Holds [] = ⊥
-FirstIs Holds (x ∷ xs) = Holds x
 
 -- the file of the path is there, and has this fault as the text of a table
 abbrev pub IsBadTable : List (List ℕ × List ℕ) → TableFault → List ℕ → Type 0

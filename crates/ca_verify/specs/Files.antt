@@ -1,7 +1,7 @@
 -- The files that were handed in: their paths and their bytes.
 use Rattle.std.specs.Prelude.{ℕ, List, [], ◌∷◌, map, Option, Some, None, if◌then◌else◌}
 use Rattle.std.specs.Str.{bytes_eq}
-use Rattle.ca_verify.specs.declared.file.File.{File}
+use Rattle.ca_pattern.specs.declared.file.File.{File}
 
 -- the paths and bytes of the files that were handed in
 abbrev pub contents : List File → List (List ℕ × List ℕ)

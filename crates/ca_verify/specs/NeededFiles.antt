@@ -9,7 +9,8 @@ use Rattle.std.specs.List.{AllByRecursion}
 use Rattle.ca_verify.specs.declared.verifier.tables.FaultyTable.{FaultyTable}
 use Rattle.ca_verify.specs.declared.verifier.tables.Tables.TheVariants.{Missing, Faulty, Read}
 use Rattle.ca_text.specs.Places.{path_at}
-use Rattle.ca_verify.specs.Answers.{IsBadTable, IsMissing, IsThere, HoldsTable, AreTables, FirstBad}
+use Rattle.ca_verify.specs.Answers.{IsBadTable, IsMissing, IsThere, HoldsTable, AreTables}
+use Rattle.ca_text.specs.Firsts.{FirstBad}
 
 -- this path is the first whose file is no good table, which has this fault
 abbrev pub IsFaultyAt : List (List ℕ × List ℕ) → List (List ℕ) → FaultyTable → List ℕ → Type 0

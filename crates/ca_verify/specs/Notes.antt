@@ -6,7 +6,8 @@ use Rattle.ca_verify.specs.declared.verdict.Verdict.{Verdict}
 use Rattle.ca_verify.specs.declared.verdict.Verdict.TheVariants.{Yes, No, Refused}
 use Rattle.ca_verify.specs.declared.verdict.Refutation.TheVariants.{Empty, Differs, Earlier, Died}
 use Rattle.ca_pattern.specs.declared.cause.Cause.{Cause}
-use Rattle.ca_verify.specs.Answers.{FirstBad, FirstIs, IsOfClaim, IsOfPattern, IsOfRuleFile}
+use Rattle.ca_verify.specs.Answers.{IsOfClaim, IsOfPattern, IsOfRuleFile}
+use Rattle.ca_text.specs.Firsts.{FirstBad, FirstIs}
 
 -- the first bad pattern is the one with this name and path; patterns are given by their names and paths
 abbrev pub IsFirstBad : List (List ℕ × List ℕ) → (name path : List ℕ) → (Good Bad : List ℕ → Type 0) → Type 0

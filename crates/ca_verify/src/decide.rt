@@ -1,7 +1,6 @@
 //! Whether a claim is true of patterns that stand in a leaper's store, by leaps.
 
-ghost use Rattle.std.specs.Prelude.{◌≡◌, ◌≢◌, ◌⊎◌, ℤ, None, IfOk};
-ghost use Rattle.std.specs.Prelude.{IfSome, IsTrue, IsFalse, MatchOption};
+ghost use Rattle.std.specs.Prelude.{◌≡◌, ◌≢◌, ◌⊎◌, ℤ, None, IfOk, IfSome, IsTrue, IsFalse, MatchOption};
 ghost use Rattle.ca_plane.specs.Plane.{Picture, cell as plane_cell};
 ghost use Rattle.ca_plane.specs.Generations.{after, IsAfter};
 ghost use Rattle.ca_quad.specs.Boxes.{IsDead};
@@ -16,10 +15,8 @@ ghost use Rattle.ca_pattern.specs.declared.cause.Cause.TheVariants.{Work, Memory
 ghost use Rattle.ca_verify.specs.declared.verdict.Verdict.TheVariants.{Refused};
 ghost use Rattle.ca_pattern.specs.Spending.{Takes};
 ghost use Rattle.ca_verify.specs.inner.Decided.{IsDecided};
-ghost use Rattle.ca_pattern.specs.PatternTrees.{ShowsTree, IsPattern, IsNearTree};
-ghost use Rattle.ca_verify.specs.inner.Subjects.{IsCase, AreShown};
-ghost use Rattle.ca_pattern.specs.PatternTrees.{HasLive, IsMoved};
-ghost use Rattle.ca_verify.specs.inner.Subjects.{IsDifference};
+ghost use Rattle.ca_pattern.specs.PatternTrees.{ShowsTree, IsPattern, IsNearTree, HasLive, IsMoved};
+ghost use Rattle.ca_verify.specs.inner.Subjects.{IsCase, AreShown, IsDifference};
 
 mod deaths;
 mod primes;

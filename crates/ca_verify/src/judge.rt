@@ -7,16 +7,14 @@ ghost use Rattle.ca_verify.specs.Files.{contents, bytes_at};
 ghost use Rattle.ca_verify.specs.Judging.{Judges, JudgesAndNotes, IsDone};
 ghost use Rattle.ca_pattern.specs.Limited.{AreGoodLimits};
 ghost use Rattle.ca_verify.specs.Notes.{HasItsNote};
-ghost use Rattle.ca_verify.specs.NeededFiles.{AreFound};
+ghost use Rattle.ca_verify.specs.NeededFiles.{AreFound, AreRead};
 ghost use Rattle.ca_verify.specs.inner.Kept.{IsAnswerTo};
-ghost use Rattle.ca_verify.specs.NeededFiles.{AreRead};
 
-use crate::file::File;
 use crate::note::Note;
 use crate::noting::note_on;
 use crate::verdict::Answer;
 use crate::verifier::{NeededFiles, PatternCache, Tables, Task, find_files, verdict_on};
-use ca_pattern::{Limits, Observer};
+use ca_pattern::{File, Limits, Observer};
 use ca_plane::Memory;
 use ca_run::Unwatched;
 use ca_text::Claims;

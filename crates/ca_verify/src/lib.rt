@@ -2,7 +2,6 @@
 #![tactic(auto)]
 
 mod decide;
-mod file;
 mod judge;
 mod note;
 mod noting;
@@ -11,7 +10,6 @@ mod verdict;
 pub mod verdict_laws;
 mod verifier;
 
-pub use file::File;
 pub use judge::{Judge, look_up};
 pub use note::Note;
 pub use verdict::{Answer, Refutation, Verdict};

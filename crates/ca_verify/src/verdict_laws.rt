@@ -6,7 +6,7 @@
 ghost use Rattle.std.specs.Prelude.{◌≡◌, ◌≢◌, ℕ, suc, ◌≤◌, ◌<◌, ◌↔◌, ℤ, List, [], ◌++◌, replicate, pos, negsuc};
 ghost use Rattle.std.specs.List.{AllByRecursion};
 ghost use Rattle.ca_plane.specs.Plane.{Picture, cell, shifted, IsLive};
-ghost use Rattle.ca_plane.specs.Generations.{after, IsAfter};
+ghost use Rattle.ca_plane.specs.Generations.{after, IsAfter, IsLiveAfter};
 ghost use Rattle.ca_text.specs.declared.line.Kind.{Kind};
 ghost use Rattle.ca_text.specs.declared.line.Kind.TheVariants.{Still, Oscillator, Spaceship};
 ghost use Rattle.ca_text.specs.declared.line.Kind.TheVariants.{Becomes, BecomesShifted, Dies};
@@ -14,7 +14,6 @@ ghost use Rattle.ca_text.specs.Text.{Claim};
 ghost use Rattle.ca_pattern.specs.Means.{Means};
 ghost use Rattle.ca_text.specs.Asks.{asks_of};
 ghost use Rattle.ca_text.specs.Truth.{IsChanged, IsNowhere, IsTrueClaim};
-ghost use Rattle.ca_plane.specs.Generations.{IsLiveAfter};
 ghost use Rattle.ca_verify.specs.Refutations.{IsReason, IsSameReason};
 ghost use Rattle.ca_verify.specs.Answers.{IsTrueVerdict, HoldsTable};
 ghost use Rattle.ca_verify.specs.Examples.{life, blinker, block};

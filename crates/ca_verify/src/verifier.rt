@@ -31,11 +31,10 @@ mod tables;
 mod task;
 
 use crate::decide::{Case, decide};
-use crate::file::File;
 use crate::judge::Judge;
 use crate::refusal::{About, JudgedClaim, Refusal};
 use crate::verdict::{Answer, Verdict};
-use ca_pattern::{Cause, Limits, Observer};
+use ca_pattern::{Cause, File, Limits, Observer};
 use ca_plane::Memory;
 use ca_text::{Asks, Claim, Claims, OneOrTwo};
 pub use needed::NeededFiles;

@@ -4,13 +4,12 @@ ghost use Rattle.std.specs.Prelude.{◌≡◌, ◌≢◌, [], map, IfOk, OnErr};
 
 use crate::streams::Source;
 use ca_claims::unknown_rules;
-use ca_pattern::{NamedTable, table_named};
+use ca_pattern::{File, NamedTable, table_named};
 use ca_plane::text::push_text;
 use ca_plane::{Dev, Memory};
 use ca_rule::TableFault;
 use ca_text::{Claims, WordSet};
 use ca_tool::{Absence, FaultyRule, InputFault, MissingFile, path_in, read_all, rule_path};
-use ca_verify::File;
 use std::alloc::Global;
 use std::fs;
 use std::io::ErrorKind;

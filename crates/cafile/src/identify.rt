@@ -1,18 +1,23 @@
 //! The command `identify`.
 
+ghost use Rattle.std.specs.Prelude.{◌≡◌, ◌≤◌};
+ghost use Rattle.ca_plane.specs.Limits.{longest_period};
+ghost use Rattle.cafile.specs.Scopes.{scope_of};
+
 use crate::FAULT;
 use crate::files::{FaultyFile, LoadedFile, load_rule_file, read_file, views};
 use crate::progress::{Heading, Progress};
 use crate::streams::Streams;
-use crate::words::IdentifyExtras;
-use ca_pattern::{Cause, DetailedFault, rule_text_of};
+use ca_identify::Scope;
+use ca_pattern::{Cause, DetailedFault, File, rule_text_of};
 use ca_plane::Memory;
+use ca_plane::limits::LONGEST_PERIOD;
 use ca_rule::{RuleFault, Table, TableFault, resolve};
 use ca_tool::{
     Catalog, Content, Fault, InputFault, RunFiles, Subject, ToolFault, complain, explain,
     has_explanation, identify_run, is_claim_path,
 };
-use ca_verify::File;
+use ca_words::IdentifyExtras;
 use std::alloc::Global;
 use std::rt::{Clock, Files};
 
@@ -258,6 +263,28 @@ fn add_rule<R: Files + AllocGlobal>(
     Ok(None)
 }
 
+// How many generations of a pattern are looked at, unless that is set.
+const USUAL_LIMIT: u64 = 65536;
+
+// How many units of work they may take then, after the first two. That is a second or less on most machines.
+const USUAL_PATIENCE: u64 = 300000;
+
+// How far each pattern is looked at: as many generations as the words set, which keep them within their limits (a number
+// outside is brought within), whatever they take; or the usual number, while patience lasts.
+fn scope_of(limit: Option<u64>) -> Scope
+    ensures some { 1 ≤ result.limit }
+    ensures most { result.limit ≤ longest_period }
+    ensures value { result ≡ scope_of limit }
+{
+    match limit {
+        Some(limit) => Scope::whole(limit.clamp(1, LONGEST_PERIOD)),
+        None => Scope {
+            limit: USUAL_LIMIT,
+            patience: Some(USUAL_PATIENCE),
+        },
+    }
+}
+
 // Writes the claim text, and answers what came of the files.
 fn run<'a, R: Files + Clock + AllocGlobal>(
     rt: &R,
@@ -273,7 +300,7 @@ fn run<'a, R: Files + Clock + AllocGlobal>(
     let Ok(files) = views(rt.alloc(), &rules.files) else {
         return Err(ToolFault::Memory);
     };
-    let scope = extras.scope();
+    let scope = scope_of(extras.limit);
     let heading = Heading::Files {
         paths,
         after: extras.after(),

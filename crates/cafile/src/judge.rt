@@ -1,7 +1,7 @@
 //! The command `verify`.
 
 ghost use Rattle.std.specs.Prelude.{◌≡◌, ◌++◌, [], codes, IfOk, OnErr, IsTrue, if◌then◌else◌};
-ghost use Rattle.ca_tool.specs.Escaped.{escaped};
+ghost use Rattle.ca_report.specs.Escaped.{escaped};
 
 use crate::FAULT;
 use crate::files::{
@@ -9,7 +9,7 @@ use crate::files::{
 };
 use crate::progress::{Heading, Progress};
 use crate::streams::Streams;
-use crate::words::{Extras, Folders};
+use ca_pattern::File;
 use ca_plane::Memory;
 use ca_plane::text::push_text;
 use ca_text::{ClaimFault, Claims, read_claims};
@@ -17,7 +17,7 @@ use ca_tool::{
     Fault, InputFault, ReportStyle, ToolFault, complain, complain_with_path, explain_claims,
     push_escaped, verify_watched,
 };
-use ca_verify::File;
+use ca_words::{Extras, Folders};
 use std::alloc::Global;
 use std::rt::{Clock, Files};
 

@@ -1,20 +1,22 @@
 //! The commands `show`, `convert` and `draw`.
 
+ghost use Rattle.std.specs.Prelude.{◌≡◌};
+
 use crate::FAULT;
 use crate::files::{LoadedFile, load_rule_file, open_source, read_file};
 use crate::progress::{Heading, Progress};
 use crate::streams::Streams;
-use crate::words::{DrawWords, PatternExtras};
-use ca_pattern::{ConvertFault, DetailedFault};
+use ca_pattern::{ConvertFault, DetailedFault, File, Limits};
 use ca_plane::limits::MOST_GENERATIONS;
 use ca_plane::{Dev, Memory, send};
 use ca_rule::RuleFault;
 use ca_run::Unwatched;
 use ca_tool::{
-    CaptionedPicture, Fault, InputFault, RunFiles, TextForm, ToolFault, complain, draw_bytes,
-    draw_with_caption, explain, has_explanation, read_all, write_form, write_form_after,
+    CaptionedPicture, DrawRequest, Fault, InputFault, RunFiles, TextForm, ToolFault, complain,
+    draw_bytes, draw_with_caption, explain, has_explanation, read_all, write_form,
+    write_form_after,
 };
-use ca_verify::File;
+use ca_words::{DrawWords, PatternExtras};
 use std::rt::{Clock, Files, Stderr, Stdin};
 
 /// What is written of a pattern file.
@@ -134,7 +136,7 @@ fn run<R: Clock + AllocGlobal>(
         return match form {
             Form::Text(form) => write_form(alloc, bytes, form, table, output),
             Form::Picture { words, captioned } => {
-                let request = words.request(0, limits);
+                let request = request_of(words, 0, limits);
                 let watched = &mut Unwatched;
                 if captioned {
                     let drawn = draw_with_caption(alloc, bytes, request, table, watched);
@@ -165,13 +167,28 @@ fn run<R: Clock + AllocGlobal>(
             )
         }
         Form::Picture { words, captioned } => {
-            let request = words.request(generations, limits);
+            let request = request_of(words, generations, limits);
             if captioned {
                 let drawn = draw_with_caption(alloc, bytes, request, table, observer);
                 return write_captioned(drawn, streams);
             }
             draw_bytes(alloc, bytes, request, table, observer, output)
         }
+    }
+}
+
+// What is asked for of a picture, so many generations on and within these limits.
+fn request_of(words: DrawWords, generations: u64, limits: Limits) -> DrawRequest
+    ensures view { result.view ≡ words.view }
+    ensures format { result.format ≡ words.format }
+    ensures generations { result.generations ≡ generations }
+    ensures limits { result.limits ≡ limits }
+{
+    DrawRequest {
+        view: words.view,
+        format: words.format,
+        generations,
+        limits,
     }
 }
 

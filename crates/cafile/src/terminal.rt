@@ -1,10 +1,9 @@
 //! The terminal that a picture is drawn on.
 
 ghost use Rattle.std.specs.Prelude.{◌≡◌, ◌<◌, ℕ, min, max, MatchOption};
-ghost use Rattle.cafile.specs.Words.{IsCountText, terminal_side, room_in};
+ghost use Rattle.cafile.specs.Terminals.{IsCountText, terminal_side, room_in};
 
-use ca_draw::MOST_SIDE;
-use ca_tool::Size;
+use ca_draw::{MOST_SIDE, Size};
 use std::env;
 use std::rt::Env;
 

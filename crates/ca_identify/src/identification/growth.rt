@@ -2,9 +2,8 @@
 
 ghost use Rattle.std.specs.Prelude.{IfOk};
 ghost use Rattle.ca_quad.specs.Trees.{cell};
-ghost use Rattle.ca_pattern.specs.PatternTrees.{IsLowTree};
+ghost use Rattle.ca_pattern.specs.PatternTrees.{IsLowTree, HasLive};
 ghost use Rattle.ca_identify.specs.inner.Stages.{IsGrowthOf};
-ghost use Rattle.ca_pattern.specs.PatternTrees.{HasLive};
 
 use crate::identity::Growth;
 use ca_pattern::bounds_of;

@@ -10,7 +10,7 @@ use ca_tool::{
     Fault, InputFault, ReportStyle, ToolFault, complain, complain_with_path, convert_run, show_run,
     verify_run, verify_watched,
 };
-use ca_verify::File;
+use ca_pattern::File;
 use std::alloc::Global;
 use std::io::Read;
 use std::process::Abort;

@@ -10,9 +10,8 @@ ghost use Rattle.ca_pattern.specs.Spending.{Takes};
 ghost use Rattle.ca_text.specs.Truth.{MayReturnBy, ShowsNothingForbidden};
 ghost use Rattle.ca_verify.specs.inner.Returns.{IsSparedBefore, IsFirstReturn};
 ghost use Rattle.ca_pattern.specs.PatternTrees.{ShowsTree, IsNearTree, IsPattern, HasLive};
-ghost use Rattle.ca_verify.specs.inner.Subjects.{ForbidsReturn};
+ghost use Rattle.ca_verify.specs.inner.Subjects.{ForbidsReturn, IsBackBy};
 ghost use Rattle.ca_pattern.specs.PatternTrees.{IsMove, IsNoMove, IsOnlyMove};
-ghost use Rattle.ca_verify.specs.inner.Subjects.{IsBackBy};
 
 use super::Case;
 use super::primes::{prime_factor, without_prime};

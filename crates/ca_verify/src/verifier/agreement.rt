@@ -5,9 +5,8 @@ ghost use Rattle.std.specs.List.{AllByRecursion};
 ghost use Rattle.ca_quad.specs.Trees.{IsTree};
 ghost use Rattle.ca_rule.specs.Rule.{rule_value};
 ghost use Rattle.ca_text.specs.OneOrTwo.{items};
-ghost use Rattle.ca_verify.specs.inner.Patterns.{FirstBadAt, AreOfOneRule};
+ghost use Rattle.ca_verify.specs.inner.Patterns.{FirstBadAt, AreOfOneRule, AreMixed, Disagree};
 ghost use Rattle.ca_pattern.specs.Patterns.{ShowsLarge, ShowsSmall};
-ghost use Rattle.ca_verify.specs.inner.Patterns.{AreMixed, Disagree};
 
 use crate::refusal::WhichPattern;
 use ca_pattern::{RuledPattern, has_large_state};

@@ -5,8 +5,7 @@ ghost use Rattle.std.specs.List.{AllZip};
 ghost use Rattle.ca_pattern.specs.Means.{IsReadable};
 ghost use Rattle.ca_text.specs.OneOrTwo.{items};
 ghost use Rattle.ca_verify.specs.inner.Patterns.{FirstBadAt, HasName};
-ghost use Rattle.ca_pattern.specs.Patterns.{IsReadFrom, IsUnread};
-ghost use Rattle.ca_pattern.specs.Patterns.{IsUnnamedFor, IsRuledAs};
+ghost use Rattle.ca_pattern.specs.Patterns.{IsReadFrom, IsUnread, IsUnnamedFor, IsRuledAs};
 
 use super::pattern_cache::PatternCache;
 use crate::refusal::WhichPattern;

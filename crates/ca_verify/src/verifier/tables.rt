@@ -9,7 +9,8 @@ ghost use Rattle.ca_rule.specs.declared.table.fault.TableFault.TheVariants as ta
 ghost use Rattle.ca_text.specs.declared.asks.Asks.{Asks};
 ghost use Rattle.ca_text.specs.Places.{path_at};
 ghost use Rattle.ca_verify.specs.Files.{bytes_at};
-ghost use Rattle.ca_verify.specs.Answers.{IsThere, AreTables, FirstBad};
+ghost use Rattle.ca_verify.specs.Answers.{IsThere, AreTables};
+ghost use Rattle.ca_text.specs.Firsts.{FirstBad};
 ghost use Rattle.ca_verify.specs.inner.Found.{IsFound, IsTableFound, IsFaultFound};
 ghost use Rattle.ca_verify.specs.inner.Refusals.{IsRefusal};
 

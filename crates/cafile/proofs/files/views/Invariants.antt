@@ -1,5 +1,5 @@
 use Rattle.std.proofs.Common.{◌≡◌, map, take}
-use Rattle.ca_verify.specs.declared.file.File.{File}
+use Rattle.ca_pattern.specs.declared.file.File.{File}
 use Rattle.cafile.specs.declared.files.LoadedFile.{LoadedFile}
 use Rattle.cafile.proofs.files.views.Given as goal
 

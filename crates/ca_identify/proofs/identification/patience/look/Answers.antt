@@ -7,9 +7,8 @@ use Rattle.ca_run.specs.Leaping.{LeaperGrows}
 use Rattle.ca_plane.proofs.After.{after_same}
 use Rattle.ca_run.proofs.ShownPlanes.{goes_on_again}
 use Rattle.ca_identify.specs.Identified.{IsIdentity}
-use Rattle.ca_pattern.specs.PatternTrees.{IsLowTree}
+use Rattle.ca_pattern.specs.PatternTrees.{IsLowTree, HasLive}
 use Rattle.ca_identify.specs.inner.Stages.{IsWalk, IsHalted, IsGrowthOf, TakesSearch, TakesSearchFrom}
-use Rattle.ca_pattern.specs.PatternTrees.{HasLive}
 use Rattle.ca_identify.proofs.Identities.{last_live, found_none, whole_look, search_needs}
 use Rattle.ca_pattern.proofs.LeaptTrees.{shows_stays}
 use Rattle.ca_identify.proofs.Starts.{start_is_low}

@@ -2,7 +2,7 @@ use Rattle.std.proofs.Common.{◌≡◌, get_or, None, refl}
 use Rattle.std.proofs.lemmas.Option.{slice_get-get_or}
 use Rattle.ca_verify.proofs.FoundFiles.{is_nothing}
 use Rattle.ca_verify.specs.inner.Found.{IsFound}
-use Rattle.ca_verify.proofs.PairedLists.{first_after}
+use Rattle.ca_text.proofs.PairedLists.{first_after}
 use Rattle.ca_verify.proofs.verifier.tables.first_missing.Goals as goal
 
 pub returns-then-is_none : goal.returns-then-is_none

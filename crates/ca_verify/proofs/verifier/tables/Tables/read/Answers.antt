@@ -1,5 +1,5 @@
 use Rattle.ca_verify.proofs.TablesFound.{missing_at, faulty_at, tables_at}
-use Rattle.ca_verify.proofs.PairedLists.{each-All}
+use Rattle.ca_text.proofs.PairedLists.{each-All}
 use Rattle.ca_verify.proofs.verifier.tables.Tables.read.Goals as goal
 
 pub returns-in-Some : goal.returns-in-Some

@@ -1,0 +1,262 @@
+-- What the text of entries says.
+use Rattle.std.proofs.Common.{◌≡◌, ℕ, ◌+◌, true, false, List, [], ◌∷◌, ◌++◌, map, Option, None, Some, codes, decimal, nat_eq, refl, ap, sym, ◌∙◌, inl, inr, subst, arith}
+use Rattle.std.specs.Prelude.{IsSome}
+use Rattle.std.specs.Fmt.{signed_decimal}
+use Rattle.std.specs.List.{flat_map, list_any}
+use Rattle.std.specs.Option.{option_or}
+use Rattle.std.specs.Str.{bytes_eq}
+use Rattle.std.proofs.lemmas.Bool.{cases_Bool, or_parts, false≢true}
+use Rattle.std.proofs.lemmas.List.{append-nil}
+use Rattle.std.proofs.lemmas.Slice.Eq.{bytes_eq-Decides}
+use Rattle.ca_plane.specs.Bytes.{Every, IsWord, lines_of}
+use Rattle.ca_plane.specs.Plane.{Picture}
+use Rattle.ca_plane.proofs.Decimals.{decimal_writes, signed_writes}
+use Rattle.ca_plane.proofs.Fronts.{every_append}
+use Rattle.ca_rule.specs.TableNext.{TableRule}
+use Rattle.ca_text.specs.declared.line.Kind.TheVariants as kind
+use Rattle.ca_pattern.specs.declared.file.File.{File}
+use Rattle.ca_identify.specs.declared.identity.Identity.{Identity}
+use Rattle.ca_identify.specs.declared.identity.Growth.{Growth}
+use Rattle.ca_identify.specs.declared.scope.Scope.{Scope}
+use Rattle.ca_pattern.specs.declared.cause.Cause.{Cause}
+use Rattle.ca_pattern.specs.declared.cause.Cause.TheVariants as causes
+use Rattle.ca_identify.specs.declared.identity.Identity.TheVariants.{Empty, StillLife, Oscillator, Spaceship, Dies, Unknown}
+use Rattle.ca_plane.specs.Limits.{greatest_shift}
+use Rattle.ca_text.specs.Text.{ClaimTextLine, Version, Rule, Load, Claims, is_second, path_of, ClaimLinesSay}
+use Rattle.ca_identify.specs.Identified.{IsIdentity}
+use Rattle.ca_text.proofs.LinesSaid.{path_of-append}
+use Rattle.ca_text.proofs.PathLists.{bytes_eq_self}
+use Rattle.ca_catalog.specs.declared.entry.Content.{Content}
+use Rattle.ca_catalog.specs.declared.entry.Content.TheVariants.{Bytes, Missing, FaultyRule}
+use Rattle.ca_catalog.specs.declared.entry.Subject.{Subject}
+use Rattle.ca_catalog.specs.declared.entry.Outcome.{Outcome}
+use Rattle.ca_catalog.specs.declared.entry.Outcome.TheVariants as outcomes
+use Rattle.ca_catalog.specs.declared.entry.Outcome.TheVariants.{Unnameable, Identified, Refused}
+use Rattle.ca_catalog.specs.declared.entry.Entry.{Entry}
+use Rattle.ca_report.specs.Escaped.{escaped}
+use Rattle.ca_report.specs.FaultTexts.{cause_text}
+use Rattle.ca_report.specs.FileLines.{at_line}
+use Rattle.ca_report.specs.Counts.{generations_word, side_length}
+use Rattle.ca_catalog.specs.Names.{is_claim_path, is_taken}
+use Rattle.ca_catalog.specs.Catalog.{cells_word, growth_text, none_text, later_text, later_line, found_line, refused_line, identity_line, entry_lines, outcome_lines, rule_line, version_line, catalog_head, catalog_text, IsContentOutcome, IsEntry, AreEntries}
+use Rattle.ca_catalog.specs.CatalogSays.{claim_line, identity_says, found_says, outcome_says, entry_says, AreRuleWords, SaysItsClaims}
+use Rattle.ca_catalog.proofs.Saying.{is_inner, TextSays, says_none, says_then, says_words, says_comment, line_end, line_more}
+use Rattle.ca_catalog.proofs.NameWords.{word_by_test, path_word, free_word, digits_word, integer_word, decimal_inner, signed_inner, escaped_inner}
+use Rattle.ca_catalog.proofs.CauseLines.{cause_inner, at_inner}
+use Rattle.ca_report.proofs.OneMore.{any_more}
+
+-- the words on a pattern of which no claim is true are on one line
+generations_inner : (n : ℕ) → Every is_inner (generations_word n)
+generations_inner n = elim (cases_Bool (nat_eq n 1)) [ inl e ↦ rw e refl | inr e ↦ rw e refl ]
+
+cells_inner : (n : ℕ) → Every is_inner (cells_word n)
+cells_inner n = elim (cases_Bool (nat_eq n 1)) [ inl e ↦ rw e refl | inr e ↦ rw e refl ]
+
+-- a text with another one on the same line after it
+inner_then : (text more : List ℕ) → Every is_inner text → Every is_inner more → Every is_inner (text ++ more)
+inner_then text more first then = every_append is_inner text more first then
+
+growth_inner : (growth : Growth) → Every is_inner (growth_text growth)
+growth_inner growth =
+    let width = signed_decimal (side_length growth.bounds.x0 growth.bounds.x1) in
+    let height = signed_decimal (side_length growth.bounds.y0 growth.bounds.y1) in
+    let by = codes " by " ++ height in
+    let box = codes ", in a box of " ++ (width ++ by) in
+    inner_then (decimal growth.cells) (cells_word growth.cells ++ box) (decimal_inner growth.cells) (inner_then (cells_word growth.cells) box (cells_inner growth.cells)
+    (inner_then (codes ", in a box of ") (width ++ by) refl (inner_then width by (signed_inner (side_length growth.bounds.x0 growth.bounds.x1))
+    (inner_then (codes " by ") height refl (signed_inner (side_length growth.bounds.y0 growth.bounds.y1))))))
+
+none_inner : (limit last : ℕ) (growth : Growth) → Every is_inner (none_text limit last growth)
+none_inner limit last growth =
+    let after = codes ", after " ++ decimal last in
+    let told = codes ": " ++ (growth_text growth ++ after) in
+    inner_then (codes "none of these within " ++ decimal limit) (generations_word limit ++ told) (inner_then (codes "none of these within ") (decimal limit) refl (decimal_inner limit))
+    (inner_then (generations_word limit) told (generations_inner limit) (inner_then (codes ": ") (growth_text growth ++ after) refl
+    (inner_then (growth_text growth) after (growth_inner growth) (inner_then (codes ", after ") (decimal last) refl (decimal_inner last)))))
+
+-- the line on what a pattern is says its claim, after lines that begin with the version and load the name
+identity_said : (next : List ℕ → ℕ) (cells : Picture) (limit : ℕ) (earlier : List ClaimTextLine) (name : List ℕ) (identity : Identity)
+    → IsIdentity next cells limit identity → IsWord name → IsSome (path_of earlier name) → is_second earlier ≡ true
+    → TextSays earlier (identity_line limit name identity) (identity_says name identity)
+identity_said next cells limit earlier name Empty is word loaded second =
+    says_comment earlier _ (line_more (escaped name) _ (escaped_inner name) (line_more (codes ": no cell is live") _ refl line_end))
+identity_said next cells limit earlier name StillLife is word loaded second =
+    says_words earlier (codes "still" ∷ name ∷ []) (claim_line name kind.Still) (refl, (word, tt)) refl ((refl, refl), tt) (tt, (loaded, tt))
+identity_said next cells limit earlier name (Oscillator period) is word loaded second =
+    let good = is.numbers in
+    let writes = decimal_writes period (omega (arith, good.1)) in
+    says_words earlier (codes "oscillator" ∷ name ∷ decimal period ∷ []) (claim_line name (kind.Oscillator period)) (refl, (word, (digits_word (decimal period) writes.0, tt))) refl
+    ((decimal period, refl, writes.0, writes.1, refl), tt) (good, (loaded, tt))
+identity_said next cells limit earlier name (Spaceship period dx dy) is word loaded second =
+    let good = is.numbers in
+    let writes = decimal_writes period (omega (arith, good.1)) in
+    let x = signed_writes greatest_shift dx (omega arith) good.2 in
+    let y = signed_writes greatest_shift dy (omega arith) good.3 in
+    says_words earlier (codes "spaceship" ∷ name ∷ decimal period ∷ signed_decimal dx ∷ signed_decimal dy ∷ []) (claim_line name (kind.Spaceship period dx dy))
+    (refl, (word, (digits_word (decimal period) writes.0, (integer_word (signed_decimal dx) dx x, (integer_word (signed_decimal dy) dy y, tt))))) refl
+    ((decimal period, signed_decimal dx, signed_decimal dy, refl, writes.0, writes.1, x, y, refl), tt) (good, (loaded, tt))
+identity_said next cells limit earlier name (Dies generations) is word loaded second =
+    let good = is.numbers in
+    let writes = decimal_writes generations (omega (arith, good.1)) in
+    says_words earlier (codes "dies" ∷ name ∷ decimal generations ∷ []) (claim_line name (kind.Dies generations)) (refl, (word, (digits_word (decimal generations) writes.0, tt))) refl
+    ((decimal generations, refl, writes.0, writes.1, refl), second) (good, (loaded, tt))
+identity_said next cells limit earlier name (Unknown growth) is word loaded second =
+    says_comment earlier _ (line_more (escaped name) _ (escaped_inner name) (line_more (codes ": ") _ refl (line_more (none_text limit limit growth) _ (none_inner limit limit growth) line_end)))
+
+-- the words on what a plane is some generations on are on one line
+later_inner : (n limit : ℕ) (identity : Identity) → Every is_inner (later_text n limit identity)
+later_inner n limit Empty = refl
+later_inner n limit StillLife = refl
+later_inner n limit (Oscillator period) = inner_then (codes "oscillator ") (decimal period) refl (decimal_inner period)
+later_inner n limit (Spaceship period dx dy) =
+    let down = 32 ∷ signed_decimal dy in
+    let vector = 32 ∷ (signed_decimal dx ++ down) in
+    inner_then (codes "spaceship ") (decimal period ++ vector) refl (inner_then (decimal period) vector (decimal_inner period) (inner_then (signed_decimal dx) down (signed_inner dx) (signed_inner dy)))
+later_inner n limit (Dies generations) = inner_then (codes "dies ") (decimal generations) refl (decimal_inner generations)
+later_inner n limit (Unknown growth) = none_inner limit (n + limit) growth
+
+-- so the line on it says nothing
+later_said : (n limit : ℕ) (earlier : List ClaimTextLine) (name : List ℕ) (identity : Identity) → IsWord name → TextSays earlier (later_line n limit name identity) []
+later_said n limit earlier name identity word =
+    says_comment earlier _ (line_more (escaped name) _ (escaped_inner name) (line_more (codes " after " ++ decimal n) _ (inner_then (codes " after ") (decimal n) refl (decimal_inner n))
+    (line_more (generations_word n) _ (generations_inner n) (line_more (codes ": ") _ refl (line_more (later_text n limit identity) _ (later_inner n limit identity) line_end)))))
+
+-- the line on what is found says the claim where it is found of the pattern itself
+found_said : (next : List ℕ → ℕ) (cells : Picture) (n limit : ℕ) (earlier : List ClaimTextLine) (name : List ℕ) (identity : Identity)
+    → IsIdentity next cells limit identity → IsWord name → IsSome (path_of earlier name) → is_second earlier ≡ true
+    → TextSays earlier (found_line n limit name identity) (found_says n name identity)
+found_said next cells n limit earlier name identity is word loaded second = elim (cases_Bool (nat_eq n 0)) [
+  | inl e ↦ rw e (identity_said next cells limit earlier name identity is word loaded second)
+  | inr e ↦ rw e (later_said n limit earlier name identity word)
+]
+
+-- a name that is loaded
+loaded_now : (earlier : List ClaimTextLine) (name path : List ℕ) → path_of earlier name ≡ None → IsSome (path_of (earlier ++ Load name path ∷ []) name)
+loaded_now earlier name path free =
+    let here : path_of (Load name path ∷ []) name ≡ Some path = rw (bytes_eq_self name) refl in
+    subst IsSome (sym (path_of-append earlier (Load name path ∷ []) name ∙ ap (λ p. option_or p (path_of (Load name path ∷ []) name)) free ∙ here)) refl
+
+-- lines that begin with the version still do with others after them
+second_stays : (earlier more : List ClaimTextLine) → is_second earlier ≡ true → is_second (earlier ++ more) ≡ true
+second_stays [] more h = absurd (false≢true h)
+second_stays (Version ∷ ls) more h = refl
+second_stays (Rule path ∷ ls) more h = absurd (false≢true h)
+second_stays (Load name path ∷ ls) more h = absurd (false≢true h)
+second_stays (Claims claim ∷ ls) more h = absurd (false≢true h)
+
+-- the comment on a file that is refused says nothing
+refused_said : (earlier : List ClaimTextLine) (name path : List ℕ) (cause : Cause) (line : Option ℕ) → IsWord name → is_claim_path path ≡ true → TextSays earlier (refused_line name path cause line) []
+refused_said earlier name path cause line word fits =
+    says_comment earlier _ (line_more (escaped name) _ (escaped_inner name) (line_more (codes ": ") _ refl (line_more (escaped path) _ (escaped_inner path) (line_more (codes ": ") _ refl
+    (line_more (cause_text cause) _ (cause_inner cause) (line_more (at_line line) _ (at_inner line) line_end))))))
+
+-- the lines on a file say its name and its claim, after lines that begin with the version and don't load the name
+outcome_said : (tables : List TableRule) (work n : ℕ) (scope : Scope) (earlier : List ClaimTextLine) (name path : List ℕ) (content : Content) (outcome : Outcome)
+    → is_claim_path path ≡ true → IsContentOutcome tables work n scope content outcome → IsWord name → path_of earlier name ≡ None → is_second earlier ≡ true
+    → TextSays earlier (outcome_lines n name path outcome) (outcome_says n name path outcome)
+outcome_said tables work n scope earlier name path content Unnameable fits is word free second = absurd is
+outcome_said tables work n scope earlier name path content (Refused why) fits is word free second = refused_said earlier name path why.fault why.line word fits
+outcome_said tables work n scope earlier name path content (outcomes.FaultyRule rule) fits is word free second = refused_said earlier name path (causes.BadTable rule.fault) None word fits
+outcome_said tables work n scope earlier name path (Missing cause) (Identified look) fits is word free second = absurd is
+outcome_said tables work n scope earlier name path (FaultyRule rule) (Identified look) fits is word free second = absurd is
+outcome_said tables work n scope earlier name path (Bytes bytes) (Identified look) fits (cells, rule, holds, (later, stands, is)) word free second =
+    says_then earlier _ _ (Load name path ∷ []) (found_says n name look.identity)
+    (says_words earlier (codes "load" ∷ name ∷ path ∷ []) (Load name path) (refl, (word, (path_word path fits, tt))) refl refl free)
+    (found_said _ later n look.limit (earlier ++ Load name path ∷ []) name look.identity is.identity word (loaded_now earlier name path free) (second_stays earlier (Load name path ∷ []) second))
+
+-- the comment on a file that can't be named says nothing
+unnameable_said : (n : ℕ) (earlier : List ClaimTextLine) (name path : List ℕ) (outcome : Outcome) → outcome ≡ Unnameable → IsWord name
+    → TextSays earlier (outcome_lines n name path outcome) (outcome_says n name path outcome)
+unnameable_said n earlier name path outcome e word =
+    subst (λ (o : Outcome). TextSays earlier (outcome_lines n name path o) (outcome_says n name path o)) (sym e)
+    (says_comment earlier _ (line_more (escaped name) _ (escaped_inner name) (line_more (codes ": ") _ refl (line_more (escaped path) _ (escaped_inner path)
+    (line_more (codes ": no claim text can name this path") _ refl line_end)))))
+
+entry_said : (tables : List TableRule) (work n : ℕ) (scope : Scope) (taken : List (List ℕ)) (earlier : List ClaimTextLine) (subject : Subject) (entry : Entry) → IsEntry tables work n scope taken subject entry
+    → path_of earlier entry.name.items ≡ None → is_second earlier ≡ true → TextSays earlier (entry_lines n entry) (entry_says n entry)
+entry_said tables work n scope taken earlier subject entry is free second =
+    let word = free_word taken subject.path.now entry.name.items is.name in
+    elim is.outcome [
+      | inl (none, e) ↦ unnameable_said n earlier entry.name.items entry.path.now entry.outcome e word
+      | inr (fits, of) ↦ outcome_said tables work n scope earlier entry.name.items entry.path.now subject.content entry.outcome (ap is_claim_path is.path ∙ fits) of word free second
+    ]
+
+-- equal bytes are so in either order
+other_way : (a b : List ℕ) → bytes_eq a b ≡ false → bytes_eq b a ≡ false
+other_way a b h = elim (cases_Bool (bytes_eq b a)) [
+  | inl e ↦ absurd (false≢true (sym h ∙ (bytes_eq-Decides a b).1 (sym ((bytes_eq-Decides b a).0 e))))
+  | inr e ↦ e
+]
+
+-- a claim loads no name
+claim_loads : (name other : List ℕ) (identity : Identity) → path_of (identity_says name identity) other ≡ None
+claim_loads name other Empty = refl
+claim_loads name other StillLife = refl
+claim_loads name other (Oscillator period) = refl
+claim_loads name other (Spaceship period dx dy) = refl
+claim_loads name other (Dies generations) = refl
+claim_loads name other (Unknown growth) = refl
+
+found_loads : (n : ℕ) (name other : List ℕ) (identity : Identity) → path_of (found_says n name identity) other ≡ None
+found_loads n name other identity = elim (cases_Bool (nat_eq n 0)) [ inl e ↦ rw e (claim_loads name other identity) | inr e ↦ rw e refl ]
+
+-- the lines on a file load no other name
+no_other : (n : ℕ) (name path other : List ℕ) (outcome : Outcome) → bytes_eq name other ≡ false → path_of (outcome_says n name path outcome) other ≡ None
+no_other n name path other Unnameable h = refl
+no_other n name path other (Refused why) h = refl
+no_other n name path other (outcomes.FaultyRule rule) h = refl
+no_other n name path other (Identified look) h = rw h (found_loads n name other look.identity)
+
+-- a name that is none of those taken and of one more
+free_after : (taken : List (List ℕ)) (name other : List ℕ) → is_taken (taken ++ name ∷ []) other ≡ false → (is_taken taken other ≡ false) × (bytes_eq other name ≡ false)
+free_after taken name other h =
+    let parts = or_parts (is_taken taken other) (list_any (bytes_eq other) (name ∷ [])) (sym (any_more (bytes_eq other) taken name) ∙ h) in
+    (parts.0, (or_parts (bytes_eq other name) false parts.1).0)
+
+-- the text of entries says their names and claims, after lines that begin with the version and load none of their names
+entries_said : (tables : List TableRule) (work n : ℕ) (scope : Scope) (taken : List (List ℕ)) (earlier : List ClaimTextLine) (subjects : List Subject) (entries : List Entry)
+    → AreEntries tables work n scope taken subjects entries → ((name : List ℕ) → is_taken taken name ≡ false → path_of earlier name ≡ None)
+    → is_second earlier ≡ true → TextSays earlier (flat_map (entry_lines n) entries) (flat_map (entry_says n) entries)
+entries_said tables work n scope taken earlier [] [] all free second = says_none earlier
+entries_said tables work n scope taken earlier [] (e ∷ es) all free second = absurd all
+entries_said tables work n scope taken earlier (s ∷ ss) [] all free second = absurd all
+entries_said tables work n scope taken earlier (s ∷ ss) (e ∷ es) all free second =
+    let one = entry_said tables work n scope taken earlier s e all.0 (free e.name.items all.0.name.new) second in
+    says_then earlier _ _ (entry_says n e) (flat_map (entry_says n) es) one
+    (entries_said tables work n scope (taken ++ e.name.items ∷ []) (earlier ++ entry_says n e) ss es all.1
+    (λ name new.
+    let parts = free_after taken e.name.items name new in
+    path_of-append earlier (entry_says n e) name ∙ ap (λ p. option_or p (path_of (entry_says n e) name)) (free name parts.0)
+    ∙ no_other n e.name.items e.path.now name e.outcome (other_way name e.name.items parts.1))
+    (second_stays earlier (entry_says n e) second))
+
+-- what the lines of rule files say
+abbrev rules_say : List File → List ClaimTextLine
+rules_say rules = map (λ (file : File). Rule file.path.now) rules
+
+rules_said : (earlier : List ClaimTextLine) (rules : List File) → AreRuleWords rules → TextSays earlier (flat_map rule_line rules) (rules_say rules)
+rules_said earlier [] words = says_none earlier
+rules_said earlier (f ∷ fs) words =
+    says_then earlier _ _ (Rule f.path.now ∷ []) (rules_say fs)
+    (says_words earlier (codes "rule" ∷ f.path.now ∷ []) (Rule f.path.now) (refl, (word_by_test f.path.now words.0, tt)) refl refl tt)
+    (rules_said (earlier ++ Rule f.path.now ∷ []) fs words.1)
+
+rules_load : (rules : List File) (name : List ℕ) → path_of (rules_say rules) name ≡ None
+rules_load [] name = refl
+rules_load (f ∷ fs) name = rules_load fs name
+
+-- the line of the version says it
+version_said : TextSays [] version_line (Version ∷ [])
+version_said = says_words [] (codes "claims" ∷ codes "2" ∷ []) Version (refl, (refl, tt)) refl (refl, refl) tt
+
+-- the whole text says all that
+pub catalog_said : SaysItsClaims
+catalog_said subjects rules work n scope text entries words catalog =
+    let version = Version ∷ [] in
+    let before = version ++ rules_say rules in
+    let head = says_then [] version_line (flat_map rule_line rules) version (rules_say rules) version_said (rules_said version rules words) in
+    let all = says_then [] (catalog_head rules) (flat_map (entry_lines n) entries) before (flat_map (entry_says n) entries) head
+    (entries_said catalog.tables work n scope [] before subjects entries catalog.holds (λ name new. rules_load rules name) refl) in
+    let here : lines_of text ≡ all.lines =
+    ap lines_of catalog.lines ∙ ap lines_of (sym (append-nil (catalog_text n rules entries))) ∙ all.split [] ∙ append-nil all.lines in
+    record { said = all.said; reads = subst (λ ls. ClaimLinesSay [] ls all.said) (sym here) all.good; says = all.all }

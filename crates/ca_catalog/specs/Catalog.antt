@@ -1,0 +1,238 @@
+-- What `identify` prints: a claim text with the claims that are true of files, and the lines of `--explain` (our own; docs/CLAIMS.md).
+use Rattle.std.specs.Prelude.{ℕ, List, [], ◌∷◌, ◌++◌, Bool, true, false, Option, None, Vec, codes, decimal, nat_eq, if◌then◌else◌, ◌≡◌, ◌≢◌, ◌+◌, ◌⊎◌}
+use Rattle.std.specs.declared.alloc.Global.{Global}
+use Rattle.std.specs.Fmt.{signed_decimal}
+use Rattle.std.specs.List.{flat_map, list_any, list_all, AllZip}
+use Rattle.ca_rule.specs.declared.table.fault.TableFault.{TableFault}
+use Rattle.ca_pattern.specs.declared.cause.Cause.{Cause}
+use Rattle.ca_pattern.specs.declared.cause.Cause.TheVariants as causes
+use Rattle.ca_pattern.specs.declared.file.File.{File}
+use Rattle.ca_pattern.specs.declared.detailed_fault.DetailedFault.{DetailedFault as RefusedFor}
+use Rattle.ca_report.specs.declared.fault.ToolFault.{ToolFault}
+use Rattle.ca_report.specs.declared.fault.ToolFault.TheVariants as tools
+use Rattle.ca_report.specs.Escaped.{escaped}
+use Rattle.ca_report.specs.Remedies.{cause_remedy, bytes_of, remedy_line}
+use Rattle.ca_plane.specs.Device.{Counted}
+use Rattle.ca_rule.specs.TableNext.{TableRule}
+use Rattle.ca_identify.specs.declared.identity.Identity.{Identity}
+use Rattle.ca_identify.specs.declared.identity.Identity.TheVariants.{Empty, StillLife, Oscillator, Spaceship, Dies, Unknown}
+use Rattle.ca_identify.specs.declared.identity.Growth.{Growth}
+use Rattle.ca_identify.specs.declared.scope.Scope.{Scope}
+use Rattle.ca_pattern.specs.NamedTables.{IsQuietTable, IsTableFault}
+use Rattle.ca_text.specs.Firsts.{FirstBad}
+use Rattle.ca_identify.specs.Identified.{IsLookAt, IsUnidentifiedAfter}
+use Rattle.ca_catalog.specs.declared.entry.Content.{Content}
+use Rattle.ca_catalog.specs.declared.entry.Content.TheVariants.{Bytes, Missing, FaultyRule}
+use Rattle.ca_catalog.specs.declared.entry.Subject.{Subject}
+use Rattle.ca_catalog.specs.declared.entry.Outcome.{Outcome}
+use Rattle.ca_catalog.specs.declared.entry.Outcome.TheVariants as outcomes
+use Rattle.ca_catalog.specs.declared.entry.Outcome.TheVariants.{Unnameable, Identified, Refused}
+use Rattle.ca_catalog.specs.declared.entry.Entry.{Entry}
+use Rattle.ca_report.specs.FaultTexts.{cause_text}
+use Rattle.ca_report.specs.FileLines.{at_line, rule_file_line, pattern_line}
+use Rattle.ca_report.specs.Counts.{generations_word, side_length}
+use Rattle.ca_catalog.specs.Names.{is_claim_path, claim_name, IsFreeName}
+use Rattle.ca_catalog.specs.WrittenOn.{WritesOn, WritesOnFirst, WritesPartOn}
+
+-- the line that gives a name to a file
+abbrev pub load_line : List ℕ → List ℕ → List ℕ
+load_line name path = codes "load " ++ (name ++ (32 ∷ (path ++ 10 ∷ [])))
+
+-- the word for so many cells
+abbrev pub cells_word : ℕ → List ℕ
+cells_word n = if nat_eq n 1 then codes " cell" else codes " cells"
+
+-- how far a plane has grown: how many cells are live, and the width and height of the box round them
+abbrev pub growth_text : Growth → List ℕ
+growth_text growth = decimal growth.cells ++ (cells_word growth.cells ++ (codes ", in a box of "
+    ++ (signed_decimal (side_length growth.bounds.x0 growth.bounds.x1) ++ (codes " by " ++ signed_decimal (side_length growth.bounds.y0 growth.bounds.y1)))))
+
+-- none of the claims is true within the limit, and the plane of the last generation has grown so far
+abbrev pub none_text : (limit last : ℕ) → Growth → List ℕ
+none_text limit last growth =
+    (codes "none of these within " ++ decimal limit) ++ (generations_word limit ++ (codes ": " ++ (growth_text growth ++ (codes ", after " ++ decimal last))))
+
+-- the line of what a pattern is found to be: the claim that says it, or a comment where none of the claims is true within the limit; in each comment, names and
+-- paths have their control characters spelled out
+abbrev pub identity_line : (limit : ℕ) → List ℕ → Identity → List ℕ
+identity_line limit name Empty = codes "# " ++ (escaped name ++ (codes ": no cell is live" ++ 10 ∷ []))
+identity_line limit name StillLife = codes "still " ++ (name ++ 10 ∷ [])
+identity_line limit name (Oscillator period) = codes "oscillator " ++ (name ++ (32 ∷ (decimal period ++ 10 ∷ [])))
+identity_line limit name (Spaceship period dx dy) =
+    codes "spaceship " ++ (name ++ (32 ∷ (decimal period ++ (32 ∷ (signed_decimal dx ++ (32 ∷ (signed_decimal dy ++ 10 ∷ [])))))))
+identity_line limit name (Dies generations) = codes "dies " ++ (name ++ (32 ∷ (decimal generations ++ 10 ∷ [])))
+identity_line limit name (Unknown growth) = codes "# " ++ (escaped name ++ (codes ": " ++ (none_text limit limit growth ++ 10 ∷ [])))
+
+-- what the plane of a pattern is found to be n generations on, in the words of the claims: a comment, since no claim about the file says it
+abbrev pub later_text : (n limit : ℕ) → Identity → List ℕ
+later_text n limit Empty = codes "no cell is live"
+later_text n limit StillLife = codes "still"
+later_text n limit (Oscillator period) = codes "oscillator " ++ decimal period
+later_text n limit (Spaceship period dx dy) = codes "spaceship " ++ (decimal period ++ (32 ∷ (signed_decimal dx ++ (32 ∷ signed_decimal dy))))
+later_text n limit (Dies generations) = codes "dies " ++ decimal generations
+later_text n limit (Unknown growth) = none_text limit (n + limit) growth
+
+abbrev pub later_line : (n limit : ℕ) → List ℕ → Identity → List ℕ
+later_line n limit name identity =
+    codes "# " ++ (escaped name ++ ((codes " after " ++ decimal n) ++ (generations_word n ++ (codes ": " ++ (later_text n limit identity ++ 10 ∷ [])))))
+
+-- the line of what is found: of the pattern, or of its plane n generations on
+abbrev pub found_line : (n limit : ℕ) → List ℕ → Identity → List ℕ
+found_line n limit name identity = if nat_eq n 0 then identity_line limit name identity else later_line n limit name identity
+
+-- the comment on a file that is refused: why, and on which line of the file, where it has such a line
+abbrev pub refused_line : List ℕ → List ℕ → Cause → Option ℕ → List ℕ
+refused_line name path cause line = codes "# " ++ (escaped name ++ (codes ": " ++ (escaped path ++ (codes ": " ++ (cause_text cause ++ (at_line line ++ 10 ∷ []))))))
+
+-- the comment on a file whose path can't be in a claim text
+abbrev pub unnameable_line : List ℕ → List ℕ → List ℕ
+unnameable_line name path = codes "# " ++ (escaped name ++ (codes ": " ++ (escaped path ++ (codes ": no claim text can name this path" ++ 10 ∷ []))))
+
+-- the lines on a file by what came of it
+abbrev pub outcome_lines : (n : ℕ) → List ℕ → List ℕ → Outcome → List ℕ
+outcome_lines n name path Unnameable = unnameable_line name path
+outcome_lines n name path (Refused why) = refused_line name path why.fault why.line
+outcome_lines n name path (outcomes.FaultyRule rule) = refused_line name path (causes.BadTable rule.fault) None
+outcome_lines n name path (Identified look) = load_line name path ++ found_line n look.limit name look.identity
+
+abbrev pub entry_lines : (n : ℕ) → Entry → List ℕ
+entry_lines n entry = outcome_lines n entry.name.items entry.path.now entry.outcome
+
+-- the line that gives the table of a rule file to the text
+abbrev pub rule_line : File → List ℕ
+rule_line file = codes "rule " ++ (file.path.now ++ 10 ∷ [])
+
+-- the first line of the text, since `dies` came with the second version of the language
+abbrev pub version_line : List ℕ
+version_line = codes "claims 2" ++ 10 ∷ []
+
+-- the head of the text: its version and the rule files
+abbrev pub catalog_head : List File → List ℕ
+catalog_head rules = version_line ++ flat_map rule_line rules
+
+-- the whole text: its head, and the lines on each file
+abbrev pub catalog_text : (n : ℕ) → List File → List Entry → List ℕ
+catalog_text n rules entries = catalog_head rules ++ flat_map (entry_lines n) entries
+
+-- the file is identified
+abbrev pub is_identified : Outcome → Bool
+is_identified (Identified look) = true
+is_identified outcome = false
+
+-- the exit status: 2 where a file isn't identified, else 0
+abbrev pub catalog_status : List Entry → ℕ
+catalog_status entries = if list_all (λ entry. is_identified entry.outcome) entries then 0 else 2
+
+-- the line that explains why the pattern of a file isn't identified: the file, with what is known of its fault. A cause that doesn't lie in the file has
+-- no such line
+abbrev pub cause_explanation_of : List ℕ → Cause → Option ℕ → Option (Vec ℕ Global) → List ℕ
+cause_explanation_of path (causes.BadPattern fault) line text = pattern_line path line text
+cause_explanation_of path (causes.BadRule fault) line text = pattern_line path line text
+cause_explanation_of path causes.StateTooLarge line text = pattern_line path line text
+cause_explanation_of path cause line text = []
+
+-- whether a cause lies in the file
+abbrev pub is_in_file : Cause → Bool
+is_in_file (causes.BadPattern fault) = true
+is_in_file (causes.BadRule fault) = true
+is_in_file causes.StateTooLarge = true
+is_in_file cause = false
+
+abbrev pub cause_explanation : List ℕ → RefusedFor Cause → List ℕ
+cause_explanation path refused = cause_explanation_of path refused.fault refused.line refused.rule_text
+
+-- the line that says what helps against it, for a file of this path and with these bytes
+abbrev pub cause_remedy_line : List ℕ → List ℕ → RefusedFor Cause → List ℕ
+cause_remedy_line path bytes refused = remedy_line [] (cause_remedy refused.fault bytes refused.rule_text) path refused.rule_text
+
+-- the line that explains what came of the file of a path, where there is something to tell: the file or its rule file, and what is known of the fault
+abbrev pub outcome_explanation : List ℕ → Outcome → List ℕ
+outcome_explanation path (Refused why) = cause_explanation path why
+outcome_explanation path (outcomes.FaultyRule rule) = rule_file_line rule.path.now rule.fault
+outcome_explanation path outcome = []
+
+-- whether there is such a line
+abbrev pub outcome_has_explanation : Outcome → Bool
+outcome_has_explanation (Refused why) = is_in_file why.fault
+outcome_has_explanation (outcomes.FaultyRule rule) = true
+outcome_has_explanation outcome = false
+
+-- whether there is one for some entry
+abbrev pub catalog_has_explanation : List Entry → Bool
+catalog_has_explanation entries = list_any (λ entry. outcome_has_explanation entry.outcome) entries
+
+-- the line that says what helps against it, where something does: it may go by the bytes of the file, which is the first of some with that path
+abbrev pub outcome_remedy_line : List File → List ℕ → Outcome → List ℕ
+outcome_remedy_line files path (Refused why) = cause_remedy_line path (bytes_of files path) why
+outcome_remedy_line files path outcome = []
+
+-- both lines
+abbrev pub entry_explanation : List File → Entry → List ℕ
+entry_explanation files entry = outcome_explanation entry.path.now entry.outcome ++ outcome_remedy_line files entry.path.now entry.outcome
+
+-- these lines of all entries, in order
+abbrev pub catalog_explanation : List File → List Entry → List ℕ
+catalog_explanation files entries = flat_map (entry_explanation files) entries
+
+-- what came of a file that gave this is true of it: a look at its plane n generations on finds this, or that isn't found out for this reason; or there are no bytes of it,
+-- for this cause; or this rule file of its isn't good
+abbrev pub IsContentOutcome : List TableRule → (work n : ℕ) → Scope → Content → Outcome → Type 0
+IsContentOutcome tables work n scope content Unnameable = ⊥
+IsContentOutcome tables work n scope (Bytes bytes) (Identified look) = IsLookAt bytes.now tables n scope look
+IsContentOutcome tables work n scope (Bytes bytes) (Refused why) = IsUnidentifiedAfter bytes.now tables work n scope.limit why
+IsContentOutcome tables work n scope (Missing cause) (Refused why) = why ≡ record { fault = cause; line = None; rule_text = None }
+IsContentOutcome tables work n scope (FaultyRule rule) (outcomes.FaultyRule told) = told ≡ rule
+IsContentOutcome tables work n scope content outcome = ⊥
+
+-- no claim text can name the file's path; or one can, and what came of the file is true of what it gave
+abbrev pub IsOutcome : List TableRule → (work n : ℕ) → Scope → Subject → Outcome → Type 0
+IsOutcome tables work n scope subject outcome =
+    ((is_claim_path subject.path.now ≡ false) × (outcome ≡ Unnameable))
+    ⊎ ((is_claim_path subject.path.now ≡ true) × IsContentOutcome tables work n scope subject.content outcome)
+
+-- an entry on a file, whose name is none of those taken
+pub record IsEntry (tables : List TableRule) (work n : ℕ) (scope : Scope) (taken : List (List ℕ)) (subject : Subject)
+    (entry : Entry) : Type 0 where
+  pub path : entry.path.now ≡ subject.path.now
+  pub name : IsFreeName taken (claim_name subject.path.now) entry.name.items
+  pub outcome : IsOutcome tables work n scope subject entry.outcome
+
+-- an entry on each file, in order, whose names are different, and none of those taken before
+abbrev pub AreEntries : List TableRule → (work n : ℕ) → Scope → (taken : List (List ℕ)) → List Subject
+    → List Entry → Type 0
+AreEntries tables work n scope taken [] [] = Unit {0}
+AreEntries tables work n scope taken [] (e ∷ es) = ⊥
+AreEntries tables work n scope taken (s ∷ ss) [] = ⊥
+AreEntries tables work n scope taken (s ∷ ss) (e ∷ es) =
+    IsEntry tables work n scope taken s e × AreEntries tables work n scope (taken ++ e.name.items ∷ []) ss es
+
+-- the rule files hold these tables
+abbrev pub AreRuleTables : List File → List TableRule → Type 0
+AreRuleTables rules tables = AllZip (λ file table. IsQuietTable file.bytes.now table) rules tables
+
+-- these are true entries on these files, under the tables of the rule files, and the text has their lines
+pub record IsCatalog (rules : List File) (work n : ℕ) (scope : Scope) (subjects : List Subject) (text : List ℕ)
+    (entries : List Entry) : Type 0 where
+  pub tables : List TableRule
+  pub known : AreRuleTables rules tables
+  pub holds : AreEntries tables work n scope [] subjects entries
+  pub lines : text ≡ catalog_text n rules entries
+
+-- this is the fault of the first rule file that is no good table
+abbrev pub IsFirstBadTable : List File → TableFault → Type 0
+IsFirstBadTable rules fault = FirstBad (λ file. (table : TableRule) × IsQuietTable file.bytes.now table) (λ file. IsTableFault file.bytes.now fault) rules
+
+-- the whole text on these files is written, with these entries
+abbrev pub WritesCatalog : {W : Type 0} → (W → Option (List ℕ)) → Counted W → Counted W → List File → (work n : ℕ) → Scope → List Subject
+    → List Entry → Type 0
+WritesCatalog contents old new rules work n scope subjects entries = WritesOn contents old new (IsCatalog rules work n scope) subjects entries
+
+-- why it isn't, and what is written: a write failed, after a first part of the text on the first so many files; memory is out for the lines on a file, and the
+-- text on those before it is written, or it is out for the rule files, and nothing is; or nothing is, for the fault of the first one that is no good table
+abbrev pub EndsCatalog : {W : Type 0} → (W → Option (List ℕ)) → Counted W → Counted W → List File → (work n : ℕ) → Scope → List Subject
+    → ToolFault → Type 0
+EndsCatalog contents old new rules work n scope subjects tools.Write = WritesPartOn contents old new (IsCatalog rules work n scope) subjects
+EndsCatalog contents old new rules work n scope subjects tools.Memory =
+    WritesOnFirst contents old new (IsCatalog rules work n scope) subjects ⊎ ((rules ≢ []) × (new ≡ old))
+EndsCatalog contents old new rules work n scope subjects (tools.BadTable fault) = IsFirstBadTable rules fault × (new ≡ old)
+EndsCatalog contents old new rules work n scope subjects told = ⊥

@@ -1,0 +1,61 @@
+-- What the text that `identify` prints says, read as a claim text.
+use Rattle.std.specs.Prelude.{◌≡◌, ℕ, List, [], ◌∷◌, ◌++◌, map, true, Option, None, nat_eq, if◌then◌else◌}
+use Rattle.std.specs.List.{flat_map, AllByRecursion}
+use Rattle.ca_text.specs.declared.line.Kind.{Kind}
+use Rattle.ca_text.specs.declared.line.Kind.TheVariants as kind
+use Rattle.ca_pattern.specs.declared.file.File.{File}
+use Rattle.ca_identify.specs.declared.identity.Identity.{Identity}
+use Rattle.ca_identify.specs.declared.identity.Identity.TheVariants.{Empty, StillLife, Oscillator, Spaceship, Dies, Unknown}
+use Rattle.ca_identify.specs.declared.scope.Scope.{Scope}
+use Rattle.ca_text.specs.Text.{ClaimTextLine, Version, Rule, Load, Claims, IsClaimText, said_lines}
+use Rattle.ca_catalog.specs.declared.entry.Outcome.{Outcome}
+use Rattle.ca_catalog.specs.declared.entry.Outcome.TheVariants.{Identified}
+use Rattle.ca_catalog.specs.declared.entry.Entry.{Entry}
+use Rattle.ca_catalog.specs.declared.entry.Subject.{Subject}
+use Rattle.ca_catalog.specs.Names.{is_word}
+use Rattle.ca_catalog.specs.Catalog.{IsCatalog}
+
+-- a claim of this kind about the pattern of a name
+abbrev pub claim_line : List ℕ → Kind → ClaimTextLine
+claim_line name kind = Claims (record { pattern = name; other = None; kind = kind })
+
+-- the claim that says what a pattern is; none where none of them is true of it
+abbrev pub identity_says : List ℕ → Identity → List ClaimTextLine
+identity_says name Empty = []
+identity_says name StillLife = claim_line name kind.Still ∷ []
+identity_says name (Oscillator period) = claim_line name (kind.Oscillator period) ∷ []
+identity_says name (Spaceship period dx dy) = claim_line name (kind.Spaceship period dx dy) ∷ []
+identity_says name (Dies generations) = claim_line name (kind.Dies generations) ∷ []
+identity_says name (Unknown growth) = []
+
+-- the same where it is found of the pattern itself; of its plane some generations on no line is a claim
+abbrev pub found_says : ℕ → List ℕ → Identity → List ClaimTextLine
+found_says n name identity = if nat_eq n 0 then identity_says name identity else []
+
+-- the name of a file that is identified, and its claim; nothing of any other file
+abbrev pub outcome_says : ℕ → List ℕ → List ℕ → Outcome → List ClaimTextLine
+outcome_says n name path (Identified look) = Load name path ∷ found_says n name look.identity
+outcome_says n name path outcome = []
+
+abbrev pub entry_says : ℕ → Entry → List ClaimTextLine
+entry_says n entry = outcome_says n entry.name.items entry.path.now entry.outcome
+
+-- the version, the rule files, and each file's lines
+abbrev pub catalog_says : ℕ → List File → List Entry → List ClaimTextLine
+catalog_says n rules entries = Version ∷ (map (λ file. Rule file.path.now) rules ++ flat_map (entry_says n) entries)
+
+-- the text is a claim text, and its lines that aren't skipped say just this
+pub record SaysOf (text : List ℕ) (lines : List ClaimTextLine) : Type 0 where
+  pub said : List (Option ClaimTextLine)
+  pub reads : IsClaimText text said
+  pub says : said_lines said ≡ lines
+
+-- each rule file's path is a word
+abbrev pub AreRuleWords : List File → Type 0
+AreRuleWords rules = AllByRecursion (λ file. is_word file.path.now ≡ true) rules
+
+-- the text that `identify` prints says just the claims that are true of the patterns, and so does what is printed of it after each file, which is the text on
+-- the first so many of the files; after some generations it makes no claim
+abbrev pub SaysItsClaims : Type 0
+SaysItsClaims = (subjects : List Subject) (rules : List File) (work n : ℕ) (scope : Scope) (text : List ℕ) (entries : List Entry) → AreRuleWords rules
+    → IsCatalog rules work n scope subjects text entries → SaysOf text (catalog_says n rules entries)

@@ -1,0 +1,5 @@
+pub mod Catalog
+pub mod CatalogSays
+pub mod Names
+pub mod WrittenOn
+pub mod inner

@@ -1,0 +1,44 @@
+//! Files that are to be identified, and what came of them.
+
+use ca_identify::Look;
+use ca_pattern::{Cause, DetailedFault};
+use ca_report::FaultyRule;
+
+/// What a file that is to be identified gave.
+#[derive(Clone, Copy, Debug)]
+pub enum Content<'a> {
+    /// Its bytes.
+    Bytes(&'a [u8]),
+    /// No bytes, for this cause.
+    Missing(Cause),
+    /// Nothing that is to be identified: its rule text is the name for which this rule file was found.
+    FaultyRule(FaultyRule<'a>),
+}
+
+/// A file that is to be identified: its path, and what it gave.
+#[derive(Clone, Copy, Debug)]
+pub struct Subject<'a> {
+    pub path: &'a [u8],
+    pub content: Content<'a>,
+}
+
+/// What came of a file that is to be identified.
+#[derive(Drop)]
+pub(crate) enum Outcome<'a> {
+    /// No claim text can name its path.
+    Unnameable,
+    /// It isn't found out what its pattern is, for this reason.
+    Refused(DetailedFault<Cause>),
+    /// The rule file of its rule isn't good.
+    FaultyRule(FaultyRule<'a>),
+    /// Its pattern is this, within so many generations.
+    Identified(Look),
+}
+
+/// A file of a claim text: its name there, its path, and what came of it.
+#[derive(Drop)]
+pub(crate) struct Entry<'a> {
+    pub(crate) name: Vec<u8>,
+    pub(crate) path: &'a [u8],
+    pub(crate) outcome: Outcome<'a>,
+}

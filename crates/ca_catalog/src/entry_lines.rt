@@ -1,0 +1,218 @@
+//! The lines of a claim text on the files that were to be identified.
+
+ghost use Rattle.std.specs.Prelude.{◌≡◌, ◌+◌, ◌<◌, ◌^◌, ◌++◌, ◌∷◌, [], codes, decimal, OnOk};
+ghost use Rattle.std.specs.Fmt.{signed_decimal};
+ghost use Rattle.ca_identify.specs.declared.identity.Identity.TheVariants.{Unknown};
+ghost use Rattle.ca_catalog.specs.declared.entry.Outcome.TheVariants.{Identified};
+ghost use Rattle.ca_plane.specs.Puts.{Puts};
+ghost use Rattle.ca_catalog.specs.Catalog.{load_line, identity_line, refused_line, unnameable_line, later_text};
+ghost use Rattle.ca_catalog.specs.Catalog.{later_line, outcome_lines, entry_lines, rule_line};
+ghost use Rattle.ca_report.specs.Pieces.{pieces_text};
+ghost use Rattle.ca_catalog.specs.inner.Searches.{IsWithin};
+
+use crate::entry::{Entry, Outcome};
+use crate::growth::push_none;
+use ca_identify::{Growth, Identity, Look};
+use ca_pattern::{Cause, File};
+use ca_plane::Memory;
+use ca_plane::text::push_text;
+use ca_report::{
+    Piece, at_pieces, cause_pieces, generations_word, in_pieces, push_counted, push_escaped,
+    push_pieces,
+};
+
+fn load_pieces<'a>(name: &'a [u8], path: &'a [u8]) -> [Piece<'a>; 5]
+    ensures { pieces_text result ≡ load_line name.now path.now }
+{
+    in_pieces![text b"load ", text name, text b" ", text path, text b"\n"]
+}
+
+// The line of a claim about one number of generations in pieces.
+fn number_pieces<'a>(word: &'a [u8], name: &'a [u8], number: u64) -> [Piece<'a>; 5]
+    ensures { pieces_text result ≡ word.now ++ (name.now ++ (32 ∷ (decimal number ++ 10 ∷ []))) }
+{
+    in_pieces![text word, text name, text b" ", number number, text b"\n"]
+}
+
+fn spaceship_pieces<'a>(name: &'a [u8], period: u64, dx: i64, dy: i64) -> [Piece<'a>; 9]
+    ensures { pieces_text result ≡ codes "spaceship " ++ (name.now ++ (32 ∷ (decimal period
+        ++ (32 ∷ (signed_decimal dx ++ (32 ∷ (signed_decimal dy ++ 10 ∷ []))))))) }
+{
+    in_pieces![
+        text b"spaceship ", text name, text b" ", number period,
+        text b" ", integer dx, text b" ", integer dy, text b"\n",
+    ]
+}
+
+// Puts the comment on a pattern of which no claim is true within the limit.
+fn push_unknown(out: &mut Vec<u8>, limit: u64, name: &[u8], growth: Growth) -> Result<(), Memory>
+    ensures { OnOk result (Puts out.old.items out.new.items (identity_line limit name.now (Unknown growth))) }
+{
+    push_text(out, b"# ")?;
+    push_escaped(out, name)?;
+    push_text(out, b": ")?;
+    push_none(out, limit, limit, growth)?;
+    push_text(out, b"\n")
+}
+
+// Puts the line of what a pattern is found to be.
+fn push_identity(
+    out: &mut Vec<u8>,
+    limit: u64,
+    name: &[u8],
+    identity: Identity,
+) -> Result<(), Memory>
+    ensures { OnOk result (Puts out.old.items out.new.items (identity_line limit name.now identity)) }
+{
+    match identity {
+        Identity::Empty => push_pieces(
+            out,
+            &in_pieces![text b"# ", escaped name, text b": no cell is live\n"],
+        ),
+        Identity::StillLife => {
+            push_pieces(out, &in_pieces![text b"still ", text name, text b"\n"])
+        }
+        Identity::Oscillator { period } => {
+            push_pieces(out, &number_pieces(b"oscillator ", name, period))
+        }
+        Identity::Spaceship { period, dx, dy } => {
+            push_pieces(out, &spaceship_pieces(name, period, dx, dy))
+        }
+        Identity::Dies { generations } => {
+            push_pieces(out, &number_pieces(b"dies ", name, generations))
+        }
+        Identity::Unknown { growth } => push_unknown(out, limit, name, growth),
+    }
+}
+
+// Puts what the plane of a pattern is found to be some generations on.
+fn push_later_text(
+    out: &mut Vec<u8>,
+    generations: u64,
+    limit: u64,
+    identity: Identity,
+) -> Result<(), Memory>
+    requires { generations + limit < 2 ^ 64 }
+    ensures { OnOk result (Puts out.old.items out.new.items (later_text generations limit identity)) }
+{
+    match identity {
+        Identity::Empty => push_text(out, b"no cell is live"),
+        Identity::StillLife => push_text(out, b"still"),
+        Identity::Oscillator { period } => push_counted(out, b"oscillator ", period),
+        Identity::Spaceship { period, dx, dy } => push_pieces(
+            out,
+            &in_pieces![text b"spaceship ", number period, text b" ", integer dx, text b" ", integer dy],
+        ),
+        Identity::Dies { generations } => push_counted(out, b"dies ", generations),
+        Identity::Unknown { growth } => push_none(out, limit, generations + limit, growth),
+    }
+}
+
+// Puts the comment on what the plane of a pattern is found to be some generations on.
+fn push_later(
+    out: &mut Vec<u8>,
+    generations: u64,
+    limit: u64,
+    name: &[u8],
+    identity: Identity,
+) -> Result<(), Memory>
+    requires { generations + limit < 2 ^ 64 }
+    ensures { OnOk result (Puts out.old.items out.new.items
+        (later_line generations limit name.now identity)) }
+{
+    push_text(out, b"# ")?;
+    push_escaped(out, name)?;
+    push_counted(out, b" after ", generations)?;
+    push_text(out, generations_word(generations))?;
+    push_text(out, b": ")?;
+    push_later_text(out, generations, limit, identity)?;
+    push_text(out, b"\n")
+}
+
+// The comment on a file that is refused in pieces.
+fn refused_pieces<'a>(
+    name: &'a [u8],
+    path: &'a [u8],
+    cause: Cause,
+    line: Option<u64>,
+) -> [Piece<'a>; 10]
+    ensures { pieces_text result ≡ refused_line name.now path.now cause line }
+{
+    let [first, second] = cause_pieces(cause);
+    let [at, number] = at_pieces(line);
+    in_pieces![
+        text b"# ", escaped name, text b": ", escaped path, text b": ",
+        piece first, piece second, piece at, piece number, text b"\n",
+    ]
+}
+
+// The comment on a file whose path can't be in a claim text in pieces.
+fn unnameable_pieces<'a>(name: &'a [u8], path: &'a [u8]) -> [Piece<'a>; 5]
+    ensures { pieces_text result ≡ unnameable_line name.now path.now }
+{
+    in_pieces![
+        text b"# ", escaped name, text b": ", escaped path, text b": no claim text can name this path\n",
+    ]
+}
+
+// Puts the lines on a file that is identified: of its pattern, or of its plane some generations on.
+fn push_identified(
+    out: &mut Vec<u8>,
+    generations: u64,
+    name: &[u8],
+    path: &[u8],
+    look: Look,
+) -> Result<(), Memory>
+    requires { generations + look.limit < 2 ^ 64 }
+    ensures { OnOk result (Puts out.old.items out.new.items
+        (outcome_lines generations name.now path.now (Identified look))) }
+{
+    let Look { identity, limit } = look;
+    push_pieces(out, &load_pieces(name, path))?;
+    if generations == 0 {
+        return push_identity(out, limit, name, identity);
+    }
+    push_later(out, generations, limit, name, identity)
+}
+
+/// Puts the lines on a file after what `out` holds; it was looked at from so many generations on.
+///
+/// # Errors
+///
+/// Fails where there is no memory for them.
+pub(crate) fn push_entry(
+    out: &mut Vec<u8>,
+    generations: u64,
+    entry: &Entry<'_>,
+) -> Result<(), Memory>
+    requires { IsWithin generations entry.now.outcome }
+    ensures { OnOk result (Puts out.old.items out.new.items (entry_lines generations entry.now)) }
+{
+    match &entry.outcome {
+        Outcome::Unnameable => push_pieces(out, &unnameable_pieces(&entry.name, entry.path)),
+        Outcome::Refused(why) => push_pieces(
+            out,
+            &refused_pieces(&entry.name, entry.path, why.fault, why.line),
+        ),
+        Outcome::FaultyRule(rule) => push_pieces(
+            out,
+            &refused_pieces(&entry.name, entry.path, Cause::BadTable(rule.fault), None),
+        ),
+        Outcome::Identified(look) => {
+            push_identified(out, generations, &entry.name, entry.path, *look)
+        }
+    }
+}
+
+/// Puts the line that gives the table of a rule file to the text.
+///
+/// # Errors
+///
+/// Fails where there is no memory for it.
+pub(crate) fn push_rule(out: &mut Vec<u8>, file: &File<'_>) -> Result<(), Memory>
+    ensures { OnOk result (Puts out.old.items out.new.items (rule_line file.now)) }
+{
+    push_text(out, b"rule ")?;
+    push_text(out, file.path)?;
+    push_text(out, b"\n")
+}

@@ -1,0 +1,4 @@
+pub mod DrawnFiles
+pub mod OfFiles
+pub mod OneDrawing
+pub mod RuleFiles

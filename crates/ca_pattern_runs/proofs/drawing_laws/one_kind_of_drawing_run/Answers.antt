@@ -1,0 +1,20 @@
+use Rattle.ca_pattern_runs.specs.Drawn.{IsDrawn, IsDrawnCaption, IsDrawFault}
+use Rattle.ca_pattern_runs.proofs.OneDrawing.{one_drawn, one_drawn_caption, drawn_or_fault, one_draw_fault}
+use Rattle.ca_pattern_runs.proofs.RuleFiles.{one_text_under, text_or_fault_under, one_fault_under}
+use Rattle.ca_pattern_runs.proofs.drawing_laws.one_kind_of_drawing_run.Goals as goal
+
+pub returns-clause-one_picture : goal.returns-clause-one_picture
+returns-clause-one_picture c = λ bytes rule request one two h k.
+    one_text_under rule (λ tables. IsDrawn bytes tables request) (λ tables. one_drawn bytes tables request) one two h k
+
+pub returns-clause-one_caption : goal.returns-clause-one_caption
+returns-clause-one_caption c = λ bytes rule request one two h k.
+    one_text_under rule (λ tables. IsDrawnCaption bytes tables request) (λ tables. one_drawn_caption bytes tables request) one two h k
+
+pub returns-clause-picture_or_fault : goal.returns-clause-picture_or_fault
+returns-clause-picture_or_fault c = λ bytes rule request text told m w h k.
+    text_or_fault_under rule (λ tables. IsDrawFault bytes tables request) (λ tables. IsDrawn bytes tables request text) told m (λ tables. drawn_or_fault bytes tables request text told m w) h k
+
+pub returns-clause-one_fault : goal.returns-clause-one_fault
+returns-clause-one_fault c = λ bytes rule request one two m w o v h k.
+    one_fault_under rule (λ tables. IsDrawFault bytes tables request) one two m o (λ tables. one_draw_fault bytes tables request one two m w o v) h k

@@ -1,0 +1,64 @@
+-- What is drawn of a pattern file, and why nothing is.
+use Rattle.std.specs.Prelude.{◌≡◌, ℕ, ◌+◌, ◌<◌, ℤ, List, Option, MatchOption}
+use Rattle.ca_plane.specs.Plane.{Picture}
+use Rattle.ca_plane.specs.Generations.{after}
+use Rattle.ca_plane.specs.Limits.{generation_limit}
+use Rattle.ca_quad.specs.declared.tree.WideBounds.{WideBounds}
+use Rattle.ca_quad.specs.Boxes.{IsDead, IsLeastWideBox}
+use Rattle.ca_rule.specs.TableNext.{TableRule}
+use Rattle.ca_rule.specs.Rule.{RuleValue, next_of, states_of}
+use Rattle.ca_draw.specs.declared.window.Window.{Window}
+use Rattle.ca_draw.specs.Drawings.{drawing}
+use Rattle.ca_pattern.specs.Evolved.{HoldsSmallRuledPattern, IsReachFault}
+use Rattle.ca_pattern_runs.specs.declared.drawing.DrawRequest.{DrawRequest}
+use Rattle.ca_report.specs.declared.fault.ToolFault.{ToolFault}
+use Rattle.ca_report.specs.declared.fault.ToolFault.TheVariants as tools
+use Rattle.ca_draw.specs.declared.view.WindowFault.{WindowFault}
+use Rattle.ca_pattern_runs.specs.Captions.{caption_text}
+use Rattle.ca_draw.specs.Views.{IsBoxShown, box_shown, IsWindowFor, IsNoWindowFor}
+use Rattle.ca_pattern_runs.specs.Runs.{TellsReach}
+
+-- the text is a picture of these cells, of so many states: that of the window that is asked for, of the box that is drawn of them
+pub record IsPictureOf (request : DrawRequest) (states : ℕ) (cells : ℤ → ℤ → ℕ) (text : List ℕ) : Type 0 where
+  pub box : WideBounds
+  pub window : Window
+  pub is_box : IsBoxShown cells box
+  pub is_window : IsWindowFor request.view request.format box window
+  pub drawn : text ≡ drawing (record { format = request.format; states = states; zoom = request.view.zoom }) cells window
+
+-- the text is the caption of that picture, at this generation: it tells the least box round the live cells, if there are any, and the scale of the window
+pub record IsCaptionOf (request : DrawRequest) (generation : ℕ) (cells : ℤ → ℤ → ℕ) (text : List ℕ) : Type 0 where
+  pub bounds : Option WideBounds
+  pub window : Window
+  pub is_bounds : MatchOption bounds (IsDead cells) (IsLeastWideBox cells)
+  pub is_window : IsWindowFor request.view request.format (box_shown bounds) window
+  pub captioned : text ≡ caption_text bounds window.scale generation
+
+-- there is no window of these cells as it is asked for
+abbrev pub HasNoWindow : DrawRequest → (ℤ → ℤ → ℕ) → WindowFault → Type 0
+HasNoWindow request cells fault = (box : WideBounds) × IsBoxShown cells box × IsNoWindowFor request.view request.format box fault
+
+-- this holds of the cells that a file's pattern has so many generations on, at every x and y, of its rule's number of states, and of the generation,
+-- which is then below the limit
+pub record HoldsOfLater (bytes : List ℕ) (tables : List TableRule) (n : ℕ)
+    (Holds : (states generation : ℕ) → (ℤ → ℤ → ℕ) → Type 0) : Type 0 where
+  pub cells : Picture
+  pub rule : RuleValue
+  pub generation : ℕ
+  pub begins : HoldsSmallRuledPattern bytes tables cells rule generation
+  pub low : generation + n < generation_limit
+  pub holds : Holds (states_of rule) (generation + n) (after (next_of rule) cells n)
+
+-- the text is what is drawn of a file with these bytes: a picture of its cells after the generations that are asked for
+abbrev pub IsDrawn : List ℕ → List TableRule → DrawRequest → List ℕ → Type 0
+IsDrawn bytes tables request text = HoldsOfLater bytes tables request.generations (λ states generation cells. IsPictureOf request states cells text)
+
+-- and the text is the caption of that
+abbrev pub IsDrawnCaption : List ℕ → List TableRule → DrawRequest → List ℕ → Type 0
+IsDrawnCaption bytes tables request text = HoldsOfLater bytes tables request.generations (λ states generation cells. IsCaptionOf request generation cells text)
+
+-- the first reason for which nothing is drawn of such a file: its plane isn't reached; or it has no window as it is asked for. Out of memory may
+-- come before any of them, where memory may run out for the bytes
+abbrev pub IsDrawFault : List ℕ → List TableRule → DrawRequest → ToolFault → Type 0
+IsDrawFault bytes tables request (tools.Window fault) = HoldsOfLater bytes tables request.generations (λ states generation cells. HasNoWindow request cells fault)
+IsDrawFault bytes tables request told = TellsReach (IsReachFault bytes tables request.generations request.limits.work) told

@@ -1,0 +1,139 @@
+-- What a run over a pattern file reads and writes.
+use Rattle.std.specs.Prelude.{◌≡◌, ◌≢◌, ℕ, List, [], ◌∷◌, Option, None, Some, Result, ◌⊎◌}
+use Rattle.ca_plane.specs.Device.{Counted}
+use Rattle.ca_rule.specs.TableNext.{TableRule}
+use Rattle.ca_rule.specs.TableFaults as table_faults
+use Rattle.ca_rule.specs.declared.table.fault.TableFault.{TableFault}
+use Rattle.ca_rule.specs.declared.table.fault.TableFault.TheVariants as table_fault
+use Rattle.ca_pattern.specs.NamedTables.{IsQuietTable}
+use Rattle.ca_pattern.specs.Converted.{IsSummary, IsSummaryFault, IsConverted, IsConvertFault}
+use Rattle.ca_pattern.specs.Evolved.{IsSummaryAfter, IsReachFault, IsConvertedAfter, IsConvertFaultAfter}
+use Rattle.ca_pattern.specs.declared.pattern.Summary.{Summary}
+use Rattle.ca_pattern.specs.declared.conversion.ConvertFault.{ConvertFault}
+use Rattle.ca_pattern.specs.declared.conversion.ConvertFault.TheVariants as convert_fault
+use Rattle.ca_pattern.specs.declared.reached.ReachFault.{ReachFault}
+use Rattle.ca_pattern.specs.declared.reached.ReachFault.TheVariants as reach_fault
+use Rattle.ca_report.specs.declared.fault.InputFault.{InputFault}
+use Rattle.ca_report.specs.declared.fault.InputFault.TheVariants as inputs
+use Rattle.ca_report.specs.declared.fault.ToolFault.{ToolFault}
+use Rattle.ca_report.specs.declared.fault.ToolFault.TheVariants.{Input, BadTable, Convert, GenTooLarge, Work, Range, Memory}
+use Rattle.ca_pattern_runs.specs.declared.pattern_run.TextForm.{TextForm}
+use Rattle.ca_pattern_runs.specs.declared.pattern_run.TextForm.TheVariants as forms
+use Rattle.ca_pattern_runs.specs.Shown.{summary_text}
+use Rattle.ca_report.specs.Writing.{WritesOneOf}
+use Rattle.ca_report.specs.Reading.{ReadsAll, GivesTooMany, GivesSome, TakesFile}
+
+-- what a file gave that isn't read; of a read that fails the device tells
+abbrev pub IsInputFault : Option (List ℕ) → Option (List ℕ) → InputFault → Type 0
+IsInputFault old new inputs.Read = Unit {0}
+IsInputFault old new inputs.TooLong = GivesTooMany old new
+IsInputFault old new inputs.Memory = GivesSome old new
+
+-- the tables that a run knows: that of the rule file, or none without one
+abbrev pub AreKnownTables : Option (List ℕ) → List TableRule → Type 0
+AreKnownTables None tables = tables ≡ []
+AreKnownTables (Some rule) tables = (table : TableRule) × IsQuietTable rule table × (tables ≡ table ∷ [])
+
+-- the rule file is a table, and this holds of the tables
+pub record HoldsOfTables (rule : Option (List ℕ)) (Holds : List TableRule → Type 0) : Type 0 where
+  pub tables : List TableRule
+  pub known : AreKnownTables rule tables
+  pub holds : Holds tables
+
+-- the file was read whole, the rule file is a table, and this holds of the file's bytes and the tables
+pub record HoldsOfReadFile (old new rule : Option (List ℕ))
+    (Holds : List ℕ → List TableRule → Type 0) : Type 0 where
+  pub bytes : List ℕ
+  pub tables : List TableRule
+  pub read : ReadsAll old new bytes
+  pub known : AreKnownTables rule tables
+  pub holds : Holds bytes tables
+
+-- the text is the five lines of a summary that is true of the bytes
+pub record IsShown (bytes : List ℕ) (tables : List TableRule) (text : List ℕ) : Type 0 where
+  pub summary : Summary
+  pub holds : IsSummary bytes tables summary
+  pub lines : text ≡ summary_text summary
+
+-- what is wrong with the rule file, or that its table may be out of memory
+abbrev pub IsRuleFileFault : Option (List ℕ) → TableFault → Type 0
+IsRuleFileFault rule fault = (text : List ℕ) × (rule ≡ Some text) × table_faults.IsTableTextFault text fault
+
+-- a run tells what is wrong with its rule file, where IsFault says that: out of memory is told alone
+abbrev pub TellsTable : (TableFault → Type 0) → ToolFault → Type 0
+TellsTable IsFault (BadTable fault) = (fault ≢ table_fault.Memory) × IsFault fault
+TellsTable IsFault Memory = IsFault table_fault.Memory
+TellsTable IsFault told = ⊥
+
+-- the same of why its pattern isn't shown or converted
+abbrev pub TellsConvert : (ConvertFault → Type 0) → ToolFault → Type 0
+TellsConvert IsFault (Convert fault) = (fault ≢ convert_fault.Memory) × IsFault fault
+TellsConvert IsFault Memory = IsFault convert_fault.Memory
+TellsConvert IsFault told = ⊥
+
+-- and of why the plane of its pattern some generations on isn't reached or told
+abbrev pub TellsReach : (ReachFault → Type 0) → ToolFault → Type 0
+TellsReach IsFault GenTooLarge = IsFault reach_fault.GenTooLarge
+TellsReach IsFault Work = IsFault reach_fault.Work
+TellsReach IsFault Range = IsFault reach_fault.Range
+TellsReach IsFault told = TellsConvert (λ fault. IsFault (reach_fault.Convert fault)) told
+
+-- why a run over bytes wrote nothing, where IsFault says what it tells of them under some tables: the rule file is no good table, or memory is out
+-- for it; or it is a table, and that holds
+abbrev pub IsBytesFault : Option (List ℕ) → (List TableRule → ToolFault → Type 0) → ToolFault → Type 0
+IsBytesFault rule IsFault told = TellsTable (IsRuleFileFault rule) told ⊎ HoldsOfTables rule (λ tables. IsFault tables told)
+
+-- a run over the bytes of a pattern file, and over the text of a rule file, if there is one: a text that IsText of them is written, with the status
+-- 0; or a first part of such a text, and then a write fails; or nothing, for a fault that holds
+abbrev pub WritesUnder : {W : Type 0} → (W → Option (List ℕ)) → Counted W → Counted W → Option (List ℕ)
+    → (List TableRule → List ℕ → Type 0)
+    → (List TableRule → ToolFault → Type 0) → Result ℕ ToolFault → Type 0
+WritesUnder contents old new rule IsText IsFault result = WritesOneOf contents old new
+    (λ text status. (status ≡ 0) × HoldsOfTables rule (λ tables. IsText tables text))
+    (λ text. HoldsOfTables rule (λ tables. IsText tables text))
+    (IsBytesFault rule IsFault) result
+
+-- the text is what is written of a pattern file with these bytes: the five lines of a true summary, or the file that it is converted to
+abbrev pub IsFormOf : TextForm → List ℕ → List TableRule → List ℕ → Type 0
+IsFormOf forms.Summary bytes tables text = IsShown bytes tables text
+IsFormOf (forms.File target) bytes tables text = IsConverted bytes tables target text
+
+-- why it isn't written
+abbrev pub IsFormFault : TextForm → List ℕ → List TableRule → ConvertFault → Type 0
+IsFormFault forms.Summary bytes tables fault = IsSummaryFault bytes tables fault
+IsFormFault (forms.File target) bytes tables fault = IsConvertFault bytes tables target fault
+
+-- the text is the five lines of a summary that is true of the plane of the bytes' pattern n generations on
+pub record IsShownAfter (bytes : List ℕ) (tables : List TableRule) (n : ℕ) (text : List ℕ) : Type 0 where
+  pub summary : Summary
+  pub holds : IsSummaryAfter bytes tables n summary
+  pub lines : text ≡ summary_text summary
+
+-- what is written of that plane
+abbrev pub IsFormAfter : TextForm → List ℕ → List TableRule → ℕ → List ℕ → Type 0
+IsFormAfter forms.Summary bytes tables n text = IsShownAfter bytes tables n text
+IsFormAfter (forms.File target) bytes tables n text = IsConvertedAfter bytes tables n target text
+
+-- why none of it is written
+abbrev pub IsFormFaultAfter : TextForm → List ℕ → List TableRule → ℕ → (work : ℕ) → ReachFault → Type 0
+IsFormFaultAfter forms.Summary bytes tables n work fault = IsReachFault bytes tables n work fault
+IsFormFaultAfter (forms.File target) bytes tables n work fault = IsConvertFaultAfter bytes tables n work target fault
+
+-- why a run wrote nothing, where IsFault says why bytes under some tables are refused: the file isn't read; or it is, and a run over its bytes writes
+-- nothing
+abbrev pub IsRunFault : Option (List ℕ) → Option (List ℕ) → Option (List ℕ)
+    → (List ℕ → List TableRule → ConvertFault → Type 0) → ToolFault → Type 0
+IsRunFault old new rule IsFault (Input fault) = IsInputFault old new fault
+IsRunFault old new rule IsFault told = (bytes : List ℕ) × ReadsAll old new bytes × IsBytesFault rule (λ tables. TellsConvert (IsFault bytes tables)) told
+
+-- a run over a file, and over the text of a rule file, if there is one: the file is read, and a text that IsText of its bytes is written, with the
+-- status 0; or a first part of such a text, and then a write fails; or nothing, for a fault that holds
+pub record RunsOver {R W : Type 0} (remaining : R → Option (List ℕ)) (contents : W → Option (List ℕ))
+    (input read : Counted R) (rule : Option (List ℕ))
+    (output written : Counted W) (IsText : List ℕ → List TableRule → List ℕ → Type 0) (IsFault : List ℕ → List TableRule → ConvertFault → Type 0)
+    (result : Result ℕ ToolFault) : Type 0 where
+  pub reads : TakesFile remaining input read (Input inputs.Read) result
+  pub writes : WritesOneOf contents output written
+      (λ text status. (status ≡ 0) × HoldsOfReadFile (remaining input.inner) (remaining read.inner) rule (λ bytes tables. IsText bytes tables text))
+      (λ text. HoldsOfReadFile (remaining input.inner) (remaining read.inner) rule (λ bytes tables. IsText bytes tables text))
+      (IsRunFault (remaining input.inner) (remaining read.inner) rule IsFault) result

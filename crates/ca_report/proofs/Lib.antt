@@ -1,0 +1,5 @@
+pub mod After
+pub mod Escaping
+pub mod InPieces
+pub mod OneMore
+pub mod Taken

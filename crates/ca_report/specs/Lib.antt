@@ -1,0 +1,11 @@
+pub mod Counts
+pub mod Escaped
+pub mod FaultTexts
+pub mod FileLines
+pub mod Outside
+pub mod Pieces
+pub mod Reading
+pub mod Remedies
+pub mod RulePaths
+pub mod Writing
+pub mod inner

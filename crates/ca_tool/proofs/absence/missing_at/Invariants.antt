@@ -1,7 +1,0 @@
-use Rattle.std.proofs.Common.{◌≡◌, drop}
-use Rattle.ca_tool.specs.Printed.{missing_at}
-use Rattle.ca_tool.proofs.absence.missing_at.Given as goal
-
--- it is the first with this path among those that are left
-abbrev pub invariant-files : goal.invariant-files
-invariant-files l = missing_at l.fn.missing l.fn.path ≡ missing_at (drop l.index l.fn.missing) l.fn.path

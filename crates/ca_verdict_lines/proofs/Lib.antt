@@ -1,0 +1,3 @@
+pub mod ReportedClaims
+pub mod Statuses
+pub mod WrittenTexts

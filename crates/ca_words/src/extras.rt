@@ -1,0 +1,111 @@
+//! What a run on claims is asked for besides these, and how much each may take.
+
+ghost use Rattle.std.specs.Prelude.{◌≡◌, codes};
+ghost use Rattle.ca_pattern.specs.Limited.{AreGoodLimits};
+ghost use Rattle.ca_words.specs.Words.{IsNumberAfter, memo_of, work_of, squares_of};
+
+use crate::arguments::{MOST_MEMORY, flag_word, memo_word, memory_word, work_word};
+use crate::values::number_value;
+use ca_pattern::Limits;
+use ca_plane::limits::MOST_MEMO;
+use clap::{ArgMatches, Command};
+use std::alloc::{AllocError, Global};
+
+/// What a run of `verify` is asked for besides verdicts.
+#[derive(Clone, Copy)]
+pub struct Extras {
+    /// What more there is to tell of each answer.
+    pub explained: bool,
+    /// How far a long claim is.
+    pub progress: bool,
+    /// How many entries the memo of each claim may have, where that is set.
+    pub memo: Option<u64>,
+    /// How much work each claim may take, where that is set.
+    pub work: Option<u64>,
+    /// How many megabytes of squares and results a long run keeps, about, where that is set.
+    pub memory: Option<u64>,
+}
+
+impl Extras {
+    /// The limits of each claim.
+    pub fn limits(self) -> Limits
+        ensures good { AreGoodLimits result }
+        ensures memo { result.memo ≡ memo_of self.memo }
+        ensures work { result.work ≡ work_of self.work }
+    {
+        limits_of(self.memo, self.work)
+    }
+
+    /// How many squares a long run may keep.
+    pub fn most_squares(self) -> usize
+        ensures { result ≡ squares_of self.memory }
+    {
+        most_squares(self.memory)
+    }
+}
+
+// About how many squares, with what is remembered of them, a megabyte has room for.
+const SQUARES: u64 = 16384;
+
+// How many megabytes a long run keeps of them, unless that is set.
+const USUAL_MEMORY: u64 = 1024;
+
+/// How many squares a long run may keep, in so many megabytes. The words keep these within their limits, and a number outside
+/// is brought within.
+pub fn most_squares(memory: Option<u64>) -> usize
+    ensures { result ≡ squares_of memory }
+{
+    let memory = memory.unwrap_or(USUAL_MEMORY).clamp(1, MOST_MEMORY);
+    (SQUARES * memory) as usize
+}
+
+/// The limits that are set, and else the usual ones. The words keep a memo within its limits, and one outside
+/// is brought within.
+pub fn limits_of(memo: Option<u64>, work: Option<u64>) -> Limits
+    ensures good { AreGoodLimits result }
+    ensures memo { result.memo ≡ memo_of memo }
+    ensures work { result.work ≡ work_of work }
+{
+    let usual = Limits::default();
+    let memo = memo.unwrap_or(usual.memo as u64).clamp(1, MOST_MEMO as u64);
+    Limits {
+        memo: memo as usize,
+        work: work.unwrap_or(usual.work),
+    }
+}
+
+/// The command with the words for this.
+pub fn with_extras<'a>(alloc: Global, command: Command<'a>) -> Result<Command<'a>, AllocError> {
+    command.args(vec![in alloc;
+        flag_word(
+            alloc,
+            "progress",
+            "Show how far a long claim is, also where standard error is no terminal",
+        ),
+        memo_word(
+            alloc,
+            "How many entries each claim's memo may have: 1 to 16777216; unless set, 262144",
+        ),
+        work_word(
+            alloc,
+            "How many units of work each claim may take; unless set, 18446744073709551615",
+        ),
+        memory_word(alloc),
+    ]?)
+}
+
+/// What the words ask for.
+pub fn extras_of(words: &ArgMatches<'_>) -> Extras
+    ensures memo { IsNumberAfter words.now (codes "memo") result.memo }
+    ensures work { IsNumberAfter words.now (codes "work") result.work }
+    ensures memory { IsNumberAfter words.now (codes "max-memory") result.memory }
+{
+    let explained = words.get_flag("explain");
+    Extras {
+        explained,
+        progress: words.get_flag("progress"),
+        memo: number_value(words, "memo"),
+        work: number_value(words, "work"),
+        memory: number_value(words, "max-memory"),
+    }
+}

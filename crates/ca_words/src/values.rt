@@ -1,0 +1,67 @@
+//! The values of a command's words, copied.
+
+ghost use Rattle.std.specs.Prelude.{◌≡◌, Some, string_bytes, IfOk};
+ghost use Rattle.ca_words.specs.Words.{IsTextAfter, IsNumberAfter};
+
+use crate::request::WordsFault;
+use clap::ArgMatches;
+use std::alloc::Global;
+
+/// The value of a word that is required.
+pub fn value_of(alloc: Global, words: &ArgMatches<'_>, name: &str) -> Result<String, WordsFault>
+    ensures { IfOk result (λ value. IsTextAfter words.now name.now (Some value)) }
+{
+    let Some(word) = words.get_str(name) else {
+        return Err(WordsFault::Usage);
+    };
+    copy_word(alloc, word)
+}
+
+/// The values of a word that is required.
+pub fn values_of(
+    alloc: Global,
+    words: &ArgMatches<'_>,
+    name: &str,
+) -> Result<Vec<String>, WordsFault> {
+    let Some(values) = words.get_strs(name) else {
+        return Err(WordsFault::Usage);
+    };
+    let mut all = Vec::new(alloc);
+    'values: for word in values {
+        if all.push(copy_word(alloc, word)?).is_err() {
+            return Err(WordsFault::Memory);
+        }
+    }
+    Ok(all)
+}
+
+fn copy_word(alloc: Global, word: &str) -> Result<String, WordsFault>
+    ensures { IfOk result (λ text. string_bytes text ≡ word.now) }
+{
+    let Ok(text) = String::from_str(alloc, word) else {
+        return Err(WordsFault::Memory);
+    };
+    Ok(text)
+}
+
+/// The path that is given after a word, where that stands there.
+pub fn path_value(
+    alloc: Global,
+    words: &ArgMatches<'_>,
+    name: &str,
+) -> Result<Option<String>, WordsFault>
+    ensures { IfOk result (λ path. IsTextAfter words.now name.now path) }
+{
+    if !words.contains_id(name) {
+        return Ok(None);
+    }
+    let path = value_of(alloc, words, name)?;
+    Ok(Some(path))
+}
+
+/// The number that is given after a word, where that stands there.
+pub fn number_value(words: &ArgMatches<'_>, name: &str) -> Option<u64>
+    ensures { IsNumberAfter words.now name.now result }
+{
+    words.get_one(name)
+}
