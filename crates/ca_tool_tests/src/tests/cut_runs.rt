@@ -2,7 +2,7 @@
 
 use super::devices::{Narrow, Refusal, expect};
 use super::writers::{MACROCELL, RLE, write_macro, write_rle};
-use ca_pattern::{Limits, Target};
+use ca_pattern::{File, Limits, Target};
 use ca_plane::{Dev, WriteFault};
 use ca_run::Unwatched;
 use ca_text::{ClaimFault, Claims, read_claims};
@@ -10,7 +10,6 @@ use ca_tool::{
     Fault, InputFault, ReportStyle, ToolFault, complain, complain_with_path, convert_run, show_run,
     verify_run, verify_watched,
 };
-use ca_pattern::File;
 use std::alloc::Global;
 use std::io::Read;
 use std::process::Abort;

@@ -1,11 +1,11 @@
 //! A text of many claims, which no call refuses where memory is ample.
 
 use super::devices::expect;
-use ca_pattern::Limits;
+use ca_pattern::{File, Limits};
 use ca_plane::Dev;
 use ca_text::{Claims, read_claims};
 use ca_tool::{lines, verify_run};
-use ca_verify::{File, verify};
+use ca_verify::verify;
 use std::alloc::{AllocError, Global};
 use std::test::*;
 
