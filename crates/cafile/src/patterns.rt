@@ -114,8 +114,7 @@ fn rule_file<'a>(path: &'a Option<String>, bytes: &'a Option<Vec<u8>>) -> Option
     }
 }
 
-// Writes what is asked of the pattern file. Where it is taken some generations on, the line of progress tells how far
-// that is.
+// Writes what is asked of the pattern file.
 fn run<R: Clock + AllocGlobal>(
     rt: &R,
     form: Form,
@@ -128,31 +127,43 @@ fn run<R: Clock + AllocGlobal>(
         Some(rule) => Some(rule.bytes),
         None => None,
     };
-    let alloc = rt.alloc();
-    let bytes = pattern.bytes;
-    let limits = extras.limits();
-    let output = &mut streams.output;
-    let Some(generations) = extras.after else {
-        return match form {
-            Form::Text(form) => write_form(alloc, bytes, form, table, output),
-            Form::Picture { words, captioned } => {
-                let request = request_of(words, 0, limits);
-                let watched = &mut Unwatched;
-                if captioned {
-                    let drawn = draw_with_caption(alloc, bytes, request, table, watched);
-                    return write_captioned(drawn, streams);
-                }
-                draw_bytes(alloc, bytes, request, table, watched, output)
+    if let Some(generations) = extras.after {
+        return run_after(rt, form, pattern, table, generations, extras, streams);
+    }
+    let (alloc, bytes) = (rt.alloc(), pattern.bytes);
+    match form {
+        Form::Text(form) => write_form(alloc, bytes, form, table, &mut streams.output),
+        Form::Picture { words, captioned } => {
+            let request = request_of(words, 0, extras.limits());
+            let watched = &mut Unwatched;
+            if captioned {
+                let drawn = draw_with_caption(alloc, bytes, request, table, watched);
+                return write_captioned(drawn, streams);
             }
-        };
-    };
+            draw_bytes(alloc, bytes, request, table, watched, &mut streams.output)
+        }
+    }
+}
+
+// Writes what is asked of the pattern some generations on. The line of progress tells how far that is.
+fn run_after<R: Clock + AllocGlobal>(
+    rt: &R,
+    form: Form,
+    pattern: File<'_>,
+    table: Option<&[u8]>,
+    generations: u64,
+    extras: &PatternExtras,
+    streams: &mut Streams,
+) -> Result<u8, DetailedFault<ToolFault>> {
+    let (alloc, bytes) = (rt.alloc(), pattern.bytes);
+    // The words keep the generations within their limit, and more are brought within.
+    let generations = generations.min(MOST_GENERATIONS);
+    let limits = extras.limits();
     let heading = Heading::Run { path: pattern.path };
     let squares = extras.most_squares();
     let errors = &mut streams.errors;
     let mut observer = Progress::new(rt, errors, heading, extras.progress, squares);
-    let observer = &mut observer;
-    // The words keep the generations within their limit, and more are brought within.
-    let generations = generations.min(MOST_GENERATIONS);
+    let (observer, output) = (&mut observer, &mut streams.output);
     match form {
         Form::Text(form) => {
             write_form_after(
