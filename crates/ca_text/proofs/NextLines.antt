@@ -12,13 +12,14 @@ use Rattle.std.proofs.lemmas.Slice.Eq.{bytes_eq-Decides}
 use Rattle.ca_text.specs.declared.line.Claim.{Claim as ClaimOf}
 use Rattle.ca_text.specs.declared.line.ClaimLine.{ClaimLine}
 use Rattle.ca_text.specs.declared.line.NamePlace.{NamePlace}
+use Rattle.ca_text.specs.Both.{HoldsOfBoth}
 use Rattle.ca_text.specs.Places.{path_at, named_at, claim_with_names, IsNamed}
-use Rattle.ca_text.specs.Text.{Claim, patterns_of, map_patterns, HasGoodNumbers, ClaimTextLine, Version, Rule, Load, Claims, path_of, AreLoaded, IsAllowedLine, is_second, said_lines, rule_paths, file_paths, paths_once, claims_from}
+use Rattle.ca_text.specs.Text.{Claim, names_of, patterns_of, map_patterns, HasGoodNumbers, ClaimTextLine, Version, Rule, Load, Claims, path_of, AreLoaded, IsAllowedLine, is_second, said_lines, rule_paths, file_paths, paths_once, claims_from}
 use Rattle.ca_text.specs.declared.version.TextVersion.{TextVersion}
 use Rattle.ca_text.specs.declared.version.TextVersion.TheVariants.{Open, First, Second}
 use Rattle.ca_text.specs.Words.{with_word}
 use Rattle.ca_text.specs.inner.Reading.{IsVersionAfter, KeepsClaimLines, StandsAt, AreKnownNames, known_place, at_places}
-use Rattle.ca_text.proofs.ClaimPatterns.{paths_of, about_same, about_twice}
+use Rattle.ca_text.proofs.ClaimPatterns.{paths_of, about_same, about_twice, named_both}
 use Rattle.ca_text.proofs.PathLists.{paths_once-push, stays_before, stands_last, kept_place, no_fewer}
 use Rattle.ca_text.proofs.LinesSaid.{spoken-append, rule_paths-append, file_paths-append, path_of-append, claims_from-append}
 
@@ -41,11 +42,6 @@ option_or_none (Some p) = refl
 AllByRecursion-weaker : {X : Type 0} (P Q : X → Type 0) → ((x : X) → P x → Q x) → (xs : List X) → AllByRecursion P xs → AllByRecursion Q xs
 AllByRecursion-weaker P Q f [] h = tt
 AllByRecursion-weaker P Q f (x ∷ xs) h = (f x h.0, AllByRecursion-weaker P Q f xs h.1)
-
--- what holds of what each element is mapped to holds of the mapped elements
-all_map : {X Y : Type 0} (f : X → Y) (P : Y → Type 0) (xs : List X) → AllByRecursion (λ x. P (f x)) xs → AllByRecursion P (map f xs)
-all_map f P [] h = tt
-all_map f P (x ∷ xs) h = (h.0, all_map f P xs h.1)
 
 -- the texts of a list keep their places in another, which is no shorter
 pub record Grown (old new : List (List ℕ)) : Type 0 where
@@ -92,16 +88,15 @@ module _ (names after paths more : List (List ℕ)) (grown : Grown names after) 
   claim_kept : (l : ClaimLine NamePlace) → IsNamed names paths l.claim → claim_with_names after more l ≡ claim_with_names names paths l
   claim_kept l h =
       let same = about_same (named_at after more) (named_at names paths) l.claim
-      (AllByRecursion-weaker (λ p. (p.name < length names) × (p.path < length paths)) (λ p. named_at after more p ≡ named_at names paths p) named_kept (patterns_of l.claim) h.within) in
+      (named_kept (patterns_of l.claim).first h.within.0, named_kept (patterns_of l.claim).second h.within.1) in
       λ i. (l.line, same i)
 
   -- which are there
   named_there : (claim : ClaimOf NamePlace) → IsNamed names paths claim → IsNamed after more claim
-  named_there claim h = record {
-    within = AllByRecursion-weaker (λ p. (p.name < length names) × (p.path < length paths)) (λ p. (p.name < length after) × (p.path < length more))
-        (λ p lt. (omega (arith, lt.0, grown.no_shorter), omega (arith, lt.1, longer.no_shorter))) (patterns_of claim) h.within;
-    numbers = h.numbers;
-  }
+  named_there claim h = record { within = (still_there (patterns_of claim).first h.within.0, still_there (patterns_of claim).second h.within.1); numbers = h.numbers }
+    where
+      still_there : (p : NamePlace) → (p.name < length names) × (p.path < length paths) → (p.name < length after) × (p.path < length more)
+      still_there p lt = (omega (arith, lt.0, grown.no_shorter), omega (arith, lt.1, longer.no_shorter))
 
   -- so do all claims
   pub all_kept : (claims : List (ClaimLine NamePlace)) → All (λ l. IsNamed names paths l.claim) claims → map (claim_with_names after more) claims ≡ map (claim_with_names names paths) claims
@@ -281,11 +276,11 @@ module _ (said : List (Option ClaimTextLine)) (names paths : List (List ℕ)) (r
   loaded_known name (Some p) found at loaded = refl
 
   -- so are all names of a claim
-  pub names_loaded : (claim : Claim) → AreKnownNames places claim → AreLoaded (said_lines said) (patterns_of claim)
-  names_loaded claim = AllByRecursion-weaker (λ n. IsSome (places n)) (λ n. IsSome (path_of (said_lines said) n)) (λ n. known_loaded n (places n) (path_of (said_lines said) n) (read.known n)) (patterns_of claim)
+  pub names_loaded : (claim : Claim) → AreKnownNames places claim → AreLoaded (said_lines said) (names_of claim)
+  names_loaded claim = AllByRecursion-weaker (λ n. IsSome (places n)) (λ n. IsSome (path_of (said_lines said) n)) (λ n. known_loaded n (places n) (path_of (said_lines said) n) (read.known n)) (names_of claim)
 
-  pub names_known : (claim : Claim) → AreLoaded (said_lines said) (patterns_of claim) → AreKnownNames places claim
-  names_known claim = AllByRecursion-weaker (λ n. IsSome (path_of (said_lines said) n)) (λ n. IsSome (places n)) (λ n. loaded_known n (places n) (path_of (said_lines said) n) (read.known n)) (patterns_of claim)
+  pub names_known : (claim : Claim) → AreLoaded (said_lines said) (names_of claim) → AreKnownNames places claim
+  names_known claim = AllByRecursion-weaker (λ n. IsSome (path_of (said_lines said) n)) (λ n. IsSome (places n)) (λ n. loaded_known n (places n) (path_of (said_lines said) n) (read.known n)) (names_of claim)
 
   -- a known name and its path stand at its place
   place_named : (name : List ℕ) (o : Option NamePlace) (found : Option (List ℕ)) → StandsAt names paths name o found → IsSome o → named_at names paths (known_place o) ≡ (name, unwrap_or found [])
@@ -305,16 +300,17 @@ module _ (said : List (Option ClaimTextLine)) (names paths : List (List ℕ)) (r
   places_named claim known =
       about_twice (λ name. known_place (places name)) (named_at names paths) claim
       ∙ about_same (λ name. named_at names paths (known_place (places name))) (λ name. (name, unwrap_or (path_of (said_lines said) name) [])) claim
+      (named_both (λ n. named_at names paths (known_place (places n)) ≡ (n, unwrap_or (path_of (said_lines said) n) [])) claim
       (AllByRecursion-weaker (λ n. IsSome (places n)) (λ n. named_at names paths (known_place (places n)) ≡ (n, unwrap_or (path_of (said_lines said) n) []))
-      (λ n. place_named n (places n) (path_of (said_lines said) n) (read.known n)) (patterns_of claim) known)
+      (λ n. place_named n (places n) (path_of (said_lines said) n) (read.known n)) (names_of claim) known))
 
   -- and these are kept
   places_there : (claim : Claim) → AreKnownNames places claim → HasGoodNumbers claim.kind → IsNamed names paths (at_places places claim)
   places_there claim known good =
       let is_within : NamePlace → Type 0 = λ p. (p.name < length names) × (p.path < length paths) in
       record {
-        within = subst (AllByRecursion is_within) (sym (paths_of (λ name. known_place (places name)) claim)) (all_map (λ name. known_place (places name)) is_within (patterns_of claim)
-            (AllByRecursion-weaker (λ n. IsSome (places n)) (λ n. is_within (known_place (places n))) (λ n. place_within n (places n) (path_of (said_lines said) n) (read.known n)) (patterns_of claim) known));
+        within = subst (HoldsOfBoth is_within) (sym (paths_of (λ name. known_place (places name)) claim)) (named_both (λ n. is_within (known_place (places n))) claim
+            (AllByRecursion-weaker (λ n. IsSome (places n)) (λ n. is_within (known_place (places n))) (λ n. place_within n (places n) (path_of (said_lines said) n) (read.known n)) (names_of claim) known));
         numbers = good;
       }
 

@@ -5,7 +5,7 @@ use Rattle.std.proofs.Math.Seq.{take-suc}
 use Rattle.std.proofs.lemmas.Option.{same_Some, none-some, slice_get_within, get_or_from_slice_get}
 use Rattle.indexmap.proofs.SetLemmas.{AllZip-push}
 use Rattle.ca_text.specs.SomeOf.{SomeOf}
-use Rattle.ca_text.specs.Firsts.{FirstBad, FirstIs}
+use Rattle.ca_text.specs.Firsts.{FirstBad}
 
 module _ {X Y : Type 0} (R : X → Y → Type 0) where
   -- of all on the left
@@ -14,31 +14,6 @@ module _ {X Y : Type 0} (R : X → Y → Type 0) where
   zip_left P f [] (y ∷ ys) all = absurd all
   zip_left P f (x ∷ xs) [] all = absurd all
   zip_left P f (x ∷ xs) (y ∷ ys) all = (f x y all.0, zip_left P f xs ys all.1)
-
-  -- what holds of all on the right beside
-  pub zip_beside : (Q : Y → Type 0) (xs : List X) (ys : List Y) → AllZip R xs ys → AllByRecursion Q ys → AllZip (λ x y. R x y × Q y) xs ys
-  zip_beside Q [] [] all right = tt
-  zip_beside Q [] (y ∷ ys) all right = absurd all
-  zip_beside Q (x ∷ xs) [] all right = absurd all
-  zip_beside Q (x ∷ xs) (y ∷ ys) all right = ((all.0, right.0), zip_beside Q xs ys all.1 right.1)
-
-  -- of the first bad one and those before it
-  pub zip_first : (Good Bad : X → Type 0) (Right Wrong : Y → Type 0) → ((x : X) (y : Y) → R x y → Right y → Good x) → ((x : X) (y : Y) → R x y → Wrong y → Bad x)
-      → (xs : List X) (ys : List Y) → AllZip R xs ys → FirstBad Right Wrong ys → FirstBad Good Bad xs
-  zip_first Good Bad Right Wrong f g [] [] all first = absurd first
-  zip_first Good Bad Right Wrong f g [] (y ∷ ys) all first = absurd all
-  zip_first Good Bad Right Wrong f g (x ∷ xs) [] all first = absurd all
-  zip_first Good Bad Right Wrong f g (x ∷ xs) (y ∷ ys) all (inl here) = inl (g x y all.0 here)
-  zip_first Good Bad Right Wrong f g (x ∷ xs) (y ∷ ys) all (inr later) = inr (f x y all.0 later.0, zip_first Good Bad Right Wrong f g xs ys all.1 later.1)
-
-  -- of the first, where the same follows from a bad one as from a good one
-  pub zip_front : (Holds : X → Type 0) (Right Wrong : Y → Type 0) → ((x : X) (y : Y) → R x y → Right y → Holds x) → ((x : X) (y : Y) → R x y → Wrong y → Holds x)
-      → (xs : List X) (ys : List Y) → AllZip R xs ys → FirstBad Right Wrong ys → FirstIs Holds xs
-  zip_front Holds Right Wrong f g [] [] all first = absurd first
-  zip_front Holds Right Wrong f g [] (y ∷ ys) all first = absurd all
-  zip_front Holds Right Wrong f g (x ∷ xs) [] all first = absurd all
-  zip_front Holds Right Wrong f g (x ∷ xs) (y ∷ ys) all (inl here) = g x y all.0 here
-  zip_front Holds Right Wrong f g (x ∷ xs) (y ∷ ys) all (inr later) = f x y all.0 later.0
 
 -- a first bad element of which less is said
 pub first_weaker : {X : Type 0} (Good P Q : X → Type 0) → ((x : X) → P x → Q x) → (xs : List X) → FirstBad Good P xs → FirstBad Good Q xs
@@ -51,16 +26,6 @@ pub some_first : {X : Type 0} (Good P : X → Type 0) → (xs : List X) → Firs
 some_first Good P [] first = first
 some_first Good P (x ∷ xs) (inl here) = inl here
 some_first Good P (x ∷ xs) (inr later) = inr (some_first Good P xs later.1)
-
--- what belongs together by way of a third list
-pub zip_through : {X Y Z : Type 0} (R : X → Y → Type 0) (S : Y → Z → Type 0) (T : X → Z → Type 0) → ((x : X) (y : Y) (z : Z) → R x y → S y z → T x z)
-    → (xs : List X) (ys : List Y) (zs : List Z) → AllZip R xs ys → AllZip S ys zs → AllZip T xs zs
-zip_through R S T f [] [] [] one two = tt
-zip_through R S T f [] [] (z ∷ zs) one two = absurd two
-zip_through R S T f [] (y ∷ ys) zs one two = absurd one
-zip_through R S T f (x ∷ xs) [] zs one two = absurd one
-zip_through R S T f (x ∷ xs) (y ∷ ys) [] one two = absurd two
-zip_through R S T f (x ∷ xs) (y ∷ ys) (z ∷ zs) one two = (f x y z one.0 two.0, zip_through R S T f xs ys zs one.1 two.1)
 
 -- what holds at each index holds of all
 pub each-All : {X : Type 0} (P : X → Type 0) (xs : List X) → All P xs → AllByRecursion P xs

@@ -9,6 +9,7 @@ use Rattle.std.proofs.lemmas.Option.{none-some, same_Some, slice_get-get_or, unw
 use Rattle.std.proofs.lemmas.Slice.Eq.{bytes_eq-Decides}
 use Rattle.ca_text.specs.declared.line.ClaimLine.{ClaimLine}
 use Rattle.ca_text.specs.declared.line.NamePlace.{NamePlace}
+use Rattle.ca_text.specs.Both.{HoldsOfEither}
 use Rattle.ca_text.specs.Text.{ClaimText, patterns_of, named_patterns}
 use Rattle.ca_text.specs.Places.{path_at, named_at, claim_with_names, IsNamed}
 use Rattle.ca_text.specs.SomeOf.{SomeOf}
@@ -29,15 +30,6 @@ marks_same P Q same [] (m ∷ ms) h = h
 marks_same P Q same (p ∷ ps) [] h = h
 marks_same P Q same (p ∷ ps) (m ∷ ms) h = ((λ t. (same p).0 (h.0.0 t), λ q. h.0.1 ((same p).1 q)), marks_same P Q same ps ms h.1)
 
--- what holds of one of the mapped elements
-pub some_map : {X Y : Type 0} (f : X → Y) (P : Y → Type 0) (xs : List X) → SomeOf P (map f xs) ↔ SomeOf (λ x. P (f x)) xs
-some_map f P [] = (λ h. h, λ h. h)
-some_map f P (x ∷ xs) =
-    let later = some_map f P xs in (
-      λ h. elim h [ inl a ↦ inl a | inr b ↦ inr (later.0 b) ],
-      λ h. elim h [ inl a ↦ inl a | inr b ↦ inr (later.1 b) ],
-    )
-
 -- marks are no fewer once some are set
 pub length-marked : (marks : List Bool) (is : List ℕ) → length (with_marks marks is) ≡ length marks
 length-marked marks [] = refl
@@ -45,7 +37,7 @@ length-marked marks (i ∷ is) = length-marked (set marks i true) is ∙ length-
 
 pub length-claims_marked : (marks : List Bool) (claims : List (ClaimLine NamePlace)) → length (claims_marked marks claims) ≡ length marks
 length-claims_marked marks [] = refl
-length-claims_marked marks (l ∷ ls) = length-claims_marked _ ls ∙ length-marked marks (map (λ p. p.path) (patterns_of l.claim))
+length-claims_marked marks (l ∷ ls) = length-claims_marked _ ls ∙ length-marked marks ((patterns_of l.claim).first.path ∷ (patterns_of l.claim).second.path ∷ [])
 
 -- a list written over one that is as long
 pub written_over : {X : Type 0} (n : ℕ) (old new : List X) → length new ≡ n → take n (new ++ drop (length new) old) ≡ new
@@ -109,32 +101,23 @@ each_of_all : {X : Type 0} (P : X → Type 0) (xs : List X) → All P xs → All
 each_of_all P [] h = tt
 each_of_all P (x ∷ xs) h = (All-head P x xs h, each_of_all P xs (All-tail P x xs h))
 
--- the indices of places that are within the names and paths
-path_indices : (names paths : List (List ℕ)) (places : List NamePlace) → AllByRecursion (λ p. (p.name < length names) × (p.path < length paths)) places
-    → AllByRecursion (λ i. i < length paths) (map (λ p. p.path) places)
-path_indices names paths [] h = tt
-path_indices names paths (p ∷ ps) h = (h.0.1, path_indices names paths ps h.1)
-
 -- the path at an index
 path_there : (paths : List (List ℕ)) (i : ℕ) → i < length paths → slice_get paths i ≡ Some (path_at paths i)
 path_there paths i within = slice_get-get_or paths i [] within ∙ ap Some (sym (unwrap_or-slice_get paths i []))
 
--- a claim's pattern has the path exactly where one of its places has
+-- one of a claim's patterns has the path exactly where one of its places has
 pattern_paths : (names paths : List (List ℕ)) (l : ClaimLine NamePlace) (q : List ℕ)
-    → SomeOf (λ p. p ≡ q) (map (path_at paths) (map (λ p. p.path) (patterns_of l.claim))) ↔ SomeOf (λ n. n.1 ≡ q) (named_patterns (claim_with_names names paths l))
+    → SomeOf (λ p. p ≡ q) (path_at paths (patterns_of l.claim).first.path ∷ path_at paths (patterns_of l.claim).second.path ∷ [])
+    ↔ HoldsOfEither (λ n. n.1 ≡ q) (named_patterns (claim_with_names names paths l))
 pattern_paths names paths l q =
-    let places = patterns_of l.claim in
-    let same = paths_of (named_at names paths) l.claim in
-    let one = some_map (path_at paths) (λ p. p ≡ q) (map (λ p. p.path) places) in
-    let two = some_map (λ p. p.path) (λ i. path_at paths i ≡ q) places in
-    let three = some_map (named_at names paths) (λ n. n.1 ≡ q) places in (
-      λ h. subst (SomeOf (λ n. n.1 ≡ q)) (sym same) (three.1 (two.0 (one.0 h))),
-      λ h. one.1 (two.1 (three.0 (subst (SomeOf (λ n. n.1 ≡ q)) same h))),
+    let same = paths_of (named_at names paths) l.claim in (
+      λ h. subst (HoldsOfEither (λ n. n.1 ≡ q)) (sym same) (elim h [ inl a ↦ inl a | inr k ↦ elim k [ inl b ↦ inr b | inr none ↦ absurd none ] ]),
+      λ h. elim (subst (HoldsOfEither (λ n. n.1 ≡ q)) same h) [ inl a ↦ inl a | inr b ↦ inr (inl b) ],
     )
 
 -- the paths of these claims' patterns
 abbrev pub IsClaimed : List (List ℕ) → List (List ℕ) → List (ClaimLine NamePlace) → List ℕ → Type 0
-IsClaimed names paths claims q = SomeOf (SomeOf (λ n. n.1 ≡ q)) (map named_patterns (map (claim_with_names names paths) claims))
+IsClaimed names paths claims q = SomeOf (HoldsOfEither (λ n. n.1 ≡ q)) (map named_patterns (map (claim_with_names names paths) claims))
 
 module _ (names paths : List (List ℕ)) (distinct : IsDistinct bytes_eq paths) where
   -- the marks of the paths at these indices are set
@@ -153,10 +136,10 @@ module _ (names paths : List (List ℕ)) (distinct : IsDistinct bytes_eq paths) 
       → Marks (λ q. IsClaimed names paths claims q ⊎ P q) paths (claims_marked marks claims)
   marks_claimed P [] marks good h = marks_same P (λ q. ⊥ ⊎ P q) (λ q. (λ holds. inr holds, λ some. elim some [ inl none ↦ absurd none | inr holds ↦ holds ])) paths marks h
   marks_claimed P (l ∷ ls) marks good h =
-      let is = map (λ p. p.path) (patterns_of l.claim) in
+      let is = (patterns_of l.claim).first.path ∷ (patterns_of l.claim).second.path ∷ [] in
       let asked : IsNamed names paths l.claim = All-head (λ k. IsNamed names paths k.claim) l ls good in
-      let First : List ℕ → Type 0 = λ q. SomeOf (λ n. n.1 ≡ q) (named_patterns (claim_with_names names paths l)) in
-      let one = marks_set P is marks (path_indices names paths (patterns_of l.claim) asked.within) h in
+      let First : List ℕ → Type 0 = λ q. HoldsOfEither (λ n. n.1 ≡ q) (named_patterns (claim_with_names names paths l)) in
+      let one = marks_set P is marks (asked.within.0.1, (asked.within.1.1, tt)) h in
       let first = marks_same (λ q. SomeOf (λ p. p ≡ q) (map (path_at paths) is) ⊎ P q) (λ q. First q ⊎ P q)
       (λ q. or_same (pattern_paths names paths l q) (P q)) paths (with_marks marks is) one in
       marks_same (λ q. IsClaimed names paths ls q ⊎ (First q ⊎ P q)) (λ q. IsClaimed names paths (l ∷ ls) q ⊎ P q)
@@ -178,13 +161,13 @@ module _ (names paths : List (List ℕ)) (distinct : IsDistinct bytes_eq paths) 
         λ h. (
           some,
           elim h [
-            | inl claimed ↦ inr (subst (SomeOf (SomeOf (λ n. n.1 ≡ q))) (sym is_pattern) claimed)
+            | inl claimed ↦ inr (subst (SomeOf (HoldsOfEither (λ n. n.1 ≡ q))) (sym is_pattern) claimed)
             | inr k ↦ elim k [ inl rule ↦ inl (subst (SomeOf (λ r. r ≡ q)) (sym is_rule) rule) | inr none ↦ absurd none ]
           ],
         ),
         λ h. elim h.1 [
           | inl rule ↦ inr (inl (subst (SomeOf (λ r. r ≡ q)) is_rule rule))
-          | inr claimed ↦ inl (subst (SomeOf (SomeOf (λ n. n.1 ≡ q))) is_pattern claimed)
+          | inr claimed ↦ inl (subst (SomeOf (HoldsOfEither (λ n. n.1 ≡ q))) is_pattern claimed)
         ],
       )) paths (claims_marked (with_marks (replicate (length paths) false) rules) claims) both
 

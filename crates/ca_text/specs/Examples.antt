@@ -1,6 +1,7 @@
 -- Small claim texts, for which the definitions are worked out.
 use Rattle.std.specs.Prelude.{ℕ, pos, neg_ℤ, List, [], ◌∷◌, Option, None, Some, codes}
 use Rattle.ca_plane.specs.Bytes.{text_of}
+use Rattle.ca_text.specs.declared.both.Both.{Both}
 use Rattle.ca_text.specs.declared.line.Kind.{Kind}
 use Rattle.ca_text.specs.declared.line.Kind.TheVariants.{Still, Oscillator, Spaceship, Becomes, BecomesShifted, Dies}
 use Rattle.ca_text.specs.declared.fault.ClaimFault.{ClaimFault}
@@ -10,6 +11,10 @@ use Rattle.ca_text.specs.TextFaults.{IsFirstClaimFault}
 -- a claim about one pattern
 abbrev pub of_one : List ℕ → Kind → Claim
 of_one pattern kind = record { pattern = pattern; other = None; kind = kind }
+
+-- its patterns: that of this name and path, twice
+abbrev pub twice : List ℕ × List ℕ → Both (List ℕ × List ℕ)
+twice named = record { first = named; second = named }
 
 -- that it is a still life
 abbrev pub still_of : List ℕ → Claim
@@ -37,7 +42,7 @@ block_asked = record {
   paths = codes "block.rle" ∷ [];
   rules = [];
   claims = (4, still_of (codes "block.rle")) ∷ [];
-  patterns = ((codes "b", codes "block.rle") ∷ []) ∷ [];
+  patterns = twice (codes "b", codes "block.rle") ∷ [];
 }
 
 -- all claims, about the patterns of two files, of which one is loaded by two names; line 2 is a comment and line 7 is blank
@@ -62,8 +67,8 @@ every_asked = record {
       (5, still_of (codes "block.rle")) ∷ (6, of_one (codes "block.rle") (Oscillator 7))
       ∷ (8, of_one (codes "glider.rle") (Spaceship 4 (neg_ℤ (pos 1)) (pos 2))) ∷ (9, becomes_of (codes "glider.rle") 0 (codes "block.rle")) ∷ [];
   patterns =
-      ((codes "b", codes "block.rle") ∷ []) ∷ ((codes "c", codes "block.rle") ∷ []) ∷ ((codes "g", codes "glider.rle") ∷ [])
-      ∷ ((codes "g", codes "glider.rle") ∷ (codes "c", codes "block.rle") ∷ []) ∷ [];
+      twice (codes "b", codes "block.rle") ∷ twice (codes "c", codes "block.rle") ∷ twice (codes "g", codes "glider.rle")
+      ∷ record { first = (codes "g", codes "glider.rle"); second = (codes "c", codes "block.rle") } ∷ [];
 }
 
 -- a rule table after two names of one path
@@ -90,7 +95,7 @@ tables_asked = record {
   paths = codes "r" ∷ codes "p" ∷ codes "q" ∷ [];
   rules = codes "r" ∷ codes "q" ∷ codes "r" ∷ [];
   claims = (3, still_of (codes "p")) ∷ [];
-  patterns = ((codes "a", codes "p") ∷ []) ∷ [];
+  patterns = twice (codes "a", codes "p") ∷ [];
 }
 
 -- a name that no claim is about

@@ -5,8 +5,3 @@ use Rattle.std.specs.Prelude.{List, [], ◌∷◌, ◌⊎◌}
 abbrev pub FirstBad : {X : Type 0} → (X → Type 0) → (X → Type 0) → List X → Type 0
 FirstBad Good Bad [] = ⊥
 FirstBad Good Bad (x ∷ xs) = Bad x ⊎ (Good x × FirstBad Good Bad xs)
-
--- this holds of the first element
-abbrev pub FirstIs : {X : Type 0} → (X → Type 0) → List X → Type 0
-FirstIs Holds [] = ⊥
-FirstIs Holds (x ∷ xs) = Holds x

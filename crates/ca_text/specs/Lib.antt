@@ -2,7 +2,7 @@ pub mod Words
 pub mod Text
 pub mod TextFaults
 pub mod Asks
-pub mod OneOrTwo
+pub mod Both
 pub mod SomeOf
 pub mod Places
 pub mod NeededFiles

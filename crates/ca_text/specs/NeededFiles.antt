@@ -1,8 +1,9 @@
 -- Which files a claim text needs.
 use Rattle.std.specs.Prelude.{◌≡◌, ◌≢◌, ℕ, List, [], ◌⊎◌}
 use Rattle.ca_text.specs.Text.{ClaimText}
+use Rattle.ca_text.specs.Both.{HoldsOfEither}
 use Rattle.ca_text.specs.SomeOf.{SomeOf}
 
 -- the text makes a claim, and a rule line names the path, or some claim's pattern is loaded from it
 abbrev pub IsNeeded : ClaimText → List ℕ → Type 0
-IsNeeded asked path = (asked.claims ≢ []) × (SomeOf (λ r. r ≡ path) asked.rules ⊎ SomeOf (SomeOf (λ p. p.1 ≡ path)) asked.patterns)
+IsNeeded asked path = (asked.claims ≢ []) × (SomeOf (λ r. r ≡ path) asked.rules ⊎ SomeOf (HoldsOfEither (λ p. p.1 ≡ path)) asked.patterns)

@@ -1,6 +1,6 @@
 -- What the rules and claims of a text mean, whose patterns are given by the indices of their names and paths.
 use Rattle.std.specs.Prelude.{ℕ, ◌<◌, List, [], slice_get, unwrap_or, length}
-use Rattle.std.specs.List.{AllByRecursion}
+use Rattle.ca_text.specs.Both.{HoldsOfBoth}
 use Rattle.ca_text.specs.declared.line.Claim.{Claim as ClaimOf}
 use Rattle.ca_text.specs.declared.line.ClaimLine.{ClaimLine}
 use Rattle.ca_text.specs.declared.line.NamePlace.{NamePlace}
@@ -13,7 +13,7 @@ path_at paths index = unwrap_or (slice_get paths index) []
 
 -- the claim's patterns have paths among these, and its numbers are good
 pub record IsAsked (paths : List (List ℕ)) (claim : ClaimOf ℕ) : Type 0 where
-  pub within : AllByRecursion (λ i. i < length paths) (patterns_of claim)
+  pub within : HoldsOfBoth (λ i. i < length paths) (patterns_of claim)
   pub numbers : HasGoodNumbers claim.kind
 
 -- the claim about the paths at its indices, with the number of its line
@@ -35,5 +35,5 @@ claim_with_names names paths l = (l.line, map_patterns (named_at names paths) l.
 
 -- the claim's patterns have names and paths among these, and its numbers are good
 pub record IsNamed (names paths : List (List ℕ)) (claim : ClaimOf NamePlace) : Type 0 where
-  pub within : AllByRecursion (λ p. (p.name < length names) × (p.path < length paths)) (patterns_of claim)
+  pub within : HoldsOfBoth (λ p. (p.name < length names) × (p.path < length paths)) (patterns_of claim)
   pub numbers : HasGoodNumbers claim.kind

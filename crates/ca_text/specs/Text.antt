@@ -4,6 +4,7 @@ use Rattle.std.specs.Str.{bytes_eq}
 use Rattle.std.specs.Bool.{nat_eq}
 use Rattle.std.specs.List.{AllByRecursion, starts_with}
 use Rattle.std.specs.Option.{option_to_list}
+use Rattle.ca_text.specs.declared.both.Both.{Both}
 use Rattle.ca_text.specs.declared.line.Claim.{Claim as ClaimOf}
 use Rattle.ca_text.specs.declared.line.Kind.{Kind}
 use Rattle.ca_text.specs.declared.line.Kind.TheVariants.{Still, Oscillator, Spaceship, Becomes, BecomesShifted, Dies}
@@ -14,9 +15,13 @@ use Rattle.ca_plane.specs.Limits.{greatest_shift, most_generations, longest_peri
 abbrev pub Claim : Type 0
 Claim = ClaimOf (List ℕ)
 
--- the patterns that a claim is about
-abbrev pub patterns_of : {P : Type 0} → ClaimOf P → List P
-patterns_of claim = claim.pattern ∷ option_to_list claim.other
+-- the names of the patterns that a claim is about, one or two
+abbrev pub names_of : Claim → List (List ℕ)
+names_of claim = claim.pattern ∷ option_to_list claim.other
+
+-- a claim has two patterns always: where it names one, that is the second too
+abbrev pub patterns_of : {P : Type 0} → ClaimOf P → Both P
+patterns_of claim = record { first = claim.pattern; second = unwrap_or claim.other claim.pattern }
 
 -- the same claim, with f of what gives each pattern
 abbrev pub map_patterns : {P Q : Type 0} → (P → Q) → ClaimOf P → ClaimOf Q
@@ -103,7 +108,7 @@ abbrev pub IsAllowedLine : List ClaimTextLine → ClaimTextLine → Type 0
 IsAllowedLine earlier Version = Unit {0}
 IsAllowedLine earlier (Rule path) = Unit {0}
 IsAllowedLine earlier (Load name path) = path_of earlier name ≡ None
-IsAllowedLine earlier (Claims claim) = HasGoodNumbers claim.kind × AreLoaded earlier (patterns_of claim)
+IsAllowedLine earlier (Claims claim) = HasGoodNumbers claim.kind × AreLoaded earlier (names_of claim)
 
 -- lines that follow what earlier ones say, and what each of them says
 abbrev pub ClaimLinesSay : List ClaimTextLine → List (List ℕ) → List (Option ClaimTextLine) → Type 0
@@ -164,7 +169,7 @@ abbrev pub by_path : ℕ × ClaimOf (List ℕ × List ℕ) → ℕ × Claim
 by_path c = (c.0, map_patterns (λ p. p.1) c.1)
 
 -- the names and paths of its patterns
-abbrev pub named_patterns : ℕ × ClaimOf (List ℕ × List ℕ) → List (List ℕ × List ℕ)
+abbrev pub named_patterns : ℕ × ClaimOf (List ℕ × List ℕ) → Both (List ℕ × List ℕ)
 named_patterns c = patterns_of c.1
 
 -- what a claim text asks: the paths of its files, each once; those of the rule tables, one for each of their lines; its claims
@@ -173,7 +178,7 @@ pub record ClaimText : Type 0 where
   pub paths : List (List ℕ)
   pub rules : List (List ℕ)
   pub claims : List (ℕ × Claim)
-  pub patterns : List (List (List ℕ × List ℕ))
+  pub patterns : List (Both (List ℕ × List ℕ))
 
 -- what the lines of a text ask; lines are counted from 1, skipped ones too
 abbrev pub asked_by : List (Option ClaimTextLine) → ClaimText

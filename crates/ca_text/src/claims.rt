@@ -2,16 +2,16 @@
 
 ghost use Rattle.std.specs.Prelude.{◌≡◌, ◌≢◌, ℕ, ◌<◌, [], Some, None, map, slice_get, length, All, IfOk};
 ghost use Rattle.std.specs.Prelude.{MatchOption, OnErr, IsTrue, ◌↔◌};
-ghost use Rattle.std.specs.List.{AllByRecursion, AllZip, IsDistinct};
+ghost use Rattle.std.specs.List.{AllZip, IsDistinct};
 ghost use Rattle.std.specs.Str.{bytes_eq};
 ghost use Rattle.ca_text.specs.Places.{path_at, claim_with_paths, named_path, IsAsked};
-ghost use Rattle.ca_text.specs.OneOrTwo.{items};
+ghost use Rattle.ca_text.specs.Both.{map_both, HoldsOfBoth};
 ghost use Rattle.ca_text.specs.NeededFiles.{IsNeeded};
 ghost use Rattle.ca_text.specs.Text.{Claim as TextClaim, patterns_of, with_rule_line};
 
+use crate::both::Both;
 use crate::line::{ClaimLine, NamePlace, NamedPath};
 use crate::marks::{mark_claims, mark_each};
-use crate::one_or_two::OneOrTwo;
 use crate::word_set::WordSet;
 use ca_plane::Memory;
 use std::alloc::Global;
@@ -151,23 +151,19 @@ impl Claims {
         }
     }
 
-    /// The patterns of the claim with this index, in their order.
-    pub fn patterns(&self, index: usize) -> OneOrTwo<NamedPath<'_>>
+    /// The patterns of the claim with this index, in their order; where it names one, both are that one.
+    pub fn patterns(&self, index: usize) -> Both<NamedPath<'_>>
         requires { index < length self.now.claims }
         ensures patterns { slice_get self.now.patterns index
-            ≡ Some (map (named_path self.now.paths) (items result)) }
-        ensures within { AllByRecursion (λ p. p.path < length self.now.paths) (items result) }
+            ≡ Some (map_both (named_path self.now.paths) result) }
+        ensures within { HoldsOfBoth (λ p. p.path < length self.now.paths) result }
         ensures claim { (claim : ℕ × TextClaim) → slice_get self.now.claims index ≡ Some claim
-            → patterns_of claim.1 ≡ map (λ p. path_at self.now.paths p.path) (items result) }
+            → patterns_of claim.1 ≡ map_both (λ p. path_at self.now.paths p.path) result }
     {
-        match self.claims[index].claim.patterns() {
-            OneOrTwo::One(only) => OneOrTwo::One(name_and_path(&self.names, only)),
-            OneOrTwo::Two(first, second) => {
-                OneOrTwo::Two(
-                    name_and_path(&self.names, first),
-                    name_and_path(&self.names, second),
-                )
-            }
+        let places = self.claims[index].claim.patterns();
+        Both {
+            first: name_and_path(&self.names, places.first),
+            second: name_and_path(&self.names, places.second),
         }
     }
 }

@@ -2,6 +2,7 @@
 #![tactic(auto)]
 
 mod asks;
+mod both;
 mod claims;
 mod fault;
 mod laws;
@@ -9,17 +10,16 @@ mod limits;
 mod line;
 mod marks;
 mod numbers;
-mod one_or_two;
 mod reading;
 mod version;
 mod word_set;
 mod words;
 
 pub use asks::{Asks, Expected, Forbidden};
+pub use both::Both;
 pub use claims::Claims;
 pub use fault::ClaimFault;
 pub use laws::{no_fault_in_claim_text, one_fault, one_meaning, worked_examples};
 pub use line::{Claim, ClaimLine, Kind, NamedPath};
-pub use one_or_two::OneOrTwo;
 pub use reading::read_claims;
 pub use word_set::WordSet;

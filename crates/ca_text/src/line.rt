@@ -2,9 +2,8 @@
 
 ghost use Rattle.std.specs.Prelude.{◌≡◌};
 ghost use Rattle.ca_text.specs.Text.{patterns_of, map_patterns};
-ghost use Rattle.ca_text.specs.OneOrTwo.{items};
 
-use crate::one_or_two::OneOrTwo;
+use crate::both::Both;
 
 /// What is claimed of patterns, each of which is given by a `P`: by its name, or by the index of its path
 /// among the text's paths, or by both.
@@ -51,13 +50,13 @@ pub struct NamedPath<'a> {
 }
 
 impl<P: Copy> Claim<P> {
-    /// The patterns that the claim is about.
-    pub fn patterns(&self) -> OneOrTwo<P>
-        ensures { items result ≡ patterns_of self.now }
+    /// The patterns that the claim is about; where it names one, both are that one.
+    pub fn patterns(&self) -> Both<P>
+        ensures { result ≡ patterns_of self.now }
     {
-        match self.other {
-            None => OneOrTwo::One(self.pattern),
-            Some(other) => OneOrTwo::Two(self.pattern, other),
+        Both {
+            first: self.pattern,
+            second: self.other.unwrap_or(self.pattern),
         }
     }
 }

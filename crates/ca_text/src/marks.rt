@@ -1,9 +1,9 @@
 //! Marks of paths, by their indices.
 
-ghost use Rattle.std.specs.Prelude.{◌≡◌, ◌<◌, map, length, All};
-ghost use Rattle.std.specs.List.{AllByRecursion};
+ghost use Rattle.std.specs.Prelude.{◌≡◌, ◌<◌, length, All};
+ghost use Rattle.ca_text.specs.Both.{HoldsOfBoth};
 ghost use Rattle.ca_text.specs.Text.{patterns_of};
-ghost use Rattle.ca_text.specs.inner.Marks.{with_marks, claims_marked};
+ghost use Rattle.ca_text.specs.inner.Marks.{with_marks, both_marked, claims_marked};
 
 use crate::line::{Claim, ClaimLine, NamePlace};
 
@@ -19,7 +19,7 @@ pub(crate) fn mark_each(marks: &mut [bool], indices: &[usize])
 
 /// Sets the marks of the paths of the claims' patterns.
 pub(crate) fn mark_claims(marks: &mut [bool], claims: &[ClaimLine<NamePlace>])
-    requires { All (λ l. AllByRecursion (λ p. p.path < length marks.old) (patterns_of l.claim)) claims.now }
+    requires { All (λ l. HoldsOfBoth (λ p. p.path < length marks.old) (patterns_of l.claim)) claims.now }
     ensures { marks.new ≡ claims_marked marks.old claims.now }
 {
     'claims: for kept in claims {
@@ -29,11 +29,10 @@ pub(crate) fn mark_claims(marks: &mut [bool], claims: &[ClaimLine<NamePlace>])
 
 /// Sets the marks of the paths of the claim's patterns.
 fn mark_patterns(marks: &mut [bool], claim: &Claim<NamePlace>)
-    requires { AllByRecursion (λ p. p.path < length marks.old) (patterns_of claim.now) }
-    ensures { marks.new ≡ with_marks marks.old (map (λ p. p.path) (patterns_of claim.now)) }
+    requires { HoldsOfBoth (λ p. p.path < length marks.old) (patterns_of claim.now) }
+    ensures { marks.new ≡ both_marked marks.old (patterns_of claim.now) }
 {
-    marks[claim.pattern.path] = true;
-    if let Some(other) = claim.other {
-        marks[other.path] = true;
-    }
+    let patterns = claim.patterns();
+    marks[patterns.first.path] = true;
+    marks[patterns.second.path] = true;
 }

@@ -7,6 +7,7 @@ use Rattle.std.proofs.lemmas.List.Concat.{flat_map-append}
 use Rattle.std.proofs.lemmas.Slice.Zip.{AllZip-long}
 use Rattle.ca_plane.specs.Device.{AppendsPrefix}
 use Rattle.ca_plane.proofs.Sends.{sent_both, prefix_of_first, prefix_of_second}
+use Rattle.ca_text.specs.declared.both.Both.{Both}
 use Rattle.ca_text.specs.Text.{Claim}
 use Rattle.ca_verify.specs.declared.verdict.Answer.{Answer}
 use Rattle.ca_verify.specs.declared.note.Note.{Note}
@@ -33,7 +34,7 @@ front [] ys n e = rw e refl
 front (x ∷ xs) ys n e = rw e (ap (λ l. x ∷ l) (front xs ys (length xs) refl))
 
 -- findings on some claims, and then on others
-findings_then : (files : List (List ℕ × List ℕ)) (rules : List (List ℕ)) (work : ℕ) (claims more : List (ℕ × Claim)) (patterns others : List (List (List ℕ × List ℕ))) (xs ys : List Finding)
+findings_then : (files : List (List ℕ × List ℕ)) (rules : List (List ℕ)) (work : ℕ) (claims more : List (ℕ × Claim)) (patterns others : List (Both (List ℕ × List ℕ))) (xs ys : List Finding)
     → AreFindings (record { files = files; rules = rules; claims = claims; patterns = patterns; work = work }) xs → AreFindings (record { files = files; rules = rules; claims = more; patterns = others; work = work }) ys
     → AreFindings (record { files = files; rules = rules; claims = claims ++ more; patterns = patterns ++ others; work = work }) (xs ++ ys)
 findings_then files rules work claims more patterns others xs ys first second = record {

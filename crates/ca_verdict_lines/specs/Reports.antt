@@ -2,6 +2,7 @@
 use Rattle.std.specs.Prelude.{◌≡◌, ◌≢◌, ℕ, List, [], map, take, Option, Result}
 use Rattle.std.specs.List.{AllZip, AllByRecursion}
 use Rattle.ca_plane.specs.Device.{Counted}
+use Rattle.ca_text.specs.declared.both.Both.{Both}
 use Rattle.ca_text.specs.Text.{ClaimText, Claim}
 use Rattle.ca_verify.specs.Judging.{Judging}
 use Rattle.ca_verify.specs.Notes.{IsNote, HasItsNote}
@@ -15,7 +16,7 @@ use Rattle.ca_verdict_lines.specs.Verdicts.{answer_lines, findings_text, status_
 use Rattle.ca_report.specs.Writing.{WritesOneOf}
 
 -- some claims with their patterns, over the files and the rule lines of others, and with as much work
-abbrev pub with_claims : Judging → List (ℕ × Claim) → List (List (List ℕ × List ℕ)) → Judging
+abbrev pub with_claims : Judging → List (ℕ × Claim) → List (Both (List ℕ × List ℕ)) → Judging
 with_claims judging claims patterns = record { files = judging.files; rules = judging.rules; claims = claims; patterns = patterns; work = judging.work }
 
 -- all claims of a text, over these files, each of which may take so much work
@@ -39,7 +40,7 @@ abbrev pub answers_of : List Finding → List Answer
 answers_of findings = map (λ finding. finding.answer) findings
 
 -- one note for each answer, in order, each of them true of its verdict and of the claim's patterns
-abbrev pub AreTrueNotes : List (List ℕ × List ℕ) → List (List ℕ) → List (List (List ℕ × List ℕ))
+abbrev pub AreTrueNotes : List (List ℕ × List ℕ) → List (List ℕ) → List (Both (List ℕ × List ℕ))
     → List Finding → Type 0
 AreTrueNotes files rules patterns findings = AllZip (λ its finding. IsNote files rules its finding.answer.verdict finding.note) patterns findings
 

@@ -16,6 +16,8 @@ use Rattle.ca_pattern.specs.declared.cause.Cause.{Cause}
 use Rattle.ca_pattern.specs.declared.cause.Cause.TheVariants.{NoFile, BadTable, BadPattern, BadRule, StateTooLarge, MixedRules, TooManyCells, Work, Memory}
 use Rattle.ca_text.specs.Text.{Claim, patterns_of}
 use Rattle.ca_text.specs.Asks.{asks_of}
+use Rattle.ca_text.specs.declared.both.Both.{Both}
+use Rattle.ca_text.specs.Both.{HoldsOfBoth, HoldsOfEither, FirstBadOfBoth}
 use Rattle.ca_text.specs.SomeOf.{SomeOf}
 use Rattle.ca_verify.specs.Answers.{AreTables, IsRuled, IsMissing, IsThere, HoldsTable, HasRule, IsSmall, HaveOtherRules, FilesAreThere, AgreeOn, HasCause, IsGoodPattern, AreGood, IsJudged, IsBadTable, IsUnnamed, IsLarge, IsTrueVerdict}
 use Rattle.ca_text.specs.Firsts.{FirstBad}
@@ -43,15 +45,18 @@ all_as : {X : Type 0} (P Q : X → Type 0) → ((x : X) → P x → Q x) → (xs
 all_as P Q f [] h = tt
 all_as P Q f (x ∷ xs) h = (f x h.0, all_as P Q f xs h.1)
 
-some_as : {X : Type 0} (P Q : X → Type 0) → ((x : X) → P x → Q x) → (xs : List X) → SomeOf P xs → SomeOf Q xs
-some_as P Q f [] h = h
-some_as P Q f (x ∷ xs) (inl here) = inl (f x here)
-some_as P Q f (x ∷ xs) (inr later) = inr (some_as P Q f xs later)
+-- ---- both of a claim's patterns
 
-first_as : {X : Type 0} (Good Right Bad Wrong : X → Type 0) → ((x : X) → Good x → Right x) → ((x : X) → Bad x → Wrong x) → (xs : List X) → FirstBad Good Bad xs → FirstBad Right Wrong xs
-first_as Good Right Bad Wrong f g [] h = h
-first_as Good Right Bad Wrong f g (x ∷ xs) (inl here) = inl (g x here)
-first_as Good Right Bad Wrong f g (x ∷ xs) (inr later) = inr (f x later.0, first_as Good Right Bad Wrong f g xs later.1)
+both_as : {X : Type 0} (P Q : X → Type 0) → ((x : X) → P x → Q x) → (xs : Both X) → HoldsOfBoth P xs → HoldsOfBoth Q xs
+both_as P Q f xs h = (f xs.first h.0, f xs.second h.1)
+
+either_as : {X : Type 0} (P Q : X → Type 0) → ((x : X) → P x → Q x) → (xs : Both X) → HoldsOfEither P xs → HoldsOfEither Q xs
+either_as P Q f xs (inl one) = inl (f xs.first one)
+either_as P Q f xs (inr one) = inr (f xs.second one)
+
+first_as : {X : Type 0} (Good Right Bad Wrong : X → Type 0) → ((x : X) → Good x → Right x) → ((x : X) → Bad x → Wrong x) → (xs : Both X) → FirstBadOfBoth Good Bad xs → FirstBadOfBoth Right Wrong xs
+first_as Good Right Bad Wrong f g xs (inl here) = inl (g xs.first here)
+first_as Good Right Bad Wrong f g xs (inr later) = inr (f xs.first later.0, g xs.second later.1)
 
 -- ---- names
 
@@ -96,11 +101,8 @@ module _ (tables more : List TableRule) where
     good_stays : (path : List ℕ) (cells : Picture) (rule : RuleValue) → IsGoodPattern files tables path cells rule → IsGoodPattern files (tables ++ more) path cells rule
     good_stays path cells rule good = record { ruled = ruled_stays path cells rule good.ruled; small = good.small }
 
-    all_good_stay : (paths : List (List ℕ)) (cells other : Picture) (rule : RuleValue) → AreGood files tables paths cells other rule → AreGood files (tables ++ more) paths cells other rule
-    all_good_stay [] cells other rule h = h
-    all_good_stay (p ∷ []) cells other rule h = (good_stays p cells rule h.0, h.1)
-    all_good_stay (p ∷ q ∷ []) cells other rule h = (good_stays p cells rule h.0, h.1, good_stays q other h.1 h.2, h.3)
-    all_good_stay (p ∷ q ∷ r ∷ ps) cells other rule h = h
+    both_good_stay : (paths : Both (List ℕ)) (cells other : Picture) (rule : RuleValue) → AreGood files tables paths cells other rule → AreGood files (tables ++ more) paths cells other rule
+    both_good_stay paths cells other rule h = (good_stays paths.first cells rule h.0, h.1, good_stays paths.second other h.1 h.2, h.3)
 
 -- ---- verdicts
 
@@ -114,18 +116,18 @@ module _ (files : List (List ℕ × List ℕ)) where
   both_tables (r ∷ rs) more (t ∷ ts) are all = let later = both_tables rs more ts are.1 all in (later.0, (are.0, later.1))
 
   module _ (rules more : List (List ℕ)) (all : AllByRecursion (HoldsTable files) more) where
-    agree_stays : (paths : List (List ℕ)) (cells other : Picture) (rule : RuleValue) → AgreeOn files rules paths cells other rule → AgreeOn files (rules ++ more) paths cells other rule
+    agree_stays : (paths : Both (List ℕ)) (cells other : Picture) (rule : RuleValue) → AgreeOn files rules paths cells other rule → AgreeOn files (rules ++ more) paths cells other rule
     agree_stays paths cells other rule (tables, are, good) =
         let both = both_tables rules more tables are all in
-        (tables ++ both.0, both.1, all_good_stay tables both.0 files paths cells other rule good)
+        (tables ++ both.0, both.1, both_good_stay tables both.0 files paths cells other rule good)
 
     judged_stays : (claim : Claim) (cells other : Picture) (rule : RuleValue) → IsJudged files rules claim cells other rule → IsJudged files (rules ++ more) claim cells other rule
     judged_stays claim cells other rule h = (agree_stays (patterns_of claim) cells other rule h.0, h.1)
 
-    there_stay : (paths : List (List ℕ)) → FilesAreThere files rules paths → FilesAreThere files (rules ++ more) paths
+    there_stay : (paths : Both (List ℕ)) → FilesAreThere files rules paths → FilesAreThere files (rules ++ more) paths
     there_stay paths h = (h.0, all_both (IsThere files) rules more h.1 (all_as (HoldsTable files) (IsThere files) (λ p t. (t.1.0, t.1.1)) more all))
 
-    cause_stays : (asks : Asks) (paths : List (List ℕ)) (cause : Cause) → cause ≢ BadRule Unknown → HasCause files rules asks paths cause → HasCause files (rules ++ more) asks paths cause
+    cause_stays : (asks : Asks) (paths : Both (List ℕ)) (cause : Cause) → cause ≢ BadRule Unknown → HasCause files rules asks paths cause → HasCause files (rules ++ more) asks paths cause
     cause_stays asks paths NoFile other (inl some) = inl some
     cause_stays asks paths NoFile other (inr some) = inr (some_longer (IsMissing files) rules more some)
     cause_stays asks paths (BadTable fault) other h = (there_stay paths h.0, first_longer (HoldsTable files) (IsBadTable files fault) rules more h.1)
@@ -143,16 +145,14 @@ module _ (files : List (List ℕ × List ℕ)) where
     cause_stays asks paths StateTooLarge other (tables, have, some) =
         let both = both_tables rules more tables have.0 all in (
           tables ++ both.0,
-          (both.1, all_as (HasRule files tables) (HasRule files (tables ++ both.0)) (has_stays tables both.0 files) paths have.1),
-          some_as (IsLarge files tables) (IsLarge files (tables ++ both.0)) (large_stays tables both.0 files) paths some,
+          (both.1, both_as (HasRule files tables) (HasRule files (tables ++ both.0)) (has_stays tables both.0 files) paths have.1),
+          either_as (IsLarge files tables) (IsLarge files (tables ++ both.0)) (large_stays tables both.0 files) paths some,
         )
-    cause_stays asks paths MixedRules other (tables, small, some) =
-        let both = both_tables rules more tables small.0 all in
-        let ours = others_stay tables both.0 files in (
+    cause_stays asks paths MixedRules other (tables, small, mixed) =
+        let both = both_tables rules more tables small.0 all in (
           tables ++ both.0,
-          (both.1, all_as (IsSmall files tables) (IsSmall files (tables ++ both.0)) (small_stays tables both.0 files) paths small.1),
-          some_as (λ p. SomeOf (HaveOtherRules files tables p) paths) (λ p. SomeOf (HaveOtherRules files (tables ++ both.0) p) paths)
-              (λ p. some_as (HaveOtherRules files tables p) (HaveOtherRules files (tables ++ both.0) p) (ours p) paths) paths some,
+          (both.1, both_as (IsSmall files tables) (IsSmall files (tables ++ both.0)) (small_stays tables both.0 files) paths small.1),
+          others_stay tables both.0 files paths.first paths.second mixed,
         )
     cause_stays asks paths TooManyCells other (cells, others, rule, agree, many) = (cells, others, rule, agree_stays paths cells others rule agree, many)
     cause_stays asks paths Work other (cells, others, rule, agree, few) = (cells, others, rule, agree_stays paths cells others rule agree, few)

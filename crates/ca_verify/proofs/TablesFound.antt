@@ -8,6 +8,8 @@ use Rattle.ca_pattern.specs.declared.cause.Cause.TheVariants.{NoFile, BadTable}
 use Rattle.ca_text.specs.declared.asks.Asks.{Asks}
 use Rattle.ca_text.specs.Places.{path_at}
 use Rattle.ca_verify.specs.Files.{bytes_at}
+use Rattle.ca_text.specs.declared.both.Both.{Both}
+use Rattle.ca_text.specs.Both.{HoldsOfBoth}
 use Rattle.ca_text.specs.SomeOf.{SomeOf}
 use Rattle.ca_verify.specs.Answers.{IsMissing, IsThere, HoldsTable, AreTables, IsBadTable}
 use Rattle.ca_text.specs.Firsts.{FirstBad}
@@ -80,9 +82,9 @@ module _ (files : List (List ℕ × List ℕ)) (paths : List (List ℕ)) (found 
     first_at places within faulty first,
   )
 
-module _ (files : List (List ℕ × List ℕ)) (paths rules : List (List ℕ)) (asks : Asks) (patterns : List (List ℕ)) where
+module _ (files : List (List ℕ × List ℕ)) (paths rules : List (List ℕ)) (asks : Asks) (patterns : Both (List ℕ)) where
   -- where a rule line's file is missing, no claim is judged
-  pub refused_missing : (place : ℕ) → place < length paths → AllByRecursion (IsThere files) patterns → FirstBad (IsThere files) (λ p. (p ≡ path_at paths place) × IsMissing files p) rules
+  pub refused_missing : (place : ℕ) → place < length paths → HoldsOfBoth (IsThere files) patterns → FirstBad (IsThere files) (λ p. (p ≡ path_at paths place) × IsMissing files p) rules
       → IsRefusal files paths rules asks patterns (record { cause = NoFile; about = about.RuleFile place })
   refused_missing place within there first = record {
     holds = inr (some_first (IsThere files) (IsMissing files) rules (first_weaker (IsThere files) (λ p. (p ≡ path_at paths place) × IsMissing files p) (IsMissing files) (λ p h. h.1) rules first));
@@ -91,7 +93,7 @@ module _ (files : List (List ℕ × List ℕ)) (paths rules : List (List ℕ)) (
   }
 
   -- nor where one is faulty
-  pub refused_faulty : (faulty : FaultyTable) → faulty.place < length paths → AllByRecursion (IsThere files) patterns → AllByRecursion (IsThere files) rules
+  pub refused_faulty : (faulty : FaultyTable) → faulty.place < length paths → HoldsOfBoth (IsThere files) patterns → AllByRecursion (IsThere files) rules
       → FirstBad (HoldsTable files) (IsFaultyAt files paths faulty) rules → IsRefusal files paths rules asks patterns (record { cause = BadTable faulty.fault; about = about.RuleFile faulty.place })
   refused_faulty faulty within there all first = record {
     holds = ((there, all), first_weaker (HoldsTable files) (IsFaultyAt files paths faulty) (IsBadTable files faulty.fault) (λ p h. h.1) rules first);

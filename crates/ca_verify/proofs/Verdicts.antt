@@ -9,7 +9,6 @@ use Rattle.ca_rule.specs.TableNext.{TableRule}
 use Rattle.ca_rule.specs.declared.table.fault.TableFault.{TableFault}
 use Rattle.ca_rule.specs.declared.fault.RuleFault.{RuleFault}
 use Rattle.ca_rule.specs.Rule.{RuleValue, next_of, IsSameRule}
-use Rattle.ca_rule.proofs.Rules.{same-refl, same-sym}
 use Rattle.ca_rule.proofs.OneTable.{one_table, none_of_a_table, one_fault as one_table_fault}
 use Rattle.ca_plane.proofs.Populations.{not_both}
 use Rattle.ca_verify.specs.declared.verdict.Refutation.{Refutation}
@@ -25,6 +24,8 @@ use Rattle.ca_text.specs.Text.{Claim, patterns_of}
 use Rattle.ca_text.specs.Asks.{asks_of}
 use Rattle.ca_text.specs.Truth.{expected_cells, ShowsNothingForbidden, IsTrueClaim}
 use Rattle.ca_verify.specs.Refutations.{IsReason}
+use Rattle.ca_text.specs.declared.both.Both.{Both}
+use Rattle.ca_text.specs.Both.{HoldsOfBoth, HoldsOfEither, FirstBadOfBoth}
 use Rattle.ca_text.specs.SomeOf.{SomeOf}
 use Rattle.ca_pattern.specs.Faults.{IsPatternFault}
 use Rattle.ca_pattern.specs.NamedTables.{IsQuietTable, IsTableFault}
@@ -129,10 +130,6 @@ tables_there files = zip_left (IsTableAt files) (IsThere files) (λ path table a
 
 -- ---- lists of paths
 
-all_weaker : (P Q : List ℕ → Type 0) → ((p : List ℕ) → P p → Q p) → (ps : List (List ℕ)) → AllByRecursion P ps → AllByRecursion Q ps
-all_weaker P Q h [] all = tt
-all_weaker P Q h (p ∷ ps) all = (h p all.0, all_weaker P Q h ps all.1)
-
 -- where all are good, none is bad
 pub all_or_some : (Good Bad : List ℕ → Type 0) → ((p : List ℕ) → Good p → Bad p → ⊥) → (ps : List (List ℕ)) → AllByRecursion Good ps → SomeOf Bad ps → ⊥
 all_or_some Good Bad h [] all some = some
@@ -153,6 +150,27 @@ one_first Good Bad Worse Same h k same (p ∷ ps) (inl a) (inr b) = absurd (h p 
 one_first Good Bad Worse Same h k same (p ∷ ps) (inr a) (inl b) = absurd (k p a.0 b)
 one_first Good Bad Worse Same h k same (p ∷ ps) (inr a) (inr b) = one_first Good Bad Worse Same h k same ps a.1 b.1
 
+-- ---- the paths of both patterns
+
+module _ (paths : Both (List ℕ)) where
+  both_weaker : (P Q : List ℕ → Type 0) → ((p : List ℕ) → P p → Q p) → HoldsOfBoth P paths → HoldsOfBoth Q paths
+  both_weaker P Q h all = (h paths.first all.0, h paths.second all.1)
+
+  both_or_either : (Good Bad : List ℕ → Type 0) → ((p : List ℕ) → Good p → Bad p → ⊥) → HoldsOfBoth Good paths → HoldsOfEither Bad paths → ⊥
+  both_or_either Good Bad h all (inl bad) = h paths.first all.0 bad
+  both_or_either Good Bad h all (inr bad) = h paths.second all.1 bad
+
+  both_or_first : (Good Bad : List ℕ → Type 0) → ((p : List ℕ) → Good p → Bad p → ⊥) → HoldsOfBoth Good paths → FirstBadOfBoth Good Bad paths → ⊥
+  both_or_first Good Bad h all (inl bad) = h paths.first all.0 bad
+  both_or_first Good Bad h all (inr bad) = h paths.second all.1 bad.1
+
+  one_first_of_both : (Good Bad Worse : List ℕ → Type 0) (Same : Type 0) → ((p : List ℕ) → Good p → Bad p → ⊥) → ((p : List ℕ) → Good p → Worse p → ⊥) → ((p : List ℕ) → Bad p → Worse p → Same)
+      → FirstBadOfBoth Good Bad paths → FirstBadOfBoth Good Worse paths → Same
+  one_first_of_both Good Bad Worse Same h k same (inl a) (inl b) = same paths.first a b
+  one_first_of_both Good Bad Worse Same h k same (inl a) (inr b) = absurd (h paths.first b.0 a)
+  one_first_of_both Good Bad Worse Same h k same (inr a) (inl b) = absurd (k paths.first a.0 b)
+  one_first_of_both Good Bad Worse Same h k same (inr a) (inr b) = same paths.second a.1 b.1
+
 -- ---- good patterns
 
 module _ (files : List (List ℕ × List ℕ)) (tables : List TableRule) where
@@ -164,45 +182,17 @@ module _ (files : List (List ℕ × List ℕ)) (tables : List TableRule) where
       let b = (one_ruled_at files q tables other mixed.2 other_rule mixed.3 two.ruled mixed.5).1 in
       mixed.6 (subst (λ r. IsSameRule r mixed.3) a (subst (IsSameRule rule) b same))
 
-  -- of good patterns no two have different rules
-  none_mixed : (paths : List (List ℕ)) (cells other : Picture) (rule : RuleValue) → AreGood files tables paths cells other rule
-      → AllByRecursion (IsSmall files tables) paths × (SomeOf (λ p. SomeOf (HaveOtherRules files tables p) paths) paths → ⊥)
-  none_mixed [] cells other rule j = absurd j
-  none_mixed (p ∷ []) cells other rule j = (
-    ((cells, rule, j.0.ruled, j.0.small), tt),
-    λ mixed. elim mixed [
-      | inl one ↦ elim one [ inl same ↦ no_others p p cells cells rule rule j.0 j.0 (same-refl rule) same | inr none ↦ none ]
-      | inr none ↦ none
-    ],
-  )
-  none_mixed (p ∷ q ∷ []) cells other rule j = (
-    ((cells, rule, j.0.ruled, j.0.small), ((other, j.1, j.2.ruled, j.2.small), tt)),
-    λ mixed. elim mixed [
-      | inl first ↦
-          elim first [
-            | inl own ↦ no_others p p cells cells rule rule j.0 j.0 (same-refl rule) own
-            | inr (inl both) ↦ no_others p q cells other rule j.1 j.0 j.2 j.3 both
-            | inr (inr none) ↦ none
-          ]
-      | inr (inl second) ↦
-          elim second [
-            | inl both ↦ no_others q p other cells j.1 rule j.2 j.0 (same-sym rule j.1 j.3) both
-            | inr (inl own) ↦ no_others q q other other j.1 j.1 j.2 j.2 (same-refl j.1) own
-            | inr (inr none) ↦ none
-          ]
-      | inr (inr none) ↦ none
-    ],
-  )
-  none_mixed (p ∷ q ∷ r ∷ paths) cells other rule j = absurd j
+  -- good patterns don't have different rules
+  none_mixed : (paths : Both (List ℕ)) (cells other : Picture) (rule : RuleValue) → AreGood files tables paths cells other rule
+      → HoldsOfBoth (IsSmall files tables) paths × (HaveOtherRules files tables paths.first paths.second → ⊥)
+  none_mixed paths cells other rule j =
+      (((cells, rule, j.0.ruled, j.0.small), (other, j.1, j.2.ruled, j.2.small)), no_others paths.first paths.second cells other rule j.1 j.0 j.2 j.3)
 
   -- patterns are good in one way
-  one_good : (paths : List (List ℕ)) (p q o v : Picture) (r s : RuleValue) → AreGood files tables paths p o r → AreGood files tables paths q v s → (p ≡ q) × (o ≡ v) × (r ≡ s)
-  one_good [] p q o v r s a b = absurd a
-  one_good (path ∷ []) p q o v r s a b = let one = one_ruled_at files path tables p q r s a.0.ruled b.0.ruled in (one.0, a.1 ∙ one.0 ∙ sym b.1, one.1)
-  one_good (path ∷ other ∷ []) p q o v r s a b =
-      let one = one_ruled_at files path tables p q r s a.0.ruled b.0.ruled in
-      (one.0, (one_ruled_at files other tables o v a.1 b.1 a.2.ruled b.2.ruled).0, one.1)
-  one_good (path ∷ other ∷ third ∷ paths) p q o v r s a b = absurd a
+  one_good : (paths : Both (List ℕ)) (p q o v : Picture) (r s : RuleValue) → AreGood files tables paths p o r → AreGood files tables paths q v s → (p ≡ q) × (o ≡ v) × (r ≡ s)
+  one_good paths p q o v r s a b =
+      let one = one_ruled_at files paths.first tables p q r s a.0.ruled b.0.ruled in
+      (one.0, (one_ruled_at files paths.second tables o v a.1 b.1 a.2.ruled b.2.ruled).0, one.1)
 
 -- ---- causes, in their order
 
@@ -224,7 +214,7 @@ of_these : (files : List (List ℕ × List ℕ)) (rules : List (List ℕ)) (Hold
 of_these files rules Holds tables others are there h = subst Holds (one_tables files rules others tables there are) h
 
 -- the first n stages, up to the one rule: none of the first n causes holds
-abbrev IsPast : List (List ℕ × List ℕ) → (rules paths : List (List ℕ)) → ℕ → Type 0
+abbrev IsPast : List (List ℕ × List ℕ) → (rules : List (List ℕ)) → (paths : Both (List ℕ)) → ℕ → Type 0
 IsPast files rules paths zero = Unit {0}
 IsPast files rules paths (suc zero) = FilesAreThere files rules paths
 IsPast files rules paths (suc (suc zero)) = (tables : List TableRule) × TablesAreGood files rules paths tables
@@ -232,9 +222,9 @@ IsPast files rules paths (suc (suc (suc zero))) = (tables : List TableRule) × P
 IsPast files rules paths (suc (suc (suc (suc zero)))) = (tables : List TableRule) × PatternsHaveRules files rules paths tables
 IsPast files rules paths (suc (suc (suc (suc (suc zero))))) = (tables : List TableRule) × StatesAreSmall files rules paths tables
 IsPast files rules paths (suc (suc (suc (suc (suc (suc n)))))) =
-    (tables : List TableRule) × StatesAreSmall files rules paths tables × (SomeOf (λ p. SomeOf (HaveOtherRules files tables p) paths) paths → ⊥)
+    (tables : List TableRule) × StatesAreSmall files rules paths tables × (HaveOtherRules files tables paths.first paths.second → ⊥)
 
-module _ (files : List (List ℕ × List ℕ)) (rules : List (List ℕ)) (asks : Asks) (paths : List (List ℕ)) where
+module _ (files : List (List ℕ × List ℕ)) (rules : List (List ℕ)) (asks : Asks) (paths : Both (List ℕ)) where
   -- a claim's patterns agree in one way
   one_agreed : (p q o v : Picture) (r s : RuleValue) → AgreeOn files rules paths p o r → AgreeOn files rules paths q v s → (p ≡ q) × (o ≡ v) × (r ≡ s)
   one_agreed p q o v r s (tables, are, good) (others, there, too) =
@@ -251,10 +241,10 @@ module _ (files : List (List ℕ × List ℕ)) (rules : List (List ℕ)) (asks :
   past_one_fewer : (n : ℕ) → IsPast files rules paths (suc n) → IsPast files rules paths n
   past_one_fewer zero h = tt
   past_one_fewer (suc zero) (tables, (are, h)) = (h, tables_there files rules tables are)
-  past_one_fewer (suc (suc zero)) (tables, (are, h)) = (tables, (are, all_weaker (IsReadableFile files) (IsThere files) (λ p r. (r.0, r.1)) paths h))
+  past_one_fewer (suc (suc zero)) (tables, (are, h)) = (tables, (are, both_weaker paths (IsReadableFile files) (IsThere files) (λ p r. (r.0, r.1)) h))
   past_one_fewer (suc (suc (suc zero))) (tables, (are, h)) =
-      (tables, (are, all_weaker (HasRule files tables) (IsReadableFile files) (λ p r. ruled_path_reads files tables p r.0 r.1 r.2) paths h))
-  past_one_fewer (suc (suc (suc (suc zero)))) (tables, (are, h)) = (tables, (are, all_weaker (IsSmall files tables) (HasRule files tables) (λ p r. (r.0, r.1, r.2)) paths h))
+      (tables, (are, both_weaker paths (HasRule files tables) (IsReadableFile files) (λ p r. ruled_path_reads files tables p r.0 r.1 r.2) h))
+  past_one_fewer (suc (suc (suc (suc zero)))) (tables, (are, h)) = (tables, (are, both_weaker paths (IsSmall files tables) (HasRule files tables) (λ p r. (r.0, r.1, r.2)) h))
   past_one_fewer (suc (suc (suc (suc (suc zero))))) (tables, small, one) = (tables, small)
   past_one_fewer (suc (suc (suc (suc (suc (suc n)))))) h = h
 
@@ -288,18 +278,18 @@ module _ (files : List (List ℕ × List ℕ)) (rules : List (List ℕ)) (asks :
 
   -- a cause before the one that counts cells isn't past itself
   not_past : (cause : Cause) → suc (place cause) ≤ 6 → HasCause files rules asks paths cause → IsPast files rules paths (suc (place cause)) → ⊥
-  not_past NoFile m (inl none) past = all_or_some (IsThere files) (IsMissing files) (there_or_none files) paths past.0 none
+  not_past NoFile m (inl none) past = both_or_either paths (IsThere files) (IsMissing files) (there_or_none files) past.0 none
   not_past NoFile m (inr none) past = all_or_some (IsThere files) (IsMissing files) (there_or_none files) rules past.1 none
   not_past (BadTable fault) m h (tables, (are, past)) = tables_or_fault fault tables are h.1
-  not_past (BadPattern fault) m (tables, good, first) (others, (there, past)) = all_or_first (IsReadableFile files) (IsBadPattern files fault) (λ p. reads_or_fault files p fault) paths past first
+  not_past (BadPattern fault) m (tables, good, first) (others, (there, past)) = both_or_first paths (IsReadableFile files) (IsBadPattern files fault) (λ p. reads_or_fault files p fault) past first
   not_past (BadRule fault) m (tables, (are, all), first) (others, (there, past)) =
-      all_or_first (HasRule files tables) (IsUnnamed files tables fault) (λ p. named_or_fault_at files p tables fault) paths
-      (of_these files rules (λ t. AllByRecursion (HasRule files t) paths) tables others are there past) first
+      both_or_first paths (HasRule files tables) (IsUnnamed files tables fault) (λ p. named_or_fault_at files p tables fault)
+      (of_these files rules (λ t. HoldsOfBoth (HasRule files t) paths) tables others are there past) first
   not_past StateTooLarge m (tables, (are, all), some) (others, (there, past)) =
-      all_or_some (IsSmall files tables) (IsLarge files tables) (λ p. small_or_large_at files p tables) paths
-      (of_these files rules (λ t. AllByRecursion (IsSmall files t) paths) tables others are there past) some
+      both_or_either paths (IsSmall files tables) (IsLarge files tables) (λ p. small_or_large_at files p tables)
+      (of_these files rules (λ t. HoldsOfBoth (IsSmall files t) paths) tables others are there past) some
   not_past MixedRules m (tables, (are, all), some) (others, (there, past), one) =
-      of_these files rules (λ t. SomeOf (λ p. SomeOf (HaveOtherRules files t p) paths) paths → ⊥) tables others are there one some
+      of_these files rules (λ t. HaveOtherRules files t paths.first paths.second → ⊥) tables others are there one some
   not_past TooManyCells m h past = let no : ⊥ = omega arith in no
   not_past Work m h past = let no : ⊥ = omega arith in no
   not_past Memory m h past = let no : ⊥ = omega arith in no
@@ -312,12 +302,12 @@ module _ (files : List (List ℕ × List ℕ)) (rules : List (List ℕ)) (asks :
   same_place (BadTable f) (BadTable g) m n e h k =
       ap BadTable (one_first (HoldsTable files) (IsBadTable files f) (IsBadTable files g) (f ≡ g) (λ p. table_or_fault files p f) (λ p. table_or_fault files p g) (λ p. one_bad_table files p f g) rules h.1 k.1)
   same_place (BadPattern f) (BadPattern g) m n e (tables, past, first) (others, past_too, other) =
-      ap BadPattern (one_first (IsReadableFile files) (IsBadPattern files f) (IsBadPattern files g) (f ≡ g) (λ p. reads_or_fault files p f) (λ p. reads_or_fault files p g) (λ p. one_pattern_fault files p f g) paths first other)
+      ap BadPattern (one_first_of_both paths (IsReadableFile files) (IsBadPattern files f) (IsBadPattern files g) (f ≡ g) (λ p. reads_or_fault files p f) (λ p. reads_or_fault files p g) (λ p. one_pattern_fault files p f g) first other)
   same_place (BadRule f) (BadRule g) m n e (tables, (are, all), first) (others, (there, each), other) =
       let same = one_tables files rules others tables there are in
-      let too = subst (λ t. FirstBad (HasRule files t) (IsUnnamed files t g) paths) same other in
-      ap BadRule (one_first (HasRule files tables) (IsUnnamed files tables f) (IsUnnamed files tables g) (f ≡ g)
-      (λ p. named_or_fault_at files p tables f) (λ p. named_or_fault_at files p tables g) (λ p. one_rule_fault files p tables f g) paths first too)
+      let too = subst (λ t. FirstBadOfBoth (HasRule files t) (IsUnnamed files t g) paths) same other in
+      ap BadRule (one_first_of_both paths (HasRule files tables) (IsUnnamed files tables f) (IsUnnamed files tables g) (f ≡ g)
+      (λ p. named_or_fault_at files p tables f) (λ p. named_or_fault_at files p tables g) (λ p. one_rule_fault files p tables f g) first too)
   same_place StateTooLarge StateTooLarge m n e h k = refl
   same_place MixedRules MixedRules m n e h k = refl
   same_place TooManyCells TooManyCells m n e h k = refl
@@ -349,7 +339,7 @@ module _ (files : List (List ℕ × List ℕ)) (rules : List (List ℕ)) (asks :
 
 -- ---- judged claims
 
-module _ (files : List (List ℕ × List ℕ)) (rules : List (List ℕ)) (asks : Asks) (paths : List (List ℕ)) where
+module _ (files : List (List ℕ × List ℕ)) (rules : List (List ℕ)) (asks : Asks) (paths : Both (List ℕ)) where
   -- where they agree, no cause holds before the one that counts cells
   agreed_or_early : (cells other : Picture) (rule : RuleValue) (cause : Cause) → suc (place cause) ≤ 6 → AgreeOn files rules paths cells other rule → HasCause files rules asks paths cause → ⊥
   agreed_or_early cells other rule cause early agree h =

@@ -1,5 +1,5 @@
 -- True answers: what a yes, a no and a refusal say of the files that were handed in, and what a refusal is about.
-use Rattle.std.specs.Prelude.{◌≡◌, ℕ, IsTrue, List, [], ◌∷◌, Option, Some, None, Vec, ◌⊎◌}
+use Rattle.std.specs.Prelude.{◌≡◌, ℕ, IsTrue, List, Option, Some, None, Vec, ◌⊎◌}
 use Rattle.std.specs.declared.alloc.Global.{Global}
 use Rattle.std.specs.List.{AllZip, AllByRecursion}
 use Rattle.ca_plane.specs.Plane.{Picture, cell}
@@ -14,7 +14,9 @@ use Rattle.ca_verify.specs.declared.verdict.Verdict.TheVariants.{Yes, No, Refuse
 use Rattle.ca_pattern.specs.declared.pattern_fault.PatternFault.{PatternFault}
 use Rattle.ca_pattern.specs.declared.cause.Cause.{Cause}
 use Rattle.ca_pattern.specs.declared.cause.Cause.TheVariants.{NoFile, BadTable, BadPattern, BadRule, StateTooLarge, MixedRules, TooManyCells, Work, Memory}
-use Rattle.ca_text.specs.Firsts.{FirstBad, FirstIs}
+use Rattle.ca_text.specs.declared.both.Both.{Both}
+use Rattle.ca_text.specs.Both.{HoldsOfBoth, HoldsOfEither, FirstBadOfBoth}
+use Rattle.ca_text.specs.Firsts.{FirstBad}
 use Rattle.ca_text.specs.declared.asks.Asks.{Asks}
 use Rattle.ca_verify.specs.Work.{MayBeUsedUp}
 use Rattle.ca_text.specs.SomeOf.{SomeOf}
@@ -113,40 +115,40 @@ pub record IsGoodPattern (files : List (List ℕ × List ℕ)) (tables : List Ta
 abbrev pub IsCrowded : List (List ℕ × List ℕ) → List TableRule → List ℕ → Type 0
 IsCrowded files tables path = (cells : Picture) × (rule : RuleValue) × IsGoodPattern files tables path cells rule × HasTooManyCells (cell cells)
 
--- the patterns of a claim's paths mean these cells under this rule; where there is one pattern, it is the other too
-abbrev pub AreGood : List (List ℕ × List ℕ) → List TableRule → List (List ℕ) → Picture → Picture → RuleValue
+-- the patterns of a claim's paths mean these cells, of small states, under this rule
+abbrev pub AreGood : List (List ℕ × List ℕ) → List TableRule → Both (List ℕ) → Picture → Picture → RuleValue
     → Type 0
-AreGood files tables [] cells other rule = ⊥
-AreGood files tables (path ∷ []) cells other rule = IsGoodPattern files tables path cells rule × (other ≡ cells)
-AreGood files tables (path ∷ other_path ∷ []) cells other rule =
-    IsGoodPattern files tables path cells rule × (other_rule : RuleValue) × IsGoodPattern files tables other_path other other_rule × IsSameRule rule other_rule
-AreGood files tables (path ∷ other_path ∷ third ∷ paths) cells other rule = ⊥
+AreGood files tables paths cells other rule =
+    IsGoodPattern files tables paths.first cells rule × (other_rule : RuleValue) × IsGoodPattern files tables paths.second other other_rule × IsSameRule rule other_rule
 
 -- A claim about patterns of these paths is judged in stages; `rules` are the paths of the text's rule lines. First: all the
 -- files are there
-abbrev pub FilesAreThere : List (List ℕ × List ℕ) → (rules paths : List (List ℕ)) → Type 0
-FilesAreThere files rules paths = AllByRecursion (IsThere files) paths × AllByRecursion (IsThere files) rules
+abbrev pub FilesAreThere : List (List ℕ × List ℕ) → (rules : List (List ℕ)) → (paths : Both (List ℕ)) → Type 0
+FilesAreThere files rules paths = HoldsOfBoth (IsThere files) paths × AllByRecursion (IsThere files) rules
 
 -- second: those of the rule lines are these good tables
-abbrev pub TablesAreGood : List (List ℕ × List ℕ) → (rules paths : List (List ℕ)) → List TableRule → Type 0
-TablesAreGood files rules paths tables = AreTables files rules tables × AllByRecursion (IsThere files) paths
+abbrev pub TablesAreGood : List (List ℕ × List ℕ) → (rules : List (List ℕ)) → (paths : Both (List ℕ))
+    → List TableRule → Type 0
+TablesAreGood files rules paths tables = AreTables files rules tables × HoldsOfBoth (IsThere files) paths
 
 -- third: the patterns' are read
-abbrev pub PatternsAreRead : List (List ℕ × List ℕ) → (rules paths : List (List ℕ)) → List TableRule → Type 0
-PatternsAreRead files rules paths tables = AreTables files rules tables × AllByRecursion (IsReadableFile files) paths
+abbrev pub PatternsAreRead : List (List ℕ × List ℕ) → (rules : List (List ℕ)) → (paths : Both (List ℕ))
+    → List TableRule → Type 0
+PatternsAreRead files rules paths tables = AreTables files rules tables × HoldsOfBoth (IsReadableFile files) paths
 
 -- fourth: their rule texts name rules
-abbrev pub PatternsHaveRules : List (List ℕ × List ℕ) → (rules paths : List (List ℕ)) → List TableRule
-    → Type 0
-PatternsHaveRules files rules paths tables = AreTables files rules tables × AllByRecursion (HasRule files tables) paths
+abbrev pub PatternsHaveRules : List (List ℕ × List ℕ) → (rules : List (List ℕ)) → (paths : Both (List ℕ))
+    → List TableRule → Type 0
+PatternsHaveRules files rules paths tables = AreTables files rules tables × HoldsOfBoth (HasRule files tables) paths
 
 -- fifth: their states are small
-abbrev pub StatesAreSmall : List (List ℕ × List ℕ) → (rules paths : List (List ℕ)) → List TableRule → Type 0
-StatesAreSmall files rules paths tables = AreTables files rules tables × AllByRecursion (IsSmall files tables) paths
+abbrev pub StatesAreSmall : List (List ℕ × List ℕ) → (rules : List (List ℕ)) → (paths : Both (List ℕ))
+    → List TableRule → Type 0
+StatesAreSmall files rules paths tables = AreTables files rules tables × HoldsOfBoth (IsSmall files tables) paths
 
 -- sixth: they are of one rule, and mean these cells under it
-abbrev pub AgreeOn : List (List ℕ × List ℕ) → (rules paths : List (List ℕ)) → Picture → Picture → RuleValue
-    → Type 0
+abbrev pub AgreeOn : List (List ℕ × List ℕ) → (rules : List (List ℕ)) → (paths : Both (List ℕ))
+    → Picture → Picture → RuleValue → Type 0
 AgreeOn files rules paths cells other rule = (tables : List TableRule) × AreTables files rules tables × AreGood files tables paths cells other rule
 
 -- cells are counted where the claim moves them: a spaceship's own, and those of a pattern that another becomes, moved
@@ -162,22 +164,22 @@ HasFewCounted asks cells other = IsCounted asks → HasFewCells (cell (expected_
 
 -- the cause of a refusal: a claim gets through these stages, and this is wrong at the next. Out of work comes after them all. Out of
 -- memory comes at any stage after the second, and only where the first of the patterns may need memory. The claim asks this, of patterns at these paths
-abbrev pub HasCause : List (List ℕ × List ℕ) → List (List ℕ) → Asks → (paths : List (List ℕ)) → Cause → Type 0
-HasCause files rules asks paths NoFile = SomeOf (IsMissing files) paths ⊎ SomeOf (IsMissing files) rules
+abbrev pub HasCause : List (List ℕ × List ℕ) → List (List ℕ) → Asks → (paths : Both (List ℕ)) → Cause → Type 0
+HasCause files rules asks paths NoFile = HoldsOfEither (IsMissing files) paths ⊎ SomeOf (IsMissing files) rules
 HasCause files rules asks paths (BadTable fault) = FilesAreThere files rules paths × FirstBad (HoldsTable files) (IsBadTable files fault) rules
 HasCause files rules asks paths (BadPattern fault) =
-    (tables : List TableRule) × TablesAreGood files rules paths tables × FirstBad (IsReadableFile files) (IsBadPattern files fault) paths
+    (tables : List TableRule) × TablesAreGood files rules paths tables × FirstBadOfBoth (IsReadableFile files) (IsBadPattern files fault) paths
 HasCause files rules asks paths (BadRule fault) =
-    (tables : List TableRule) × PatternsAreRead files rules paths tables × FirstBad (HasRule files tables) (IsUnnamed files tables fault) paths
+    (tables : List TableRule) × PatternsAreRead files rules paths tables × FirstBadOfBoth (HasRule files tables) (IsUnnamed files tables fault) paths
 HasCause files rules asks paths StateTooLarge =
-    (tables : List TableRule) × PatternsHaveRules files rules paths tables × SomeOf (IsLarge files tables) paths
+    (tables : List TableRule) × PatternsHaveRules files rules paths tables × HoldsOfEither (IsLarge files tables) paths
 HasCause files rules asks paths MixedRules =
-    (tables : List TableRule) × StatesAreSmall files rules paths tables × SomeOf (λ p. SomeOf (HaveOtherRules files tables p) paths) paths
+    (tables : List TableRule) × StatesAreSmall files rules paths tables × HaveOtherRules files tables paths.first paths.second
 HasCause files rules asks paths TooManyCells =
     (cells : Picture) × (other : Picture) × (rule : RuleValue) × AgreeOn files rules paths cells other rule × HasTooManyCounted asks cells other
 HasCause files rules asks paths Work =
     (cells : Picture) × (other : Picture) × (rule : RuleValue) × AgreeOn files rules paths cells other rule × HasFewCounted asks cells other
-HasCause files rules asks paths Memory = (tables : List TableRule) × TablesAreGood files rules paths tables × FirstIs (WantsMemory files) paths
+HasCause files rules asks paths Memory = (tables : List TableRule) × TablesAreGood files rules paths tables × WantsMemory files paths.first
 
 -- What a cause is about, beside what it says. The claim as a whole: its patterns' rules differ, or work or memory is out
 abbrev pub IsOfClaim : Cause → Type 0
@@ -200,9 +202,10 @@ IsOfPattern files rules cause First line text = ⊥
 
 -- a rule line's file, which has this path: it is the first that is missing, where all patterns' files are there; or the first that is no
 -- good table. `patterns` are the paths of the claim's patterns
-abbrev pub IsOfRuleFile : List (List ℕ × List ℕ) → (rules patterns : List (List ℕ)) → Cause → List ℕ → Type 0
+abbrev pub IsOfRuleFile : List (List ℕ × List ℕ) → (rules : List (List ℕ)) → (patterns : Both (List ℕ))
+    → Cause → List ℕ → Type 0
 IsOfRuleFile files rules patterns NoFile path =
-    AllByRecursion (IsThere files) patterns × FirstBad (IsThere files) (λ r. (r ≡ path) × IsMissing files r) rules
+    HoldsOfBoth (IsThere files) patterns × FirstBad (IsThere files) (λ r. (r ≡ path) × IsMissing files r) rules
 IsOfRuleFile files rules patterns (BadTable fault) path =
     FirstBad (HoldsTable files) (λ r. (r ≡ path) × IsBadTable files fault r) rules
 IsOfRuleFile files rules patterns cause path = ⊥

@@ -1,5 +1,6 @@
 -- What is left to be judged.
 use Rattle.std.specs.Prelude.{◌≡◌, ℕ, List, [], ◌∷◌}
+use Rattle.ca_text.specs.declared.both.Both.{Both}
 use Rattle.ca_verify.specs.declared.verdict.Answer.{Answer}
 use Rattle.ca_verify.specs.declared.note.Note.{Note}
 use Rattle.ca_text.specs.Text.{Claim}
@@ -12,7 +13,7 @@ pub record Judging : Type 0 where
   pub files : List (List ℕ × List ℕ)
   pub rules : List (List ℕ)
   pub claims : List (ℕ × Claim)
-  pub patterns : List (List (List ℕ × List ℕ))
+  pub patterns : List (Both (List ℕ × List ℕ))
   pub work : ℕ
 
 -- the first claim left was judged, by a true answer, which is out of work only within the work that a claim may take, and the others are left
@@ -22,7 +23,7 @@ pub record Judges (old new : Judging) (answer : Answer) : Type 0 where
   pub work : new.work ≡ old.work
   pub claim : ℕ × Claim
   pub claims : old.claims ≡ claim ∷ new.claims
-  pub its_patterns : List (List ℕ × List ℕ)
+  pub its_patterns : Both (List ℕ × List ℕ)
   pub patterns : old.patterns ≡ its_patterns ∷ new.patterns
   pub holds : IsTrueAnswer old.files old.rules claim answer
   pub within : IsWithinWork old.files old.rules old.work claim.1 answer.verdict

@@ -1,35 +1,34 @@
 //! Notes on verdicts.
 
-ghost use Rattle.std.specs.Prelude.{ℕ, ◌<◌, List, map, length};
-ghost use Rattle.std.specs.List.{AllByRecursion};
+ghost use Rattle.std.specs.Prelude.{◌≡◌, ℕ, ◌<◌, List, length};
 ghost use Rattle.ca_text.specs.Places.{path_at, named_path};
 ghost use Rattle.ca_verify.specs.Notes.{IsNote, HasItsNote};
-ghost use Rattle.ca_text.specs.OneOrTwo.{items};
-ghost use Rattle.ca_verify.specs.inner.Patterns.{IsListPart};
+ghost use Rattle.ca_text.specs.Both.{map_both, HoldsOfBoth};
+ghost use Rattle.ca_verify.specs.inner.Patterns.{part_of};
 ghost use Rattle.ca_verify.specs.inner.Refusals.{IsOnVerdict};
 
 use crate::note::Note;
 use crate::refusal::{About, JudgedClaim, WhichPattern};
 use crate::verdict::{Refutation, Verdict};
-use ca_text::{Claims, NamedPath, OneOrTwo};
+use ca_text::{Both, Claims, NamedPath};
 
 /// The note on a verdict on a claim about these patterns.
 pub(crate) fn note_on<'a>(
     claims: &'a Claims,
-    patterns: &OneOrTwo<NamedPath<'a>>,
+    patterns: &Both<NamedPath<'a>>,
     judged: JudgedClaim,
 ) -> Note<'a>
-    requires within { AllByRecursion (λ n. n.path < length claims.now.paths) (items patterns.now) }
+    requires within { HoldsOfBoth (λ n. n.path < length claims.now.paths) patterns.now }
     ensures { (files : List (List ℕ × List ℕ))
         → IsOnVerdict files claims.now.paths claims.now.rules
-        (map (λ n. path_at claims.now.paths n.path) (items patterns.now)) judged.verdict judged.about
-        → IsNote files claims.now.rules (map (named_path claims.now.paths) (items patterns.now))
+        (map_both (λ n. path_at claims.now.paths n.path) patterns.now) judged.verdict judged.about
+        → IsNote files claims.now.rules (map_both (named_path claims.now.paths) patterns.now)
         judged.verdict result
         × HasItsNote judged.verdict result }
 {
     match (judged.verdict, judged.about) {
         (Verdict::No(Refutation::Differs { .. }), _) => Note::Cell {
-            name: named_part(patterns, WhichPattern::First).name,
+            name: patterns.first.name,
         },
         (
             Verdict::Refused(_),
@@ -55,13 +54,12 @@ pub(crate) fn note_on<'a>(
     }
 }
 
-/// This one of a claim's patterns; the only one, where there is one.
-fn named_part<'a>(patterns: &OneOrTwo<NamedPath<'a>>, part: WhichPattern) -> NamedPath<'a>
-    ensures { IsListPart part (items patterns.now) result }
+/// This one of a claim's patterns.
+fn named_part<'a>(patterns: &Both<NamedPath<'a>>, part: WhichPattern) -> NamedPath<'a>
+    ensures { result ≡ part_of part patterns.now }
 {
-    match (patterns, part) {
-        (OneOrTwo::One(only), _) => *only,
-        (OneOrTwo::Two(first, _), WhichPattern::First) => *first,
-        (OneOrTwo::Two(_, second), WhichPattern::Second) => *second,
+    match part {
+        WhichPattern::First => patterns.first,
+        WhichPattern::Second => patterns.second,
     }
 }

@@ -1,8 +1,8 @@
 //! Verdicts on the claims of a text, each on its own.
 
-ghost use Rattle.std.specs.Prelude.{◌≡◌, ◌≢◌, ℕ, List, [], ◌∷◌, map, IfOk, OnErr, MatchResult};
+ghost use Rattle.std.specs.Prelude.{◌≡◌, ◌≢◌, ℕ, List, [], map, IfOk, OnErr, MatchResult};
 ghost use Rattle.std.specs.Option.{option_copied};
-ghost use Rattle.ca_text.specs.Text.{Claim as TextClaim, patterns_of, map_patterns};
+ghost use Rattle.ca_text.specs.Text.{Claim as TextClaim, map_patterns};
 ghost use Rattle.ca_text.specs.Places.{path_at};
 ghost use Rattle.ca_verify.specs.Files.{contents, bytes_at};
 ghost use Rattle.ca_verify.specs.declared.refusal.About.TheVariants as abouts;
@@ -15,8 +15,6 @@ ghost use Rattle.ca_plane.specs.Plane.{Picture};
 ghost use Rattle.ca_rule.specs.Rule.{rule_value, next_of};
 ghost use Rattle.ca_verify.specs.inner.Decided.{IsDecided};
 ghost use Rattle.ca_verify.specs.inner.Subjects.{IsSubject, AreShown};
-ghost use Rattle.ca_text.specs.OneOrTwo.{items};
-ghost use Rattle.ca_verify.specs.inner.Patterns.{IsEachOnce};
 ghost use Rattle.ca_pattern.specs.Spending.{HasLimits};
 ghost use Rattle.ca_verify.specs.inner.Refusals.{IsJudgedOn};
 ghost use Rattle.ca_verify.specs.inner.Tasks.{CanBeJudged, IsOnFiles};
@@ -36,7 +34,7 @@ use crate::refusal::{About, JudgedClaim, Refusal};
 use crate::verdict::{Answer, Verdict};
 use ca_pattern::{Cause, File, Limits, Observer};
 use ca_plane::Memory;
-use ca_text::{Asks, Claim, Claims, OneOrTwo};
+use ca_text::{Asks, Claims};
 pub use needed::NeededFiles;
 pub(crate) use pattern_cache::PatternCache;
 use prepared::{PreparedClaim, prepare};
@@ -158,7 +156,7 @@ fn judge<'a, O: Observer>(
         (map_patterns (path_at paths) task.now.claim.now) (Refused r.cause) r.about) }
 {
     let asks = task.claim.kind.asks();
-    let places = places_of(task.claim);
+    let places = task.claim.patterns();
     let prepared = prepare(
         alloc,
         cache,
@@ -198,24 +196,4 @@ fn decide_on<O: Observer>(
         asks,
     };
     decide(&mut leaper, &case, observer)
-}
-
-// The indices of the paths of a claim's patterns, each once.
-fn places_of(claim: &Claim<usize>) -> OneOrTwo<usize>
-    ensures { IsEachOnce (items result) (patterns_of claim.now) }
-{
-    match claim.other {
-        None => OneOrTwo::One(claim.pattern),
-        Some(other) => each_once(claim.pattern, other),
-    }
-}
-
-// One or both of two indices.
-fn each_once(first: usize, second: usize) -> OneOrTwo<usize>
-    ensures { IsEachOnce (items result) (first ∷ second ∷ []) }
-{
-    if first == second {
-        return OneOrTwo::One(first);
-    }
-    OneOrTwo::Two(first, second)
 }

@@ -1,5 +1,6 @@
 -- Marks of paths, by their indices.
-use Rattle.std.specs.Prelude.{ℕ, List, [], ◌∷◌, map, set, Bool, true}
+use Rattle.std.specs.Prelude.{ℕ, List, [], ◌∷◌, set, Bool, true}
+use Rattle.ca_text.specs.declared.both.Both.{Both}
 use Rattle.ca_text.specs.declared.line.ClaimLine.{ClaimLine}
 use Rattle.ca_text.specs.declared.line.NamePlace.{NamePlace}
 use Rattle.ca_text.specs.Text.{patterns_of}
@@ -9,7 +10,11 @@ abbrev pub with_marks : List Bool → List ℕ → List Bool
 with_marks marks [] = marks
 with_marks marks (i ∷ is) = with_marks (set marks i true) is
 
+-- and with those of the paths at both places
+abbrev pub both_marked : List Bool → Both NamePlace → List Bool
+both_marked marks places = with_marks marks (places.first.path ∷ places.second.path ∷ [])
+
 -- and with those of all patterns of these claims
 abbrev pub claims_marked : List Bool → List (ClaimLine NamePlace) → List Bool
 claims_marked marks [] = marks
-claims_marked marks (l ∷ ls) = claims_marked (with_marks marks (map (λ p. p.path) (patterns_of l.claim))) ls
+claims_marked marks (l ∷ ls) = claims_marked (both_marked marks (patterns_of l.claim)) ls

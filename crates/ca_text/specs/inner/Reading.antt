@@ -72,7 +72,7 @@ place_of names name = get_by (λ n. bytes_eq name n.now) names
 
 -- each of a claim's names is known
 abbrev pub AreKnownNames : (List ℕ → Option NamePlace) → text.Claim → Type 0
-AreKnownNames places claim = AllByRecursion (λ n. IsSome (places n)) (text.patterns_of claim)
+AreKnownNames places claim = AllByRecursion (λ n. IsSome (places n)) (text.names_of claim)
 
 -- the place of a name that is known
 abbrev pub known_place : Option NamePlace → NamePlace

@@ -1,5 +1,6 @@
 -- What a loop over claims judged and reported.
 use Rattle.std.specs.Prelude.{◌≡◌, ℕ, List, [], ◌++◌}
+use Rattle.ca_text.specs.declared.both.Both.{Both}
 use Rattle.ca_text.specs.Text.{Claim}
 use Rattle.ca_verify.specs.Judging.{Judging}
 use Rattle.ca_verdict_lines.specs.declared.finding.ReportStyle.{ReportStyle}
@@ -14,7 +15,7 @@ pub record WereJudged (old new : Judging) (findings : List Finding) : Type 0 whe
   pub work : new.work ≡ old.work
   pub judged : List (ℕ × Claim)
   pub claims : old.claims ≡ judged ++ new.claims
-  pub theirs : List (List (List ℕ × List ℕ))
+  pub theirs : List (Both (List ℕ × List ℕ))
   pub patterns : old.patterns ≡ theirs ++ new.patterns
   pub holds : AreFindings (with_claims old judged theirs) findings
 

@@ -1,6 +1,7 @@
 -- What is kept while the claims of a text are judged.
 use Rattle.std.specs.Prelude.{◌≡◌, ◌≢◌, ℕ, ◌≤◌, List, [], drop, length, slice_get, Option, Some}
 use Rattle.std.specs.Borrow.{Bor}
+use Rattle.ca_text.specs.declared.both.Both.{Both}
 use Rattle.ca_verify.specs.declared.verifier.tables.Tables.{Tables}
 use Rattle.ca_verify.specs.declared.verdict.Answer.{Answer}
 use Rattle.ca_pattern.specs.declared.limits.Limits.{Limits}
@@ -36,7 +37,7 @@ pub record IsAnswerTo (files : List (List ℕ × List ℕ)) (asked : ClaimText) 
   pub at : slice_get asked.claims index ≡ Some claim
   pub holds : IsTrueAnswer files asked.rules claim answer
   pub within : IsWithinWork files asked.rules work claim.1 answer.verdict
-  pub patterns : List (List ℕ × List ℕ)
+  pub patterns : Both (List ℕ × List ℕ)
   pub named : slice_get asked.patterns index ≡ Some patterns
   pub noted : IsNote files asked.rules patterns answer.verdict note
   pub given : HasItsNote answer.verdict note

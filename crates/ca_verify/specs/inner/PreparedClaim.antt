@@ -1,5 +1,5 @@
 -- What a claim is judged on, once its patterns are read.
-use Rattle.std.specs.Prelude.{◌≡◌, ℕ, List, [], ◌∷◌, Option, Some, None, IfSome, ◌⊎◌}
+use Rattle.std.specs.Prelude.{◌≡◌, ℕ, List, Bool, true, false, Option, Some, None, IfSome, ◌⊎◌}
 use Rattle.ca_plane.specs.Plane.{Picture}
 use Rattle.ca_plane.specs.Population.{HasFewCells, HasTooManyCells}
 use Rattle.ca_quad.specs.declared.node.Node.{Node}
@@ -9,13 +9,13 @@ use Rattle.ca_rule.specs.Rule.{rule_value}
 use Rattle.ca_text.specs.declared.asks.Asks.{Asks}
 use Rattle.ca_text.specs.declared.asks.Expected.{Expected}
 use Rattle.ca_text.specs.declared.asks.Expected.TheVariants.{Own, Other, NoCells}
+use Rattle.ca_text.specs.declared.both.Both.{Both}
 use Rattle.ca_verify.specs.declared.decide.ClaimTrees.{ClaimTrees}
 use Rattle.ca_pattern.specs.declared.limits.Limits.{Limits}
 use Rattle.ca_verify.specs.declared.refusal.About.TheVariants as about
 use Rattle.ca_verify.specs.declared.refusal.WhichPattern.{WhichPattern}
 use Rattle.ca_verify.specs.declared.refusal.WhichPattern.TheVariants.{First, Second}
 use Rattle.ca_verify.specs.declared.refusal.Refusal.{Refusal}
-use Rattle.ca_pattern.specs.declared.ruled.RuledPattern.{RuledPattern}
 use Rattle.ca_pattern.specs.declared.pattern_fault.PatternFault.{PatternFault}
 use Rattle.ca_pattern.specs.declared.pattern_fault.PatternFault.TheVariants as pattern_fault
 use Rattle.ca_pattern.specs.declared.cause.Cause.TheVariants.{BadPattern, StateTooLarge, MixedRules, TooManyCells}
@@ -33,7 +33,7 @@ use Rattle.ca_verify.specs.inner.Subjects.{AreShown}
 
 -- the trees show what the files of these paths mean, under one rule, and not too many cells where they are counted; the claim asks this
 pub record IsPrepared (files : List (List ℕ × List ℕ)) (rules : List (List ℕ)) (asks : Asks)
-    (paths : List (List ℕ)) (prepared : PreparedClaim) : Type 0 where
+    (paths : Both (List ℕ)) (prepared : PreparedClaim) : Type 0 where
   pub cells : Picture
   pub other : Picture
   pub shown : AreShown prepared.leaper.nodes prepared.subject cells other
@@ -46,17 +46,12 @@ expected_tree Own subject = Some subject.pattern
 expected_tree Other subject = Some subject.other
 expected_tree NoCells subject = None
 
--- the other of a claim's patterns is the last one
-abbrev pub last_part : List RuledPattern → WhichPattern
-last_part [] = First
-last_part (a ∷ []) = First
-last_part (a ∷ b ∷ patterns) = Second
-
--- which of a claim's patterns has the cells that are expected
-abbrev pub expected_part : Expected → WhichPattern → WhichPattern
-expected_part Own other = First
-expected_part Other other = other
-expected_part NoCells other = First
+-- which of a claim's patterns has the cells that are expected: where both are of one file, the first
+abbrev pub expected_part : (are_one : Bool) → Expected → WhichPattern
+expected_part true expected = First
+expected_part false Own = First
+expected_part false Other = Second
+expected_part false NoCells = First
 
 -- the cells that are counted aren't too many
 abbrev pub AreFewCounted : List Node → Asks → ClaimTrees → Type 0
@@ -67,9 +62,9 @@ abbrev pub refusal_for_count : WhichPattern → Refusal
 refusal_for_count part = record { cause = TooManyCells; about = about.Pattern part None None }
 
 -- why they aren't known to be few: no memory, or there are too many
-abbrev pub IsCountRefused : List Node → Asks → ClaimTrees → WhichPattern → Refusal → Type 0
-IsCountRefused nodes asks subject other refusal = (refusal ≡ record { cause = cause.Memory; about = about.Claim })
-    ⊎ ((refusal ≡ refusal_for_count (expected_part asks.expected other)) × IsCounted asks
+abbrev pub IsCountRefused : List Node → Asks → ClaimTrees → (are_one : Bool) → Refusal → Type 0
+IsCountRefused nodes asks subject are_one refusal = (refusal ≡ record { cause = cause.Memory; about = about.Claim })
+    ⊎ ((refusal ≡ refusal_for_count (expected_part are_one asks.expected)) × IsCounted asks
     × (tree : Tree) × (expected_tree asks.expected subject ≡ Some tree) × HasTooManyCells (trees.cell nodes tree))
 
 -- the refusal of a claim with a pattern that isn't read

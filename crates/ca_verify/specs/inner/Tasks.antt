@@ -1,8 +1,8 @@
 -- What is to be judged.
 use Rattle.std.specs.Prelude.{◌≡◌, ℕ, ◌<◌, List, map, length}
-use Rattle.std.specs.List.{AllByRecursion}
 use Rattle.std.specs.Option.{option_copied}
 use Rattle.ca_verify.specs.declared.verifier.task.Task.{Task}
+use Rattle.ca_text.specs.Both.{HoldsOfBoth}
 use Rattle.ca_text.specs.Text.{patterns_of, HasGoodNumbers}
 use Rattle.ca_verify.specs.Files.{bytes_at}
 use Rattle.ca_pattern.specs.Limited.{AreGoodLimits}
@@ -11,7 +11,7 @@ use Rattle.ca_verify.specs.NeededFiles.{AreRead}
 -- a claim of a text that was read, whose paths all have a place, within good limits
 pub record CanBeJudged (task : Task) : Type 0 where
   pub limits : AreGoodLimits task.limits
-  pub within : AllByRecursion (λ i. i < length task.needed.now.found.items) (patterns_of task.claim.now)
+  pub within : HoldsOfBoth (λ i. i < length task.needed.now.found.items) (patterns_of task.claim.now)
   pub numbers : HasGoodNumbers task.claim.now.kind
 
 -- it is judged on these files of a text with these paths, of which those of rule lines are given too

@@ -1,19 +1,18 @@
 //! The one rule of a claim's patterns, under which their states are small.
 
-ghost use Rattle.std.specs.Prelude.{IfOk, IfErr, MatchOption};
-ghost use Rattle.std.specs.List.{AllByRecursion};
+ghost use Rattle.std.specs.Prelude.{◌≡◌, IfOk, IfErr, IsTrue, IsFalse, MatchOption};
 ghost use Rattle.ca_quad.specs.Trees.{IsTree};
-ghost use Rattle.ca_rule.specs.Rule.{rule_value};
-ghost use Rattle.ca_text.specs.OneOrTwo.{items};
+ghost use Rattle.ca_rule.specs.Rule.{rule_value, states_of};
+ghost use Rattle.ca_text.specs.Both.{HoldsOfBoth};
 ghost use Rattle.ca_verify.specs.inner.Patterns.{FirstBadAt, AreOfOneRule, AreMixed, Disagree};
-ghost use Rattle.ca_pattern.specs.Patterns.{ShowsLarge, ShowsSmall};
+ghost use Rattle.ca_pattern.specs.Patterns.{rule_of, ShowsLarge, ShowsSmall};
 
 use crate::refusal::WhichPattern;
 use ca_pattern::{RuledPattern, has_large_state};
-use ca_plane::Memory;
+use ca_plane::{Automaton, Memory};
 use ca_quad::Store;
 use ca_rule::Rule;
-use ca_text::OneOrTwo;
+use ca_text::Both;
 use std::alloc::Global;
 
 /// Why patterns have no one rule under which their states are small.
@@ -31,12 +30,12 @@ pub(crate) enum Disagreement {
 pub(crate) fn agreed_rule<'t>(
     alloc: Global,
     store: &Store,
-    patterns: &OneOrTwo<RuledPattern<'t>>,
+    patterns: &Both<RuledPattern<'t>>,
 ) -> Result<Rule<'t>, Disagreement>
-    requires { AllByRecursion (λ r. IsTree store.now r.pattern.tree) (items patterns.now) }
-    ensures small { IfOk result (λ rule. AllByRecursion (ShowsSmall store.now) (items patterns.now)) }
-    ensures rule { IfOk result (λ rule. AreOfOneRule (items patterns.now) (rule_value rule)) }
-    ensures disagreement { IfErr result (Disagree store.now (items patterns.now)) }
+    requires { HoldsOfBoth (λ r. IsTree store.now r.pattern.tree) patterns.now }
+    ensures small { IfOk result (λ rule. HoldsOfBoth (ShowsSmall store.now) patterns.now) }
+    ensures rule { IfOk result (λ rule. AreOfOneRule patterns.now (rule_value rule)) }
+    ensures disagreement { IfErr result (Disagree store.now patterns.now) }
 {
     let Ok(large) = large_part(alloc, store, patterns) else {
         return Err(Disagreement::Memory);
@@ -54,43 +53,55 @@ pub(crate) fn agreed_rule<'t>(
 fn large_part(
     alloc: Global,
     store: &Store,
-    patterns: &OneOrTwo<RuledPattern<'_>>,
+    patterns: &Both<RuledPattern<'_>>,
 ) -> Result<Option<WhichPattern>, Memory>
-    requires { AllByRecursion (λ r. IsTree store.now r.pattern.tree) (items patterns.now) }
+    requires { HoldsOfBoth (λ r. IsTree store.now r.pattern.tree) patterns.now }
     ensures { IfOk result
-        (λ large. MatchOption large (AllByRecursion (ShowsSmall store.now) (items patterns.now))
-        (λ part. FirstBadAt part (items patterns.now) (ShowsSmall store.now) (ShowsLarge store.now))) }
+        (λ large. MatchOption large (HoldsOfBoth (ShowsSmall store.now) patterns.now)
+        (λ part. FirstBadAt part patterns.now (ShowsSmall store.now) (ShowsLarge store.now))) }
 {
-    match patterns {
-        OneOrTwo::One(only) => {
-            if has_large_state(alloc, store, only)? {
-                return Ok(Some(WhichPattern::First));
-            }
-        }
-        OneOrTwo::Two(first, second) => {
-            if has_large_state(alloc, store, first)? {
-                return Ok(Some(WhichPattern::First));
-            }
-            if has_large_state(alloc, store, second)? {
-                return Ok(Some(WhichPattern::Second));
-            }
-        }
+    if has_large_state(alloc, store, &patterns.first)? {
+        return Ok(Some(WhichPattern::First));
+    }
+    if second_is_large(alloc, store, patterns)? {
+        return Ok(Some(WhichPattern::Second));
     }
     Ok(None)
 }
 
-/// The rule of the patterns, or that of the first where the second's is the same.
-fn common_rule<'t>(patterns: &OneOrTwo<RuledPattern<'t>>) -> Option<Rule<'t>>
-    ensures { MatchOption result (AreMixed (items patterns.now))
-        (λ rule. AreOfOneRule (items patterns.now) (rule_value rule)) }
+/// Whether the second pattern has a cell with a state which its rule doesn't have, where the first has none.
+/// The same cells aren't looked at again.
+fn second_is_large(
+    alloc: Global,
+    store: &Store,
+    patterns: &Both<RuledPattern<'_>>,
+) -> Result<bool, Memory>
+    requires tree { IsTree store.now patterns.now.second.pattern.tree }
+    requires first { ShowsSmall store.now patterns.now.first }
+    ensures large { IfOk result (λ large. IsTrue large → ShowsLarge store.now patterns.now.second) }
+    ensures small { IfOk result (λ large. IsFalse large → ShowsSmall store.now patterns.now.second) }
 {
-    match patterns {
-        OneOrTwo::One(only) => Some(only.rule),
-        OneOrTwo::Two(first, second) => {
-            if !first.rule.same(&second.rule) {
-                return None;
-            }
-            Some(first.rule)
-        }
+    if shows_the_same(&patterns.first, &patterns.second) {
+        return Ok(false);
     }
+    has_large_state(alloc, store, &patterns.second)
+}
+
+/// Whether two patterns have one tree, and rules of as many states.
+fn shows_the_same(first: &RuledPattern<'_>, second: &RuledPattern<'_>) -> bool
+    ensures tree { IsTrue result → second.now.pattern.tree ≡ first.now.pattern.tree }
+    ensures states { IsTrue result → states_of (rule_of second.now) ≡ states_of (rule_of first.now) }
+{
+    second.pattern.tree == first.pattern.tree && second.rule.states() == first.rule.states()
+}
+
+/// The rule of the patterns, or that of the first where the second's is the same.
+fn common_rule<'t>(patterns: &Both<RuledPattern<'t>>) -> Option<Rule<'t>>
+    ensures { MatchOption result (AreMixed patterns.now)
+        (λ rule. AreOfOneRule patterns.now (rule_value rule)) }
+{
+    if !patterns.first.rule.same(&patterns.second.rule) {
+        return None;
+    }
+    Some(patterns.first.rule)
 }

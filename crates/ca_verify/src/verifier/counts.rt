@@ -1,9 +1,8 @@
 //! What a claim is judged on, and whether the cells that it moves are too many.
 
 ghost use Rattle.std.specs.Prelude.{◌≡◌, OnOk, IfErr, Some};
-ghost use Rattle.ca_text.specs.OneOrTwo.{items};
-ghost use Rattle.ca_verify.specs.inner.Patterns.{AreBoth};
-ghost use Rattle.ca_verify.specs.inner.PreparedClaim.{AreFewCounted, IsCountRefused, last_part, expected_part};
+ghost use Rattle.ca_verify.specs.inner.Patterns.{trees_of};
+ghost use Rattle.ca_verify.specs.inner.PreparedClaim.{AreFewCounted, IsCountRefused, expected_part};
 ghost use Rattle.ca_verify.specs.inner.PreparedClaim.{expected_tree, refusal_for_count};
 ghost use Rattle.ca_pattern.specs.PatternTrees.{IsPattern};
 
@@ -11,7 +10,7 @@ use crate::decide::ClaimTrees;
 use crate::refusal::{About, Refusal, WhichPattern};
 use ca_pattern::{Cause, RuledPattern, has_too_many_cells};
 use ca_quad::{Store, Tree};
-use ca_text::{Asks, Expected, OneOrTwo};
+use ca_text::{Asks, Both, Expected};
 use std::alloc::Global;
 
 /// No memory for a claim.
@@ -20,45 +19,29 @@ pub(crate) const OUT_OF_MEMORY: Refusal = Refusal {
     about: About::Claim,
 };
 
-/// The trees of a claim's pattern and of the other one, which is the same where there is one.
-pub(crate) fn subject_of(patterns: &OneOrTwo<RuledPattern<'_>>) -> ClaimTrees
-    ensures { AreBoth (items patterns.now) result }
+/// The trees of both patterns of a claim.
+pub(crate) fn subject_of(patterns: &Both<RuledPattern<'_>>) -> ClaimTrees
+    ensures { result ≡ trees_of patterns.now }
 {
-    match patterns {
-        OneOrTwo::One(only) => ClaimTrees {
-            pattern: only.pattern.tree,
-            other: only.pattern.tree,
-        },
-        OneOrTwo::Two(first, second) => ClaimTrees {
-            pattern: first.pattern.tree,
-            other: second.pattern.tree,
-        },
+    ClaimTrees {
+        pattern: patterns.first.pattern.tree,
+        other: patterns.second.pattern.tree,
     }
 }
 
-/// Which of a claim's patterns is the other one.
-pub(crate) fn last_part(patterns: &OneOrTwo<RuledPattern<'_>>) -> WhichPattern
-    ensures { result ≡ last_part (items patterns.now) }
-{
-    match patterns {
-        OneOrTwo::One(_) => WhichPattern::First,
-        OneOrTwo::Two(_, _) => WhichPattern::Second,
-    }
-}
-
-/// Looks whether the cells that a claim moves are few: its pattern's, or those of the other one, which is
-/// this of its patterns.
+/// Looks whether the cells that a claim moves are few: its pattern's, or those of the other one. Both may be
+/// of one file.
 pub(crate) fn check_count(
     alloc: Global,
     store: &Store,
     subject: &ClaimTrees,
     asks: Asks,
-    other: WhichPattern,
+    are_one: bool,
 ) -> Result<(), Refusal>
     requires pattern { IsPattern store.now subject.now.pattern }
     requires other { IsPattern store.now subject.now.other }
     ensures few { OnOk result (AreFewCounted store.now asks subject.now) }
-    ensures many { IfErr result (IsCountRefused store.now asks subject.now other) }
+    ensures many { IfErr result (IsCountRefused store.now asks subject.now are_one) }
 {
     if !asks.moved {
         return Ok(());
@@ -68,7 +51,7 @@ pub(crate) fn check_count(
     };
     match has_too_many_cells(alloc, store, tree) {
         Ok(false) => Ok(()),
-        Ok(true) => Err(refusal_for_count(expected_part(asks.expected, other))),
+        Ok(true) => Err(refusal_for_count(expected_part(are_one, asks.expected))),
         Err(_) => Err(OUT_OF_MEMORY),
     }
 }
@@ -90,13 +73,16 @@ fn expected_tree(expected: Expected, subject: &ClaimTrees) -> Option<Tree>
     }
 }
 
-/// Which of a claim's patterns that is; the other one is this of them.
-fn expected_part(expected: Expected, other: WhichPattern) -> WhichPattern
-    ensures { result ≡ expected_part expected other }
+/// Which of a claim's patterns that is: where both are of one file, the first.
+fn expected_part(are_one: bool, expected: Expected) -> WhichPattern
+    ensures { result ≡ expected_part are_one expected }
 {
+    if are_one {
+        return WhichPattern::First;
+    }
     match expected {
         Expected::Own | Expected::NoCells => WhichPattern::First,
-        Expected::Other => other,
+        Expected::Other => WhichPattern::Second,
     }
 }
 

@@ -1,7 +1,6 @@
 //! What a claim is judged on, or why it isn't judged.
 
-ghost use Rattle.std.specs.Prelude.{◌≡◌, ℕ, ◌<◌, List, map, length, get_or, Some, None, IfOk, MatchResult};
-ghost use Rattle.std.specs.List.{AllByRecursion, AllZip};
+ghost use Rattle.std.specs.Prelude.{◌≡◌, ℕ, ◌<◌, List, map, length, get_or, Some, None, IfOk, IsTrue, MatchResult};
 ghost use Rattle.std.specs.Option.{option_copied};
 ghost use Rattle.ca_text.specs.Places.{path_at};
 ghost use Rattle.ca_verify.specs.Files.{bytes_at};
@@ -10,7 +9,8 @@ ghost use Rattle.ca_pattern.specs.Limited.{AreGoodLimits};
 ghost use Rattle.ca_verify.specs.declared.refusal.About.TheVariants as abouts;
 ghost use Rattle.ca_pattern.specs.declared.cause.Cause.TheVariants as causes;
 ghost use Rattle.ca_verify.specs.inner.Found.{IsFound};
-ghost use Rattle.ca_text.specs.OneOrTwo.{items};
+ghost use Rattle.ca_text.specs.declared.both.Both.{Both as BothOf};
+ghost use Rattle.ca_text.specs.Both.{map_both, HoldsOfBoth, ZipBoth};
 ghost use Rattle.ca_verify.specs.inner.Patterns.{FirstBadAt};
 ghost use Rattle.ca_verify.specs.inner.PreparedClaim.{IsPrepared, IsFit, reading_refusal};
 ghost use Rattle.ca_verify.specs.inner.PreparedClaim.{disagreement_refusal};
@@ -18,7 +18,7 @@ ghost use Rattle.ca_verify.specs.inner.Refusals.{IsRefusal};
 ghost use Rattle.ca_verify.specs.NeededFiles.{AreRead};
 
 use super::agreement::{Disagreement, agreed_rule};
-use super::counts::{OUT_OF_MEMORY, check_count, last_part, subject_of};
+use super::counts::{OUT_OF_MEMORY, check_count, subject_of};
 use super::pattern_cache::PatternCache;
 use super::patterns::{BadPart, read_each, with_rules};
 use super::tables::Tables;
@@ -28,7 +28,7 @@ use ca_pattern::{BadPattern, Cause, Limits, PatternFault, UnnamedRule, leaper_of
 use ca_quad::Store;
 use ca_rule::{Rule, Table};
 use ca_run::Leaper;
-use ca_text::{Asks, OneOrTwo};
+use ca_text::{Asks, Both};
 use std::alloc::Global;
 
 /// A leaper over the squares of a claim's patterns, under their one rule, and their trees.
@@ -42,18 +42,18 @@ pub(crate) struct PreparedClaim<'t> {
 pub(crate) fn prepare<'a, 't>(
     alloc: Global,
     cache: &mut PatternCache<'a>,
-    places: &OneOrTwo<usize>,
+    places: &Both<usize>,
     asks: Asks,
     found: &[Option<&'a [u8]>],
     tables: &'t Tables,
     limits: Limits,
 ) -> Result<PreparedClaim<'t>, Refusal>
     requires limits { AreGoodLimits limits }
-    requires within { AllByRecursion (λ i. i < length found.now) (items places.now) }
+    requires within { HoldsOfBoth (λ i. i < length found.now) places.now }
     ensures prepared { (files : List (List ℕ × List ℕ)) (paths rules : List (List ℕ))
         → map option_copied found.now ≡ map (bytes_at files) paths → AreRead files paths rules tables.now
-        → MatchResult result (IsPrepared files rules asks (map (path_at paths) (items places.now)))
-        (IsRefusal files paths rules asks (map (path_at paths) (items places.now))) }
+        → MatchResult result (IsPrepared files rules asks (map_both (path_at paths) places.now))
+        (IsRefusal files paths rules asks (map_both (path_at paths) places.now)) }
     ensures fit { IfOk result (IsFit limits) }
 {
     let files = match files_at(places, found) {
@@ -61,28 +61,31 @@ pub(crate) fn prepare<'a, 't>(
         Err(part) => return Err(of_pattern(Cause::NoFile, part, None)),
     };
     let tables = tables.all()?;
-    prepare_by(alloc, cache, &files, asks, tables, limits)
+    let are_one = places.first == places.second;
+    prepare_by(alloc, cache, &files, are_one, asks, tables, limits)
 }
 
 /// What a claim about the patterns whose files have these bytes is judged on, or why it isn't judged under
-/// the text's tables.
+/// the text's tables. Both may be one file.
 fn prepare_by<'a, 't>(
     alloc: Global,
     cache: &mut PatternCache<'a>,
-    there: &OneOrTwo<&'a [u8]>,
+    there: &Both<&'a [u8]>,
+    are_one: bool,
     asks: Asks,
     tables: &'t [Table],
     limits: Limits,
 ) -> Result<PreparedClaim<'t>, Refusal>
     requires limits { AreGoodLimits limits }
-    ensures prepared { (files : List (List ℕ × List ℕ)) (paths rules each : List (List ℕ))
-        → AllZip (λ path b. bytes_at files path ≡ Some b.now) each (items there.now)
+    requires one { IsTrue are_one → there.now.second ≡ there.now.first }
+    ensures prepared { (files : List (List ℕ × List ℕ)) (paths rules : List (List ℕ)) (each : BothOf (List ℕ))
+        → ZipBoth (λ path b. bytes_at files path ≡ Some b.now) each there.now
         → AreTables files rules tables.now
         → MatchResult result (IsPrepared files rules asks each) (IsRefusal files paths rules asks each) }
     ensures fit { IfOk result (IsFit limits) }
 {
     let mut store = Store::new(alloc);
-    let patterns = match read_each(alloc, cache, &mut store, there) {
+    let patterns = match read_each(alloc, cache, &mut store, there, are_one) {
         Ok(patterns) => patterns,
         Err(unread) => return Err(reading_refusal(unread)),
     };
@@ -95,7 +98,7 @@ fn prepare_by<'a, 't>(
         Err(disagreement) => return Err(disagreement_refusal(disagreement)),
     };
     let subject = subject_of(&patterns);
-    check_count(alloc, &store, &subject, asks, last_part(&patterns))?;
+    check_count(alloc, &store, &subject, asks, are_one)?;
     let Ok(leaper) = leaper_of(alloc, store, rule, limits) else {
         return Err(OUT_OF_MEMORY);
     };
@@ -159,24 +162,17 @@ fn disagreement_refusal(disagreement: Disagreement) -> Refusal
 
 /// The bytes at these indices, or the first of the two at which there are none.
 fn files_at<'a>(
-    places: &OneOrTwo<usize>,
+    places: &Both<usize>,
     found: &[Option<&'a [u8]>],
-) -> Result<OneOrTwo<&'a [u8]>, WhichPattern>
-    requires { AllByRecursion (λ i. i < length found.now) (items places.now) }
+) -> Result<Both<&'a [u8]>, WhichPattern>
+    requires { HoldsOfBoth (λ i. i < length found.now) places.now }
     ensures { MatchResult result
-        (λ files. AllZip (λ i b. get_or found.now i None ≡ Some b) (items places.now) (items files))
-        (λ part. FirstBadAt part (items places.now) (IsFound found.now)
-        (λ i. get_or found.now i None ≡ None)) }
+        (ZipBoth (λ i b. get_or found.now i None ≡ Some b) places.now)
+        (λ part. FirstBadAt part places.now (IsFound found.now) (λ i. get_or found.now i None ≡ None)) }
 {
-    match *places {
-        OneOrTwo::One(only) => match found[only] {
-            Some(only) => Ok(OneOrTwo::One(only)),
-            None => Err(WhichPattern::First),
-        },
-        OneOrTwo::Two(first, second) => match (found[first], found[second]) {
-            (Some(first), Some(second)) => Ok(OneOrTwo::Two(first, second)),
-            (None, _) => Err(WhichPattern::First),
-            (Some(_), None) => Err(WhichPattern::Second),
-        },
+    match (found[places.first], found[places.second]) {
+        (Some(first), Some(second)) => Ok(Both { first, second }),
+        (None, _) => Err(WhichPattern::First),
+        (Some(_), None) => Err(WhichPattern::Second),
     }
 }

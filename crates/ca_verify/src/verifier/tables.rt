@@ -7,6 +7,8 @@ ghost use Rattle.std.specs.Option.{option_copied};
 ghost use Rattle.ca_rule.specs.TableNext.{TableRule};
 ghost use Rattle.ca_rule.specs.declared.table.fault.TableFault.TheVariants as table_fault;
 ghost use Rattle.ca_text.specs.declared.asks.Asks.{Asks};
+ghost use Rattle.ca_text.specs.declared.both.Both.{Both};
+ghost use Rattle.ca_text.specs.Both.{HoldsOfBoth};
 ghost use Rattle.ca_text.specs.Places.{path_at};
 ghost use Rattle.ca_verify.specs.Files.{bytes_at};
 ghost use Rattle.ca_verify.specs.Answers.{IsThere, AreTables};
@@ -86,8 +88,8 @@ impl Tables {
         ensures tables { (files : List (List ℕ × List ℕ)) (paths rules : List (List ℕ))
             → AreRead files paths rules self.now → IfOk result (λ tables. AreTables files rules tables.now) }
         ensures refusal { (files : List (List ℕ × List ℕ)) (paths rules : List (List ℕ)) (asks : Asks)
-            (patterns : List (List ℕ)) → AreRead files paths rules self.now
-            → AllByRecursion (IsThere files) patterns
+            (patterns : Both (List ℕ)) → AreRead files paths rules self.now
+            → HoldsOfBoth (IsThere files) patterns
             → IfErr result (IsRefusal files paths rules asks patterns) }
     {
         match self {

@@ -74,7 +74,7 @@ returns-clause-claimed_needed c = (not_empty _ _, inr (inl (inl refl)))
 pub returns-clause-spare_unneeded : goal.returns-clause-spare_unneeded
 returns-clause-spare_unneeded c = λ h. elim h.1 [
   | inl none ↦ none
-  | inr some ↦ elim some [ inl claim ↦ elim claim [ inl same ↦ p_or_q same | inr none ↦ none ] | inr none ↦ none ]
+  | inr some ↦ elim some [ inl claim ↦ elim claim [ inl same ↦ p_or_q same | inr same ↦ p_or_q same ] | inr none ↦ none ]
 ]
 
 pub returns-clause-none_needed : goal.returns-clause-none_needed

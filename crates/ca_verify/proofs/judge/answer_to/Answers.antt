@@ -1,15 +1,14 @@
-use Rattle.std.proofs.Common.{◌<◌, map, refl, sym, subst}
-use Rattle.std.specs.List.{AllByRecursion}
+use Rattle.std.proofs.Common.{◌<◌, refl, sym, subst}
+use Rattle.ca_text.specs.Both.{map_both, HoldsOfBoth}
 use Rattle.ca_text.specs.Text.{patterns_of, map_patterns}
 use Rattle.ca_text.specs.Places.{path_at, named_path}
-use Rattle.ca_text.specs.OneOrTwo.{items}
 use Rattle.ca_verify.specs.inner.Refusals.{IsOnVerdict}
 use Rattle.ca_verify.proofs.judge.answer_to.Goals as goal
 
 pub verdict_on-judged-requires : goal.verdict_on-judged-requires
 verdict_on-judged-requires g c = record {
   limits = c.requires.limits;
-  within = subst (λ n. AllByRecursion (λ i. i < n) (patterns_of c.claim-asked.result.claim)) (sym c.requires.found) c.claim-asked.ensures.asked.within;
+  within = subst (λ n. HoldsOfBoth (λ i. i < n) (patterns_of c.claim-asked.result.claim)) (sym c.requires.found) c.claim-asked.ensures.asked.within;
   numbers = c.claim-asked.ensures.asked.numbers;
 }
 
@@ -27,7 +26,7 @@ returns g c = λ files e read.
       at = c.claim-asked.ensures.claim;
       holds = (refl, judged.holds);
       within = judged.within;
-      patterns = map (named_path paths) (items c.patterns.result);
+      patterns = map_both (named_path paths) c.patterns.result;
       named = c.patterns.ensures.patterns;
       noted = noted.0;
       given = noted.1;
