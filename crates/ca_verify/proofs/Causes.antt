@@ -8,6 +8,7 @@ use Rattle.ca_plane.specs.Plane.{Picture, cell}
 use Rattle.ca_plane.specs.Population.{HasFewCells, HasTooManyCells}
 use Rattle.ca_quad.specs.declared.node.Node.{Node}
 use Rattle.ca_quad.specs.declared.tree.Tree.{Tree}
+use Rattle.ca_quad.specs.Sound.{IsSoundStore}
 use Rattle.ca_quad.specs.Trees as trees
 use Rattle.ca_rule.specs.TableNext.{TableRule}
 use Rattle.ca_rule.specs.Rule.{RuleValue, rule_value, next_of, IsSameRule}
@@ -368,11 +369,12 @@ true_verdict files rules at limits claim prepared verdict is fit spent decided =
 -- ---- what is judged is fit for it
 
 module _ (nodes : List Node) where
-  pub all_fit : (patterns : Both RuledPattern) (limits : Limits) (prepared : PreparedClaim) → nodes ≡ prepared.leaper.nodes → HoldsOfBoth (λ r. IsPattern nodes r.pattern.tree) patterns → prepared.subject ≡ trees_of patterns
+  pub all_fit : (patterns : Both RuledPattern) (limits : Limits) (prepared : PreparedClaim) → nodes ≡ prepared.leaper.nodes → IsSoundStore nodes → HoldsOfBoth (λ r. IsPattern nodes r.pattern.tree) patterns → prepared.subject ≡ trees_of patterns
       → prepared.leaper.spent.used ≡ 0 → HasLimits limits prepared.leaper → IsFit limits prepared
-  all_fit patterns limits prepared same all both none has =
+  all_fit patterns limits prepared same sound all both none has =
       let each = both_are_patterns nodes patterns prepared.subject all both in
       record {
+        sound = subst IsSoundStore same sound;
         pattern = subst (λ n. IsPattern n prepared.subject.pattern) same each.0;
         other = subst (λ n. IsPattern n prepared.subject.other) same each.1;
         fresh = none;
@@ -381,4 +383,4 @@ module _ (nodes : List Node) where
 
 -- so is its subject for a claim
 pub is_subject : (limits : Limits) (kind : Kind) (asks : Asks) (prepared : PreparedClaim) → asks ≡ asks_of kind → HasGoodNumbers kind → IsFit limits prepared → IsSubject prepared.leaper.nodes asks prepared.subject
-is_subject limits kind asks prepared same good fit = record { pattern = fit.pattern; other = fit.other; bounded = subst IsBounded (sym same) (asks_bounded kind good) }
+is_subject limits kind asks prepared same good fit = record { sound = fit.sound; pattern = fit.pattern; other = fit.other; bounded = subst IsBounded (sym same) (asks_bounded kind good) }

@@ -28,6 +28,7 @@ use Rattle.ca_pattern.proofs.LeaptTrees.{pattern_stays, shows_stays}
 module _ (old new : List Node) (sound : IsSoundStore old) (grows : Grows old new) where
   pub case_stays : (case : Case) → IsCase old case → IsCase new case
   case_stays case h = record {
+    sound = grows.sound;
     pattern = pattern_stays old new sound grows case.subject.pattern h.pattern;
     other = pattern_stays old new sound grows case.subject.other h.other;
     bounded = h.bounded;

@@ -4,6 +4,7 @@ ghost use Rattle.std.specs.Prelude.{◌≡◌, ◌≢◌, ◌⊎◌, ℤ, None, 
 ghost use Rattle.ca_plane.specs.Plane.{Picture, cell as plane_cell};
 ghost use Rattle.ca_plane.specs.Generations.{after, IsAfter};
 ghost use Rattle.ca_quad.specs.Boxes.{IsDead};
+ghost use Rattle.ca_quad.specs.Sound.{IsSoundStore};
 ghost use Rattle.ca_quad.specs.Trees.{cell};
 ghost use Rattle.ca_run.specs.Leaping.{LeaperGrows, EndsAtLimit};
 ghost use Rattle.ca_run.specs.declared.fault.LeapFault.TheVariants as leap_fault;
@@ -97,8 +98,6 @@ fn refutation_of<A: Automaton, O: Observer>(
         case.now.subject.pattern.level case.now.asks.generations }
     ensures work { EndsAtLimit leaper.new.spent result }
 {
-    // Says what holds of every leaper.
-    let _ = leaper.store();
     if is_wrongly_dead(leaper, case) {
         return Ok(Some(Refutation::Empty));
     }
@@ -142,8 +141,6 @@ fn find_wrong_cell<A: Automaton, O: Observer>(
         case.now.asks.generations }
     ensures work { EndsAtLimit leaper.new.spent result }
 {
-    // Says what holds of every leaper.
-    let _ = leaper.store();
     let generations = case.asks.generations;
     let end = tree_after(leaper, &case.subject.pattern, generations, observer)?;
     let expected = claimed_tree(leaper, case)?;
@@ -204,6 +201,7 @@ fn find_difference<A: Automaton>(
     expected: &Tree,
     gens: u64,
 ) -> Result<Option<Refutation>, LeapFault>
+    requires sound { IsSoundStore leaper.old.nodes }
     requires end { IsNearTree leaper.old.nodes end.now }
     requires expected { IsNearTree leaper.old.nodes expected.now }
     ensures difference { IfOk result (λ refutation. MatchOption refutation
@@ -213,8 +211,6 @@ fn find_difference<A: Automaton>(
     ensures spent { leaper.new.spent ≡ leaper.old.spent }
     ensures work { EndsAtLimit leaper.new.spent result }
 {
-    // Says what holds of every leaper.
-    let _ = leaper.store();
     let found = leaper.difference(*end, *expected)?;
     Ok(difference_of(leaper.store(), *end, *expected, found, gens))
 }

@@ -4,6 +4,7 @@ use Rattle.ca_plane.specs.Plane.{Picture}
 use Rattle.ca_plane.specs.Population.{HasFewCells, HasTooManyCells}
 use Rattle.ca_quad.specs.declared.node.Node.{Node}
 use Rattle.ca_quad.specs.declared.tree.Tree.{Tree}
+use Rattle.ca_quad.specs.Sound.{IsSoundStore}
 use Rattle.ca_quad.specs.Trees as trees
 use Rattle.ca_rule.specs.Rule.{rule_value}
 use Rattle.ca_text.specs.declared.asks.Asks.{Asks}
@@ -82,8 +83,9 @@ disagreement_refusal (Large part) = record { cause = StateTooLarge; about = abou
 disagreement_refusal Mixed = record { cause = MixedRules; about = about.Claim }
 disagreement_refusal disagreement.Memory = record { cause = cause.Memory; about = about.Claim }
 
--- the trees are low ones in range, the leaper has these limits, and no work is done yet
+-- the store is sound, the trees are low ones in range, the leaper has these limits, and no work is done yet
 pub record IsFit (limits : Limits) (prepared : PreparedClaim) : Type 0 where
+  pub sound : IsSoundStore prepared.leaper.nodes
   pub pattern : IsPattern prepared.leaper.nodes prepared.subject.pattern
   pub other : IsPattern prepared.leaper.nodes prepared.subject.other
   pub fresh : prepared.leaper.spent.used ≡ 0

@@ -4,6 +4,7 @@ use Rattle.std.specs.Int.{◌∣◌}
 use Rattle.ca_plane.specs.Plane.{Picture, shifted}
 use Rattle.ca_plane.specs.Generations.{IsAfter, IsLiveAfter}
 use Rattle.ca_quad.specs.declared.node.Node.{Node}
+use Rattle.ca_quad.specs.Sound.{IsSoundStore}
 use Rattle.ca_quad.specs.Trees.{cell}
 use Rattle.ca_text.specs.declared.asks.Asks.{Asks}
 use Rattle.ca_text.specs.declared.asks.Forbidden.{Forbidden}
@@ -16,8 +17,9 @@ use Rattle.ca_text.specs.Truth.{MayReturnBy, ShowsNothingForbidden}
 use Rattle.ca_verify.specs.inner.Decided.{ForbidsReturns, IsBounded}
 use Rattle.ca_pattern.specs.PatternTrees.{IsPattern, ShowsTree, HasLive}
 
--- what a claim that asks this is judged on, as a store's squares show it
+-- what a claim that asks this is judged on, as the squares of a sound store show it
 pub record IsSubject (nodes : List Node) (asks : Asks) (subject : ClaimTrees) : Type 0 where
+  pub sound : IsSoundStore nodes
   pub pattern : IsPattern nodes subject.pattern
   pub other : IsPattern nodes subject.other
   pub bounded : IsBounded asks

@@ -43,8 +43,6 @@ pub(super) fn first_return<A: Automaton, O: Observer>(
         (case.now.asks.generations - 1) case.now.subject.pattern.level case.now.asks.generations }
     ensures work { EndsAtLimit leaper.new.spent result }
 {
-    // Says what holds of every leaper.
-    let _ = leaper.store();
     let mut time = case.asks.generations;
     let mut left = time;
     let mut found = None;
@@ -82,8 +80,6 @@ fn return_at<A: Automaton, O: Observer>(
     ensures takes { Takes leaper.old.spent.used leaper.new.spent.used 1 case.now.subject.pattern.level m }
     ensures work { EndsAtLimit leaper.new.spent result }
 {
-    // Says what holds of every leaper.
-    let _ = leaper.store();
     let end = tree_after(leaper, &case.subject.pattern, m, observer)?;
     let pattern = &case.subject.pattern;
     match case.asks.forbidden {

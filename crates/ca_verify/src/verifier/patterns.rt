@@ -1,7 +1,8 @@
 //! The patterns of a claim's files, and the rules of their texts.
 
-ghost use Rattle.std.specs.Prelude.{◌≡◌, ℕ, List, IfOk, IfErr, IsTrue, MatchResult, Ok, Err};
+ghost use Rattle.std.specs.Prelude.{◌≡◌, ℕ, List, OnOk, IfOk, IfErr, IsTrue, MatchResult, Ok, Err};
 ghost use Rattle.ca_quad.specs.declared.node.Node.{Node};
+ghost use Rattle.ca_quad.specs.Sound.{IsSoundStore};
 ghost use Rattle.ca_pattern.specs.Means.{IsReadable};
 ghost use Rattle.ca_text.specs.Both.{ZipBoth};
 ghost use Rattle.ca_verify.specs.inner.Patterns.{FirstBadAt, HasName};
@@ -33,6 +34,7 @@ pub(crate) fn read_each<'a>(
 ) -> Result<Both<Loaded>, BadPart<BadPattern>>
     requires one { IsTrue are_one → files.now.second ≡ files.now.first }
     ensures read { IfOk result (ZipBoth (λ b p. IsReadFrom store.new b.now p) files.now) }
+    ensures sound { OnOk result (IsSoundStore store.new) }
     ensures unread { IfErr result (λ bad. FirstBadAt bad.part files.now
         (λ b. IsReadable b.now) (λ b. IsUnread b.now bad.why)) }
 {

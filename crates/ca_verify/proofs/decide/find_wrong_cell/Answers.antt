@@ -7,7 +7,7 @@ pub tree_after-requires : goal.tree_after-requires
 tree_after-requires g c = record { pattern = c.requires.pattern; few = c.requires.bounded.few }
 
 pub claimed_tree-requires : goal.claimed_tree-requires
-claimed_tree-requires g c = case_stays c.args.leaper.now.nodes c.tree_after.new.leaper.nodes c.store.ensures.sound c.in_ok-end.ensures.goes_on.grows c.args.case.now c.requires
+claimed_tree-requires g c = case_stays c.args.leaper.now.nodes c.tree_after.new.leaper.nodes c.requires.sound c.in_ok-end.ensures.goes_on.grows c.args.case.now c.requires
 
 pub find_difference-requires-clause-end : goal.find_difference-requires-clause-end
 find_difference-requires-clause-end g c =
@@ -19,7 +19,7 @@ returns-clause-wrong g c = λ cells other shown.
     let s1 = c.tree_after.new.leaper.nodes in
     let subject = c.args.case.now.subject in
     let goes_on = c.in_ok-end.ensures.goes_on in
-    let later = shown_stays s0 s1 c.store.ensures.sound goes_on.grows subject c.requires.pattern.is_tree c.requires.other.is_tree cells other shown in
+    let later = shown_stays s0 s1 c.requires.sound goes_on.grows subject c.requires.pattern.is_tree c.requires.other.is_tree cells other shown in
     ok_as c.find_difference.result _ _
     (wrong_cell (g.A.Automaton.next_of c.args.leaper.now.rule) s0 s1 c.claimed_tree.new.leaper.nodes subject.pattern c.in_ok-end.end c.in_ok-expected.expected c.args.case.now.asks.generations
     c.in_ok-end.ensures.end goes_on.grows c.in_ok-expected.ensures.goes_on.grows cells _ shown.one (c.in_ok-expected.ensures.shows cells other later))

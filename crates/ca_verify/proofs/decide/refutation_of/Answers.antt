@@ -19,24 +19,24 @@ returns-in-Nothing-clause-refutation g c = λ cells other shown.
 pub first_death-requires : goal.first_death-requires
 first_death-requires g c =
     let forbidden = c.in-EmptyPlane.is in
-    death_stays c.args.leaper.now.nodes c.find_wrong_cell.new.leaper.nodes c.store.ensures.sound c.in_ok-refutation.ensures.goes_on.grows c.args.case.now
+    death_stays c.args.leaper.now.nodes c.find_wrong_cell.new.leaper.nodes c.requires.sound c.in_ok-refutation.ensures.goes_on.grows c.args.case.now
     (record { subject = c.requires; forbidden = forbidden; live = c.if-is_wrongly_dead.ensures.live refl (c.requires.bounded.live (death_is_some c.args.case.now.asks.forbidden forbidden)) })
 
 pub returns-in-EmptyPlane-clause-refutation : goal.returns-in-EmptyPlane-clause-refutation
 returns-in-EmptyPlane-clause-refutation g c = λ cells other shown.
-    by_death g.A.Automaton.next_of _ _ c.in_ok-refutation.ensures.goes_on.rule _ _ c.store.ensures.sound c.in_ok-refutation.ensures.goes_on.grows c.args.case.now c.requires
+    by_death g.A.Automaton.next_of _ _ c.in_ok-refutation.ensures.goes_on.rule _ _ c.requires.sound c.in_ok-refutation.ensures.goes_on.grows c.args.case.now c.requires
     (c.if-is_wrongly_dead.ensures.live refl) cells other shown (rw c.in_default.is at (c.in_ok-refutation.ensures.wrong cells other shown)) c.first_death.result c.in-EmptyPlane.is c.first_death.ensures.refutation
 
 pub first_return-requires : goal.first_return-requires
 first_return-requires g c =
     let other = c.in_default-forbidden in
     let asks = c.args.case.now.asks in
-    forbids_stays c.args.leaper.now.nodes c.find_wrong_cell.new.leaper.nodes c.store.ensures.sound c.in_ok-refutation.ensures.goes_on.grows c.args.case.now
+    forbids_stays c.args.leaper.now.nodes c.find_wrong_cell.new.leaper.nodes c.requires.sound c.in_ok-refutation.ensures.goes_on.grows c.args.case.now
     (record { subject = c.requires; forbidden = forbids_returns asks.forbidden other.not-Nothing other.not-EmptyPlane; live = c.if-is_wrongly_dead.ensures.live refl (c.requires.bounded.live other.not-Nothing) })
 
 pub returns-in_default-forbidden-clause-refutation : goal.returns-in_default-forbidden-clause-refutation
 returns-in_default-forbidden-clause-refutation g c = λ cells other shown.
-    by_return g.A.Automaton.next_of _ _ c.in_ok-refutation.ensures.goes_on.rule _ _ c.store.ensures.sound c.in_ok-refutation.ensures.goes_on.grows c.args.case.now c.requires
+    by_return g.A.Automaton.next_of _ _ c.in_ok-refutation.ensures.goes_on.rule _ _ c.requires.sound c.in_ok-refutation.ensures.goes_on.grows c.args.case.now c.requires
     (c.if-is_wrongly_dead.ensures.live refl) cells other shown (rw c.in_default.is at (c.in_ok-refutation.ensures.wrong cells other shown)) c.first_return.result
     c.in_default-forbidden.not-Nothing c.in_default-forbidden.not-EmptyPlane c.first_return.ensures.refutation
 

@@ -22,7 +22,7 @@ primes-init g c =
     let n = case.asks.generations in
     let some = c.requires.subject.bounded.some (return_is_some case.asks.forbidden c.requires.forbidden) in
     record {
-      goes_on = goes_on_same _ c.args.leaper.now c.store.ensures.sound;
+      goes_on = goes_on_same _ c.args.leaper.now c.requires.subject.sound;
       narrowed = all_left (g.A.Automaton.next_of c.args.leaper.now.rule) c.args.leaper.now.nodes case some;
       some = some;
       within = omega arith;
@@ -33,7 +33,7 @@ pub prime_factor-prime-requires-clause-few : goal.prime_factor-prime-requires-cl
 prime_factor-prime-requires-clause-few g c = let short = c.requires.subject.bounded.short c.requires.forbidden in omega (arith, short, c.primes.invariant.within)
 
 pub return_at-requires-clause-case : goal.return_at-requires-clause-case
-return_at-requires-clause-case g c = forbids_stays c.args.leaper.now.nodes c.primes.leaper.nodes c.store.ensures.sound c.primes.invariant.goes_on.grows c.args.case.now c.requires
+return_at-requires-clause-case g c = forbids_stays c.args.leaper.now.nodes c.primes.leaper.nodes c.requires.subject.sound c.primes.invariant.goes_on.grows c.args.case.now c.requires
 
 pub return_at-requires-clause-few : goal.return_at-requires-clause-few
 return_at-requires-clause-few g c =
@@ -54,7 +54,7 @@ primes-preserved-in-Some g c =
     let sooner = div-le_self c.primes.time q in
     let vector : ℤ × ℤ = c.in-Some.vector in
     let tried : (cells : Picture) → ShowsTree s0 case.subject.pattern cells → IsBackBy (next c.args.leaper.now.rule) cells case.asks.forbidden m vector = λ cells shows.
-    let later = shows_stays s0 c.primes.leaper.nodes c.store.ensures.sound inv.goes_on.grows case.subject.pattern cells c.requires.subject.pattern.is_tree shows in
+    let later = shows_stays s0 c.primes.leaper.nodes c.requires.subject.sound inv.goes_on.grows case.subject.pattern cells c.requires.subject.pattern.is_tree shows in
     subst (λ r. IsBackBy (next r) cells case.asks.forbidden m vector) inv.goes_on.rule (rw c.in-Some.is at (c.in_ok-vector.ensures.back cells later)) in
     record {
       goes_on = goes_on_again _ c.args.leaper.now c.primes.leaper c.return_at.new.leaper inv.goes_on c.in_ok-vector.ensures.goes_on;
@@ -77,7 +77,7 @@ primes-preserved g c =
     let rest = c.without_prime-left.ensures in
     let sooner = div-le_self c.primes.time q in
     let tried : (cells : Picture) → ShowsTree s0 case.subject.pattern cells → ShowsNothingForbidden (next c.args.leaper.now.rule) cells case.asks.forbidden m = λ cells shows.
-    let later = shows_stays s0 c.primes.leaper.nodes c.store.ensures.sound inv.goes_on.grows case.subject.pattern cells c.requires.subject.pattern.is_tree shows in
+    let later = shows_stays s0 c.primes.leaper.nodes c.requires.subject.sound inv.goes_on.grows case.subject.pattern cells c.requires.subject.pattern.is_tree shows in
     subst (λ r. ShowsNothingForbidden (next r) cells case.asks.forbidden m) inv.goes_on.rule (rw c.in-None.is at (c.in_ok-vector.ensures.back cells later)) in
     record {
       goes_on = goes_on_again _ c.args.leaper.now c.primes.leaper c.return_at.new.leaper inv.goes_on c.in_ok-vector.ensures.goes_on;

@@ -12,17 +12,17 @@ tree_after-requires g c = record { pattern = c.requires.case.subject.pattern; fe
 
 pub return_anywhere-requires-clause-pattern : goal.return_anywhere-requires-clause-pattern
 return_anywhere-requires-clause-pattern g c =
-    pattern_stays c.args.leaper.now.nodes c.tree_after.new.leaper.nodes c.store.ensures.sound c.in_ok-end.ensures.goes_on.grows c.args.case.now.subject.pattern c.requires.case.subject.pattern
+    pattern_stays c.args.leaper.now.nodes c.tree_after.new.leaper.nodes c.requires.case.subject.sound c.in_ok-end.ensures.goes_on.grows c.args.case.now.subject.pattern c.requires.case.subject.pattern
 
 pub return_anywhere-requires-clause-live : goal.return_anywhere-requires-clause-live
-return_anywhere-requires-clause-live g c = (forbids_stays c.args.leaper.now.nodes c.tree_after.new.leaper.nodes c.store.ensures.sound c.in_ok-end.ensures.goes_on.grows c.args.case.now c.requires.case).live
+return_anywhere-requires-clause-live g c = (forbids_stays c.args.leaper.now.nodes c.tree_after.new.leaper.nodes c.requires.case.subject.sound c.in_ok-end.ensures.goes_on.grows c.args.case.now c.requires.case).live
 
 pub returns-in-Anywhere-clause-back : goal.returns-in-Anywhere-clause-back
 returns-in-Anywhere-clause-back g c = λ cells shows.
     ok_as c.return_anywhere.result _ _
     (λ back told.
     back_there (g.A.Automaton.next_of c.args.leaper.now.rule) _ _ c.args.case.now c.requires.case c.in_ok-end.end c.args.m c.in_ok-end.ensures.end cells shows
-    (shows_stays _ _ c.store.ensures.sound c.in_ok-end.ensures.goes_on.grows _ cells c.requires.case.subject.pattern.is_tree shows) back c.in-Anywhere.is told)
+    (shows_stays _ _ c.requires.case.subject.sound c.in_ok-end.ensures.goes_on.grows _ cells c.requires.case.subject.pattern.is_tree shows) back c.in-Anywhere.is told)
     c.return_anywhere.ensures.back
 
 pub returns-in-Anywhere-clause-goes_on : goal.returns-in-Anywhere-clause-goes_on
@@ -31,7 +31,7 @@ returns-in-Anywhere-clause-goes_on g c = goes_on_again _ c.args.leaper.now c.tre
 pub returns-in-None-clause-back : goal.returns-in-None-clause-back
 returns-in-None-clause-back g c = λ cells shows.
     back_here (g.A.Automaton.next_of c.args.leaper.now.rule) _ _ c.args.case.now c.requires.case c.in_ok-end.end c.args.m c.in_ok-end.ensures.end cells shows
-    (shows_stays _ _ c.store.ensures.sound c.in_ok-end.ensures.goes_on.grows _ cells c.requires.case.subject.pattern.is_tree shows) (Some (pos 0, pos 0)) c.in_default.not-Anywhere
+    (shows_stays _ _ c.requires.case.subject.sound c.in_ok-end.ensures.goes_on.grows _ cells c.requires.case.subject.pattern.is_tree shows) (Some (pos 0, pos 0)) c.in_default.not-Anywhere
     (refl, refl, c.in_ok-difference-in_default.ensures.none.0 (rw c.in-None.is refl))
 
 pub returns-in-None-clause-goes_on : goal.returns-in-None-clause-goes_on
@@ -44,7 +44,7 @@ pub returns-in-Some-clause-back : goal.returns-in-Some-clause-back
 returns-in-Some-clause-back g c = λ cells shows.
     let at = c.in-Some.field-0 in
     back_here (g.A.Automaton.next_of c.args.leaper.now.rule) _ _ c.args.case.now c.requires.case c.in_ok-end.end c.args.m c.in_ok-end.ensures.end cells shows
-    (shows_stays _ _ c.store.ensures.sound c.in_ok-end.ensures.goes_on.grows _ cells c.requires.case.subject.pattern.is_tree shows) None c.in_default.not-Anywhere
+    (shows_stays _ _ c.requires.case.subject.sound c.in_ok-end.ensures.goes_on.grows _ cells c.requires.case.subject.pattern.is_tree shows) None c.in_default.not-Anywhere
     (at.x, at.y, rw c.in-Some.is at c.in_ok-difference-in_default.ensures.some)
 
 pub returns-in-Some-clause-goes_on : goal.returns-in-Some-clause-goes_on

@@ -81,4 +81,4 @@ returns-clause-fit c =
     let nodes = c.read_each.new.store in
     let trees = are_patterns nodes c.args.there.now c.args.tables.now c.in-Ok.patterns c.in-Ok-with_rules.patterns c.in-Ok.ensures.read c.in-Ok-with_rules.ensures.named in
     let prepared : PreparedClaim = record { leaper = c.in-Ok-leaper_of.leaper; subject = c.subject_of-subject.result } in
-    all_fit nodes c.in-Ok-with_rules.patterns c.args.limits prepared (sym c.in-Ok-leaper_of.ensures.store) trees c.subject_of-subject.ensures c.in-Ok-leaper_of.ensures.used c.in-Ok-leaper_of.ensures.limits
+    all_fit nodes c.in-Ok-with_rules.patterns c.args.limits prepared (sym c.in-Ok-leaper_of.ensures.store) c.in-Ok.ensures.sound trees c.subject_of-subject.ensures c.in-Ok-leaper_of.ensures.used c.in-Ok-leaper_of.ensures.limits
