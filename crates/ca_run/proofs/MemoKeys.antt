@@ -74,8 +74,8 @@ pub none-put : {P : Type 0} {n i j half : ℕ} {v : Option ℕ} → P ⊎ ((OfPa
 none-put (inl p) = p
 none-put (inr q) = let e = q.0 in absurd (let no : ⊥ = cc in no)
 
--- a page that stands after one was set is that one, or stood
-pub set-cases : (pages : List (Option Page)) (n m : ℕ) (q : Option Page) (p : Page) → slice_get (slice_set pages n q) m ≡ Some (Some p) → ((m ≡ n) × (q ≡ Some p)) ⊎ (slice_get pages m ≡ Some (Some p))
+-- a page or a result that stands after one was set is that one, or stood
+pub set-cases : {X : Type 0} (pages : List (Option X)) (n m : ℕ) (q : Option X) (p : X) → slice_get (slice_set pages n q) m ≡ Some (Some p) → ((m ≡ n) × (q ≡ Some p)) ⊎ (slice_get pages m ≡ Some (Some p))
 set-cases [] n m q p h = inr h
 set-cases (x ∷ xs) zero zero q p h = inl (refl, cc)
 set-cases (x ∷ xs) zero (suc m) q p h = inr h
@@ -98,3 +98,30 @@ opened-far pages n q none id half f = elim (set-cases pages n (id / 64) (Some q)
   | inl s ↦ let is : f.0 ≡ q = cc in absurd (none (id % 64) half (subst (λ (g : Page). HasSlot g (id % 64) half) is f.2))
   | inr r ↦ (f.0, r, f.2)
 ]
+
+-- nor does a page that is changed, but for its slots
+module _ (pages : List (Option Page)) (n : ℕ) (old new : Page) (was : slice_get pages n ≡ Some (Some old)) where
+  pub changed-held : (entries : List (Key × Option ℕ)) → ArePagesKept pages entries → ArePagesKept (slice_set pages n (Some new)) entries
+  changed-held entries held = opened-held pages entries n new (held n old was) held
+
+  pub changed-far : new.slots ≡ old.slots → (id half : ℕ) → HasFullLeapIn (slice_set pages n (Some new)) id half → HasFullLeapIn pages id half
+  changed-far slots id half f = elim (set-cases pages n (id / 64) (Some new) f.0 f.1) [
+    | inl s ↦
+        let is : f.0 ≡ new = cc in
+        (old, subst (λ m. slice_get pages m ≡ Some (Some old)) (sym s.0) was, subst (λ l. slice_get l (id % 64) ≡ Some (Some half)) slots (subst (λ (g : Page). HasSlot g (id % 64) half) is f.2))
+    | inr r ↦ (f.0, r, f.2)
+  ]
+
+  -- and one more result adds that
+  pub written-far : (id place half : ℕ) → place ≡ id → n ≡ place / 64 → new.slots ≡ slice_set old.slots (place % 64) (Some half) → (other centre : ℕ) → HasFullLeapIn (slice_set pages n (Some new)) other centre
+      → HasFullLeapIn pages other centre ⊎ ((other ≡ id) × (centre ≡ half))
+  written-far id place half is_place at slots other centre f = elim (set-cases pages n (other / 64) (Some new) f.0 f.1) [
+    | inl s ↦
+        let is : f.0 ≡ new = cc in
+        let here = subst (λ l. slice_get l (other % 64) ≡ Some (Some centre)) slots (subst (λ (g : Page). HasSlot g (other % 64) centre) is f.2) in
+        elim (set-cases old.slots (place % 64) (other % 64) (Some half) centre here) [
+          | inl t ↦ inr (omega (arith, s.0, t.0, at, is_place), cc)
+          | inr r ↦ inl (old, subst (λ m. slice_get pages m ≡ Some (Some old)) (sym s.0) was, r)
+        ]
+    | inr r ↦ inl (f.0, r, f.2)
+  ]

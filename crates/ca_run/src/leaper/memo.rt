@@ -15,7 +15,6 @@ use ca_quad::Id;
 use lru::LruCache;
 use std::alloc::Global;
 use std::marker::Model;
-use std::mem;
 use std::num::NonZeroUsize;
 
 // How many pages may be spared at one put, since they were used.
@@ -90,13 +89,8 @@ impl Memo {
             return None;
         }
         let page = self.pages[number].as_mut()?;
-        page.used = true;
-        let half = page.slots[place % SQUARES]?;
-        let bit = 1u64 << (place % SQUARES);
-        if page.looked_up & bit == 0 {
-            page.looked_up |= bit;
-            self.looked_up = self.looked_up.saturating_add(1);
-        }
+        let (half, first) = page.look_up(place % SQUARES)?;
+        self.looked_up = self.looked_up.saturating_add(usize::from(first));
         Some(half)
     }
 
@@ -175,9 +169,10 @@ impl Memo {
         if number >= self.pages.len() {
             return;
         }
-        if let Some(page) = &mut self.pages[number] {
-            page.slots[place % SQUARES] = Some(half);
-        }
+        let Some(page) = self.pages[number].as_mut() else {
+            return;
+        };
+        page.slots[place % SQUARES] = Some(half);
     }
 
     // Makes as many places for pages that this is one of them.
@@ -210,14 +205,14 @@ impl Memo {
         ensures order { self.new.order ≡ self.old.order }
         ensures room { length self.new.pages ≡ length self.old.pages }
     {
-        let number = page as usize;
-        if number >= self.pages.len() {
+        let index = page as usize;
+        if index >= self.pages.len() {
             return false;
         }
-        match &mut self.pages[number] {
-            Some(page) => mem::replace(&mut page.used, false),
-            None => false,
-        }
+        let Some(page) = self.pages[index].as_mut() else {
+            return false;
+        };
+        page.take_use()
     }
 
     // Puts a key that is to be the most recently used one. Where there are as many as may be, another goes.

@@ -1,9 +1,10 @@
 //! Results of squares with neighbouring numbers.
 
-ghost use Rattle.std.specs.Prelude.{ℕ};
+ghost use Rattle.std.specs.Prelude.{◌≡◌, ◌<◌, ℕ, IfSome};
 ghost use Rattle.ca_run.specs.inner.Pages.{HasSlot};
 
 use ca_quad::Id;
+use std::mem;
 
 /// Of how many squares a page has results.
 pub(crate) const SQUARES: usize = 64;
@@ -27,5 +28,25 @@ impl Page {
             used: false,
             looked_up: 0,
         }
+    }
+
+    /// The result in a slot, and whether it is looked up for the first time.
+    pub(crate) fn look_up(&mut self, slot: usize) -> Option<(Id, bool)>
+        requires { slot < 64 }
+        ensures found { IfSome result (λ found. HasSlot self.old slot found.0) }
+        ensures same { self.new.slots ≡ self.old.slots }
+    {
+        self.used = true;
+        let half = self.slots[slot]?;
+        let first = (self.looked_up >> slot) & 1 == 0;
+        self.looked_up |= 1 << slot;
+        Some((half, first))
+    }
+
+    /// Whether it was used since it was last spared: now it wasn't.
+    pub(crate) fn take_use(&mut self) -> bool
+        ensures { self.new.slots ≡ self.old.slots }
+    {
+        mem::replace(&mut self.used, false)
     }
 }
