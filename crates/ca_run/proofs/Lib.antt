@@ -17,6 +17,7 @@ pub mod Returns
 pub mod Returning
 pub mod Reading
 pub mod ReadWords
+pub mod RecentResults
 pub mod Heads
 pub mod Windows
 pub mod WrittenGenerations
