@@ -153,3 +153,41 @@ returns-clause-shows g c =
     worked c.generations.grid c.generations.stepped (cells_after next p (c.args.reached + c.args.n))
     (aged_less c.generations.grid (c.args.n - c.generations.k) 0 (cells_after next p (c.args.reached + c.args.n)) (omega arith)
     (subst (λ r. AgedGridShows c.generations.grid (c.args.n - c.generations.k) (cells_after next p r)) time c.generations.invariant.shows))
+
+pub returns-in_err-steps-clause-most : goal.returns-in_err-steps-clause-most
+returns-in_err-steps-clause-most g c =
+    charged_within c.args.n c.generations.k (length c.args.grid.live.bricks.items) c.len-count.result _ _ _ (omega (arith, c.generations-test.true))
+    (omega (arith, c.len-count.ensures, c.args.grid.live.bricks.ok.0)) c.generations.invariant.most c.count_steps.ensures.most
+
+pub returns-in_err-aged_generation-clause-most : goal.returns-in_err-aged_generation-clause-most
+returns-in_err-aged_generation-clause-most g c =
+    charged_within c.args.n c.generations.k (length c.args.grid.live.bricks.items) c.len-count.result _ _ _ (omega (arith, c.generations-test.true))
+    (omega (arith, c.len-count.ensures, c.args.grid.live.bricks.ok.0)) c.generations.invariant.most c.count_steps.ensures.most
+
+pub returns-in_err-wake_next-clause-most : goal.returns-in_err-wake_next-clause-most
+returns-in_err-wake_next-clause-most g c =
+    charged_within c.args.n c.generations.k (length c.args.grid.live.bricks.items) c.len-count.result _ _ _ (omega (arith, c.generations-test.true))
+    (omega (arith, c.len-count.ensures, c.args.grid.live.bricks.ok.0)) c.generations.invariant.most c.count_steps.ensures.most
+
+pub returns-clause-most : goal.returns-clause-most
+returns-clause-most g c =
+    let all : c.generations.k ≡ c.args.n = grind (arith, nat_tests) in
+    subst (λ n. c.generations.work.used ≤ c.args.work.now.used + n * length c.args.grid.live.bricks.items) all c.generations.invariant.most
+
+pub returns-in_err-steps-clause-spends : goal.returns-in_err-steps-clause-spends
+returns-in_err-steps-clause-spends g c = spends_again c.generations.invariant.spends c.count_steps.ensures.spends
+
+pub returns-in_err-aged_generation-clause-spends : goal.returns-in_err-aged_generation-clause-spends
+returns-in_err-aged_generation-clause-spends g c = spends_again c.generations.invariant.spends c.count_steps.ensures.spends
+
+pub returns-in_err-wake_next-clause-spends : goal.returns-in_err-wake_next-clause-spends
+returns-in_err-wake_next-clause-spends g c = spends_again c.generations.invariant.spends c.count_steps.ensures.spends
+
+pub returns-clause-spends : goal.returns-clause-spends
+returns-clause-spends g c = c.generations.invariant.spends
+
+pub returns-clause-place : goal.returns-clause-place
+returns-clause-place g c = let p = c.generations.invariant.place in record { place = record { x = p.place.x; y = p.place.y; across = p.place.across; down = p.place.down }; size = p.size }
+
+pub returns-clause-counts : goal.returns-clause-counts
+returns-clause-counts g c = c.generations.invariant.counted

@@ -107,6 +107,11 @@ returns-in_err-generation-clause-most g c =
     charged_within c.args.n c.generations.k (length c.args.grid.bricks.items) c.len-count.result _ _ _ (omega (arith, c.generations-test.true))
     (omega (arith, c.len-count.ensures, c.args.grid.bricks.ok.0)) c.generations.invariant.most c.count_steps.ensures.most
 
+pub returns-in_err-wake_next-clause-most : goal.returns-in_err-wake_next-clause-most
+returns-in_err-wake_next-clause-most g c =
+    charged_within c.args.n c.generations.k (length c.args.grid.bricks.items) c.len-count.result _ _ _ (omega (arith, c.generations-test.true))
+    (omega (arith, c.len-count.ensures, c.args.grid.bricks.ok.0)) c.generations.invariant.most c.count_steps.ensures.most
+
 pub returns-clause-most : goal.returns-clause-most
 returns-clause-most g c =
     let all : c.generations.k ≡ c.args.n = grind (arith, nat_tests) in
@@ -117,6 +122,9 @@ returns-in_err-steps-clause-spends g c = spends_again c.generations.invariant.sp
 
 pub returns-in_err-generation-clause-spends : goal.returns-in_err-generation-clause-spends
 returns-in_err-generation-clause-spends g c = spends_again c.generations.invariant.spends c.count_steps.ensures.spends
+
+pub returns-in_err-wake_next-clause-spends : goal.returns-in_err-wake_next-clause-spends
+returns-in_err-wake_next-clause-spends g c = spends_again c.generations.invariant.spends c.count_steps.ensures.spends
 
 pub returns-clause-spends : goal.returns-clause-spends
 returns-clause-spends g c = c.generations.invariant.spends
@@ -160,3 +168,9 @@ wake_next-requires-clause-inside g c =
     let old = c.generations.grid.bricks.items in
     let count : length old ≡ c.len-count.result = omega (arith, c.len-count.ensures, c.args.grid.bricks.ok.0, inv.count) in
     subst (λ n. AllHaveNeighbours across n c.generation.new.queue) count (queue_inside across (length old) c.generations.queue c.generation.new.queue inv.empty c.in_ok-generation.ensures.grows)
+
+pub returns-clause-place : goal.returns-clause-place
+returns-clause-place g c = c.generations.invariant.place
+
+pub returns-clause-counts : goal.returns-clause-counts
+returns-clause-counts g c = c.generations.invariant.counted
