@@ -317,3 +317,45 @@ leap_of_four-returns-in_err-half-clause-at_cost g t c = at_cost_more (at_both_co
 pub leap_of_four-returns-clause-at_cost : goal.leap_of_four-returns-clause-at_cost
 leap_of_four-returns-clause-at_cost g t c =
     at_cost_as refl c.remember_leap.ensures (at_cost_more (at_both_costs c.in_ok-id.ensures.at_cost c.in_ok-half.ensures.at_cost) (omega arith) (omega arith))
+
+pub pair-returns-in_err-west-clause-at_cost : goal.pair-returns-in_err-west-clause-at_cost
+pair-returns-in_err-west-clause-at_cost g t c = at_cost_more c.in_err-west.ensures.at_cost (omega arith) (omega arith)
+
+pub pair-returns-in_err-east-clause-at_cost : goal.pair-returns-in_err-east-clause-at_cost
+pair-returns-in_err-east-clause-at_cost g t c = at_cost_more (at_both_costs c.in_ok-west.ensures.at_cost c.in_err-east.ensures.at_cost) (omega arith) (omega arith)
+
+pub trio-returns-in_err-west-clause-at_cost : goal.trio-returns-in_err-west-clause-at_cost
+trio-returns-in_err-west-clause-at_cost g t c = at_cost_more c.in_err-west.ensures.at_cost (omega arith) (omega arith)
+
+pub trio-returns-in_err-middle-clause-at_cost : goal.trio-returns-in_err-middle-clause-at_cost
+trio-returns-in_err-middle-clause-at_cost g t c = at_cost_more (at_both_costs c.in_ok-west.ensures.at_cost c.in_err-middle.ensures.at_cost) (omega arith) (omega arith)
+
+pub trio-returns-in_err-east-clause-at_cost : goal.trio-returns-in_err-east-clause-at_cost
+trio-returns-in_err-east-clause-at_cost g t c = at_cost_more (at_both_costs (at_both_costs c.in_ok-west.ensures.at_cost c.in_ok-middle.ensures.at_cost) c.in_err-east.ensures.at_cost) (omega arith) (omega arith)
+
+pub middle_trio-returns-in_err-west-clause-at_cost : goal.middle_trio-returns-in_err-west-clause-at_cost
+middle_trio-returns-in_err-west-clause-at_cost g t c = at_cost_more c.in_err-west.ensures.at_cost (omega arith) (omega arith)
+
+pub middle_trio-returns-in_err-middle-clause-at_cost : goal.middle_trio-returns-in_err-middle-clause-at_cost
+middle_trio-returns-in_err-middle-clause-at_cost g t c = at_cost_more (at_both_costs c.in_ok-west.ensures.at_cost c.in_err-middle.ensures.at_cost) (omega arith) (omega arith)
+
+pub middle_trio-returns-in_err-east-clause-at_cost : goal.middle_trio-returns-in_err-east-clause-at_cost
+middle_trio-returns-in_err-east-clause-at_cost g t c = at_cost_more (at_both_costs (at_both_costs c.in_ok-west.ensures.at_cost c.in_ok-middle.ensures.at_cost) c.in_err-east.ensures.at_cost) (omega arith) (omega arith)
+
+pub nine-returns-in_err-north-clause-at_cost : goal.nine-returns-in_err-north-clause-at_cost
+nine-returns-in_err-north-clause-at_cost g t c = at_cost_more c.in_err-north.ensures.at_cost (omega arith) (omega arith)
+
+pub nine-returns-in_err-middle-clause-at_cost : goal.nine-returns-in_err-middle-clause-at_cost
+nine-returns-in_err-middle-clause-at_cost g t c = at_cost_more (at_both_costs c.in_ok-north.ensures.at_cost c.in_err-middle.ensures.at_cost) (omega arith) (omega arith)
+
+pub nine-returns-in_err-south-clause-at_cost : goal.nine-returns-in_err-south-clause-at_cost
+nine-returns-in_err-south-clause-at_cost g t c = at_cost_more (at_both_costs (at_both_costs c.in_ok-north.ensures.at_cost c.in_ok-middle.ensures.at_cost) c.in_err-south.ensures.at_cost) (omega arith) (omega arith)
+
+pub centre_of_nine-returns-in_err-rows-clause-at_cost : goal.centre_of_nine-returns-in_err-rows-clause-at_cost
+centre_of_nine-returns-in_err-rows-clause-at_cost g t c = at_cost_more c.in_err-rows.ensures.at_cost (omega arith) (omega arith)
+
+pub centre_of_nine-returns-in_err-nw-clause-at_cost : goal.centre_of_nine-returns-in_err-nw-clause-at_cost
+centre_of_nine-returns-in_err-nw-clause-at_cost g t c = at_cost_more (at_both_costs c.in_ok-rows.ensures.at_cost c.in_err-nw.ensures.at_cost) (omega arith) (omega arith)
+
+pub centre_of_nine-returns-in_err-sw-clause-at_cost : goal.centre_of_nine-returns-in_err-sw-clause-at_cost
+centre_of_nine-returns-in_err-sw-clause-at_cost g t c = at_cost_more (at_both_costs (at_both_costs c.in_ok-rows.ensures.at_cost c.in_ok-nw.ensures.at_cost) c.in_err-sw.ensures.at_cost) (omega arith) (omega arith)

@@ -23,3 +23,15 @@ returns-clause-at_cost g c =
     let north = at_both_costs c.in_ok-nw.ensures.at_cost c.in_ok-ne.ensures.at_cost in
     let south = at_both_costs c.in_ok-sw.ensures.at_cost c.in_ok-se.ensures.at_cost in
     at_cost_more (at_both_costs (at_both_costs north south) c.join.ensures.at_cost) (omega arith) (omega arith)
+
+pub returns-in_err-nw-clause-at_cost : goal.returns-in_err-nw-clause-at_cost
+returns-in_err-nw-clause-at_cost g c = at_cost_more c.in_err-nw.ensures.at_cost (omega arith) (omega arith)
+
+pub returns-in_err-ne-clause-at_cost : goal.returns-in_err-ne-clause-at_cost
+returns-in_err-ne-clause-at_cost g c = at_cost_more (at_both_costs c.in_ok-nw.ensures.at_cost c.in_err-ne.ensures.at_cost) (omega arith) (omega arith)
+
+pub returns-in_err-sw-clause-at_cost : goal.returns-in_err-sw-clause-at_cost
+returns-in_err-sw-clause-at_cost g c = at_cost_more (at_both_costs (at_both_costs c.in_ok-nw.ensures.at_cost c.in_ok-ne.ensures.at_cost) c.in_err-sw.ensures.at_cost) (omega arith) (omega arith)
+
+pub returns-in_err-se-clause-at_cost : goal.returns-in_err-se-clause-at_cost
+returns-in_err-se-clause-at_cost g c = at_cost_more (at_both_costs (at_both_costs (at_both_costs c.in_ok-nw.ensures.at_cost c.in_ok-ne.ensures.at_cost) c.in_ok-sw.ensures.at_cost) c.in_err-se.ensures.at_cost) (omega arith) (omega arith)
