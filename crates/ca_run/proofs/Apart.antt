@@ -1,9 +1,11 @@
 -- Runs in a store of their own.
-use Rattle.std.proofs.Common.{ℕ, ◌+◌, ◌-◌, ◌*◌, ◌<◌, ◌≤◌, inl, inr, Result, Ok, Err, IfOk, List, refl, ◌∙◌, arith}
+use Rattle.std.proofs.Common.{◌≡◌, ℕ, ◌+◌, ◌-◌, ◌*◌, ◌<◌, ◌≤◌, inl, inr, Result, Ok, Err, IfOk, List, length, take, refl, sym, ap, subst, ◌∙◌, length-take, arith}
 use Rattle.ca_quad.specs.declared.node.Node.{Node}
 use Rattle.ca_quad.specs.declared.tree.Tree.{Tree}
-use Rattle.ca_quad.specs.Sound.{Grows}
+use Rattle.ca_quad.specs.Sound.{IsSoundStore, Grows}
 use Rattle.ca_quad.specs.Trees.{IsTree}
+use Rattle.ca_quad.proofs.Firsts.{firsts_sound}
+use Rattle.ca_quad.proofs.Growth.{grows_same}
 use Rattle.ca_run.specs.Advanced.{IsAdvanced}
 use Rattle.ca_run.specs.Leaping.{LeaperView, LeaperGrows}
 use Rattle.ca_run.specs.declared.leaper.dense.ReachedTree.{ReachedTree}
@@ -23,6 +25,17 @@ module _ {Rule : Type 0} where
   -- and one that goes on keeps on
   pub keeps_of : {a d : LeaperView Rule} → LeaperGrows Rule a d → KeepsOn Rule a d
   keeps_of on = record { rule = on.rule; memo = on.memo; sound = on.grows.sound; spends = on.spends }
+
+  -- and one that has no more than the first of its squares has added none
+  pub none_made : {a d : LeaperView Rule} (n : ℕ) (late : List Node) → d.nodes ≡ take n late → n ≤ length a.nodes → KeepsOn Rule a d → length d.nodes + 4096 * a.spent.used ≤ length a.nodes + 4096 * d.spent.used
+  none_made n late e few keeps =
+      let most = ap length e in
+      let first = length-take n late in
+      omega (arith, most, first, few, keeps.spends.rises)
+
+-- the first squares alone go on from themselves
+pub firsts_again : (n : ℕ) (old new : List Node) → IsSoundStore old → new ≡ take n old → Grows (take n old) new
+firsts_again n old new sound e = subst (λ l. Grows (take n old) l) (sym e) (grows_same (take n old) (firsts_sound n old sound))
 
 -- where nothing is copied, the tree is the same
 pub copy_of_itself : (nodes : List Node) (tree : Tree) → IsTree nodes tree → IsCopyOfTree nodes tree nodes tree

@@ -8,7 +8,10 @@ use Rattle.ca_quad.specs.declared.tree.Tree.{Tree}
 use Rattle.ca_quad.proofs.Cells.{one_up}
 use Rattle.ca_quad.proofs.Shifts.{some_level}
 use Rattle.ca_run.specs.declared.leaper.dense.ReachedTree.{ReachedTree}
+use Rattle.ca_run.specs.Leaping.{LeaperView, LeaperGrows}
+use Rattle.ca_run.specs.inner.Apart.{KeepsOn}
 use Rattle.ca_run.specs.inner.Dense.{HasReached}
+use Rattle.ca_run.proofs.Apart.{keeps_then, keeps_of}
 use Rattle.ca_run.proofs.DenseRuns.{reached_kept, reached_level, reached_moved, leapt_on}
 use Rattle.ca_run.proofs.Trees.{shifted_one}
 use Rattle.ca_run.proofs.leaper.Leaper.leap_once.Goals as goal
@@ -61,3 +64,19 @@ returns-in-Ok-clause-nearer g c =
 
 pub returns-in_ok-tree-in-Err-Memory-clause-nearer : goal.returns-in_ok-tree-in-Err-Memory-clause-nearer
 returns-in_ok-tree-in-Err-Memory-clause-nearer g c = inr (refl, c.in_ok-tree-in-Err-Memory.ensures.tries)
+
+-- the leap goes on from what there was before its room was set
+leap_keeps : {Rule : Type 0} {old set new : LeaperView Rule} → set ≡ old → LeaperGrows Rule set new → KeepsOn Rule old new
+leap_keeps {Rule} {new = new} same on = subst (λ l. KeepsOn Rule l new) same (keeps_of on)
+
+pub returns-in-Ok-clause-keeps : goal.returns-in-Ok-clause-keeps
+returns-in-Ok-clause-keeps g c = leap_keeps c.set_room.ensures c.leap.ensures.at_cost.goes_on
+
+pub returns-in-Err-Work-clause-keeps : goal.returns-in-Err-Work-clause-keeps
+returns-in-Err-Work-clause-keeps g c = leap_keeps c.set_room.ensures c.leap.ensures.at_cost.goes_on
+
+pub returns-in_err-tree-in-Err-Memory-clause-keeps : goal.returns-in_err-tree-in-Err-Memory-clause-keeps
+returns-in_err-tree-in-Err-Memory-clause-keeps g c = keeps_then (leap_keeps c.set_room.ensures c.leap.ensures.at_cost.goes_on) c.make_another_try.ensures.keeps
+
+pub returns-in_ok-tree-in-Err-Memory-clause-keeps : goal.returns-in_ok-tree-in-Err-Memory-clause-keeps
+returns-in_ok-tree-in-Err-Memory-clause-keeps g c = keeps_then (leap_keeps c.set_room.ensures c.leap.ensures.at_cost.goes_on) c.make_another_try.ensures.keeps

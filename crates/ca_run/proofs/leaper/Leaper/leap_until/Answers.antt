@@ -46,3 +46,9 @@ leaps-smaller-then-is_late g c = less_to_do c.args.n c.leaps.reached c.leaps.pac
 
 pub leaps-smaller : goal.leaps-smaller
 leaps-smaller g c = less_to_do c.args.n c.leaps.reached c.leaps.pace c.in_ok-reached.reached c.leap_once.new.pace c.leap_once.new.pace c.in_ok-reached.ensures.nearer c.in_ok-reached.ensures.reached.most (omega arith)
+
+pub returns-in_err-reached-clause-keeps : goal.returns-in_err-reached-clause-keeps
+returns-in_err-reached-clause-keeps g c = keeps_then c.leaps.invariant.keeps c.in_err-reached.ensures.keeps
+
+pub returns-in_err-reached-2-clause-keeps : goal.returns-in_err-reached-2-clause-keeps
+returns-in_err-reached-2-clause-keeps g c = keeps_then (keeps_then c.leaps.invariant.keeps c.in_ok-reached.ensures.keeps) c.in_err-reached-2.ensures.keeps

@@ -1,6 +1,7 @@
 use Rattle.std.proofs.Common.{take, subst, ◌∙◌}
 use Rattle.ca_quad.specs.Sound.{IsSoundStore}
 use Rattle.ca_quad.proofs.Firsts.{firsts_sound, firsts_grow, firsts_same}
+use Rattle.ca_run.proofs.Apart.{keeps_then, keeps_of}
 use Rattle.ca_run.proofs.DenseRuns.{reached_now, reached_before, reached_moved}
 use Rattle.ca_run.proofs.leaper.Leaper.part_late.Goals as goal
 
@@ -24,3 +25,12 @@ returns-clause-reached g c =
 
 pub returns-clause-before : goal.returns-clause-before
 returns-clause-before g c = c.in_ok-tree.ensures.before ∙ firsts_same c.args.self.now.nodes c.leap_in_more_room.new.self.nodes c.in_ok-leap_in_more_room.ensures.goes_on.grows c.args.squares c.requires.few
+
+pub returns-in_err-leap_in_more_room-clause-keeps : goal.returns-in_err-leap_in_more_room-clause-keeps
+returns-in_err-leap_in_more_room-clause-keeps g c = keeps_of c.in_err-leap_in_more_room.ensures.goes_on
+
+pub returns-in_err-tree-clause-keeps : goal.returns-in_err-tree-clause-keeps
+returns-in_err-tree-clause-keeps g c = keeps_then (keeps_of c.in_ok-leap_in_more_room.ensures.goes_on) c.in_err-tree.ensures.keeps
+
+pub returns-clause-keeps : goal.returns-clause-keeps
+returns-clause-keeps g c = keeps_then (keeps_of c.in_ok-leap_in_more_room.ensures.goes_on) c.in_ok-tree.ensures.keeps
