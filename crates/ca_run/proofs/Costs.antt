@@ -80,6 +80,17 @@ module _ {Rule : Type 0} where
       let some = power_some grain in
       at_cost_as begins ends (at_paid_cost {a = a} {b = b} 1 paid e same h (omega (arith, some)) (omega arith))
 
+-- a tree is made no wider than the centre needs that shows it some generations on
+pub wide_squares : (level j k : ℕ) → k ≡ max level (j + 1) → 1 ≤ level → level ≤ 123 → j ≤ 60 → 130 * (k + 2 - level) ≤ 16250
+wide_squares level j k is some low time = omega (arith, is, some, low, time)
+
+pub at_wide_cost : {Rule : Type 0} {a b d : LeaperView Rule} (level j k : ℕ) → k ≡ max level (j + 1) → 1 ≤ level → level ≤ 123 → j ≤ 60 → GoesOnAtCost Rule a b 0 (130 * (k + 2 - level)) → GoesOnAtCost Rule b d (14 ^ k) 0
+    → GoesOnAtCost Rule a d (14 ^ max level (j + 1)) 16250
+at_wide_cost level j k is some low time wide root =
+    let most = power_more k (max level (j + 1)) (omega (arith, is)) in
+    let few = wide_squares level j k is some low time in
+    at_cost_more (at_both_costs wide root) (omega (arith, most)) (omega (arith, few))
+
 -- ---- a leap for each digit
 
 power_twice : (g : ℕ) → 14 ^ g + 14 ^ g ≤ 14 ^ suc g

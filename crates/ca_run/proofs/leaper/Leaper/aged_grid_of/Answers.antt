@@ -1,10 +1,10 @@
-use Rattle.std.proofs.Common.{◌≡◌, ◌+◌, ◌<◌, ◌≤◌, ◌^◌, [], ◌∷◌, ◌++◌, sym, ap, subst, ◌∙◌, arith}
+use Rattle.std.proofs.Common.{◌≡◌, ◌+◌, ◌<◌, ◌≤◌, ◌^◌, [], ◌∷◌, ◌++◌, length, sym, ap, subst, ◌∙◌, arith}
 use Rattle.std.specs.Prelude.{ℤ}
 use Rattle.std.proofs.lemmas.List.Elements.{All-push, All-same}
 use Rattle.ca_plane.specs.Ageing.{liveness}
 use Rattle.ca_quad.specs.Trees.{cell}
 use Rattle.ca_bricks.specs.Aged.{dying_digit}
-use Rattle.ca_bricks.specs.Bricks.{GridShows}
+use Rattle.ca_bricks.specs.Bricks.{GridShows, LiesNearOrigin, IsAligned}
 use Rattle.ca_run.specs.inner.Frames.{IsOfFrame}
 use Rattle.ca_run.proofs.FramedAgedGrids.{of_found, framed_aged_grid}
 use Rattle.ca_run.proofs.GridBricks.{push_more, push_longer}
@@ -47,3 +47,18 @@ returns-clause-shows g c = λ m framed.
     (of_found (IsOfFrame frame) c.in_ok-live.field-0 c.in-Some.live c.in-Some.is c.in_ok-live.ensures.place) inv.of_frame framed
     (of_found (λ w. GridShows w m (λ x y. liveness (p x y))) c.in_ok-live.field-0 c.in-Some.live c.in-Some.is (c.in_ok-live.ensures.shows m framed))
     (λ k d h. inv.shows m framed k d (omega (arith, inv.size, h)))
+
+pub returns-clause-near : goal.returns-clause-near
+returns-clause-near g c = of_found LiesNearOrigin c.in_ok-live.field-0 c.in-Some.live c.in-Some.is c.in_ok-live.ensures.near
+
+pub returns-clause-aligned : goal.returns-clause-aligned
+returns-clause-aligned g c = of_found IsAligned c.in_ok-live.field-0 c.in-Some.live c.in-Some.is c.in_ok-live.ensures.aligned
+
+pub returns-clause-room : goal.returns-clause-room
+returns-clause-room g c = of_found (λ w. w.across + length w.bricks.items < 2 ^ 63) c.in_ok-live.field-0 c.in-Some.live c.in-Some.is c.in_ok-live.ensures.room
+
+pub returns-clause-few : goal.returns-clause-few
+returns-clause-few g c = of_found (λ w. length w.bricks.items ≤ 2 ^ 18) c.in_ok-live.field-0 c.in-Some.live c.in-Some.is c.in_ok-live.ensures.few
+
+pub returns-clause-fresh : goal.returns-clause-fresh
+returns-clause-fresh g c = of_found (λ w. w.work ≡ 0) c.in_ok-live.field-0 c.in-Some.live c.in-Some.is c.in_ok-live.ensures.fresh

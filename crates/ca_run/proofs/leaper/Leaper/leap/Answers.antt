@@ -1,9 +1,10 @@
-use Rattle.std.proofs.Common.{◌≡◌, suc, ◌+◌, ◌≤◌, refl, sym, subst, ◌∙◌, arith}
+use Rattle.std.proofs.Common.{◌≡◌, suc, ◌+◌, ◌≤◌, max, refl, sym, subst, ◌∙◌, arith}
 use Rattle.std.specs.Prelude.{replicate}
 use Rattle.ca_quad.specs.declared.tree.Tree.{Tree}
 use Rattle.ca_quad.specs.Trees.{IsTree}
 use Rattle.ca_run.specs.Centre.{IsCentre}
 use Rattle.ca_run.specs.inner.Padded.{IsPadded}
+use Rattle.ca_run.proofs.Costs.{at_cost_more, at_both_costs, at_wide_cost, wide_squares}
 use Rattle.ca_run.proofs.Trees.{leap_cells}
 use Rattle.ca_run.proofs.leaper.Leaper.leap.Goals as goal
 
@@ -36,3 +37,36 @@ returns-clause-advanced g c =
       cells = λ x y. trimmed.cells x y ∙ leap_cells next quiet s0 s1 s2 c.in_ok-wide.ensures.at_cost.goes_on.grows.sound c.in_ok-root.ensures.at_cost.goes_on.grows tree wide half k j root
           some low time padded centred refl one x y;
     }
+
+pub returns-in_err-wide-clause-at_cost : goal.returns-in_err-wide-clause-at_cost
+returns-in_err-wide-clause-at_cost g c =
+    let tree = c.args.tree in
+    let same : c.level.result ≡ tree.level = c.level.ensures.level ∙ (subst (λ l. IsTree l.nodes tree) (sym c.self.view_is) c.requires.tree).is_level in
+    let some : 1 ≤ tree.level = omega (arith, same, c.level.ensures.least) in
+    let grain : c.max-grain.result ≡ max tree.level (c.args.j + 1) = omega (arith, same, c.max-grain.ensures) in
+    let few = wide_squares tree.level c.args.j c.max-grain.result grain some c.requires.level c.requires.time in
+    at_cost_more c.in_err-wide.ensures.at_cost (omega arith) (omega (arith, few))
+
+pub returns-in_err-root-clause-at_cost : goal.returns-in_err-root-clause-at_cost
+returns-in_err-root-clause-at_cost g c =
+    let tree = c.args.tree in
+    let same : c.level.result ≡ tree.level = c.level.ensures.level ∙ (subst (λ l. IsTree l.nodes tree) (sym c.self.view_is) c.requires.tree).is_level in
+    let some : 1 ≤ tree.level = omega (arith, same, c.level.ensures.least) in
+    let grain : c.max-grain.result ≡ max tree.level (c.args.j + 1) = omega (arith, same, c.max-grain.ensures) in
+    at_cost_more (at_wide_cost tree.level c.args.j c.max-grain.result grain some c.requires.level c.requires.time c.in_ok-wide.ensures.at_cost c.in_err-root.ensures.at_cost) (omega arith) (omega arith)
+
+pub returns-in_err-trim-clause-at_cost : goal.returns-in_err-trim-clause-at_cost
+returns-in_err-trim-clause-at_cost g c =
+    let tree = c.args.tree in
+    let same : c.level.result ≡ tree.level = c.level.ensures.level ∙ (subst (λ l. IsTree l.nodes tree) (sym c.self.view_is) c.requires.tree).is_level in
+    let some : 1 ≤ tree.level = omega (arith, same, c.level.ensures.least) in
+    let grain : c.max-grain.result ≡ max tree.level (c.args.j + 1) = omega (arith, same, c.max-grain.ensures) in
+    at_cost_more (at_both_costs (at_wide_cost tree.level c.args.j c.max-grain.result grain some c.requires.level c.requires.time c.in_ok-wide.ensures.at_cost c.in_ok-root.ensures.at_cost) c.in_err-trim.ensures.at_cost) (omega arith) (omega arith)
+
+pub returns-clause-at_cost : goal.returns-clause-at_cost
+returns-clause-at_cost g c =
+    let tree = c.args.tree in
+    let same : c.level.result ≡ tree.level = c.level.ensures.level ∙ (subst (λ l. IsTree l.nodes tree) (sym c.self.view_is) c.requires.tree).is_level in
+    let some : 1 ≤ tree.level = omega (arith, same, c.level.ensures.least) in
+    let grain : c.max-grain.result ≡ max tree.level (c.args.j + 1) = omega (arith, same, c.max-grain.ensures) in
+    at_cost_more (at_both_costs (at_wide_cost tree.level c.args.j c.max-grain.result grain some c.requires.level c.requires.time c.in_ok-wide.ensures.at_cost c.in_ok-root.ensures.at_cost) c.in_ok-trim.ensures.at_cost) (omega arith) (omega arith)
