@@ -29,7 +29,7 @@ one_text cells height s t one other =
     one.whole ∙ (ap (λ l. join_with_byte 122 (map (flat_map step_text) l)) strips ∙ sym other.whole)
 
 -- a live cell is in the box
-live_column : (grid : GridCells) (x y : ℕ) → cell grid x y ≡ 1 → x < length grid.columns
+pub live_column : (grid : GridCells) (x y : ℕ) → cell grid x y ≡ 1 → x < length grid.columns
 live_column grid x y live = elim (cases_lt x (length grid.columns)) [
   | inl within ↦ within
   | inr east ↦
@@ -37,7 +37,7 @@ live_column grid x y live = elim (cases_lt x (length grid.columns)) [
       absurd (omega (arith, live, none))
 ]
 
-live_row : (grid : GridCells) (x y : ℕ) → IsGrid grid → cell grid x y ≡ 1 → y < grid.height
+pub live_row : (grid : GridCells) (x y : ℕ) → IsGrid grid → cell grid x y ≡ 1 → y < grid.height
 live_row grid x y is_grid live = elim (cases_lt y grid.height) [
   | inl within ↦ within
   | inr south ↦

@@ -8,7 +8,7 @@ use Rattle.std.specs.declared.cmp.Ordering.{Ordering}
 use Rattle.std.specs.declared.cmp.Ordering.TheVariants.{Less, Equal, Greater}
 use Rattle.std.specs.FinMap.{nat_cmp-IsAntisymmetric, slice_cmp-IsAntisymmetric}
 use Rattle.std.proofs.lemmas.Bool.{cases_Bool, false≢true}
-use Rattle.std.proofs.lemmas.Cmp.{on_total, then_total, nat_cmp_total, nat_list_cmp_total, upto, tied_itself}
+use Rattle.std.proofs.lemmas.Cmp.{on_total, then_total, nat_cmp_total, nat_list_cmp_total, upto, tied_itself, alike_right}
 use Rattle.ca_apgcode.specs.Order.{representation_cmp, Precedes, IsLeastText}
 use Rattle.ca_apgcode.specs.inner.Least.{lesser, least_from}
 
@@ -85,7 +85,7 @@ IsLeastText-from texts first = record {
 }
 
 -- there is one least text
-firsts_same : (one other : List ℕ) → (Precedes one other → ⊥) → (Precedes other one → ⊥) → one ≡ other
+pub firsts_same : (one other : List ℕ) → (Precedes one other → ⊥) → (Precedes other one → ⊥) → one ≡ other
 firsts_same one other not_one not_other = by_order (representation_cmp one other) refl
   where
     lengths : (o : Ordering) → o ≡ nat_cmp (length one) (length other) → representation_cmp one other ≡ Equal → slice_cmp nat_cmp one other ≡ Equal
@@ -104,7 +104,7 @@ firsts_same one other not_one not_other = by_order (representation_cmp one other
     by_order Equal is = slice_cmp-IsAntisymmetric nat_cmp-IsAntisymmetric one other (lengths (nat_cmp (length one) (length other)) refl is)
     by_order Greater is = absurd (not_other (total.antisymm other one ∙ ap ordering_reverse is))
 
-is_each : (P : List ℕ → Type 0) (texts : List (List ℕ)) (text : List ℕ) → AllByRecursion P texts → Contains texts text → P text
+pub is_each : (P : List ℕ → Type 0) (texts : List (List ℕ)) (text : List ℕ) → AllByRecursion P texts → Contains texts text → P text
 is_each P [] text each (k, below, is) = elim below [ ]
 is_each P (first ∷ texts) text each (zero, below, is) = subst P is each.0
 is_each P (first ∷ texts) text each (suc k, below, is) = is_each P texts text each.1 (k, omega (arith, below), is)
@@ -114,3 +114,12 @@ one_least texts one other first second =
     firsts_same one other
     (is_each (λ text. Precedes text other → ⊥) texts one second.is_first first.is_one)
     (is_each (λ text. Precedes text one → ⊥) texts other first.is_first second.is_one)
+
+-- what comes before a text comes before each that doesn't come before that one
+pub precedes_after : (text one other : List ℕ) → Precedes text one → (Precedes other one → ⊥) → Precedes text other
+precedes_after text one other before not = by_order (representation_cmp one other) refl
+  where
+    by_order : (o : Ordering) → representation_cmp one other ≡ o → Precedes text other
+    by_order Less is = total.trans text one other before is
+    by_order Equal is = sym (alike_right total one other text is) ∙ before
+    by_order Greater is = absurd (not (total.antisymm other one ∙ ap ordering_reverse is))

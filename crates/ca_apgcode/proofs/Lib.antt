@@ -12,5 +12,11 @@ pub mod Stuck
 pub mod Heights
 pub mod LeastBoxes
 pub mod Leasts
+pub mod RowBits
+pub mod PlaneBoxes
+pub mod TurnedBoxes
+pub mod EightTexts
+pub mod Copies
+pub mod PhaseTexts
 pub mod WorkedCodes
 pub mod SomeTexts

@@ -1,4 +1,6 @@
 pub mod Grids
 pub mod Representation
 pub mod Order
+pub mod Orientations
+pub mod Objects
 pub mod inner

@@ -3,4 +3,6 @@ pub mod Puts
 pub mod Reading
 pub mod Drawing
 pub mod Boxes
+pub mod Turned
 pub mod Least
+pub mod Rounds

@@ -3,9 +3,11 @@
 ghost use Rattle.std.specs.Prelude.{◌≡◌, ℕ, ◌+◌, ◌-◌, ◌%◌, ◌^◌, ◌<◌, ◌≤◌, ◌↔◌, length, slice_index};
 ghost use Rattle.std.specs.Prelude.{IsTrue, IfOk, IfSome, IfNone, MatchOption, SomeIndex, EachIndex};
 ghost use Rattle.std.specs.Int.{bit_at};
-ghost use Rattle.ca_apgcode.specs.Grids.{GridCells as Cells, cell, MakesLive};
+ghost use Rattle.ca_apgcode.specs.Grids.{GridCells as Cells, IsGrid, cell, MakesLive};
 ghost use Rattle.ca_apgcode.specs.Representation.{five_cells};
 ghost use Rattle.ca_apgcode.specs.inner.Boxes.{IsLeastOf};
+
+mod turning;
 
 use ca_plane::Memory;
 use std::alloc::Global;
@@ -53,6 +55,7 @@ impl Grid {
     /// How many columns the box has.
     pub fn width(&self) -> u8
         ensures width { result ≡ length self.now.columns }
+        ensures grid { IsGrid self.now }
         ensures most { result ≤ MOST_SIDE }
     {
         self.columns.len() as u8

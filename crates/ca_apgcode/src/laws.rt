@@ -1,9 +1,12 @@
 //! Laws of representations, over the definitions alone.
 
-ghost use Rattle.std.specs.Prelude.{◌≡◌, ℕ, List};
+ghost use Rattle.std.specs.Prelude.{◌≡◌, ℕ, ℤ, List};
 ghost use Rattle.ca_apgcode.specs.Grids.{GridCells, IsGrid, cell};
 ghost use Rattle.ca_apgcode.specs.Representation.{IsRepresentation, IsCode};
 ghost use Rattle.ca_apgcode.specs.Order.{IsLeastText};
+ghost use Rattle.ca_apgcode.specs.Orientations.{AreAmong};
+ghost use Rattle.ca_apgcode.specs.Objects.{IsObjectCode};
+ghost use Rattle.ca_apgcode.specs.declared.object.Kind.{Kind};
 
 /// Cells in a box of at most 40 by 40 have a representation.
 pub fn some_text()
@@ -25,5 +28,15 @@ pub fn one_picture()
 /// Some representations have one least one.
 pub fn one_least()
     ensures { (texts : List (List ℕ)) (one other : List ℕ) → IsLeastText texts one → IsLeastText texts other
+        → one ≡ other }
+{}
+
+/// Objects of one kind and one number have one code at most, where each phase of one is a copy of some phase of the
+/// other, and each of the other of some of the one: turned, reflected or moved in any way. So all phases of an object
+/// have one code, and so has each copy of it.
+pub fn one_code()
+    ensures { (kind : Kind) (number : ℕ) (phases others : ℕ → ℤ → ℤ → ℕ) (count : ℕ) (one other : List ℕ)
+        → AreAmong phases others count → AreAmong others phases count
+        → IsObjectCode kind number phases count one → IsObjectCode kind number others count other
         → one ≡ other }
 {}

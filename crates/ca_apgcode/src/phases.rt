@@ -1,0 +1,27 @@
+//! The least text of an object's phases.
+
+ghost use Rattle.std.specs.Prelude.{ℕ, ◌+◌, ℤ, IfOk, Some, option_map};
+ghost use Rattle.ca_apgcode.specs.Objects.{IsBoxRound, IsLeastOfPhases};
+
+use crate::grid::Grid;
+use crate::rounds::{least_representation, lesser_text};
+use ca_plane::Memory;
+use std::alloc::Global;
+
+/// The least text of an object's phases up to one whose least box is this grid, from that of the phases before it, if one
+/// of them has any.
+///
+/// # Errors
+///
+/// Fails where there is no memory for the texts.
+pub fn least_with(alloc: Global, least: Option<Vec<u8>>, grid: &Grid) -> Result<Vec<u8>, Memory>
+    ensures { (phases : ℕ → ℤ → ℤ → ℕ) (n : ℕ) → IsBoxRound (phases n) grid.now
+        → IsLeastOfPhases phases n (option_map (λ text. text.items) least)
+        → IfOk result (λ now. IsLeastOfPhases phases (n + 1) (Some now.items)) }
+{
+    let text = least_representation(alloc, grid)?;
+    match least {
+        Some(least) => Ok(lesser_text(text, least)),
+        None => Ok(text),
+    }
+}
