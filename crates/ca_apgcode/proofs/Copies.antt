@@ -124,7 +124,7 @@ pub code_of_copies : (kind : Kind) (number : ℕ) (f g : ℕ → ℤ → ℤ →
 code_of_copies kind number f g count code forth back is = record { text = is.text; is_least = least_of_copies f g count is.text forth back is.is_least; whole = is.whole }
 
 -- planes with the same cells are copies of each other
-same_copy : (f p : ℤ → ℤ → ℕ) → ((x y : ℤ) → f x y ≡ p x y) → IsCopy f p
+pub same_copy : (f p : ℤ → ℤ → ℕ) → ((x y : ℤ) → f x y ≡ p x y) → IsCopy f p
 same_copy f p same = record {
   orientation = Upright;
   dx = pos 0;

@@ -1,0 +1,75 @@
+use Rattle.std.proofs.Common.{◌≡◌, ℕ, ◌+◌, ◌-◌, Vec, Global, refl, sym, ap, subst, ◌∙◌, arith}
+use Rattle.std.specs.Prelude.{option_map}
+use Rattle.ca_plane.specs.Generations.{cells_after}
+use Rattle.ca_quad.specs.Boxes.{AreSquareBoxes}
+use Rattle.ca_quad.specs.Trees.{cell}
+use Rattle.ca_quad.proofs.Measures.{boxes_stay}
+use Rattle.ca_run.proofs.Leap.{goes_on_same}
+use Rattle.ca_run.proofs.ShownPlanes.{goes_on_again}
+use Rattle.ca_apgcode.specs.Objects.{IsLeastOfPhases}
+use Rattle.ca_apgcode.proofs.PhaseTexts.{least_none}
+use Rattle.ca_identify.specs.inner.Stages.{CanGoOn}
+use Rattle.ca_identify.proofs.Stages.{first_tree, later_next, near_next}
+use Rattle.ca_pattern.specs.PatternTrees.{IsNearTree}
+use Rattle.ca_pattern.specs.inner.LaterTrees.{IsLaterTree}
+use Rattle.ca_pattern.proofs.Starts.{near_start}
+use Rattle.ca_object_code.proofs.phases.least_of_phases.Goals as goal
+
+pub least_up_to-requires-clause-tree : goal.least_up_to-requires-clause-tree
+least_up_to-requires-clause-tree g c = subst (λ s. IsNearTree s c.args.pattern.now) (sym c.store-2.ensures.nodes) (near_start c.args.leaper.now.nodes c.args.pattern.now c.requires.pattern)
+
+pub phases-init : goal.phases-init
+phases-init g c =
+    let next = g.A.Automaton.next_of c.args.leaper.now.rule in
+    let s0 = c.args.leaper.now.nodes in
+    let tree = c.args.pattern.now in
+    record {
+      goes_on = goes_on_same _ c.args.leaper.now c.store.ensures.sound;
+      now = first_tree next s0 tree c.requires.pattern;
+      least = c.in_ok-least.ensures.least (cells_after next (cell s0 tree)) 0 (λ x y. ap (λ s. cell s tree x y) c.store-2.ensures.nodes) (least_none (cells_after next (cell s0 tree)));
+      boxes = subst (λ s. AreSquareBoxes s c.least_up_to.new.boxes) c.store-2.ensures.nodes c.in_ok-least.ensures.boxes;
+    }
+
+pub next_tree-requires : goal.next_tree-requires
+next_tree-requires g c =
+    let inv = c.phases.invariant in
+    let s = c.phases.leaper.nodes in
+    let now = inv.now in
+    subst (λ r. CanGoOn (g.A.Automaton.next_of r) s c.phases.now 1) (sym inv.goes_on.rule)
+    (record {
+      is_tree = now.near.is_tree;
+      low = now.low;
+      trimmed = now.trimmed;
+      few = omega arith;
+      near = near_next (g.A.Automaton.next_of c.args.leaper.now.rule) (cell c.args.leaper.now.nodes c.args.pattern.now) c.phases.n s c.phases.now now
+          (g.met.A.Automaton.quiet c.args.leaper.now.rule c.store.ensures.rule) c.requires.pattern.within (omega (arith, c.phases-test.true, c.requires.most));
+    })
+
+pub least_up_to-requires-in-phases-clause-boxes : goal.least_up_to-requires-in-phases-clause-boxes
+least_up_to-requires-in-phases-clause-boxes g c =
+    let inv = c.phases.invariant in
+    subst (λ s. AreSquareBoxes s c.phases.boxes) (sym c.store-in-phases.ensures.nodes) (boxes_stay c.phases.leaper.nodes c.next_tree.new.leaper.nodes inv.goes_on.grows.sound c.in_ok-now.ensures.goes_on.grows _ inv.boxes)
+
+pub phases-preserved : goal.phases-preserved
+phases-preserved g c =
+    let inv = c.phases.invariant in
+    let next = g.A.Automaton.next_of in
+    let rule = c.args.leaper.now.rule in
+    let first = cell c.args.leaper.now.nodes c.args.pattern.now in
+    let s = c.phases.leaper.nodes in
+    let new = c.next_tree.new.leaper.nodes in
+    let on = c.in_ok-now.ensures.goes_on in
+    let tree = c.in_ok-now.now in
+    let here = c.store-in-phases.ensures.nodes in
+    let later = later_next (next rule) first c.phases.n s c.phases.now inv.now new tree (subst (λ r. IsLaterTree (next r) (cell s c.phases.now) 1 new tree) inv.goes_on.rule c.in_ok-now.ensures.later) in
+    record {
+      goes_on = goes_on_again _ c.args.leaper.now c.phases.leaper c.next_tree.new.leaper inv.goes_on on;
+      now = later;
+      least = c.in_ok-least-2.ensures.least (cells_after (next rule) first) (c.phases.n + 1) (λ x y. ap (λ l. cell l tree x y) here ∙ later.shows x y) inv.least;
+      boxes = subst (λ l. AreSquareBoxes l c.least_up_to-in-phases.new.boxes) here c.in_ok-least-2.ensures.boxes;
+    }
+
+pub returns-clause-least : goal.returns-clause-least
+returns-clause-least g c =
+    let all : c.phases.n + 1 ≡ c.args.count = omega (arith, c.requires.some, c.phases-test.false, c.phases.auto.n-end) in
+    subst (λ k. IsLeastOfPhases (cells_after (g.A.Automaton.next_of c.args.leaper.now.rule) (cell c.args.leaper.now.nodes c.args.pattern.now)) k (option_map (λ (text : Vec ℕ Global). text.items) c.phases.least)) all c.phases.invariant.least

@@ -1,0 +1,67 @@
+-- The code of a pattern under a rule, where it is a still life, an oscillator or a spaceship (LifeWiki, "Apgcode").
+use Rattle.std.specs.Prelude.{◌≤◌, ◌⊎◌, ℕ, List, Option, MatchOption}
+use Rattle.ca_plane.specs.Limits.{longest_period}
+use Rattle.ca_plane.specs.Plane.{Picture, cell}
+use Rattle.ca_plane.specs.Generations.{after}
+use Rattle.ca_plane.specs.Population.{HasPopulation}
+use Rattle.ca_rule.specs.Rule.{RuleValue, Bs, Gen, Tab, next_of}
+use Rattle.ca_rule.specs.TableNext.{TableRule}
+use Rattle.ca_rule.specs.declared.hood.Hood.{Hood}
+use Rattle.ca_rule.specs.declared.hood.Hood.TheVariants.{Moore, VonNeumann, Hex}
+use Rattle.ca_apgcode.specs.Objects.{IsObjectCode}
+use Rattle.ca_apgcode.specs.declared.object.Kind.TheVariants as kind
+use Rattle.ca_identify.specs.Identified.{HoldsSmallPattern}
+use Rattle.ca_identify.specs.declared.identity.Identity.{Identity}
+use Rattle.ca_identify.specs.declared.identity.Identity.TheVariants.{Empty, StillLife, Oscillator, Spaceship, Dies, Unknown}
+
+-- all eight neighbours are counted, or four
+abbrev pub CountsEightOrFour : Hood → Type 0
+CountsEightOrFour Moore = Unit {0}
+CountsEightOrFour VonNeumann = Unit {0}
+CountsEightOrFour Hex = ⊥
+
+-- objects have codes under the rule: it is of two states and counts all eight or four neighbours
+abbrev pub HasCodes : RuleValue → Type 0
+HasCodes (Bs rule) = CountsEightOrFour rule.hood
+HasCodes (Gen rule) = ⊥
+HasCodes (Tab table) = ⊥
+
+-- the code of cells that are this object under a rule; its phases are the planes after 0, 1, 2 .. generations, as many as its period
+abbrev pub IsCodeOf : (List ℕ → ℕ) → Picture → Identity → List ℕ → Type 0
+IsCodeOf next cells Empty code = ⊥
+IsCodeOf next cells StillLife code = (count : ℕ) × HasPopulation (cell cells) count × IsObjectCode kind.StillLife count (after next cells) 1 code
+IsCodeOf next cells (Oscillator period) code = IsObjectCode kind.Oscillator period (after next cells) period code
+IsCodeOf next cells (Spaceship period dx dy) code = IsObjectCode kind.Spaceship period (after next cells) period code
+IsCodeOf next cells (Dies generations) code = ⊥
+IsCodeOf next cells (Unknown growth) code = ⊥
+
+-- it is no object
+abbrev pub IsNoObject : Identity → Type 0
+IsNoObject Empty = Unit {0}
+IsNoObject StillLife = ⊥
+IsNoObject (Oscillator period) = ⊥
+IsNoObject (Spaceship period dx dy) = ⊥
+IsNoObject (Dies generations) = Unit {0}
+IsNoObject (Unknown growth) = Unit {0}
+
+-- a period is at least 1 and no longer than one that is looked for
+abbrev pub IsPeriod : ℕ → Type 0
+IsPeriod period = (1 ≤ period) × (period ≤ longest_period)
+
+-- the period is one that may be found
+abbrev pub HasGoodPeriod : Identity → Type 0
+HasGoodPeriod Empty = Unit {0}
+HasGoodPeriod StillLife = Unit {0}
+HasGoodPeriod (Oscillator period) = IsPeriod period
+HasGoodPeriod (Spaceship period dx dy) = IsPeriod period
+HasGoodPeriod (Dies generations) = Unit {0}
+HasGoodPeriod (Unknown growth) = Unit {0}
+
+-- nothing has a code that is no object, nor under a rule under which objects have none
+abbrev pub HasNoCode : RuleValue → Identity → Type 0
+HasNoCode rule identity = (HasCodes rule → ⊥) ⊎ IsNoObject identity
+
+-- the code of the pattern of a file, whose cells are this object under the file's rule; none where it has none
+abbrev pub IsCodeOfFile : List ℕ → List TableRule → Identity → Option (List ℕ) → Type 0
+IsCodeOfFile bytes tables identity found = (cells : Picture) × (rule : RuleValue) × HoldsSmallPattern bytes tables cells rule
+    × MatchOption found (HasNoCode rule identity) (λ code. HasCodes rule × IsCodeOf (next_of rule) cells identity code)

@@ -1,0 +1,97 @@
+//! The code of a pattern that was identified.
+
+ghost use Rattle.std.specs.Prelude.{◌≡◌, ◌≤◌, IfOk, MatchOption};
+ghost use Rattle.ca_plane.specs.Plane.{Picture};
+ghost use Rattle.ca_plane.specs.Generations.{cells_after};
+ghost use Rattle.ca_plane.specs.Limits.{longest_period};
+ghost use Rattle.ca_quad.specs.Trees.{cell};
+ghost use Rattle.ca_run.specs.Leaping.{LeaperGrows, EndsAtLimit};
+ghost use Rattle.ca_apgcode.specs.Objects.{IsObjectCode};
+ghost use Rattle.ca_pattern.specs.PatternTrees.{ShowsTree, IsPattern};
+ghost use Rattle.ca_object_code.specs.Codes.{IsCodeOf, IsNoObject, HasGoodPeriod};
+
+use crate::phases::least_of_phases;
+use ca_apgcode::{Kind, object_code};
+use ca_identify::Identity;
+use ca_plane::Automaton;
+use ca_quad::Tree;
+use ca_run::{LeapFault, Leaper};
+use std::alloc::Global;
+
+/// The code of a pattern (LifeWiki, "Apgcode"), from its tree and what `identify` found it to be, where that is a still life,
+/// an oscillator or a spaceship. It takes the pattern through its period, one generation after the other.
+///
+/// # Errors
+///
+/// Fails where there is no work or no memory left for that.
+pub fn code_of_tree<A: Automaton>(
+    alloc: Global,
+    leaper: &mut Leaper<A>,
+    pattern: &Tree,
+    identity: Identity,
+) -> Result<Option<Vec<u8>>, LeapFault>
+    requires pattern { IsPattern leaper.old.nodes pattern.now }
+    requires period { HasGoodPeriod identity }
+    ensures code { (cells : Picture) → ShowsTree leaper.old.nodes pattern.now cells
+        → IfOk result (λ found. MatchOption found (IsNoObject identity)
+        (λ code. IsCodeOf (A.next_of leaper.old.rule) cells identity code.items)) }
+    ensures goes_on { LeaperGrows A leaper.old leaper.new }
+    ensures work { EndsAtLimit leaper.new.spent result }
+{
+    // Says what holds of every leaper.
+    let _ = leaper.store();
+    match identity {
+        Identity::StillLife => {
+            let cells = leaper.store().population(alloc, *pattern)?;
+            let code = code_of_phases(alloc, leaper, pattern, Kind::StillLife, cells, 1)?;
+            Ok(Some(code))
+        }
+        Identity::Oscillator { period } => {
+            let code = code_of_phases(
+                alloc,
+                leaper,
+                pattern,
+                Kind::Oscillator,
+                u128::from(period),
+                period,
+            )?;
+            Ok(Some(code))
+        }
+        Identity::Spaceship { period, .. } => {
+            let code = code_of_phases(
+                alloc,
+                leaper,
+                pattern,
+                Kind::Spaceship,
+                u128::from(period),
+                period,
+            )?;
+            Ok(Some(code))
+        }
+        _ => Ok(None),
+    }
+}
+
+// The code of so many phases of a pattern, with this number.
+fn code_of_phases<A: Automaton>(
+    alloc: Global,
+    leaper: &mut Leaper<A>,
+    pattern: &Tree,
+    kind: Kind,
+    number: u128,
+    count: u64,
+) -> Result<Vec<u8>, LeapFault>
+    requires pattern { IsPattern leaper.old.nodes pattern.now }
+    requires some { 1 ≤ count }
+    requires most { count ≤ longest_period }
+    ensures code { IfOk result (λ code. IsObjectCode kind number
+        (cells_after (A.next_of leaper.old.rule) (cell leaper.old.nodes pattern.now)) count code.items) }
+    ensures goes_on { LeaperGrows A leaper.old leaper.new }
+    ensures work { EndsAtLimit leaper.new.spent result }
+{
+    // Says what holds of every leaper.
+    let _ = leaper.store();
+    let least = least_of_phases(alloc, leaper, pattern, count)?;
+    let code = object_code(alloc, kind, number, least)?;
+    Ok(code)
+}

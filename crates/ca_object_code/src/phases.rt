@@ -1,0 +1,90 @@
+//! The least text of the phases of a pattern.
+
+ghost use Rattle.std.specs.Prelude.{◌≡◌, ◌≤◌, ◌+◌, ℕ, ℤ, IfOk, OnOk, option_map};
+ghost use Rattle.ca_plane.specs.Generations.{cells_after};
+ghost use Rattle.ca_plane.specs.Limits.{longest_period};
+ghost use Rattle.ca_quad.specs.Boxes.{AreSquareBoxes};
+ghost use Rattle.ca_quad.specs.Trees.{cell};
+ghost use Rattle.ca_run.specs.Leaping.{LeaperGrows, EndsAtLimit};
+ghost use Rattle.ca_apgcode.specs.Objects.{IsLeastOfPhases};
+ghost use Rattle.ca_identify.specs.inner.Stages.{CanGoOn};
+ghost use Rattle.ca_pattern.specs.PatternTrees.{IsNearTree};
+ghost use Rattle.ca_pattern.specs.inner.LaterTrees.{IsStart, IsLaterTree};
+
+use crate::boxes::box_round;
+use ca_apgcode::least_with;
+use ca_plane::{Automaton, Memory, MoveFault};
+use ca_quad::{SquareBoxes, Store, Tree};
+use ca_run::{LeapFault, Leaper};
+use std::alloc::Global;
+
+/// The least text of so many phases of a pattern, if one of them fits into 40 by 40 cells.
+pub(crate) fn least_of_phases<A: Automaton>(
+    alloc: Global,
+    leaper: &mut Leaper<A>,
+    pattern: &Tree,
+    count: u64,
+) -> Result<Option<Vec<u8>>, LeapFault>
+    requires pattern { IsStart leaper.old.nodes pattern.now }
+    requires some { 1 ≤ count }
+    requires most { count ≤ longest_period }
+    ensures least { IfOk result (λ least. IsLeastOfPhases
+        (cells_after (A.next_of leaper.old.rule) (cell leaper.old.nodes pattern.now)) count
+        (option_map (λ text. text.items) least)) }
+    ensures goes_on { LeaperGrows A leaper.old leaper.new }
+    ensures work { EndsAtLimit leaper.new.spent result }
+{
+    // Says what holds of every leaper.
+    let _ = leaper.store();
+    let mut boxes = SquareBoxes::new(alloc);
+    let mut now = *pattern;
+    let mut least = least_up_to(alloc, leaper.store(), pattern, &mut boxes, None)?;
+    'phases: for n in 0..count - 1 {
+        now = next_tree(leaper, now)?;
+        least = least_up_to(alloc, leaper.store(), &now, &mut boxes, least)?;
+        let _ = n;
+    }
+    Ok(least)
+}
+
+// The least text of the phases up to the one of this tree, from that of the phases before it.
+fn least_up_to(
+    alloc: Global,
+    store: &Store,
+    tree: &Tree,
+    boxes: &mut SquareBoxes,
+    least: Option<Vec<u8>>,
+) -> Result<Option<Vec<u8>>, Memory>
+    requires tree { IsNearTree store.now tree.now }
+    requires boxes { AreSquareBoxes store.now boxes.old }
+    ensures least { (phases : ℕ → ℤ → ℤ → ℕ) (n : ℕ) → ((x y : ℤ) → cell store.now tree.now x y ≡ phases n x y)
+        → IsLeastOfPhases phases n (option_map (λ text. text.items) least)
+        → IfOk result (λ now. IsLeastOfPhases phases (n + 1) (option_map (λ text. text.items) now)) }
+    ensures boxes { OnOk result (AreSquareBoxes store.now boxes.new) }
+{
+    match box_round(alloc, store, tree, boxes)? {
+        Some(grid) => {
+            let least = least_with(alloc, least, &grid)?;
+            Ok(Some(least))
+        }
+        None => Ok(least),
+    }
+}
+
+// The tree one generation on, of the smallest level.
+fn next_tree<A: Automaton>(leaper: &mut Leaper<A>, tree: Tree) -> Result<Tree, LeapFault>
+    requires { CanGoOn (A.next_of leaper.old.rule) leaper.old.nodes tree 1 }
+    ensures later { IfOk result
+        (IsLaterTree (A.next_of leaper.old.rule) (cell leaper.old.nodes tree) 1 leaper.new.nodes) }
+    ensures goes_on { LeaperGrows A leaper.old leaper.new }
+    ensures work { EndsAtLimit leaper.new.spent result }
+{
+    // Says what holds of every leaper.
+    let _ = leaper.store();
+    let later = leaper.advance(tree, 1)?;
+    match leaper.shifted(later, 0, 0) {
+        Ok(trimmed) => Ok(trimmed),
+        Err(MoveFault::Memory) => Err(LeapFault::Memory),
+        Err(MoveFault::Range) => unreachable!(),
+    }
+}

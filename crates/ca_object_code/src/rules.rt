@@ -1,0 +1,17 @@
+//! Under which rules objects have codes.
+
+ghost use Rattle.std.specs.Prelude.{◌↔◌, IsTrue};
+ghost use Rattle.ca_rule.specs.Rule.{rule_value};
+ghost use Rattle.ca_object_code.specs.Codes.{HasCodes};
+
+use ca_rule::{Hood, Rule};
+
+/// Whether objects have codes under a rule: one of two states that counts all eight or four neighbours.
+pub fn has_codes(rule: &Rule<'_>) -> bool
+    ensures { IsTrue result ↔ HasCodes (rule_value rule.now) }
+{
+    match rule {
+        Rule::Bs(bs) => bs.hood != Hood::Hex,
+        _ => false,
+    }
+}
