@@ -3,6 +3,8 @@
 mod callers;
 mod codes;
 mod expected;
+mod files;
 mod largest;
+mod objects;
 mod order;
 mod refused;
