@@ -281,21 +281,23 @@ def try_identify_results(tally, refusing, files):
 
 
 def try_after(tally, refusing, files):
-    """`show`, `convert` and `draw` with `--after` show the file's path and the generations that are reached, and wipe that before they print."""
+    """`show`, `convert` and `draw` with `--after` show the file's path and the generations that are reached, and wipe that before they print. After no
+    generations nothing is run, and nothing shown."""
     dense = files.path("dense.rle", distinct_squares((4, 4, 4, 4), "B3/S23")[0])
     runs = ((["examples/glider.rle"], digits(1000)), ([PENTOMINO], digits(1)), ([PENTOMINO], digits(0)), ([dense], each(300)),
             (["examples/tables/spread.rle", "--rules", "examples/rules"], digits(5)))
     for (file, run_of), kind in itertools.product(runs, (["show"], ["convert", "--to", "mc"], ["draw"])):
         words = [*kind, *file, "--after", str(run_of[0])]
+        run_on = [run_of] if run_of[0] else []
         plain = run(words)
         tally.tell(f"it prints something, {' '.join(words)}", [] if plain.printed and not plain.complaint and plain.status == 0 else [str(plain)])
         for step in STEPS:
-            shown = shown_of(file[0].encode(), [run_of], step)
+            shown = shown_of(file[0].encode(), run_on, step)
             got, _ = refusing.run([*words, "--progress"], {"CLOCK_STEP": step})
             tally.expect(f"{' '.join(words)}, {step}", got, Outcome(plain.printed, shown, 0))
             got, _ = refusing.run(words, {"CLOCK_STEP": step})
             tally.expect(f"without the word, {' '.join(words)}, {step}", got, plain)
-        shown = shown_of(file[0].encode(), [run_of], 500)
+        shown = shown_of(file[0].encode(), run_on, 500)
         got, _ = refusing.run([*words, "--progress"], {"CLOCK_STEP": 500}, stderr=subprocess.STDOUT)
         tally.expect(f"wiped before what is printed, {' '.join(words)}", got, Outcome(shown + plain.printed, b"", 0))
         got = on_a_terminal(refusing, words, {"CLOCK_STEP": 500})

@@ -3,6 +3,7 @@ pub mod CatalogWrites
 pub mod CauseLines
 pub mod Endings
 pub mod Entries
+pub mod FaultReports
 pub mod NameWords
 pub mod Saying
 pub mod TriedNames

@@ -7,7 +7,8 @@ use Rattle.ca_rule.specs.declared.table.fault.TableFault.{TableFault}
 use Rattle.ca_pattern.specs.declared.cause.Cause.{Cause}
 use Rattle.ca_pattern.specs.declared.cause.Cause.TheVariants as causes
 use Rattle.ca_pattern.specs.declared.file.File.{File}
-use Rattle.ca_pattern.specs.declared.detailed_fault.DetailedFault.{DetailedFault as RefusedFor}
+use Rattle.ca_pattern.specs.declared.located_fault.LocatedFault.{LocatedFault}
+use Rattle.ca_report.specs.declared.detailed_fault.DetailedFault.{DetailedFault}
 use Rattle.ca_report.specs.declared.fault.ToolFault.{ToolFault}
 use Rattle.ca_report.specs.declared.fault.ToolFault.TheVariants as tools
 use Rattle.ca_report.specs.Escaped.{escaped}
@@ -32,6 +33,7 @@ use Rattle.ca_report.specs.FaultTexts.{cause_text}
 use Rattle.ca_report.specs.FileLines.{at_line, rule_file_line, pattern_line}
 use Rattle.ca_report.specs.Counts.{generations_word, side_length}
 use Rattle.ca_catalog.specs.Names.{is_claim_path, claim_name, IsFreeName}
+use Rattle.ca_catalog.specs.FaultReports.{IsBareReport, IsReportOf}
 use Rattle.ca_catalog.specs.WrittenOn.{WritesOn, WritesOnFirst, WritesPartOn}
 
 -- the line that gives a name to a file
@@ -138,11 +140,11 @@ is_in_file (causes.BadRule fault) = true
 is_in_file causes.StateTooLarge = true
 is_in_file cause = false
 
-abbrev pub cause_explanation : List ℕ → RefusedFor Cause → List ℕ
+abbrev pub cause_explanation : List ℕ → DetailedFault Cause → List ℕ
 cause_explanation path refused = cause_explanation_of path refused.fault refused.line refused.rule_text
 
 -- the line that says what helps against it, for a file of this path and with these bytes
-abbrev pub cause_remedy_line : List ℕ → List ℕ → RefusedFor Cause → List ℕ
+abbrev pub cause_remedy_line : List ℕ → List ℕ → DetailedFault Cause → List ℕ
 cause_remedy_line path bytes refused = remedy_line [] (cause_remedy refused.fault bytes refused.rule_text) path refused.rule_text
 
 -- the line that explains what came of the file of a path, where there is something to tell: the file or its rule file, and what is known of the fault
@@ -174,13 +176,14 @@ entry_explanation files entry = outcome_explanation entry.path.now entry.outcome
 abbrev pub catalog_explanation : List File → List Entry → List ℕ
 catalog_explanation files entries = flat_map (entry_explanation files) entries
 
--- what came of a file that gave this is true of it: a look at its plane n generations on finds this, or that isn't found out for this reason; or there are no bytes of it,
--- for this cause; or this rule file of its isn't good
+-- what came of a file that gave this is true of it: a look at its plane n generations on finds this, or this is the report of a fault for which that isn't
+-- found out; or there are no bytes of it, for this cause; or this rule file of its isn't good
 abbrev pub IsContentOutcome : List TableRule → (work n : ℕ) → Scope → Content → Outcome → Type 0
 IsContentOutcome tables work n scope content Unnameable = ⊥
 IsContentOutcome tables work n scope (Bytes bytes) (Identified look) = IsLookAt bytes.now tables n scope look
-IsContentOutcome tables work n scope (Bytes bytes) (Refused why) = IsUnidentifiedAfter bytes.now tables work n scope.limit why
-IsContentOutcome tables work n scope (Missing cause) (Refused why) = why ≡ record { fault = cause; line = None; rule_text = None }
+IsContentOutcome tables work n scope (Bytes bytes) (Refused why) = (refused : LocatedFault) × IsUnidentifiedAfter bytes.now tables work n scope.limit refused
+    × IsReportOf refused why
+IsContentOutcome tables work n scope (Missing cause) (Refused why) = IsBareReport cause why
 IsContentOutcome tables work n scope (FaultyRule rule) (outcomes.FaultyRule told) = told ≡ rule
 IsContentOutcome tables work n scope content outcome = ⊥
 

@@ -1,5 +1,6 @@
 pub mod Catalog
 pub mod CatalogSays
+pub mod FaultReports
 pub mod Names
 pub mod WrittenOn
 pub mod inner

@@ -1,8 +1,8 @@
 //! Files that are to be identified, and what came of them.
 
 use ca_identify::Look;
-use ca_pattern::{Cause, DetailedFault};
-use ca_report::FaultyRule;
+use ca_pattern::Cause;
+use ca_report::{DetailedFault, FaultyRule};
 
 /// What a file that is to be identified gave.
 #[derive(Clone, Copy, Debug)]

@@ -16,12 +16,13 @@ ghost use Rattle.ca_catalog.specs.inner.Searches.{IsGoodSearch, IsWithin, AreLin
 use crate::catalog::{Catalog, head_pieces, rules_text};
 use crate::entry::{Content, Entry, Outcome, Subject};
 use crate::entry_lines::push_entry;
+use crate::fault_report::report_of;
 use crate::names::{add_name, is_claim_path};
 use crate::taken_names::TakenNames;
-use ca_identify::{Scope, look_after};
-use ca_pattern::{DetailedFault, File, Limits, Observer};
+use ca_identify::{Scope, identify};
+use ca_pattern::{File, Limits, Observer};
 use ca_plane::{Dev, Memory, send};
-use ca_report::{ToolFault, send_pieces};
+use ca_report::{DetailedFault, ToolFault, send_pieces};
 use ca_rule::{Table, TableFault};
 use std::alloc::Global;
 use std::io::Write;
@@ -183,6 +184,7 @@ fn entry_of<'a, O: Observer>(
 }
 
 // What comes of a file.
+#[tactic(auto, using(crate::proofs::FaultReports::has_report))]
 fn outcome_of<'a, O: Observer>(
     alloc: Global,
     subject: &Subject<'a>,
@@ -207,8 +209,8 @@ fn outcome_of<'a, O: Observer>(
         limits,
         scope,
     } = *search;
-    match look_after(alloc, bytes, tables, generations, limits, scope, observer) {
+    match identify(alloc, bytes, tables, generations, limits, scope, observer) {
         Ok(look) => Outcome::Identified(look),
-        Err(why) => Outcome::Refused(why),
+        Err(refused) => Outcome::Refused(report_of(refused)),
     }
 }

@@ -4,6 +4,7 @@
 mod catalog;
 mod entry;
 mod entry_lines;
+mod fault_report;
 mod growth;
 mod identification_run;
 mod names;

@@ -6,9 +6,10 @@ ghost use Rattle.ca_catalog.specs.Catalog.{outcome_has_explanation, outcome_reme
 ghost use Rattle.ca_report.specs.Pieces.{pieces_text};
 
 use crate::entry::Outcome;
-use ca_pattern::{Cause, DetailedFault, File};
+use ca_pattern::{Cause, File};
 use ca_report::{
-    NOTHING, Piece, bytes_of, cause_remedy, pattern_pieces, remedy_line_pieces, rule_file_pieces,
+    DetailedFault, NOTHING, Piece, bytes_of, cause_remedy, pattern_pieces, remedy_line_pieces,
+    rule_file_pieces,
 };
 
 // The line that explains why the pattern of a file isn't identified, where there is something to tell.

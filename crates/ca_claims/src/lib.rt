@@ -4,14 +4,11 @@
 
 mod unknown;
 
-pub use ca_identify::{
-    Growth, Identity, Look, Scope, identify, identify_after, identity_laws, look_after,
-};
+pub use ca_identify::{Growth, Identity, Look, Scope, identify, identity_laws};
 pub use ca_pattern::{
-    Cause, ConvertFault, DetailedFault, File, Format, Limits, Loaded, NamedTable, Observer,
-    PatternFault, ReachFault, Reached, Summary, Target, USUAL_MEMO, conversion_laws, convert,
-    convert_after, convert_with_detail, evolution_laws, read_pattern, rule_text_of, run_on,
-    summary, summary_after, summary_with_detail, table_named,
+    Cause, Cells, ConvertFault, File, Format, Limits, Loaded, LocatedFault, NamedTable, Observer,
+    Pattern, PatternFault, StoredTree, Summary, Target, USUAL_MEMO, conversion_laws, convert,
+    evolution_laws, open_evolved, open_pattern, read_pattern, rule_text_of, summary, table_named,
 };
 pub use ca_plane::limits::MOST_MEMO;
 pub use ca_text::{

@@ -1,7 +1,6 @@
 pub mod Corners
 pub mod IdentifiedFiles
 pub mod Identities
-pub mod IdentityRefusals
 pub mod LaterPlanes
 pub mod MovedPopulations
 pub mod NoReturn

@@ -1,7 +1,6 @@
--- A pattern is found to be one thing at most within a limit, and a file's pattern that or not identified for one cause.
-use Rattle.std.proofs.Common.{◌≡◌, ◌≢◌, ℕ, zero, suc, ◌+◌, ◌-◌, ◌*◌, ◌≤◌, ◌<◌, List, [], Option, None, Some, refl, sym, ap, ap₂, subst, ◌∙◌, inl, inr, arith}
+-- A pattern is found to be one thing at most within a limit, and a file's pattern that or not identified for one fault.
+use Rattle.std.proofs.Common.{◌≡◌, ◌≢◌, ℕ, zero, suc, ◌+◌, ◌-◌, ◌*◌, ◌≤◌, ◌<◌, List, [], refl, sym, ap, ap₂, subst, ◌∙◌, inl, inr, arith}
 use Rattle.std.specs.Prelude.{ℤ, pos, negsuc, ◌+ℤ◌, ◌-ℤ◌, ◌*ℤ◌}
-use Rattle.std.specs.Option.{MatchOption}
 use Rattle.std.proofs.Math.Nat.{suc-mul, mul_comm}
 use Rattle.std.proofs.Math.IntN.{*ℤ-zero}
 use Rattle.std.proofs.lemmas.Bool.{cases_order}
@@ -10,37 +9,26 @@ use Rattle.ca_plane.specs.Plane.{Picture, cell, IsSame, shifted, IsLive}
 use Rattle.ca_plane.specs.Generations.{after, cells_after, IsAfter}
 use Rattle.ca_plane.proofs.Populations.{same_population}
 use Rattle.ca_plane.proofs.Shifts.{cell-shifted}
-use Rattle.ca_rle.specs.Faults.{IsFirstRleFault}
-use Rattle.ca_rle.specs.FaultyLine.{IsFirstRleFaultOn}
-use Rattle.ca_rle.proofs.FaultLines as rle
-use Rattle.ca_macro.specs.Faults.{IsFirstMacrocellFault, IsFirstMacrocellFaultOn}
-use Rattle.ca_macro.proofs.OneMeaning as macrocell
 use Rattle.ca_rule.specs.TableNext.{TableRule}
-use Rattle.ca_rule.specs.Rule.{RuleValue, next_of}
+use Rattle.ca_rule.specs.Rule.{next_of}
 use Rattle.ca_plane.proofs.After.{after_same, after_seen}
 use Rattle.ca_run.proofs.Returns.{after_stands, back_times, vector_times}
 use Rattle.ca_run.proofs.Vectors.{no_vector, live-moved}
 use Rattle.ca_text.specs.declared.asks.Forbidden.TheVariants.{InPlace, Anywhere, EmptyPlane}
 use Rattle.ca_text.specs.declared.line.Kind.TheVariants as kind
-use Rattle.ca_pattern.specs.declared.conversion.ConvertFault.{ConvertFault}
-use Rattle.ca_pattern.specs.declared.conversion.ConvertFault.TheVariants as convert_fault
 use Rattle.ca_identify.specs.declared.identity.Growth.{Growth}
 use Rattle.ca_identify.specs.declared.identity.Identity.{Identity}
 use Rattle.ca_identify.specs.declared.identity.Identity.TheVariants.{Empty, StillLife, Oscillator, Spaceship, Dies, Unknown}
-use Rattle.ca_pattern.specs.declared.pattern_fault.PatternFault.{PatternFault}
-use Rattle.ca_pattern.specs.declared.pattern_fault.PatternFault.TheVariants as pattern_fault
-use Rattle.ca_pattern.specs.declared.cause.Cause.{Cause}
-use Rattle.ca_pattern.specs.declared.cause.Cause.TheVariants.{NoFile, BadTable, BadPattern, BadRule, StateTooLarge, MixedRules, TooManyCells, Work, Memory}
-use Rattle.ca_pattern.specs.Faults.{IsPatternFaultOn}
-use Rattle.ca_pattern.specs.Converted.{IsSummaryFault}
-use Rattle.ca_identify.specs.Identified.{IsGrowth, IsIdentity, IsIdentityAfter, HoldsSmallPattern, IsUnidentifiedFor, IsUnidentifiedAfterFor}
+use Rattle.ca_pattern.specs.declared.located_fault.LocatedFault.{LocatedFault}
+use Rattle.ca_pattern.specs.declared.located_fault.LocatedFault.TheVariants.{Work, Memory}
+use Rattle.ca_pattern.specs.LocatedFaults.{IsOpeningFault, IsSameFault}
+use Rattle.ca_identify.specs.Identified.{IsGrowth, IsIdentity, IsIdentityAfter, IsIdentifiedAfter, IsUnidentifiedAfter}
 use Rattle.ca_text.specs.Truth.{ShowsNothingForbidden}
-use Rattle.ca_identify.specs.inner.Causes.{cause_of}
 use Rattle.ca_identify.proofs.IdentifiedFiles.{same_identity}
-use Rattle.ca_pattern.proofs.OneConversion.{one_box, ready_or_fault, one_summary_fault}
+use Rattle.ca_pattern.proofs.OneConversion.{one_box}
+use Rattle.ca_pattern.proofs.OneFault.{opened_or_fault, one_opening_fault}
 use Rattle.ca_pattern.proofs.Vectors.{one_vector}
 use Rattle.ca_pattern.proofs.OneText.{box_shown}
-use Rattle.ca_pattern.proofs.PatternsRead.{fault_on}
 use Rattle.ca_text.proofs.Truths.{back}
 use Rattle.ca_pattern.proofs.OneMeaning.{one_ruled}
 
@@ -199,83 +187,28 @@ pub one_identity_after : (next : List ℕ → ℕ) (cells : Picture) (n limit : 
 one_identity_after next cells n limit a b (p, stands, is) (q, goes, are) =
     one_identity next q limit a b (same_identity next p q (λ x y. sym (stands x y) ∙ goes x y) limit a is) are
 
--- ---- lines
-
--- a fault stands on one line, or on none
-one_line_or_none : (First : Type 0) (On : ℕ → Type 0) → ((n : ℕ) → On n → First) → ((m n : ℕ) → On m → On n → m ≡ n) → (a b : Option ℕ)
-    → MatchOption a (First → ⊥) On → MatchOption b (First → ⊥) On → a ≡ b
-one_line_or_none First On is_first one None None h k = refl
-one_line_or_none First On is_first one None (Some n) h k = absurd (h (is_first n k))
-one_line_or_none First On is_first one (Some m) None h k = absurd (k (is_first m h))
-one_line_or_none First On is_first one (Some m) (Some n) h k = ap Some (one m n h k)
-
-one_line_of : (bytes : List ℕ) (fault : PatternFault) (a b : Option ℕ) → IsPatternFaultOn bytes fault a → IsPatternFaultOn bytes fault b → a ≡ b
-one_line_of bytes (pattern_fault.Rle f) a b h k =
-    one_line_or_none (IsFirstRleFault bytes f) (IsFirstRleFaultOn bytes f) (rle.fault_of_line bytes f) (λ m n on too. rle.one_faulty_line bytes m n (f, on) (f, too)) a b h.2.1 k.2.1
-one_line_of bytes (pattern_fault.Macro f) a b h k =
-    one_line_or_none (IsFirstMacrocellFault bytes f) (IsFirstMacrocellFaultOn bytes f) (macrocell.is_first bytes f) (λ m n on too. macrocell.one_faulty_line bytes m n (f, on) (f, too)) a b h.2.1 k.2.1
-one_line_of bytes pattern_fault.Memory a b h k = absurd h
-
 -- ---- files
 
-module _ (bytes : List ℕ) (tables : List TableRule) where
-  -- what one thing at most is of cells under a rule, one thing at most is of a file
-  pub one_found : (Is : (List ℕ → ℕ) → Picture → Identity → Type 0) → ((next : List ℕ → ℕ) (cells : Picture) (a b : Identity) → Is next cells a → Is next cells b → a ≡ b)
-      → (a b : Identity) → ((cells : Picture) × (rule : RuleValue) × HoldsSmallPattern bytes tables cells rule × Is (next_of rule) cells a)
-      → ((cells : Picture) × (rule : RuleValue) × HoldsSmallPattern bytes tables cells rule × Is (next_of rule) cells b) → a ≡ b
-  one_found Is one a b (p, r, holds, is) (q, s, held, are) =
+module _ (bytes : List ℕ) (tables : List TableRule) (n limit : ℕ) where
+  -- and so has that of a file's pattern
+  pub one_identified : (a b : Identity) → IsIdentifiedAfter bytes tables n limit a → IsIdentifiedAfter bytes tables n limit b → a ≡ b
+  one_identified a b (p, r, holds, is) (q, s, held, are) =
       let same = one_ruled bytes tables p q r s holds.0 held.0 holds.1.holds held.1.holds in
-      let by_rule = subst (λ u. Is (next_of u) p a) same.1 is in
-      one (next_of s) q a b (subst (λ c. Is (next_of s) c a) same.0 by_rule) are
+      let by_rule = subst (λ u. IsIdentityAfter (next_of u) p n limit a) same.1 is in
+      one_identity_after (next_of s) q n limit a b (subst (λ c. IsIdentityAfter (next_of s) c n limit a) same.0 by_rule) are
 
-  -- a cause other than out of work and memory is why the file has no summary
-  file_fault : (work limit : ℕ) (cause : Cause) (line : Option ℕ) → cause ≢ Memory → cause ≢ Work → IsUnidentifiedFor bytes tables work limit cause line
-      → (fault : ConvertFault) × (fault ≢ convert_fault.Memory) × IsSummaryFault bytes tables fault × (cause ≡ cause_of fault)
-  file_fault work limit (BadPattern fault) line m w h = (convert_fault.BadPattern fault, (λ e. cc), fault_on bytes fault line h, refl)
-  file_fault work limit (BadRule fault) line m w h = (convert_fault.BadRule fault, (λ e. cc), h.1, refl)
-  file_fault work limit StateTooLarge line m w (none, cells, rule, generation, holds, large) = (convert_fault.StateTooLarge, (λ e. cc), (cells, rule, generation, holds, large), refl)
-  file_fault work limit NoFile line m w h = absurd h
-  file_fault work limit (BadTable fault) line m w h = absurd h
-  file_fault work limit MixedRules line m w h = absurd h
-  file_fault work limit TooManyCells line m w h = absurd h
-  file_fault work limit Work line m w h = absurd (w refl)
-  file_fault work limit Memory line m w h = absurd (m refl)
+  module _ (work : ℕ) where
+    -- a fault other than out of work is one for which the file isn't opened
+    not_opened : (fault : LocatedFault) → fault ≢ Work → IsUnidentifiedAfter bytes tables work n limit fault → IsOpeningFault bytes tables fault
+    not_opened Work w h = absurd (w refl)
+    not_opened fault w h = h
 
-  -- so a file whose pattern is taken up has none
-  pub held_or_cause : (p : Picture) (r : RuleValue) (work limit : ℕ) (cause : Cause) (line : Option ℕ) → cause ≢ Memory → cause ≢ Work → HoldsSmallPattern bytes tables p r
-      → IsUnidentifiedFor bytes tables work limit cause line → ⊥
-  held_or_cause p r work limit cause line m w (g, holds) h =
-      let (fault, other, is, same) = file_fault work limit cause line m w h in
-      ready_or_fault bytes tables p r g fault other holds.holds holds.small is
+    -- so a file that is opened has none
+    pub identified_or_fault : (identity : Identity) (fault : LocatedFault) → fault ≢ Memory → fault ≢ Work → IsIdentifiedAfter bytes tables n limit identity
+        → IsUnidentifiedAfter bytes tables work n limit fault → ⊥
+    identified_or_fault identity fault m w (p, r, holds, is) h = opened_or_fault bytes tables p r holds.0 fault m holds.1.holds holds.1.small (not_opened fault w h)
 
-  -- and a file has one, on one line or on none
-  same_line : (work limit : ℕ) (cause : Cause) (line other : Option ℕ) → IsUnidentifiedFor bytes tables work limit cause line → IsUnidentifiedFor bytes tables work limit cause other → line ≡ other
-  same_line work limit (BadPattern fault) line other h k = one_line_of bytes fault line other h k
-  same_line work limit (BadRule fault) line other h k = h.0 ∙ sym k.0
-  same_line work limit StateTooLarge line other h k = h.0 ∙ sym k.0
-  same_line work limit Work line other h k = h.0 ∙ sym k.0
-  same_line work limit Memory line other h k = h.0 ∙ sym k.0
-  same_line work limit NoFile line other h k = absurd h
-  same_line work limit (BadTable fault) line other h k = absurd h
-  same_line work limit MixedRules line other h k = absurd h
-  same_line work limit TooManyCells line other h k = absurd h
-
-  pub one_cause_of : (work limit : ℕ) (a b : Cause) (line other : Option ℕ) → a ≢ Memory → a ≢ Work → b ≢ Memory → b ≢ Work
-      → IsUnidentifiedFor bytes tables work limit a line → IsUnidentifiedFor bytes tables work limit b other → (a ≡ b) × (line ≡ other)
-  one_cause_of work limit a b line other m w n v h k =
-      let (f, not_memory, is, same) = file_fault work limit a line m w h in
-      let (g, nor_memory, are, too) = file_fault work limit b other n v k in
-      let cause : a ≡ b = same ∙ ap cause_of (one_summary_fault bytes tables f g not_memory nor_memory is are) ∙ sym too in
-      (cause, same_line work limit b line other (subst (λ c. IsUnidentifiedFor bytes tables work limit c line) cause h) k)
-
-  -- which doesn't depend on the generations
-  pub cause_now : (work n limit : ℕ) (cause : Cause) (line : Option ℕ) → cause ≢ Work → IsUnidentifiedAfterFor bytes tables work n limit cause line → IsUnidentifiedFor bytes tables work limit cause line
-  cause_now work n limit Work line w h = absurd (w refl)
-  cause_now work n limit NoFile line w h = h
-  cause_now work n limit (BadTable fault) line w h = h
-  cause_now work n limit (BadPattern fault) line w h = h
-  cause_now work n limit (BadRule fault) line w h = h
-  cause_now work n limit StateTooLarge line w h = h
-  cause_now work n limit MixedRules line w h = h
-  cause_now work n limit TooManyCells line w h = h
-  cause_now work n limit Memory line w h = h
+    -- and a file has one
+    pub one_fault : (a b : LocatedFault) → a ≢ Memory → a ≢ Work → b ≢ Memory → b ≢ Work → IsUnidentifiedAfter bytes tables work n limit a
+        → IsUnidentifiedAfter bytes tables work n limit b → IsSameFault a b
+    one_fault a b m w o v h k = one_opening_fault bytes tables a b m o (not_opened a w h) (not_opened b v k)

@@ -1,6 +1,5 @@
 -- What a pattern is found to be, by the claims that are true of it, and why that isn't found out.
-use Rattle.std.specs.Prelude.{◌≡◌, ℕ, zero, suc, ◌+◌, ◌*◌, ◌^◌, ◌≤◌, ◌<◌, ℤ, List, Option, None, Some, Vec}
-use Rattle.std.specs.declared.alloc.Global.{Global}
+use Rattle.std.specs.Prelude.{◌≡◌, ℕ, zero, suc, ◌+◌, ◌*◌, ◌^◌, ◌≤◌, ◌<◌, ℤ, List, Some}
 use Rattle.ca_plane.specs.Plane.{Picture, cell, IsLive}
 use Rattle.ca_plane.specs.Box.{IsLeastBox}
 use Rattle.ca_plane.specs.Generations.{after, IsAfter}
@@ -15,16 +14,13 @@ use Rattle.ca_identify.specs.declared.identity.Identity.TheVariants.{Empty, Stil
 use Rattle.ca_identify.specs.declared.identity.Growth.{Growth}
 use Rattle.ca_identify.specs.declared.scope.Scope.{Scope}
 use Rattle.ca_identify.specs.declared.scope.Look.{Look}
-use Rattle.ca_pattern.specs.declared.detailed_fault.DetailedFault.{DetailedFault}
-use Rattle.ca_pattern.specs.declared.cause.Cause.{Cause}
-use Rattle.ca_pattern.specs.declared.cause.Cause.TheVariants.{BadPattern, BadRule, StateTooLarge, Work, Memory}
+use Rattle.ca_pattern.specs.declared.located_fault.LocatedFault.{LocatedFault}
+use Rattle.ca_pattern.specs.declared.located_fault.LocatedFault.TheVariants.{Work}
 use Rattle.ca_text.specs.Text.{HasGoodNumbers}
 use Rattle.ca_text.specs.Asks.{asks_of}
 use Rattle.ca_text.specs.Truth.{IsTrueClaim}
-use Rattle.ca_pattern.specs.Means.{HoldsRuleText, HoldsRuledPattern, HasRuleFault, MayWantMemory}
-use Rattle.ca_pattern.specs.Faults.{IsPatternFaultOn}
-use Rattle.ca_pattern.specs.States.{HasLargeState}
 use Rattle.ca_pattern.specs.Evolved.{HoldsSmallRuledPattern}
+use Rattle.ca_pattern.specs.LocatedFaults.{IsOpeningFault}
 
 -- a claim of this kind is about one pattern alone
 abbrev pub IsOfOnePattern : Kind → Type 0
@@ -93,12 +89,7 @@ IsLookAfter next cells n scope look = (later : Picture) × IsAfter next cells n 
 abbrev pub HoldsSmallPattern : List ℕ → List TableRule → Picture → RuleValue → Type 0
 HoldsSmallPattern bytes tables cells rule = (generation : ℕ) × HoldsSmallRuledPattern bytes tables cells rule generation
 
--- it is that of the cells that the file means under its rule
-abbrev pub IsIdentified : List ℕ → List TableRule → (limit : ℕ) → Identity → Type 0
-IsIdentified bytes tables limit identity = (cells : Picture) × (rule : RuleValue) × HoldsSmallPattern bytes tables cells rule
-    × IsIdentity (next_of rule) cells limit identity
-
--- it is that of the plane n generations on from the cells that the file means, under its rule
+-- n generations on from the cells that the file means, under its rule, the plane is what is found of it; after no generations it is that of these cells
 abbrev pub IsIdentifiedAfter : List ℕ → List TableRule → (n limit : ℕ) → Identity → Type 0
 IsIdentifiedAfter bytes tables n limit identity = (cells : Picture) × (rule : RuleValue) × HoldsSmallPattern bytes tables cells rule
     × IsIdentityAfter (next_of rule) cells n limit identity
@@ -118,35 +109,9 @@ abbrev pub MayNeedWorkAfter : (work n : ℕ) → (ℕ → ℤ → ℤ → ℕ) �
 MayNeedWorkAfter work n stages limit = (start digits level : ℕ) → 1 ≤ start → HoldsAll start (stages 0) → n < 2 ^ digits
     → 1 ≤ level → ((m : ℕ) → m < limit → HoldsAll level (stages (n + m))) → work ≤ run_work n start digits + limit * 14 ^ (level + 3)
 
--- the first reason for which it isn't found out what a pattern is, and its line, which only a fault of the file's spelling has: the bytes
--- aren't read, or their rule text names no rule, or a state is too large, or work is out. Out of memory may come before any of them, where
--- memory may run out for the bytes
-abbrev pub IsUnidentifiedFor : List ℕ → List TableRule → (work limit : ℕ) → Cause → Option ℕ → Type 0
-IsUnidentifiedFor bytes tables work limit (BadPattern fault) line = IsPatternFaultOn bytes fault line
-IsUnidentifiedFor bytes tables work limit (BadRule fault) line = (line ≡ None) × HasRuleFault bytes tables fault
-IsUnidentifiedFor bytes tables work limit StateTooLarge line = (line ≡ None) × (cells : Picture) × (rule : RuleValue) × (generation : ℕ)
-    × HoldsRuledPattern bytes tables cells rule generation × HasLargeState rule (cell cells)
-IsUnidentifiedFor bytes tables work limit Work line = (line ≡ None) × (cells : Picture) × (rule : RuleValue)
-    × HoldsSmallPattern bytes tables cells rule × MayNeedWork work (after (next_of rule) cells) limit
-IsUnidentifiedFor bytes tables work limit Memory line = (line ≡ None) × MayWantMemory bytes
-IsUnidentifiedFor bytes tables work limit cause line = ⊥
-
--- the rule text that comes with it: that of the bytes, where it names no rule
-abbrev pub IsTextOf : List ℕ → Cause → Option (Vec ℕ Global) → Type 0
-IsTextOf bytes (BadRule fault) None = ⊥
-IsTextOf bytes (BadRule fault) (Some text) = HoldsRuleText text.items bytes
-IsTextOf bytes cause text = text ≡ None
-
-abbrev pub IsUnidentified : List ℕ → List TableRule → (work limit : ℕ) → DetailedFault Cause → Type 0
-IsUnidentified bytes tables work limit refused =
-    IsUnidentifiedFor bytes tables work limit refused.fault refused.line × IsTextOf bytes refused.fault refused.rule_text
-
--- the first reason for which it isn't found out what the plane of a pattern is n generations on: the same, but that the run to there takes work too
-abbrev pub IsUnidentifiedAfterFor : List ℕ → List TableRule → (work n limit : ℕ) → Cause → Option ℕ → Type 0
-IsUnidentifiedAfterFor bytes tables work n limit Work line = (line ≡ None) × (cells : Picture) × (rule : RuleValue)
-    × HoldsSmallPattern bytes tables cells rule × MayNeedWorkAfter work n (after (next_of rule) cells) limit
-IsUnidentifiedAfterFor bytes tables work n limit cause line = IsUnidentifiedFor bytes tables work limit cause line
-
-abbrev pub IsUnidentifiedAfter : List ℕ → List TableRule → (work n limit : ℕ) → DetailedFault Cause → Type 0
-IsUnidentifiedAfter bytes tables work n limit refused =
-    IsUnidentifiedAfterFor bytes tables work n limit refused.fault refused.line × IsTextOf bytes refused.fault refused.rule_text
+-- the first reason for which it isn't found out what the plane of a file's pattern is n generations on: the file isn't opened, or work is out. Out of
+-- memory may come before any of them, where memory may run out for the bytes
+abbrev pub IsUnidentifiedAfter : List ℕ → List TableRule → (work n limit : ℕ) → LocatedFault → Type 0
+IsUnidentifiedAfter bytes tables work n limit Work = (cells : Picture) × (rule : RuleValue) × HoldsSmallPattern bytes tables cells rule
+    × MayNeedWorkAfter work n (after (next_of rule) cells) limit
+IsUnidentifiedAfter bytes tables work n limit fault = IsOpeningFault bytes tables fault

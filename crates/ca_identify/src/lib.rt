@@ -6,6 +6,6 @@ mod identity;
 pub mod identity_laws;
 mod scope;
 
-pub use identification::{identify, identify_after, look_after};
+pub use identification::identify;
 pub use identity::{Growth, Identity};
 pub use scope::{Look, Scope};

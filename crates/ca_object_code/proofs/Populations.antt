@@ -8,8 +8,10 @@ use Rattle.ca_plane.specs.Population.{HasPopulation}
 use Rattle.ca_plane.proofs.Elements.{all_weaker}
 use Rattle.ca_rule.specs.Rule.{RuleValue, next_of}
 use Rattle.ca_rule.specs.TableNext.{TableRule}
-use Rattle.ca_identify.specs.Identified.{HoldsSmallPattern, IsIdentity, IsIdentified}
+use Rattle.ca_identify.specs.Identified.{HoldsSmallPattern, IsIdentity, IsLookAt}
 use Rattle.ca_identify.specs.declared.identity.Identity.{Identity}
+use Rattle.ca_identify.specs.declared.scope.Scope.{Scope}
+use Rattle.ca_identify.specs.declared.scope.Look.{Look}
 use Rattle.ca_identify.specs.declared.identity.Identity.TheVariants.{Empty, StillLife, Oscillator, Spaceship, Dies, Unknown}
 use Rattle.ca_object_code.specs.Codes.{HasCodes, HasNoCode, HasGoodPeriod, IsNoObject, IsCodeOf, IsCodeOfFile}
 
@@ -34,8 +36,8 @@ good_period next cells limit (Spaceship period dx dy) is = (is.numbers.0, is.num
 good_period next cells limit (Dies generations) is = tt
 good_period next cells limit (Unknown growth) is = tt
 
-pub identified_period : (bytes : List ℕ) (tables : List TableRule) (limit : ℕ) (identity : Identity) → IsIdentified bytes tables limit identity → HasGoodPeriod identity
-identified_period bytes tables limit identity is = good_period (next_of is.1) is.0 limit identity is.3
+pub identified_period : (bytes : List ℕ) (tables : List TableRule) (scope : Scope) (look : Look) → IsLookAt bytes tables 0 scope look → HasGoodPeriod look.identity
+identified_period bytes tables scope look (cells, rule, holds, (later, stands, is)) = good_period (next_of rule) later look.limit look.identity is.identity
 
 -- what is found of a file, from what is found of its cells
 found_of_file : (cells : Picture) (rule : RuleValue) (identity : Identity) (found : Option (Vec ℕ Global)) → HasCodes rule → MatchOption found (IsNoObject identity) (λ code. IsCodeOf (next_of rule) cells identity code.items)

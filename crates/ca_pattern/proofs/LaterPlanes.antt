@@ -23,7 +23,7 @@ use Rattle.ca_quad.specs.Sound.{IsSoundStore}
 use Rattle.ca_quad.proofs.Reach.{low_fits}
 use Rattle.ca_quad.proofs.Shifts.{some_level}
 use Rattle.ca_macro.specs.Pattern.{AreInRange}
-use Rattle.ca_pattern.specs.Evolved.{HasCellOutOfRange}
+use Rattle.ca_pattern.specs.Written.{HasCellOutOfRange}
 use Rattle.ca_pattern.specs.inner.Cells.{IsBoxOutOfRange}
 use Rattle.ca_pattern.specs.inner.Summed.{AreNearBounds}
 use Rattle.ca_pattern.specs.PatternTrees.{IsLowTree}

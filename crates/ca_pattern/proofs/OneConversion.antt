@@ -6,19 +6,18 @@ use Rattle.ca_plane.specs.declared.point.Bounds.{Bounds}
 use Rattle.ca_plane.specs.Plane.{Picture, cell, IsLive}
 use Rattle.ca_plane.specs.Box.{IsLeastBox}
 use Rattle.ca_plane.specs.Limits.{most_cells}
-use Rattle.ca_plane.proofs.Populations.{same_population}
 use Rattle.ca_rle.specs.Shown as rle_shown
 use Rattle.ca_rle.proofs.OneFile as rle_file
 use Rattle.ca_rule.specs.TableNext.{TableRule}
 use Rattle.ca_rule.specs.Rule.{RuleValue, printed_form}
 use Rattle.ca_pattern.specs.declared.format.Format.{Format}
 use Rattle.ca_pattern.specs.declared.format.Format.TheVariants.{Rle, Mc}
-use Rattle.ca_pattern.specs.declared.pattern.Summary.{Summary}
-use Rattle.ca_pattern.specs.declared.conversion.ConvertFault.{ConvertFault}
-use Rattle.ca_pattern.specs.declared.conversion.ConvertFault.TheVariants.{BadPattern, BadRule, StateTooLarge, TooManyCells, Memory}
+use Rattle.ca_pattern.specs.declared.convert_fault.ConvertFault.{ConvertFault}
+use Rattle.ca_pattern.specs.declared.convert_fault.ConvertFault.TheVariants.{BadPattern, BadRule, StateTooLarge, TooManyCells, Memory}
 use Rattle.ca_pattern.specs.Means.{format_of, MeansAs, IsReadableAs, HoldsRuledPattern}
 use Rattle.ca_pattern.specs.States.{HasSmallStates}
-use Rattle.ca_pattern.specs.Converted.{IsConverted, IsSummary, IsSameSummary, IsSummaryFault, IsConvertFault}
+use Rattle.ca_pattern.specs.Converted.{IsConverted, IsSummaryFault, IsConvertFault}
+use Rattle.ca_pattern.specs.Evolved.{IsEvolved}
 use Rattle.ca_pattern.proofs.OneMeaning.{reads_without_fault, one_fault_of, one_ruled, small_or_large, named_or_fault, one_rule_fault_of}
 use Rattle.ca_pattern.proofs.PicturePopulations.{population-le}
 
@@ -32,6 +31,10 @@ module _ (bytes : List ℕ) (tables : List TableRule) where
   ready_or_fault p r g StateTooLarge m a small (q, s, h, b, large) = small_or_large bytes tables p q r s g h a small b large
   ready_or_fault p r g TooManyCells m a small wrong = wrong
   ready_or_fault p r g Memory m a small wrong = m refl
+
+  -- nor has what stands after no generations
+  pub evolved_or_fault : (later : Picture) (r : RuleValue) (g : ℕ) (fault : ConvertFault) → fault ≢ Memory → IsEvolved bytes tables 0 later r g → IsSummaryFault bytes tables fault → ⊥
+  evolved_or_fault later r g fault m a wrong = ready_or_fault a.cells r a.begun fault m a.begins.holds a.begins.small wrong
 
   -- there is one
   pub one_summary_fault : (f g : ConvertFault) → f ≢ Memory → g ≢ Memory → IsSummaryFault bytes tables f → IsSummaryFault bytes tables g → f ≡ g
@@ -62,13 +65,13 @@ few_shown Mc text shown rule_text generation e reads means = let no : Mc ≡ Rle
 module _ (bytes : List ℕ) (tables : List TableRule) (target : Format) where
   -- what is converted has no cause
   pub text_or_fault : (text : List ℕ) (fault : ConvertFault) → fault ≢ Memory → IsConverted bytes tables target text → IsConvertFault bytes tables target fault → ⊥
-  text_or_fault text (BadPattern fault) m a wrong = ready_or_fault bytes tables a.cells a.rule a.generation (BadPattern fault) m a.holds a.small wrong
-  text_or_fault text (BadRule fault) m a wrong = ready_or_fault bytes tables a.cells a.rule a.generation (BadRule fault) m a.holds a.small wrong
-  text_or_fault text StateTooLarge m a wrong = ready_or_fault bytes tables a.cells a.rule a.generation StateTooLarge m a.holds a.small wrong
+  text_or_fault text (BadPattern fault) m a wrong = evolved_or_fault bytes tables a.later a.rule a.generation (BadPattern fault) m a.evolved wrong
+  text_or_fault text (BadRule fault) m a wrong = evolved_or_fault bytes tables a.later a.rule a.generation (BadRule fault) m a.evolved wrong
+  text_or_fault text StateTooLarge m a wrong = evolved_or_fault bytes tables a.later a.rule a.generation StateTooLarge m a.evolved wrong
   text_or_fault text TooManyCells m a (rle, cells, rule, generation, holds, small, (count, population, many)) =
-      let one = one_ruled bytes tables cells a.cells rule a.rule generation a.generation holds a.holds in
-      let few = few_shown (format_of text) text a.shown (printed_form a.rule) a.generation (a.format ∙ rle) a.text_holds.readable a.text_holds.means in
-      let all = population-le a.shown count (cell cells) (λ x y. ap (λ p. cell p x y) one.0 ∙ a.same x y) population in
+      let one = one_ruled bytes tables cells a.evolved.cells rule a.rule generation a.evolved.begun holds a.evolved.begins.holds in
+      let few = few_shown (format_of text) text a.later (printed_form a.rule) a.generation (a.format ∙ rle) a.text_holds.readable a.text_holds.means in
+      let all = population-le a.later count (cell cells) (λ x y. ap (λ p. cell p x y) one.0 ∙ a.evolved.stands x y) population in
       omega (arith, few, all, many)
   text_or_fault text Memory m a wrong = m refl
 
@@ -125,15 +128,3 @@ one_bounds p None None one two = refl
 one_bounds p (Some a) (Some b) one two = ap Some (one_box p a b one two)
 one_bounds p None (Some b) one two = absurd (one (boxed_live p b two))
 one_bounds p (Some a) None one two = absurd (two (boxed_live p a one))
-
--- a file has one summary
-pub one_summary : (bytes : List ℕ) (tables : List TableRule) (s t : Summary) → IsSummary bytes tables s → IsSummary bytes tables t → IsSameSummary s t
-one_summary bytes tables s t a b =
-    let one = one_ruled bytes tables a.cells b.cells a.rule b.rule s.generation t.generation a.holds b.holds in
-    record {
-      kind = a.kind ∙ sym b.kind;
-      rule_text = a.printed ∙ ap printed_form one.1 ∙ sym b.printed;
-      generation = one.2;
-      cells = same_population (cell a.cells) (cell b.cells) (λ x y. ap (λ p. cell p x y) one.0) s.cells t.cells a.population b.population;
-      bounds = one_bounds b.cells s.bounds t.bounds (subst (λ p. MatchOption s.bounds (IsLive p → ⊥) (IsLeastBox p)) one.0 a.bounds) b.bounds;
-    }

@@ -8,12 +8,9 @@ use Rattle.ca_plane.specs.Box.{IsLeastBox}
 use Rattle.ca_rle.specs.Tidy as rle
 use Rattle.ca_rle.proofs.OneTidy as rle_tidy
 use Rattle.ca_macro.proofs.OneTidy as macrocell_tidy
-use Rattle.ca_rule.specs.TableNext.{TableRule}
-use Rattle.ca_rule.specs.Rule.{states_of, printed_form}
 use Rattle.ca_pattern.specs.declared.format.Format.{Format}
 use Rattle.ca_pattern.specs.declared.format.Format.TheVariants.{Rle, Mc}
-use Rattle.ca_pattern.specs.Converted.{IsTidyAs, IsConverted}
-use Rattle.ca_pattern.proofs.OneMeaning.{one_ruled}
+use Rattle.ca_pattern.specs.Written.{IsTidyAs}
 use Rattle.ca_pattern.proofs.WrittenMeanings.{tidy_shown}
 
 -- a text that is tidy for a picture is so for one that shows the same
@@ -58,12 +55,3 @@ pub one_tidy_as : (format : Format) (t u : List ℕ) (p : Picture) (rule_text : 
     → IsTidyAs format u p rule_text generation states → t ≡ u
 one_tidy_as Rle t u p rule_text generation states one two = rle_tidy.one_tidy t u p rule_text generation states one two
 one_tidy_as Mc t u p rule_text generation states one two = macrocell_tidy.one_tidy t u (cell p) rule_text generation states one two
-
-pub one_text : (bytes : List ℕ) (tables : List TableRule) (target : Format) (t u : List ℕ) → IsConverted bytes tables target t → IsConverted bytes tables target u → t ≡ u
-one_text bytes tables target t u a b =
-    let one = one_ruled bytes tables a.cells b.cells a.rule b.rule a.generation b.generation a.holds b.holds in
-    let same : IsSame a.shown b.shown = λ x y. sym (a.same x y) ∙ ap (λ p. cell p x y) one.0 ∙ b.same x y in
-    let shown = tidy_as a.shown b.shown same target t (printed_form a.rule) a.generation (states_of a.rule) a.tidy in
-    let ruled = subst (λ r. IsTidyAs target t b.shown (printed_form r) a.generation (states_of r)) one.1 shown in
-    let timed = subst (λ g. IsTidyAs target t b.shown (printed_form b.rule) g (states_of b.rule)) one.2 ruled in
-    one_tidy_as target t u b.shown (printed_form b.rule) b.generation (states_of b.rule) timed b.tidy

@@ -16,7 +16,6 @@ use Rattle.ca_macro.specs.Pattern.{AreInRange}
 use Rattle.ca_pattern.specs.declared.format.Format.TheVariants.{Rle}
 use Rattle.ca_pattern.specs.Means.{format_of, MeansAs, IsReadableAs, HoldsPattern}
 use Rattle.ca_pattern.specs.States.{HasSmallStates, HasLargeState}
-use Rattle.ca_pattern.specs.inner.Ready.{HoldsCells}
 use Rattle.ca_pattern.proofs.FilesRead.{in_format, shown_in_range}
 use Rattle.ca_pattern.proofs.EqualCells.{small_shown}
 
@@ -33,13 +32,6 @@ module _ (bytes : List ℕ) (file : RleFile) (f : ℤ → ℤ → ℕ) (rule_tex
 
   pub in_range : AreInRange f
   in_range = shown_in_range f picture parts.cells_are within.0.cells
-
-  pub holds_cells : (tables : List TableRule) (rule : RuleValue) → NamesRule rule_text tables rule → HasSmallStates rule f → HoldsCells bytes tables f rule generation
-  holds_cells tables rule names small = record {
-    picture = picture;
-    begins = record { holds = record { rule_text = rule_text; holds = holds; names = names }; small = small_shown f (cell picture) parts.cells_are rule small };
-    shows = parts.cells_are;
-  }
 
 -- ---- a text that was judged
 
@@ -61,23 +53,11 @@ module _ (bytes : List ℕ) (text : RleText) (is : IsRleText bytes text) where
   pub text_holds : format_of bytes ≡ Rle → HoldsPattern bytes (picture_of_items is.file.corner is.file.items) is.file.rule_text text.generation
   text_holds rle = holds bytes is.file (cell text_picture) is.file.rule_text text.generation rle is.is_file is.within text_parts
 
-  -- its states are small under a rule with more states than the greatest
-  pub text_small : (rule : RuleValue) → text.greatest < states_of rule → HasSmallStates rule (cell (picture_of_items text.corner is.file.items))
-  text_small rule low = λ x y.
-      let most : cell text_picture x y ≤ text.greatest = subst (λ (at : Point). cell (picture_of_items at is.file.items) x y ≤ text.greatest) (sym is.corner) (is.most x y) in
-      omega (arith, most, low)
-
-  -- and one is large under a rule with no more
+  -- and one of its states is large under a rule with no more states than the greatest
   pub text_large : (rule : RuleValue) → 0 < states_of rule → states_of rule ≤ text.greatest → HasLargeState rule (cell (picture_of_items is.file.corner is.file.items))
   text_large rule some high =
       let (x, y, shown) = is.greatest (omega (arith, some, high)) in
       (x, y, omega (arith, shown, high))
-
-  -- so it is a file of its cells
-  pub text_file : format_of bytes ≡ Rle → (tables : List TableRule) (rule : RuleValue) → NamesRule is.file.rule_text tables rule → text.greatest < states_of rule
-      → HoldsCells bytes tables (cell (picture_of_items text.corner is.file.items)) rule text.generation
-  text_file rle tables rule names low =
-      holds_cells bytes is.file (cell text_picture) is.file.rule_text text.generation rle is.is_file is.within text_parts tables rule names (text_small rule low)
 
   -- the number of its live cells, and their bounds
   pub text_population : HasPopulation (cell (picture_of_items text.corner is.file.items)) text.cells

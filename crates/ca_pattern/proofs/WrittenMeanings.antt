@@ -22,12 +22,15 @@ use Rattle.ca_macro.specs.Shown as macrocell_shown
 use Rattle.ca_macro.specs.Pattern.{Holds}
 use Rattle.ca_macro.proofs.TidyFiles.{tidy_nodes_as}
 use Rattle.ca_rule.specs.Rule.{RuleValue, states_of, printed_form}
+use Rattle.ca_pattern.specs.declared.format.Format.{Format}
 use Rattle.ca_pattern.specs.declared.format.Format.TheVariants.{Rle, Mc}
-use Rattle.ca_pattern.specs.declared.conversion.ConvertFault.{ConvertFault}
-use Rattle.ca_pattern.specs.declared.conversion.ConvertFault.TheVariants.{BadPattern, BadRule, StateTooLarge, TooManyCells, Memory}
 use Rattle.ca_pattern.specs.Means.{format_of, MeansAs, IsReadableAs}
 use Rattle.ca_pattern.specs.inner.Cells.{IsPlaneOf}
-use Rattle.ca_pattern.specs.inner.Ready.{AreWritable, IsWritablePlane, IsWrittenAs, AreUnwritten}
+use Rattle.ca_macro.proofs.Ranges.{range_as}
+use Rattle.ca_pattern.specs.declared.located_fault.LocatedFault.{LocatedFault}
+use Rattle.ca_pattern.specs.declared.located_fault.LocatedFault.TheVariants.{Unread, UnnamedRule, StateTooLarge, GenTooLarge, Work, Range, TooManyCells, Memory}
+use Rattle.ca_pattern.specs.Written.{IsWrittenAs, AreUnwritten}
+use Rattle.ca_pattern.specs.inner.Ready.{AreWritable, IsWritablePlane}
 use Rattle.ca_pattern.proofs.FilesRead.{in_format}
 use Rattle.ca_pattern.proofs.EqualCells.{small_shown, many_shown}
 
@@ -83,20 +86,23 @@ written_rle cells rule generation rule_text text file printed tidy is_file withi
 
 -- what is written of cells is written of the same cells, and why they aren't is why those aren't
 module _ (f g : ℤ → ℤ → ℕ) (same : (x y : ℤ) → f x y ≡ g x y) where
-  pub written_ok : (rule : RuleValue) (generation : ℕ) {A : Type 0} (items : A → List ℕ) (r : Result A ConvertFault) → IfOk r (λ a. IsWrittenAs Rle f rule generation (items a)) → IfOk r (λ a. IsWrittenAs Rle g rule generation (items a))
+  pub written_ok : (rule : RuleValue) (generation : ℕ) {A E : Type 0} (items : A → List ℕ) (r : Result A E) → IfOk r (λ a. IsWrittenAs Rle f rule generation (items a)) → IfOk r (λ a. IsWrittenAs Rle g rule generation (items a))
   written_ok rule generation items (Ok a) written = record { shown = written.shown; same = λ x y. sym (same x y) ∙ written.same x y; format = written.format; holds = written.holds; tidy = written.tidy }
   written_ok rule generation items (Err e) written = written
 
-  unwritten : (fault : ConvertFault) → AreUnwritten Rle f fault → AreUnwritten Rle g fault
-  unwritten (BadPattern fault) h = h
-  unwritten (BadRule fault) h = h
-  unwritten StateTooLarge h = h
-  unwritten TooManyCells h = (h.0, many_shown f g same h.1)
-  unwritten Memory h = h
+  unwritten : (target : Format) (fault : LocatedFault) → AreUnwritten target f fault → AreUnwritten target g fault
+  unwritten target TooManyCells h = (h.0, range_as f g same h.1, many_shown f g same h.2)
+  unwritten target Range h = (h.0, h.1, (λ e. h.2 (same h.0 h.1 ∙ e)), h.3)
+  unwritten target (Unread bad) h = h
+  unwritten target (UnnamedRule unnamed) h = h
+  unwritten target StateTooLarge h = h
+  unwritten target GenTooLarge h = h
+  unwritten target Work h = h
+  unwritten target Memory h = h
 
-  pub unwritten_err : {A : Type 0} (r : Result A ConvertFault) → IfErr r (AreUnwritten Rle f) → IfErr r (AreUnwritten Rle g)
-  unwritten_err (Ok a) h = h
-  unwritten_err (Err e) h = unwritten e h
+  pub unwritten_err : (target : Format) {A : Type 0} (r : Result A LocatedFault) → IfErr r (AreUnwritten target f) → IfErr r (AreUnwritten target g)
+  unwritten_err target (Ok a) h = h
+  unwritten_err target (Err e) h = unwritten target e h
 
 -- ---- a macrocell
 

@@ -1,52 +1,26 @@
--- What a pattern is converted to, what is told of it, and why it is refused.
-use Rattle.std.specs.Prelude.{◌≡◌, ℕ, List, MatchOption}
-use Rattle.ca_plane.specs.Plane.{Picture, cell, IsSame, IsLive}
-use Rattle.ca_plane.specs.Box.{IsLeastBox}
-use Rattle.ca_plane.specs.Population.{HasPopulation, HasTooManyCells}
+-- What a pattern file is converted to, what is told of it, and why it is refused.
+use Rattle.std.specs.Prelude.{◌≡◌, ℕ, List}
+use Rattle.ca_plane.specs.Plane.{Picture, cell}
+use Rattle.ca_plane.specs.Population.{HasTooManyCells}
 use Rattle.ca_rule.specs.TableNext.{TableRule}
-use Rattle.ca_rule.specs.Rule.{RuleValue, states_of, printed_form}
-use Rattle.ca_rle.specs.Tidy as rle
-use Rattle.ca_macro.specs.Tidy as macrocell
+use Rattle.ca_rule.specs.Rule.{RuleValue}
 use Rattle.ca_pattern.specs.declared.format.Format.{Format}
-use Rattle.ca_pattern.specs.declared.format.Format.TheVariants.{Rle, Mc}
-use Rattle.ca_pattern.specs.declared.conversion.ConvertFault.{ConvertFault}
-use Rattle.ca_pattern.specs.declared.conversion.ConvertFault.TheVariants.{BadPattern, BadRule, StateTooLarge, TooManyCells, Memory}
+use Rattle.ca_pattern.specs.declared.format.Format.TheVariants.{Rle}
+use Rattle.ca_pattern.specs.declared.convert_fault.ConvertFault.{ConvertFault}
+use Rattle.ca_pattern.specs.declared.convert_fault.ConvertFault.TheVariants.{BadPattern, BadRule, StateTooLarge, TooManyCells, Memory}
 use Rattle.ca_pattern.specs.declared.pattern.Summary.{Summary}
-use Rattle.ca_pattern.specs.Means.{format_of, HoldsPattern, HoldsRuledPattern, HasRuleFault, MayWantMemory}
+use Rattle.ca_pattern.specs.Evolved.{IsConvertedAfter, IsSummaryAfter}
+use Rattle.ca_pattern.specs.Means.{HoldsRuledPattern, HasRuleFault, MayWantMemory}
 use Rattle.ca_pattern.specs.Faults.{IsPatternFault}
 use Rattle.ca_pattern.specs.States.{HasLargeState, HasSmallStates}
 
--- the tidy text of a format
-abbrev pub IsTidyAs : Format → List ℕ → Picture → List ℕ → ℕ → ℕ → Type 0
-IsTidyAs Rle text cells rule_text generation states = rle.IsTidyRle text cells rule_text generation states
-IsTidyAs Mc text cells rule_text generation states = macrocell.IsTidyMacrocell text (cell cells) rule_text generation states
+-- the text is what the bytes are converted to: what their pattern is written as, after no generations
+abbrev pub IsConverted : List ℕ → List TableRule → Format → List ℕ → Type 0
+IsConverted bytes tables target text = IsConvertedAfter bytes tables 0 target text
 
--- the text is what the bytes are converted to: of the same cells at every x and y, with the printed form of the rule, and of the same
--- generation; it is the tidy text of the target's format, and its reader takes it
-pub record IsConverted (bytes : List ℕ) (tables : List TableRule) (target : Format)
-    (text : List ℕ) : Type 0 where
-  pub cells : Picture
-  pub rule : RuleValue
-  pub generation : ℕ
-  pub holds : HoldsRuledPattern bytes tables cells rule generation
-  pub small : HasSmallStates rule (cell cells)
-  pub shown : Picture
-  pub same : IsSame cells shown
-  pub format : format_of text ≡ target
-  pub text_holds : HoldsPattern text shown (printed_form rule) generation
-  pub tidy : IsTidyAs target text shown (printed_form rule) generation (states_of rule)
-
--- the summary is that of the bytes: their format, the printed form of their rule, the generation, the number of live cells, and the
--- least box round them
-pub record IsSummary (bytes : List ℕ) (tables : List TableRule) (summary : Summary) : Type 0 where
-  pub cells : Picture
-  pub rule : RuleValue
-  pub holds : HoldsRuledPattern bytes tables cells rule summary.generation
-  pub small : HasSmallStates rule (cell cells)
-  pub kind : summary.kind ≡ format_of bytes
-  pub printed : summary.rule_text.items ≡ printed_form rule
-  pub population : HasPopulation (cell cells) summary.cells
-  pub bounds : MatchOption summary.bounds (IsLive cells → ⊥) (IsLeastBox cells)
+-- the summary is that of the bytes: that of their pattern, after no generations
+abbrev pub IsSummary : List ℕ → List TableRule → Summary → Type 0
+IsSummary bytes tables summary = IsSummaryAfter bytes tables 0 summary
 
 -- two summaries say the same
 pub record IsSameSummary (one two : Summary) : Type 0 where

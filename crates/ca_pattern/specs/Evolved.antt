@@ -1,25 +1,25 @@
 -- Patterns some generations on: what is reached, what is told and written of it, and why it isn't.
-use Rattle.std.specs.Prelude.{◌≡◌, ◌≢◌, ℕ, ◌+◌, ◌^◌, ◌<◌, ◌≤◌, ℤ, List, MatchOption}
+use Rattle.std.specs.Prelude.{◌≡◌, ℕ, ◌+◌, ◌^◌, ◌<◌, ◌≤◌, ℤ, List, MatchOption}
 use Rattle.ca_plane.specs.Plane.{Picture, cell, IsLive}
 use Rattle.ca_plane.specs.Box.{IsLeastBox}
 use Rattle.ca_plane.specs.Generations.{after, IsAfter}
-use Rattle.ca_plane.specs.Limits.{IsInRange, generation_limit}
+use Rattle.ca_plane.specs.Limits.{generation_limit}
 use Rattle.ca_plane.specs.Population.{HasPopulation, HasTooManyCells}
-use Rattle.ca_quad.specs.Trees as trees
-use Rattle.ca_quad.specs.Trees.{IsTrimmed, HoldsAll}
+use Rattle.ca_quad.specs.Trees.{HoldsAll}
 use Rattle.ca_macro.specs.Pattern.{AreInRange}
 use Rattle.ca_rule.specs.TableNext.{TableRule}
 use Rattle.ca_rule.specs.Rule.{RuleValue, rule_value, states_of, next_of, printed_form}
 use Rattle.ca_pattern.specs.declared.format.Format.{Format}
 use Rattle.ca_pattern.specs.declared.format.Format.TheVariants.{Rle}
-use Rattle.ca_pattern.specs.declared.conversion.ConvertFault.TheVariants.{TooManyCells}
 use Rattle.ca_pattern.specs.declared.pattern.Summary.{Summary}
-use Rattle.ca_pattern.specs.declared.reached.Reached.{Reached}
-use Rattle.ca_pattern.specs.declared.reached.ReachFault.{ReachFault}
-use Rattle.ca_pattern.specs.declared.reached.ReachFault.TheVariants.{Convert, GenTooLarge, Work, Range}
+use Rattle.ca_pattern.specs.declared.pattern.Pattern.{Pattern}
+use Rattle.ca_pattern.specs.declared.located_fault.LocatedFault.{LocatedFault}
+use Rattle.ca_pattern.specs.declared.located_fault.LocatedFault.TheVariants.{GenTooLarge, Work, Range, TooManyCells}
 use Rattle.ca_pattern.specs.Means.{format_of, HoldsPattern, HoldsRuledPattern}
 use Rattle.ca_pattern.specs.States.{HasSmallStates}
-use Rattle.ca_pattern.specs.Converted.{IsTidyAs, IsSummaryFault}
+use Rattle.ca_pattern.specs.LocatedFaults.{IsOpeningFault}
+use Rattle.ca_pattern.specs.PatternCells.{AreCells, IsPatternOf}
+use Rattle.ca_pattern.specs.Written.{IsTidyAs, HasCellOutOfRange}
 
 -- the bytes are a file whose pattern has these cells, of small states, under the rule that its rule text names, at this generation
 pub record HoldsSmallRuledPattern (bytes : List ℕ) (tables : List TableRule) (cells : Picture)
@@ -27,35 +27,19 @@ pub record HoldsSmallRuledPattern (bytes : List ℕ) (tables : List TableRule) (
   pub holds : HoldsRuledPattern bytes tables cells rule generation
   pub small : HasSmallStates rule (cell cells)
 
--- what is reached is the plane of the file's pattern n generations on: its tree, of the least level, shows in its store, at every x and y, the cells that
--- the plane has then, of small states; the rule is the file's, and n is added to the file's generation
-pub record IsReached (bytes : List ℕ) (tables : List TableRule) (n : ℕ) (reached : Reached) : Type 0 where
-  pub cells : Picture
-  pub begun : ℕ
-  pub begins : HoldsSmallRuledPattern bytes tables cells (rule_value reached.rule) begun
-  pub kind_is : reached.kind ≡ format_of bytes
-  pub added : reached.generation ≡ begun + n
-  pub low : reached.generation < generation_limit
-  pub is_tree : trees.IsTree reached.store reached.tree
-  pub level : reached.tree.level ≤ 62
-  pub trimmed : IsTrimmed reached.store reached.tree
-  pub shows : (x y : ℤ) → trees.cell reached.store reached.tree x y ≡ after (next_of (rule_value reached.rule)) cells n x y
-  pub small : HasSmallStates (rule_value reached.rule) (trees.cell reached.store reached.tree)
-
 -- there is at least one generation to run, and the work is no more than a run of n of them from these cells may need: 14 to the power of a level that
 -- holds them, the binary digits of n, and 2
 abbrev pub MayNeedRun : (work n : ℕ) → (ℤ → ℤ → ℕ) → Type 0
 MayNeedRun work n cells = (1 ≤ n) × ((level digits : ℕ) → 1 ≤ level → HoldsAll level cells → n < 2 ^ digits → work ≤ 14 ^ (level + digits + 2))
 
--- the first reason for which the plane n generations on isn't reached, where so much work may be done: the pattern has no summary; or the generation
+-- the first reason for which the plane n generations on isn't reached, where so much work may be done: the file isn't opened; or the generation
 -- would be too large; or work is out. Out of memory may come before any of them, where memory may run out for the bytes
-abbrev pub IsReachFault : List ℕ → List TableRule → (n work : ℕ) → ReachFault → Type 0
-IsReachFault bytes tables n work (Convert fault) = IsSummaryFault bytes tables fault
+abbrev pub IsReachFault : List ℕ → List TableRule → (n work : ℕ) → LocatedFault → Type 0
 IsReachFault bytes tables n work GenTooLarge = (cells : Picture) × (rule : RuleValue) × (generation : ℕ)
     × HoldsSmallRuledPattern bytes tables cells rule generation × (generation_limit ≤ generation + n)
 IsReachFault bytes tables n work Work = (cells : Picture) × (rule : RuleValue) × (generation : ℕ)
     × HoldsSmallRuledPattern bytes tables cells rule generation × (generation + n < generation_limit) × MayNeedRun work n (cell cells)
-IsReachFault bytes tables n work Range = ⊥
+IsReachFault bytes tables n work fault = IsOpeningFault bytes tables fault
 
 -- n generations on from the file's pattern, under its rule, the plane has these cells, at this generation, which is below the limit
 pub record IsEvolved (bytes : List ℕ) (tables : List TableRule) (n : ℕ) (later : Picture) (rule : RuleValue)
@@ -66,6 +50,16 @@ pub record IsEvolved (bytes : List ℕ) (tables : List TableRule) (n : ℕ) (lat
   pub stands : IsAfter (next_of rule) cells n later
   pub added : generation ≡ begun + n
   pub low : generation < generation_limit
+
+-- the pattern is that of the file n generations on: it has the cells that the plane has then, at every x and y, of small states; its rule is the
+-- file's, and n is added to the file's generation
+pub record IsPatternAfter (bytes : List ℕ) (tables : List TableRule) (n : ℕ) (pattern : Pattern) : Type 0 where
+  pub cells : Picture
+  pub begun : ℕ
+  pub begins : HoldsSmallRuledPattern bytes tables cells (rule_value pattern.rule) begun
+  pub kind : pattern.kind ≡ format_of bytes
+  pub added : pattern.generation ≡ begun + n
+  pub is_pattern : IsPatternOf (after (next_of (rule_value pattern.rule)) cells n) pattern
 
 -- the summary is that of the plane n generations on: the format of the bytes, the printed form of their rule, their generation and n, the number of
 -- live cells, and the least box round them
@@ -91,23 +85,19 @@ pub record IsConvertedAfter (bytes : List ℕ) (tables : List TableRule) (n : �
   pub text_holds : HoldsPattern text later (printed_form rule) generation
   pub tidy : IsTidyAs target text later (printed_form rule) generation (states_of rule)
 
--- some live cell lies outside the range of a file
-abbrev pub HasCellOutOfRange : (ℤ → ℤ → ℕ) → Type 0
-HasCellOutOfRange cells = (x : ℤ) × (y : ℤ) × (cells x y ≢ 0) × (IsInRange (record { y = y; x = x }) → ⊥)
-
 -- the first reason for which the plane n generations on isn't written: it isn't reached; or a live cell is out of range then; or more cells are live
 -- than an RLE may have
-abbrev pub IsConvertFaultAfter : List ℕ → List TableRule → (n work : ℕ) → Format → ReachFault → Type 0
-IsConvertFaultAfter bytes tables n work target (Convert TooManyCells) = (target ≡ Rle) × (cells : Picture) × (rule : RuleValue) × (generation : ℕ)
+abbrev pub IsConvertFaultAfter : List ℕ → List TableRule → (n work : ℕ) → Format → LocatedFault → Type 0
+IsConvertFaultAfter bytes tables n work target TooManyCells = (target ≡ Rle) × (cells : Picture) × (rule : RuleValue) × (generation : ℕ)
     × HoldsSmallRuledPattern bytes tables cells rule generation × (generation + n < generation_limit)
     × AreInRange (after (next_of rule) cells n) × HasTooManyCells (after (next_of rule) cells n)
 IsConvertFaultAfter bytes tables n work target Range = (cells : Picture) × (rule : RuleValue) × (generation : ℕ)
     × HoldsSmallRuledPattern bytes tables cells rule generation × (generation + n < generation_limit) × HasCellOutOfRange (after (next_of rule) cells n)
 IsConvertFaultAfter bytes tables n work target fault = IsReachFault bytes tables n work fault
 
--- two planes that are reached are the same: of one format, under one rule, of one generation, and of the same cells at every x and y
-pub record IsSameReached (one two : Reached) : Type 0 where
+-- two patterns are the same: of one format, under one rule, of one generation, and of the same cells at every x and y
+pub record IsSamePattern (one two : Pattern) : Type 0 where
   pub kind : one.kind ≡ two.kind
   pub rule : rule_value one.rule ≡ rule_value two.rule
   pub generation : one.generation ≡ two.generation
-  pub cells : (x y : ℤ) → trees.cell one.store one.tree x y ≡ trees.cell two.store two.tree x y
+  pub cells : (f g : ℤ → ℤ → ℕ) → AreCells one.cells f → AreCells two.cells g → (x y : ℤ) → f x y ≡ g x y

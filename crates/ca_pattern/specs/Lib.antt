@@ -1,13 +1,16 @@
 pub mod Converted
-pub mod DetailedFault
 pub mod Evolved
 pub mod Faults
+pub mod Later
 pub mod Limited
 pub mod Loaded
+pub mod LocatedFaults
 pub mod Means
 pub mod NamedTables
+pub mod PatternCells
 pub mod PatternTrees
 pub mod Patterns
 pub mod Spending
 pub mod States
+pub mod Written
 pub mod inner

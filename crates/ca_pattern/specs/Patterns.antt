@@ -56,11 +56,3 @@ ShowsLarge nodes ruled = HasLargeState (rule_of ruled) (cell nodes ruled.pattern
 -- none is
 abbrev pub ShowsSmall : List Node → RuledPattern → Type 0
 ShowsSmall nodes ruled = HasSmallStates (rule_of ruled) (cell nodes ruled.pattern.tree)
-
--- the bytes are a file of this pattern, whose states are small under the rule that its rule text names
-pub record IsReady (nodes : List Node) (bytes : List ℕ) (tables : List TableRule)
-    (ruled : RuledPattern) : Type 0 where
-  pub read : IsReadFrom nodes bytes ruled.pattern
-  pub generation : ruled.pattern.generation < generation_limit
-  pub names : NamesRule ruled.pattern.rule_text.items tables (rule_of ruled)
-  pub small : HasSmallStates (rule_of ruled) (cell nodes ruled.pattern.tree)

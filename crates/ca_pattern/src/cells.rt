@@ -1,18 +1,120 @@
-//! What is judged of cells, those of a tree or of a plane.
+//! What is judged of cells, and the forms that they have.
 
-ghost use Rattle.std.specs.Prelude.{◌≤◌, IsTrue, IsFalse, IfOk, MatchOption};
+ghost use Rattle.std.specs.Prelude.{◌≡◌, ◌≤◌, ℕ, ℤ, IsTrue, IsFalse, IfOk, MatchOption};
+ghost use Rattle.ca_pattern.specs.PatternCells.{AreCells, IsTreeOf};
+ghost use Rattle.ca_rle.specs.Pattern.{packed_cell};
+ghost use Rattle.ca_quad.specs.Sound.{Grows};
+ghost use Rattle.ca_quad.specs.Trees.{IsTrimmed};
+ghost use Rattle.ca_plane.specs.Plane.{Picture, IsLive, cell as plane_cell};
+ghost use Rattle.ca_plane.specs.Box.{IsLeastBox};
+ghost use Rattle.ca_pattern.specs.PatternTrees.{IsLowTree};
+ghost use Rattle.ca_pattern.specs.inner.Summed.{AreNearBounds, IsExtentOf};
 ghost use Rattle.ca_quad.specs.Trees.{IsTree, cell};
 ghost use Rattle.ca_macro.specs.Pattern.{AreInRange};
 ghost use Rattle.ca_plane.specs.Population.{HasFewCells, HasTooManyCells};
-ghost use Rattle.ca_pattern.specs.Evolved.{HasCellOutOfRange};
+ghost use Rattle.ca_pattern.specs.Written.{HasCellOutOfRange};
 ghost use Rattle.ca_pattern.specs.Patterns.{ShowsLarge, ShowsSmall};
 ghost use Rattle.ca_pattern.specs.inner.Cells.{IsBoxInRange, IsBoxOutOfRange, IsPlaneOf};
 
+use crate::pattern::{Cells, StoredTree};
 use crate::ruled::RuledPattern;
 use ca_plane::limits::{MOST_CELLS, RANGE};
-use ca_plane::{Automaton, Memory, Plane};
+use ca_plane::{Automaton, Bounds, Memory, Plane};
 use ca_quad::{QuadFault, Store, Tree, WideBounds};
+use ca_rle::{PackedCells, draw_text};
 use std::alloc::Global;
+
+/// How many cells are live, and the least box round them, where there are any.
+pub(crate) struct Extent {
+    pub(crate) cells: u128,
+    pub(crate) bounds: Option<Bounds>,
+}
+
+impl Cells<'_> {
+    /// The tree of these cells, and the store of its squares.
+    ///
+    /// # Errors
+    ///
+    /// Fails where there is no memory for the squares of a text's cells.
+    pub fn into_squares(self, alloc: Global) -> Result<StoredTree, Memory>
+        requires { (cells : ℤ → ℤ → ℕ) × AreCells self cells }
+        ensures { (cells : ℤ → ℤ → ℕ) → AreCells self.entry cells → IfOk result (IsTreeOf cells) }
+    {
+        match self {
+            Cells::Text(text) => {
+                let mut store = Store::new(alloc);
+                let packed = draw_text(alloc, text)?;
+                let tree = tree_of(&mut store, packed)?;
+                Ok(StoredTree { store, tree })
+            }
+            Cells::Squares(stored) => Ok(stored),
+        }
+    }
+
+    /// How many cells are live, and the least box round them.
+    pub(crate) fn extent(&self, alloc: Global) -> Result<Extent, Memory>
+        requires { (cells : ℤ → ℤ → ℕ) × AreCells self.now cells }
+        ensures { (cells : ℤ → ℤ → ℕ) → AreCells self.now cells → IfOk result (IsExtentOf cells) }
+    {
+        match self {
+            Cells::Text(text) => Ok(Extent {
+                cells: u128::from(text.cells),
+                bounds: text.bounds,
+            }),
+            Cells::Squares(StoredTree { store, tree }) => Ok(Extent {
+                cells: store.population(alloc, *tree)?,
+                bounds: bounds_of(alloc, store, *tree)?,
+            }),
+        }
+    }
+}
+
+/// The tree of packed cells.
+pub(crate) fn tree_of(store: &mut Store, cells: PackedCells) -> Result<Tree, Memory>
+    ensures tree { IfOk result (IsTree store.new) }
+    ensures cells { IfOk result (λ t. (x y : ℤ) → cell store.new t x y ≡ packed_cell cells x y) }
+    ensures trimmed { IfOk result (IsTrimmed store.new) }
+    ensures grows { Grows store.old store.new }
+{
+    match cells {
+        PackedCells::Words(plane) => store.from_bits(plane),
+        PackedCells::States(plane) => store.from_plane(&plane),
+    }
+}
+
+/// The least box round the live cells of a tree, where there are any.
+///
+/// # Errors
+///
+/// Fails where there is no memory to measure it.
+pub fn bounds_of(alloc: Global, store: &Store, tree: Tree) -> Result<Option<Bounds>, Memory>
+    requires { IsLowTree store.now tree }
+    ensures { (cells : Picture) → ((x y : ℤ) → cell store.now tree x y ≡ plane_cell cells x y)
+        → IfOk result (λ found. MatchOption found (IsLive cells → ⊥) (IsLeastBox cells)) }
+{
+    // Says what holds of every store.
+    let _ = store.count();
+    match store.bounds(alloc, tree)? {
+        Some(bounds) => Ok(Some(bounds_of_wide(bounds))),
+        None => Ok(None),
+    }
+}
+
+/// A box that lies near the middle of the plane.
+fn bounds_of_wide(bounds: WideBounds) -> Bounds
+    requires { AreNearBounds bounds }
+    ensures x0 { result.x0 ≡ bounds.x0 }
+    ensures y0 { result.y0 ≡ bounds.y0 }
+    ensures x1 { result.x1 ≡ bounds.x1 }
+    ensures y1 { result.y1 ≡ bounds.y1 }
+{
+    Bounds {
+        x0: bounds.x0 as i64,
+        y0: bounds.y0 as i64,
+        x1: bounds.x1 as i64,
+        y1: bounds.y1 as i64,
+    }
+}
 
 /// Whether some cell of the pattern has a state that its rule doesn't have.
 ///

@@ -5,8 +5,8 @@ ghost use Rattle.std.specs.Prelude.{◌≡◌, ◌≢◌, ℕ, List};
 ghost use Rattle.ca_rule.specs.TableNext.{TableRule};
 ghost use Rattle.ca_pattern.specs.declared.format.Format.{Format};
 ghost use Rattle.ca_pattern.specs.declared.pattern.Summary.{Summary};
-ghost use Rattle.ca_pattern.specs.declared.conversion.ConvertFault.{ConvertFault};
-ghost use Rattle.ca_pattern.specs.declared.conversion.ConvertFault.TheVariants.{Memory};
+ghost use Rattle.ca_pattern.specs.declared.convert_fault.ConvertFault.{ConvertFault};
+ghost use Rattle.ca_pattern.specs.declared.convert_fault.ConvertFault.TheVariants.{Memory};
 ghost use Rattle.ca_pattern.specs.Converted.{IsConverted, IsConvertFault, IsSummary, IsSummaryFault};
 ghost use Rattle.ca_pattern.specs.Converted.{IsSameSummary};
 

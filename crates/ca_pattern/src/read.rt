@@ -1,14 +1,14 @@
 //! Pattern files of both formats, read into a store of squares.
 
-ghost use Rattle.std.specs.Prelude.{◌≡◌, ◌≢◌, ℕ, ◌<◌, ℤ, List, IfOk, IfErr, IsErrOf, MatchOption, MatchResult, OnErr};
+ghost use Rattle.std.specs.Prelude.{◌≡◌, ◌≢◌, ℕ, ◌<◌, List, IfOk, IfErr, IsErrOf, MatchOption, MatchResult, OnErr};
 ghost use Rattle.ca_plane.specs.Plane.{Picture};
 ghost use Rattle.ca_plane.specs.Bytes.{IsWord};
 ghost use Rattle.ca_plane.specs.Limits.{generation_limit};
 ghost use Rattle.ca_quad.specs.Sound.{Grows};
-ghost use Rattle.ca_quad.specs.Trees.{IsTree, cell, IsTrimmed};
+ghost use Rattle.ca_quad.specs.Trees.{cell};
 ghost use Rattle.ca_macro.specs.Pattern.{AreInRange};
 ghost use Rattle.ca_rle.specs.FaultyLine.{IsRleFaultOn};
-ghost use Rattle.ca_rle.specs.Pattern.{IsReadableRle, packed_cell};
+ghost use Rattle.ca_rle.specs.Pattern.{IsReadableRle};
 ghost use Rattle.ca_rle.specs.declared.fault.RleFault.TheVariants as rle_fault;
 ghost use Rattle.ca_pattern.specs.declared.format.Format.TheVariants.{Rle, Mc};
 ghost use Rattle.ca_pattern.specs.declared.pattern_fault.PatternFault.TheVariants as pattern_fault;
@@ -17,13 +17,15 @@ ghost use Rattle.ca_pattern.specs.Faults.{IsUnreadFile, IsPatternFault};
 ghost use Rattle.ca_pattern.specs.Loaded.{IsLoaded};
 ghost use Rattle.ca_pattern.specs.Patterns.{IsReadFrom, IsUnread};
 
+use crate::cells::tree_of;
 use crate::format::Format;
 use crate::pattern::Loaded;
 use crate::pattern_fault::PatternFault;
 use ca_macro::{LineFault as MacroLineFault, MacroFault, read_macro_with_line};
 use ca_plane::Memory;
-use ca_quad::{Store, Tree};
-use ca_rle::{LineFault as RleLineFault, PackedCells, RleFault, read_packed_rle};
+use ca_plane::text::rule_text;
+use ca_quad::Store;
+use ca_rle::{LineFault as RleLineFault, RleFault, draw_text, judge_rle};
 use std::alloc::Global;
 
 /// Reads a pattern file into the store: bytes that begin with `[M2]` as macrocell, and all others as RLE.
@@ -62,11 +64,20 @@ pub fn rule_text_of(alloc: Global, bytes: &[u8]) -> Result<Option<Vec<u8>>, Memo
         (λ text. HoldsRuleText text.items bytes.now)) }
     ensures memory { OnErr result (MayWantMemory bytes.now) }
 {
-    let mut store = Store::new(alloc);
-    match read_pattern(alloc, &mut store, bytes) {
-        Ok(pattern) => Ok(Some(pattern.rule_text)),
-        Err(PatternFault::Memory) => Err(Memory),
-        Err(_) => Ok(None),
+    match format_of(bytes) {
+        // No cell of an RLE is drawn for it.
+        Format::Rle => match judge_rle(bytes) {
+            Ok(text) => Ok(Some(rule_text(alloc, text.rule)?)),
+            Err(_) => Ok(None),
+        },
+        Format::Mc => {
+            let mut store = Store::new(alloc);
+            match read_pattern(alloc, &mut store, bytes) {
+                Ok(pattern) => Ok(Some(pattern.rule_text)),
+                Err(PatternFault::Memory) => Err(Memory),
+                Err(_) => Ok(None),
+            }
+        }
     }
 }
 
@@ -129,32 +140,25 @@ fn load_rle(alloc: Global, store: &mut Store, bytes: &[u8]) -> Result<Loaded, Ba
     ensures grows { Grows store.old store.new }
 {
     let _ = store.count();
-    let pattern = match read_packed_rle(alloc, bytes) {
-        Ok(pattern) => pattern,
+    let text = match judge_rle(bytes) {
+        Ok(text) => text,
         Err(found) => return Err(bad_rle(found)),
     };
-    let Ok(tree) = tree_of(store, pattern.cells) else {
+    let Ok(rule_text) = rule_text(alloc, text.rule) else {
+        return Err(OUT_OF_MEMORY);
+    };
+    let Ok(cells) = draw_text(alloc, text) else {
+        return Err(OUT_OF_MEMORY);
+    };
+    let Ok(tree) = tree_of(store, cells) else {
         return Err(OUT_OF_MEMORY);
     };
     Ok(Loaded {
         kind: Format::Rle,
         tree,
-        rule_text: pattern.rule_text,
-        generation: pattern.generation,
+        rule_text,
+        generation: text.generation,
     })
-}
-
-/// The tree of packed cells.
-fn tree_of(store: &mut Store, cells: PackedCells) -> Result<Tree, Memory>
-    ensures tree { IfOk result (IsTree store.new) }
-    ensures cells { IfOk result (λ t. (x y : ℤ) → cell store.new t x y ≡ packed_cell cells x y) }
-    ensures trimmed { IfOk result (IsTrimmed store.new) }
-    ensures grows { Grows store.old store.new }
-{
-    match cells {
-        PackedCells::Words(plane) => store.from_bits(plane),
-        PackedCells::States(plane) => store.from_plane(&plane),
-    }
 }
 
 /// Reads a macrocell file into the store.

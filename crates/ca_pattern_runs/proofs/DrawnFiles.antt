@@ -1,7 +1,7 @@
 -- What is drawn of a file, and why nothing is.
-use Rattle.std.proofs.Common.{◌≡◌, ◌≢◌, ℕ, ◌+◌, ◌<◌, ℤ, List, Option, None, Some, inl, inr, refl, subst, sym, ◌∙◌, arith}
+use Rattle.std.proofs.Common.{◌≡◌, ◌≢◌, ℕ, ◌+◌, ◌<◌, ℤ, List, Option, None, Some, Result, Ok, Err, Vec, Global, inl, inr, refl, subst, sym, ◌∙◌, arith}
 use Rattle.ca_quad.specs.declared.tree.WideBounds.{WideBounds}
-use Rattle.std.specs.Prelude.{MatchOption}
+use Rattle.std.specs.Prelude.{MatchOption, IfOk}
 use Rattle.ca_quad.specs.Boxes.{IsDead, IsLeastWideBox}
 use Rattle.ca_quad.specs.Trees.{cell}
 use Rattle.ca_rule.specs.TableNext.{TableRule}
@@ -9,19 +9,31 @@ use Rattle.ca_rule.specs.Rule.{rule_value, states_of, next_of}
 use Rattle.ca_plane.specs.Generations.{after}
 use Rattle.ca_plane.specs.Limits.{generation_limit}
 use Rattle.ca_draw.proofs.SameCells.{same_drawing}
-use Rattle.ca_pattern.specs.declared.reached.Reached.{Reached}
-use Rattle.ca_pattern.specs.Evolved.{IsReached}
+use Rattle.ca_pattern.specs.declared.located_fault.LocatedFault.{LocatedFault}
+use Rattle.ca_pattern.specs.declared.located_fault.LocatedFault.TheVariants as located
+use Rattle.ca_pattern.specs.declared.located_fault.LocatedFault.TheVariants.{Unread, UnnamedRule}
+use Rattle.ca_pattern.specs.declared.pattern.Pattern.{Pattern}
+use Rattle.ca_pattern.specs.declared.pattern.StoredTree.{StoredTree}
+use Rattle.ca_pattern.specs.declared.format.Format.{Format}
+use Rattle.ca_pattern.specs.Evolved.{IsPatternAfter, IsReachFault, IsConvertedAfter}
+use Rattle.ca_pattern.specs.Written.{IsWrittenAs}
+use Rattle.ca_pattern.proofs.OpenedFiles.{pattern_written}
+use Rattle.ca_pattern.specs.PatternCells.{IsTreeOf}
 use Rattle.ca_pattern.proofs.PatternsRead.{reads_may_want}
-use Rattle.ca_pattern_runs.specs.declared.drawing.DrawRequest.{DrawRequest}
+use Rattle.ca_pattern_runs.specs.declared.form.DrawRequest.{DrawRequest}
 use Rattle.ca_report.specs.declared.fault.ToolFault.{ToolFault}
 use Rattle.ca_report.specs.declared.fault.ToolFault.TheVariants.{Convert, Window, Write, Memory}
 use Rattle.ca_draw.specs.declared.view.WindowFault.{WindowFault}
-use Rattle.ca_pattern_runs.specs.Details.{IsRunDetailOf}
+use Rattle.ca_pattern_runs.specs.declared.form.Form.{Form}
+use Rattle.ca_pattern_runs.specs.declared.form.Form.TheVariants.{Text, Picture}
+use Rattle.ca_pattern_runs.specs.declared.form.TextForm.{TextForm}
+use Rattle.ca_pattern_runs.specs.declared.form.TextForm.TheVariants as forms
+use Rattle.ca_pattern_runs.specs.Details.{IsRunDetailOf, HasRunDetail}
 use Rattle.ca_draw.specs.Views.{IsBoxShown}
-use Rattle.ca_pattern_runs.specs.Drawn.{IsPictureOf, IsCaptionOf, HasNoWindow, IsDrawn, IsDrawnCaption, IsDrawFault}
-use Rattle.ca_pattern_runs.specs.Runs.{IsRuleFileFault, IsBytesFault}
-use Rattle.ca_pattern_runs.proofs.OfFiles.{table_not_write}
-use Rattle.ca_pattern_runs.specs.inner.Refusals.{IsUndrawn}
+use Rattle.ca_pattern_runs.specs.Drawn.{IsPictureOf, IsCaptionOf, HasNoWindow, IsDrawnAfter, IsCaptionAfter}
+use Rattle.ca_pattern_runs.specs.Runs.{IsRuleFileFault, IsBytesFault, IsTextFault, IsFormFaultAfter, TellsTable, reported}
+use Rattle.ca_pattern_runs.proofs.OfFiles.{table_not_write, pattern_not_write}
+use Rattle.ca_pattern_runs.specs.inner.Refusals.{IsUndrawn, IsUndrawnAfter}
 
 -- ---- cells that are the same everywhere
 
@@ -70,62 +82,126 @@ module _ (one other : ℤ → ℤ → ℕ) (same : (x y : ℤ) → one x y ≡ o
   pub no_window_too : (request : DrawRequest) (fault : WindowFault) → HasNoWindow request one fault → HasNoWindow request other fault
   no_window_too request fault h = (h.0, box_shown h.0 h.1, h.2)
 
--- ---- planes that are reached
+-- ---- patterns some generations on
 
--- their generation is the sum of those of the file and of the run
-reached_low : (begun generation n : ℕ) → generation ≡ begun + n → generation < generation_limit → begun + n < generation_limit
-reached_low begun generation n added low = omega (arith, added, low)
+module _ (bytes : List ℕ) (tables : List TableRule) (n : ℕ) (pattern : Pattern) (is : IsPatternAfter bytes tables n pattern) (stored : StoredTree)
+    (tree : IsTreeOf (after (next_of (rule_value pattern.rule)) is.cells n) stored) (request : DrawRequest) where
+  abbrev f : ℤ → ℤ → ℕ
+  f = after (next_of (rule_value pattern.rule)) is.cells n
 
--- the picture of their tree is what is drawn
-pub drawn_of : (bytes : List ℕ) (tables : List TableRule) (request : DrawRequest) (reached : Reached) (states : ℕ) (text : List ℕ) → IsReached bytes tables request.generations reached
-    → states ≡ states_of (rule_value reached.rule) → IsPictureOf request states (cell reached.store reached.tree) text → IsDrawn bytes tables request text
-drawn_of bytes tables request reached states text h same pictured = record {
-  cells = h.cells;
-  rule = rule_value reached.rule;
-  generation = h.begun;
-  begins = h.begins;
-  low = reached_low h.begun reached.generation request.generations h.added h.low;
-  holds = picture_too (cell reached.store reached.tree) (after (next_of (rule_value reached.rule)) h.cells request.generations) h.shows request (states_of (rule_value reached.rule)) text
-      (subst (λ n. IsPictureOf request n (cell reached.store reached.tree) text) same pictured);
-}
+  abbrev shown : ℤ → ℤ → ℕ
+  shown = cell stored.store stored.tree
 
--- and the caption of that is its caption
-pub caption_of : (bytes : List ℕ) (tables : List TableRule) (request : DrawRequest) (reached : Reached) (text : List ℕ) → IsReached bytes tables request.generations reached
-    → IsCaptionOf request reached.generation (cell reached.store reached.tree) text → IsDrawnCaption bytes tables request text
-caption_of bytes tables request reached text h captioned = record {
-  cells = h.cells;
-  rule = rule_value reached.rule;
-  generation = h.begun;
-  begins = h.begins;
-  low = reached_low h.begun reached.generation request.generations h.added h.low;
-  holds = caption_too (cell reached.store reached.tree) (after (next_of (rule_value reached.rule)) h.cells request.generations) h.shows request (h.begun + request.generations) text
-      (subst (λ generation. IsCaptionOf request generation (cell reached.store reached.tree) text) h.added captioned);
-}
+  low : is.begun + n < generation_limit
+  low = let below = is.is_pattern.low in let added = is.added in omega (arith, below, added)
 
--- and why there is none is why nothing is drawn
-pub undrawn_of : (bytes : List ℕ) (tables : List TableRule) (request : DrawRequest) (reached : Reached) (fault : ToolFault) → IsReached bytes tables request.generations reached
-    → IsUndrawn request (cell reached.store reached.tree) fault → IsDrawFault bytes tables request fault
-undrawn_of bytes tables request reached (Window f) h none = record {
-  cells = h.cells;
-  rule = rule_value reached.rule;
-  generation = h.begun;
-  begins = h.begins;
-  low = reached_low h.begun reached.generation request.generations h.added h.low;
-  holds = no_window_too (cell reached.store reached.tree) (after (next_of (rule_value reached.rule)) h.cells request.generations) h.shows request f none;
-}
-undrawn_of bytes tables request reached Memory h none = reads_may_want bytes h.begins.holds.holds.readable
-undrawn_of bytes tables request reached told h none = absurd none
+  -- the picture of their tree is what is drawn
+  pub drawn_of : (states : ℕ) (text : List ℕ) → states ≡ states_of (rule_value pattern.rule) → IsPictureOf request states (cell stored.store stored.tree) text → IsDrawnAfter bytes tables n request text
+  drawn_of states text same pictured = record {
+    cells = is.cells;
+    rule = rule_value pattern.rule;
+    generation = is.begun;
+    begins = is.begins;
+    low = low;
+    holds = picture_too shown f tree.shows request (states_of (rule_value pattern.rule)) text (subst (λ m. IsPictureOf request m shown text) same pictured);
+  }
 
--- of that no more is known
-pub undrawn_plainly : (bytes : List ℕ) (request : DrawRequest) (cells : ℤ → ℤ → ℕ) (fault : ToolFault) → IsUndrawn request cells fault → IsRunDetailOf bytes fault None None
-undrawn_plainly bytes request cells (Convert f) none = absurd none
-undrawn_plainly bytes request cells told h = (refl, refl)
+  -- and the caption of that is its caption
+  pub caption_of : (text : List ℕ) → IsCaptionOf request pattern.generation (cell stored.store stored.tree) text → IsCaptionAfter bytes tables n request text
+  caption_of text captioned = record {
+    cells = is.cells;
+    rule = rule_value pattern.rule;
+    generation = is.begun;
+    begins = is.begins;
+    low = low;
+    holds = caption_too shown f tree.shows request (is.begun + n) text (subst (λ generation. IsCaptionOf request generation shown text) is.added captioned);
+  }
 
--- none of these is a failed write
-pub draw_not_write : (bytes : List ℕ) (tables : List TableRule) (request : DrawRequest) (told : ToolFault) → IsDrawFault bytes tables request told → told ≢ Write
-draw_not_write bytes tables request Write none = absurd none
-draw_not_write bytes tables request told h = λ is. cc
+  -- and why there is none is why nothing is drawn
+  pub undrawn_of : (fault : ToolFault) → IsUndrawn request (cell stored.store stored.tree) fault → IsUndrawnAfter bytes tables n request fault
+  undrawn_of (Window fault) none = record {
+    cells = is.cells;
+    rule = rule_value pattern.rule;
+    generation = is.begun;
+    begins = is.begins;
+    low = low;
+    holds = no_window_too shown f tree.shows request fault none;
+  }
+  undrawn_of Memory none = reads_may_want bytes is.begins.holds.holds.readable
+  undrawn_of told none = absurd none
 
-pub draw_told : (rule : Option (List ℕ)) (bytes : List ℕ) (request : DrawRequest) (told : ToolFault) → IsBytesFault rule (λ tables. IsDrawFault bytes tables request) told → told ≢ Write
-draw_told rule bytes request told (inl table) = table_not_write (IsRuleFileFault rule) told table
-draw_told rule bytes request told (inr of) = draw_not_write bytes of.tables request told of.holds
+-- what is written of them in a format is what they are written as
+pub written_after : (bytes : List ℕ) (tables : List TableRule) (n : ℕ) (pattern : Pattern) (is : IsPatternAfter bytes tables n pattern) (target : Format) {E : Type 0} (r : Result (Vec ℕ Global) E)
+    → IfOk r (λ text. IsWrittenAs target (after (next_of (rule_value pattern.rule)) is.cells n) (rule_value pattern.rule) pattern.generation text.items) → IfOk r (λ text. IsConvertedAfter bytes tables n target text.items)
+written_after bytes tables n pattern is target (Ok text) written = pattern_written bytes tables n pattern is target text.items written
+written_after bytes tables n pattern is target (Err fault) written = written
+
+-- ---- faults
+
+module _ (bytes : List ℕ) (tables : List TableRule) (n work : ℕ) where
+  -- why nothing is drawn is why nothing is written of the picture,
+  pub undrawn_told : (request : DrawRequest) (fault : ToolFault) → IsUndrawnAfter bytes tables n request fault → IsFormFaultAfter (Picture request) bytes tables n work fault
+  undrawn_told request (Window fault) none = none
+  undrawn_told request Memory none = (located.Memory, none, refl)
+  undrawn_told request told none = absurd none
+
+  -- and no more is known of it
+  pub undrawn_plainly : (request : DrawRequest) (fault : ToolFault) → IsUndrawnAfter bytes tables n request fault → IsRunDetailOf bytes fault None None
+  undrawn_plainly request (Convert fault) none = absurd none
+  undrawn_plainly request told none = (refl, refl)
+
+  -- why a plane isn't reached is why nothing of any form is written of it
+  reach_is_text : (form : TextForm) (refused : LocatedFault) → IsReachFault bytes tables n work refused → IsTextFault form bytes tables n work refused
+  reach_is_text forms.Summary refused is = is
+  reach_is_text (forms.File target) located.TooManyCells is = absurd is
+  reach_is_text (forms.File target) located.Range is = absurd is
+  reach_is_text (forms.File target) refused is = is
+
+  pub reach_reported : (form : Form) (refused : LocatedFault) → IsReachFault bytes tables n work refused → IsFormFaultAfter form bytes tables n work (reported refused).fault
+  reach_reported (Text form) refused is = (refused, reach_is_text form refused is, refl)
+  reach_reported (Picture request) (Unread bad) is = (Unread bad, is, refl)
+  reach_reported (Picture request) (UnnamedRule unnamed) is = (UnnamedRule unnamed, is, refl)
+  reach_reported (Picture request) located.StateTooLarge is = (located.StateTooLarge, is, refl)
+  reach_reported (Picture request) located.TooManyCells is = absurd is
+  reach_reported (Picture request) located.GenTooLarge is = (located.GenTooLarge, is, refl)
+  reach_reported (Picture request) located.Work is = (located.Work, is, refl)
+  reach_reported (Picture request) located.Range is = absurd is
+  reach_reported (Picture request) located.Memory is = (located.Memory, is, refl)
+
+  -- with what is known of it
+  pub reach_detail : (refused : LocatedFault) → IsReachFault bytes tables n work refused → HasRunDetail bytes (reported refused)
+  reach_detail (Unread bad) is = (refl, is)
+  reach_detail (UnnamedRule unnamed) is = (refl, is.0)
+  reach_detail located.StateTooLarge is = (refl, refl)
+  reach_detail located.TooManyCells is = (refl, refl)
+  reach_detail located.GenTooLarge is = (refl, refl)
+  reach_detail located.Work is = (refl, refl)
+  reach_detail located.Range is = (refl, refl)
+  reach_detail located.Memory is = (refl, refl)
+
+  pub text_detail : (form : TextForm) (refused : LocatedFault) → IsTextFault form bytes tables n work refused → HasRunDetail bytes (reported refused)
+  text_detail forms.Summary refused is = reach_detail refused is
+  text_detail (forms.File target) (Unread bad) is = (refl, is)
+  text_detail (forms.File target) (UnnamedRule unnamed) is = (refl, is.0)
+  text_detail (forms.File target) located.StateTooLarge is = (refl, refl)
+  text_detail (forms.File target) located.TooManyCells is = (refl, refl)
+  text_detail (forms.File target) located.GenTooLarge is = (refl, refl)
+  text_detail (forms.File target) located.Work is = (refl, refl)
+  text_detail (forms.File target) located.Range is = (refl, refl)
+  text_detail (forms.File target) located.Memory is = (refl, refl)
+
+  -- none of these is a failed write
+  form_not_write : (form : Form) (told : ToolFault) → IsFormFaultAfter form bytes tables n work told → told ≢ Write
+  form_not_write (Text form) told is = pattern_not_write (IsTextFault form bytes tables n work) told is
+  form_not_write (Picture request) (Window fault) is = λ e. cc
+  form_not_write (Picture request) Write is = pattern_not_write (IsReachFault bytes tables n work) Write is
+  form_not_write (Picture request) told is = λ e. cc
+
+pub form_told : (rule : Option (List ℕ)) (bytes : List ℕ) (n work : ℕ) (form : Form) (told : ToolFault) → IsBytesFault rule (λ tables. IsFormFaultAfter form bytes tables n work) told → told ≢ Write
+form_told rule bytes n work form told (inl table) = table_not_write (IsRuleFileFault rule) told table
+form_told rule bytes n work form told (inr of) = form_not_write bytes of.tables n work form told of.holds
+
+-- and what is told of a rule file has no more known of it
+pub table_plainly : (bytes : List ℕ) (rule : Option (List ℕ)) (told : ToolFault) → TellsTable (IsRuleFileFault rule) told → IsRunDetailOf bytes told None None
+table_plainly bytes rule (Convert fault) none = absurd none
+table_plainly bytes rule told h = (refl, refl)

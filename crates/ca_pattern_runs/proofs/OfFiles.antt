@@ -1,19 +1,20 @@
 -- What runs over pattern files write and answer.
-use Rattle.std.proofs.Common.{◌≡◌, ◌≢◌, ℕ, List, Option, Result, Ok, Err, inl, inr, refl, subst, sym}
+use Rattle.std.proofs.Common.{◌≡◌, ◌≢◌, ℕ, List, Option, Result, Ok, Err, inl, inr, refl, subst, sym, ◌∙◌}
 use Rattle.std.specs.Prelude.{IfOk}
 use Rattle.std.specs.Io.KnownBytes.{Appends}
 use Rattle.ca_plane.specs.Device.{Counted, AppendsPrefix}
 use Rattle.ca_rule.specs.TableNext.{TableRule}
 use Rattle.ca_rule.specs.declared.table.fault.TableFault.{TableFault}
-use Rattle.ca_pattern.specs.declared.conversion.ConvertFault.{ConvertFault}
-use Rattle.ca_pattern.specs.declared.conversion.ConvertFault.TheVariants as convert_fault
-use Rattle.ca_pattern.specs.declared.reached.ReachFault.{ReachFault}
-use Rattle.ca_pattern.specs.declared.reached.ReachFault.TheVariants as reach_fault
+use Rattle.ca_pattern.specs.declared.convert_fault.ConvertFault.{ConvertFault}
+use Rattle.ca_pattern.specs.declared.convert_fault.ConvertFault.TheVariants as convert_fault
+use Rattle.ca_pattern.specs.declared.located_fault.LocatedFault.{LocatedFault}
+use Rattle.ca_pattern.specs.declared.located_fault.LocatedFault.TheVariants as located
+use Rattle.ca_pattern.specs.declared.located_fault.LocatedFault.TheVariants.{Unread, UnnamedRule}
 use Rattle.ca_report.specs.declared.fault.InputFault.TheVariants as inputs
 use Rattle.ca_report.specs.declared.fault.ToolFault.{ToolFault}
-use Rattle.ca_report.specs.declared.fault.ToolFault.TheVariants.{Input, Convert, GenTooLarge, Work, Range, Write, Memory}
+use Rattle.ca_report.specs.declared.fault.ToolFault.TheVariants.{Input, BadTable, Convert, Write, Memory}
 use Rattle.ca_report.specs.Reading.{ReadsAll, TakesFile}
-use Rattle.ca_pattern_runs.specs.Runs.{AreKnownTables, HoldsOfTables, HoldsOfReadFile, IsRuleFileFault, TellsTable, TellsConvert, TellsReach, IsBytesFault, IsRunFault, WritesUnder, RunsOver}
+use Rattle.ca_pattern_runs.specs.Runs.{AreKnownTables, HoldsOfTables, HoldsOfReadFile, IsRuleFileFault, TellsTable, TellsConvert, TellsPattern, reported, IsBytesFault, IsRunFault, WritesUnder, RunsOver}
 use Rattle.ca_report.specs.Writing.{Sends}
 
 -- what holds of the tables that are known
@@ -29,12 +30,10 @@ convert_more P Q more told none = absurd none
 pub convert_told : (IsFault : ConvertFault → Type 0) (fault : ConvertFault) (told : ToolFault) → TellsConvert (λ f. f ≡ fault) told → IsFault fault → TellsConvert IsFault told
 convert_told IsFault fault told tells is = convert_more (λ f. f ≡ fault) IsFault (λ f same. subst IsFault (sym same) is) told tells
 
-pub reach_told : (IsFault : ReachFault → Type 0) (fault : ReachFault) (told : ToolFault) → TellsReach (λ f. f ≡ fault) told → IsFault fault → TellsReach IsFault told
-reach_told IsFault fault GenTooLarge same is = subst IsFault (sym same) is
-reach_told IsFault fault Work same is = subst IsFault (sym same) is
-reach_told IsFault fault Range same is = subst IsFault (sym same) is
-reach_told IsFault fault told tells is =
-    convert_more (λ f. reach_fault.Convert f ≡ fault) (λ f. IsFault (reach_fault.Convert f)) (λ f same. subst IsFault (sym same) is) told tells
+pub table_told : (IsFault : TableFault → Type 0) (fault : TableFault) (told : ToolFault) → TellsTable (λ f. f ≡ fault) told → IsFault fault → TellsTable IsFault told
+table_told IsFault fault (BadTable f) tells is = (tells.0, subst IsFault (sym tells.1) is)
+table_told IsFault fault Memory same is = subst IsFault (sym same) is
+table_told IsFault fault told none is = absurd none
 
 -- none of it is a failed write
 pub table_not_write : (IsFault : TableFault → Type 0) (told : ToolFault) → TellsTable IsFault told → told ≢ Write
@@ -45,9 +44,18 @@ pub convert_not_write : (IsFault : ConvertFault → Type 0) (told : ToolFault) �
 convert_not_write IsFault Write none = absurd none
 convert_not_write IsFault told tells = λ is. cc
 
-pub reach_not_write : (IsFault : ReachFault → Type 0) (told : ToolFault) → TellsReach IsFault told → told ≢ Write
-reach_not_write IsFault Write none = absurd none
-reach_not_write IsFault told tells = λ is. cc
+reported_not_write : (refused : LocatedFault) → (reported refused).fault ≢ Write
+reported_not_write (Unread bad) = λ e. cc
+reported_not_write (UnnamedRule unnamed) = λ e. cc
+reported_not_write located.StateTooLarge = λ e. cc
+reported_not_write located.TooManyCells = λ e. cc
+reported_not_write located.GenTooLarge = λ e. cc
+reported_not_write located.Work = λ e. cc
+reported_not_write located.Range = λ e. cc
+reported_not_write located.Memory = λ e. cc
+
+pub pattern_not_write : (IsFault : LocatedFault → Type 0) (told : ToolFault) → TellsPattern IsFault told → told ≢ Write
+pattern_not_write IsFault told (refused, is, same) = λ write. reported_not_write refused (sym same ∙ write)
 
 -- a run that tells a fault, and writes nothing
 pub told_only : {W : Type 0} (contents : W → Option (List ℕ)) (output : Counted W) (rule : Option (List ℕ)) (IsText : List TableRule → List ℕ → Type 0)

@@ -11,20 +11,23 @@ use Rattle.ca_rule.specs.Rule.{states_of, next_of}
 use Rattle.ca_draw.specs.declared.window.Window.{Window}
 use Rattle.ca_draw.specs.Drawings.{drawing}
 use Rattle.ca_draw.specs.Windows.{IsWindow, strip_of}
-use Rattle.ca_pattern.specs.declared.conversion.ConvertFault.TheVariants as convert_fault
-use Rattle.ca_pattern.specs.declared.reached.ReachFault.{ReachFault}
-use Rattle.ca_pattern.specs.declared.reached.ReachFault.TheVariants as reach_fault
+use Rattle.ca_pattern.specs.declared.convert_fault.ConvertFault.TheVariants as convert_fault
+use Rattle.ca_pattern.specs.declared.located_fault.LocatedFault.{LocatedFault}
+use Rattle.ca_pattern.specs.declared.located_fault.LocatedFault.TheVariants as located
+use Rattle.ca_pattern.specs.declared.located_fault.LocatedFault.TheVariants.{Unread, UnnamedRule}
 use Rattle.ca_pattern.specs.Evolved.{IsReachFault}
+use Rattle.ca_pattern.specs.LocatedFaults.{IsSameFault}
 use Rattle.ca_pattern.proofs.OneRun.{one_start, one_plane, evolved_or_fault, one_reach_fault}
-use Rattle.ca_pattern_runs.specs.declared.drawing.DrawRequest.{DrawRequest}
+use Rattle.ca_pattern_runs.specs.declared.form.DrawRequest.{DrawRequest}
 use Rattle.ca_report.specs.declared.fault.ToolFault.{ToolFault}
-use Rattle.ca_report.specs.declared.fault.ToolFault.TheVariants.{Input, BadTable, Convert, GenTooLarge, Work, Range, Window as NoWindow, Write, Memory}
+use Rattle.ca_report.specs.declared.fault.ToolFault.TheVariants.{Convert, Work, Window as NoWindow, Memory}
 use Rattle.ca_draw.specs.declared.view.Size.{Size}
 use Rattle.ca_draw.specs.declared.view.WindowFault.{WindowFault}
 use Rattle.ca_draw.specs.declared.view.WindowFault.TheVariants as window_fault
 use Rattle.ca_pattern_runs.specs.Captions.{caption_text}
-use Rattle.ca_pattern_runs.specs.Drawn.{IsPictureOf, IsCaptionOf, HasNoWindow, HoldsOfLater, IsDrawn, IsDrawnCaption, IsDrawFault}
-use Rattle.ca_pattern_runs.specs.Runs.{TellsReach}
+use Rattle.ca_pattern_runs.specs.declared.form.Form.TheVariants.{Picture}
+use Rattle.ca_pattern_runs.specs.Drawn.{IsPictureOf, IsCaptionOf, HasNoWindow, HoldsOfLater, IsDrawnAfter, IsCaptionAfter}
+use Rattle.ca_pattern_runs.specs.Runs.{TellsPattern, IsFormFaultAfter, reported}
 use Rattle.ca_draw.specs.Views.{IsBoxShown, box_shown, ShowsWhole, HasScale, size_of, IsWindowFrom, IsNoWindowFrom}
 use Rattle.ca_pattern_runs.proofs.DrawnFiles.{picture_too, caption_too, no_window_too}
 
@@ -136,35 +139,15 @@ module _ (request : DrawRequest) (cells : ℤ → ℤ → ℕ) where
 
 -- ---- files
 
--- the tool's fault of a plane that isn't reached
-abbrev tool_fault : ReachFault → ToolFault
-tool_fault (reach_fault.Convert fault) = Convert fault
-tool_fault reach_fault.GenTooLarge = GenTooLarge
-tool_fault reach_fault.Work = Work
-tool_fault reach_fault.Range = Range
+-- the same faults are reported as one
+same_reported : (f g : LocatedFault) → IsSameFault f g → (reported f).fault ≡ (reported g).fault
+same_reported (Unread f) (Unread g) same = ap (λ bad. Convert (convert_fault.BadPattern bad.fault)) same
+same_reported (UnnamedRule f) (UnnamedRule g) same = ap (λ fault. Convert (convert_fault.BadRule fault)) same.0
+same_reported f g same = ap (λ fault. (reported fault).fault) same
 
-module _ (bytes : List ℕ) (tables : List TableRule) (request : DrawRequest) where
-  abbrev n : ℕ
-  n = request.generations
-
-  -- what is told of a plane that isn't reached is its fault
-  reach_fault_of : (told : ToolFault) → told ≢ Memory → told ≢ Work → (IsFault : ReachFault → Type 0) → TellsReach IsFault told
-      → (fault : ReachFault) × (fault ≢ reach_fault.Convert convert_fault.Memory) × (fault ≢ reach_fault.Work) × IsFault fault × (told ≡ tool_fault fault)
-  reach_fault_of (Convert fault) m w IsFault h = (reach_fault.Convert fault, (λ e. h.0 (same_convert fault convert_fault.Memory e)), (λ e. cc), h.1, refl)
-    where
-      same_convert : (f g : _) → reach_fault.Convert f ≡ reach_fault.Convert g → f ≡ g
-      same_convert f g e = cc
-  reach_fault_of GenTooLarge m w IsFault h = (reach_fault.GenTooLarge, (λ e. cc), (λ e. cc), h, refl)
-  reach_fault_of Range m w IsFault h = (reach_fault.Range, (λ e. cc), (λ e. cc), h, refl)
-  reach_fault_of Work m w IsFault h = absurd (w refl)
-  reach_fault_of Memory m w IsFault h = absurd (m refl)
-  reach_fault_of (Input fault) m w IsFault h = absurd h
-  reach_fault_of (BadTable fault) m w IsFault h = absurd h
-  reach_fault_of (NoWindow fault) m w IsFault h = absurd h
-  reach_fault_of Write m w IsFault h = absurd h
-
+module _ (bytes : List ℕ) (tables : List TableRule) (n work : ℕ) (request : DrawRequest) where
   -- one picture is drawn of a file
-  pub one_drawn : (t u : List ℕ) → IsDrawn bytes tables request t → IsDrawn bytes tables request u → t ≡ u
+  pub one_drawn : (t u : List ℕ) → IsDrawnAfter bytes tables n request t → IsDrawnAfter bytes tables n request u → t ≡ u
   one_drawn t u a b =
       let one = one_start bytes tables a.cells b.cells a.rule b.rule a.generation b.generation a.begins b.begins in
       let same = one_plane bytes tables n a.cells b.cells a.rule b.rule a.generation b.generation a.begins b.begins in
@@ -173,7 +156,7 @@ module _ (bytes : List ℕ) (tables : List TableRule) (request : DrawRequest) wh
       one_picture request (after (next_of b.rule) b.cells n) (states_of b.rule) t u ruled b.holds
 
   -- with one caption
-  pub one_drawn_caption : (t u : List ℕ) → IsDrawnCaption bytes tables request t → IsDrawnCaption bytes tables request u → t ≡ u
+  pub one_drawn_caption : (t u : List ℕ) → IsCaptionAfter bytes tables n request t → IsCaptionAfter bytes tables n request u → t ≡ u
   one_drawn_caption t u a b =
       let one = one_start bytes tables a.cells b.cells a.rule b.rule a.generation b.generation a.begins b.begins in
       let same = one_plane bytes tables n a.cells b.cells a.rule b.rule a.generation b.generation a.begins b.begins in
@@ -181,22 +164,28 @@ module _ (bytes : List ℕ) (tables : List TableRule) (request : DrawRequest) wh
       let timed = subst (λ g. IsCaptionOf request (g + n) (after (next_of b.rule) b.cells n) t) one.2 told in
       one_caption request (after (next_of b.rule) b.cells n) (b.generation + n) t u timed b.holds
 
+  -- what is told of a plane that isn't reached is its fault
+  reach_fault_of : (told : ToolFault) → told ≢ Memory → told ≢ Work → TellsPattern (IsReachFault bytes tables n work) told
+      → (fault : LocatedFault) × (fault ≢ located.Memory) × (fault ≢ located.Work) × IsReachFault bytes tables n work fault × (told ≡ (reported fault).fault)
+  reach_fault_of told m w (fault, is, same) =
+      (fault, (λ e. m (same ∙ ap (λ f. (reported f).fault) e)), (λ e. w (same ∙ ap (λ f. (reported f).fault) e)), is, same)
+
   -- no plane that is reached has a cause for which it isn't
   later_or_fault : (Holds : (states generation : ℕ) → (ℤ → ℤ → ℕ) → Type 0) (told : ToolFault) → told ≢ Memory → told ≢ Work → HoldsOfLater bytes tables n Holds
-      → TellsReach (IsReachFault bytes tables n request.limits.work) told → ⊥
+      → TellsPattern (IsReachFault bytes tables n work) told → ⊥
   later_or_fault Holds told m w a wrong =
-      let (fault, other, nor_work, is, same) = reach_fault_of told m w (IsReachFault bytes tables n request.limits.work) wrong in
-      evolved_or_fault bytes tables n request.limits.work a.cells a.rule a.generation fault other nor_work a.begins a.low is
+      let (fault, other, nor_work, is, same) = reach_fault_of told m w wrong in
+      evolved_or_fault bytes tables n work a.cells a.rule a.generation fault other nor_work a.begins a.low is
 
   -- of which either a picture is drawn or none for one cause
-  pub drawn_or_fault : (text : List ℕ) (told : ToolFault) → told ≢ Memory → told ≢ Work → IsDrawn bytes tables request text → IsDrawFault bytes tables request told → ⊥
+  pub drawn_or_fault : (text : List ℕ) (told : ToolFault) → told ≢ Memory → told ≢ Work → IsDrawnAfter bytes tables n request text → IsFormFaultAfter (Picture request) bytes tables n work told → ⊥
   drawn_or_fault text (NoWindow fault) m w a b =
       let same = one_plane bytes tables n b.cells a.cells b.rule a.rule b.generation a.generation b.begins a.begins in
       picture_or_none request (after (next_of a.rule) a.cells n) (states_of a.rule) text fault a.holds
       (no_window_too (after (next_of b.rule) b.cells n) (after (next_of a.rule) a.cells n) same request fault b.holds)
   drawn_or_fault text told m w a b = later_or_fault _ told m w a b
 
-  pub one_draw_fault : (f g : ToolFault) → f ≢ Memory → f ≢ Work → g ≢ Memory → g ≢ Work → IsDrawFault bytes tables request f → IsDrawFault bytes tables request g → f ≡ g
+  pub one_draw_fault : (f g : ToolFault) → f ≢ Memory → f ≢ Work → g ≢ Memory → g ≢ Work → IsFormFaultAfter (Picture request) bytes tables n work f → IsFormFaultAfter (Picture request) bytes tables n work g → f ≡ g
   one_draw_fault (NoWindow f) (NoWindow g) m w o v a b =
       let same = one_plane bytes tables n b.cells a.cells b.rule a.rule b.generation a.generation b.begins a.begins in
       ap NoWindow (one_no_window request (after (next_of a.rule) a.cells n) f g a.holds
@@ -205,9 +194,9 @@ module _ (bytes : List ℕ) (tables : List TableRule) (request : DrawRequest) wh
   one_draw_fault f (NoWindow g) m w o v a b = absurd (later_or_fault _ f m w b a)
   one_draw_fault f g m w o v a b = one_told f g m w o v a b
     where
-      one_told : (f g : ToolFault) → f ≢ Memory → f ≢ Work → g ≢ Memory → g ≢ Work → TellsReach (IsReachFault bytes tables n request.limits.work) f
-          → TellsReach (IsReachFault bytes tables n request.limits.work) g → f ≡ g
+      one_told : (f g : ToolFault) → f ≢ Memory → f ≢ Work → g ≢ Memory → g ≢ Work → TellsPattern (IsReachFault bytes tables n work) f
+          → TellsPattern (IsReachFault bytes tables n work) g → f ≡ g
       one_told f g m w o v a b =
-          let (one, other, nor_work, is, same) = reach_fault_of f m w (IsReachFault bytes tables n request.limits.work) a in
-          let (two, nor_other, nor_works, are, too) = reach_fault_of g o v (IsReachFault bytes tables n request.limits.work) b in
-          same ∙ ap tool_fault (one_reach_fault bytes tables n request.limits.work one two other nor_work nor_other nor_works is are) ∙ sym too
+          let (one, other, nor_work, is, same) = reach_fault_of f m w a in
+          let (two, nor_other, nor_works, are, too) = reach_fault_of g o v b in
+          same ∙ same_reported one two (one_reach_fault bytes tables n work one two other nor_work nor_other nor_works is are) ∙ sym too

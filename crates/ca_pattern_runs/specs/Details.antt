@@ -1,14 +1,19 @@
 -- What is known of a fault for which a run over a pattern file writes nothing.
-use Rattle.std.specs.Prelude.{◌≡◌, ℕ, List, Option, None, Vec, Result, Ok, Err}
+use Rattle.std.specs.Prelude.{◌≡◌, ℕ, List, Option, None, Some, Vec, Result, Ok, Err}
 use Rattle.std.specs.declared.alloc.Global.{Global}
-use Rattle.ca_pattern.specs.declared.detailed_fault.DetailedFault.{DetailedFault}
-use Rattle.ca_pattern.specs.DetailedFault.{IsDetailOf}
+use Rattle.ca_pattern.specs.declared.convert_fault.ConvertFault.TheVariants.{BadPattern, BadRule}
+use Rattle.ca_pattern.specs.Means.{HoldsRuleText}
+use Rattle.ca_pattern.specs.Faults.{IsPatternFaultOn}
+use Rattle.ca_report.specs.declared.detailed_fault.DetailedFault.{DetailedFault}
 use Rattle.ca_report.specs.declared.fault.ToolFault.{ToolFault}
 use Rattle.ca_report.specs.declared.fault.ToolFault.TheVariants.{Convert}
 
--- the line on which a fault of the file with these bytes stands, and its rule text, which are known of a pattern that isn't shown or converted
+-- the line on which a fault of the file with these bytes stands, which only a fault of their spelling has; and their rule text, which is given where it
+-- names no rule
 abbrev pub IsRunDetailOf : List ℕ → ToolFault → Option ℕ → Option (Vec ℕ Global) → Type 0
-IsRunDetailOf bytes (Convert fault) line text = IsDetailOf bytes fault line text
+IsRunDetailOf bytes (Convert (BadPattern fault)) line text = (text ≡ None) × IsPatternFaultOn bytes fault line
+IsRunDetailOf bytes (Convert (BadRule fault)) line None = ⊥
+IsRunDetailOf bytes (Convert (BadRule fault)) line (Some text) = (line ≡ None) × HoldsRuleText text.items bytes
 IsRunDetailOf bytes fault line text = (line ≡ None) × (text ≡ None)
 
 abbrev pub HasRunDetail : List ℕ → DetailedFault ToolFault → Type 0

@@ -1,4 +1,4 @@
--- What is drawn of a pattern file, and why nothing is.
+-- What is drawn of a pattern file.
 use Rattle.std.specs.Prelude.{◌≡◌, ℕ, ◌+◌, ◌<◌, ℤ, List, Option, MatchOption}
 use Rattle.ca_plane.specs.Plane.{Picture}
 use Rattle.ca_plane.specs.Generations.{after}
@@ -9,14 +9,11 @@ use Rattle.ca_rule.specs.TableNext.{TableRule}
 use Rattle.ca_rule.specs.Rule.{RuleValue, next_of, states_of}
 use Rattle.ca_draw.specs.declared.window.Window.{Window}
 use Rattle.ca_draw.specs.Drawings.{drawing}
-use Rattle.ca_pattern.specs.Evolved.{HoldsSmallRuledPattern, IsReachFault}
-use Rattle.ca_pattern_runs.specs.declared.drawing.DrawRequest.{DrawRequest}
-use Rattle.ca_report.specs.declared.fault.ToolFault.{ToolFault}
-use Rattle.ca_report.specs.declared.fault.ToolFault.TheVariants as tools
+use Rattle.ca_pattern.specs.Evolved.{HoldsSmallRuledPattern}
+use Rattle.ca_pattern_runs.specs.declared.form.DrawRequest.{DrawRequest}
 use Rattle.ca_draw.specs.declared.view.WindowFault.{WindowFault}
 use Rattle.ca_pattern_runs.specs.Captions.{caption_text}
 use Rattle.ca_draw.specs.Views.{IsBoxShown, box_shown, IsWindowFor, IsNoWindowFor}
-use Rattle.ca_pattern_runs.specs.Runs.{TellsReach}
 
 -- the text is a picture of these cells, of so many states: that of the window that is asked for, of the box that is drawn of them
 pub record IsPictureOf (request : DrawRequest) (states : ℕ) (cells : ℤ → ℤ → ℕ) (text : List ℕ) : Type 0 where
@@ -49,16 +46,14 @@ pub record HoldsOfLater (bytes : List ℕ) (tables : List TableRule) (n : ℕ)
   pub low : generation + n < generation_limit
   pub holds : Holds (states_of rule) (generation + n) (after (next_of rule) cells n)
 
--- the text is what is drawn of a file with these bytes: a picture of its cells after the generations that are asked for
-abbrev pub IsDrawn : List ℕ → List TableRule → DrawRequest → List ℕ → Type 0
-IsDrawn bytes tables request text = HoldsOfLater bytes tables request.generations (λ states generation cells. IsPictureOf request states cells text)
+-- the text is what is drawn of a file with these bytes n generations on
+abbrev pub IsDrawnAfter : List ℕ → List TableRule → (n : ℕ) → DrawRequest → List ℕ → Type 0
+IsDrawnAfter bytes tables n request text = HoldsOfLater bytes tables n (λ states generation cells. IsPictureOf request states cells text)
 
 -- and the text is the caption of that
-abbrev pub IsDrawnCaption : List ℕ → List TableRule → DrawRequest → List ℕ → Type 0
-IsDrawnCaption bytes tables request text = HoldsOfLater bytes tables request.generations (λ states generation cells. IsCaptionOf request generation cells text)
+abbrev pub IsCaptionAfter : List ℕ → List TableRule → (n : ℕ) → DrawRequest → List ℕ → Type 0
+IsCaptionAfter bytes tables n request text = HoldsOfLater bytes tables n (λ states generation cells. IsCaptionOf request generation cells text)
 
--- the first reason for which nothing is drawn of such a file: its plane isn't reached; or it has no window as it is asked for. Out of memory may
--- come before any of them, where memory may run out for the bytes
-abbrev pub IsDrawFault : List ℕ → List TableRule → DrawRequest → ToolFault → Type 0
-IsDrawFault bytes tables request (tools.Window fault) = HoldsOfLater bytes tables request.generations (λ states generation cells. HasNoWindow request cells fault)
-IsDrawFault bytes tables request told = TellsReach (IsReachFault bytes tables request.generations request.limits.work) told
+-- and there is no window of it as it is asked for
+abbrev pub HasNoWindowAfter : List ℕ → List TableRule → (n : ℕ) → DrawRequest → WindowFault → Type 0
+HasNoWindowAfter bytes tables n request fault = HoldsOfLater bytes tables n (λ states generation cells. HasNoWindow request cells fault)

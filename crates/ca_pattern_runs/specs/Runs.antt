@@ -9,16 +9,21 @@ use Rattle.ca_pattern.specs.NamedTables.{IsQuietTable}
 use Rattle.ca_pattern.specs.Converted.{IsSummary, IsSummaryFault, IsConverted, IsConvertFault}
 use Rattle.ca_pattern.specs.Evolved.{IsSummaryAfter, IsReachFault, IsConvertedAfter, IsConvertFaultAfter}
 use Rattle.ca_pattern.specs.declared.pattern.Summary.{Summary}
-use Rattle.ca_pattern.specs.declared.conversion.ConvertFault.{ConvertFault}
-use Rattle.ca_pattern.specs.declared.conversion.ConvertFault.TheVariants as convert_fault
-use Rattle.ca_pattern.specs.declared.reached.ReachFault.{ReachFault}
-use Rattle.ca_pattern.specs.declared.reached.ReachFault.TheVariants as reach_fault
+use Rattle.ca_pattern.specs.declared.convert_fault.ConvertFault.{ConvertFault}
+use Rattle.ca_pattern.specs.declared.convert_fault.ConvertFault.TheVariants as convert_fault
+use Rattle.ca_pattern.specs.declared.located_fault.LocatedFault.{LocatedFault}
+use Rattle.ca_pattern.specs.declared.located_fault.LocatedFault.TheVariants as located
+use Rattle.ca_pattern.specs.declared.located_fault.LocatedFault.TheVariants.{Unread, UnnamedRule}
+use Rattle.ca_report.specs.declared.detailed_fault.DetailedFault.{DetailedFault}
 use Rattle.ca_report.specs.declared.fault.InputFault.{InputFault}
 use Rattle.ca_report.specs.declared.fault.InputFault.TheVariants as inputs
 use Rattle.ca_report.specs.declared.fault.ToolFault.{ToolFault}
-use Rattle.ca_report.specs.declared.fault.ToolFault.TheVariants.{Input, BadTable, Convert, GenTooLarge, Work, Range, Memory}
-use Rattle.ca_pattern_runs.specs.declared.pattern_run.TextForm.{TextForm}
-use Rattle.ca_pattern_runs.specs.declared.pattern_run.TextForm.TheVariants as forms
+use Rattle.ca_report.specs.declared.fault.ToolFault.TheVariants.{Input, BadTable, Convert, GenTooLarge, Work, Range, Window, Memory}
+use Rattle.ca_pattern_runs.specs.declared.form.TextForm.{TextForm}
+use Rattle.ca_pattern_runs.specs.declared.form.TextForm.TheVariants as forms
+use Rattle.ca_pattern_runs.specs.declared.form.Form.{Form}
+use Rattle.ca_pattern_runs.specs.declared.form.Form.TheVariants.{Text, Picture}
+use Rattle.ca_pattern_runs.specs.Drawn.{IsDrawnAfter, IsCaptionAfter, HasNoWindowAfter}
 use Rattle.ca_pattern_runs.specs.Shown.{summary_text}
 use Rattle.ca_report.specs.Writing.{WritesOneOf}
 use Rattle.ca_report.specs.Reading.{ReadsAll, GivesTooMany, GivesSome, TakesFile}
@@ -71,12 +76,20 @@ TellsConvert IsFault (Convert fault) = (fault ≢ convert_fault.Memory) × IsFau
 TellsConvert IsFault Memory = IsFault convert_fault.Memory
 TellsConvert IsFault told = ⊥
 
--- and of why the plane of its pattern some generations on isn't reached or told
-abbrev pub TellsReach : (ReachFault → Type 0) → ToolFault → Type 0
-TellsReach IsFault GenTooLarge = IsFault reach_fault.GenTooLarge
-TellsReach IsFault Work = IsFault reach_fault.Work
-TellsReach IsFault Range = IsFault reach_fault.Range
-TellsReach IsFault told = TellsConvert (λ fault. IsFault (reach_fault.Convert fault)) told
+-- what is reported where a pattern isn't opened, taken some generations on, or written
+abbrev pub reported : LocatedFault → DetailedFault ToolFault
+reported (Unread bad) = record { fault = Convert (convert_fault.BadPattern bad.fault); line = bad.line; rule_text = None }
+reported (UnnamedRule unnamed) = record { fault = Convert (convert_fault.BadRule unnamed.fault); line = None; rule_text = Some unnamed.rule_text }
+reported located.StateTooLarge = record { fault = Convert convert_fault.StateTooLarge; line = None; rule_text = None }
+reported located.TooManyCells = record { fault = Convert convert_fault.TooManyCells; line = None; rule_text = None }
+reported located.GenTooLarge = record { fault = GenTooLarge; line = None; rule_text = None }
+reported located.Work = record { fault = Work; line = None; rule_text = None }
+reported located.Range = record { fault = Range; line = None; rule_text = None }
+reported located.Memory = record { fault = Memory; line = None; rule_text = None }
+
+-- and a run tells why its pattern isn't opened, taken on or written, where IsFault says that
+abbrev pub TellsPattern : (LocatedFault → Type 0) → ToolFault → Type 0
+TellsPattern IsFault told = (refused : LocatedFault) × IsFault refused × (told ≡ (reported refused).fault)
 
 -- why a run over bytes wrote nothing, where IsFault says what it tells of them under some tables: the rule file is no good table, or memory is out
 -- for it; or it is a table, and that holds
@@ -109,15 +122,27 @@ pub record IsShownAfter (bytes : List ℕ) (tables : List TableRule) (n : ℕ) (
   pub holds : IsSummaryAfter bytes tables n summary
   pub lines : text ≡ summary_text summary
 
--- what is written of that plane
-abbrev pub IsFormAfter : TextForm → List ℕ → List TableRule → ℕ → List ℕ → Type 0
-IsFormAfter forms.Summary bytes tables n text = IsShownAfter bytes tables n text
-IsFormAfter (forms.File target) bytes tables n text = IsConvertedAfter bytes tables n target text
+-- what is written of that plane: those lines, the file that it is converted to, or a picture
+abbrev pub IsFormAfter : Form → List ℕ → List TableRule → ℕ → List ℕ → Type 0
+IsFormAfter (Text forms.Summary) bytes tables n text = IsShownAfter bytes tables n text
+IsFormAfter (Text (forms.File target)) bytes tables n text = IsConvertedAfter bytes tables n target text
+IsFormAfter (Picture request) bytes tables n text = IsDrawnAfter bytes tables n request text
 
--- why none of it is written
-abbrev pub IsFormFaultAfter : TextForm → List ℕ → List TableRule → ℕ → (work : ℕ) → ReachFault → Type 0
-IsFormFaultAfter forms.Summary bytes tables n work fault = IsReachFault bytes tables n work fault
-IsFormFaultAfter (forms.File target) bytes tables n work fault = IsConvertFaultAfter bytes tables n work target fault
+-- the line that tells of it: of a picture its caption, and of all else none
+abbrev pub IsFormCaption : Form → List ℕ → List TableRule → ℕ → List ℕ → Type 0
+IsFormCaption (Text form) bytes tables n text = text ≡ []
+IsFormCaption (Picture request) bytes tables n text = IsCaptionAfter bytes tables n request text
+
+-- the first reason for which no such text is written, where so much work may be done: the plane isn't reached, or it isn't written as a file
+abbrev pub IsTextFault : TextForm → List ℕ → List TableRule → (n work : ℕ) → LocatedFault → Type 0
+IsTextFault forms.Summary bytes tables n work refused = IsReachFault bytes tables n work refused
+IsTextFault (forms.File target) bytes tables n work refused = IsConvertFaultAfter bytes tables n work target refused
+
+-- and the first for which nothing of any form is written: a picture has no window as it is asked for, besides
+abbrev pub IsFormFaultAfter : Form → List ℕ → List TableRule → (n work : ℕ) → ToolFault → Type 0
+IsFormFaultAfter (Text form) bytes tables n work told = TellsPattern (IsTextFault form bytes tables n work) told
+IsFormFaultAfter (Picture request) bytes tables n work (Window fault) = HasNoWindowAfter bytes tables n request fault
+IsFormFaultAfter (Picture request) bytes tables n work told = TellsPattern (IsReachFault bytes tables n work) told
 
 -- why a run wrote nothing, where IsFault says why bytes under some tables are refused: the file isn't read; or it is, and a run over its bytes writes
 -- nothing

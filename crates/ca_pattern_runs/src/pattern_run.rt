@@ -1,33 +1,23 @@
 //! Runs of `show` and of `convert`: a pattern file in, what is shown of it or another pattern file out.
 
-ghost use Rattle.std.specs.Prelude.{◌≡◌, ℕ, List, IfOk, IfErr};
+ghost use Rattle.std.specs.Prelude.{◌≡◌, IfOk, IfErr};
 ghost use Rattle.std.specs.Option.{option_copied, option_to_list};
 ghost use Rattle.ca_pattern.specs.Converted.{IsConverted, IsSummaryFault, IsConvertFault};
 ghost use Rattle.ca_report.specs.declared.fault.InputFault.TheVariants as inputs;
-ghost use Rattle.ca_pattern.specs.DetailedFault.{HasDetail};
-ghost use Rattle.ca_pattern_runs.specs.Details.{HasRunDetail, fault_alone};
 ghost use Rattle.ca_report.specs.Writing.{Sends};
 ghost use Rattle.ca_report.specs.Reading.{ReadsAll, TakesFile};
 ghost use Rattle.ca_pattern_runs.specs.Runs.{AreKnownTables, IsShown, IsRuleFileFault, RunsOver, TellsTable};
 ghost use Rattle.ca_pattern_runs.specs.Runs.{TellsConvert, IsFormOf, IsFormFault, WritesUnder};
 ghost use Rattle.ca_pattern_runs.specs.inner.Refusals.{IsReadingFault};
 
+use crate::form::TextForm;
 use crate::summary::summary_lines;
-use ca_pattern::{ConvertFault, DetailedFault, Target, convert_with_detail, summary_with_detail};
+use ca_pattern::{ConvertFault, Target, convert, summary};
 use ca_plane::{Dev, send};
 use ca_report::{ToolFault, read_all};
 use ca_rule::{Table, TableFault};
 use std::alloc::Global;
 use std::io::{Read, Write};
-
-/// What is written of a pattern.
-#[derive(Clone, Copy, Debug, PartialEq, Eq)]
-pub enum TextForm {
-    /// The five lines that are shown of it.
-    Summary,
-    /// The file of this format that it is converted to.
-    File(Target),
-}
 
 /// Reads a pattern file and writes the five lines that are shown of it, under the table of the rule file, if
 /// there is one. It answers the exit status 0.
@@ -78,33 +68,27 @@ fn form_run<R: Read, W: Write>(
         output.old output.new (IsFormOf form) (IsFormFault form) result }
 {
     let bytes = read(alloc, input)?;
-    fault_alone(write_form(alloc, &bytes, form, table, output))
+    write_text(alloc, &bytes, form, table, output)
 }
 
-/// Writes what is asked of the bytes of a pattern file, under the table of the rule file, if there is one. It
-/// answers the exit status 0. A fault comes with what is known of it.
-///
-/// Nothing is written before all is judged.
-pub fn write_form<W: Write>(
+// Writes what is asked of the bytes of a pattern file.
+fn write_text<W: Write>(
     alloc: Global,
     bytes: &[u8],
     form: TextForm,
     table: Option<&[u8]>,
     output: &mut Dev<W>,
-) -> Result<u8, DetailedFault<ToolFault>>
-    // That text is written, or a first part of it and then a write fails, or nothing for another fault.
-    ensures writes { WritesUnder W.contents output.old output.new (option_copied table.entry)
-        (IsFormOf form bytes.now) (λ tables. TellsConvert (IsFormFault form bytes.now tables))
-        (fault_alone result) }
-    ensures detail { IfErr result (HasRunDetail bytes.now) }
+) -> Result<u8, ToolFault>
+    ensures { WritesUnder W.contents output.old output.new (option_copied table.entry)
+        (IsFormOf form bytes.now) (λ tables. TellsConvert (IsFormFault form bytes.now tables)) result }
 {
-    let table = match known_table(alloc, table) {
+    let table = match rule_table(alloc, table) {
         Ok(table) => table,
-        Err(refused) => return Err(refused),
+        Err(fault) => return Err(table_fault(fault)),
     };
     let text = match form_text(alloc, bytes, form, table_slice(&table)) {
         Ok(text) => text,
-        Err(refused) => return Err(convert_refusal(refused)),
+        Err(fault) => return Err(convert_fault(fault)),
     };
     write(output, &text)
 }
@@ -123,24 +107,8 @@ fn read<R: Read>(alloc: Global, input: &mut Dev<R>) -> Result<Vec<u8>, ToolFault
     }
 }
 
-/// The table of the rule file's text, if there is one, or what a run answers where it is no good table.
-pub(crate) fn known_table(
-    alloc: Global,
-    rule: Option<&[u8]>,
-) -> Result<Option<Table>, DetailedFault<ToolFault>>
-    ensures known { IfOk result (λ table. AreKnownTables (option_copied rule.entry) (option_to_list table)) }
-    ensures fault { IfErr result
-        (λ refused. TellsTable (IsRuleFileFault (option_copied rule.entry)) refused.fault) }
-    ensures detail { (bytes : List ℕ) → IfErr result (HasRunDetail bytes) }
-{
-    match rule_table(alloc, rule) {
-        Ok(table) => Ok(table),
-        Err(fault) => Err(table_refusal(fault)),
-    }
-}
-
-// The table of the rule file's text, if there is one.
-fn rule_table(alloc: Global, rule: Option<&[u8]>) -> Result<Option<Table>, TableFault>
+/// The table of the rule file's text, if there is one.
+pub(crate) fn rule_table(alloc: Global, rule: Option<&[u8]>) -> Result<Option<Table>, TableFault>
     ensures known { IfOk result (λ table. AreKnownTables (option_copied rule.entry) (option_to_list table)) }
     ensures fault { IfErr result (IsRuleFileFault (option_copied rule.entry)) }
 {
@@ -158,25 +126,23 @@ pub(crate) fn table_slice(table: &Option<Table>) -> &[Table]
     table.as_slice()
 }
 
-// What a run answers where the rule file holds no good table.
-fn table_refusal(fault: TableFault) -> DetailedFault<ToolFault>
-    ensures tells { TellsTable (λ f. f ≡ fault) result.fault }
-    ensures detail { (bytes : List ℕ) → HasRunDetail bytes result }
+/// What a run answers where the rule file holds no good table.
+pub(crate) fn table_fault(fault: TableFault) -> ToolFault
+    ensures { TellsTable (λ f. f ≡ fault) result }
 {
     match fault {
-        TableFault::Memory => DetailedFault::of(ToolFault::Memory),
-        _ => DetailedFault::of(ToolFault::BadTable(fault)),
+        TableFault::Memory => ToolFault::Memory,
+        _ => ToolFault::BadTable(fault),
     }
 }
 
-/// What a run answers where the pattern is refused.
-pub(crate) fn convert_refusal(refused: DetailedFault<ConvertFault>) -> DetailedFault<ToolFault>
-    ensures tells { TellsConvert (λ fault. fault ≡ refused.fault) result.fault }
-    ensures detail { (bytes : List ℕ) → HasDetail bytes refused → HasRunDetail bytes result }
+// What a run answers where the pattern is refused.
+fn convert_fault(fault: ConvertFault) -> ToolFault
+    ensures { TellsConvert (λ f. f ≡ fault) result }
 {
-    match refused.fault {
-        ConvertFault::Memory => DetailedFault::of(ToolFault::Memory),
-        fault => refused.with_fault(ToolFault::Convert(fault)),
+    match fault {
+        ConvertFault::Memory => ToolFault::Memory,
+        fault => ToolFault::Convert(fault),
     }
 }
 
@@ -186,44 +152,29 @@ fn form_text(
     bytes: &[u8],
     form: TextForm,
     tables: &[Table],
-) -> Result<Vec<u8>, DetailedFault<ConvertFault>>
+) -> Result<Vec<u8>, ConvertFault>
     ensures text { IfOk result (λ text. IsFormOf form bytes.now tables.now text.items) }
-    ensures fault { IfErr result (λ refused. IsFormFault form bytes.now tables.now refused.fault) }
-    ensures detail { IfErr result (HasDetail bytes.now) }
+    ensures fault { IfErr result (IsFormFault form bytes.now tables.now) }
 {
     match form {
         TextForm::Summary => {
-            let summary = summary_with_detail(alloc, bytes, tables)?;
+            let summary = summary(alloc, bytes, tables)?;
             let Ok(text) = summary_lines(alloc, &summary) else {
-                return Err(DetailedFault::of(ConvertFault::Memory));
+                return Err(ConvertFault::Memory);
             };
             Ok(text)
         }
-        TextForm::File(target) => convert_with_detail(alloc, bytes, target, tables),
+        TextForm::File(target) => convert(alloc, bytes, target, tables),
     }
 }
 
 /// Writes the whole text, and answers the exit status.
-pub(crate) fn write<W: Write>(
-    output: &mut Dev<W>,
-    text: &[u8],
-) -> Result<u8, DetailedFault<ToolFault>>
-    ensures status { IfOk (fault_alone result) (λ status. status ≡ 0) }
-    ensures sends { Sends W.contents output.old output.new text.now ToolFault.Write (fault_alone result) }
-    ensures detail { (bytes : List ℕ) → IfErr result (HasRunDetail bytes) }
+pub(crate) fn write<W: Write>(output: &mut Dev<W>, text: &[u8]) -> Result<u8, ToolFault>
+    ensures status { IfOk result (λ status. status ≡ 0) }
+    ensures sends { Sends W.contents output.old output.new text.now ToolFault.Write result }
 {
     if send(output, text).is_err() {
-        return Err(DetailedFault::of(ToolFault::Write));
+        return Err(ToolFault::Write);
     }
     Ok(0)
-}
-
-// What a run answers, with the fault alone.
-fn fault_alone(answer: Result<u8, DetailedFault<ToolFault>>) -> Result<u8, ToolFault>
-    ensures { result ≡ fault_alone answer }
-{
-    match answer {
-        Ok(status) => Ok(status),
-        Err(refused) => Err(refused.fault),
-    }
 }

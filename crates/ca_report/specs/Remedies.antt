@@ -12,7 +12,7 @@ use Rattle.ca_pattern.specs.declared.pattern_fault.PatternFault.{PatternFault}
 use Rattle.ca_pattern.specs.declared.pattern_fault.PatternFault.TheVariants as patterns
 use Rattle.ca_pattern.specs.declared.cause.Cause.{Cause}
 use Rattle.ca_pattern.specs.declared.cause.Cause.TheVariants as causes
-use Rattle.ca_pattern.specs.declared.conversion.ConvertFault.TheVariants as converts
+use Rattle.ca_pattern.specs.declared.convert_fault.ConvertFault.TheVariants as converts
 use Rattle.ca_report.specs.declared.fault.ToolFault.{ToolFault}
 use Rattle.ca_report.specs.declared.fault.ToolFault.TheVariants as tools
 use Rattle.ca_report.specs.declared.remedy.Remedy.{Remedy}

@@ -5,6 +5,7 @@
 mod absence;
 mod causes;
 mod counts;
+mod detailed_fault;
 mod escaped;
 mod fault;
 mod file_lines;
@@ -18,6 +19,7 @@ mod texts;
 pub use absence::{Absence, MissingFile, missing_piece};
 pub use causes::cause_pieces;
 pub use counts::{generations_word, push_counted, push_side};
+pub use detailed_fault::DetailedFault;
 pub use escaped::push_escaped;
 pub use fault::{InputFault, ToolFault};
 pub use file_lines::{at_pieces, file_pieces, pattern_pieces, rule_file_pieces, rule_pieces};

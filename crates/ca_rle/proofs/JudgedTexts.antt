@@ -1,5 +1,5 @@
 -- What is told of a text that was judged.
-use Rattle.std.proofs.Common.{◌≡◌, ℕ, ◌<◌, ◌≤◌, List, get_or, refl, sym, subst, ◌∙◌, arith}
+use Rattle.std.proofs.Common.{◌≡◌, ℕ, zero, suc, ◌<◌, ◌≤◌, List, get_or, refl, sym, subst, ◌∙◌, arith}
 use Rattle.std.specs.List.{All}
 use Rattle.std.proofs.lemmas.List.Elements.{All-from_recursion}
 use Rattle.ca_plane.specs.declared.point.Point.{Point}
@@ -86,3 +86,15 @@ module _ (bytes : List ℕ) (text : RleText) (is : IsRleText bytes text) where
   -- its bounds are those of its cells
   pub text_bounds : AreBounds (picture_of_items text.corner is.file.items) text.bounds
   text_bounds = subst (λ (at : Point). AreBounds (picture_of_items at is.file.items) text.bounds) (sym is.corner) is.bounds
+
+  -- no state of its items is above the greatest of its cells
+  items_below : (n : ℕ) → greatest_state is.file.items ≡ n → greatest_state is.file.items ≤ text.greatest
+  items_below zero e = omega (arith, e)
+  items_below (suc n) e =
+      let p = picture_of_items text.corner is.file.items in
+      let (x, y, shown) = greatest_shown text.corner is.file.items (counts_low text.body.now is.file.items is.items.0 is.items.1) sparse (λ z. omega (arith, e, z)) in
+      let most : cell p x y ≤ text.greatest = subst (λ (q : Point). cell (picture_of_items q is.file.items) x y ≤ text.greatest) (sym is.corner) (is.most x y) in
+      omega (arith, shown, most)
+
+  pub items_most : greatest_state is.file.items ≤ text.greatest
+  items_most = items_below (greatest_state is.file.items) refl

@@ -8,11 +8,10 @@ use Rattle.ca_plane.specs.Sparse.{IsSparse}
 use Rattle.ca_plane.specs.Limits.{IsInRange, generation_limit, most_cells}
 use Rattle.ca_rle.specs.declared.pattern.PackedCells.{PackedCells}
 use Rattle.ca_rle.specs.declared.pattern.PackedCells.TheVariants.{Words, States}
-use Rattle.ca_rle.specs.declared.pattern.PackedPattern.{PackedPattern}
 use Rattle.ca_rle.specs.declared.pattern.Pattern.{Pattern}
 use Rattle.ca_rle.specs.File.{RleFile, IsRleFile}
 use Rattle.ca_rle.specs.Limits.{IsRleWithinRange, IsWithinLimits}
-use Rattle.ca_rle.specs.Shown.{greatest_state, picture_of_items}
+use Rattle.ca_rle.specs.Shown.{picture_of_items}
 use Rattle.ca_rle.specs.Tidy.{IsTidyRle}
 
 -- cells, a rule text and a generation are the file's; its picture has states from 1 to 255, the generation is below the
@@ -40,10 +39,6 @@ abbrev pub ArePacked : ℕ → PackedCells → Type 0
 ArePacked greatest (Words plane) = greatest ≤ 1
 ArePacked greatest (States plane) = (1 < greatest) × IsSparse plane
 
--- the pattern has the file's parts, and its cells are packed
-abbrev pub IsPackedRlePattern : RleFile → PackedPattern → Type 0
-IsPackedRlePattern file pattern = HasFileParts file (packed_cell pattern.cells) pattern.rule_text.items pattern.generation × ArePacked (greatest_state file.items) pattern.cells
-
 -- the text is a file that passes no limit
 abbrev pub IsReadableRle : List ℕ → Type 0
 IsReadableRle bytes = (file : RleFile) × IsRleFile bytes file × IsWithinLimits file
@@ -51,10 +46,6 @@ IsReadableRle bytes = (file : RleFile) × IsRleFile bytes file × IsWithinLimits
 -- it is one, and this is its pattern
 abbrev pub HoldsRlePattern : List ℕ → Pattern → Type 0
 HoldsRlePattern bytes pattern = (file : RleFile) × IsRleFile bytes file × IsWithinLimits file × IsRlePattern file pattern
-
--- the same of a pattern whose cells are packed
-abbrev pub HoldsPackedRlePattern : List ℕ → PackedPattern → Type 0
-HoldsPackedRlePattern bytes pattern = (file : RleFile) × IsRleFile bytes file × IsWithinLimits file × IsPackedRlePattern file pattern
 
 -- a plane can be written with this rule text and generation, under a rule of so many states
 pub record IsWritableRle (cells : Picture) (rule_text : List ℕ) (generation states : ℕ) : Type 0 where

@@ -18,11 +18,3 @@ pub enum PackedCells {
     /// Of a pattern with more states.
     States(Plane),
 }
-
-/// A pattern that was read from a text, its live cells packed.
-#[derive(Drop)]
-pub struct PackedPattern {
-    pub cells: PackedCells,
-    pub rule_text: Vec<u8>,
-    pub generation: u64,
-}

@@ -1,23 +1,17 @@
 //! The reader of extended RLE.
 
-ghost use Rattle.std.specs.Prelude.{◌≡◌, ℕ, ℤ, List, unwrap_or, IfOk, IfErr, IsErrOf};
+ghost use Rattle.std.specs.Prelude.{◌≡◌, unwrap_or, IfOk, IfErr, IsErrOf};
 ghost use Rattle.std.specs.Option.{option_copied};
 ghost use Rattle.ca_plane.specs.Limits.{default_rule};
-ghost use Rattle.ca_plane.specs.Plane.{IsPicture, cell};
 ghost use Rattle.ca_rle.specs.declared.fault.RleFault.TheVariants.{Memory};
 ghost use Rattle.ca_rle.specs.Faults.{IsRleFault};
-ghost use Rattle.ca_rle.specs.File.{RleFile};
 ghost use Rattle.ca_rle.specs.FaultyLine.{IsRleFaultOn};
 ghost use Rattle.ca_rle.specs.Pattern.{IsReadableRle, HoldsRlePattern};
-ghost use Rattle.ca_rle.specs.Pattern.{HoldsPackedRlePattern, ArePacked, packed_cell};
-ghost use Rattle.ca_rle.specs.Shown.{picture_of_items};
-ghost use Rattle.ca_rle.specs.inner.FrontParts.{IsGoodText};
 
 use crate::drawing::draw;
 use crate::fault::{LineFault, RleFault};
 use crate::fault_line::{GoodText, good_text};
-use crate::front::Front;
-use crate::pattern::{PackedCells, PackedPattern, Pattern};
+use crate::pattern::Pattern;
 use ca_plane::text::rule_text;
 use std::alloc::Global;
 
@@ -50,48 +44,11 @@ pub fn read_rle_with_line(alloc: Global, bytes: &[u8]) -> Result<Pattern, LineFa
     })
 }
 
-/// Reads an extended RLE text as `read_rle_with_line` does, and packs its cells: where no state is above 1,
-/// it takes some bytes for each 64 cells side by side, and not for each cell.
-///
-/// # Errors
-///
-/// Those of `read_rle_with_line`.
-pub fn read_packed_rle(alloc: Global, bytes: &[u8]) -> Result<PackedPattern, LineFault>
-    // What is read is what the text holds, and it passes no limit.
-    ensures found { IfOk result (HoldsPackedRlePattern bytes.now) }
-    // A text that is refused has this fault, on this line.
-    ensures fault { IfErr result (λ f. IsRleFaultOn bytes.now f.fault f.line) }
-    // It runs out of memory only for a text without a fault.
-    ensures memory { IfErr result (λ f. f.fault ≡ Memory → IsReadableRle bytes.now) }
-{
-    let text = good_text(bytes)?;
-    Ok(PackedPattern {
-        cells: draw_packed(alloc, text)?,
-        rule_text: rule_text_of(alloc, text)?,
-        generation: text.front.generation,
-    })
-}
-
 /// The rule text that the header gives, or the default one.
 fn rule_text_of(alloc: Global, text: GoodText<'_>) -> Result<Vec<u8>, ca_plane::Memory>
     ensures { IfOk result (λ v. v.items ≡ unwrap_or (option_copied text.entry.front.rule) default_rule) }
 {
     Ok(rule_text(alloc, text.front.rule)?)
-}
-
-/// The cells of a text, packed.
-fn draw_packed(alloc: Global, text: GoodText<'_>) -> Result<PackedCells, ca_plane::Memory>
-    requires { (bytes : List ℕ) × (file : RleFile) × IsGoodText bytes file text }
-    ensures cells { IfOk result (λ cells. (bytes : List ℕ) (file : RleFile) → IsGoodText bytes file text.entry
-        → ((x y : ℤ) → packed_cell cells x y ≡ cell (picture_of_items file.corner file.items) x y)
-        × IsPicture (picture_of_items file.corner file.items)) }
-    ensures packed { IfOk result (ArePacked text.entry.greatest) }
-{
-    let Front { body, corner, .. } = text.front;
-    if text.greatest <= 1 {
-        return Ok(PackedCells::Words(draw(alloc, body, corner)?));
-    }
-    Ok(PackedCells::States(draw(alloc, body, corner)?))
 }
 
 /// Reads an extended RLE text as `read_rle_with_line` does, where the line of a fault isn't wanted.

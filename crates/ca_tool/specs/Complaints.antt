@@ -3,8 +3,8 @@ use Rattle.std.specs.Prelude.{ℕ, List, [], ◌∷◌, ◌++◌, codes, decimal
 use Rattle.ca_rule.specs.declared.table.fault.TableFault.{TableFault}
 use Rattle.ca_text.specs.declared.fault.ClaimFault.{ClaimFault}
 use Rattle.ca_text.specs.declared.fault.ClaimFault.TheVariants as claims
-use Rattle.ca_pattern.specs.declared.conversion.ConvertFault.{ConvertFault}
-use Rattle.ca_pattern.specs.declared.conversion.ConvertFault.TheVariants as converts
+use Rattle.ca_pattern.specs.declared.convert_fault.ConvertFault.{ConvertFault}
+use Rattle.ca_pattern.specs.declared.convert_fault.ConvertFault.TheVariants as converts
 use Rattle.ca_tool.specs.declared.fault.Fault.{Fault}
 use Rattle.ca_tool.specs.declared.fault.Fault.TheVariants as faults
 use Rattle.ca_report.specs.declared.fault.InputFault.{InputFault}

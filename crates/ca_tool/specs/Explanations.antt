@@ -4,7 +4,7 @@ use Rattle.std.specs.declared.alloc.Global.{Global}
 use Rattle.ca_text.specs.declared.fault.ClaimFault.{ClaimFault}
 use Rattle.ca_text.specs.declared.fault.ClaimFault.TheVariants as claims
 use Rattle.ca_pattern.specs.declared.file.File.{File}
-use Rattle.ca_pattern.specs.declared.detailed_fault.DetailedFault.{DetailedFault as RefusedFor}
+use Rattle.ca_report.specs.declared.detailed_fault.DetailedFault.{DetailedFault as RefusedFor}
 use Rattle.ca_report.specs.declared.fault.ToolFault.{ToolFault}
 use Rattle.ca_report.specs.declared.fault.ToolFault.TheVariants as tools
 use Rattle.ca_tool.specs.declared.explanation.RunFiles.{RunFiles}

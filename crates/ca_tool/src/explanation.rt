@@ -5,11 +5,11 @@ ghost use Rattle.ca_tool.specs.Explanations.{fault_line, run_remedy_line, has_ex
 ghost use Rattle.ca_report.specs.Writing.{Sends};
 ghost use Rattle.ca_report.specs.Pieces.{pieces_text};
 
-use ca_pattern::{DetailedFault, File};
+use ca_pattern::File;
 use ca_plane::{Dev, WriteFault};
 use ca_report::{
-    NOTHING, Piece, ToolFault, pattern_pieces, remedy_line_pieces, rule_file_pieces, run_remedy,
-    send_both,
+    DetailedFault, NOTHING, Piece, ToolFault, pattern_pieces, remedy_line_pieces, rule_file_pieces,
+    run_remedy, send_both,
 };
 use std::io::Write;
 

@@ -9,8 +9,8 @@ mod fault;
 pub use ca_catalog::{Catalog, Content, Subject, identify_run, is_claim_path, says_its_claims};
 pub use ca_draw::{Size, View, WindowFault};
 pub use ca_pattern_runs::{
-    CaptionedPicture, DrawRequest, TextForm, convert_run, draw_bytes, draw_with_caption,
-    drawing_laws, show_run, write_form, write_form_after,
+    DrawRequest, Evolution, Form, FormText, TextForm, convert_run, drawing_laws, form_text,
+    show_run, write_form,
 };
 pub use ca_report::{
     Absence, FaultyRule, InputFault, MAX_FILE, MissingFile, ToolFault, lies_outside, path_in,

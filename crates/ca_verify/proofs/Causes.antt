@@ -60,7 +60,7 @@ use Rattle.ca_verify.proofs.PatternsRead.{IsReadAt, IsRuledAt, path_has_fault, p
 use Rattle.ca_pattern.proofs.EqualCells.{few_shown, many_shown}
 use Rattle.ca_verify.proofs.CountedCells.{few_none, none_many}
 use Rattle.ca_verify.proofs.Spending.{used_up}
-use Rattle.ca_pattern.proofs.WrittenForms.{read_pattern}
+use Rattle.ca_pattern.proofs.ReadPatterns.{read_pattern}
 use Rattle.ca_verify.proofs.Parts.{first_part, either_part, zip_left_both, zip_with_both, zip_part}
 
 -- ---- files at indices

@@ -9,9 +9,10 @@ use crate::files::{FaultyFile, LoadedFile, load_rule_file, read_file, views};
 use crate::progress::{Heading, Progress};
 use crate::streams::Streams;
 use ca_identify::Scope;
-use ca_pattern::{Cause, DetailedFault, File, rule_text_of};
+use ca_pattern::{Cause, File, rule_text_of};
 use ca_plane::Memory;
 use ca_plane::limits::LONGEST_PERIOD;
+use ca_report::DetailedFault;
 use ca_rule::{RuleFault, Table, TableFault, resolve};
 use ca_tool::{
     Catalog, Content, Fault, InputFault, RunFiles, Subject, ToolFault, complain, explain,

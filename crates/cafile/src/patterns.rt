@@ -1,38 +1,34 @@
 //! The commands `show`, `convert` and `draw`.
 
-ghost use Rattle.std.specs.Prelude.{◌≡◌};
-
 use crate::FAULT;
 use crate::files::{LoadedFile, load_rule_file, open_source, read_file};
 use crate::progress::{Heading, Progress};
 use crate::streams::Streams;
-use ca_pattern::{ConvertFault, DetailedFault, File, Limits};
+use ca_pattern::{ConvertFault, File};
 use ca_plane::limits::MOST_GENERATIONS;
 use ca_plane::{Dev, Memory, send};
+use ca_report::DetailedFault;
 use ca_rule::RuleFault;
-use ca_run::Unwatched;
 use ca_tool::{
-    CaptionedPicture, DrawRequest, Fault, InputFault, RunFiles, TextForm, ToolFault, complain,
-    draw_bytes, draw_with_caption, explain, has_explanation, read_all, write_form,
-    write_form_after,
+    Evolution, Fault, Form, FormText, InputFault, RunFiles, ToolFault, complain, explain,
+    form_text, has_explanation, read_all, write_form,
 };
-use ca_words::{DrawWords, PatternExtras};
+use ca_words::PatternExtras;
 use std::rt::{Clock, Files, Stderr, Stdin};
 
 /// What is written of a pattern file.
 #[derive(Clone, Copy)]
-pub enum Form {
-    /// The lines that tell what it holds, or a file of a format.
-    Text(TextForm),
-    /// The picture that these words ask for, and on standard error its caption, where that is wanted.
-    Picture { words: DrawWords, captioned: bool },
+pub struct Asked {
+    pub form: Form,
+    /// Whether the line that tells of it goes to standard error.
+    pub captioned: bool,
 }
 
 /// Writes what is asked of the pattern file of a path, and answers the exit status.
 pub fn write_pattern<R: Files + Clock + AllocGlobal>(
     rt: &R,
     path: &str,
-    form: Form,
+    asked: Asked,
     extras: &PatternExtras,
     streams: &mut Streams,
 ) -> u8 {
@@ -48,11 +44,11 @@ pub fn write_pattern<R: Files + Clock + AllocGlobal>(
         bytes: bytes.as_slice(),
     };
     let rule = rule_file(&extras.rule, &rule);
-    let first = run(rt, form, pattern, rule, extras, streams);
+    let first = run(rt, asked, pattern, rule, extras, streams);
     match named_rule(rt, &first, extras) {
         Ok(Some(found)) => {
             let rule = Some(found.view());
-            let second = run(rt, form, pattern, rule, extras, streams);
+            let second = run(rt, asked, pattern, rule, extras, streams);
             exit_status(second, pattern, rule, extras, streams)
         }
         Ok(None) => exit_status(first, pattern, rule, extras, streams),
@@ -114,10 +110,11 @@ fn rule_file<'a>(path: &'a Option<String>, bytes: &'a Option<Vec<u8>>) -> Option
     }
 }
 
-// Writes what is asked of the pattern file.
+// Writes what is asked of the pattern file. Where it is taken some generations on, the line of progress tells how far
+// that is.
 fn run<R: Clock + AllocGlobal>(
     rt: &R,
-    form: Form,
+    asked: Asked,
     pattern: File<'_>,
     rule: Option<File<'_>>,
     extras: &PatternExtras,
@@ -127,90 +124,33 @@ fn run<R: Clock + AllocGlobal>(
         Some(rule) => Some(rule.bytes),
         None => None,
     };
-    if let Some(generations) = extras.after {
-        return run_after(rt, form, pattern, table, generations, extras, streams);
-    }
-    let (alloc, bytes) = (rt.alloc(), pattern.bytes);
-    match form {
-        Form::Text(form) => write_form(alloc, bytes, form, table, &mut streams.output),
-        Form::Picture { words, captioned } => {
-            let request = request_of(words, 0, extras.limits());
-            let watched = &mut Unwatched;
-            if captioned {
-                let drawn = draw_with_caption(alloc, bytes, request, table, watched);
-                return write_captioned(drawn, streams);
-            }
-            draw_bytes(alloc, bytes, request, table, watched, &mut streams.output)
-        }
-    }
-}
-
-// Writes what is asked of the pattern some generations on. The line of progress tells how far that is.
-fn run_after<R: Clock + AllocGlobal>(
-    rt: &R,
-    form: Form,
-    pattern: File<'_>,
-    table: Option<&[u8]>,
-    generations: u64,
-    extras: &PatternExtras,
-    streams: &mut Streams,
-) -> Result<u8, DetailedFault<ToolFault>> {
-    let (alloc, bytes) = (rt.alloc(), pattern.bytes);
     // The words keep the generations within their limit, and more are brought within.
-    let generations = generations.min(MOST_GENERATIONS);
-    let limits = extras.limits();
+    let generations = extras.after.unwrap_or(0).min(MOST_GENERATIONS);
+    let evolution = Evolution {
+        generations,
+        limits: extras.limits(),
+    };
     let heading = Heading::Run { path: pattern.path };
     let squares = extras.most_squares();
     let errors = &mut streams.errors;
     let mut observer = Progress::new(rt, errors, heading, extras.progress, squares);
-    let (observer, output) = (&mut observer, &mut streams.output);
-    match form {
-        Form::Text(form) => {
-            write_form_after(
-                alloc,
-                bytes,
-                form,
-                table,
-                generations,
-                limits,
-                observer,
-                output,
-            )
-        }
-        Form::Picture { words, captioned } => {
-            let request = request_of(words, generations, limits);
-            if captioned {
-                let drawn = draw_with_caption(alloc, bytes, request, table, observer);
-                return write_captioned(drawn, streams);
-            }
-            draw_bytes(alloc, bytes, request, table, observer, output)
-        }
+    let observer = &mut observer;
+    let (alloc, bytes, form) = (rt.alloc(), pattern.bytes, asked.form);
+    if asked.captioned {
+        let written = form_text(alloc, bytes, form, table, evolution, observer)?;
+        return write_captioned(&written, streams);
     }
-}
-
-// What is asked for of a picture, so many generations on and within these limits.
-fn request_of(words: DrawWords, generations: u64, limits: Limits) -> DrawRequest
-    ensures view { result.view ≡ words.view }
-    ensures format { result.format ≡ words.format }
-    ensures generations { result.generations ≡ generations }
-    ensures limits { result.limits ≡ limits }
-{
-    DrawRequest {
-        view: words.view,
-        format: words.format,
-        generations,
-        limits,
-    }
+    let output = &mut streams.output;
+    write_form(alloc, bytes, form, table, evolution, observer, output)
 }
 
 // Writes the caption of a picture to standard error, and the picture to standard output.
 fn write_captioned(
-    drawn: Result<CaptionedPicture, DetailedFault<ToolFault>>,
+    written: &FormText,
     streams: &mut Streams,
 ) -> Result<u8, DetailedFault<ToolFault>> {
-    let drawn = drawn?;
-    let _ = send(&mut streams.errors, &drawn.caption);
-    if send(&mut streams.output, &drawn.picture).is_err() {
+    let _ = send(&mut streams.errors, &written.caption);
+    if send(&mut streams.output, &written.text).is_err() {
         return Err(DetailedFault::of(ToolFault::Write));
     }
     Ok(0)

@@ -3,7 +3,7 @@
 use super::expected::{expect, is_live};
 use super::objects::{OBJECTS, ORIENTATIONS, Object};
 use ca_apgcode::{Grid, ReadFault, read_representation};
-use ca_identify::identify;
+use ca_identify::{Scope, identify};
 use ca_object_code::code_of_file;
 use ca_pattern::Limits;
 use ca_plane::Memory;
@@ -18,10 +18,11 @@ fn has_code(alloc: Global, bytes: &[u8], limit: u64, expected: Option<&[u8]>) ->
         return false;
     }
     let limits = Limits::default();
-    let Ok(identity) = identify(alloc, bytes, &[], limits, limit, &mut Unwatched) else {
+    let scope = Scope::whole(limit);
+    let Ok(look) = identify(alloc, bytes, &[], 0, limits, scope, &mut Unwatched) else {
         return false;
     };
-    match code_of_file(alloc, bytes, &[], limits, limit, identity) {
+    match code_of_file(alloc, bytes, &[], limits, look) {
         Ok(Some(code)) => expected == Some(code.as_slice()),
         Ok(None) => expected.is_none(),
         Err(_) => false,

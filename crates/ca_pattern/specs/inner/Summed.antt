@@ -6,9 +6,7 @@ use Rattle.ca_plane.specs.Box.{IsLeastBox}
 use Rattle.ca_plane.specs.Population.{HasPopulation}
 use Rattle.ca_plane.specs.Limits.{reach}
 use Rattle.ca_quad.specs.declared.tree.WideBounds.{WideBounds}
-use Rattle.ca_rule.specs.Rule.{RuleValue, printed_form}
-use Rattle.ca_pattern.specs.declared.pattern.Summary.{Summary}
-use Rattle.ca_pattern.specs.declared.format.Format.{Format}
+use Rattle.ca_pattern.specs.declared.cells.Extent.{Extent}
 
 -- a coordinate of a live cell
 abbrev pub IsCoordinate : ℤ → Type 0
@@ -21,11 +19,7 @@ pub record AreNearBounds (bounds : WideBounds) : Type 0 where
   pub x1 : IsCoordinate bounds.x1
   pub y1 : IsCoordinate bounds.y1
 
--- the summary is that of a file of this format, with these cells, this rule and this generation
-pub record IsSummaryOf (kind : Format) (cells : ℤ → ℤ → ℕ) (rule : RuleValue) (generation : ℕ)
-    (summary : Summary) : Type 0 where
-  pub kind_is : summary.kind ≡ kind
-  pub printed : summary.rule_text.items ≡ printed_form rule
-  pub generation_is : summary.generation ≡ generation
-  pub population : HasPopulation cells summary.cells
-  pub bounds : (picture : Picture) → ((x y : ℤ) → cells x y ≡ plane.cell picture x y) → MatchOption summary.bounds (IsLive picture → ⊥) (IsLeastBox picture)
+-- so many cells are live, and these are the bounds of the live ones
+pub record IsExtentOf (cells : ℤ → ℤ → ℕ) (extent : Extent) : Type 0 where
+  pub population : HasPopulation cells extent.cells
+  pub bounds : (picture : Picture) → ((x y : ℤ) → cells x y ≡ plane.cell picture x y) → MatchOption extent.bounds (IsLive picture → ⊥) (IsLeastBox picture)

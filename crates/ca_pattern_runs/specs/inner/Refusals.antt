@@ -3,8 +3,10 @@ use Rattle.std.specs.Prelude.{ℕ, ℤ, List, Option}
 use Rattle.ca_report.specs.declared.fault.ToolFault.{ToolFault}
 use Rattle.ca_report.specs.declared.fault.ToolFault.TheVariants.{Input, Window, Memory}
 use Rattle.ca_pattern_runs.specs.Runs.{IsInputFault}
-use Rattle.ca_pattern_runs.specs.declared.drawing.DrawRequest.{DrawRequest}
-use Rattle.ca_pattern_runs.specs.Drawn.{HasNoWindow}
+use Rattle.ca_pattern_runs.specs.declared.form.DrawRequest.{DrawRequest}
+use Rattle.ca_pattern_runs.specs.Drawn.{HasNoWindow, HasNoWindowAfter}
+use Rattle.ca_rule.specs.TableNext.{TableRule}
+use Rattle.ca_pattern.specs.Means.{MayWantMemory}
 
 -- why the file isn't read
 abbrev pub IsReadingFault : Option (List ℕ) → Option (List ℕ) → ToolFault → Type 0
@@ -16,3 +18,9 @@ abbrev pub IsUndrawn : DrawRequest → (ℤ → ℤ → ℕ) → ToolFault → T
 IsUndrawn request cells (Window fault) = HasNoWindow request cells fault
 IsUndrawn request cells Memory = Unit {0}
 IsUndrawn request cells told = ⊥
+
+-- the same of the plane of a file's pattern n generations on
+abbrev pub IsUndrawnAfter : List ℕ → List TableRule → (n : ℕ) → DrawRequest → ToolFault → Type 0
+IsUndrawnAfter bytes tables n request (Window fault) = HasNoWindowAfter bytes tables n request fault
+IsUndrawnAfter bytes tables n request Memory = MayWantMemory bytes
+IsUndrawnAfter bytes tables n request told = ⊥

@@ -1,8 +1,8 @@
 //! What patterns are, found out from their files. Periods and life spans are those of the field's collections.
 
 use super::devices::expect;
-use ca_identify::{Growth, Identity, identify};
-use ca_pattern::{Cause, DetailedFault, Limits};
+use ca_identify::{Growth, Identity, Look, Scope, identify};
+use ca_pattern::{Limits, LocatedFault};
 use ca_plane::Bounds;
 use ca_run::Unwatched;
 use std::alloc::Global;
@@ -115,30 +115,21 @@ const GROWN: &[(&[u8], u64, u128, Bounds)] = &[
 ];
 
 /// What comes of identifying a pattern.
-type Found = Result<Identity, DetailedFault<Cause>>;
+type Found = Result<Look, LocatedFault>;
 
 /// What a pattern is, where the limit is a good one.
 fn identity_of(alloc: Global, text: &[u8], limits: Limits, limit: u64) -> Option<Found> {
     if limit == 0 || limit > 4294967295 || limits.memo == 0 || limits.memo > 16777216 {
         return None;
     }
-    Some(identify(alloc, text, &[], limits, limit, &mut Unwatched))
+    let scope = Scope::whole(limit);
+    Some(identify(alloc, text, &[], 0, limits, scope, &mut Unwatched))
 }
 
 /// Whether a pattern is found to be this.
 fn is_found(found: &Option<Found>, identity: Identity) -> bool {
     match found {
-        Some(Ok(found)) => *found == identity,
-        _ => false,
-    }
-}
-
-/// Whether a pattern isn't identified for this cause, of which no more is known.
-fn is_refused(found: &Option<Found>, cause: Cause) -> bool {
-    match found {
-        Some(Err(refused)) => {
-            refused.fault == cause && refused.line.is_none() && refused.rule_text.is_none()
-        }
+        Some(Ok(look)) => look.identity == identity,
         _ => false,
     }
 }
@@ -146,7 +137,7 @@ fn is_refused(found: &Option<Found>, cause: Cause) -> bool {
 /// The line of the fault for which a pattern isn't identified.
 fn line_of(found: &Option<Found>) -> Option<u64> {
     match found {
-        Some(Err(refused)) => refused.line,
+        Some(Err(LocatedFault::Unread(bad))) => bad.line,
         _ => None,
     }
 }
@@ -175,17 +166,21 @@ fn growth_is_told(rt: HostRuntime) {
 }
 
 #[test]
-fn a_refused_pattern_has_its_cause(rt: HostRuntime) {
+fn a_refused_pattern_has_its_fault(rt: HostRuntime) {
     let large = b"x = 1, y = 1, rule = B3/S23\nB!";
     let found = identity_of(rt.alloc(), large, Limits::default(), 1);
     expect(
         &rt,
-        is_refused(&found, Cause::StateTooLarge),
+        matches!(found, Some(Err(LocatedFault::StateTooLarge))),
         "a state that is too large",
     );
     let limits = Limits { memo: 1, work: 0 };
     let found = identity_of(rt.alloc(), GLIDER, limits, 65536);
-    expect(&rt, is_refused(&found, Cause::Work), "no work");
+    expect(
+        &rt,
+        matches!(found, Some(Err(LocatedFault::Work))),
+        "no work",
+    );
     let found = identity_of(rt.alloc(), b"x = 1, y = 1\no\nq!", Limits::default(), 1);
     expect(&rt, line_of(&found) == Some(3), "the line of a fault");
 }

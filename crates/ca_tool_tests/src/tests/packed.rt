@@ -1,8 +1,8 @@
-//! RLE texts whose cells are read packed.
+//! RLE texts that are judged, and whose cells are then drawn packed.
 
 use super::devices::expect;
 use ca_plane::{CellWord, Point};
-use ca_rle::{LineFault, PackedCells, PackedPattern, RleFault, read_packed_rle};
+use ca_rle::{LineFault, PackedCells, RleFault, draw_text, judge_rle};
 use std::alloc::Global;
 use std::test::*;
 
@@ -50,8 +50,7 @@ fn are_words(words: &[CellWord], expected: &[(u64, u64, u64)]) -> bool {
 
 /// The cells of a text, if it is good.
 fn cells_of(alloc: Global, text: &[u8]) -> Option<PackedCells> {
-    let PackedPattern { cells, .. } = read_packed_rle(alloc, text).ok()?;
-    Some(cells)
+    draw_text(alloc, judge_rle(text).ok()?).ok()
 }
 
 fn has_words(alloc: Global, text: &[u8], expected: &[(u64, u64, u64)]) -> bool {
@@ -85,8 +84,8 @@ fn more_states_are_cells(rt: HostRuntime) {
     expect(&rt, has_cells(rt.alloc(), text, expected), "cells");
 }
 
-fn has_fault(alloc: Global, text: &[u8], fault: RleFault, line: Option<u64>) -> bool {
-    match read_packed_rle(alloc, text) {
+fn has_fault(text: &[u8], fault: RleFault, line: Option<u64>) -> bool {
+    match judge_rle(text) {
         Ok(_) => false,
         Err(found) => found == LineFault { fault, line },
     }
@@ -95,7 +94,7 @@ fn has_fault(alloc: Global, text: &[u8], fault: RleFault, line: Option<u64>) -> 
 #[test]
 fn faults_have_lines(rt: HostRuntime) {
     'texts: for &(text, fault, line) in FAULTY {
-        expect(&rt, has_fault(rt.alloc(), text, fault, line), "a fault");
+        expect(&rt, has_fault(text, fault, line), "a fault");
     }
 }
 

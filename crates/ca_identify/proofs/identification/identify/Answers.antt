@@ -1,8 +1,59 @@
-use Rattle.ca_identify.proofs.IdentifiedFiles.{identified_now, unidentified_now}
+use Rattle.std.proofs.Common.{sym, subst, ◌∙◌}
+use Rattle.ca_plane.specs.Plane as plane
+use Rattle.ca_plane.specs.Generations.{cells_after}
+use Rattle.ca_quad.specs.Trees.{cell}
+use Rattle.ca_rule.specs.Rule.{rule_value, next_of}
+use Rattle.ca_pattern.specs.PatternTrees.{ShowsTree, IsPattern}
+use Rattle.ca_pattern.proofs.OpenedFiles.{first_in_range, pattern_of_tree}
+use Rattle.ca_identify.specs.Identified.{IsLookAfter}
+use Rattle.ca_identify.specs.inner.Stages.{TakesRunAndSearch}
+use Rattle.ca_identify.proofs.IdentifiedFiles.{file_needs}
 use Rattle.ca_identify.proofs.identification.identify.Goals as goal
 
-pub returns-clause-identified : goal.returns-clause-identified
-returns-clause-identified g c = identified_now c.args.bytes.now c.args.tables.now c.args.limit c.identify_after.result c.identify_after.ensures.identified
+pub into_squares-requires : goal.into_squares-requires
+into_squares-requires g c =
+    let is = c.in_ok-pattern.ensures.opened in
+    (plane.cell is.cells, is.is_pattern.are_cells)
 
+pub look_at_plane-requires-clause-pattern : goal.look_at_plane-requires-clause-pattern
+look_at_plane-requires-clause-pattern g c =
+    let is = c.in_ok-pattern.ensures.opened in
+    let stored = c.in-Ok.field-0 in
+    let tree = c.in-Ok.ensures (plane.cell is.cells) is.is_pattern.are_cells in
+    subst (λ s. IsPattern s stored.tree) (sym c.in-Ok-leaper_of.ensures.store)
+    (pattern_of_tree (plane.cell is.cells) stored tree (first_in_range c.args.bytes.now c.args.tables.now c.in_ok-pattern.pattern is))
+
+pub returns-in-Ok-look_at_plane-clause-look : goal.returns-in-Ok-look_at_plane-clause-look
+returns-in-Ok-look_at_plane-clause-look g c =
+    let is = c.in_ok-pattern.ensures.opened in
+    let stored = c.in-Ok.field-0 in
+    let tree = c.in-Ok.ensures (plane.cell is.cells) is.is_pattern.are_cells in
+    let shows = subst (λ s. ShowsTree s stored.tree is.cells) (sym c.in-Ok-leaper_of.ensures.store) (λ x y. sym (tree.shows x y)) in (
+      is.cells,
+      rule_value c.in_ok-pattern.pattern.rule,
+      (is.begun, is.begins),
+      subst (λ r. IsLookAfter (next_of (rule_value r)) is.cells c.args.generations c.args.scope c.in-Ok-look_at_plane.look) c.in-Ok-leaper_of.ensures.rule
+          (c.in-Ok-look_at_plane.ensures.look is.cells shows),
+    )
+
+-- out of work
 pub returns-clause-unidentified : goal.returns-clause-unidentified
-returns-clause-unidentified g c = unidentified_now c.args.bytes.now c.args.tables.now c.args.limits.work c.args.limit c.requires.some c.identify_after.result c.identify_after.ensures.unidentified
+returns-clause-unidentified g c =
+    let is = c.in_ok-pattern.ensures.opened in
+    let rule = c.in_ok-pattern.pattern.rule in
+    let stored = c.in-Ok.field-0 in
+    let tree = c.in-Ok.ensures (plane.cell is.cells) is.is_pattern.are_cells in
+    let n = c.args.generations in
+    let limit = c.args.scope.limit in
+    let leaper = c.in-Ok-leaper_of.leaper in
+    let new = c.look_at_plane.new.leaper.spent.used in
+    let told = c.in-Err-Work.ensures in
+    let takes =
+    subst (λ r. TakesRunAndSearch leaper.spent.used new stored.tree.level n (cells_after (next_of (rule_value r)) (cell stored.store stored.tree)) limit) c.in-Ok-leaper_of.ensures.rule
+    (subst (λ s. TakesRunAndSearch leaper.spent.used new stored.tree.level n (cells_after (next_of (rule_value leaper.rule)) (cell s stored.tree)) limit) c.in-Ok-leaper_of.ensures.store told.takes) in (
+      is.cells,
+      rule_value rule,
+      (is.begun, is.begins),
+      file_needs (next_of (rule_value rule)) is.cells stored tree leaper.spent.used new c.args.limits.work n limit
+          c.in-Ok-leaper_of.ensures.used (told.work c.in-Err-Work.field-0-is ∙ told.goes_on.spends.limit ∙ c.in-Ok-leaper_of.ensures.limits.work) takes,
+    )

@@ -1,27 +1,28 @@
-use Rattle.std.proofs.Common.{subst, sym}
-use Rattle.ca_pattern.specs.declared.detailed_fault.DetailedFault.{DetailedFault}
-use Rattle.ca_report.specs.declared.fault.ToolFault.{ToolFault}
-use Rattle.ca_pattern_runs.specs.Details.{HasRunDetail}
-use Rattle.ca_pattern_runs.specs.Drawn.{IsDrawFault}
-use Rattle.ca_pattern_runs.proofs.DrawnFiles.{drawn_of, caption_of, undrawn_of, undrawn_plainly}
+use Rattle.ca_pattern_runs.proofs.DrawnFiles.{drawn_of, caption_of, undrawn_of}
 use Rattle.ca_pattern_runs.proofs.drawing.picture.Goals as goal
+
+pub into_squares-requires : goal.into_squares-requires
+into_squares-requires c =
+    let (bytes, tables, n, is) = c.requires in
+    (_, is.is_pattern.are_cells)
 
 -- the picture of the tree is that of the plane
 pub returns-in-Ok-picture_of-clause-drawn : goal.returns-in-Ok-picture_of-clause-drawn
-returns-in-Ok-picture_of-clause-drawn g c =
-    drawn_of c.args.bytes.now c.args.tables.now c.args.request c.in-Ok.reached c.states-states.result c.in-Ok-picture_of.drawn.picture.items c.in-Ok.ensures.reached c.states-states.ensures.value c.in-Ok-picture_of.ensures.drawn
+returns-in-Ok-picture_of-clause-drawn c = λ bytes tables n is.
+    let stored = c.in-Ok.field-0 in
+    let tree = c.in-Ok.ensures _ is.is_pattern.are_cells in
+    drawn_of bytes tables n c.args.pattern is stored tree c.args.request c.states.result c.in-Ok-picture_of.drawn.text.items c.states.ensures.value c.in-Ok-picture_of.ensures.drawn
 
 -- and so is its caption
 pub returns-in-Ok-picture_of-clause-caption : goal.returns-in-Ok-picture_of-clause-caption
-returns-in-Ok-picture_of-clause-caption g c =
-    caption_of c.args.bytes.now c.args.tables.now c.args.request c.in-Ok.reached c.in-Ok-picture_of.drawn.caption.items c.in-Ok.ensures.reached c.in-Ok-picture_of.ensures.caption
+returns-in-Ok-picture_of-clause-caption c = λ bytes tables n is.
+    let stored = c.in-Ok.field-0 in
+    let tree = c.in-Ok.ensures _ is.is_pattern.are_cells in
+    caption_of bytes tables n c.args.pattern is stored tree c.args.request c.in-Ok-picture_of.drawn.caption.items c.in-Ok-picture_of.ensures.caption
 
 -- and why there is none
 pub returns-clause-fault : goal.returns-clause-fault
-returns-clause-fault g c =
-    subst (λ (r : DetailedFault ToolFault). IsDrawFault c.args.bytes.now c.args.tables.now c.args.request r.fault) (sym c.of.ensures)
-    (undrawn_of c.args.bytes.now c.args.tables.now c.args.request c.in-Ok.reached c.in-Err-picture_of.fault c.in-Ok.ensures.reached c.in-Err-picture_of.ensures.fault)
-
-pub returns-clause-detail : goal.returns-clause-detail
-returns-clause-detail g c =
-    subst (HasRunDetail c.args.bytes.now) (sym c.of.ensures) (undrawn_plainly c.args.bytes.now c.args.request _ c.in-Err-picture_of.fault c.in-Err-picture_of.ensures.fault)
+returns-clause-fault c = λ bytes tables n is.
+    let stored = c.in-Ok.field-0 in
+    let tree = c.in-Ok.ensures _ is.is_pattern.are_cells in
+    undrawn_of bytes tables n c.args.pattern is stored tree c.args.request c.in-Err.fault c.in-Err.ensures.fault

@@ -1,0 +1,51 @@
+-- What is told and written of a pattern's cells, and why they aren't written.
+use Rattle.std.specs.Prelude.{◌≡◌, ◌≢◌, ℕ, ℤ, List, MatchOption}
+use Rattle.ca_plane.specs.Plane.{Picture, IsLive, cell}
+use Rattle.ca_plane.specs.Plane as plane
+use Rattle.ca_plane.specs.Box.{IsLeastBox}
+use Rattle.ca_plane.specs.Limits.{IsInRange}
+use Rattle.ca_plane.specs.Population.{HasPopulation, HasTooManyCells}
+use Rattle.ca_macro.specs.Pattern.{AreInRange}
+use Rattle.ca_macro.specs.Tidy as macrocell
+use Rattle.ca_rle.specs.Tidy as rle
+use Rattle.ca_rule.specs.Rule.{RuleValue, states_of, printed_form}
+use Rattle.ca_pattern.specs.declared.format.Format.{Format}
+use Rattle.ca_pattern.specs.declared.format.Format.TheVariants.{Rle, Mc}
+use Rattle.ca_pattern.specs.declared.located_fault.LocatedFault.{LocatedFault}
+use Rattle.ca_pattern.specs.declared.located_fault.LocatedFault.TheVariants.{Range, TooManyCells, Memory}
+use Rattle.ca_pattern.specs.declared.pattern.Summary.{Summary}
+use Rattle.ca_pattern.specs.Means.{format_of, HoldsPattern}
+
+-- the summary is that of a file of this format, with these cells, this rule and this generation
+pub record IsSummaryOf (kind : Format) (cells : ℤ → ℤ → ℕ) (rule : RuleValue) (generation : ℕ)
+    (summary : Summary) : Type 0 where
+  pub kind_is : summary.kind ≡ kind
+  pub printed : summary.rule_text.items ≡ printed_form rule
+  pub generation_is : summary.generation ≡ generation
+  pub population : HasPopulation cells summary.cells
+  pub bounds : (picture : Picture) → ((x y : ℤ) → cells x y ≡ plane.cell picture x y) → MatchOption summary.bounds (IsLive picture → ⊥) (IsLeastBox picture)
+
+-- the tidy text of a format
+abbrev pub IsTidyAs : Format → List ℕ → Picture → List ℕ → ℕ → ℕ → Type 0
+IsTidyAs Rle text cells rule_text generation states = rle.IsTidyRle text cells rule_text generation states
+IsTidyAs Mc text cells rule_text generation states = macrocell.IsTidyMacrocell text (cell cells) rule_text generation states
+
+-- the text is the tidy one of a format with these cells, the printed form of the rule, and the generation
+pub record IsWrittenAs (target : Format) (cells : ℤ → ℤ → ℕ) (rule : RuleValue) (generation : ℕ)
+    (text : List ℕ) : Type 0 where
+  pub shown : Picture
+  pub same : (x y : ℤ) → cells x y ≡ plane.cell shown x y
+  pub format : format_of text ≡ target
+  pub holds : HoldsPattern text shown (printed_form rule) generation
+  pub tidy : IsTidyAs target text shown (printed_form rule) generation (states_of rule)
+
+-- some live cell lies outside the range of a file
+abbrev pub HasCellOutOfRange : (ℤ → ℤ → ℕ) → Type 0
+HasCellOutOfRange cells = (x : ℤ) × (y : ℤ) × (cells x y ≢ 0) × (IsInRange (record { y = y; x = x }) → ⊥)
+
+-- why cells aren't written in a format: a live cell is out of range; or too many are live for an RLE; or memory is out
+abbrev pub AreUnwritten : Format → (ℤ → ℤ → ℕ) → LocatedFault → Type 0
+AreUnwritten target cells Range = HasCellOutOfRange cells
+AreUnwritten target cells TooManyCells = (target ≡ Rle) × AreInRange cells × HasTooManyCells cells
+AreUnwritten target cells Memory = Unit {0}
+AreUnwritten target cells fault = ⊥

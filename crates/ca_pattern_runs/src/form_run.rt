@@ -1,0 +1,190 @@
+//! What is written of a pattern file, some generations on.
+
+ghost use Rattle.std.specs.Prelude.{◌≡◌, ℕ, ◌≤◌, List, IfOk, IfErr};
+ghost use Rattle.std.specs.Option.{option_copied};
+ghost use Rattle.ca_plane.specs.Limits.{most_generations};
+ghost use Rattle.ca_rule.specs.TableNext.{TableRule};
+ghost use Rattle.ca_pattern.specs.Evolved.{IsPatternAfter};
+ghost use Rattle.ca_pattern.specs.Limited.{AreGoodLimits};
+ghost use Rattle.ca_pattern_runs.specs.Details.{HasRunDetail, fault_alone};
+ghost use Rattle.ca_pattern_runs.specs.declared.form.Form.TheVariants.{Text};
+ghost use Rattle.ca_pattern_runs.specs.Runs.{IsFormAfter, IsFormCaption, IsFormFaultAfter};
+ghost use Rattle.ca_pattern_runs.specs.Runs.{IsTextFault, reported};
+ghost use Rattle.ca_pattern_runs.specs.Runs.{HoldsOfTables, IsBytesFault, WritesUnder};
+
+use crate::drawing::picture;
+use crate::form::{Evolution, Form, FormText, TextForm};
+use crate::pattern_run::{rule_table, table_fault, table_slice, write};
+use crate::summary::summary_lines;
+use ca_pattern::{ConvertFault, LocatedFault, Observer, Pattern, open_evolved};
+use ca_plane::Dev;
+use ca_report::{DetailedFault, ToolFault};
+use ca_rule::Table;
+use std::alloc::Global;
+use std::io::Write;
+
+/// Writes what is asked of the pattern file with these bytes, some generations on, under the table of the rule
+/// file, if there is one. It answers the exit status 0. The observer sees how far the generations are. A fault
+/// comes with what is known of it.
+///
+/// Nothing is written before all is judged.
+pub fn write_form<W: Write, O: Observer>(
+    alloc: Global,
+    bytes: &[u8],
+    form: Form,
+    table: Option<&[u8]>,
+    evolution: Evolution,
+    observer: &mut O,
+    output: &mut Dev<W>,
+) -> Result<u8, DetailedFault<ToolFault>>
+    requires limits { AreGoodLimits evolution.limits }
+    requires few { evolution.generations ≤ most_generations }
+    // That text is written, or a first part of it and then a write fails, or nothing for another fault.
+    ensures writes { WritesUnder W.contents output.old output.new (option_copied table.entry)
+        (λ tables. IsFormAfter form bytes.now tables evolution.generations)
+        (λ tables. IsFormFaultAfter form bytes.now tables evolution.generations evolution.limits.work)
+        (fault_alone result) }
+    ensures detail { IfErr result (HasRunDetail bytes.now) }
+{
+    let written = match form_text(alloc, bytes, form, table, evolution, observer) {
+        Ok(written) => written,
+        Err(refused) => return Err(refused),
+    };
+    match write(output, &written.text) {
+        Ok(status) => Ok(status),
+        Err(fault) => Err(DetailedFault::of(fault)),
+    }
+}
+
+/// The text that `write_form` writes, and the line that tells of it.
+///
+/// # Errors
+///
+/// As for `write_form`, but no write fails.
+pub fn form_text<O: Observer>(
+    alloc: Global,
+    bytes: &[u8],
+    form: Form,
+    table: Option<&[u8]>,
+    evolution: Evolution,
+    observer: &mut O,
+) -> Result<FormText, DetailedFault<ToolFault>>
+    requires limits { AreGoodLimits evolution.limits }
+    requires few { evolution.generations ≤ most_generations }
+    ensures text { IfOk result (λ written. HoldsOfTables (option_copied table.entry)
+        (λ tables. IsFormAfter form bytes.now tables evolution.generations written.text.items)) }
+    ensures caption { IfOk result (λ written. HoldsOfTables (option_copied table.entry)
+        (λ tables. IsFormCaption form bytes.now tables evolution.generations written.caption.items)) }
+    ensures fault { IfErr result (λ refused. IsBytesFault (option_copied table.entry)
+        (λ tables. IsFormFaultAfter form bytes.now tables evolution.generations evolution.limits.work)
+        refused.fault) }
+    ensures detail { IfErr result (HasRunDetail bytes.now) }
+{
+    let table = match rule_table(alloc, table) {
+        Ok(table) => table,
+        Err(fault) => return Err(DetailedFault::of(table_fault(fault))),
+    };
+    match text_under(alloc, bytes, form, table_slice(&table), evolution, observer) {
+        Ok(written) => Ok(written),
+        Err(refused) => Err(refused),
+    }
+}
+
+// What is written under these tables.
+fn text_under<O: Observer>(
+    alloc: Global,
+    bytes: &[u8],
+    form: Form,
+    tables: &[Table],
+    evolution: Evolution,
+    observer: &mut O,
+) -> Result<FormText, DetailedFault<ToolFault>>
+    requires limits { AreGoodLimits evolution.limits }
+    requires few { evolution.generations ≤ most_generations }
+    ensures text { IfOk result
+        (λ written. IsFormAfter form bytes.now tables.now evolution.generations written.text.items) }
+    ensures caption { IfOk result
+        (λ written. IsFormCaption form bytes.now tables.now evolution.generations written.caption.items) }
+    ensures fault { IfErr result (λ refused. IsFormFaultAfter form bytes.now tables.now
+        evolution.generations evolution.limits.work refused.fault) }
+    ensures detail { IfErr result (HasRunDetail bytes.now) }
+{
+    let Evolution {
+        generations,
+        limits,
+    } = evolution;
+    let pattern = match open_evolved(alloc, bytes, tables, generations, limits, observer) {
+        Ok(pattern) => pattern,
+        Err(refused) => return Err(reported(refused)),
+    };
+    match form {
+        Form::Text(form) => {
+            match text_of_pattern(alloc, pattern, form) {
+                Ok(text) => Ok(FormText {
+                    text,
+                    caption: Vec::new(alloc),
+                }),
+                Err(refused) => Err(reported(refused)),
+            }
+        }
+        Form::Picture(request) => match picture(alloc, pattern, request) {
+            Ok(written) => Ok(written),
+            Err(fault) => Err(DetailedFault::of(fault)),
+        },
+    }
+}
+
+// What is reported where a pattern isn't opened, taken on or written.
+fn reported(refused: LocatedFault) -> DetailedFault<ToolFault>
+    ensures { result ≡ reported refused }
+{
+    match refused {
+        LocatedFault::Unread(bad) => DetailedFault {
+            fault: ToolFault::Convert(ConvertFault::BadPattern(bad.fault)),
+            line: bad.line,
+            rule_text: None,
+        },
+        LocatedFault::UnnamedRule(unnamed) => DetailedFault {
+            fault: ToolFault::Convert(ConvertFault::BadRule(unnamed.fault)),
+            line: None,
+            rule_text: Some(unnamed.rule_text),
+        },
+        LocatedFault::StateTooLarge => DetailedFault::of(ToolFault::Convert(
+            ConvertFault::StateTooLarge,
+        )),
+        LocatedFault::TooManyCells => DetailedFault::of(ToolFault::Convert(
+            ConvertFault::TooManyCells,
+        )),
+        LocatedFault::GenTooLarge => DetailedFault::of(ToolFault::GenTooLarge),
+        LocatedFault::Work => DetailedFault::of(ToolFault::Work),
+        LocatedFault::Range => DetailedFault::of(ToolFault::Range),
+        LocatedFault::Memory => DetailedFault::of(ToolFault::Memory),
+    }
+}
+
+// The text that tells all of a pattern.
+fn text_of_pattern(
+    alloc: Global,
+    pattern: Pattern<'_, '_>,
+    form: TextForm,
+) -> Result<Vec<u8>, LocatedFault>
+    requires { (bytes : List ℕ) × (tables : List TableRule) × (n : ℕ) × IsPatternAfter bytes tables n pattern }
+    ensures text { (bytes : List ℕ) (tables : List TableRule) (n : ℕ) → IsPatternAfter bytes tables n pattern.entry
+        → IfOk result (λ text. IsFormAfter (Text form) bytes tables n text.items) }
+    ensures fault { (bytes : List ℕ) (tables : List TableRule) (n work : ℕ)
+        → IsPatternAfter bytes tables n pattern.entry
+        → IfErr result (IsTextFault form bytes tables n work) }
+{
+    match form {
+        TextForm::Summary => {
+            let Ok(summary) = pattern.summary(alloc) else {
+                return Err(LocatedFault::Memory);
+            };
+            let Ok(text) = summary_lines(alloc, &summary) else {
+                return Err(LocatedFault::Memory);
+            };
+            Ok(text)
+        }
+        TextForm::File(target) => pattern.text(alloc, target),
+    }
+}
