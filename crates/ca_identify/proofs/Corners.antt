@@ -6,7 +6,7 @@ use Rattle.ca_quad.specs.declared.tree.WideBounds.{WideBounds}
 use Rattle.ca_quad.specs.Boxes as wide
 use Rattle.ca_quad.specs.Trees.{HoldsAll}
 use Rattle.ca_pattern.specs.PatternTrees.{IsBroad, IsWide}
-use Rattle.ca_pattern.specs.inner.LaterTrees.{IsWithinPlane}
+use Rattle.ca_pattern.specs.LaterTrees.{IsWithinPlane}
 use Rattle.ca_pattern.proofs.Corners.{not_above}
 
 -- or at most half as far as the square of a plane goes

@@ -27,7 +27,7 @@ use Rattle.ca_text.specs.Truth.{expected_cells, IsTrueClaim, ShowsNothingForbidd
 use Rattle.ca_pattern.specs.Evolved.{IsPatternAfter}
 use Rattle.ca_pattern.specs.Means.{MayWantMemory}
 use Rattle.ca_pattern.specs.PatternCells.{IsTreeOf}
-use Rattle.ca_identify.specs.inner.Stages.{TakesRunAndSearch}
+use Rattle.ca_identify.specs.TreeLooks.{TakesRunAndSearch}
 use Rattle.ca_pattern.proofs.CellsNearMiddle.{trimmed_low}
 use Rattle.ca_pattern.proofs.PatternsRead.{reads_may_want}
 use Rattle.ca_identify.proofs.Stages.{run_more}

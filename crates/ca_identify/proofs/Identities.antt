@@ -24,7 +24,7 @@ use Rattle.ca_identify.specs.Identified.{IsIdentity, IsTrueWithin, HasNoTrueClai
 use Rattle.ca_plane.specs.Limits.{longest_period}
 use Rattle.ca_text.specs.Truth.{IsChanged, IsNowhere}
 use Rattle.ca_identify.specs.inner.Stages.{IsFirst, IsStage, IsReturn, IsGrowthOf, AreMoved, AreMovedNowhere, AreOtherUpTo, IsFirstAgain, IsEnding, HasNoReturn, TakesSearch}
-use Rattle.ca_pattern.specs.inner.LaterTrees.{IsLaterTree}
+use Rattle.ca_pattern.specs.LaterTrees.{IsLaterTree}
 use Rattle.ca_pattern.specs.PatternTrees.{ShowsTree, HasLive}
 use Rattle.ca_pattern.proofs.Deaths.{live_at_all}
 use Rattle.ca_identify.proofs.LaterPlanes.{tree_picture}

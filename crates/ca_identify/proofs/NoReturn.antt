@@ -19,7 +19,7 @@ use Rattle.ca_run.proofs.Returns.{after_stands}
 use Rattle.ca_identify.specs.declared.identification.ending.Ending.{Ending}
 use Rattle.ca_identify.specs.declared.identification.ending.Ending.TheVariants.{Death, Return}
 use Rattle.ca_identify.specs.inner.Stages.{HasNoReturn, IsEnding, generations_of, EndsWithin, box_of}
-use Rattle.ca_pattern.specs.inner.LaterTrees.{IsLaterTree}
+use Rattle.ca_pattern.specs.LaterTrees.{IsLaterTree}
 use Rattle.ca_pattern.specs.PatternTrees.{ShowsTree}
 use Rattle.ca_identify.proofs.LaterPlanes.{tree_picture}
 

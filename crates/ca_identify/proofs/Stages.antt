@@ -24,8 +24,9 @@ use Rattle.ca_identify.specs.declared.identification.stage.Stage.{Stage}
 use Rattle.ca_identify.specs.declared.identification.walk.Walk.{Walk}
 use Rattle.ca_identify.specs.declared.identification.stage.Stage.TheVariants.{Empty, Back, Other}
 use Rattle.ca_pattern.specs.Spending.{Takes}
-use Rattle.ca_pattern.specs.inner.LaterTrees.{IsWithinPlane, IsStart, IsLaterTree}
-use Rattle.ca_identify.specs.inner.Stages.{CanGoOn, IsFirst, AreMoved, AreMovedNowhere, IsStage, AreOtherUpTo, IsWalk, IsHalted, TakesSteps, TakesSearch, TakesSearchFrom, TakesEarly, TakesRun, TakesRunAndSearch, step_work, early_work, leap_work}
+use Rattle.ca_pattern.specs.LaterTrees.{IsWithinPlane, IsStart, IsLaterTree}
+use Rattle.ca_identify.specs.inner.Stages.{IsFirst, AreMoved, AreMovedNowhere, IsStage, AreOtherUpTo, IsWalk, IsHalted, TakesSearch, TakesSearchFrom, TakesEarly, early_work, leap_work}
+use Rattle.ca_identify.specs.TreeLooks.{CanGoOn, TakesSteps, TakesRun, TakesRunAndSearch, step_work}
 use Rattle.ca_pattern.proofs.Corners.{live_after}
 use Rattle.ca_pattern.proofs.CellsNearMiddle.{live_near, trimmed_low}
 use Rattle.ca_pattern.proofs.LeaptTrees.{near_stays}

@@ -12,7 +12,7 @@ use Rattle.ca_quad.proofs.Cells.{of_stays}
 use Rattle.ca_quad.proofs.Trims.{trees_stay}
 use Rattle.ca_macro.specs.Pattern.{AreInRange}
 use Rattle.ca_plane.proofs.After.{after_same}
-use Rattle.ca_pattern.specs.inner.LaterTrees.{IsWithinPlane, IsStart, IsLaterTree}
+use Rattle.ca_pattern.specs.LaterTrees.{IsWithinPlane, IsStart, IsLaterTree}
 use Rattle.ca_pattern.specs.PatternTrees.{ShowsTree}
 use Rattle.ca_pattern.proofs.CellsNearMiddle.{held_near, later_held, trimmed_low}
 use Rattle.ca_pattern.proofs.LaterPlanes.{later_holds, later_is_low}

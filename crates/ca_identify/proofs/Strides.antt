@@ -21,8 +21,9 @@ use Rattle.ca_identify.specs.declared.identification.stage.First.{First}
 use Rattle.ca_identify.specs.declared.identification.stage.Stage.TheVariants.{Other}
 use Rattle.ca_identify.specs.declared.identification.strides.Stride.{Stride}
 use Rattle.ca_identify.specs.declared.identification.strides.Stride.TheVariants.{On, Again, Never, Dead}
-use Rattle.ca_identify.specs.inner.Stages.{CanGoOn, AreMoved, AreMovedNowhere, AreOtherUpTo, IsEarly, AreEarly, IsStride}
-use Rattle.ca_pattern.specs.inner.LaterTrees.{IsLaterTree}
+use Rattle.ca_identify.specs.inner.Stages.{AreMoved, AreMovedNowhere, AreOtherUpTo, IsEarly, AreEarly, IsStride}
+use Rattle.ca_identify.specs.TreeLooks.{CanGoOn}
+use Rattle.ca_pattern.specs.LaterTrees.{IsLaterTree}
 use Rattle.ca_pattern.specs.PatternTrees.{HasLive}
 use Rattle.ca_identify.proofs.Identities.{picture_moved, picture_nowhere}
 use Rattle.ca_pattern.proofs.Searches.{search_within}

@@ -1,2 +1,3 @@
 pub mod Identified
+pub mod TreeLooks
 pub mod inner

@@ -5,12 +5,12 @@ ghost use Rattle.ca_plane.specs.Plane.{Picture};
 ghost use Rattle.ca_plane.specs.Generations.{cells_after};
 ghost use Rattle.ca_quad.specs.Trees.{cell};
 ghost use Rattle.ca_run.specs.Leaping.{LeaperGrows, EndsAtLimit};
-ghost use Rattle.ca_identify.specs.Identified.{IsLookAfter, IsLookAt, IsUnidentifiedAfter};
+ghost use Rattle.ca_identify.specs.Identified.{IsLookAt, IsUnidentifiedAfter};
 ghost use Rattle.ca_pattern.specs.Limited.{AreGoodLimits};
 ghost use Rattle.ca_plane.specs.Limits.{longest_period, most_generations};
-ghost use Rattle.ca_pattern.specs.Spending.{HasLimits};
-ghost use Rattle.ca_identify.specs.inner.Stages.{TakesRunAndSearch};
+ghost use Rattle.ca_identify.specs.TreeLooks.{IsTreeLook, TakesRunAndSearch};
 ghost use Rattle.ca_pattern.specs.PatternTrees.{ShowsTree, IsPattern};
+ghost use Rattle.ca_pattern.specs.LaterTrees.{IsStart};
 
 mod early;
 mod ending;
@@ -24,13 +24,13 @@ mod strides;
 mod walk;
 
 use crate::identity::Identity;
-use crate::scope::{Look, Scope};
+use crate::scope::{Look, Scope, TreeLook};
 use ca_pattern::{Limits, LocatedFault, Observer, StoredTree, leaper_of, open_pattern};
 use ca_plane::Automaton;
 use ca_quad::Tree;
 use ca_rule::Table;
 use ca_run::{LeapFault, Leaper};
-use later::later_tree;
+pub use later::later_tree;
 use patience::look;
 use stage::First;
 use std::alloc::Global;
@@ -76,38 +76,34 @@ pub fn identify<O: Observer>(
     let Ok(mut leaper) = leaper_of(alloc, store, pattern.rule, limits) else {
         return Err(LocatedFault::Memory);
     };
-    match look_at_plane(
-        alloc,
-        &mut leaper,
-        limits,
-        tree,
-        generations,
-        scope,
-        observer,
-    ) {
-        Ok(look) => Ok(look),
+    match look_at_plane(alloc, &mut leaper, tree, generations, scope, observer) {
+        Ok(found) => Ok(found.look),
         Err(LeapFault::Memory) => Err(LocatedFault::Memory),
         Err(LeapFault::Work) => Err(LocatedFault::Work),
     }
 }
 
-/// What the plane of a pattern's tree is so many generations on, as far from there as the scope says.
-fn look_at_plane<A: Automaton, O: Observer>(
+/// What the plane of a pattern's tree is so many generations on, as far from there as the scope says, and the tree of that
+/// plane.
+///
+/// # Errors
+///
+/// Fails where there is no work or no memory left for it.
+pub fn look_at_plane<A: Automaton, O: Observer>(
     alloc: Global,
     leaper: &mut Leaper<A>,
-    limits: Limits,
     pattern: Tree,
     generations: u64,
     scope: Scope,
     observer: &mut O,
-) -> Result<Look, LeapFault>
-    requires limits { HasLimits limits leaper.old }
+) -> Result<TreeLook, LeapFault>
     requires pattern { IsPattern leaper.old.nodes pattern }
     requires few { generations ≤ most_generations }
     requires some { 1 ≤ scope.limit }
     requires most { scope.limit ≤ longest_period }
-    ensures look { (cells : Picture) → ShowsTree leaper.old.nodes pattern cells
-        → IfOk result (IsLookAfter (A.next_of leaper.old.rule) cells generations scope) }
+    ensures look { (cells : Picture) → ShowsTree leaper.old.nodes pattern cells → IfOk result
+        (IsTreeLook (A.next_of leaper.old.rule) cells generations scope leaper.new.nodes) }
+    ensures start { IfOk result (λ found. IsStart leaper.new.nodes found.tree) }
     ensures goes_on { LeaperGrows A leaper.old leaper.new }
     ensures takes { TakesRunAndSearch leaper.old.spent.used leaper.new.spent.used pattern.level generations
         (cells_after (A.next_of leaper.old.rule) (cell leaper.old.nodes pattern)) scope.limit }
@@ -115,18 +111,24 @@ fn look_at_plane<A: Automaton, O: Observer>(
 {
     // Says what holds of every leaper.
     let _ = leaper.store();
-    let _ = limits;
     let start = later_tree(leaper, pattern, generations, observer)?;
     let tree = &start;
     let Some(bounds) = leaper.store().bounds(alloc, *tree)? else {
-        return Ok(Look {
-            identity: Identity::Empty,
-            limit: scope.limit,
+        return Ok(TreeLook {
+            tree: *tree,
+            look: Look {
+                identity: Identity::Empty,
+                limit: scope.limit,
+            },
         });
     };
     let first = First {
         tree: *tree,
         bounds,
     };
-    look(alloc, leaper, first, scope, observer)
+    let found = look(alloc, leaper, first, scope, observer)?;
+    Ok(TreeLook {
+        tree: *tree,
+        look: found,
+    })
 }

@@ -6,6 +6,6 @@ mod identity;
 pub mod identity_laws;
 mod scope;
 
-pub use identification::identify;
+pub use identification::{identify, later_tree, look_at_plane};
 pub use identity::{Growth, Identity};
-pub use scope::{Look, Scope};
+pub use scope::{Look, Scope, TreeLook};

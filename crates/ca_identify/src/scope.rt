@@ -3,6 +3,7 @@
 ghost use Rattle.std.specs.Prelude.{◌≡◌, None};
 
 use crate::identity::Identity;
+use ca_quad::Tree;
 
 /// How far a pattern is looked at.
 #[derive(Clone, Copy, Debug, PartialEq, Eq)]
@@ -33,4 +34,11 @@ pub struct Look {
     pub identity: Identity,
     /// The generations within which it is that: all up to the limit of the scope, unless patience ended the look.
     pub limit: u64,
+}
+
+/// What a plane is found to be, and the tree of its cells, of the smallest level.
+#[derive(Clone, Copy)]
+pub struct TreeLook {
+    pub tree: Tree,
+    pub look: Look,
 }

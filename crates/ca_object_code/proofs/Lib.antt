@@ -1,4 +1,4 @@
 pub mod Drawings
 pub mod LeastBoxes
-pub mod Starts
 pub mod Populations
+pub mod CodedFiles

@@ -1,14 +1,16 @@
-//! The code of a pattern that was identified.
+//! The code of a plane that was identified.
 
-ghost use Rattle.std.specs.Prelude.{◌≡◌, ◌≤◌, IfOk, MatchOption};
+ghost use Rattle.std.specs.Prelude.{◌≡◌, ◌≤◌, ◌-◌, IfOk, MatchOption};
 ghost use Rattle.ca_plane.specs.Plane.{Picture};
 ghost use Rattle.ca_plane.specs.Generations.{cells_after};
 ghost use Rattle.ca_plane.specs.Limits.{longest_period};
 ghost use Rattle.ca_quad.specs.Trees.{cell};
 ghost use Rattle.ca_run.specs.Leaping.{LeaperGrows, EndsAtLimit};
 ghost use Rattle.ca_apgcode.specs.Objects.{IsObjectCode};
-ghost use Rattle.ca_pattern.specs.PatternTrees.{ShowsTree, IsPattern};
-ghost use Rattle.ca_object_code.specs.Codes.{IsCodeOf, IsNoObject, HasGoodPeriod};
+ghost use Rattle.ca_identify.specs.TreeLooks.{TakesSteps};
+ghost use Rattle.ca_pattern.specs.PatternTrees.{ShowsTree};
+ghost use Rattle.ca_pattern.specs.LaterTrees.{IsStart};
+ghost use Rattle.ca_object_code.specs.Codes.{IsCodeOf, IsNoObject, HasGoodPeriod, steps_of};
 
 use crate::phases::least_of_phases;
 use ca_apgcode::{Kind, object_code};
@@ -18,8 +20,8 @@ use ca_quad::Tree;
 use ca_run::{LeapFault, Leaper};
 use std::alloc::Global;
 
-/// The code of a pattern (LifeWiki, "Apgcode"), from its tree and what `identify` found it to be, where that is a still life,
-/// an oscillator or a spaceship. It takes the pattern through its period, one generation after the other.
+/// The code of a plane (LifeWiki, "Apgcode"), from its tree and what it was found to be, where that is a still life, an
+/// oscillator or a spaceship. It takes the plane through its period, one generation after the other.
 ///
 /// # Errors
 ///
@@ -30,12 +32,15 @@ pub fn code_of_tree<A: Automaton>(
     pattern: &Tree,
     identity: Identity,
 ) -> Result<Option<Vec<u8>>, LeapFault>
-    requires pattern { IsPattern leaper.old.nodes pattern.now }
+    requires pattern { IsStart leaper.old.nodes pattern.now }
     requires period { HasGoodPeriod identity }
     ensures code { (cells : Picture) → ShowsTree leaper.old.nodes pattern.now cells
         → IfOk result (λ found. MatchOption found (IsNoObject identity)
         (λ code. IsCodeOf (A.next_of leaper.old.rule) cells identity code.items)) }
     ensures goes_on { LeaperGrows A leaper.old leaper.new }
+    ensures takes { TakesSteps leaper.old.spent.used leaper.new.spent.used
+        (cells_after (A.next_of leaper.old.rule) (cell leaper.old.nodes pattern.now))
+        (steps_of identity) (steps_of identity) }
     ensures work { EndsAtLimit leaper.new.spent result }
 {
     // Says what holds of every leaper.
@@ -81,12 +86,14 @@ fn code_of_phases<A: Automaton>(
     number: u128,
     count: u64,
 ) -> Result<Vec<u8>, LeapFault>
-    requires pattern { IsPattern leaper.old.nodes pattern.now }
+    requires pattern { IsStart leaper.old.nodes pattern.now }
     requires some { 1 ≤ count }
     requires most { count ≤ longest_period }
     ensures code { IfOk result (λ code. IsObjectCode kind number
         (cells_after (A.next_of leaper.old.rule) (cell leaper.old.nodes pattern.now)) count code.items) }
     ensures goes_on { LeaperGrows A leaper.old leaper.new }
+    ensures takes { TakesSteps leaper.old.spent.used leaper.new.spent.used
+        (cells_after (A.next_of leaper.old.rule) (cell leaper.old.nodes pattern.now)) (count - 1) (count - 1) }
     ensures work { EndsAtLimit leaper.new.spent result }
 {
     // Says what holds of every leaper.

@@ -1,46 +1,110 @@
-//! The code of a pattern file that was identified.
+//! What the pattern of a file is, and its code.
 
-ghost use Rattle.std.specs.Prelude.{IfOk, option_map};
-ghost use Rattle.ca_identify.specs.declared.scope.Scope.{Scope};
+ghost use Rattle.std.specs.Prelude.{◌≤◌, IfOk, IfErr, option_map};
+ghost use Rattle.ca_plane.specs.Generations.{cells_after};
+ghost use Rattle.ca_plane.specs.Limits.{longest_period, most_generations};
+ghost use Rattle.ca_plane.specs.Plane.{Picture};
+ghost use Rattle.ca_quad.specs.Trees.{cell};
+ghost use Rattle.ca_run.specs.Leaping.{LeaperGrows, EndsAtLimit};
 ghost use Rattle.ca_identify.specs.Identified.{IsLookAt};
 ghost use Rattle.ca_pattern.specs.Limited.{AreGoodLimits};
-ghost use Rattle.ca_object_code.specs.Codes.{IsCodeOfFile};
+ghost use Rattle.ca_pattern.specs.PatternTrees.{ShowsTree, IsPattern};
+ghost use Rattle.ca_object_code.specs.Codes.{IsCodeOfFile, IsUncodedAfter};
+ghost use Rattle.ca_object_code.specs.inner.CodedLooks.{IsCodedLook};
+ghost use Rattle.ca_object_code.specs.inner.Spent.{TakesRunAndTwice};
 
 use crate::code::code_of_tree;
+use crate::coded_look::CodedLook;
 use crate::rules::has_codes;
-use ca_identify::Look;
-use ca_pattern::{Limits, StoredTree, leaper_of, open_pattern};
+use ca_identify::{Scope, look_at_plane};
+use ca_pattern::{Limits, LocatedFault, Observer, StoredTree, leaper_of, open_pattern};
+use ca_plane::Automaton;
+use ca_quad::Tree;
 use ca_rule::Table;
-use ca_run::LeapFault;
+use ca_run::{LeapFault, Leaper};
 use std::alloc::Global;
 
-/// The code of the pattern of a file (LifeWiki, "Apgcode") that was identified by this look, under the rule that
-/// its rule text names, B/S or among the tables. None where it is no still life, oscillator or spaceship, and under a rule
-/// that isn't of two states or counts other neighbours than all eight or four.
+/// What the plane of a file's pattern is so many generations on, as `ca_identify::identify` finds it, and its code (LifeWiki,
+/// "Apgcode"). There is no code of what is no still life, oscillator or spaceship, nor under a rule that is no B/S rule
+/// or counts other neighbours than all eight or four.
+///
+/// The limit of the scope is from 1 to 4294967295. What is found is then taken through its period, one generation after the
+/// other. The observer sees nothing of that.
 ///
 /// # Errors
 ///
-/// Fails where there is no work or no memory left to take the pattern through its period.
-pub fn code_of_file(
+/// As for `ca_identify::identify`. The work of the generations through the period counts too.
+#[tactic(auto, using(ca_identify::proofs::IdentifiedFiles::opened_may_want))]
+pub fn identify_with_code<O: Observer>(
     alloc: Global,
     bytes: &[u8],
     tables: &[Table],
+    generations: u64,
     limits: Limits,
-    look: Look,
-) -> Result<Option<Vec<u8>>, LeapFault>
+    scope: Scope,
+    observer: &mut O,
+) -> Result<CodedLook, LocatedFault>
     requires limits { AreGoodLimits limits }
-    requires identified { (scope : Scope) × IsLookAt bytes.now tables.now 0 scope look }
-    ensures { IfOk result (λ found. IsCodeOfFile bytes.now tables.now look.identity
-        (option_map (λ code. code.items) found)) }
+    requires few { generations ≤ most_generations }
+    requires some { 1 ≤ scope.limit }
+    requires most { scope.limit ≤ longest_period }
+    ensures look { IfOk result (λ found. IsLookAt bytes.now tables.now generations scope found.look) }
+    ensures code { IfOk result (λ found. IsCodeOfFile bytes.now tables.now generations found.look.identity
+        (option_map (λ code. code.items) found.code)) }
+    ensures uncoded { IfErr result
+        (IsUncodedAfter bytes.now tables.now limits.work generations scope.limit) }
 {
-    // The file is opened without a fault, since it was identified: so only memory may run out.
-    let Ok(pattern) = open_pattern(alloc, bytes, tables) else {
-        return Err(LeapFault::Memory);
+    let pattern = open_pattern(alloc, bytes, tables)?;
+    let coded = has_codes(&pattern.rule);
+    let Ok(StoredTree { store, tree }) = pattern.cells.into_squares(alloc) else {
+        return Err(LocatedFault::Memory);
     };
-    if !has_codes(&pattern.rule) {
-        return Ok(None);
+    let Ok(mut leaper) = leaper_of(alloc, store, pattern.rule, limits) else {
+        return Err(LocatedFault::Memory);
+    };
+    match look_and_code(
+        alloc,
+        &mut leaper,
+        tree,
+        generations,
+        scope,
+        coded,
+        observer,
+    ) {
+        Ok(found) => Ok(found),
+        Err(LeapFault::Memory) => Err(LocatedFault::Memory),
+        Err(LeapFault::Work) => Err(LocatedFault::Work),
     }
-    let StoredTree { store, tree } = pattern.cells.into_squares(alloc)?;
-    let mut leaper = leaper_of(alloc, store, pattern.rule, limits)?;
-    code_of_tree(alloc, &mut leaper, &tree, look.identity)
+}
+
+// What the plane of a pattern's tree is so many generations on, and its code, where objects have codes.
+fn look_and_code<A: Automaton, O: Observer>(
+    alloc: Global,
+    leaper: &mut Leaper<A>,
+    pattern: Tree,
+    generations: u64,
+    scope: Scope,
+    coded: bool,
+    observer: &mut O,
+) -> Result<CodedLook, LeapFault>
+    requires pattern { IsPattern leaper.old.nodes pattern }
+    requires few { generations ≤ most_generations }
+    requires some { 1 ≤ scope.limit }
+    requires most { scope.limit ≤ longest_period }
+    ensures found { (cells : Picture) → ShowsTree leaper.old.nodes pattern cells → IfOk result
+        (IsCodedLook (A.next_of leaper.old.rule) cells generations scope coded) }
+    ensures goes_on { LeaperGrows A leaper.old leaper.new }
+    ensures takes { TakesRunAndTwice leaper.old.spent.used leaper.new.spent.used pattern.level generations
+        (cells_after (A.next_of leaper.old.rule) (cell leaper.old.nodes pattern)) scope.limit }
+    ensures work { EndsAtLimit leaper.new.spent result }
+{
+    // Says what holds of every leaper.
+    let _ = leaper.store();
+    let found = look_at_plane(alloc, leaper, pattern, generations, scope, observer)?;
+    let look = found.look;
+    if !coded {
+        return Ok(CodedLook { look, code: None });
+    }
+    let code = code_of_tree(alloc, leaper, &found.tree, look.identity)?;
+    Ok(CodedLook { look, code })
 }

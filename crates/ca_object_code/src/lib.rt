@@ -3,11 +3,13 @@
 
 mod boxes;
 mod code;
+mod coded_look;
 mod drawing;
 mod files;
 mod phases;
 mod rules;
 
 pub use code::code_of_tree;
-pub use files::code_of_file;
+pub use coded_look::CodedLook;
+pub use files::identify_with_code;
 pub use rules::has_codes;

@@ -1,21 +1,22 @@
 //! The least text of the phases of a pattern.
 
-ghost use Rattle.std.specs.Prelude.{◌≡◌, ◌≤◌, ◌+◌, ℕ, ℤ, IfOk, OnOk, option_map};
+ghost use Rattle.std.specs.Prelude.{◌≡◌, ◌≤◌, ◌+◌, ◌-◌, ℕ, ℤ, IfOk, OnOk, option_map};
 ghost use Rattle.ca_plane.specs.Generations.{cells_after};
 ghost use Rattle.ca_plane.specs.Limits.{longest_period};
 ghost use Rattle.ca_quad.specs.Boxes.{AreSquareBoxes};
 ghost use Rattle.ca_quad.specs.Trees.{cell};
 ghost use Rattle.ca_run.specs.Leaping.{LeaperGrows, EndsAtLimit};
 ghost use Rattle.ca_apgcode.specs.Objects.{IsLeastOfPhases};
-ghost use Rattle.ca_identify.specs.inner.Stages.{CanGoOn};
+ghost use Rattle.ca_identify.specs.TreeLooks.{TakesSteps};
 ghost use Rattle.ca_pattern.specs.PatternTrees.{IsNearTree};
-ghost use Rattle.ca_pattern.specs.inner.LaterTrees.{IsStart, IsLaterTree};
+ghost use Rattle.ca_pattern.specs.LaterTrees.{IsStart};
 
 use crate::boxes::box_round;
 use ca_apgcode::least_with;
-use ca_plane::{Automaton, Memory, MoveFault};
+use ca_identify::later_tree;
+use ca_plane::{Automaton, Memory};
 use ca_quad::{SquareBoxes, Store, Tree};
-use ca_run::{LeapFault, Leaper};
+use ca_run::{LeapFault, Leaper, Unwatched};
 use std::alloc::Global;
 
 /// The least text of so many phases of a pattern, if one of them fits into 40 by 40 cells.
@@ -32,6 +33,8 @@ pub(crate) fn least_of_phases<A: Automaton>(
         (cells_after (A.next_of leaper.old.rule) (cell leaper.old.nodes pattern.now)) count
         (option_map (λ text. text.items) least)) }
     ensures goes_on { LeaperGrows A leaper.old leaper.new }
+    ensures takes { TakesSteps leaper.old.spent.used leaper.new.spent.used
+        (cells_after (A.next_of leaper.old.rule) (cell leaper.old.nodes pattern.now)) (count - 1) (count - 1) }
     ensures work { EndsAtLimit leaper.new.spent result }
 {
     // Says what holds of every leaper.
@@ -40,7 +43,7 @@ pub(crate) fn least_of_phases<A: Automaton>(
     let mut now = *pattern;
     let mut least = least_up_to(alloc, leaper.store(), pattern, &mut boxes, None)?;
     'phases: for n in 0..count - 1 {
-        now = next_tree(leaper, now)?;
+        now = later_tree(leaper, now, 1, &mut Unwatched)?;
         least = least_up_to(alloc, leaper.store(), &now, &mut boxes, least)?;
         let _ = n;
     }
@@ -68,23 +71,5 @@ fn least_up_to(
             Ok(Some(least))
         }
         None => Ok(least),
-    }
-}
-
-// The tree one generation on, of the smallest level.
-fn next_tree<A: Automaton>(leaper: &mut Leaper<A>, tree: Tree) -> Result<Tree, LeapFault>
-    requires { CanGoOn (A.next_of leaper.old.rule) leaper.old.nodes tree 1 }
-    ensures later { IfOk result
-        (IsLaterTree (A.next_of leaper.old.rule) (cell leaper.old.nodes tree) 1 leaper.new.nodes) }
-    ensures goes_on { LeaperGrows A leaper.old leaper.new }
-    ensures work { EndsAtLimit leaper.new.spent result }
-{
-    // Says what holds of every leaper.
-    let _ = leaper.store();
-    let later = leaper.advance(tree, 1)?;
-    match leaper.shifted(later, 0, 0) {
-        Ok(trimmed) => Ok(trimmed),
-        Err(MoveFault::Memory) => Err(LeapFault::Memory),
-        Err(MoveFault::Range) => unreachable!(),
     }
 }

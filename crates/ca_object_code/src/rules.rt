@@ -6,7 +6,7 @@ ghost use Rattle.ca_object_code.specs.Codes.{HasCodes};
 
 use ca_rule::{Hood, Rule};
 
-/// Whether objects have codes under a rule: one of two states that counts all eight or four neighbours.
+/// Whether objects have codes under a rule: a B/S rule that counts all eight or four neighbours.
 pub fn has_codes(rule: &Rule<'_>) -> bool
     ensures { IsTrue result ↔ HasCodes (rule_value rule.now) }
 {

@@ -11,7 +11,7 @@ use Rattle.ca_plane.proofs.Numbers.{below_or_not}
 use Rattle.ca_macro.specs.Pattern.{AreInRange}
 use Rattle.ca_plane.specs.Box.{IsWithin}
 use Rattle.ca_plane.proofs.After.{after_dead}
-use Rattle.ca_pattern.specs.inner.LaterTrees.{IsWithinPlane}
+use Rattle.ca_pattern.specs.LaterTrees.{IsWithinPlane}
 use Rattle.ca_pattern.proofs.Corners.{not_above}
 
 -- cells in range lie in the square of level 61

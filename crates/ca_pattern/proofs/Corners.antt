@@ -12,7 +12,7 @@ use Rattle.ca_quad.specs.Expanded.{FitsPlane, HasCellOutsidePlane}
 use Rattle.ca_quad.specs.Shifted.{shifted_cells}
 use Rattle.ca_quad.specs.Trees.{cell}
 use Rattle.ca_pattern.specs.PatternTrees.{IsWide, HasLive, IsNoMove, IsOnlyMove}
-use Rattle.ca_pattern.specs.inner.LaterTrees.{IsWithinPlane}
+use Rattle.ca_pattern.specs.LaterTrees.{IsWithinPlane}
 use Rattle.ca_pattern.proofs.Searches.{search_within}
 
 -- cells in the square of a plane are all 0, or one is live

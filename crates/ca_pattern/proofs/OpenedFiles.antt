@@ -35,7 +35,7 @@ use Rattle.ca_pattern.specs.Means.{format_of}
 use Rattle.ca_pattern.specs.PatternCells.{IsTreeOf, IsPatternOf}
 use Rattle.ca_pattern.specs.PatternTrees.{IsPattern}
 use Rattle.ca_pattern.specs.Spending.{Takes}
-use Rattle.ca_pattern.specs.inner.LaterTrees.{IsLaterTree}
+use Rattle.ca_pattern.specs.LaterTrees.{IsLaterTree}
 use Rattle.ca_pattern.specs.Patterns.{IsReadFrom, rule_of, ShowsSmall}
 use Rattle.ca_pattern.specs.States.{HasSmallStates}
 use Rattle.ca_pattern.specs.Written.{IsSummaryOf, IsWrittenAs, AreUnwritten}
@@ -44,7 +44,7 @@ use Rattle.ca_pattern.proofs.EqualCells.{small_shown, population_shown}
 use Rattle.ca_pattern.proofs.FilesInRange.{file_in_range}
 use Rattle.ca_pattern.proofs.LaterPlanes.{picture_of}
 use Rattle.ca_pattern.proofs.OneRun.{in_range_or_out}
-use Rattle.ca_pattern.proofs.OpenedCells.{text_cells}
+use Rattle.ca_pattern.proofs.OpenedCells.{text_cells, tree_of_cells}
 use Rattle.ca_pattern.proofs.PatternsRead.{reads_may_want}
 use Rattle.ca_pattern.proofs.RleFiles.{text_holds}
 use Rattle.ca_pattern.proofs.ReadPatterns.{read_pattern, holds_ruled}
@@ -84,7 +84,7 @@ squares_opened nodes bytes tables ruled read names small =
       kind = read.loaded.kind;
       added = omega arith;
       is_pattern = record {
-        are_cells = record { is_tree = is.is_tree; low = is.low; trimmed = is.trimmed; shows = read.loaded.shows };
+        are_cells = tree_of_cells nodes ruled.pattern.tree (cell read.cells) is.is_tree is.trimmed read.loaded.shows (λ x y live. read.range x y (λ none. live (sym (read.loaded.shows x y) ∙ none)));
         small = shown;
         generation_is = tt;
         low = read.generation;
@@ -96,6 +96,10 @@ squares_opened nodes bytes tables ruled read names small =
 module _ (bytes : List ℕ) (tables : List TableRule) (first : Pattern) (is : IsPatternAfter bytes tables 0 first) where
   pub first_in_range : AreInRange (cell is.cells)
   first_in_range = file_in_range bytes is.cells is.begins.holds.rule_text is.begun is.begins.holds.holds
+
+  -- it has cells in range
+  pub first_ranges : (cells : ℤ → ℤ → ℕ) × IsPatternOf cells first × AreInRange cells
+  first_ranges = (cell is.cells, is.is_pattern, first_in_range)
 
   pub first_evolved : (n : ℕ) (later : Pattern) → IsEvolvedFrom first (cell is.cells) n later → IsPatternAfter bytes tables n later
   first_evolved n later on =
@@ -140,13 +144,19 @@ module _ (bytes : List ℕ) (tables : List TableRule) (first : Pattern) (is : Is
   unconverted target GenTooLarge h = absurd h
   unconverted target Work h = absurd h
 
+-- what is opened has cells in range
+pub opened_ranges : (bytes : List ℕ) (tables : List TableRule) (r : Result Pattern LocatedFault) → IfOk r (IsPatternAfter bytes tables 0)
+    → IfOk r (λ first. (cells : ℤ → ℤ → ℕ) × IsPatternOf cells first × AreInRange cells)
+opened_ranges bytes tables (Ok first) is = first_ranges bytes tables first is
+opened_ranges bytes tables (Err fault) is = is
+
 -- ---- trees
 
 -- the tree of a pattern in range
 pub pattern_of_tree : (cells : ℤ → ℤ → ℕ) (stored : StoredTree) → IsTreeOf cells stored → AreInRange cells → IsPattern stored.store stored.tree
 pattern_of_tree cells stored tree range = record {
   is_tree = tree.is_tree;
-  low = tree.low;
+  low = let low = tree.low in omega (arith, low);
   trimmed = tree.trimmed;
   range = range_as cells (trees.cell stored.store stored.tree) (λ x y. sym (tree.shows x y)) range;
 }

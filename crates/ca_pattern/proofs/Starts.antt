@@ -3,7 +3,7 @@ use Rattle.std.proofs.Common.{List, arith}
 use Rattle.ca_quad.specs.declared.node.Node.{Node}
 use Rattle.ca_quad.specs.declared.tree.Tree.{Tree}
 use Rattle.ca_quad.specs.Trees.{cell}
-use Rattle.ca_pattern.specs.inner.LaterTrees.{IsStart}
+use Rattle.ca_pattern.specs.LaterTrees.{IsStart}
 use Rattle.ca_pattern.specs.PatternTrees.{IsNearTree}
 use Rattle.ca_pattern.proofs.CellsNearMiddle.{held_near}
 

@@ -17,9 +17,9 @@ pub record IsEvolvedFrom (first : Pattern) (cells : ℤ → ℤ → ℕ) (n : �
   pub added : later.generation ≡ first.generation + n
 
 -- the first reason for which it isn't reached, where so much work may be done: the generation would be too large, or work is out; out of memory may
--- come before
+-- come in place of that, but not where no generation is run
 abbrev pub IsUnreachedFor : Pattern → (ℤ → ℤ → ℕ) → (n work : ℕ) → LocatedFault → Type 0
 IsUnreachedFor first cells n work GenTooLarge = generation_limit ≤ first.generation + n
 IsUnreachedFor first cells n work Work = (first.generation + n < generation_limit) × MayNeedRun work n cells
-IsUnreachedFor first cells n work Memory = Unit {0}
+IsUnreachedFor first cells n work Memory = (1 ≤ n) × (first.generation + n < generation_limit)
 IsUnreachedFor first cells n work fault = ⊥

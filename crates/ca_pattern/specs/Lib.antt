@@ -2,6 +2,7 @@ pub mod Converted
 pub mod Evolved
 pub mod Faults
 pub mod Later
+pub mod LaterTrees
 pub mod Limited
 pub mod Loaded
 pub mod LocatedFaults

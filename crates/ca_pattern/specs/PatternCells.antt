@@ -16,7 +16,7 @@ use Rattle.ca_pattern.specs.States.{HasSmallStates}
 -- the tree shows these cells in its store, at every x and y, and has the least level
 pub record IsTreeOf (cells : ℤ → ℤ → ℕ) (stored : StoredTree) : Type 0 where
   pub is_tree : trees.IsTree stored.store stored.tree
-  pub low : stored.tree.level ≤ 63
+  pub low : stored.tree.level ≤ 62
   pub trimmed : IsTrimmed stored.store stored.tree
   pub shows : (x y : ℤ) → trees.cell stored.store stored.tree x y ≡ cells x y
 

@@ -1,5 +1,4 @@
 pub mod Cells
-pub mod LaterTrees
 pub mod LifeSpans
 pub mod Ready
 pub mod Summed

@@ -1,15 +1,16 @@
 //! What is judged of cells, and the forms that they have.
 
-ghost use Rattle.std.specs.Prelude.{◌≡◌, ◌≤◌, ℕ, ℤ, IsTrue, IsFalse, IfOk, MatchOption};
+ghost use Rattle.std.specs.Prelude.{◌≡◌, ◌≤◌, ℕ, ℤ, IsTrue, IsFalse, Ok, IfOk, MatchOption};
+ghost use Rattle.ca_pattern.specs.declared.pattern.Cells.TheVariants.{Squares};
+ghost use Rattle.ca_pattern.specs.declared.pattern.StoredTree.{StoredTree};
 ghost use Rattle.ca_pattern.specs.PatternCells.{AreCells, IsTreeOf};
 ghost use Rattle.ca_rle.specs.Pattern.{packed_cell};
 ghost use Rattle.ca_quad.specs.Sound.{Grows};
-ghost use Rattle.ca_quad.specs.Trees.{IsTrimmed};
+ghost use Rattle.ca_quad.specs.Trees.{IsTrimmed, IsTree, cell};
 ghost use Rattle.ca_plane.specs.Plane.{Picture, IsLive, cell as plane_cell};
 ghost use Rattle.ca_plane.specs.Box.{IsLeastBox};
 ghost use Rattle.ca_pattern.specs.PatternTrees.{IsLowTree};
 ghost use Rattle.ca_pattern.specs.inner.Summed.{AreNearBounds, IsExtentOf};
-ghost use Rattle.ca_quad.specs.Trees.{IsTree, cell};
 ghost use Rattle.ca_macro.specs.Pattern.{AreInRange};
 ghost use Rattle.ca_plane.specs.Population.{HasFewCells, HasTooManyCells};
 ghost use Rattle.ca_pattern.specs.Written.{HasCellOutOfRange};
@@ -35,10 +36,11 @@ impl Cells<'_> {
     ///
     /// # Errors
     ///
-    /// Fails where there is no memory for the squares of a text's cells.
+    /// Fails where there is no memory for the squares of a text's cells. Those of a tree are there.
     pub fn into_squares(self, alloc: Global) -> Result<StoredTree, Memory>
         requires { (cells : ℤ → ℤ → ℕ) × AreCells self cells }
-        ensures { (cells : ℤ → ℤ → ℕ) → AreCells self.entry cells → IfOk result (IsTreeOf cells) }
+        ensures tree { (cells : ℤ → ℤ → ℕ) → AreCells self.entry cells → IfOk result (IsTreeOf cells) }
+        ensures squares { (stored : StoredTree) → self.entry ≡ Squares stored → result ≡ Ok stored }
     {
         match self {
             Cells::Text(text) => {

@@ -1,6 +1,6 @@
 //! Patterns that are taken some generations on.
 
-ghost use Rattle.std.specs.Prelude.{◌≡◌, ◌≤◌, ◌<◌, ◌+◌, ℕ, ℤ, IfOk, IfErr, MatchOption};
+ghost use Rattle.std.specs.Prelude.{◌≡◌, ◌≤◌, ◌<◌, ◌+◌, ℕ, ℤ, Ok, IfOk, IfErr, MatchOption};
 ghost use Rattle.ca_plane.specs.Limits.{generation_limit, most_generations};
 ghost use Rattle.ca_quad.specs.Trees.{cell};
 ghost use Rattle.ca_macro.specs.Pattern.{AreInRange};
@@ -10,7 +10,7 @@ ghost use Rattle.ca_pattern.specs.Limited.{AreGoodLimits};
 ghost use Rattle.ca_pattern.specs.PatternCells.{IsPatternOf};
 ghost use Rattle.ca_pattern.specs.Later.{IsEvolvedFrom, IsUnreachedFor};
 ghost use Rattle.ca_pattern.specs.Spending.{HasLimits, Takes};
-ghost use Rattle.ca_pattern.specs.inner.LaterTrees.{IsLaterTree};
+ghost use Rattle.ca_pattern.specs.LaterTrees.{IsLaterTree};
 ghost use Rattle.ca_pattern.specs.PatternTrees.{IsRun};
 
 use crate::leaper::leaper_of;
@@ -31,8 +31,8 @@ impl<'a, 't> Pattern<'a, 't> {
     ///
     /// # Errors
     ///
-    /// `GenTooLarge` where no file may name the generation; else `Work` where as much work was done as may be.
-    /// `Memory` may come before.
+    /// `GenTooLarge` where no file may name the generation; else `Work` where as much work was done as may be, or
+    /// `Memory`. Where there are no generations, there is no error.
     pub fn evolve<O: Observer>(
         self,
         alloc: Global,
@@ -45,6 +45,7 @@ impl<'a, 't> Pattern<'a, 't> {
         requires begins { (cells : ℤ → ℤ → ℕ) × IsPatternOf cells self × AreInRange cells }
         ensures evolved { (cells : ℤ → ℤ → ℕ) → IsPatternOf cells self.entry
             → IfOk result (IsEvolvedFrom self.entry cells generations) }
+        ensures none { generations ≡ 0 → result ≡ Ok self.entry }
         ensures fault { (cells : ℤ → ℤ → ℕ) → IsPatternOf cells self.entry
             → IfErr result (IsUnreachedFor self.entry cells generations limits.work) }
     {

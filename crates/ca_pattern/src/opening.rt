@@ -1,9 +1,11 @@
 //! Pattern files that are opened.
 
-ghost use Rattle.std.specs.Prelude.{◌≡◌, ◌≤◌, IfOk, IfErr};
+ghost use Rattle.std.specs.Prelude.{◌≡◌, ◌≤◌, ℕ, ℤ, IfOk, IfErr};
+ghost use Rattle.ca_macro.specs.Pattern.{AreInRange};
 ghost use Rattle.ca_pattern.specs.declared.format.Format.TheVariants.{Rle};
 ghost use Rattle.ca_pattern.specs.Evolved.{IsPatternAfter, IsReachFault};
 ghost use Rattle.ca_pattern.specs.LocatedFaults.{IsOpeningFault};
+ghost use Rattle.ca_pattern.specs.PatternCells.{IsPatternOf};
 ghost use Rattle.ca_pattern.specs.Means.{format_of};
 ghost use Rattle.ca_pattern.specs.Limited.{AreGoodLimits};
 ghost use Rattle.ca_plane.specs.Limits.{most_generations};
@@ -35,6 +37,7 @@ pub fn open_pattern<'a, 't>(
     tables: &'t [Table],
 ) -> Result<Pattern<'a, 't>, LocatedFault>
     ensures opened { IfOk result (IsPatternAfter bytes.now tables.now 0) }
+    ensures range { IfOk result (λ pattern. (cells : ℤ → ℤ → ℕ) × IsPatternOf cells pattern × AreInRange cells) }
     ensures fault { IfErr result (IsOpeningFault bytes.now tables.now) }
 {
     match format_of(bytes) {

@@ -49,7 +49,7 @@ pub enum Cells<'a> {
     Squares(StoredTree),
 }
 
-/// A tree of the smallest level, which is at most 63, and the store of its squares.
+/// A tree of the smallest level, which is at most 62, and the store of its squares.
 #[derive(Drop)]
 pub struct StoredTree {
     pub store: Store,

@@ -82,7 +82,7 @@ pub fn rule_text_of(alloc: Global, bytes: &[u8]) -> Result<Option<Vec<u8>>, Memo
 }
 
 /// Why a pattern file isn't read, and the line on which the fault stands, where it stands on one.
-#[derive(Clone, Copy)]
+#[derive(Clone, Copy, Debug)]
 pub struct BadPattern {
     pub fault: PatternFault,
     pub line: Option<u64>,

@@ -14,7 +14,7 @@ pub struct RuledPattern<'t> {
 }
 
 /// A rule text that names no rule, and what is wrong with it.
-#[derive(Drop)]
+#[derive(Debug, Drop)]
 pub struct UnnamedRule {
     pub fault: RuleFault,
     pub rule_text: Vec<u8>,

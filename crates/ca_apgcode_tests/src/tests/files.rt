@@ -3,8 +3,8 @@
 use super::expected::{expect, is_live};
 use super::objects::{OBJECTS, ORIENTATIONS, Object};
 use ca_apgcode::{Grid, ReadFault, read_representation};
-use ca_identify::{Scope, identify};
-use ca_object_code::code_of_file;
+use ca_identify::Scope;
+use ca_object_code::identify_with_code;
 use ca_pattern::Limits;
 use ca_plane::Memory;
 use ca_plane::text::{push_number, push_text};
@@ -19,12 +19,11 @@ fn has_code(alloc: Global, bytes: &[u8], limit: u64, expected: Option<&[u8]>) ->
     }
     let limits = Limits::default();
     let scope = Scope::whole(limit);
-    let Ok(look) = identify(alloc, bytes, &[], 0, limits, scope, &mut Unwatched) else {
-        return false;
-    };
-    match code_of_file(alloc, bytes, &[], limits, look) {
-        Ok(Some(code)) => expected == Some(code.as_slice()),
-        Ok(None) => expected.is_none(),
+    match identify_with_code(alloc, bytes, &[], 0, limits, scope, &mut Unwatched) {
+        Ok(found) => match found.code {
+            Some(code) => expected == Some(code.as_slice()),
+            None => expected.is_none(),
+        },
         Err(_) => false,
     }
 }

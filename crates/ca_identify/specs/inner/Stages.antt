@@ -19,12 +19,13 @@ use Rattle.ca_identify.specs.declared.identification.strides.Stride.{Stride}
 use Rattle.ca_identify.specs.declared.identification.strides.Stride.TheVariants.{On, Again, Never, Dead}
 use Rattle.ca_identify.specs.declared.identification.walk.Walk.{Walk}
 use Rattle.ca_identify.specs.declared.identity.Growth.{Growth}
-use Rattle.ca_identify.specs.Identified.{IsGrowth, run_work}
+use Rattle.ca_identify.specs.Identified.{IsGrowth}
+use Rattle.ca_identify.specs.TreeLooks.{step_work}
 use Rattle.ca_text.specs.Text.{IsShift}
 use Rattle.ca_text.specs.Truth.{IsChanged, IsNowhere}
 use Rattle.ca_pattern.specs.PatternTrees.{IsBroad, IsWide, ShowsTree, HasLive}
 use Rattle.ca_pattern.specs.inner.LifeSpans.{IsLifeSpan}
-use Rattle.ca_pattern.specs.inner.LaterTrees.{IsStart, IsLaterTree, IsWithinPlane}
+use Rattle.ca_pattern.specs.LaterTrees.{IsStart, IsLaterTree, IsWithinPlane}
 
 -- the tree of a live plane that is looked at, and the least box round its cells
 pub record IsFirst (nodes : List Node) (first : First) : Type 0 where
@@ -68,14 +69,6 @@ pub record IsLater (next : List ℕ → ℕ) (first : ℤ → ℤ → ℕ) (n : 
   pub tree : IsLaterTree next first n nodes later.tree
   pub box : IsLeastWideBox (cell nodes later.tree) later.bounds
 
--- from the tree a plane can be taken n generations on: it is no larger than it need be, and no live cell lies outside the square of a plane then
-pub record CanGoOn (next : List ℕ → ℕ) (nodes : List Node) (tree : Tree) (n : ℕ) : Type 0 where
-  pub is_tree : IsTree nodes tree
-  pub low : tree.level ≤ 64
-  pub trimmed : IsTrimmed nodes tree
-  pub few : n ≤ most_generations
-  pub near : IsWithinPlane (cells_after next (cell nodes tree) n)
-
 -- the growth is that of the tree's plane
 abbrev pub IsGrowthOf : List Node → Tree → Growth → Type 0
 IsGrowthOf nodes tree growth = (cells : Picture) × ShowsTree nodes tree cells × IsGrowth cells growth
@@ -83,14 +76,6 @@ IsGrowthOf nodes tree growth = (cells : Picture) × ShowsTree nodes tree cells �
 -- after none of the generations from 1 to n are the cells dead or the first ones, moved
 abbrev pub AreOtherUpTo : (List ℕ → ℕ) → (ℤ → ℤ → ℕ) → ℕ → Type 0
 AreOtherUpTo next first n = (m : ℕ) → 1 ≤ m → m ≤ n → IsStage first (cells_after next first m) Other
-
--- how many units of work one generation of a tree of this level takes at most: 13 fourteenths of what a run of one generation may need
-abbrev pub step_work : (level : ℕ) → ℕ
-step_work level = 13 * 14 ^ (level + 2)
-
--- from the old count of work to the new one it is at most n steps of a tree of a level that holds the live cells before each of the steps up to the limit
-abbrev pub TakesSteps : (old new : ℕ) → (stages : ℕ → ℤ → ℤ → ℕ) → (limit n : ℕ) → Type 0
-TakesSteps old new stages limit n = (level : ℕ) → 1 ≤ level → ((m : ℕ) → m < limit → HoldsAll level (stages m)) → new ≤ old + n * step_work level
 
 -- what the generations that are looked at first, one by one, may take of the work of a search, but those that are in any case; and their planes once more
 abbrev pub early_work : (limit : ℕ) → ℕ
@@ -115,15 +100,6 @@ TakesSearchFrom old new stages begun limit =
 abbrev pub TakesEarly : (old new : ℕ) → (stages : ℕ → ℤ → ℤ → ℕ) → (begun sure limit : ℕ) → Type 0
 TakesEarly old new stages begun sure limit =
     (level : ℕ) → 1 ≤ level → ((m : ℕ) → m < limit → HoldsAll level (stages m)) → new ≤ old + (sure - begun) * step_work level + early_work limit
-
--- from the old count of work to the new one it is at most a run of n generations of a tree of this level
-abbrev pub TakesRun : (old new level n : ℕ) → Type 0
-TakesRun old new level n = (digits : ℕ) → n < 2 ^ digits → new ≤ old + run_work n level digits
-
--- and then at most a search through so many generations
-abbrev pub TakesRunAndSearch : (old new start n : ℕ) → (stages : ℕ → ℤ → ℤ → ℕ) → (limit : ℕ) → Type 0
-TakesRunAndSearch old new start n stages limit = (digits level : ℕ) → n < 2 ^ digits → 1 ≤ level → ((m : ℕ) → m < limit → HoldsAll level (stages (n + m)))
-    → new ≤ old + run_work n start digits + limit * 14 ^ (level + 3)
 
 -- a live pattern is back for the first time after so many generations, by this vector
 pub record IsReturn (next : List ℕ → ℕ) (cells : Picture) (generations : ℕ) (dx dy : ℤ) : Type 0 where

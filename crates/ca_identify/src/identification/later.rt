@@ -3,15 +3,19 @@
 ghost use Rattle.std.specs.Prelude.{◌≡◌, ◌+◌, ◌≤◌, IfOk};
 ghost use Rattle.ca_quad.specs.Trees.{cell};
 ghost use Rattle.ca_run.specs.Leaping.{LeaperGrows, EndsAtLimit};
-ghost use Rattle.ca_identify.specs.inner.Stages.{CanGoOn, TakesRun, step_work};
-ghost use Rattle.ca_pattern.specs.inner.LaterTrees.{IsLaterTree};
+ghost use Rattle.ca_identify.specs.TreeLooks.{CanGoOn, TakesRun, step_work};
+ghost use Rattle.ca_pattern.specs.LaterTrees.{IsLaterTree};
 
 use ca_plane::{Automaton, MoveFault};
 use ca_quad::Tree;
 use ca_run::{LeapFault, Leaper, Watch};
 
 /// The tree so many generations on, of the smallest level. After none it is the same tree.
-pub(super) fn later_tree<A: Automaton, W: Watch>(
+///
+/// # Errors
+///
+/// Fails where there is no work or no memory left for the run.
+pub fn later_tree<A: Automaton, W: Watch>(
     leaper: &mut Leaper<A>,
     tree: Tree,
     generations: u64,

@@ -8,9 +8,9 @@ ghost use Rattle.ca_plane.specs.Limits.{longest_period};
 ghost use Rattle.ca_quad.specs.Boxes.{AreSquareBoxes};
 ghost use Rattle.ca_quad.specs.Trees.{cell};
 ghost use Rattle.ca_run.specs.Leaping.{LeaperGrows, EndsAtLimit};
-ghost use Rattle.ca_identify.specs.inner.Stages.{IsFirst, IsStage, IsWalk, IsHalted, IsEnding};
-ghost use Rattle.ca_pattern.specs.inner.LaterTrees.{IsLaterTree};
-ghost use Rattle.ca_identify.specs.inner.Stages.{TakesSteps, generations_of, step_work};
+ghost use Rattle.ca_identify.specs.inner.Stages.{IsFirst, IsStage, IsWalk, IsHalted, IsEnding, generations_of};
+ghost use Rattle.ca_pattern.specs.LaterTrees.{IsLaterTree};
+ghost use Rattle.ca_identify.specs.TreeLooks.{TakesSteps, step_work};
 ghost use Rattle.ca_pattern.specs.PatternTrees.{ShowsTree};
 
 use super::ending::Ending;

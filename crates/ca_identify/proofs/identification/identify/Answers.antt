@@ -6,7 +6,7 @@ use Rattle.ca_rule.specs.Rule.{rule_value, next_of}
 use Rattle.ca_pattern.specs.PatternTrees.{ShowsTree, IsPattern}
 use Rattle.ca_pattern.proofs.OpenedFiles.{first_in_range, pattern_of_tree}
 use Rattle.ca_identify.specs.Identified.{IsLookAfter}
-use Rattle.ca_identify.specs.inner.Stages.{TakesRunAndSearch}
+use Rattle.ca_identify.specs.TreeLooks.{TakesRunAndSearch}
 use Rattle.ca_identify.proofs.IdentifiedFiles.{file_needs}
 use Rattle.ca_identify.proofs.identification.identify.Goals as goal
 
@@ -19,7 +19,7 @@ pub look_at_plane-requires-clause-pattern : goal.look_at_plane-requires-clause-p
 look_at_plane-requires-clause-pattern g c =
     let is = c.in_ok-pattern.ensures.opened in
     let stored = c.in-Ok.field-0 in
-    let tree = c.in-Ok.ensures (plane.cell is.cells) is.is_pattern.are_cells in
+    let tree = c.in-Ok.ensures.tree (plane.cell is.cells) is.is_pattern.are_cells in
     subst (λ s. IsPattern s stored.tree) (sym c.in-Ok-leaper_of.ensures.store)
     (pattern_of_tree (plane.cell is.cells) stored tree (first_in_range c.args.bytes.now c.args.tables.now c.in_ok-pattern.pattern is))
 
@@ -27,13 +27,14 @@ pub returns-in-Ok-look_at_plane-clause-look : goal.returns-in-Ok-look_at_plane-c
 returns-in-Ok-look_at_plane-clause-look g c =
     let is = c.in_ok-pattern.ensures.opened in
     let stored = c.in-Ok.field-0 in
-    let tree = c.in-Ok.ensures (plane.cell is.cells) is.is_pattern.are_cells in
-    let shows = subst (λ s. ShowsTree s stored.tree is.cells) (sym c.in-Ok-leaper_of.ensures.store) (λ x y. sym (tree.shows x y)) in (
+    let tree = c.in-Ok.ensures.tree (plane.cell is.cells) is.is_pattern.are_cells in
+    let shows = subst (λ s. ShowsTree s stored.tree is.cells) (sym c.in-Ok-leaper_of.ensures.store) (λ x y. sym (tree.shows x y)) in
+    let (later, stands, shown, looks) = c.in-Ok-look_at_plane.ensures.look is.cells shows in (
       is.cells,
       rule_value c.in_ok-pattern.pattern.rule,
       (is.begun, is.begins),
-      subst (λ r. IsLookAfter (next_of (rule_value r)) is.cells c.args.generations c.args.scope c.in-Ok-look_at_plane.look) c.in-Ok-leaper_of.ensures.rule
-          (c.in-Ok-look_at_plane.ensures.look is.cells shows),
+      subst (λ r. IsLookAfter (next_of (rule_value r)) is.cells c.args.generations c.args.scope c.in-Ok-look_at_plane.found.look) c.in-Ok-leaper_of.ensures.rule
+          (later, stands, looks),
     )
 
 -- out of work
@@ -42,7 +43,7 @@ returns-clause-unidentified g c =
     let is = c.in_ok-pattern.ensures.opened in
     let rule = c.in_ok-pattern.pattern.rule in
     let stored = c.in-Ok.field-0 in
-    let tree = c.in-Ok.ensures (plane.cell is.cells) is.is_pattern.are_cells in
+    let tree = c.in-Ok.ensures.tree (plane.cell is.cells) is.is_pattern.are_cells in
     let n = c.args.generations in
     let limit = c.args.scope.limit in
     let leaper = c.in-Ok-leaper_of.leaper in

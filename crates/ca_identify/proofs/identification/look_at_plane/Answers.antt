@@ -1,15 +1,17 @@
 use Rattle.std.proofs.Common.{Ok, subst, ◌∙◌, arith}
-use Rattle.std.specs.Result.{IfOk}
 use Rattle.ca_plane.specs.Generations.{cells_after}
 use Rattle.ca_quad.specs.Boxes.{IsDead, IsLeastWideBox}
 use Rattle.ca_quad.specs.Trees.{cell}
 use Rattle.ca_identify.specs.declared.identity.Identity.TheVariants.{Empty}
+use Rattle.ca_identify.specs.declared.scope.TreeLook.{TreeLook}
 use Rattle.ca_identify.specs.Identified.{IsLook}
 use Rattle.ca_identify.specs.inner.Stages.{TakesSearch}
 use Rattle.ca_identify.proofs.Identities.{found_later, whole_look}
+use Rattle.ca_pattern.specs.PatternTrees.{ShowsTree}
+use Rattle.ca_pattern.proofs.LeaptTrees.{shows_stays}
 use Rattle.ca_pattern.proofs.Nearby.{later_outside}
 use Rattle.ca_identify.proofs.Stages.{run_alone, run_then_steps}
-use Rattle.ca_identify.proofs.Starts.{later_start}
+use Rattle.ca_identify.proofs.Starts.{later_start, start_stays}
 use Rattle.ca_identify.proofs.identification.look_at_plane.Goals as goal
 
 pub later_tree-requires : goal.later_tree-requires
@@ -34,17 +36,40 @@ look-requires-clause-first g c = record {
 pub returns-in_default-clause-look : goal.returns-in_default-clause-look
 returns-in_default-clause-look g c = λ cells shows.
     let next = g.A.Automaton.next_of c.args.leaper.now.rule in
-    let dead = subst (λ s. IsDead (cell s c.in_ok-start.start)) c.store-2.ensures.nodes (rw c.in_default.is at c.in_ok-bounds.ensures) in
-    found_later next (cell c.args.leaper.now.nodes c.args.pattern) cells c.args.generations c.later_tree.new.leaper.nodes c.in_ok-start.start (λ last. IsLook next last c.args.scope)
-    (Ok (record { identity = Empty; limit = c.args.scope.limit })) shows c.in_ok-start.ensures.later
-    (λ last shown. whole_look next last c.args.scope Empty c.requires.some (λ live. live.2 (shown live.0 live.1 ∙ dead live.0 live.1)))
+    let mid = c.later_tree.new.leaper.nodes in
+    let start = c.in_ok-start.start in
+    let dead = subst (λ s. IsDead (cell s start)) c.store-2.ensures.nodes (rw c.in_default.is at c.in_ok-bounds.ensures) in
+    let (later, stands, told) = found_later next (cell c.args.leaper.now.nodes c.args.pattern) cells c.args.generations mid start (λ last (found : TreeLook). ShowsTree mid found.tree last × IsLook next last c.args.scope found.look)
+    (Ok (record { tree = start; look = record { identity = Empty; limit = c.args.scope.limit } })) shows c.in_ok-start.ensures.later
+    (λ last shown. (shown, whole_look next last c.args.scope Empty c.requires.some (λ live. live.2 (shown live.0 live.1 ∙ dead live.0 live.1)))) in
+    (later, stands, told.0, told.1)
+
+pub returns-in_default-clause-start : goal.returns-in_default-clause-start
+returns-in_default-clause-start g c =
+    later_start (g.A.Automaton.next_of c.args.leaper.now.rule) (cell c.args.leaper.now.nodes c.args.pattern) c.args.generations c.later_tree.new.leaper.nodes c.in_ok-start.start
+    (g.met.A.Automaton.quiet c.args.leaper.now.rule c.store.ensures.rule) c.requires.pattern.range c.requires.few c.in_ok-start.ensures.later
 
 pub returns-clause-look : goal.returns-clause-look
 returns-clause-look g c = λ cells shows.
     let next = g.A.Automaton.next_of in
-    found_later (next c.args.leaper.now.rule) (cell c.args.leaper.now.nodes c.args.pattern) cells c.args.generations c.later_tree.new.leaper.nodes c.in_ok-start.start
-    (λ last. IsLook (next c.args.leaper.now.rule) last c.args.scope) c.look.result shows c.in_ok-start.ensures.later
-    (λ last shown. subst (λ r. IfOk c.look.result (IsLook (next r) last c.args.scope)) c.in_ok-start.ensures.goes_on.rule (c.look.ensures.look last shown))
+    let mid = c.later_tree.new.leaper.nodes in
+    let new = c.look.new.leaper.nodes in
+    let start = c.in_ok-start.start in
+    let found = c.in_ok-found.found in
+    let later = c.in_ok-start.ensures.later in
+    let (last, stands, told) = found_later (next c.args.leaper.now.rule) (cell c.args.leaper.now.nodes c.args.pattern) cells c.args.generations mid start
+    (λ last (found : TreeLook). ShowsTree new found.tree last × IsLook (next c.args.leaper.now.rule) last c.args.scope found.look) (Ok (record { tree = start; look = found })) shows later
+    (λ last shown. (
+      shows_stays mid new c.store-2.ensures.sound c.in_ok-found.ensures.goes_on.grows start last later.near.is_tree shown,
+      subst (λ r. IsLook (next r) last c.args.scope found) c.in_ok-start.ensures.goes_on.rule (c.in_ok-found.ensures.look last shown),
+    )) in
+    (last, stands, told.0, told.1)
+
+pub returns-clause-start : goal.returns-clause-start
+returns-clause-start g c =
+    start_stays c.later_tree.new.leaper.nodes c.look.new.leaper.nodes c.store-2.ensures.sound c.in_ok-found.ensures.goes_on.grows c.in_ok-start.start
+    (later_start (g.A.Automaton.next_of c.args.leaper.now.rule) (cell c.args.leaper.now.nodes c.args.pattern) c.args.generations c.later_tree.new.leaper.nodes c.in_ok-start.start
+    (g.met.A.Automaton.quiet c.args.leaper.now.rule c.store.ensures.rule) c.requires.pattern.range c.requires.few c.in_ok-start.ensures.later)
 
 pub returns-in_err-bounds-clause-takes : goal.returns-in_err-bounds-clause-takes
 returns-in_err-bounds-clause-takes g c =
@@ -54,6 +79,15 @@ pub returns-in_default-clause-takes : goal.returns-in_default-clause-takes
 returns-in_default-clause-takes g c =
     run_alone (g.A.Automaton.next_of c.args.leaper.now.rule) (cell c.args.leaper.now.nodes c.args.pattern) _ _ c.args.pattern.level c.args.generations c.args.scope.limit c.in_ok-start.ensures.takes
 
+pub returns-in_err-found-clause-takes : goal.returns-in_err-found-clause-takes
+returns-in_err-found-clause-takes g c =
+    let next = g.A.Automaton.next_of in
+    let mid = c.later_tree.new.leaper in
+    let start = c.in_ok-start.start in
+    run_then_steps (next c.args.leaper.now.rule) (cell c.args.leaper.now.nodes c.args.pattern) c.args.leaper.now.spent.used mid.spent.used c.look.new.leaper.spent.used
+    c.args.pattern.level c.args.generations c.args.scope.limit mid.nodes start c.in_ok-start.ensures.later c.in_ok-start.ensures.takes
+    (subst (λ r. TakesSearch mid.spent.used c.look.new.leaper.spent.used (cells_after (next r) (cell mid.nodes start)) c.args.scope.limit) c.in_ok-start.ensures.goes_on.rule c.look.ensures.takes)
+
 pub returns-clause-takes : goal.returns-clause-takes
 returns-clause-takes g c =
     let next = g.A.Automaton.next_of in
@@ -61,4 +95,4 @@ returns-clause-takes g c =
     let start = c.in_ok-start.start in
     run_then_steps (next c.args.leaper.now.rule) (cell c.args.leaper.now.nodes c.args.pattern) c.args.leaper.now.spent.used mid.spent.used c.look.new.leaper.spent.used
     c.args.pattern.level c.args.generations c.args.scope.limit mid.nodes start c.in_ok-start.ensures.later c.in_ok-start.ensures.takes
-    (subst (λ r. TakesSearch mid.spent.used c.look.new.leaper.spent.used (cells_after (next r) (cell mid.nodes start)) c.args.scope.limit) c.in_ok-start.ensures.goes_on.rule c.look.ensures.takes)
+    (subst (λ r. TakesSearch mid.spent.used c.look.new.leaper.spent.used (cells_after (next r) (cell mid.nodes start)) c.args.scope.limit) c.in_ok-start.ensures.goes_on.rule c.in_ok-found.ensures.takes)

@@ -1,4 +1,4 @@
-use Rattle.std.proofs.Common.{ℕ, sym, subst}
+use Rattle.std.proofs.Common.{ℕ, refl, sym, subst}
 use Rattle.ca_plane.specs.Plane as plane
 use Rattle.ca_plane.specs.Generations.{after, cells_after}
 use Rattle.ca_plane.specs.Population.{HasPopulation}
@@ -7,7 +7,9 @@ use Rattle.ca_quad.specs.Trees.{cell}
 use Rattle.ca_apgcode.specs.Objects.{IsObjectCode}
 use Rattle.ca_apgcode.specs.declared.object.Kind.TheVariants as kind
 use Rattle.ca_apgcode.proofs.Copies.{code_of_same}
-use Rattle.ca_object_code.specs.Codes.{IsCodeOf}
+use Rattle.ca_identify.specs.TreeLooks.{TakesSteps}
+use Rattle.ca_identify.proofs.Stages.{no_step}
+use Rattle.ca_object_code.specs.Codes.{IsCodeOf, steps_of}
 use Rattle.ca_object_code.proofs.Populations.{population_as}
 use Rattle.ca_object_code.proofs.code.code_of_tree.Goals as goal
 
@@ -42,3 +44,41 @@ returns-in_ok-code-in-Spaceship-clause-code g c = λ cells shows.
     subst (λ i. IsCodeOf next cells i code) (sym c.in-Spaceship.is)
     (code_of_same kind.Spaceship period (cells_after next p) (after next cells) period code (λ n x y. after_same next p (plane.cell cells) n (λ u v. sym (shows u v)) x y)
     (subst (λ number. IsObjectCode kind.Spaceship number (cells_after next p) period code) c.from-in-Spaceship.ensures c.in_ok-code-in-Spaceship.ensures.code))
+
+pub returns-in_err-code-in-StillLife-clause-takes : goal.returns-in_err-code-in-StillLife-clause-takes
+returns-in_err-code-in-StillLife-clause-takes g c =
+    let stages = cells_after (g.A.Automaton.next_of c.args.leaper.now.rule) (cell c.args.leaper.now.nodes c.args.pattern.now) in
+    subst (λ i. TakesSteps c.args.leaper.now.spent.used c.code_of_phases.new.leaper.spent.used stages (steps_of i) (steps_of i)) (sym c.in-StillLife.is) c.code_of_phases.ensures.takes
+
+pub returns-in_ok-code-in-StillLife-clause-takes : goal.returns-in_ok-code-in-StillLife-clause-takes
+returns-in_ok-code-in-StillLife-clause-takes g c =
+    let stages = cells_after (g.A.Automaton.next_of c.args.leaper.now.rule) (cell c.args.leaper.now.nodes c.args.pattern.now) in
+    subst (λ i. TakesSteps c.args.leaper.now.spent.used c.code_of_phases.new.leaper.spent.used stages (steps_of i) (steps_of i)) (sym c.in-StillLife.is) c.in_ok-code-in-StillLife.ensures.takes
+
+pub returns-in_err-code-in-Oscillator-clause-takes : goal.returns-in_err-code-in-Oscillator-clause-takes
+returns-in_err-code-in-Oscillator-clause-takes g c =
+    let stages = cells_after (g.A.Automaton.next_of c.args.leaper.now.rule) (cell c.args.leaper.now.nodes c.args.pattern.now) in
+    subst (λ i. TakesSteps c.args.leaper.now.spent.used c.code_of_phases-in-Oscillator.new.leaper.spent.used stages (steps_of i) (steps_of i)) (sym c.in-Oscillator.is) c.code_of_phases-in-Oscillator.ensures.takes
+
+pub returns-in_ok-code-in-Oscillator-clause-takes : goal.returns-in_ok-code-in-Oscillator-clause-takes
+returns-in_ok-code-in-Oscillator-clause-takes g c =
+    let stages = cells_after (g.A.Automaton.next_of c.args.leaper.now.rule) (cell c.args.leaper.now.nodes c.args.pattern.now) in
+    subst (λ i. TakesSteps c.args.leaper.now.spent.used c.code_of_phases-in-Oscillator.new.leaper.spent.used stages (steps_of i) (steps_of i)) (sym c.in-Oscillator.is) c.in_ok-code-in-Oscillator.ensures.takes
+
+pub returns-in_err-code-in-Spaceship-clause-takes : goal.returns-in_err-code-in-Spaceship-clause-takes
+returns-in_err-code-in-Spaceship-clause-takes g c =
+    let stages = cells_after (g.A.Automaton.next_of c.args.leaper.now.rule) (cell c.args.leaper.now.nodes c.args.pattern.now) in
+    subst (λ i. TakesSteps c.args.leaper.now.spent.used c.code_of_phases-in-Spaceship.new.leaper.spent.used stages (steps_of i) (steps_of i)) (sym c.in-Spaceship.is) c.code_of_phases-in-Spaceship.ensures.takes
+
+pub returns-in_ok-code-in-Spaceship-clause-takes : goal.returns-in_ok-code-in-Spaceship-clause-takes
+returns-in_ok-code-in-Spaceship-clause-takes g c =
+    let stages = cells_after (g.A.Automaton.next_of c.args.leaper.now.rule) (cell c.args.leaper.now.nodes c.args.pattern.now) in
+    subst (λ i. TakesSteps c.args.leaper.now.spent.used c.code_of_phases-in-Spaceship.new.leaper.spent.used stages (steps_of i) (steps_of i)) (sym c.in-Spaceship.is) c.in_ok-code-in-Spaceship.ensures.takes
+
+pub returns-in_err-cells-in-StillLife-clause-takes : goal.returns-in_err-cells-in-StillLife-clause-takes
+returns-in_err-cells-in-StillLife-clause-takes g c =
+    no_step _ _ (cells_after (g.A.Automaton.next_of c.args.leaper.now.rule) (cell c.args.leaper.now.nodes c.args.pattern.now)) (steps_of c.args.identity) (steps_of c.args.identity) refl
+
+pub returns-in_default-clause-takes : goal.returns-in_default-clause-takes
+returns-in_default-clause-takes g c =
+    no_step _ _ (cells_after (g.A.Automaton.next_of c.args.leaper.now.rule) (cell c.args.leaper.now.nodes c.args.pattern.now)) (steps_of c.args.identity) (steps_of c.args.identity) refl

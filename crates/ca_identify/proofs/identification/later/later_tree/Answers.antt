@@ -4,8 +4,8 @@ use Rattle.ca_quad.specs.Shifted.{shifted_cells, IsShiftRefused}
 use Rattle.ca_plane.specs.Generations.{cells_after}
 use Rattle.ca_quad.specs.Trees.{cell}
 use Rattle.ca_run.specs.Leaping.{Spent}
-use Rattle.ca_pattern.specs.inner.LaterTrees.{IsWithinPlane, IsLaterTree}
-use Rattle.ca_identify.specs.inner.Stages.{step_work}
+use Rattle.ca_pattern.specs.LaterTrees.{IsWithinPlane, IsLaterTree}
+use Rattle.ca_identify.specs.TreeLooks.{step_work}
 use Rattle.ca_pattern.proofs.Corners.{fits_near}
 use Rattle.ca_identify.proofs.Spending.{takes_one}
 use Rattle.ca_pattern.proofs.Spending.{takes_before}

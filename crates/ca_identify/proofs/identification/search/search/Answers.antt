@@ -10,8 +10,9 @@ use Rattle.ca_identify.specs.declared.identification.stage.First.{First}
 use Rattle.ca_identify.specs.declared.identity.Identity.TheVariants.{Unknown}
 use Rattle.ca_identify.specs.Identified.{IsIdentity}
 use Rattle.ca_pattern.specs.PatternTrees.{IsLowTree, HasLive}
-use Rattle.ca_identify.specs.inner.Stages.{IsWalk, IsEnding, IsGrowthOf, AreOtherUpTo, IsHalted, HasNoReturn, AreEarly, TakesSteps, TakesEarly, TakesSearchFrom, early_work, leap_work}
-use Rattle.ca_pattern.specs.inner.LaterTrees.{IsLaterTree}
+use Rattle.ca_identify.specs.inner.Stages.{IsWalk, IsEnding, IsGrowthOf, AreOtherUpTo, IsHalted, HasNoReturn, AreEarly, TakesEarly, TakesSearchFrom, early_work, leap_work}
+use Rattle.ca_identify.specs.TreeLooks.{TakesSteps}
+use Rattle.ca_pattern.specs.LaterTrees.{IsLaterTree}
 use Rattle.ca_identify.proofs.Identities.{picture_nowhere, last_live, found_none}
 use Rattle.ca_pattern.proofs.LeaptTrees.{shows_stays}
 use Rattle.ca_identify.proofs.LaterPlanes.{on_err}

@@ -9,7 +9,7 @@ use Rattle.ca_quad.proofs.Trims.{trees_stay}
 use Rattle.ca_run.specs.Leaping.{LeaperGrows}
 use Rattle.ca_run.proofs.ShownPlanes.{goes_on_again}
 use Rattle.ca_identify.specs.declared.identification.stage.First.{First}
-use Rattle.ca_pattern.specs.inner.LaterTrees.{IsLaterTree}
+use Rattle.ca_pattern.specs.LaterTrees.{IsLaterTree}
 use Rattle.ca_identify.specs.inner.Stages.{IsStage, IsWalk, IsFirstAgain, IsLastMovedFrom, AreMoved, AreMovedNowhere}
 use Rattle.ca_pattern.specs.PatternTrees.{HasLive}
 use Rattle.ca_identify.proofs.LaterPlanes.{tree_picture}

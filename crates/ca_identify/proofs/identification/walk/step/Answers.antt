@@ -6,7 +6,7 @@ use Rattle.ca_quad.proofs.Trims.{trees_stay}
 use Rattle.ca_run.specs.Leaping.{Spent}
 use Rattle.ca_run.proofs.ShownPlanes.{goes_on_again}
 use Rattle.ca_identify.proofs.Stages.{near_next, later_next, later_stays, first_stays, stage_as}
-use Rattle.ca_identify.specs.inner.Stages.{step_work}
+use Rattle.ca_identify.specs.TreeLooks.{step_work}
 use Rattle.ca_identify.proofs.identification.walk.step.Goals as goal
 
 pub later_tree-requires : goal.later_tree-requires

@@ -6,7 +6,7 @@ use Rattle.ca_rule.specs.Rule.{rule_value, next_of}
 use Rattle.ca_pattern.specs.PatternCells.{IsPatternOf}
 use Rattle.ca_pattern.specs.PatternTrees.{IsPattern}
 use Rattle.ca_pattern.specs.States.{HasSmallStates}
-use Rattle.ca_pattern.specs.inner.LaterTrees.{IsLaterTree}
+use Rattle.ca_pattern.specs.LaterTrees.{IsLaterTree}
 use Rattle.ca_pattern.proofs.EqualCells.{small_shown}
 use Rattle.ca_pattern.proofs.OpenedFiles.{pattern_of_tree, later_pattern, needs_run}
 use Rattle.ca_pattern.proofs.pattern.Pattern.evolve.Goals as goal
@@ -25,14 +25,14 @@ pub end_of-requires-clause-run : goal.end_of-requires-clause-run
 end_of-requires-clause-run g c =
     let (cells, is, range) = c.requires.begins in
     record {
-      pattern = subst (λ s. IsPattern s c.in-Ok.field-0.tree) (sym c.in-Ok-leaper_of.ensures.store) (pattern_of_tree cells c.in-Ok.field-0 (c.in-Ok.ensures cells is.are_cells) range);
+      pattern = subst (λ s. IsPattern s c.in-Ok.field-0.tree) (sym c.in-Ok-leaper_of.ensures.store) (pattern_of_tree cells c.in-Ok.field-0 (c.in-Ok.ensures.tree cells is.are_cells) range);
       few = c.requires.few;
     }
 
 pub returns-in-Ok-end_of-clause-evolved : goal.returns-in-Ok-end_of-clause-evolved
 returns-in-Ok-end_of-clause-evolved g c = λ cells is.
     let stored = c.in-Ok.field-0 in
-    let tree = c.in-Ok.ensures cells is.are_cells in
+    let tree = c.in-Ok.ensures.tree cells is.are_cells in
     let first = c.args.self in
     let leaper = c.in-Ok-leaper_of.leaper in
     let end = c.in-Ok-end_of.end in
@@ -52,6 +52,6 @@ returns-clause-fault g c = λ cells is.
     let leaper = c.in-Ok-leaper_of.leaper in
     let low = subst (λ g. g < generation_limit) c.in-Some.ensures.0 c.in-Some.ensures.1 in (
       low,
-      needs_run cells c.in-Ok.field-0 (c.in-Ok.ensures cells is.are_cells) c.args.generations leaper.spent.used c.end_of.new.leaper.spent.used c.args.limits.work
+      needs_run cells c.in-Ok.field-0 (c.in-Ok.ensures.tree cells is.are_cells) c.args.generations leaper.spent.used c.end_of.new.leaper.spent.used c.args.limits.work
           c.in-Ok-leaper_of.ensures.used (told.work c.in-Err-Work.field-0-is ∙ told.goes_on.spends.limit ∙ c.in-Ok-leaper_of.ensures.limits.work) (told.some c.in-Err-Work.field-0-is) told.takes,
     )

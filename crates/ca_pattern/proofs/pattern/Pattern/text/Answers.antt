@@ -34,5 +34,5 @@ returns-in-Ok-clause-fault c = λ cells is.
       | in_default-via-in-Text+in-Mc-1 w ↦ let e = w.cells-is in cc
       | in_default-via-in-Squares-1 w ↦ let e = w.cells-is in cc
     ] in
-    let tree = c.in-Ok.ensures cells (subst (λ s. AreCells s cells) same is.are_cells) in
+    let tree = c.in-Ok.ensures.tree cells (subst (λ s. AreCells s cells) same is.are_cells) in
     unwritten_err (cell squares.store squares.tree) cells tree.shows c.args.target c.text_of_squares.result c.text_of_squares.ensures.fault
