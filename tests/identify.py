@@ -24,6 +24,24 @@ KNOWN = {
     "examples/reactions/eater.rle": "still", "tests/files/generations/brians_brain_oscillator.rle": "oscillator 3",
 }
 
+# Patterns whose codes are known from LifeWiki's pages on them.
+CODES = {
+    "examples/block.rle": "xs4_33", "tests/files/beehive.rle": "xs6_696", "tests/files/loaf.rle": "xs7_2596", "examples/reactions/eater.rle": "xs7_178c",
+    "examples/blinker.rle": "xp2_7", "tests/files/toad.rle": "xp2_7e", "examples/pulsar.rle": "xp3_co9nas0san9oczgoldlo0oldlogz1047210127401",
+    "tests/files/pentadecathlon.rle": "xp15_4r4z4r4", "tests/files/queen_bee_shuttle.rle": "xp30_w33z8kqrqk8zzzx33", "examples/glider.rle": "xq4_153",
+    "tests/files/lwss.rle": "xq4_6frc", "tests/files/mwss.rle": "xq4_27dee6", "tests/files/hwss.rle": "xq4_27deee6",
+}
+
+# Texts of patterns that have no code: none of the three kinds, or under a rule under which nothing has one.
+CODELESS = {
+    "empty": "x = 0, y = 0\n!\n", "dies": "x = 1, y = 1\no!\n", "grows": "x = 3, y = 3\nb2o$2o$bo!\n", "hexagonal": "x = 2, y = 2, rule = B/S23H\n2o$2o!\n",
+    "three states": "x = 2, y = 2, rule = 23/3/3\n2o$2o!\n", "Generations of two states": "x = 2, y = 2, rule = 23/3/2\n2o$2o!\n",
+}
+
+# The eight turns and reflections of a place.
+ORIENTATIONS = (lambda x, y: (x, y), lambda x, y: (-y, x), lambda x, y: (-x, -y), lambda x, y: (y, -x), lambda x, y: (-x, y), lambda x, y: (x, -y),
+                lambda x, y: (y, x), lambda x, y: (-y, -x))
+
 BLOCK, EMPTY = "x = 2, y = 2\n2o$2o!\n", "x = 0, y = 0\n!\n"
 GLIDER = "x = 3, y = 3\nbob$2bo$3o!\n"
 
@@ -570,6 +588,82 @@ def try_given_rule(tally, files):
             tally.expect(f"a rule file beside a folder {' '.join(more)}", run(["identify", path, *words, *more]), whole(f"rule {given}\n{lines}"))
 
 
+def code_of(path, *words):
+    """The code that is told of a file, or None."""
+    lines = run(["identify", "--apgcode", *words, path]).printed.decode().splitlines()
+    found = [re.fullmatch(r"# .*: ((?:x[spq]|ov_)[0-9a-z_]+)", line) for line in lines[3:]]
+    return found[0][1] if len(found) == 1 and found[0] else None
+
+
+def try_codes(tally, files):
+    """Codes that are known, and no others; and without the words for them not a byte more."""
+    lines = []
+    for path, code in CODES.items():
+        told = run(["identify", path])
+        lines.append(told.printed.decode().removeprefix("claims 2\n") + f"# {base_name(path)}: {code}\n")
+        tally.expect(f"{path}: {code}", run(["identify", "--apgcode", path]), whole(lines[-1]))
+    tally.expect("all codes that are known", run(["identify", "--apgcode", *CODES]), whole("".join(lines)))
+    tally.expect("a code some generations on", run(["identify", "--apgcode", "--after", "5", "examples/glider.rle"]),
+                 whole(later_entry("glider", "examples/glider.rle", 5, "spaceship 4 1 1") + "# glider after 5 generations: xq4_153\n"))
+    for name, text in CODELESS.items():
+        path = files.path("p.rle", text)
+        tally.expect(f"no code: {name}", run(["identify", "--apgcode", path]), run(["identify", path]))
+    tally.expect("no code under a table", run(["identify", "--apgcode", "--rules", "examples/rules", "examples/tables/spread.rle"]),
+                 run(["identify", "--rules", "examples/rules", "examples/tables/spread.rle"]))
+
+
+def try_copies(tally, files):
+    """Phases of objects, turned, reflected and moved, have one code; so have random pictures of three still lifes and oscillators."""
+    generator = random.Random(7)
+    soups = {f"three objects, {k}": place_all(generator) for k in range(12)}
+    known = {path: rle.cells_and_rule(open(os.path.join(ROOT, path), encoding="utf-8").read())[0] for path in CODES}
+    for name, cells in {**known, **soups}.items():
+        path = files.path("first.rle", text_of(cells))
+        code = code_of(path)
+        complaints = [] if code and (name not in CODES or code == CODES[name]) else [f"{code}"]
+        for turn in ORIENTATIONS:
+            dx, dy = generator.randrange(-10 ** 9, 10 ** 9), generator.randrange(-10 ** 9, 10 ** 9)
+            moved = files.path("moved.rle", text_of({turn(x, y): state for (x, y), state in cells.items()}, dx, dy))
+            got = code_of(moved, "--after", str(generator.randrange(60)))
+            if got != code:
+                complaints.append(f"{got}, wanted {code}")
+        tally.tell(f"one code of {name}", complaints)
+
+
+def place_all(generator):
+    """Some of the smallest known patterns beside each other, which don't meet."""
+    cells = {}
+    for column, path in enumerate(generator.sample([it for it in CODES if CODES[it][1] in "sp" and len(CODES[it]) < 9], 3)):
+        own, down = rle.cells_and_rule(open(os.path.join(ROOT, path), encoding="utf-8").read())[0], generator.randrange(20)
+        cells |= {(x + 12 * column, y + down): state for (x, y), state in own.items()}
+    return cells
+
+
+def text_of(cells, dx=0, dy=0):
+    """An RLE of cells of two states, moved."""
+    left, top = min(x for x, _ in cells), min(y for _, y in cells)
+    rows = {}
+    for x, y in cells:
+        rows.setdefault(y - top, set()).add(x - left)
+    body = "$".join("".join("o" if x in rows.get(y, ()) else "b" for x in range(max(rows.get(y, {0})) + 1)) for y in range(max(rows) + 1))
+    return f"#CXRLE Pos={left + dx},{top + dy}\nx = 0, y = 0, rule = B3/S23\n{body}!\n"
+
+
+def try_work_of_codes(tally, files):
+    """Work that lasts for the claim and not for the code refuses the file, where a period is found without a look at each of its generations."""
+    path = "tests/files/period_840.rle"
+    low, high = 1, 1 << 24
+    while low < high:
+        middle = (low + high) // 2
+        if run(["identify", "--work", str(middle), path]).status == 0:
+            high = middle
+        else:
+            low = middle + 1
+    tally.expect("work for the claim", run(["identify", "--work", str(low), path]), whole(entry("period_840", path, "oscillator 840")))
+    tally.expect("work for the claim and not for the code", run(["identify", "--apgcode", "--work", str(low), path]),
+                 whole(f"# period_840: {path}: work\n", status=2))
+
+
 def try_many(tally, files):
     """1100 files of one name, of which the last 200 have rules of their own; a text of more than a million bytes; and the time that many files of one name take."""
     os.mkdir(os.path.join(files.folder, "rules"))
@@ -598,7 +692,7 @@ def main():
     try_true_claims(tally)
     try_limits(tally)
     for trial in (try_squares, try_patience, try_growth, try_many_squares, try_long_periods, try_late_returns, try_after, try_all, try_names, try_odd_paths,
-                  try_refused, try_rules, try_given_rule, try_many):
+                  try_refused, try_rules, try_given_rule, try_codes, try_copies, try_work_of_codes, try_many):
         with tempfile.TemporaryDirectory() as folder:
             trial(tally, Folder(folder))
     tally.finish()

@@ -1,6 +1,6 @@
 -- What the text of entries says.
-use Rattle.std.proofs.Common.{◌≡◌, ℕ, ◌+◌, true, false, List, [], ◌∷◌, ◌++◌, map, Option, None, Some, codes, decimal, nat_eq, refl, ap, sym, ◌∙◌, inl, inr, subst, arith}
-use Rattle.std.specs.Prelude.{IsSome}
+use Rattle.std.proofs.Common.{◌≡◌, ℕ, ◌+◌, Bool, true, false, List, [], ◌∷◌, ◌++◌, map, Option, None, Some, Vec, Global, codes, decimal, nat_eq, refl, ap, sym, ◌∙◌, inl, inr, subst, arith}
+use Rattle.std.specs.Prelude.{IsSome, option_map}
 use Rattle.std.specs.Fmt.{signed_decimal}
 use Rattle.std.specs.List.{flat_map, list_any}
 use Rattle.std.specs.Option.{option_or}
@@ -12,12 +12,12 @@ use Rattle.ca_plane.specs.Bytes.{Every, IsWord, lines_of}
 use Rattle.ca_plane.specs.Plane.{Picture}
 use Rattle.ca_plane.proofs.Decimals.{decimal_writes, signed_writes}
 use Rattle.ca_plane.proofs.Fronts.{every_append}
+use Rattle.ca_rule.specs.Rule.{next_of}
 use Rattle.ca_rule.specs.TableNext.{TableRule}
 use Rattle.ca_text.specs.declared.line.Kind.TheVariants as kind
 use Rattle.ca_pattern.specs.declared.file.File.{File}
 use Rattle.ca_identify.specs.declared.identity.Identity.{Identity}
 use Rattle.ca_identify.specs.declared.identity.Growth.{Growth}
-use Rattle.ca_identify.specs.declared.scope.Scope.{Scope}
 use Rattle.ca_pattern.specs.declared.cause.Cause.{Cause}
 use Rattle.ca_pattern.specs.declared.cause.Cause.TheVariants as causes
 use Rattle.ca_identify.specs.declared.identity.Identity.TheVariants.{Empty, StillLife, Oscillator, Spaceship, Dies, Unknown}
@@ -33,16 +33,18 @@ use Rattle.ca_catalog.specs.declared.entry.Outcome.{Outcome}
 use Rattle.ca_catalog.specs.declared.entry.Outcome.TheVariants as outcomes
 use Rattle.ca_catalog.specs.declared.entry.Outcome.TheVariants.{Unnameable, Identified, Refused}
 use Rattle.ca_catalog.specs.declared.entry.Entry.{Entry}
+use Rattle.ca_catalog.specs.declared.task.Task.{Task}
 use Rattle.ca_report.specs.Escaped.{escaped}
 use Rattle.ca_report.specs.FaultTexts.{cause_text}
 use Rattle.ca_report.specs.FileLines.{at_line}
 use Rattle.ca_report.specs.Counts.{generations_word, side_length}
 use Rattle.ca_catalog.specs.Names.{is_claim_path, is_taken}
-use Rattle.ca_catalog.specs.Catalog.{cells_word, growth_text, none_text, later_text, later_line, found_line, refused_line, identity_line, entry_lines, outcome_lines, rule_line, version_line, catalog_head, catalog_text, IsContentOutcome, IsEntry, AreEntries}
+use Rattle.ca_catalog.specs.Catalog.{cells_word, growth_text, none_text, later_text, later_head, later_line, found_line, code_line, code_lines, identified_lines, IsAskedCode, refused_line, identity_line, entry_lines, outcome_lines, rule_line, version_line, catalog_head, catalog_text, IsContentOutcome, IsEntry, AreEntries}
 use Rattle.ca_catalog.specs.CatalogSays.{claim_line, identity_says, found_says, outcome_says, entry_says, AreRuleWords, SaysItsClaims}
 use Rattle.ca_catalog.proofs.Saying.{is_inner, TextSays, says_none, says_then, says_words, says_comment, line_end, line_more}
 use Rattle.ca_catalog.proofs.NameWords.{word_by_test, path_word, free_word, digits_word, integer_word, decimal_inner, signed_inner, escaped_inner}
 use Rattle.ca_catalog.proofs.CauseLines.{cause_inner, at_inner}
+use Rattle.ca_catalog.proofs.CodeLines.{code_inner}
 use Rattle.ca_report.proofs.OneMore.{any_more}
 
 -- the words on a pattern of which no claim is true are on one line
@@ -115,11 +117,34 @@ later_inner n limit (Spaceship period dx dy) =
 later_inner n limit (Dies generations) = inner_then (codes "dies ") (decimal generations) refl (decimal_inner generations)
 later_inner n limit (Unknown growth) = none_inner limit (n + limit) growth
 
--- so the line on it says nothing
-later_said : (n limit : ℕ) (earlier : List ClaimTextLine) (name : List ℕ) (identity : Identity) → IsWord name → TextSays earlier (later_line n limit name identity) []
-later_said n limit earlier name identity word =
-    says_comment earlier _ (line_more (escaped name) _ (escaped_inner name) (line_more (codes " after " ++ decimal n) _ (inner_then (codes " after ") (decimal n) refl (decimal_inner n))
-    (line_more (generations_word n) _ (generations_inner n) (line_more (codes ": ") _ refl (line_more (later_text n limit identity) _ (later_inner n limit identity) line_end)))))
+-- how a comment on it begins is on one line, and so the whole of it says nothing
+later_comment_said : (n : ℕ) (earlier : List ClaimTextLine) (name text : List ℕ) → Every is_inner text → TextSays earlier (later_head n name ++ (text ++ 10 ∷ [])) []
+later_comment_said n earlier name text inner =
+    let word = generations_word n ++ codes ": " in
+    let after = (codes " after " ++ decimal n) ++ word in
+    says_comment earlier _ (line_more (escaped name ++ after) _
+    (inner_then (escaped name) after (escaped_inner name)
+    (inner_then (codes " after " ++ decimal n) word (inner_then (codes " after ") (decimal n) refl (decimal_inner n)) (inner_then (generations_word n) (codes ": ") (generations_inner n) refl)))
+    (line_more text _ inner line_end))
+
+later_said : (n limit : ℕ) (earlier : List ClaimTextLine) (name : List ℕ) (identity : Identity) → TextSays earlier (later_line n limit name identity) []
+later_said n limit earlier name identity = later_comment_said n earlier name (later_text n limit identity) (later_inner n limit identity)
+
+-- nor does the comment with a code
+code_said : (n : ℕ) (earlier : List ClaimTextLine) (name code : List ℕ) → Every is_inner code → TextSays earlier (code_line n name code) []
+code_said n earlier name code inner = elim (cases_Bool (nat_eq n 0)) [
+  | inl e ↦ rw e (says_comment earlier _ (line_more (escaped name) _ (escaped_inner name) (line_more (codes ": ") _ refl (line_more code _ inner line_end))))
+  | inr e ↦ rw e (later_comment_said n earlier name code inner)
+]
+
+codes_said : (codes : Bool) (n : ℕ) (earlier : List ClaimTextLine) (name bytes : List ℕ) (tables : List TableRule) (identity : Identity) (code : Option (Vec ℕ Global))
+    → IsAskedCode codes bytes tables n identity (option_map (λ (text : Vec ℕ Global). text.items) code) → TextSays earlier (code_lines n name code) []
+codes_said codes n earlier name bytes tables identity None is = says_none earlier
+codes_said true n earlier name bytes tables identity (Some code) (cells, rule, holds, (later, stands, is)) = code_said n earlier name code.items (code_inner (next_of rule) later identity code.items is.1)
+codes_said false n earlier name bytes tables identity (Some code) is = absurd (some_or_none code.items is)
+  where
+    some_or_none : (text : List ℕ) → Some text ≡ None → ⊥
+    some_or_none text e = cc
 
 -- the line on what is found says the claim where it is found of the pattern itself
 found_said : (next : List ℕ → ℕ) (cells : Picture) (n limit : ℕ) (earlier : List ClaimTextLine) (name : List ℕ) (identity : Identity)
@@ -127,7 +152,7 @@ found_said : (next : List ℕ → ℕ) (cells : Picture) (n limit : ℕ) (earlie
     → TextSays earlier (found_line n limit name identity) (found_says n name identity)
 found_said next cells n limit earlier name identity is word loaded second = elim (cases_Bool (nat_eq n 0)) [
   | inl e ↦ rw e (identity_said next cells limit earlier name identity is word loaded second)
-  | inr e ↦ rw e (later_said n limit earlier name identity word)
+  | inr e ↦ rw e (later_said n limit earlier name identity)
 ]
 
 -- a name that is loaded
@@ -151,18 +176,22 @@ refused_said earlier name path cause line word fits =
     (line_more (cause_text cause) _ (cause_inner cause) (line_more (at_line line) _ (at_inner line) line_end))))))
 
 -- the lines on a file say its name and its claim, after lines that begin with the version and don't load the name
-outcome_said : (tables : List TableRule) (work n : ℕ) (scope : Scope) (earlier : List ClaimTextLine) (name path : List ℕ) (content : Content) (outcome : Outcome)
-    → is_claim_path path ≡ true → IsContentOutcome tables work n scope content outcome → IsWord name → path_of earlier name ≡ None → is_second earlier ≡ true
-    → TextSays earlier (outcome_lines n name path outcome) (outcome_says n name path outcome)
-outcome_said tables work n scope earlier name path content Unnameable fits is word free second = absurd is
-outcome_said tables work n scope earlier name path content (Refused why) fits is word free second = refused_said earlier name path why.fault why.line word fits
-outcome_said tables work n scope earlier name path content (outcomes.FaultyRule rule) fits is word free second = refused_said earlier name path (causes.BadTable rule.fault) None word fits
-outcome_said tables work n scope earlier name path (Missing cause) (Identified look) fits is word free second = absurd is
-outcome_said tables work n scope earlier name path (FaultyRule rule) (Identified look) fits is word free second = absurd is
-outcome_said tables work n scope earlier name path (Bytes bytes) (Identified look) fits (cells, rule, holds, (later, stands, is)) word free second =
-    says_then earlier _ _ (Load name path ∷ []) (found_says n name look.identity)
-    (says_words earlier (codes "load" ∷ name ∷ path ∷ []) (Load name path) (refl, (word, (path_word path fits, tt))) refl refl free)
-    (found_said _ later n look.limit (earlier ++ Load name path ∷ []) name look.identity is.identity word (loaded_now earlier name path free) (second_stays earlier (Load name path ∷ []) second))
+outcome_said : (tables : List TableRule) (task : Task) (earlier : List ClaimTextLine) (name path : List ℕ) (content : Content) (outcome : Outcome)
+    → is_claim_path path ≡ true → IsContentOutcome tables task content outcome → IsWord name → path_of earlier name ≡ None → is_second earlier ≡ true
+    → TextSays earlier (outcome_lines task.generations name path outcome) (outcome_says task.generations name path outcome)
+outcome_said tables task earlier name path content Unnameable fits is word free second = absurd is
+outcome_said tables task earlier name path content (Refused why) fits is word free second = refused_said earlier name path why.fault why.line word fits
+outcome_said tables task earlier name path content (outcomes.FaultyRule rule) fits is word free second = refused_said earlier name path (causes.BadTable rule.fault) None word fits
+outcome_said tables task earlier name path (Missing cause) (Identified found) fits is word free second = absurd is
+outcome_said tables task earlier name path (FaultyRule rule) (Identified found) fits is word free second = absurd is
+outcome_said tables task earlier name path (Bytes bytes) (Identified found) fits ((cells, rule, holds, (later, stands, is)), code) word free second =
+    let n = task.generations in
+    let load = Load name path ∷ [] in
+    let loaded = says_words earlier (codes "load" ∷ name ∷ path ∷ []) (Load name path) (refl, (word, (path_word path fits, tt))) refl refl free in
+    let claim = found_said _ later n found.look.limit (earlier ++ load) name found.look.identity is.identity word (loaded_now earlier name path free) (second_stays earlier load second) in
+    let says = found_says n name found.look.identity in
+    let lines = says_then (earlier ++ load) _ (code_lines n name found.code) says [] claim (codes_said task.codes n ((earlier ++ load) ++ says) name bytes.now tables found.look.identity found.code code) in
+    subst (λ l. TextSays earlier (identified_lines n name path found) (Load name path ∷ l)) (append-nil says) (says_then earlier _ _ load (says ++ []) loaded lines)
 
 -- the comment on a file that can't be named says nothing
 unnameable_said : (n : ℕ) (earlier : List ClaimTextLine) (name path : List ℕ) (outcome : Outcome) → outcome ≡ Unnameable → IsWord name
@@ -172,13 +201,13 @@ unnameable_said n earlier name path outcome e word =
     (says_comment earlier _ (line_more (escaped name) _ (escaped_inner name) (line_more (codes ": ") _ refl (line_more (escaped path) _ (escaped_inner path)
     (line_more (codes ": no claim text can name this path") _ refl line_end)))))
 
-entry_said : (tables : List TableRule) (work n : ℕ) (scope : Scope) (taken : List (List ℕ)) (earlier : List ClaimTextLine) (subject : Subject) (entry : Entry) → IsEntry tables work n scope taken subject entry
-    → path_of earlier entry.name.items ≡ None → is_second earlier ≡ true → TextSays earlier (entry_lines n entry) (entry_says n entry)
-entry_said tables work n scope taken earlier subject entry is free second =
+entry_said : (tables : List TableRule) (task : Task) (taken : List (List ℕ)) (earlier : List ClaimTextLine) (subject : Subject) (entry : Entry) → IsEntry tables task taken subject entry
+    → path_of earlier entry.name.items ≡ None → is_second earlier ≡ true → TextSays earlier (entry_lines task.generations entry) (entry_says task.generations entry)
+entry_said tables task taken earlier subject entry is free second =
     let word = free_word taken subject.path.now entry.name.items is.name in
     elim is.outcome [
-      | inl (none, e) ↦ unnameable_said n earlier entry.name.items entry.path.now entry.outcome e word
-      | inr (fits, of) ↦ outcome_said tables work n scope earlier entry.name.items entry.path.now subject.content entry.outcome (ap is_claim_path is.path ∙ fits) of word free second
+      | inl (none, e) ↦ unnameable_said task.generations earlier entry.name.items entry.path.now entry.outcome e word
+      | inr (fits, of) ↦ outcome_said tables task earlier entry.name.items entry.path.now subject.content entry.outcome (ap is_claim_path is.path ∙ fits) of word free second
     ]
 
 -- equal bytes are so in either order
@@ -205,7 +234,7 @@ no_other : (n : ℕ) (name path other : List ℕ) (outcome : Outcome) → bytes_
 no_other n name path other Unnameable h = refl
 no_other n name path other (Refused why) h = refl
 no_other n name path other (outcomes.FaultyRule rule) h = refl
-no_other n name path other (Identified look) h = rw h (found_loads n name other look.identity)
+no_other n name path other (Identified found) h = rw h (found_loads n name other found.look.identity)
 
 -- a name that is none of those taken and of one more
 free_after : (taken : List (List ℕ)) (name other : List ℕ) → is_taken (taken ++ name ∷ []) other ≡ false → (is_taken taken other ≡ false) × (bytes_eq other name ≡ false)
@@ -214,21 +243,21 @@ free_after taken name other h =
     (parts.0, (or_parts (bytes_eq other name) false parts.1).0)
 
 -- the text of entries says their names and claims, after lines that begin with the version and load none of their names
-entries_said : (tables : List TableRule) (work n : ℕ) (scope : Scope) (taken : List (List ℕ)) (earlier : List ClaimTextLine) (subjects : List Subject) (entries : List Entry)
-    → AreEntries tables work n scope taken subjects entries → ((name : List ℕ) → is_taken taken name ≡ false → path_of earlier name ≡ None)
-    → is_second earlier ≡ true → TextSays earlier (flat_map (entry_lines n) entries) (flat_map (entry_says n) entries)
-entries_said tables work n scope taken earlier [] [] all free second = says_none earlier
-entries_said tables work n scope taken earlier [] (e ∷ es) all free second = absurd all
-entries_said tables work n scope taken earlier (s ∷ ss) [] all free second = absurd all
-entries_said tables work n scope taken earlier (s ∷ ss) (e ∷ es) all free second =
-    let one = entry_said tables work n scope taken earlier s e all.0 (free e.name.items all.0.name.new) second in
-    says_then earlier _ _ (entry_says n e) (flat_map (entry_says n) es) one
-    (entries_said tables work n scope (taken ++ e.name.items ∷ []) (earlier ++ entry_says n e) ss es all.1
+entries_said : (tables : List TableRule) (task : Task) (taken : List (List ℕ)) (earlier : List ClaimTextLine) (subjects : List Subject) (entries : List Entry)
+    → AreEntries tables task taken subjects entries → ((name : List ℕ) → is_taken taken name ≡ false → path_of earlier name ≡ None)
+    → is_second earlier ≡ true → TextSays earlier (flat_map (entry_lines task.generations) entries) (flat_map (entry_says task.generations) entries)
+entries_said tables task taken earlier [] [] all free second = says_none earlier
+entries_said tables task taken earlier [] (e ∷ es) all free second = absurd all
+entries_said tables task taken earlier (s ∷ ss) [] all free second = absurd all
+entries_said tables task taken earlier (s ∷ ss) (e ∷ es) all free second =
+    let one = entry_said tables task taken earlier s e all.0 (free e.name.items all.0.name.new) second in
+    says_then earlier _ _ (entry_says task.generations e) (flat_map (entry_says task.generations) es) one
+    (entries_said tables task (taken ++ e.name.items ∷ []) (earlier ++ entry_says task.generations e) ss es all.1
     (λ name new.
     let parts = free_after taken e.name.items name new in
-    path_of-append earlier (entry_says n e) name ∙ ap (λ p. option_or p (path_of (entry_says n e) name)) (free name parts.0)
-    ∙ no_other n e.name.items e.path.now name e.outcome (other_way name e.name.items parts.1))
-    (second_stays earlier (entry_says n e) second))
+    path_of-append earlier (entry_says task.generations e) name ∙ ap (λ p. option_or p (path_of (entry_says task.generations e) name)) (free name parts.0)
+    ∙ no_other task.generations e.name.items e.path.now name e.outcome (other_way name e.name.items parts.1))
+    (second_stays earlier (entry_says task.generations e) second))
 
 -- what the lines of rule files say
 abbrev rules_say : List File → List ClaimTextLine
@@ -251,12 +280,12 @@ version_said = says_words [] (codes "claims" ∷ codes "2" ∷ []) Version (refl
 
 -- the whole text says all that
 pub catalog_said : SaysItsClaims
-catalog_said subjects rules work n scope text entries words catalog =
+catalog_said subjects rules task text entries words catalog =
     let version = Version ∷ [] in
     let before = version ++ rules_say rules in
     let head = says_then [] version_line (flat_map rule_line rules) version (rules_say rules) version_said (rules_said version rules words) in
-    let all = says_then [] (catalog_head rules) (flat_map (entry_lines n) entries) before (flat_map (entry_says n) entries) head
-    (entries_said catalog.tables work n scope [] before subjects entries catalog.holds (λ name new. rules_load rules name) refl) in
+    let all = says_then [] (catalog_head rules) (flat_map (entry_lines task.generations) entries) before (flat_map (entry_says task.generations) entries) head
+    (entries_said catalog.tables task [] before subjects entries catalog.holds (λ name new. rules_load rules name) refl) in
     let here : lines_of text ≡ all.lines =
-    ap lines_of catalog.lines ∙ ap lines_of (sym (append-nil (catalog_text n rules entries))) ∙ all.split [] ∙ append-nil all.lines in
+    ap lines_of catalog.lines ∙ ap lines_of (sym (append-nil (catalog_text task.generations rules entries))) ∙ all.split [] ∙ append-nil all.lines in
     record { said = all.said; reads = subst (λ ls. ClaimLinesSay [] ls all.said) (sym here) all.good; says = all.all }

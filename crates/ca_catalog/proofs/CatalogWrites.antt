@@ -6,26 +6,26 @@ use Rattle.ca_plane.specs.Device.{Counted, Rises, AppendsPrefix}
 use Rattle.ca_plane.proofs.Sends.{sent_both, prefix_of_second}
 use Rattle.ca_rule.specs.TableNext.{TableRule}
 use Rattle.ca_pattern.specs.declared.file.File.{File}
-use Rattle.ca_identify.specs.declared.scope.Scope.{Scope}
 use Rattle.ca_catalog.specs.declared.entry.Entry.{Entry}
 use Rattle.ca_catalog.specs.declared.entry.Subject.{Subject}
 use Rattle.ca_report.specs.declared.fault.ToolFault.{ToolFault}
 use Rattle.ca_report.specs.declared.fault.ToolFault.TheVariants as tools
 use Rattle.ca_catalog.specs.declared.identification_run.Search.{Search}
+use Rattle.ca_catalog.specs.declared.task.Task.{Task}
 use Rattle.ca_catalog.specs.Catalog.{catalog_head, AreRuleTables, IsCatalog, WritesCatalog, EndsCatalog}
 use Rattle.ca_catalog.specs.WrittenOn.{WritesOn, WritesPartOn}
 use Rattle.ca_catalog.specs.inner.Searches.{AreLines, EndsLines}
 
 -- they are a claim text
 catalog_of : (rules : List File) (search : Search) (subjects : List Subject) (text : List ℕ) (entries : List Entry) → AreRuleTables rules search.tables.now
-    → AreLines search subjects text entries → IsCatalog rules search.limits.work search.generations search.scope subjects (catalog_head rules ++ text) entries
+    → AreLines search subjects text entries → IsCatalog rules search.task subjects (catalog_head rules ++ text) entries
 catalog_of rules search subjects text entries known are =
     record { tables = search.tables.now; known = known; holds = are.holds; lines = ap (λ l. catalog_head rules ++ l) are.lines }
 
 -- the head was written, and then the lines were
 pub writes_catalog : {W : Type 0} (contents : W → Option (List ℕ)) (old mid new : Counted W) (rules : List File) (search : Search) (subjects : List Subject) (entries : List Entry)
     → AreRuleTables rules search.tables.now → Appends (contents old.inner) (contents mid.inner) (catalog_head rules) → mid.failures ≡ old.failures
-    → WritesOn contents mid new (AreLines search) subjects entries → WritesCatalog contents old new rules search.limits.work search.generations search.scope subjects entries
+    → WritesOn contents mid new (AreLines search) subjects entries → WritesCatalog contents old new rules search.task subjects entries
 writes_catalog contents old mid new rules search subjects entries known sent kept writes = record {
   text = catalog_head rules ++ writes.text;
   is = catalog_of rules search subjects writes.text entries known writes.is;
@@ -36,7 +36,7 @@ writes_catalog contents old mid new rules search subjects entries known sent kep
 -- or not all of them
 pub ends_catalog : {W : Type 0} (contents : W → Option (List ℕ)) (old mid new : Counted W) (rules : List File) (search : Search) (subjects : List Subject) (fault : ToolFault)
     → AreRuleTables rules search.tables.now → Appends (contents old.inner) (contents mid.inner) (catalog_head rules) → mid.failures ≡ old.failures
-    → EndsLines contents mid new search subjects fault → EndsCatalog contents old new rules search.limits.work search.generations search.scope subjects fault
+    → EndsLines contents mid new search subjects fault → EndsCatalog contents old new rules search.task subjects fault
 ends_catalog contents old mid new rules search subjects tools.Write known sent kept ends = record {
   count = ends.count;
   told = ends.told;
@@ -60,10 +60,10 @@ ends_catalog contents old mid new rules search subjects tools.Range known sent k
 ends_catalog contents old mid new rules search subjects (tools.Window fault) known sent kept ends = absurd ends
 
 -- the head alone is the text on no file
-pub head_in_part : {W : Type 0} (contents : W → Option (List ℕ)) (old new : Counted W) (rules : List File) (tables : List TableRule) (work n : ℕ) (scope : Scope) (subjects : List Subject)
+pub head_in_part : {W : Type 0} (contents : W → Option (List ℕ)) (old new : Counted W) (rules : List File) (tables : List TableRule) (task : Task) (subjects : List Subject)
     → AreRuleTables rules tables → AppendsPrefix (contents old.inner) (contents new.inner) (catalog_head rules) → Rises old.failures new.failures
-    → WritesPartOn contents old new (IsCatalog rules work n scope) subjects
-head_in_part contents old new rules tables work n scope subjects known front counted = record {
+    → WritesPartOn contents old new (IsCatalog rules task) subjects
+head_in_part contents old new rules tables task subjects known front counted = record {
   count = 0;
   told = [];
   text = catalog_head rules;

@@ -9,7 +9,7 @@ use Rattle.std.proofs.lemmas.List.Concat.{flat_map-append}
 use Rattle.ca_plane.specs.Device.{AppendsPrefix}
 use Rattle.ca_plane.proofs.Sends.{sent_both, prefix_of_second}
 use Rattle.ca_rule.specs.TableNext.{TableRule}
-use Rattle.ca_identify.specs.declared.scope.Scope.{Scope}
+use Rattle.ca_catalog.specs.declared.task.Task.{Task}
 use Rattle.ca_plane.specs.Limits.{longest_period, most_generations}
 use Rattle.ca_catalog.specs.declared.entry.Content.{Content}
 use Rattle.ca_catalog.specs.declared.entry.Content.TheVariants.{Bytes, Missing, FaultyRule}
@@ -26,16 +26,16 @@ abbrev pub names_of : List Entry → List (List ℕ)
 names_of entries = map (λ (entry : Entry). entry.name.items) entries
 
 -- one entry more
-pub entries_more : (tables : List TableRule) (work n : ℕ) (scope : Scope) (taken : List (List ℕ)) (subjects : List Subject) (entries : List Entry) (subject : Subject) (entry : Entry)
-    → AreEntries tables work n scope taken subjects entries → IsEntry tables work n scope (taken ++ names_of entries) subject entry
-    → AreEntries tables work n scope taken (subjects ++ subject ∷ []) (entries ++ entry ∷ [])
-entries_more tables work n scope taken [] [] subject entry all one = (subst (λ names. IsEntry tables work n scope names subject entry) (append-nil taken) one, tt)
-entries_more tables work n scope taken [] (e ∷ es) subject entry all one = absurd all
-entries_more tables work n scope taken (s ∷ ss) [] subject entry all one = absurd all
-entries_more tables work n scope taken (s ∷ ss) (e ∷ es) subject entry all one = (
+pub entries_more : (tables : List TableRule) (task : Task) (taken : List (List ℕ)) (subjects : List Subject) (entries : List Entry) (subject : Subject) (entry : Entry)
+    → AreEntries tables task taken subjects entries → IsEntry tables task (taken ++ names_of entries) subject entry
+    → AreEntries tables task taken (subjects ++ subject ∷ []) (entries ++ entry ∷ [])
+entries_more tables task taken [] [] subject entry all one = (subst (λ names. IsEntry tables task names subject entry) (append-nil taken) one, tt)
+entries_more tables task taken [] (e ∷ es) subject entry all one = absurd all
+entries_more tables task taken (s ∷ ss) [] subject entry all one = absurd all
+entries_more tables task taken (s ∷ ss) (e ∷ es) subject entry all one = (
   all.0,
-  entries_more tables work n scope (taken ++ e.name.items ∷ []) ss es subject entry all.1
-      (subst (λ names. IsEntry tables work n scope names subject entry) (sym (append_assoc taken (e.name.items ∷ []) (names_of es))) one),
+  entries_more tables task (taken ++ e.name.items ∷ []) ss es subject entry all.1
+      (subst (λ names. IsEntry tables task names subject entry) (sym (append_assoc taken (e.name.items ∷ []) (names_of es))) one),
 )
 
 -- the first elements and the next one
@@ -43,14 +43,14 @@ take-more : {X : Type 0} (xs : List X) (i : ℕ) (x : X) → slice_get xs i ≡ 
 take-more xs i x e = rw (add-one, take-suc xs i x (slice_get_within xs i x e)) (ap (λ y. take i xs ++ y ∷ []) (get_or_from_slice_get xs i x x e))
 
 -- one file more was gone through
-pub entries_next : (tables : List TableRule) (work n : ℕ) (scope : Scope) (subjects : List Subject) (i : ℕ) (subject : Subject) (entries next : List Entry) (entry : Entry) (names new : List (List ℕ))
-    → names ≡ names_of entries → AreEntries tables work n scope [] (take i subjects) entries → slice_get subjects i ≡ Some subject → IsEntry tables work n scope names subject entry
-    → new ≡ names ++ entry.name.items ∷ [] → next ≡ entries ++ entry ∷ [] → (new ≡ names_of next) × AreEntries tables work n scope [] (take (i + 1) subjects) next
-entries_next tables work n scope subjects i subject entries next entry names new before all at is put pushed = (
+pub entries_next : (tables : List TableRule) (task : Task) (subjects : List Subject) (i : ℕ) (subject : Subject) (entries next : List Entry) (entry : Entry) (names new : List (List ℕ))
+    → names ≡ names_of entries → AreEntries tables task [] (take i subjects) entries → slice_get subjects i ≡ Some subject → IsEntry tables task names subject entry
+    → new ≡ names ++ entry.name.items ∷ [] → next ≡ entries ++ entry ∷ [] → (new ≡ names_of next) × AreEntries tables task [] (take (i + 1) subjects) next
+entries_next tables task subjects i subject entries next entry names new before all at is put pushed = (
   put ∙ ap (λ l. l ++ entry.name.items ∷ []) before ∙ sym (map-append (λ (e : Entry). e.name.items) entries (entry ∷ [])) ∙ ap names_of (sym pushed),
-  subst (AreEntries tables work n scope [] (take (i + 1) subjects)) (sym pushed)
-      (subst (λ l. AreEntries tables work n scope [] l (entries ++ entry ∷ [])) (sym (take-more subjects i subject at))
-      (entries_more tables work n scope [] (take i subjects) entries subject entry all (subst (λ l. IsEntry tables work n scope l subject entry) before is))),
+  subst (AreEntries tables task [] (take (i + 1) subjects)) (sym pushed)
+      (subst (λ l. AreEntries tables task [] l (entries ++ entry ∷ [])) (sym (take-more subjects i subject at))
+      (entries_more tables task [] (take i subjects) entries subject entry all (subst (λ l. IsEntry tables task l subject entry) before is))),
 )
 
 -- the lines on some entries, and on one more
@@ -78,21 +78,21 @@ lines_in_part n old mid new entries next entry text sent put pushed more =
 -- ---- what was looked at
 
 -- the last generation of it has a number that fits
-outcome_within : (tables : List TableRule) (work n : ℕ) (scope : Scope) (content : Content) (outcome : Outcome) → n ≤ most_generations → scope.limit ≤ longest_period
-    → IsContentOutcome tables work n scope content outcome → IsWithin n outcome
-outcome_within tables work n scope content Unnameable few short is = tt
-outcome_within tables work n scope content (Refused why) few short is = tt
-outcome_within tables work n scope content (outcomes.FaultyRule rule) few short is = tt
-outcome_within tables work n scope (Missing cause) (Identified look) few short is = absurd is
-outcome_within tables work n scope (FaultyRule rule) (Identified look) few short is = absurd is
-outcome_within tables work n scope (Bytes bytes) (Identified look) few short (cells, rule, holds, (later, stands, is)) =
+outcome_within : (tables : List TableRule) (task : Task) (content : Content) (outcome : Outcome) → task.generations ≤ most_generations → task.scope.limit ≤ longest_period
+    → IsContentOutcome tables task content outcome → IsWithin task.generations outcome
+outcome_within tables task content Unnameable few short is = tt
+outcome_within tables task content (Refused why) few short is = tt
+outcome_within tables task content (outcomes.FaultyRule rule) few short is = tt
+outcome_within tables task (Missing cause) (Identified found) few short is = absurd is
+outcome_within tables task (FaultyRule rule) (Identified found) few short is = absurd is
+outcome_within tables task (Bytes bytes) (Identified found) few short ((cells, rule, holds, (later, stands, is)), code) =
     let most = is.most in
     omega (arith, few, short, most)
 
-pub entry_within : (tables : List TableRule) (work n : ℕ) (scope : Scope) (taken : List (List ℕ)) (subject : Subject) (entry : Entry) → n ≤ most_generations → scope.limit ≤ longest_period
-    → IsEntry tables work n scope taken subject entry → IsWithin n entry.outcome
-entry_within tables work n scope taken subject entry few short is =
+pub entry_within : (tables : List TableRule) (task : Task) (taken : List (List ℕ)) (subject : Subject) (entry : Entry) → task.generations ≤ most_generations → task.scope.limit ≤ longest_period
+    → IsEntry tables task taken subject entry → IsWithin task.generations entry.outcome
+entry_within tables task taken subject entry few short is =
     elim is.outcome [
-      | inl (none, e) ↦ subst (IsWithin n) (sym e) tt
-      | inr (fits, of) ↦ outcome_within tables work n scope subject.content entry.outcome few short of
+      | inl (none, e) ↦ subst (IsWithin task.generations) (sym e) tt
+      | inr (fits, of) ↦ outcome_within tables task subject.content entry.outcome few short of
     ]

@@ -1,6 +1,7 @@
 pub mod CatalogSaid
 pub mod CatalogWrites
 pub mod CauseLines
+pub mod CodeLines
 pub mod Endings
 pub mod Entries
 pub mod FaultReports

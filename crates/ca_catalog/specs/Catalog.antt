@@ -1,5 +1,5 @@
 -- What `identify` prints: a claim text with the claims that are true of files, and the lines of `--explain` (our own; docs/CLAIMS.md).
-use Rattle.std.specs.Prelude.{ℕ, List, [], ◌∷◌, ◌++◌, Bool, true, false, Option, None, Vec, codes, decimal, nat_eq, if◌then◌else◌, ◌≡◌, ◌≢◌, ◌+◌, ◌⊎◌}
+use Rattle.std.specs.Prelude.{ℕ, List, [], ◌∷◌, ◌++◌, Bool, true, false, Option, None, Some, option_map, Vec, codes, decimal, nat_eq, if◌then◌else◌, ◌≡◌, ◌≢◌, ◌+◌, ◌⊎◌}
 use Rattle.std.specs.declared.alloc.Global.{Global}
 use Rattle.std.specs.Fmt.{signed_decimal}
 use Rattle.std.specs.List.{flat_map, list_any, list_all, AllZip}
@@ -18,10 +18,12 @@ use Rattle.ca_rule.specs.TableNext.{TableRule}
 use Rattle.ca_identify.specs.declared.identity.Identity.{Identity}
 use Rattle.ca_identify.specs.declared.identity.Identity.TheVariants.{Empty, StillLife, Oscillator, Spaceship, Dies, Unknown}
 use Rattle.ca_identify.specs.declared.identity.Growth.{Growth}
-use Rattle.ca_identify.specs.declared.scope.Scope.{Scope}
 use Rattle.ca_pattern.specs.NamedTables.{IsQuietTable, IsTableFault}
 use Rattle.ca_text.specs.Firsts.{FirstBad}
 use Rattle.ca_identify.specs.Identified.{IsLookAt, IsUnidentifiedAfter}
+use Rattle.ca_object_code.specs.declared.coded_look.CodedLook.{CodedLook}
+use Rattle.ca_object_code.specs.Codes.{IsCodeOfFile, IsUncodedAfter}
+use Rattle.ca_catalog.specs.declared.task.Task.{Task}
 use Rattle.ca_catalog.specs.declared.entry.Content.{Content}
 use Rattle.ca_catalog.specs.declared.entry.Content.TheVariants.{Bytes, Missing, FaultyRule}
 use Rattle.ca_catalog.specs.declared.entry.Subject.{Subject}
@@ -74,13 +76,33 @@ later_text n limit (Spaceship period dx dy) = codes "spaceship " ++ (decimal per
 later_text n limit (Dies generations) = codes "dies " ++ decimal generations
 later_text n limit (Unknown growth) = none_text limit (n + limit) growth
 
+-- how a comment on the plane n generations on from a pattern begins
+abbrev pub later_head : (n : ℕ) → List ℕ → List ℕ
+later_head n name = codes "# " ++ (escaped name ++ ((codes " after " ++ decimal n) ++ (generations_word n ++ codes ": ")))
+
 abbrev pub later_line : (n limit : ℕ) → List ℕ → Identity → List ℕ
-later_line n limit name identity =
-    codes "# " ++ (escaped name ++ ((codes " after " ++ decimal n) ++ (generations_word n ++ (codes ": " ++ (later_text n limit identity ++ 10 ∷ [])))))
+later_line n limit name identity = later_head n name ++ (later_text n limit identity ++ 10 ∷ [])
 
 -- the line of what is found: of the pattern, or of its plane n generations on
 abbrev pub found_line : (n limit : ℕ) → List ℕ → Identity → List ℕ
 found_line n limit name identity = if nat_eq n 0 then identity_line limit name identity else later_line n limit name identity
+
+-- the comment with the code of a pattern, as `# glider: xq4_153`
+abbrev pub code_comment : List ℕ → List ℕ → List ℕ
+code_comment name code = codes "# " ++ (escaped name ++ (codes ": " ++ (code ++ 10 ∷ [])))
+
+-- the same of its plane n generations on, as `# glider after 4 generations: xq4_153`
+abbrev pub code_line : (n : ℕ) → List ℕ → List ℕ → List ℕ
+code_line n name code = if nat_eq n 0 then code_comment name code else later_head n name ++ (code ++ 10 ∷ [])
+
+-- where there is a code
+abbrev pub code_lines : (n : ℕ) → List ℕ → Option (Vec ℕ Global) → List ℕ
+code_lines n name None = []
+code_lines n name (Some code) = code_line n name code.items
+
+-- the lines on a file that is identified
+abbrev pub identified_lines : (n : ℕ) → List ℕ → List ℕ → CodedLook → List ℕ
+identified_lines n name path found = load_line name path ++ (found_line n found.look.limit name found.look.identity ++ code_lines n name found.code)
 
 -- the comment on a file that is refused: why, and on which line of the file, where it has such a line
 abbrev pub refused_line : List ℕ → List ℕ → Cause → Option ℕ → List ℕ
@@ -95,7 +117,7 @@ abbrev pub outcome_lines : (n : ℕ) → List ℕ → List ℕ → Outcome → L
 outcome_lines n name path Unnameable = unnameable_line name path
 outcome_lines n name path (Refused why) = refused_line name path why.fault why.line
 outcome_lines n name path (outcomes.FaultyRule rule) = refused_line name path (causes.BadTable rule.fault) None
-outcome_lines n name path (Identified look) = load_line name path ++ found_line n look.limit name look.identity
+outcome_lines n name path (Identified found) = identified_lines n name path found
 
 abbrev pub entry_lines : (n : ℕ) → Entry → List ℕ
 entry_lines n entry = outcome_lines n entry.name.items entry.path.now entry.outcome
@@ -176,66 +198,80 @@ entry_explanation files entry = outcome_explanation entry.path.now entry.outcome
 abbrev pub catalog_explanation : List File → List Entry → List ℕ
 catalog_explanation files entries = flat_map (entry_explanation files) entries
 
--- what came of a file that gave this is true of it: a look at its plane n generations on finds this, or this is the report of a fault for which that isn't
--- found out; or there are no bytes of it, for this cause; or this rule file of its isn't good
-abbrev pub IsContentOutcome : List TableRule → (work n : ℕ) → Scope → Content → Outcome → Type 0
-IsContentOutcome tables work n scope content Unnameable = ⊥
-IsContentOutcome tables work n scope (Bytes bytes) (Identified look) = IsLookAt bytes.now tables n scope look
-IsContentOutcome tables work n scope (Bytes bytes) (Refused why) = (refused : LocatedFault) × IsUnidentifiedAfter bytes.now tables work n scope.limit refused
-    × IsReportOf refused why
-IsContentOutcome tables work n scope (Missing cause) (Refused why) = IsBareReport cause why
-IsContentOutcome tables work n scope (FaultyRule rule) (outcomes.FaultyRule told) = told ≡ rule
-IsContentOutcome tables work n scope content outcome = ⊥
+-- the code of a file's plane n generations on, which is this object, where codes are asked for; else none is told
+abbrev pub IsAskedCode : (codes : Bool) → List ℕ → List TableRule → (n : ℕ) → Identity → Option (List ℕ) → Type 0
+IsAskedCode true bytes tables n identity code = IsCodeOfFile bytes tables n identity code
+IsAskedCode false bytes tables n identity code = code ≡ None
+
+-- what is found of a file as the task asks
+abbrev pub IsFoundIn : List ℕ → List TableRule → Task → CodedLook → Type 0
+IsFoundIn bytes tables task found = IsLookAt bytes tables task.generations task.scope found.look
+    × IsAskedCode task.codes bytes tables task.generations found.look.identity (option_map (λ (code : Vec ℕ Global). code.items) found.code)
+
+-- why that isn't found out
+abbrev pub IsUnfoundFor : (codes : Bool) → List ℕ → List TableRule → Task → LocatedFault → Type 0
+IsUnfoundFor true bytes tables task fault = IsUncodedAfter bytes tables task.limits.work task.generations task.scope.limit fault
+IsUnfoundFor false bytes tables task fault = IsUnidentifiedAfter bytes tables task.limits.work task.generations task.scope.limit fault
+
+-- what came of a file that gave this is true of it: this is found in its bytes, or this is the report of a fault for which that isn't found out; or there
+-- are no bytes of it, for this cause; or this rule file of its isn't good
+abbrev pub IsContentOutcome : List TableRule → Task → Content → Outcome → Type 0
+IsContentOutcome tables task content Unnameable = ⊥
+IsContentOutcome tables task (Bytes bytes) (Identified found) = IsFoundIn bytes.now tables task found
+IsContentOutcome tables task (Bytes bytes) (Refused why) = (refused : LocatedFault) × IsUnfoundFor task.codes bytes.now tables task refused × IsReportOf refused why
+IsContentOutcome tables task (Missing cause) (Refused why) = IsBareReport cause why
+IsContentOutcome tables task (FaultyRule rule) (outcomes.FaultyRule told) = told ≡ rule
+IsContentOutcome tables task content outcome = ⊥
 
 -- no claim text can name the file's path; or one can, and what came of the file is true of what it gave
-abbrev pub IsOutcome : List TableRule → (work n : ℕ) → Scope → Subject → Outcome → Type 0
-IsOutcome tables work n scope subject outcome =
+abbrev pub IsOutcome : List TableRule → Task → Subject → Outcome → Type 0
+IsOutcome tables task subject outcome =
     ((is_claim_path subject.path.now ≡ false) × (outcome ≡ Unnameable))
-    ⊎ ((is_claim_path subject.path.now ≡ true) × IsContentOutcome tables work n scope subject.content outcome)
+    ⊎ ((is_claim_path subject.path.now ≡ true) × IsContentOutcome tables task subject.content outcome)
 
 -- an entry on a file, whose name is none of those taken
-pub record IsEntry (tables : List TableRule) (work n : ℕ) (scope : Scope) (taken : List (List ℕ)) (subject : Subject)
+pub record IsEntry (tables : List TableRule) (task : Task) (taken : List (List ℕ)) (subject : Subject)
     (entry : Entry) : Type 0 where
   pub path : entry.path.now ≡ subject.path.now
   pub name : IsFreeName taken (claim_name subject.path.now) entry.name.items
-  pub outcome : IsOutcome tables work n scope subject entry.outcome
+  pub outcome : IsOutcome tables task subject entry.outcome
 
 -- an entry on each file, in order, whose names are different, and none of those taken before
-abbrev pub AreEntries : List TableRule → (work n : ℕ) → Scope → (taken : List (List ℕ)) → List Subject
+abbrev pub AreEntries : List TableRule → Task → (taken : List (List ℕ)) → List Subject
     → List Entry → Type 0
-AreEntries tables work n scope taken [] [] = Unit {0}
-AreEntries tables work n scope taken [] (e ∷ es) = ⊥
-AreEntries tables work n scope taken (s ∷ ss) [] = ⊥
-AreEntries tables work n scope taken (s ∷ ss) (e ∷ es) =
-    IsEntry tables work n scope taken s e × AreEntries tables work n scope (taken ++ e.name.items ∷ []) ss es
+AreEntries tables task taken [] [] = Unit {0}
+AreEntries tables task taken [] (e ∷ es) = ⊥
+AreEntries tables task taken (s ∷ ss) [] = ⊥
+AreEntries tables task taken (s ∷ ss) (e ∷ es) =
+    IsEntry tables task taken s e × AreEntries tables task (taken ++ e.name.items ∷ []) ss es
 
 -- the rule files hold these tables
 abbrev pub AreRuleTables : List File → List TableRule → Type 0
 AreRuleTables rules tables = AllZip (λ file table. IsQuietTable file.bytes.now table) rules tables
 
 -- these are true entries on these files, under the tables of the rule files, and the text has their lines
-pub record IsCatalog (rules : List File) (work n : ℕ) (scope : Scope) (subjects : List Subject) (text : List ℕ)
+pub record IsCatalog (rules : List File) (task : Task) (subjects : List Subject) (text : List ℕ)
     (entries : List Entry) : Type 0 where
   pub tables : List TableRule
   pub known : AreRuleTables rules tables
-  pub holds : AreEntries tables work n scope [] subjects entries
-  pub lines : text ≡ catalog_text n rules entries
+  pub holds : AreEntries tables task [] subjects entries
+  pub lines : text ≡ catalog_text task.generations rules entries
 
 -- this is the fault of the first rule file that is no good table
 abbrev pub IsFirstBadTable : List File → TableFault → Type 0
 IsFirstBadTable rules fault = FirstBad (λ file. (table : TableRule) × IsQuietTable file.bytes.now table) (λ file. IsTableFault file.bytes.now fault) rules
 
 -- the whole text on these files is written, with these entries
-abbrev pub WritesCatalog : {W : Type 0} → (W → Option (List ℕ)) → Counted W → Counted W → List File → (work n : ℕ) → Scope → List Subject
+abbrev pub WritesCatalog : {W : Type 0} → (W → Option (List ℕ)) → Counted W → Counted W → List File → Task → List Subject
     → List Entry → Type 0
-WritesCatalog contents old new rules work n scope subjects entries = WritesOn contents old new (IsCatalog rules work n scope) subjects entries
+WritesCatalog contents old new rules task subjects entries = WritesOn contents old new (IsCatalog rules task) subjects entries
 
 -- why it isn't, and what is written: a write failed, after a first part of the text on the first so many files; memory is out for the lines on a file, and the
 -- text on those before it is written, or it is out for the rule files, and nothing is; or nothing is, for the fault of the first one that is no good table
-abbrev pub EndsCatalog : {W : Type 0} → (W → Option (List ℕ)) → Counted W → Counted W → List File → (work n : ℕ) → Scope → List Subject
+abbrev pub EndsCatalog : {W : Type 0} → (W → Option (List ℕ)) → Counted W → Counted W → List File → Task → List Subject
     → ToolFault → Type 0
-EndsCatalog contents old new rules work n scope subjects tools.Write = WritesPartOn contents old new (IsCatalog rules work n scope) subjects
-EndsCatalog contents old new rules work n scope subjects tools.Memory =
-    WritesOnFirst contents old new (IsCatalog rules work n scope) subjects ⊎ ((rules ≢ []) × (new ≡ old))
-EndsCatalog contents old new rules work n scope subjects (tools.BadTable fault) = IsFirstBadTable rules fault × (new ≡ old)
-EndsCatalog contents old new rules work n scope subjects told = ⊥
+EndsCatalog contents old new rules task subjects tools.Write = WritesPartOn contents old new (IsCatalog rules task) subjects
+EndsCatalog contents old new rules task subjects tools.Memory =
+    WritesOnFirst contents old new (IsCatalog rules task) subjects ⊎ ((rules ≢ []) × (new ≡ old))
+EndsCatalog contents old new rules task subjects (tools.BadTable fault) = IsFirstBadTable rules fault × (new ≡ old)
+EndsCatalog contents old new rules task subjects told = ⊥

@@ -6,12 +6,12 @@ use Rattle.ca_text.specs.declared.line.Kind.TheVariants as kind
 use Rattle.ca_pattern.specs.declared.file.File.{File}
 use Rattle.ca_identify.specs.declared.identity.Identity.{Identity}
 use Rattle.ca_identify.specs.declared.identity.Identity.TheVariants.{Empty, StillLife, Oscillator, Spaceship, Dies, Unknown}
-use Rattle.ca_identify.specs.declared.scope.Scope.{Scope}
 use Rattle.ca_text.specs.Text.{ClaimTextLine, Version, Rule, Load, Claims, IsClaimText, said_lines}
 use Rattle.ca_catalog.specs.declared.entry.Outcome.{Outcome}
 use Rattle.ca_catalog.specs.declared.entry.Outcome.TheVariants.{Identified}
 use Rattle.ca_catalog.specs.declared.entry.Entry.{Entry}
 use Rattle.ca_catalog.specs.declared.entry.Subject.{Subject}
+use Rattle.ca_catalog.specs.declared.task.Task.{Task}
 use Rattle.ca_catalog.specs.Names.{is_word}
 use Rattle.ca_catalog.specs.Catalog.{IsCatalog}
 
@@ -34,7 +34,7 @@ found_says n name identity = if nat_eq n 0 then identity_says name identity else
 
 -- the name of a file that is identified, and its claim; nothing of any other file
 abbrev pub outcome_says : ℕ → List ℕ → List ℕ → Outcome → List ClaimTextLine
-outcome_says n name path (Identified look) = Load name path ∷ found_says n name look.identity
+outcome_says n name path (Identified found) = Load name path ∷ found_says n name found.look.identity
 outcome_says n name path outcome = []
 
 abbrev pub entry_says : ℕ → Entry → List ClaimTextLine
@@ -57,5 +57,5 @@ AreRuleWords rules = AllByRecursion (λ file. is_word file.path.now ≡ true) ru
 -- the text that `identify` prints says just the claims that are true of the patterns, and so does what is printed of it after each file, which is the text on
 -- the first so many of the files; after some generations it makes no claim
 abbrev pub SaysItsClaims : Type 0
-SaysItsClaims = (subjects : List Subject) (rules : List File) (work n : ℕ) (scope : Scope) (text : List ℕ) (entries : List Entry) → AreRuleWords rules
-    → IsCatalog rules work n scope subjects text entries → SaysOf text (catalog_says n rules entries)
+SaysItsClaims = (subjects : List Subject) (rules : List File) (task : Task) (text : List ℕ) (entries : List Entry) → AreRuleWords rules
+    → IsCatalog rules task subjects text entries → SaysOf text (catalog_says task.generations rules entries)

@@ -1,6 +1,6 @@
 //! Files that are to be identified, and what came of them.
 
-use ca_identify::Look;
+use ca_object_code::CodedLook;
 use ca_pattern::Cause;
 use ca_report::{DetailedFault, FaultyRule};
 
@@ -31,8 +31,8 @@ pub(crate) enum Outcome<'a> {
     Refused(DetailedFault<Cause>),
     /// The rule file of its rule isn't good.
     FaultyRule(FaultyRule<'a>),
-    /// Its pattern is this, within so many generations.
-    Identified(Look),
+    /// Its pattern is this, within so many generations, with its code, where that is asked for.
+    Identified(CodedLook),
 }
 
 /// A file of a claim text: its name there, its path, and what came of it.

@@ -3,16 +3,17 @@
 ghost use Rattle.std.specs.Prelude.{◌≡◌, ◌+◌, ◌<◌, ◌^◌, ◌++◌, ◌∷◌, [], codes, decimal, OnOk};
 ghost use Rattle.std.specs.Fmt.{signed_decimal};
 ghost use Rattle.ca_identify.specs.declared.identity.Identity.TheVariants.{Unknown};
-ghost use Rattle.ca_catalog.specs.declared.entry.Outcome.TheVariants.{Identified};
 ghost use Rattle.ca_plane.specs.Puts.{Puts};
 ghost use Rattle.ca_catalog.specs.Catalog.{load_line, identity_line, refused_line, unnameable_line, later_text};
-ghost use Rattle.ca_catalog.specs.Catalog.{later_line, outcome_lines, entry_lines, rule_line};
+ghost use Rattle.ca_catalog.specs.Catalog.{later_head, later_line, found_line, code_comment, code_line};
+ghost use Rattle.ca_catalog.specs.Catalog.{identified_lines, entry_lines, rule_line};
 ghost use Rattle.ca_report.specs.Pieces.{pieces_text};
 ghost use Rattle.ca_catalog.specs.inner.Searches.{IsWithin};
 
 use crate::entry::{Entry, Outcome};
 use crate::growth::push_none;
 use ca_identify::{Growth, Identity, Look};
+use ca_object_code::CodedLook;
 use ca_pattern::{Cause, File};
 use ca_plane::Memory;
 use ca_plane::text::push_text;
@@ -108,6 +109,17 @@ fn push_later_text(
     }
 }
 
+// Puts how a comment on the plane of a pattern some generations on begins.
+fn push_later_head(out: &mut Vec<u8>, generations: u64, name: &[u8]) -> Result<(), Memory>
+    ensures { OnOk result (Puts out.old.items out.new.items (later_head generations name.now)) }
+{
+    push_text(out, b"# ")?;
+    push_escaped(out, name)?;
+    push_counted(out, b" after ", generations)?;
+    push_text(out, generations_word(generations))?;
+    push_text(out, b": ")
+}
+
 // Puts the comment on what the plane of a pattern is found to be some generations on.
 fn push_later(
     out: &mut Vec<u8>,
@@ -120,12 +132,45 @@ fn push_later(
     ensures { OnOk result (Puts out.old.items out.new.items
         (later_line generations limit name.now identity)) }
 {
-    push_text(out, b"# ")?;
-    push_escaped(out, name)?;
-    push_counted(out, b" after ", generations)?;
-    push_text(out, generations_word(generations))?;
-    push_text(out, b": ")?;
+    push_later_head(out, generations, name)?;
     push_later_text(out, generations, limit, identity)?;
+    push_text(out, b"\n")
+}
+
+// Puts the line of what is found: of a pattern, or of its plane some generations on.
+fn push_found(
+    out: &mut Vec<u8>,
+    generations: u64,
+    limit: u64,
+    name: &[u8],
+    identity: Identity,
+) -> Result<(), Memory>
+    requires { generations + limit < 2 ^ 64 }
+    ensures { OnOk result (Puts out.old.items out.new.items
+        (found_line generations limit name.now identity)) }
+{
+    if generations == 0 {
+        return push_identity(out, limit, name, identity);
+    }
+    push_later(out, generations, limit, name, identity)
+}
+
+// The comment with the code of a pattern in pieces.
+fn code_pieces<'a>(name: &'a [u8], code: &'a [u8]) -> [Piece<'a>; 5]
+    ensures { pieces_text result ≡ code_comment name.now code.now }
+{
+    in_pieces![text b"# ", escaped name, text b": ", text code, text b"\n"]
+}
+
+// Puts the comment with a code: of a pattern, or of its plane some generations on.
+fn push_code(out: &mut Vec<u8>, generations: u64, name: &[u8], code: &[u8]) -> Result<(), Memory>
+    ensures { OnOk result (Puts out.old.items out.new.items (code_line generations name.now code.now)) }
+{
+    if generations == 0 {
+        return push_pieces(out, &code_pieces(name, code));
+    }
+    push_later_head(out, generations, name)?;
+    push_text(out, code)?;
     push_text(out, b"\n")
 }
 
@@ -161,18 +206,19 @@ fn push_identified(
     generations: u64,
     name: &[u8],
     path: &[u8],
-    look: Look,
+    found: &CodedLook,
 ) -> Result<(), Memory>
-    requires { generations + look.limit < 2 ^ 64 }
+    requires { generations + found.now.look.limit < 2 ^ 64 }
     ensures { OnOk result (Puts out.old.items out.new.items
-        (outcome_lines generations name.now path.now (Identified look))) }
+        (identified_lines generations name.now path.now found.now)) }
 {
-    let Look { identity, limit } = look;
+    let Look { identity, limit } = found.look;
     push_pieces(out, &load_pieces(name, path))?;
-    if generations == 0 {
-        return push_identity(out, limit, name, identity);
+    push_found(out, generations, limit, name, identity)?;
+    match &found.code {
+        Some(code) => push_code(out, generations, name, code),
+        None => Ok(()),
     }
-    push_later(out, generations, limit, name, identity)
 }
 
 /// Puts the lines on a file after what `out` holds; it was looked at from so many generations on.
@@ -198,8 +244,8 @@ pub(crate) fn push_entry(
             out,
             &refused_pieces(&entry.name, entry.path, Cause::BadTable(rule.fault), None),
         ),
-        Outcome::Identified(look) => {
-            push_identified(out, generations, &entry.name, entry.path, *look)
+        Outcome::Identified(found) => {
+            push_identified(out, generations, &entry.name, entry.path, found)
         }
     }
 }

@@ -9,7 +9,7 @@ ghost use Rattle.ca_text.specs.Firsts.{FirstBad};
 ghost use Rattle.ca_pattern.specs.Limited.{AreGoodLimits};
 ghost use Rattle.ca_plane.specs.Limits.{longest_period, most_generations};
 ghost use Rattle.ca_catalog.specs.Catalog.{entry_lines, IsOutcome, IsEntry, AreRuleTables, WritesCatalog};
-ghost use Rattle.ca_catalog.specs.Catalog.{EndsCatalog};
+ghost use Rattle.ca_catalog.specs.Catalog.{EndsCatalog, IsFoundIn, IsUnfoundFor};
 ghost use Rattle.ca_catalog.specs.WrittenOn.{WritesOn};
 ghost use Rattle.ca_catalog.specs.inner.Searches.{IsGoodSearch, IsWithin, AreLines, EndsLines};
 
@@ -19,8 +19,10 @@ use crate::entry_lines::push_entry;
 use crate::fault_report::report_of;
 use crate::names::{add_name, is_claim_path};
 use crate::taken_names::TakenNames;
-use ca_identify::{Scope, identify};
-use ca_pattern::{File, Limits, Observer};
+use crate::task::Task;
+use ca_identify::identify;
+use ca_object_code::{CodedLook, identify_with_code};
+use ca_pattern::{File, LocatedFault, Observer};
 use ca_plane::{Dev, Memory, send};
 use ca_report::{DetailedFault, ToolFault, send_pieces};
 use ca_rule::{Table, TableFault};
@@ -28,15 +30,14 @@ use std::alloc::Global;
 use std::io::Write;
 
 /// Identifies the patterns of files, and writes a claim text: for each file, in order, a `load` line and the claim
-/// that is true of its pattern, or a comment. The lines on a file are written before the next one is identified. It
-/// answers what came of the files, with their exit status. Where some generations are asked for, at most
-/// 1152921504606846976, the planes that the patterns have then are identified in place of them, and the text says of
-/// these in comments alone.
+/// that is true of its pattern, or a comment; and a comment with its code (LifeWiki, "Apgcode"), where it has one and the
+/// task asks for codes. The lines on a file are written before the next one is identified. It answers what came of the
+/// files, with their exit status. Where the task asks for some generations, the planes that the patterns have then are
+/// identified in place of them, and the text says of these in comments alone.
 ///
-/// The patterns are looked at as far as the scope says, whose limit is from 1 to 4294967295 generations, and each within
-/// the limits. Rules are looked for among the tables of the rule files, which the text names too, before the files. No
-/// two files have one name in the text. The observer hears of each file by its number, counted from 1, in place of
-/// a line; of its end before its lines are written.
+/// The limit of the task's scope is from 1 to 4294967295 generations. Rules are looked for among the tables of the rule
+/// files, which the text names too, before the files. No two files have one name in the text. The observer hears of each
+/// file by its number, counted from 1, in place of a line; of its end before its lines are written.
 ///
 /// # Errors
 ///
@@ -47,20 +48,16 @@ pub fn identify_run<'a, W: Write, O: Observer>(
     alloc: Global,
     subjects: &[Subject<'a>],
     rules: &[File<'_>],
-    generations: u64,
-    limits: Limits,
-    scope: Scope,
+    task: Task,
     device: &mut Dev<W>,
     observer: &mut O,
 ) -> Result<Catalog<'a>, ToolFault>
-    requires few { generations ≤ most_generations }
-    requires limits { AreGoodLimits limits }
-    requires some { 1 ≤ scope.limit }
-    requires most { scope.limit ≤ longest_period }
-    ensures writes { IfOk result (WritesCatalog W.contents device.old device.new
-        rules.now limits.work generations scope subjects.now) }
-    ensures ends { IfErr result (EndsCatalog W.contents device.old device.new
-        rules.now limits.work generations scope subjects.now) }
+    requires few { task.generations ≤ most_generations }
+    requires limits { AreGoodLimits task.limits }
+    requires some { 1 ≤ task.scope.limit }
+    requires most { task.scope.limit ≤ longest_period }
+    ensures writes { IfOk result (WritesCatalog W.contents device.old device.new rules.now task subjects.now) }
+    ensures ends { IfErr result (EndsCatalog W.contents device.old device.new rules.now task subjects.now) }
 {
     let tables = match parse_tables(alloc, rules) {
         Ok(tables) => tables,
@@ -75,9 +72,7 @@ pub fn identify_run<'a, W: Write, O: Observer>(
     }
     let search = Search {
         tables: &tables,
-        generations,
-        limits,
-        scope,
+        task,
     };
     let entries = match write_entries(alloc, subjects, &search, device, observer) {
         Ok(entries) => entries,
@@ -107,14 +102,11 @@ fn parse_tables(alloc: Global, rules: &[File<'_>]) -> Result<Vec<Table>, TableFa
     Ok(tables)
 }
 
-// What is looked for in files: what their planes are some generations on, as far from there as the scope says,
-// under these tables and within these limits.
+// How files are identified, and under which tables.
 #[derive(Clone, Copy)]
 struct Search<'a> {
     tables: &'a [Table],
-    generations: u64,
-    limits: Limits,
-    scope: Scope,
+    task: Task,
 }
 
 // Writes the lines on each file, in order, before the next one is identified, and answers the entries.
@@ -150,11 +142,11 @@ fn write_entries<'a, W: Write, O: Observer>(
 
 // Puts the lines on a file in place of what `out` holds.
 fn put_entry(out: &mut Vec<u8>, search: &Search<'_>, entry: &Entry<'_>) -> Result<(), Memory>
-    requires { IsWithin search.now.generations entry.now.outcome }
-    ensures { OnOk result (out.new.items ≡ entry_lines search.now.generations entry.now) }
+    requires { IsWithin search.now.task.generations entry.now.outcome }
+    ensures { OnOk result (out.new.items ≡ entry_lines search.now.task.generations entry.now) }
 {
     out.clear();
-    push_entry(out, search.generations, entry)
+    push_entry(out, search.task.generations, entry)
 }
 
 // The entry on the file of this number, under a name that is put after the others. The observer hears of its end in
@@ -168,8 +160,7 @@ fn entry_of<'a, O: Observer>(
     observer: &mut O,
 ) -> Result<Entry<'a>, Memory>
     requires { IsGoodSearch search.now }
-    ensures entry { IfOk result (IsEntry search.now.tables.now search.now.limits.work
-        search.now.generations search.now.scope names.old subject.now) }
+    ensures entry { IfOk result (IsEntry search.now.tables.now search.now.task names.old subject.now) }
     ensures names { IfOk result (λ entry. names.new ≡ names.old ++ entry.name.items ∷ []) }
 {
     observer.begins(number);
@@ -192,8 +183,7 @@ fn outcome_of<'a, O: Observer>(
     observer: &mut O,
 ) -> Outcome<'a>
     requires { IsGoodSearch search.now }
-    ensures { IsOutcome search.now.tables.now search.now.limits.work
-        search.now.generations search.now.scope subject.now result }
+    ensures { IsOutcome search.now.tables.now search.now.task subject.now result }
 {
     if !is_claim_path(subject.path) {
         return Outcome::Unnameable;
@@ -203,14 +193,34 @@ fn outcome_of<'a, O: Observer>(
         Content::Missing(cause) => return Outcome::Refused(DetailedFault::of(cause)),
         Content::FaultyRule(rule) => return Outcome::FaultyRule(rule),
     };
-    let Search {
-        tables,
+    match found_in(alloc, bytes, search, observer) {
+        Ok(found) => Outcome::Identified(found),
+        Err(refused) => Outcome::Refused(report_of(refused)),
+    }
+}
+
+// What is found in the bytes of a file, with its code, where that is asked for.
+fn found_in<O: Observer>(
+    alloc: Global,
+    bytes: &[u8],
+    search: &Search<'_>,
+    observer: &mut O,
+) -> Result<CodedLook, LocatedFault>
+    requires { IsGoodSearch search.now }
+    ensures found { IfOk result (IsFoundIn bytes.now search.now.tables.now search.now.task) }
+    ensures unfound { IfErr result
+        (IsUnfoundFor search.now.task.codes bytes.now search.now.tables.now search.now.task) }
+{
+    let Search { tables, task } = *search;
+    let Task {
         generations,
         limits,
         scope,
-    } = *search;
-    match identify(alloc, bytes, tables, generations, limits, scope, observer) {
-        Ok(look) => Outcome::Identified(look),
-        Err(refused) => Outcome::Refused(report_of(refused)),
+        codes,
+    } = task;
+    if codes {
+        return identify_with_code(alloc, bytes, tables, generations, limits, scope, observer);
     }
+    let look = identify(alloc, bytes, tables, generations, limits, scope, observer)?;
+    Ok(CodedLook { look, code: None })
 }

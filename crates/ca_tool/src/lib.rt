@@ -6,7 +6,9 @@ mod complaint;
 mod explanation;
 mod fault;
 
-pub use ca_catalog::{Catalog, Content, Subject, identify_run, is_claim_path, says_its_claims};
+pub use ca_catalog::{
+    Catalog, Content, Subject, Task, identify_run, is_claim_path, says_its_claims,
+};
 pub use ca_draw::{Size, View, WindowFault};
 pub use ca_pattern_runs::{
     DrawRequest, Evolution, Form, FormText, TextForm, convert_run, drawing_laws, form_text,

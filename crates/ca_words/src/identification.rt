@@ -4,7 +4,7 @@ ghost use Rattle.std.specs.Prelude.{◌≡◌, ◌≤◌, codes, IfOk};
 ghost use Rattle.ca_plane.specs.Limits.{most_generations};
 ghost use Rattle.ca_words.specs.Words.{IsTextAfter, IsNumberAfter, generations_of};
 
-use crate::arguments::{path_words, value_word, with_rule_words};
+use crate::arguments::{flag_word, path_words, value_word, with_rule_words};
 use crate::extras::{Extras, extras_of, with_extras};
 use crate::pattern::after_word;
 use crate::raw::path_bytes;
@@ -22,6 +22,8 @@ pub struct IdentifyExtras {
     pub limit: Option<u64>,
     /// How many generations on that begins, where that is set.
     pub after: Option<u64>,
+    /// Whether the codes of still lifes, oscillators and spaceships are told.
+    pub codes: bool,
     /// The path of a rule file with the table that the patterns' rules may name.
     pub rule: Option<String>,
     /// The path of a folder where rule files are looked for by the names of the patterns' rules.
@@ -51,7 +53,8 @@ pub fn identify_command<'a>(alloc: Global) -> Result<Command<'a>, AllocError> {
             "The paths of pattern files, RLE or macrocell, as a claim text names them",
         ))?
         .arg(limit_word(alloc))?
-        .arg(after_word(alloc))?;
+        .arg(after_word(alloc))?
+        .arg(code_word(alloc))?;
     let identify = with_rule_words(alloc, identify)?;
     with_extras(alloc, identify)
 }
@@ -64,6 +67,14 @@ fn limit_word<'a>(alloc: Global) -> Arg<'a> {
         "The longest period or life that is looked for: 1 to 4294967295; unless set, 65536 while patience lasts",
     )
     .value_parser(value_parser!(u64).range(1..=LONGEST_PERIOD as i64))
+}
+
+fn code_word<'a>(alloc: Global) -> Arg<'a> {
+    flag_word(
+        alloc,
+        "apgcode",
+        "Tell the apgcodes of still lifes, oscillators and spaceships, as xq4_153, in comments",
+    )
 }
 
 /// What the words of `identify` ask for, where these of them aren't UTF-8.
@@ -90,6 +101,7 @@ fn identify_extras(alloc: Global, words: &ArgMatches<'_>) -> Result<IdentifyExtr
     Ok(IdentifyExtras {
         limit: number_value(words, "limit"),
         after: number_value(words, "after"),
+        codes: words.get_flag("apgcode"),
         rule: path_value(alloc, words, "rule")?,
         folder: path_value(alloc, words, "rules")?,
         extras: extras_of(words),

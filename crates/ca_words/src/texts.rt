@@ -222,6 +222,10 @@ comment says `within` fewer. --limit N looks for periods and deaths of up to N g
 --after N identifies the plane that each pattern has N generations on. No claim about the file says what that is, so
 there are comments alone: `# NAME after 1103 generations: still`, and so on.
 
+--apgcode adds a comment after a still life, an oscillator or a spaceship: `# NAME: xq4_153`. That is its apgcode, by which
+Catagolue and LifeWiki know it. It is the same for each phase, turn and reflection, so doubles have the same. There is
+none under hexagonal and Generations rules and under tables.
+
 --rule is for patterns whose rule is a table: it names the rule file with that table, in Golly NAME.rule. --rules
 names a folder, such as Golly's Rules: where a rule is NAME, and isn't known, the rule file is looked for there as
 DIR/NAME.rule. The text has a `rule` line for each rule file.

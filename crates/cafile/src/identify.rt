@@ -15,7 +15,7 @@ use ca_plane::limits::LONGEST_PERIOD;
 use ca_report::DetailedFault;
 use ca_rule::{RuleFault, Table, TableFault, resolve};
 use ca_tool::{
-    Catalog, Content, Fault, InputFault, RunFiles, Subject, ToolFault, complain, explain,
+    Catalog, Content, Fault, InputFault, RunFiles, Subject, Task, ToolFault, complain, explain,
     has_explanation, identify_run, is_claim_path,
 };
 use ca_words::IdentifyExtras;
@@ -310,13 +310,17 @@ fn run<'a, R: Files + Clock + AllocGlobal>(
     let squares = extras.extras.most_squares();
     let errors = &mut streams.errors;
     let mut observer = Progress::new(rt, errors, heading, extras.extras.progress, squares);
+    let task = Task {
+        generations: extras.after(),
+        limits: extras.extras.limits(),
+        scope,
+        codes: extras.codes,
+    };
     identify_run(
         rt.alloc(),
         &subjects,
         &files,
-        extras.after(),
-        extras.extras.limits(),
-        scope,
+        task,
         &mut streams.output,
         &mut observer,
     )

@@ -16,20 +16,20 @@ use Rattle.ca_catalog.specs.WrittenOn.{WritesOnFirst, WritesPartOn}
 
 -- it is within what may be asked for
 pub record IsGoodSearch (search : Search) : Type 0 where
-  pub few : search.generations ≤ most_generations
-  pub limits : AreGoodLimits search.limits
-  pub some : 1 ≤ search.scope.limit
-  pub most : search.scope.limit ≤ longest_period
+  pub few : search.task.generations ≤ most_generations
+  pub limits : AreGoodLimits search.task.limits
+  pub some : 1 ≤ search.task.scope.limit
+  pub most : search.task.scope.limit ≤ longest_period
 
 -- the last generation that was looked at has a number that fits, where the look began after n
 abbrev pub IsWithin : (n : ℕ) → Outcome → Type 0
-IsWithin n (Identified look) = n + look.limit < 2 ^ 64
+IsWithin n (Identified found) = n + found.look.limit < 2 ^ 64
 IsWithin n outcome = Unit {0}
 
 -- these are true entries on these files, and the text is their lines
 pub record AreLines (search : Search) (subjects : List Subject) (text : List ℕ) (entries : List Entry) : Type 0 where
-  pub holds : AreEntries search.tables.now search.limits.work search.generations search.scope [] subjects entries
-  pub lines : text ≡ flat_map (entry_lines search.generations) entries
+  pub holds : AreEntries search.tables.now search.task [] subjects entries
+  pub lines : text ≡ flat_map (entry_lines search.task.generations) entries
 
 -- why not all lines on some files are written, and what is written of them
 abbrev pub EndsLines : {W : Type 0} → (W → Option (List ℕ)) → Counted W → Counted W → Search → List Subject → ToolFault → Type 0

@@ -1,10 +1,5 @@
-use Rattle.std.proofs.Common.{subst}
-use Rattle.ca_plane.specs.Puts.{Puts}
 use Rattle.ca_report.proofs.After.{puts_then}
 use Rattle.ca_catalog.proofs.entry_lines.push_later.Goals as goal
 
 pub returns : goal.returns
-returns c =
-    let word = subst (λ t. Puts c.push_counted.new.out.items c.push_text-2.new.out.items t) c.generations_word.ensures c.in_ok-push_text-2.ensures in
-    puts_then _ _ _ _ _ _ c.in_ok-push_text.ensures (puts_then _ _ _ _ _ _ c.in_ok-push_escaped.ensures (puts_then _ _ _ _ _ _ c.in_ok-push_counted.ensures
-    (puts_then _ _ _ _ _ _ word (puts_then _ _ _ _ _ _ c.in_ok-push_text-3.ensures (puts_then _ _ _ _ _ _ c.in_ok-push_later_text.ensures c.push_text-4.ensures)))))
+returns c = puts_then _ _ _ _ _ _ c.in_ok-push_later_head.ensures (puts_then _ _ _ _ _ _ c.in_ok-push_later_text.ensures c.push_text.ensures)

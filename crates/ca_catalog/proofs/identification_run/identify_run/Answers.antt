@@ -9,7 +9,7 @@ use Rattle.ca_catalog.proofs.identification_run.identify_run.Goals as goal
 pub returns-then-is_err-clause-ends : goal.returns-then-is_err-clause-ends
 returns-then-is_err-clause-ends g c =
     let head = c.head_pieces.ensures ∙ ap (λ l. version_line ++ l) (c.deref.ensures.value ∙ c.in-Ok-rules_text.ensures.text) in
-    head_in_part g.W.Write.contents _ _ c.args.rules.now c.in-Ok.tables.items _ _ _ _ c.in-Ok.ensures.known
+    head_in_part g.W.Write.contents _ _ c.args.rules.now c.in-Ok.tables.items _ _ c.in-Ok.ensures.known
     (subst (AppendsPrefix (g.W.Write.contents c.args.device.now.inner) (g.W.Write.contents c.send_pieces.new.device.inner)) head (search rules)) (search rules)
 
 -- the head was written, and not all lines were

@@ -8,7 +8,7 @@ use Rattle.ca_catalog.proofs.identification_run.write_entries.Goals as goal
 pub put_entry-requires : goal.put_entry-requires
 put_entry-requires g c =
     let sought = c.args.search.now in
-    entry_within sought.tables.now sought.limits.work sought.generations sought.scope _ _ c.in-Ok.entry c.requires.few c.requires.most c.in-Ok.ensures.entry
+    entry_within sought.tables.now sought.task _ _ c.in-Ok.entry c.requires.few c.requires.most c.in-Ok.ensures.entry
 
 -- the lines on one file more were written in part
 pub returns-then-is_err-3-clause-ends : goal.returns-then-is_err-3-clause-ends
@@ -19,15 +19,15 @@ returns-then-is_err-3-clause-ends g c =
     let pushed = c.push.ensures.items ∙ ap (λ b. if b then old ++ entry ∷ [] else old) c.if-is_err-2.ensures.negation in
     let at = slice_get-get_or subjects c.subjects.subject-index _ c.subjects-test.true in
     let sought = c.args.search.now in
-    let put : c.put_entry.new.out.items ≡ entry_lines sought.generations entry = search rules in
-    let next = entries_next sought.tables.now sought.limits.work sought.generations sought.scope subjects c.subjects.subject-index _ old c.push.new.self.items entry c.subjects.names c.entry_of.new.names
+    let put : c.put_entry.new.out.items ≡ entry_lines sought.task.generations entry = search rules in
+    let next = entries_next sought.tables.now sought.task subjects c.subjects.subject-index _ old c.push.new.self.items entry c.subjects.names c.entry_of.new.names
     c.subjects.invariant.names c.subjects.invariant.holds at c.in-Ok.ensures.entry c.in-Ok.ensures.names pushed in
     record {
       count = c.subjects.subject-index + 1;
       told = c.push.new.self.items;
-      text = flat_map (entry_lines sought.generations) c.push.new.self.items;
+      text = flat_map (entry_lines sought.task.generations) c.push.new.self.items;
       is = record { holds = next.1; lines = refl };
-      front = lines_in_part sought.generations _ _ _ old _ entry c.deref.result.now c.subjects.invariant.sent (c.deref.ensures.value ∙ put) pushed (search rules);
+      front = lines_in_part sought.task.generations _ _ _ old _ entry c.deref.result.now c.subjects.invariant.sent (c.deref.ensures.value ∙ put) pushed (search rules);
       counted = search rules;
     }
 
@@ -40,12 +40,12 @@ subjects-preserved g c =
     let pushed = c.push.ensures.items ∙ ap (λ b. if b then old ++ entry ∷ [] else old) c.if-is_err-2.ensures.negation in
     let at = slice_get-get_or subjects c.subjects.subject-index _ c.subjects-test.true in
     let sought = c.args.search.now in
-    let put : c.put_entry.new.out.items ≡ entry_lines sought.generations entry = search rules in
-    let next = entries_next sought.tables.now sought.limits.work sought.generations sought.scope subjects c.subjects.subject-index _ old c.push.new.self.items entry c.subjects.names c.entry_of.new.names
+    let put : c.put_entry.new.out.items ≡ entry_lines sought.task.generations entry = search rules in
+    let next = entries_next sought.tables.now sought.task subjects c.subjects.subject-index _ old c.push.new.self.items entry c.subjects.names c.entry_of.new.names
     c.subjects.invariant.names c.subjects.invariant.holds at c.in-Ok.ensures.entry c.in-Ok.ensures.names pushed in
     record {
       names = next.0;
       holds = next.1;
-      sent = lines_next sought.generations _ _ _ old _ entry c.deref.result.now c.subjects.invariant.sent (c.deref.ensures.value ∙ put) pushed (search rules);
+      sent = lines_next sought.task.generations _ _ _ old _ entry c.deref.result.now c.subjects.invariant.sent (c.deref.ensures.value ∙ put) pushed (search rules);
       kept = search rules;
     }

@@ -9,7 +9,7 @@ use Rattle.ca_catalog.proofs.identification_run.write_entries.Given as goal
 abbrev pub invariant-subjects : goal.invariant-subjects
 invariant-subjects g l = record {
   names : l.names ≡ names_of l.entries.items;
-  holds : AreEntries l.search.tables.now l.search.limits.work l.search.generations l.search.scope [] (take l.subject-index l.subjects) l.entries.items;
-  sent : Appends (g.W.Write.contents l.fn.device.inner) (g.W.Write.contents l.device.inner) (flat_map (entry_lines l.search.generations) l.entries.items);
+  holds : AreEntries l.search.tables.now l.search.task [] (take l.subject-index l.subjects) l.entries.items;
+  sent : Appends (g.W.Write.contents l.fn.device.inner) (g.W.Write.contents l.device.inner) (flat_map (entry_lines l.search.task.generations) l.entries.items);
   kept : l.device.failures ≡ l.fn.device.failures;
 }
