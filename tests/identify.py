@@ -10,7 +10,7 @@ import random
 import re
 import tempfile
 
-from lib import golden, remedies, rle
+from lib import apgcode, golden, remedies, rle
 from lib.gallery import found
 from lib.program import ROOT, Folder, Outcome, Tally, ample, fault, run
 from lib.steps import next_live
@@ -37,10 +37,6 @@ CODELESS = {
     "empty": "x = 0, y = 0\n!\n", "dies": "x = 1, y = 1\no!\n", "grows": "x = 3, y = 3\nb2o$2o$bo!\n", "hexagonal": "x = 2, y = 2, rule = B/S23H\n2o$2o!\n",
     "three states": "x = 2, y = 2, rule = 23/3/3\n2o$2o!\n", "Generations of two states": "x = 2, y = 2, rule = 23/3/2\n2o$2o!\n",
 }
-
-# The eight turns and reflections of a place.
-ORIENTATIONS = (lambda x, y: (x, y), lambda x, y: (-y, x), lambda x, y: (-x, -y), lambda x, y: (y, -x), lambda x, y: (-x, y), lambda x, y: (x, -y),
-                lambda x, y: (y, x), lambda x, y: (-y, -x))
 
 BLOCK, EMPTY = "x = 2, y = 2\n2o$2o!\n", "x = 0, y = 0\n!\n"
 GLIDER = "x = 3, y = 3\nbob$2bo$3o!\n"
@@ -621,13 +617,33 @@ def try_copies(tally, files):
         path = files.path("first.rle", text_of(cells))
         code = code_of(path)
         complaints = [] if code and (name not in CODES or code == CODES[name]) else [f"{code}"]
-        for turn in ORIENTATIONS:
+        for turn in apgcode.ORIENTATIONS:
             dx, dy = generator.randrange(-10 ** 9, 10 ** 9), generator.randrange(-10 ** 9, 10 ** 9)
             moved = files.path("moved.rle", text_of({turn(x, y): state for (x, y), state in cells.items()}, dx, dy))
             got = code_of(moved, "--after", str(generator.randrange(60)))
             if got != code:
                 complaints.append(f"{got}, wanted {code}")
         tally.tell(f"one code of {name}", complaints)
+
+
+def try_large_codes(tally, files):
+    """Codes of many objects side by side, also where they fill 40 by 40 cells and a little more, as they are computed here."""
+    generator = random.Random(11)
+    smallest = [it for it in CODES if CODES[it][1] in "sp" and len(CODES[it]) < 9]
+    own = [frozenset(rle.cells_and_rule(open(os.path.join(ROOT, it), encoding="utf-8").read())[0]) for it in smallest]
+    for columns, rows in [(1, 1), (2, 1), (3, 3), (5, 5), (5, 2), (6, 5), (5, 5), (5, 5), (4, 5), (6, 6)]:
+        cells = set()
+        for column in range(columns):
+            for row in range(rows):
+                cells |= {(x + 8 * column, y + 8 * row) for x, y in generator.choice(own)}
+        period = 1 if next_live(frozenset(cells), {3}, {2, 3}) == cells else 2
+        wanted = apgcode.code(cells, "s" if period == 1 else "p", period)
+        got = code_of(files.path("many.rle", text_of({place: 1 for place in cells})))
+        tally.tell(f"the code of {columns} by {rows} objects", [] if got == wanted else [f"{got}, wanted {wanted}"])
+    blocks = {(3 * i + x, 3 * j + y) for i in range(13) for j in range(13) for x in (0, 1) for y in (0, 1)}
+    wanted = apgcode.code(blocks, "s", 1)
+    got = code_of(files.path("blocks.rle", text_of({place: 1 for place in blocks})))
+    tally.tell(f"a code of {len(wanted)} characters", [] if got == wanted and len(wanted) > 300 else [f"{got}, wanted {wanted}"])
 
 
 def place_all(generator):
@@ -692,7 +708,7 @@ def main():
     try_true_claims(tally)
     try_limits(tally)
     for trial in (try_squares, try_patience, try_growth, try_many_squares, try_long_periods, try_late_returns, try_after, try_all, try_names, try_odd_paths,
-                  try_refused, try_rules, try_given_rule, try_codes, try_copies, try_work_of_codes, try_many):
+                  try_refused, try_rules, try_given_rule, try_codes, try_copies, try_large_codes, try_work_of_codes, try_many):
         with tempfile.TemporaryDirectory() as folder:
             trial(tally, Folder(folder))
     tally.finish()
