@@ -1,9 +1,8 @@
 -- Copies of planes have the same texts.
-use Rattle.std.proofs.Common.{◌≡◌, ℕ, ◌<◌, List, Option, Some, None, refl, sym, ap, ap₂, ◌∙◌, ℤ, pos, ◌+ℤ◌, ◌-ℤ◌, arith}
+use Rattle.std.proofs.Common.{◌≡◌, ℕ, List, Option, Some, None, refl, sym, ap, ap₂, ◌∙◌, ℤ, pos, ◌-ℤ◌, arith}
 use Rattle.std.specs.Prelude.{neg_ℤ}
 use Rattle.std.proofs.lemmas.Int.{ints}
-use Rattle.ca_apgcode.specs.Order.{Precedes}
-use Rattle.ca_apgcode.specs.Objects.{IsTextOf, IsTurnedText, IsPhaseText, IsLeastAmong, IsLeastOfPhases, IsObjectCode, code_text}
+use Rattle.ca_apgcode.specs.Objects.{IsTextOf, IsTurnedText, IsPhaseText, IsLeastOfPhases, IsObjectCode, code_text}
 use Rattle.ca_apgcode.specs.Orientations.{turned, IsCopy, AreAmong}
 use Rattle.ca_apgcode.specs.declared.object.Kind.{Kind}
 use Rattle.ca_apgcode.specs.declared.orientation.Orientation.{Orientation}

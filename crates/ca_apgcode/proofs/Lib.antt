@@ -1,6 +1,7 @@
 pub mod Columns
 pub mod Steps
 pub mod Strips
+pub mod Lengths
 pub mod StepTexts
 pub mod StepColumns
 pub mod Codes
@@ -13,6 +14,7 @@ pub mod Heights
 pub mod LeastBoxes
 pub mod Leasts
 pub mod RowBits
+pub mod ColumnBits
 pub mod PlaneBoxes
 pub mod TurnedBoxes
 pub mod EightTexts

@@ -1,16 +1,15 @@
 -- The least text of phases, one after the other.
-use Rattle.std.proofs.Common.{◌≡◌, ◌≢◌, ℕ, ◌+◌, ◌<◌, ◌≤◌, List, [], ◌∷◌, Option, Some, None, refl, sym, ap, subst, ◌∙◌, inl, inr, ℤ, pos, ◌+ℤ◌, arith}
+use Rattle.std.proofs.Common.{Result, Ok, Err, IfOk, Vec, Global, ◌≢◌, ℕ, ◌+◌, List, Option, Some, None, sym, ap, subst, ◌∙◌, inl, inr, ℤ, pos, ◌+ℤ◌, arith}
 use Rattle.std.specs.Prelude.{neg_ℤ, ◌≤ℤ◌}
 use Rattle.std.proofs.lemmas.Bool.{cases_eq}
 use Rattle.std.proofs.lemmas.Int.{ints}
 use Rattle.ca_apgcode.specs.Grids.{GridCells}
-use Rattle.ca_apgcode.specs.Order.{Precedes, IsLeastText}
 use Rattle.ca_apgcode.specs.Objects.{IsBoxRound, IsTurnedText, IsPhaseText, IsLeastAmong, IsLeastOfPhases}
 use Rattle.ca_apgcode.specs.Orientations.{turned}
 use Rattle.ca_apgcode.specs.declared.orientation.Orientation.{Orientation}
 use Rattle.ca_apgcode.specs.declared.orientation.Orientation.TheVariants.{Upright, QuarterTurn, HalfTurn, ThreeQuarterTurn, EastWest, NorthSouth, Diagonal, Antidiagonal}
-use Rattle.ca_apgcode.specs.inner.Least.{lesser}
-use Rattle.ca_apgcode.proofs.Leasts.{IsLeastText-from, is_each, precedes_after}
+use Rattle.ca_apgcode.specs.inner.Rounds.{IsLeastWith}
+use Rattle.ca_apgcode.proofs.Leasts.{precedes_after}
 use Rattle.ca_apgcode.proofs.PlaneBoxes.{lives_near}
 use Rattle.ca_apgcode.proofs.EightTexts.{neg_twice}
 
@@ -31,19 +30,26 @@ least_first phases n text none here = record {
 }
 
 -- where both have
-pub least_more : (phases : ℕ → ℤ → ℤ → ℕ) (n : ℕ) (text least : List ℕ) → IsLeastOfPhases phases n (Some least) → IsLeastAmong (IsTurnedText (phases n)) text → IsLeastOfPhases phases (n + 1) (Some (lesser text least))
-least_more phases n text least before here =
-    let both = IsLeastText-from (text ∷ []) least in
-    record {
-      is_one = is_each (IsPhaseText phases (n + 1)) (least ∷ text ∷ []) (lesser text least) (more least before.is_one, ((n, omega arith, here.is_one), tt)) both.is_one;
-      is_first = λ other is_other precedes.
-          text_of_more phases n ⊥ other
-          (λ earlier. before.is_first other earlier (precedes_after other (lesser text least) least precedes both.is_first.0))
-          (λ there. here.is_first other there (precedes_after other (lesser text least) text precedes both.is_first.1.0)) is_other;
-    }
-  where
-    more : (text : List ℕ) → IsPhaseText phases n text → IsPhaseText phases (n + 1) text
-    more text is = let below = is.1 in (is.0, omega (arith, below), is.2)
+pub least_more : (phases : ℕ → ℤ → ℤ → ℕ) (n : ℕ) (now least : List ℕ) → IsLeastOfPhases phases n (Some least) → IsLeastWith (IsTurnedText (phases n)) least now → IsLeastOfPhases phases (n + 1) (Some now)
+least_more phases n now least before here = record {
+  is_one = elim here.is_one [
+    | inl same ↦ subst (IsPhaseText phases (n + 1)) (sym same) (let below = before.is_one.1 in (before.is_one.0, omega (arith, below), before.is_one.2))
+    | inr turned ↦ (n, omega arith, turned)
+  ];
+  is_first = λ other is_other precedes.
+      text_of_more phases n ⊥ other
+      (λ earlier. before.is_first other earlier (precedes_after other now least precedes here.not_after))
+      (λ there. here.is_first other there precedes) is_other;
+}
+
+-- as calls give them
+pub first_if_ok : {E : Type 0} (r : Result (Vec ℕ Global) E) (phases : ℕ → ℤ → ℤ → ℕ) (n : ℕ) → IsLeastOfPhases phases n None → IfOk r (λ text. IsLeastAmong (IsTurnedText (phases n)) text.items) → IfOk r (λ text. IsLeastOfPhases phases (n + 1) (Some text.items))
+first_if_ok (Ok text) phases n none here = least_first phases n text.items none here
+first_if_ok (Err e) phases n none here = tt
+
+pub more_if_ok : {E : Type 0} (r : Result (Vec ℕ Global) E) (phases : ℕ → ℤ → ℤ → ℕ) (n : ℕ) (least : List ℕ) → IsLeastOfPhases phases n (Some least) → IfOk r (λ text. IsLeastWith (IsTurnedText (phases n)) least text.items) → IfOk r (λ text. IsLeastOfPhases phases (n + 1) (Some text.items))
+more_if_ok (Ok text) phases n least before here = least_more phases n text.items least before here
+more_if_ok (Err e) phases n least before here = tt
 
 -- where it has none
 pub least_same : (phases : ℕ → ℤ → ℤ → ℕ) (n : ℕ) (least : Option (List ℕ)) → ((text : List ℕ) → IsTurnedText (phases n) text → ⊥) → IsLeastOfPhases phases n least → IsLeastOfPhases phases (n + 1) least

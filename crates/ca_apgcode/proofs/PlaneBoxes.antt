@@ -1,12 +1,12 @@
 -- Boxes round the live cells of planes: a plane has one at most.
-use Rattle.std.proofs.Common.{◌≡◌, ◌≢◌, ℕ, zero, suc, ◌+◌, ◌-◌, ◌<◌, ◌≤◌, List, length, get_or, refl, sym, ap, ap₂, subst, ◌∙◌, ℤ, pos, negsuc, ◌+ℤ◌, ◌-ℤ◌, arith}
-use Rattle.std.specs.Prelude.{neg_ℤ, ◌≤ℤ◌}
+use Rattle.std.proofs.Common.{◌≡◌, ◌≢◌, ℕ, zero, suc, ◌-◌, ◌<◌, ◌≤◌, List, length, refl, sym, ap, ap₂, subst, ◌∙◌, ℤ, pos, negsuc, ◌+ℤ◌, ◌-ℤ◌, arith}
+use Rattle.std.specs.Prelude.{◌≤ℤ◌}
 use Rattle.std.specs.Int.{bit_at}
 use Rattle.std.proofs.lemmas.Int.{ints}
 use Rattle.std.proofs.lemmas.List.{get_or_past}
 use Rattle.std.proofs.lemmas.Nat.Bits.{bit_at-zero}
 use Rattle.ca_plane.specs.Shown.{from_corner}
-use Rattle.ca_apgcode.specs.Grids.{GridCells, IsGrid, IsLeastGrid, cell}
+use Rattle.ca_apgcode.specs.Grids.{GridCells, cell}
 use Rattle.ca_apgcode.specs.Representation.{IsRepresentation}
 use Rattle.ca_apgcode.specs.Objects.{live, IsBoxRound, IsTextOf}
 use Rattle.ca_apgcode.proofs.Codes.{one_least_grid, one_text, live_column, live_row}

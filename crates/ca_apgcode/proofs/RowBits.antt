@@ -1,10 +1,11 @@
 -- Rows of cells as numbers.
-use Rattle.std.proofs.Common.{◌≡◌, ◌≢◌, ℕ, zero, suc, ◌+◌, ◌-◌, ◌*◌, ◌%◌, ◌^◌, ◌<◌, ◌≤◌, List, [], ◌∷◌, ◌++◌, length, get_or, reverse, bit_or, refl, sym, ap, subst, ◌∙◌, inl, inr, arith}
+use Rattle.std.proofs.Common.{◌≡◌, ◌≢◌, ℕ, ◌+◌, ◌-◌, ◌*◌, ◌%◌, ◌^◌, ◌<◌, List, [], ◌∷◌, ◌++◌, length, get_or, reverse, bit_or, Bool, true, false, IsTrue, ◌↔◌, refl, sym, ap, subst, ◌∙◌, inl, inr, arith}
 use Rattle.std.specs.Int.{bit_at, w64}
-use Rattle.std.proofs.lemmas.Bool.{cases_lt, cases_eq}
+use mir.Val.{bool_byte}
+use Rattle.std.proofs.lemmas.Bool.{cases_lt, cases_eq, false≢true}
 use Rattle.std.proofs.lemmas.List.{get_or_past, get_or_push, get_or_append_left, length_push, get_or-reverse, length-reverse}
 use Rattle.std.proofs.lemmas.Nat.{pow_pos, pow_below}
-use Rattle.std.proofs.lemmas.Nat.Bits.{bit_at_set_same, bit_at_set_other, bit_at_above, bit_at-lt}
+use Rattle.std.proofs.lemmas.Nat.Bits.{bit_at_set_same, bit_at_set_other, bit_at_above, bit_at_or, bit_at-lt, bit_at-zero, same_from_bits}
 use Rattle.ca_apgcode.specs.Grids.{GridCells, IsGrid, cell}
 use Rattle.ca_apgcode.specs.inner.Turned.{IsMirrored, IsTransposed}
 use Rattle.ca_apgcode.proofs.Columns.{live_below}
@@ -41,6 +42,25 @@ IsRowUpTo-dead grid y x row dead is = record {
   ];
   low = pow_next row x is.low;
 }
+
+-- with the bit of its cell
+pub IsRowUpTo-bit : (grid : GridCells) (y x row n : ℕ) → x < 40 → n ≡ cell grid x y → IsRowUpTo grid y x row → IsRowUpTo grid y (x + 1) (bit_or row (n * 2 ^ x % 2 ^ 64))
+IsRowUpTo-bit grid y x row n narrow bit is = elim (cases_eq n 1) [
+  | inl one ↦ rw one (IsRowUpTo-live grid y x row narrow (sym bit ∙ one) is)
+  | inr other ↦
+      let none : n ≡ 0 = let below = bit_at-lt (get_or grid.columns x 0) y in omega (arith, other, bit, below) in
+      rw (none, or_none row) (IsRowUpTo-dead grid y x row (λ one. other (bit ∙ one)) is)
+]
+  where
+    or_none : (m : ℕ) → bit_or m (0 * 2 ^ x % 2 ^ 64) ≡ m
+    or_none m =
+        let none : 0 * 2 ^ x % 2 ^ 64 ≡ 0 = omega arith in
+        same_from_bits (bit_or m (0 * 2 ^ x % 2 ^ 64)) m (λ i. ap (λ k. bit_at (bit_or m k) i) none ∙ (bit_at_or m 0 i ∙ (let dead = bit_at-zero i in omega (arith, dead))))
+
+-- whether a cell is live as a number
+pub bit_of : (grid : GridCells) (x y : ℕ) (live : Bool) → IsTrue live ↔ (cell grid x y ≡ 1) → bool_byte live ≡ cell grid x y
+bit_of grid x y true is = sym (is.0 refl)
+bit_of grid x y false is = let below = bit_at-lt (get_or grid.columns x 0) y in let not : cell grid x y ≢ 1 = λ one. false≢true (is.1 one) in omega (arith, below, not)
 
 -- a whole row
 pub row_cells : (grid : GridCells) (y row : ℕ) → IsRowUpTo grid y (length grid.columns) row → (x : ℕ) → bit_at row x ≡ cell grid x y

@@ -32,3 +32,9 @@ pub record IsLeastGrid (grid : GridCells) : Type 0 where
   pub east : (y : ℕ) × (cell grid (length grid.columns - 1) y ≡ 1)
   pub north : (x : ℕ) × (cell grid x 0 ≡ 1)
   pub south : (x : ℕ) × (cell grid x (grid.height - 1) ≡ 1)
+
+-- the box has just the cells of these columns, and is a least one
+pub record IsLeastOf (columns : List ℕ) (grid : GridCells) : Type 0 where
+  pub is_grid : IsGrid grid
+  pub is_least : IsLeastGrid grid
+  pub same : (x : ℕ) → slice_index grid.columns x ≡ slice_index columns x

@@ -1,8 +1,8 @@
 -- What only private contracts speak of.
 pub mod Puts
+pub mod Lengths
 pub mod Reading
 pub mod Drawing
-pub mod Boxes
 pub mod Turned
 pub mod Least
 pub mod Rounds

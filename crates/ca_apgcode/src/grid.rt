@@ -3,9 +3,8 @@
 ghost use Rattle.std.specs.Prelude.{◌≡◌, ℕ, ◌+◌, ◌-◌, ◌%◌, ◌^◌, ◌<◌, ◌≤◌, ◌↔◌, length, slice_index};
 ghost use Rattle.std.specs.Prelude.{IsTrue, IfOk, IfSome, IfNone, MatchOption, SomeIndex, EachIndex};
 ghost use Rattle.std.specs.Int.{bit_at};
-ghost use Rattle.ca_apgcode.specs.Grids.{GridCells as Cells, IsGrid, cell, MakesLive};
+ghost use Rattle.ca_apgcode.specs.Grids.{GridCells as Cells, IsGrid, IsLeastOf, cell, MakesLive};
 ghost use Rattle.ca_apgcode.specs.Representation.{five_cells};
-ghost use Rattle.ca_apgcode.specs.inner.Boxes.{IsLeastOf};
 
 mod turning;
 
@@ -88,9 +87,19 @@ impl Grid {
         self.columns[usize::from(x)] = column | (1 << y);
     }
 
-    /// The least box round the cells of some columns, where these begin with its column in the west and its
-    /// row in the north.
-    pub(crate) fn of_columns(columns: Vec<u64>) -> Option<Grid>
+    /// The cells of a column, as a binary number with the northern cell as 1.
+    pub fn column(&self, x: u8) -> u64
+        requires { x < length self.now.columns }
+        ensures column { result ≡ slice_index self.now.columns x }
+        ensures low { result < 2 ^ self.now.height }
+        ensures grid { IsGrid self.now }
+    {
+        self.columns[usize::from(x)]
+    }
+
+    /// The least box round the cells of some columns, each of them a binary number with the northern cell as 1, where
+    /// they begin with its column in the west and its row in the north.
+    pub fn of_columns(columns: Vec<u64>) -> Option<Grid>
         requires width { length columns.items ≤ 40 }
         requires height { (x : ℕ) → slice_index columns.items x < 2 ^ 40 }
         ensures some { IfSome result (IsLeastOf columns.items) }

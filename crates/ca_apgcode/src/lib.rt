@@ -7,6 +7,7 @@ mod fault;
 mod front;
 mod grid;
 pub mod laws;
+mod length;
 mod object;
 mod order;
 mod orientation;

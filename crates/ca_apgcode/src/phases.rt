@@ -4,7 +4,7 @@ ghost use Rattle.std.specs.Prelude.{ℕ, ◌+◌, ℤ, IfOk, Some, option_map};
 ghost use Rattle.ca_apgcode.specs.Objects.{IsBoxRound, IsLeastOfPhases};
 
 use crate::grid::Grid;
-use crate::rounds::{least_representation, lesser_text};
+use crate::rounds::{least_of_turns, least_representation};
 use ca_plane::Memory;
 use std::alloc::Global;
 
@@ -19,9 +19,8 @@ pub fn least_with(alloc: Global, least: Option<Vec<u8>>, grid: &Grid) -> Result<
         → IsLeastOfPhases phases n (option_map (λ text. text.items) least)
         → IfOk result (λ now. IsLeastOfPhases phases (n + 1) (Some now.items)) }
 {
-    let text = least_representation(alloc, grid)?;
     match least {
-        Some(least) => Ok(lesser_text(text, least)),
-        None => Ok(text),
+        Some(least) => least_of_turns(alloc, least, grid),
+        None => least_representation(alloc, grid),
     }
 }

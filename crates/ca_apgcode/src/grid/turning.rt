@@ -1,11 +1,11 @@
 //! Grids that are turned and reflected.
 
-ghost use Rattle.std.specs.Prelude.{◌≡◌, ℕ, ℤ, ◌<◌, ◌^◌, length, IfOk, OnOk, reverse, ◌++◌, ◌∷◌, []};
+ghost use Rattle.std.specs.Prelude.{◌≡◌, ℕ, ℤ, ◌-◌, ◌<◌, ◌≤◌, ◌^◌, length, IfOk, OnOk, reverse, ◌++◌, ◌∷◌, []};
 ghost use Rattle.std.specs.Int.{bit_at};
 ghost use Rattle.ca_apgcode.specs.Grids.{cell};
 ghost use Rattle.ca_apgcode.specs.Objects.{IsBoxRound};
 ghost use Rattle.ca_apgcode.specs.Orientations.{turned};
-ghost use Rattle.ca_apgcode.specs.inner.Turned.{IsMirrored, IsTransposed};
+ghost use Rattle.ca_apgcode.specs.inner.Turned.{IsMirrored, IsFlipped, IsTransposed};
 
 use super::Grid;
 use crate::orientation::Orientation;
@@ -26,14 +26,10 @@ impl Grid {
         match orientation {
             Orientation::Upright => self.mirrored(alloc)?.mirrored(alloc),
             Orientation::QuarterTurn => self.transposed(alloc)?.mirrored(alloc),
-            Orientation::HalfTurn => self
-                .transposed(alloc)?
-                .mirrored(alloc)?
-                .transposed(alloc)?
-                .mirrored(alloc),
+            Orientation::HalfTurn => self.mirrored(alloc)?.flipped(alloc),
             Orientation::ThreeQuarterTurn => self.mirrored(alloc)?.transposed(alloc),
             Orientation::EastWest => self.mirrored(alloc),
-            Orientation::NorthSouth => self.transposed(alloc)?.mirrored(alloc)?.transposed(alloc),
+            Orientation::NorthSouth => self.flipped(alloc),
             Orientation::Diagonal => self.transposed(alloc),
             Orientation::Antidiagonal => self.mirrored(alloc)?.transposed(alloc)?.mirrored(alloc),
         }
@@ -45,6 +41,20 @@ impl Grid {
     {
         let mut columns = Vec::from_slice(alloc, &self.columns)?;
         columns.reverse();
+        Ok(Grid {
+            height: self.height,
+            columns,
+        })
+    }
+
+    // The grid with north and south exchanged.
+    pub(crate) fn flipped(&self, alloc: Global) -> Result<Grid, Memory>
+        ensures { IfOk result (IsFlipped self.now) }
+    {
+        let mut columns = Vec::new(alloc);
+        'columns: for column in &self.columns {
+            columns.push(flipped_column(*column, self.height))?;
+        }
         Ok(Grid {
             height: self.height,
             columns,
@@ -73,10 +83,18 @@ impl Grid {
     {
         let mut row = 0;
         'columns: for x in 0..self.width() {
-            if self.is_live(x, y) {
-                row |= 1 << x;
-            }
+            row |= u64::from(self.is_live(x, y)) << x;
         }
         row
     }
+}
+
+// The cells of a column of such a height, with the southern cell as 1.
+fn flipped_column(column: u64, height: u8) -> u64
+    requires low { column < 2 ^ height }
+    requires most { height ≤ 40 }
+    ensures cells { (y : ℕ) → y < height → bit_at result y ≡ bit_at column (height - 1 - y) }
+    ensures low { result < 2 ^ height }
+{
+    column.reverse_bits() >> (64 - height.max(1))
 }

@@ -1,4 +1,4 @@
-use Rattle.std.proofs.Common.{◌≡◌, reverse, ap, subst, ◌∙◌}
+use Rattle.std.proofs.Common.{reverse, ap, subst, ◌∙◌}
 use Rattle.ca_apgcode.specs.Grids.{GridCells}
 use Rattle.ca_apgcode.specs.inner.Turned.{IsMirrored}
 use Rattle.ca_apgcode.proofs.RowBits.{IsMirrored-reverse}

@@ -1,20 +1,12 @@
-use Rattle.std.proofs.Common.{◌≡◌, ◌+◌, length, refl, sym, subst, arith}
-use Rattle.std.proofs.lemmas.Bool.{false≢true}
-use Rattle.ca_apgcode.proofs.RowBits.{IsRowUpTo, IsRowUpTo-live, IsRowUpTo-dead, row_cells}
+use Rattle.std.proofs.Common.{◌≡◌, length, subst, ◌∙◌, arith}
+use Rattle.ca_apgcode.proofs.RowBits.{IsRowUpTo, IsRowUpTo-bit, bit_of, row_cells}
 use Rattle.ca_apgcode.proofs.grid.Grid.row.Goals as goal
-use Rattle.ca_apgcode.proofs.grid.Grid.row.Goals.{then-is_live, else-is_live}
 
 pub columns-preserved : goal.columns-preserved
 columns-preserved c =
     let grid = c.args.self.now in
-    elim c.if-is_live.branch [
-      | then-is_live w ↦
-          subst (IsRowUpTo grid c.args.y (c.columns.x + 1)) (sym w.row-is)
-          (IsRowUpTo-live grid c.args.y c.columns.x c.columns.row (omega (arith, c.columns-test.true, c.width-x-end.ensures.most)) (w.if-is_live.ensures.0 refl) c.columns.invariant)
-      | else-is_live w ↦
-          subst (IsRowUpTo grid c.args.y (c.columns.x + 1)) (sym w.row-is)
-          (IsRowUpTo-dead grid c.args.y c.columns.x c.columns.row (λ live. false≢true (w.if-is_live.ensures.1 live)) c.columns.invariant)
-    ]
+    IsRowUpTo-bit grid c.args.y c.columns.x c.columns.row c.from.result (omega (arith, c.columns-test.true, c.width-x-end.ensures.most))
+    (c.from.ensures ∙ bit_of grid c.columns.x c.args.y c.is_live.result c.is_live.ensures) c.columns.invariant
 
 pub returns-clause-cells : goal.returns-clause-cells
 returns-clause-cells c =

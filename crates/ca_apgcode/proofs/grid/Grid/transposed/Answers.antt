@@ -1,4 +1,4 @@
-use Rattle.std.proofs.Common.{◌≡◌, sym, ap, subst, ◌∙◌, arith}
+use Rattle.std.proofs.Common.{◌≡◌, sym, ap, subst, arith}
 use Rattle.ca_apgcode.specs.Grids.{GridCells, IsGrid}
 use Rattle.ca_apgcode.specs.inner.Turned.{IsTransposed}
 use Rattle.ca_apgcode.proofs.RowBits.{AreRows, IsTransposed-rows}

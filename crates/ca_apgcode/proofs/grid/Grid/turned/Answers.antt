@@ -1,9 +1,9 @@
-use Rattle.std.proofs.Common.{◌≡◌, ℤ, neg_ℤ, IfOk, ap, sym, subst}
+use Rattle.std.proofs.Common.{IfOk, ap, sym, subst}
 use Rattle.ca_apgcode.specs.Objects.{IsBoxRound}
 use Rattle.ca_apgcode.specs.Orientations.{turned}
-use Rattle.ca_apgcode.specs.declared.orientation.Orientation.TheVariants.{Upright, QuarterTurn, HalfTurn, ThreeQuarterTurn, EastWest, NorthSouth, Diagonal, Antidiagonal}
+use Rattle.ca_apgcode.specs.declared.orientation.Orientation.TheVariants.{Upright, ThreeQuarterTurn, EastWest, Diagonal}
 use Rattle.ca_apgcode.proofs.EightTexts.{neg_twice}
-use Rattle.ca_apgcode.proofs.TurnedBoxes.{IsBoxRound-mirrored, IsBoxRound-transposed, mirrored_if_ok, transposed_if_ok, box_if_ok}
+use Rattle.ca_apgcode.proofs.TurnedBoxes.{IsBoxRound-mirrored, IsBoxRound-transposed, mirrored_if_ok, flipped_if_ok, transposed_if_ok, box_if_ok}
 use Rattle.ca_apgcode.proofs.grid.Grid.turned.Goals as goal
 
 pub returns-in_ok-mirrored-in-Upright : goal.returns-in_ok-mirrored-in-Upright
@@ -15,12 +15,9 @@ pub returns-in_ok-transposed-in-QuarterTurn : goal.returns-in_ok-transposed-in-Q
 returns-in_ok-transposed-in-QuarterTurn c = λ cells box. subst (λ o. IfOk c.mirrored-in-QuarterTurn-2.result (IsBoxRound (turned o cells))) (sym c.in-QuarterTurn.is)
     (mirrored_if_ok c.mirrored-in-QuarterTurn-2.result (turned Diagonal cells) c.in_ok-transposed-in-QuarterTurn.field-0 (IsBoxRound-transposed cells c.args.self.now c.in_ok-transposed-in-QuarterTurn.field-0 c.in_ok-transposed-in-QuarterTurn.ensures box) c.mirrored-in-QuarterTurn-2.ensures)
 
-pub returns-in_ok-transposed-in-HalfTurn-2 : goal.returns-in_ok-transposed-in-HalfTurn-2
-returns-in_ok-transposed-in-HalfTurn-2 c = λ cells box. subst (λ o. IfOk c.mirrored-in-HalfTurn-4.result (IsBoxRound (turned o cells))) (sym c.in-HalfTurn.is)
-    (let t = IsBoxRound-transposed cells c.args.self.now c.in_ok-transposed-in-HalfTurn.field-0 c.in_ok-transposed-in-HalfTurn.ensures box in
-    let m = IsBoxRound-mirrored (turned Diagonal cells) c.in_ok-transposed-in-HalfTurn.field-0 c.in_ok-mirrored-in-HalfTurn.field-0 c.in_ok-mirrored-in-HalfTurn.ensures t in
-    let n = IsBoxRound-transposed (turned QuarterTurn cells) c.in_ok-mirrored-in-HalfTurn.field-0 c.in_ok-transposed-in-HalfTurn-2.field-0 c.in_ok-transposed-in-HalfTurn-2.ensures m in
-    mirrored_if_ok c.mirrored-in-HalfTurn-4.result (turned NorthSouth cells) c.in_ok-transposed-in-HalfTurn-2.field-0 n c.mirrored-in-HalfTurn-4.ensures)
+pub returns-in_ok-mirrored-in-HalfTurn : goal.returns-in_ok-mirrored-in-HalfTurn
+returns-in_ok-mirrored-in-HalfTurn c = λ cells box. subst (λ o. IfOk c.flipped-in-HalfTurn.result (IsBoxRound (turned o cells))) (sym c.in-HalfTurn.is)
+    (flipped_if_ok c.flipped-in-HalfTurn.result (turned EastWest cells) c.in_ok-mirrored-in-HalfTurn.field-0 (IsBoxRound-mirrored cells c.args.self.now c.in_ok-mirrored-in-HalfTurn.field-0 c.in_ok-mirrored-in-HalfTurn.ensures box) c.flipped-in-HalfTurn.ensures)
 
 pub returns-in_ok-mirrored-in-ThreeQuarterTurn : goal.returns-in_ok-mirrored-in-ThreeQuarterTurn
 returns-in_ok-mirrored-in-ThreeQuarterTurn c = λ cells box. subst (λ o. IfOk c.transposed-in-ThreeQuarterTurn-2.result (IsBoxRound (turned o cells))) (sym c.in-ThreeQuarterTurn.is)
@@ -30,11 +27,9 @@ pub returns-in-EastWest : goal.returns-in-EastWest
 returns-in-EastWest c = λ cells box. subst (λ o. IfOk c.mirrored-in-EastWest.result (IsBoxRound (turned o cells))) (sym c.in-EastWest.is)
     (mirrored_if_ok c.mirrored-in-EastWest.result cells c.args.self.now box c.mirrored-in-EastWest.ensures)
 
-pub returns-in_ok-mirrored-in-NorthSouth : goal.returns-in_ok-mirrored-in-NorthSouth
-returns-in_ok-mirrored-in-NorthSouth c = λ cells box. subst (λ o. IfOk c.transposed-in-NorthSouth-3.result (IsBoxRound (turned o cells))) (sym c.in-NorthSouth.is)
-    (let t = IsBoxRound-transposed cells c.args.self.now c.in_ok-transposed-in-NorthSouth.field-0 c.in_ok-transposed-in-NorthSouth.ensures box in
-    let m = IsBoxRound-mirrored (turned Diagonal cells) c.in_ok-transposed-in-NorthSouth.field-0 c.in_ok-mirrored-in-NorthSouth.field-0 c.in_ok-mirrored-in-NorthSouth.ensures t in
-    transposed_if_ok c.transposed-in-NorthSouth-3.result (turned QuarterTurn cells) c.in_ok-mirrored-in-NorthSouth.field-0 m c.transposed-in-NorthSouth-3.ensures)
+pub returns-in-NorthSouth : goal.returns-in-NorthSouth
+returns-in-NorthSouth c = λ cells box. subst (λ o. IfOk c.flipped-in-NorthSouth.result (IsBoxRound (turned o cells))) (sym c.in-NorthSouth.is)
+    (flipped_if_ok c.flipped-in-NorthSouth.result cells c.args.self.now box c.flipped-in-NorthSouth.ensures)
 
 pub returns-in-Diagonal : goal.returns-in-Diagonal
 returns-in-Diagonal c = λ cells box. subst (λ o. IfOk c.transposed-in-Diagonal.result (IsBoxRound (turned o cells))) (sym c.in-Diagonal.is)
