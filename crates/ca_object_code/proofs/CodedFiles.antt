@@ -1,12 +1,11 @@
 -- What is found of the plane of a file's pattern with its code, and what finding it may need.
-use Rattle.std.proofs.Common.{◌≡◌, ℕ, suc, ◌+◌, ◌-◌, ◌*◌, ◌^◌, ◌≤◌, ◌<◌, List, Option, Some, None, Vec, Global, Bool, true, false, inl, inr, refl, sym, subst, ◌∙◌, arith}
+use Rattle.std.proofs.Common.{◌≡◌, ℕ, suc, ◌+◌, ◌*◌, ◌^◌, ◌≤◌, List, Option, Some, None, Vec, Global, Bool, true, false, inl, inr, refl, sym, subst, ◌∙◌, arith}
 use Rattle.std.specs.Prelude.{ℤ, option_map, MatchOption, IsTrue, ◌↔◌}
-use Rattle.std.proofs.Math.Nat.{mul-le-mul_left, mul-le-mul_right}
+use Rattle.std.proofs.Math.Nat.{mul-le-mul_right}
 use Rattle.std.proofs.lemmas.Bool.{false≢true}
 use Rattle.ca_plane.specs.Plane.{Picture}
 use Rattle.ca_plane.specs.Plane as plane
 use Rattle.ca_plane.specs.Generations.{after, cells_after}
-use Rattle.ca_plane.specs.Limits.{longest_period}
 use Rattle.ca_plane.proofs.After.{after_same, after_again}
 use Rattle.ca_quad.specs.declared.node.Node.{Node}
 use Rattle.ca_quad.specs.declared.tree.Tree.{Tree}
@@ -17,7 +16,7 @@ use Rattle.ca_pattern.specs.declared.pattern.StoredTree.{StoredTree}
 use Rattle.ca_pattern.specs.PatternCells.{IsTreeOf}
 use Rattle.ca_pattern.specs.PatternTrees.{ShowsTree}
 use Rattle.ca_pattern.proofs.CellsNearMiddle.{trimmed_low}
-use Rattle.ca_identify.specs.Identified.{IsIdentity, run_work}
+use Rattle.ca_identify.specs.Identified.{IsIdentity}
 use Rattle.ca_identify.specs.TreeLooks.{IsTreeLook, TakesSteps, TakesRunAndSearch}
 use Rattle.ca_identify.specs.declared.identity.Identity.{Identity}
 use Rattle.ca_identify.specs.declared.identity.Identity.TheVariants.{Empty, StillLife, Oscillator, Spaceship, Dies, Unknown}

@@ -1,5 +1,5 @@
 -- Live cells that are put into a grid.
-use Rattle.std.proofs.Common.{◌≡◌, ◌≢◌, ℕ, List, [], ◌∷◌, ◌++◌, get_or, refl, sym, ap, ap₂, ◌∙◌, inl, inr, ℤ, pos, ◌+ℤ◌, arith}
+use Rattle.std.proofs.Common.{◌≡◌, ◌≢◌, ℕ, [], ◌∷◌, ◌++◌, get_or, sym, ap, ap₂, ◌∙◌, inl, inr, pos, ◌+ℤ◌, arith}
 use Rattle.std.specs.List.{All}
 use Rattle.std.proofs.lemmas.Bool.{cases_eq}
 use Rattle.std.proofs.lemmas.Int.{ints}
@@ -9,11 +9,11 @@ use Rattle.ca_plane.specs.declared.point.Point.{Point}
 use Rattle.ca_plane.specs.Plane.{Picture}
 use Rattle.ca_plane.specs.Plane as plane
 use Rattle.ca_plane.proofs.Pictures.{Contains-cell}
-use Rattle.ca_apgcode.specs.Grids.{GridCells, MakesLive, cell}
+use Rattle.ca_apgcode.specs.Grids.{GridCells, cell}
 use Rattle.ca_apgcode.specs.Objects.{live}
 use Rattle.ca_apgcode.proofs.PlaneBoxes.{live_one}
 use Rattle.ca_object_code.specs.declared.drawing.Window.{Window}
-use Rattle.ca_object_code.specs.inner.Drawn.{FitsWindow, IsPlace, PutsCell, IsLiveAt, ShowsNoOther, IsDrawn}
+use Rattle.ca_object_code.specs.inner.Drawn.{FitsWindow, PutsCell, IsLiveAt, ShowsNoOther, IsDrawn}
 
 -- ---- a cell more
 

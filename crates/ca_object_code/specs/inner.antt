@@ -1,4 +1,6 @@
 -- What only private contracts speak of.
 pub mod Drawn
+pub mod Frames
+pub mod Large
 pub mod Spent
 pub mod CodedLooks

@@ -11,14 +11,16 @@ ghost use Rattle.ca_pattern.specs.Limited.{AreGoodLimits};
 ghost use Rattle.ca_pattern.specs.PatternTrees.{ShowsTree, IsPattern};
 ghost use Rattle.ca_object_code.specs.Codes.{IsCodeOfFile, IsUncodedAfter};
 ghost use Rattle.ca_object_code.specs.inner.CodedLooks.{IsCodedLook};
+ghost use Rattle.ca_object_code.specs.inner.Frames.{MayGoBy};
 ghost use Rattle.ca_object_code.specs.inner.Spent.{TakesRunAndTwice};
 
 use crate::code::code_of_tree;
 use crate::coded_look::CodedLook;
+use crate::quick::quick_code;
 use crate::rules::has_codes;
 use ca_identify::{Scope, look_at_plane};
 use ca_pattern::{Limits, LocatedFault, Observer, StoredTree, leaper_of, open_pattern};
-use ca_plane::Automaton;
+use ca_plane::{Automaton, Counting};
 use ca_quad::Tree;
 use ca_rule::Table;
 use ca_run::{LeapFault, Leaper};
@@ -29,11 +31,12 @@ use std::alloc::Global;
 /// or counts other neighbours than all eight or four.
 ///
 /// The limit of the scope is from 1 to 4294967295. What is found is then taken through its period, one generation after the
-/// other. The observer sees nothing of that.
+/// other, unless it is so large that no phase fits into 40 by 40 cells. The observer sees nothing of that.
 ///
 /// # Errors
 ///
-/// As for `ca_identify::identify`. The work of the generations through the period counts too.
+/// As for `ca_identify::identify`. The work of the generations through the period counts too, but not where at most 1048576
+/// phases all fit into 40 by 40 cells.
 #[tactic(auto, using(ca_identify::proofs::IdentifiedFiles::opened_may_want))]
 pub fn identify_with_code<O: Observer>(
     alloc: Global,
@@ -56,6 +59,7 @@ pub fn identify_with_code<O: Observer>(
 {
     let pattern = open_pattern(alloc, bytes, tables)?;
     let coded = has_codes(&pattern.rule);
+    let counting = pattern.rule.counting();
     let Ok(StoredTree { store, tree }) = pattern.cells.into_squares(alloc) else {
         return Err(LocatedFault::Memory);
     };
@@ -69,6 +73,7 @@ pub fn identify_with_code<O: Observer>(
         generations,
         scope,
         coded,
+        counting,
         observer,
     ) {
         Ok(found) => Ok(found),
@@ -85,12 +90,14 @@ fn look_and_code<A: Automaton, O: Observer>(
     generations: u64,
     scope: Scope,
     coded: bool,
+    counting: Option<Counting>,
     observer: &mut O,
 ) -> Result<CodedLook, LeapFault>
     requires pattern { IsPattern leaper.old.nodes pattern }
     requires few { generations ≤ most_generations }
     requires some { 1 ≤ scope.limit }
     requires most { scope.limit ≤ longest_period }
+    requires counting { MayGoBy (A.next_of leaper.old.rule) (cell leaper.old.nodes pattern) counting }
     ensures found { (cells : Picture) → ShowsTree leaper.old.nodes pattern cells → IfOk result
         (IsCodedLook (A.next_of leaper.old.rule) cells generations scope coded) }
     ensures goes_on { LeaperGrows A leaper.old leaper.new }
@@ -104,6 +111,12 @@ fn look_and_code<A: Automaton, O: Observer>(
     let look = found.look;
     if !coded {
         return Ok(CodedLook { look, code: None });
+    }
+    if let Some(quick) = quick_code(alloc, leaper.store(), &found.tree, look.identity, counting)? {
+        return Ok(CodedLook {
+            look,
+            code: Some(quick),
+        });
     }
     let code = code_of_tree(alloc, leaper, &found.tree, look.identity)?;
     Ok(CodedLook { look, code })

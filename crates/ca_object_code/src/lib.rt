@@ -6,8 +6,13 @@ mod code;
 mod coded_look;
 mod drawing;
 mod files;
+mod frame;
+mod frame_box;
+mod large;
 mod phases;
+mod quick;
 mod rules;
+mod small;
 
 pub use code::code_of_tree;
 pub use coded_look::CodedLook;

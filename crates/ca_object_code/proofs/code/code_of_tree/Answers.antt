@@ -1,4 +1,4 @@
-use Rattle.std.proofs.Common.{ℕ, refl, sym, subst}
+use Rattle.std.proofs.Common.{refl, sym, subst}
 use Rattle.ca_plane.specs.Plane as plane
 use Rattle.ca_plane.specs.Generations.{after, cells_after}
 use Rattle.ca_plane.specs.Population.{HasPopulation}

@@ -1,4 +1,4 @@
-use Rattle.std.proofs.Common.{refl, sym, subst, ◌∙◌, arith}
+use Rattle.std.proofs.Common.{sym, subst, ◌∙◌, arith}
 use Rattle.std.specs.List.{All}
 use Rattle.ca_plane.specs.Plane.{Picture}
 use Rattle.ca_plane.proofs.Pictures.{IsListed-turn, cells_end}

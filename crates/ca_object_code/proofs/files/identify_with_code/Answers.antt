@@ -5,8 +5,6 @@ use Rattle.ca_quad.specs.Trees.{cell}
 use Rattle.ca_rule.specs.Rule.{rule_value, next_of}
 use Rattle.ca_pattern.specs.PatternTrees.{ShowsTree, IsPattern}
 use Rattle.ca_pattern.proofs.OpenedFiles.{first_in_range, pattern_of_tree}
-use Rattle.ca_identify.specs.Identified.{IsLookAfter}
-use Rattle.ca_object_code.specs.Codes.{IsCodeAfter}
 use Rattle.ca_object_code.specs.inner.CodedLooks.{IsCodedLook}
 use Rattle.ca_object_code.specs.inner.Spent.{TakesRunAndTwice}
 use Rattle.ca_object_code.proofs.CodedFiles.{ruled_code, file_needs_twice}

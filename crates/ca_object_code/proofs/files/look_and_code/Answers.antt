@@ -1,16 +1,47 @@
-use Rattle.std.proofs.Common.{true, false, None, refl, sym, subst}
+use Rattle.std.proofs.Common.{None, Some, refl, sym, subst}
 use Rattle.std.specs.Prelude.{MatchOption}
 use Rattle.ca_plane.specs.Generations.{cells_after}
 use Rattle.ca_quad.specs.Trees.{cell}
 use Rattle.ca_identify.specs.TreeLooks.{TakesSteps}
+use Rattle.ca_pattern.specs.PatternTrees.{ShowsTree}
 use Rattle.ca_object_code.specs.Codes.{IsNoObject, IsCodeOf, steps_of}
 use Rattle.ca_object_code.specs.inner.CodedLooks.{IsFoundCode}
+use Rattle.ca_object_code.specs.inner.Frames.{MayGoBy}
+use Rattle.ca_object_code.proofs.FrameShows.{later_by}
 use Rattle.ca_object_code.proofs.CodedFiles.{found_period, found_steps, found_shows, found_code, look_alone, look_then_steps}
 use Rattle.ca_object_code.proofs.files.look_and_code.Goals as goal
 
 pub code_of_tree-requires-clause-period : goal.code_of_tree-requires-clause-period
 code_of_tree-requires-clause-period g c =
     found_period (g.A.Automaton.next_of c.args.leaper.now.rule) c.args.leaper.now.nodes c.look_at_plane.new.leaper.nodes c.args.pattern c.args.generations c.args.scope c.in_ok-found.found c.in_ok-found.ensures.look
+
+pub quick_code-requires-clause-period : goal.quick_code-requires-clause-period
+quick_code-requires-clause-period g c =
+    found_period (g.A.Automaton.next_of c.args.leaper.now.rule) c.args.leaper.now.nodes c.look_at_plane.new.leaper.nodes c.args.pattern c.args.generations c.args.scope c.in_ok-found.found c.in_ok-found.ensures.look
+
+pub returns-in-Some-clause-found : goal.returns-in-Some-clause-found
+returns-in-Some-clause-found g c = λ cells shows.
+    let next = g.A.Automaton.next_of c.args.leaper.now.rule in
+    let old = c.args.leaper.now.nodes in
+    let new = c.look_at_plane.new.leaper.nodes in
+    let found = c.in_ok-found.found in
+    let identity = found.look.identity in
+    let (later, stands, shown, look) = c.in_ok-found.ensures.look cells shows in
+    let here = subst (λ s. ShowsTree s found.tree later) (sym c.store-2.ensures.nodes) shown in
+    let by = subst (λ s. MayGoBy next (cell s found.tree) c.args.counting) (sym c.store-2.ensures.nodes)
+    (later_by next c.args.counting (cell old c.args.pattern) (cell new found.tree) c.args.generations (found_shows next old new c.args.pattern c.args.generations c.args.scope found c.in_ok-found.ensures.look) c.requires.counting) in
+    let quick = rw c.in-Some.is at (c.in_ok-quick.ensures next later found.look.limit (g.met.A.Automaton.quiet c.args.leaper.now.rule c.store.ensures.rule) by look.identity here) in (
+      later,
+      stands,
+      look,
+      subst (λ b. IsFoundCode next later identity b (Some c.in-Some.quick)) (sym c.if-not-coded.false) quick,
+    )
+
+pub returns-in_err-quick-clause-takes : goal.returns-in_err-quick-clause-takes
+returns-in_err-quick-clause-takes g c = look_alone (g.A.Automaton.next_of c.args.leaper.now.rule) (cell c.args.leaper.now.nodes c.args.pattern) _ _ _ _ _ c.in_ok-found.ensures.takes
+
+pub returns-in-Some-clause-takes : goal.returns-in-Some-clause-takes
+returns-in-Some-clause-takes g c = look_alone (g.A.Automaton.next_of c.args.leaper.now.rule) (cell c.args.leaper.now.nodes c.args.pattern) _ _ _ _ _ c.in_ok-found.ensures.takes
 
 pub returns-then-not-coded-clause-found : goal.returns-then-not-coded-clause-found
 returns-then-not-coded-clause-found g c = λ cells shows.

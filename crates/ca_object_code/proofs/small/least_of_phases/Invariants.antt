@@ -1,0 +1,13 @@
+use Rattle.std.proofs.Common.{◌≡◌, ℕ, ◌+◌, List, Some}
+use Rattle.std.specs.Prelude.{replicate}
+use Rattle.ca_plane.specs.Generations.{cells_after}
+use Rattle.ca_bricks.specs.Counting.{GoesBy}
+use Rattle.ca_quad.specs.Trees.{cell}
+use Rattle.ca_apgcode.specs.Objects.{IsBoxRound, IsLeastOfPhases}
+use Rattle.ca_object_code.specs.inner.Frames.{HasTwoStates}
+use Rattle.ca_object_code.proofs.small.least_of_phases.Given as goal
+
+-- the box of the phase that is reached, and the least text of the phases up to it
+abbrev pub invariant-phases : goal.invariant-phases
+invariant-phases l = (next : List ℕ → ℕ) → GoesBy next l.counting → next (replicate 9 0) ≡ 0 → HasTwoStates (cell l.store l.tree)
+    → IsBoxRound (cells_after next (cell l.store l.tree) l.n) l.now × IsLeastOfPhases (cells_after next (cell l.store l.tree)) (l.n + 1) (Some l.least.items)

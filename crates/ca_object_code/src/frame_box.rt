@@ -1,0 +1,72 @@
+//! The least box round the live cells of a frame.
+
+ghost use Rattle.std.specs.Prelude.{◌≡◌, ◌+◌, ◌<◌, ◌≤◌, ℕ, ℤ, slice_index, IfOk, IfSome};
+ghost use Rattle.std.specs.Int.{bit_at};
+ghost use Rattle.ca_apgcode.specs.Objects.{IsBoxRound};
+ghost use Rattle.ca_object_code.specs.inner.Frames.{AreColumnsOf};
+
+use crate::frame::ROWS;
+use ca_apgcode::{Grid, MOST_SIDE};
+use ca_plane::Memory;
+use std::alloc::Global;
+
+/// The least box round the live cells of a plane whose columns are these rows, where it has at most 40 columns and rows.
+pub(crate) fn box_of_rows(alloc: Global, rows: &[u64; ROWS]) -> Result<Option<Grid>, Memory>
+    ensures { (cells : ℤ → ℤ → ℕ) (left top : ℤ) → AreColumnsOf rows.now cells left top
+        → IfOk result (λ found. IfSome found (IsBoxRound cells)) }
+{
+    let first = first_row(rows);
+    let last = (first + usize::from(MOST_SIDE)).min(ROWS);
+    let low = first_bit(union(rows));
+    'rest: for r in last..ROWS {
+        if rows[r] != 0 {
+            return Ok(None);
+        }
+    }
+    let mut columns = Vec::new(alloc);
+    'columns: for r in first..last {
+        let column = rows[r] >> low;
+        if column >> MOST_SIDE != 0 {
+            return Ok(None);
+        }
+        columns.push(column)?;
+    }
+    Ok(Grid::of_columns(columns))
+}
+
+// The first row that isn't 0, if one before the last isn't.
+fn first_row(rows: &[u64; ROWS]) -> usize
+    ensures before { (r : ℕ) → r < result → slice_index rows.now r ≡ 0 }
+    ensures most { result < 48 }
+{
+    'rows: for r in 0..ROWS - 1 {
+        if rows[r] != 0 {
+            return r;
+        }
+    }
+    ROWS - 1
+}
+
+// The bits that some row has.
+fn union(rows: &[u64; ROWS]) -> u64
+    ensures { (r i : ℕ) → r < 48 → bit_at result i ≡ 0 → bit_at (slice_index rows.now r) i ≡ 0 }
+{
+    let mut all = 0;
+    'rows: for r in 0..ROWS {
+        all |= rows[r];
+    }
+    all
+}
+
+// The place of the lowest bit, if one before the last is there.
+fn first_bit(word: u64) -> u8
+    ensures before { (i : ℕ) → i < result → bit_at word i ≡ 0 }
+    ensures most { result < 64 }
+{
+    'bits: for i in 0..63u8 {
+        if word >> i & 1 == 1 {
+            return i;
+        }
+    }
+    63
+}
