@@ -665,9 +665,15 @@ def text_of(cells, dx=0, dy=0):
     return f"#CXRLE Pos={left + dx},{top + dy}\nx = 0, y = 0, rule = B3/S23\n{body}!\n"
 
 
-def try_work_of_codes(tally, files):
-    """Work that lasts for the claim and not for the code refuses the file, where a period is found without a look at each of its generations."""
-    path = "tests/files/period_840.rle"
+# The code of tests/files/period_57960_small.rle, which another program has found that steps its cells and writes each phase in each orientation.
+CODE_OF_57960 = "xp57960_33hm0mh33z8oy8o8z0123wswsw321y08k88k8y1gggeeez8e13y431e8x252252y1333zooybc4oy3oozydhhhz33yb643y333"
+
+# Where its five oscillators lie: x, y, width and height.
+CORNERS_OF_57960 = [(0, 0, 36, 13), (0, 13, 17, 13), (17, 13, 11, 13), (28, 13, 8, 13), (0, 26, 9, 6)]
+
+
+def least_work(path):
+    """The least work with which a file is identified."""
     low, high = 1, 1 << 24
     while low < high:
         middle = (low + high) // 2
@@ -675,9 +681,37 @@ def try_work_of_codes(tally, files):
             high = middle
         else:
             low = middle + 1
+    return low
+
+
+def try_work_of_codes(tally, files):
+    """Work that lasts for the claim and not for the code refuses the file. Objects that are too large for 40 by 40 cells at any time need none for their code, and
+    those whose phases all fit need seven units for each of them but the first."""
+    path = "tests/files/period_840.rle"
+    low = least_work(path)
     tally.expect("work for the claim", run(["identify", "--work", str(low), path]), whole(entry("period_840", path, "oscillator 840")))
     tally.expect("work for the claim and not for the code", run(["identify", "--apgcode", "--work", str(low), path]),
                  whole(f"# period_840: {path}: work\n", status=2))
+    path = "examples/period_57960.rle"
+    tally.expect("no work for the code of a large object", run(["identify", "--apgcode", "--work", str(least_work(path)), path]),
+                 whole(entry("period_57960", path, "oscillator 57960") + "# period_57960: ov_p57960\n"))
+    path = "tests/files/period_57960_small.rle"
+    low = least_work(path) + 7 * 57959
+    tally.expect("work for the code of a small object", run(["identify", "--apgcode", "--work", str(low), path]),
+                 whole(entry("period_57960_small", path, "oscillator 57960") + f"# period_57960_small: {CODE_OF_57960}\n"))
+    tally.expect("a unit too few for it", run(["identify", "--apgcode", "--work", str(low - 1), path]), whole(f"# period_57960_small: {path}: work\n", status=2))
+
+
+def try_long_codes(tally, files):
+    """Codes of the same five oscillators, with a period of 57960: a little apart, where no phase fits into 40 by 40 cells, and none of them is too large."""
+    own = {place: (60 * (k % 3), 60 * (k // 3)) for k, place in enumerate(CORNERS_OF_57960)}
+    cells = rle.cells_and_rule(open(os.path.join(ROOT, "tests/files/period_57960_small.rle"), encoding="utf-8").read())[0]
+    apart = {}
+    for (x, y), state in cells.items():
+        corner = max(it for it in CORNERS_OF_57960 if it[0] <= x < it[0] + it[2] and it[1] <= y < it[1] + it[3])
+        dx, dy = own[corner]
+        apart[x - corner[0] + dx, y - corner[1] + dy] = state
+    tally.tell("a long period of phases that don't fit", [] if code_of(files.path("apart.rle", text_of(apart))) == "ov_p57960" else ["another code"])
 
 
 def try_many(tally, files):
@@ -708,7 +742,7 @@ def main():
     try_true_claims(tally)
     try_limits(tally)
     for trial in (try_squares, try_patience, try_growth, try_many_squares, try_long_periods, try_late_returns, try_after, try_all, try_names, try_odd_paths,
-                  try_refused, try_rules, try_given_rule, try_codes, try_copies, try_large_codes, try_work_of_codes, try_many):
+                  try_refused, try_rules, try_given_rule, try_codes, try_copies, try_large_codes, try_work_of_codes, try_long_codes, try_many):
         with tempfile.TemporaryDirectory() as folder:
             trial(tally, Folder(folder))
     tally.finish()

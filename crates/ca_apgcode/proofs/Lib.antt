@@ -22,3 +22,4 @@ pub mod Copies
 pub mod PhaseTexts
 pub mod WorkedCodes
 pub mod SomeTexts
+pub mod SmallPictures

@@ -57,11 +57,11 @@ IsBoxRound-mirrored p g h is round =
     }
 
 -- a row of the flipped box is one of the box
-west_dead : (cells : ℕ → ℕ → ℕ) (u : ℕ) (y : ℤ) → from_corner cells (negsuc u) y ≡ 0
+pub west_dead : (cells : ℕ → ℕ → ℕ) (u : ℕ) (y : ℤ) → from_corner cells (negsuc u) y ≡ 0
 west_dead cells u (pos y) = refl
 west_dead cells u (negsuc y) = refl
 
-south_dead : (g : GridCells) → IsGrid g → (x y : ℕ) → g.height ≤ y → cell g x y ≡ 0
+pub south_dead : (g : GridCells) → IsGrid g → (x y : ℕ) → g.height ≤ y → cell g x y ≡ 0
 south_dead g is_grid x y south = bit_at_above (get_or g.columns x 0) g.height y (is_grid.rows x) south
 
 flipped_place : (g h : GridCells) → IsGrid g → IsFlipped g h → (d e e' : ℤ) → (e +ℤ e') +ℤ pos 1 ≡ pos g.height → from_corner (cell h) d e ≡ from_corner (cell g) d e'

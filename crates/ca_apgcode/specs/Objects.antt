@@ -1,5 +1,5 @@
 -- The code of an object, that is, of a still life, an oscillator or a spaceship (LifeWiki, "Apgcode").
-use Rattle.std.specs.Prelude.{◌≡◌, ℕ, zero, suc, ◌<◌, ℤ, ◌-ℤ◌, List, [], ◌∷◌, ◌++◌, codes, decimal, Option, Some, None}
+use Rattle.std.specs.Prelude.{◌≡◌, ◌≢◌, ℕ, zero, suc, ◌<◌, ℤ, pos, ◌+ℤ◌, ◌-ℤ◌, ◌<ℤ◌, ◌≤ℤ◌, List, [], ◌∷◌, ◌++◌, codes, decimal, Option, Some, None}
 use Rattle.ca_plane.specs.Bytes.{letter}
 use Rattle.ca_plane.specs.Shown.{from_corner}
 use Rattle.ca_apgcode.specs.Grids.{GridCells, IsGrid, IsLeastGrid, cell}
@@ -26,6 +26,10 @@ pub record IsBoxRound (cells : ℤ → ℤ → ℕ) (box : GridCells) : Type 0 w
 -- the text is the representation of a plane's least box
 abbrev pub IsTextOf : (ℤ → ℤ → ℕ) → List ℕ → Type 0
 IsTextOf cells text = (box : GridCells) × IsBoxRound cells box × IsRepresentation (cell box) box.height text
+
+-- each live cell lies within the 40 by 40 cells from (left, top) on
+abbrev pub LiesWithin : (ℤ → ℤ → ℕ) → (left top : ℤ) → Type 0
+LiesWithin cells left top = (x y : ℤ) → cells x y ≢ 0 → (left ≤ℤ x) × (x <ℤ (left +ℤ pos 40)) × (top ≤ℤ y) × (y <ℤ (top +ℤ pos 40))
 
 -- it is that of the plane in one of the eight orientations
 abbrev pub IsTurnedText : (ℤ → ℤ → ℕ) → List ℕ → Type 0

@@ -97,9 +97,9 @@ impl Grid {
         self.columns[usize::from(x)]
     }
 
-    /// The least box round the cells of some columns, each of them a binary number with the northern cell as 1, where
-    /// they begin with its column in the west and its row in the north.
-    pub fn of_columns(columns: Vec<u64>) -> Option<Grid>
+    /// The least box round the cells of at most 40 columns, from the west, each of them a binary number below 2^40 with
+    /// the northern cell as 1. None where no cell is live in the first column, or none in the first row.
+    pub fn from_columns(columns: Vec<u64>) -> Option<Grid>
         requires width { length columns.items ≤ 40 }
         requires height { (x : ℕ) → slice_index columns.items x < 2 ^ 40 }
         ensures some { IfSome result (IsLeastOf columns.items) }

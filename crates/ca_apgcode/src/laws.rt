@@ -1,17 +1,23 @@
 //! Laws of representations, over the definitions alone.
 
-ghost use Rattle.std.specs.Prelude.{◌≡◌, ℕ, ℤ, List};
+ghost use Rattle.std.specs.Prelude.{◌≡◌, ◌≢◌, ℕ, ℤ, List};
 ghost use Rattle.ca_apgcode.specs.Grids.{GridCells, IsGrid, cell};
 ghost use Rattle.ca_apgcode.specs.Representation.{IsRepresentation, IsCode};
 ghost use Rattle.ca_apgcode.specs.Order.{IsLeastText};
 ghost use Rattle.ca_apgcode.specs.Orientations.{AreAmong};
-ghost use Rattle.ca_apgcode.specs.Objects.{IsObjectCode};
+ghost use Rattle.ca_apgcode.specs.Objects.{IsObjectCode, IsTextOf, LiesWithin};
 ghost use Rattle.ca_apgcode.specs.declared.object.Kind.{Kind};
 
 /// Cells in a box of at most 40 by 40 have a representation.
 pub fn some_text()
     ensures { (grid : GridCells) → IsGrid grid
         → (text : List ℕ) × IsRepresentation (cell grid) grid.height text }
+{}
+
+/// Each plane with a live cell whose live cells all lie within 40 by 40 cells has a representation.
+pub fn small_text()
+    ensures { (cells : ℤ → ℤ → ℕ) (left top x y : ℤ) → LiesWithin cells left top → cells x y ≢ 0
+        → (text : List ℕ) × IsTextOf cells text }
 {}
 
 /// Cells in a box have one representation at most.

@@ -7,7 +7,7 @@ ghost use Rattle.ca_apgcode.specs.inner.Lengths.{IsStripLength};
 
 use crate::grid::Grid;
 
-/// How long the representation of a grid's cells is.
+/// How long the representation of a grid's cells is, in bytes.
 pub(crate) fn representation_length(grid: &Grid) -> usize
     ensures { (text : List ℕ) → IsRepresentation (cell grid.now) grid.now.height text → result ≡ length text }
 {
@@ -41,7 +41,7 @@ fn strip_length(grid: &Grid, y: u8) -> usize
     length
 }
 
-// How long the text of a column after so many without cells is: none, where it has no cells itself.
+// How long the text of a column after so many without cells is: 0, where it has no cells itself.
 fn column_length(gap: u8, column: u8) -> usize
     ensures length { result
         ≡ length (if column == 0 then [] else step_text (record { gap = gap; column = column })) }

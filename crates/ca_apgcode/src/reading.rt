@@ -31,7 +31,7 @@ pub fn read_representation(alloc: Global, text: &[u8]) -> Result<Grid, ReadFault
         rest = left;
     }
     let Drawing { columns, y, .. } = drawing;
-    let Some(grid) = Grid::of_columns(columns) else {
+    let Some(grid) = Grid::from_columns(columns) else {
         return Err(ReadFault::NoRepresentation);
     };
     if grid.height() <= y {

@@ -31,12 +31,12 @@ use std::alloc::Global;
 /// or counts other neighbours than all eight or four.
 ///
 /// The limit of the scope is from 1 to 4294967295. What is found is then taken through its period, one generation after the
-/// other, unless it is so large that no phase fits into 40 by 40 cells. The observer sees nothing of that.
+/// other, unless its box has more than 40 + 2 * (period - 1) columns or rows, so that no phase fits into 40 by 40 cells. The
+/// observer sees nothing of that.
 ///
 /// # Errors
 ///
-/// As for `ca_identify::identify`. The work of the generations through the period counts too, but not where at most 1048576
-/// phases all fit into 40 by 40 cells.
+/// As for `ca_identify::identify`. The work of the generations through the period counts too.
 #[tactic(auto, using(ca_identify::proofs::IdentifiedFiles::opened_may_want))]
 pub fn identify_with_code<O: Observer>(
     alloc: Global,
@@ -112,7 +112,7 @@ fn look_and_code<A: Automaton, O: Observer>(
     if !coded {
         return Ok(CodedLook { look, code: None });
     }
-    if let Some(quick) = quick_code(alloc, leaper.store(), &found.tree, look.identity, counting)? {
+    if let Some(quick) = quick_code(alloc, leaper, &found.tree, look.identity, counting)? {
         return Ok(CodedLook {
             look,
             code: Some(quick),

@@ -9,14 +9,18 @@ use ca_bricks::{Queue, blank_bricks, generation};
 use ca_plane::{Counting, Memory};
 use std::alloc::Global;
 
-// How many bricks a row of a frame has, and how many a frame has: those in the ring at the edge are blank, and three in the
-// middle, one below the other, have the cells.
+// How many bricks a row of a frame has.
 const ACROSS: usize = 3;
 
+// How many a frame has: those at its edge are blank, and three in the middle, one below the other, have the cells.
 const BRICKS: usize = 15;
 
-// The bricks that have others on all sides.
+// The bricks that are stepped: those that have others on all sides, where the last brick of a row lies beside the first one of
+// the next row, as in ca_bricks.
 const INNER: [usize; 7] = [4, 5, 6, 7, 8, 9, 10];
+
+/// How many bricks are stepped in a generation.
+pub(crate) const STEPPED: u64 = 7;
 
 /// How many rows the bricks in the middle have.
 pub(crate) const ROWS: usize = 48;
@@ -54,7 +58,7 @@ fn frame_row(grid: &Grid, row: u8) -> u64
     grid.column(row - 1) << 1
 }
 
-/// A frame one generation on. The ring at the edge is left as it is before.
+/// A frame one generation on. The bricks that aren't stepped are blank then.
 pub(crate) fn next_frame(
     alloc: Global,
     mut bricks: Vec<[u64; 16]>,
@@ -78,7 +82,7 @@ pub(crate) fn next_frame(
     Ok(bricks)
 }
 
-/// The rows in the middle of a frame, from the north.
+/// The rows in the middle of a frame, from the top.
 pub(crate) fn middle_rows(bricks: &[[u64; 16]]) -> [u64; ROWS]
     requires { length bricks.now ≡ 15 }
     ensures { (r : ℕ) → r < 48 → slice_index result r ≡ slice_index (get_or bricks.now (4 + 3 * (r / 16)) []) (r % 16) }

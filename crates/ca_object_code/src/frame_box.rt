@@ -1,6 +1,6 @@
 //! The least box round the live cells of a frame.
 
-ghost use Rattle.std.specs.Prelude.{◌≡◌, ◌+◌, ◌<◌, ◌≤◌, ℕ, ℤ, slice_index, IfOk, IfSome};
+ghost use Rattle.std.specs.Prelude.{◌≡◌, ◌+◌, ◌<◌, ◌≤◌, ℕ, ℤ, slice_index, IfOk, IfSome, IsTrue};
 ghost use Rattle.std.specs.Int.{bit_at};
 ghost use Rattle.ca_apgcode.specs.Objects.{IsBoxRound};
 ghost use Rattle.ca_object_code.specs.inner.Frames.{AreColumnsOf};
@@ -10,28 +10,27 @@ use ca_apgcode::{Grid, MOST_SIDE};
 use ca_plane::Memory;
 use std::alloc::Global;
 
-/// The least box round the live cells of a plane whose columns are these rows, where it has at most 40 columns and rows.
+/// The least box round the live cells of a plane whose columns are these rows. Where it has more than 40 columns or rows, or no
+/// cell is live, there is none.
 pub(crate) fn box_of_rows(alloc: Global, rows: &[u64; ROWS]) -> Result<Option<Grid>, Memory>
     ensures { (cells : ℤ → ℤ → ℕ) (left top : ℤ) → AreColumnsOf rows.now cells left top
         → IfOk result (λ found. IfSome found (IsBoxRound cells)) }
 {
     let first = first_row(rows);
-    let last = (first + usize::from(MOST_SIDE)).min(ROWS);
+    let end = (first + usize::from(MOST_SIDE)).min(ROWS);
     let low = first_bit(union(rows));
-    'rest: for r in last..ROWS {
-        if rows[r] != 0 {
-            return Ok(None);
-        }
+    if !are_blank_from(rows, end) {
+        return Ok(None);
     }
     let mut columns = Vec::new(alloc);
-    'columns: for r in first..last {
+    'columns: for r in first..end {
         let column = rows[r] >> low;
         if column >> MOST_SIDE != 0 {
             return Ok(None);
         }
         columns.push(column)?;
     }
-    Ok(Grid::of_columns(columns))
+    Ok(Grid::from_columns(columns))
 }
 
 // The first row that isn't 0, if one before the last isn't.
@@ -58,15 +57,22 @@ fn union(rows: &[u64; ROWS]) -> u64
     all
 }
 
-// The place of the lowest bit, if one before the last is there.
-fn first_bit(word: u64) -> u8
+// The place of the lowest bit, or the last place where there is none.
+fn first_bit(word: u64) -> u32
     ensures before { (i : ℕ) → i < result → bit_at word i ≡ 0 }
     ensures most { result < 64 }
 {
-    'bits: for i in 0..63u8 {
-        if word >> i & 1 == 1 {
-            return i;
+    word.trailing_zeros().min(63)
+}
+
+// Whether all rows from one on are 0.
+fn are_blank_from(rows: &[u64; ROWS], first: usize) -> bool
+    ensures { IsTrue result → (r : ℕ) → first ≤ r → r < 48 → slice_index rows.now r ≡ 0 }
+{
+    'rows: for r in first..ROWS {
+        if rows[r] != 0 {
+            return false;
         }
     }
-    63
+    true
 }

@@ -1,41 +1,95 @@
 //! Codes that are found without the trees of an object's phases.
 
-ghost use Rattle.std.specs.Prelude.{◌≡◌, ℕ, List, replicate, IfOk, IfSome};
+ghost use Rattle.std.specs.Prelude.{◌≡◌, ◌≤◌, ◌+◌, ◌-◌, ◌*◌, ℕ, ℤ, List, replicate, IfOk, IfSome};
+ghost use Rattle.ca_plane.specs.Generations.{cells_after};
+ghost use Rattle.ca_plane.specs.Limits.{longest_period};
 ghost use Rattle.ca_plane.specs.Plane.{Picture};
 ghost use Rattle.ca_quad.specs.Trees.{cell};
+ghost use Rattle.ca_run.specs.Leaping.{LeaperGrows, EndsAtLimit};
+ghost use Rattle.ca_apgcode.specs.Objects.{IsObjectCode};
 ghost use Rattle.ca_identify.specs.Identified.{IsIdentity};
 ghost use Rattle.ca_pattern.specs.PatternTrees.{IsNearTree, ShowsTree};
-ghost use Rattle.ca_object_code.specs.Codes.{IsCodeOf, HasGoodPeriod};
+ghost use Rattle.ca_object_code.specs.Codes.{IsCodeOf, HasGoodPeriod, steps_of};
 ghost use Rattle.ca_object_code.specs.inner.Frames.{MayGoBy};
+ghost use Rattle.ca_object_code.specs.inner.Large.{IsBackBy};
 
-use crate::large::code_of_large;
-use crate::small::code_of_small;
+use crate::large::is_too_large;
+use crate::small::least_of_small;
+use ca_apgcode::{Kind, object_code};
 use ca_identify::Identity;
-use ca_plane::{Counting, Memory};
-use ca_quad::{Store, Tree};
+use ca_plane::{Automaton, Counting};
+use ca_quad::{SquareBoxes, Tree};
+use ca_run::{LeapFault, Leaper};
 use std::alloc::Global;
 
-/// The code of an object that is so large that no phase fits into 40 by 40 cells, or whose phases all do, where the rule goes
-/// by a counting.
-pub(crate) fn quick_code(
+/// The code of an oscillator or a spaceship that is so large that no phase fits into 40 by 40 cells, or whose phases all do, where
+/// the rule goes by a counting. None says nothing.
+pub(crate) fn quick_code<A: Automaton>(
     alloc: Global,
-    store: &Store,
+    leaper: &mut Leaper<A>,
     tree: &Tree,
     identity: Identity,
     counting: Option<Counting>,
-) -> Result<Option<Vec<u8>>, Memory>
-    requires tree { IsNearTree store.now tree.now }
+) -> Result<Option<Vec<u8>>, LeapFault>
+    requires tree { IsNearTree leaper.old.nodes tree.now }
     requires period { HasGoodPeriod identity }
-    ensures { (next : List ℕ → ℕ) (cells : Picture) (limit : ℕ) → next (replicate 9 0) ≡ 0
-        → MayGoBy next (cell store.now tree.now) counting → IsIdentity next cells limit identity
-        → ShowsTree store.now tree.now cells
+    ensures code { (next : List ℕ → ℕ) (cells : Picture) (limit : ℕ) → next (replicate 9 0) ≡ 0
+        → MayGoBy next (cell leaper.old.nodes tree.now) counting → IsIdentity next cells limit identity
+        → ShowsTree leaper.old.nodes tree.now cells
         → IfOk result (λ found. IfSome found (λ code. IsCodeOf next cells identity code.items)) }
+    ensures goes_on { LeaperGrows A leaper.old leaper.new }
+    ensures same { leaper.new.nodes ≡ leaper.old.nodes }
+    ensures takes { leaper.new.spent.used ≤ leaper.old.spent.used + 7 * steps_of identity }
+    ensures work { EndsAtLimit leaper.new.spent result }
 {
-    if let Some(code) = code_of_large(alloc, store, tree, identity)? {
-        return Ok(Some(code));
+    // Says what holds of every leaper.
+    let _ = leaper.store();
+    match identity {
+        Identity::Oscillator { period } => {
+            code_of_phases(alloc, leaper, tree, Kind::Oscillator, period, counting)
+        }
+        Identity::Spaceship { period, .. } => {
+            code_of_phases(alloc, leaper, tree, Kind::Spaceship, period, counting)
+        }
+        _ => Ok(None),
     }
-    match counting {
-        Some(counting) => code_of_small(alloc, store, tree, identity, counting),
-        None => Ok(None),
+}
+
+// The code of so many phases.
+fn code_of_phases<A: Automaton>(
+    alloc: Global,
+    leaper: &mut Leaper<A>,
+    tree: &Tree,
+    kind: Kind,
+    period: u64,
+    counting: Option<Counting>,
+) -> Result<Option<Vec<u8>>, LeapFault>
+    requires tree { IsNearTree leaper.old.nodes tree.now }
+    requires some { 1 ≤ period }
+    requires most { period ≤ longest_period }
+    ensures code { (next : List ℕ → ℕ) (dx dy : ℤ) → next (replicate 9 0) ≡ 0
+        → MayGoBy next (cell leaper.old.nodes tree.now) counting
+        → IsBackBy next (cell leaper.old.nodes tree.now) period dx dy → IfOk result (λ found. IfSome found
+        (λ code. IsObjectCode kind period (cells_after next (cell leaper.old.nodes tree.now)) period code.items)) }
+    ensures goes_on { LeaperGrows A leaper.old leaper.new }
+    ensures same { leaper.new.nodes ≡ leaper.old.nodes }
+    ensures takes { leaper.new.spent.used ≤ leaper.old.spent.used + 7 * (period - 1) }
+    ensures work { EndsAtLimit leaper.new.spent result }
+{
+    let mut boxes = SquareBoxes::new(alloc);
+    let Some(bounds) = leaper.store().bounds_with(alloc, *tree, &mut boxes)? else {
+        return Ok(None);
+    };
+    if is_too_large(&bounds, period) {
+        let number = object_code(alloc, kind, u128::from(period), None)?;
+        return Ok(Some(number));
     }
+    let Some(counting) = counting else {
+        return Ok(None);
+    };
+    let Some(least) = least_of_small(alloc, leaper, tree, &mut boxes, period, counting)? else {
+        return Ok(None);
+    };
+    let code = object_code(alloc, kind, u128::from(period), Some(least))?;
+    Ok(Some(code))
 }

@@ -5,7 +5,7 @@ ghost use Rattle.ca_quad.specs.Squares.{IsOf, one_cell, joined_cells};
 ghost use Rattle.ca_quad.specs.Sound.{IsSoundStore};
 ghost use Rattle.ca_quad.specs.Trees.{AreFour, ShowsSquare};
 ghost use Rattle.ca_run.specs.Centre.{IsCentre, IsLeap};
-ghost use Rattle.ca_run.specs.Leaping.{EndsAtLimit};
+ghost use Rattle.ca_run.specs.Leaping.{LeaperGrows, EndsAtLimit};
 ghost use Rattle.ca_run.specs.inner.AtCost.{GoesOnAtCost};
 ghost use Rattle.ca_bricks.specs.Counting.{GoesBy};
 ghost use Rattle.ca_run.specs.inner.Shown.{ShowsAt, FourShow};
@@ -157,6 +157,21 @@ impl<A: Automaton> Leaper<A> {
     {
         let _ = &self.store;
         self.work.set_limit(limit);
+    }
+
+    /// Counts units of work that are done beside the leaper, before they are done.
+    ///
+    /// # Errors
+    ///
+    /// Fails where no more are left.
+    pub fn spend(&mut self, units: u64) -> Result<(), LeapFault>
+        ensures goes_on { LeaperGrows A self.old self.new }
+        ensures same { self.new.nodes ≡ self.old.nodes }
+        ensures most { self.new.spent.used ≤ self.old.spent.used + units }
+        ensures counts { OnOk result (self.new.spent.used ≡ self.old.spent.used + units) }
+        ensures work { EndsAtLimit self.new.spent result }
+    {
+        self.charge(units)
     }
 
     // Counts units of work before they are done.

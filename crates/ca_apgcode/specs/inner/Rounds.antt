@@ -5,13 +5,13 @@ use Rattle.ca_apgcode.specs.Objects.{IsBoxRound, IsTextOf}
 use Rattle.ca_apgcode.specs.inner.Least.{lesser}
 use Rattle.ca_apgcode.specs.declared.rounds.Turn.{Turn}
 
--- the text is that of these cells, or the one before
+-- the text is that of these cells or the one before, whichever comes first
 pub record IsLesserWith (cells : ℤ → ℤ → ℕ) (before now : List ℕ) : Type 0 where
   pub text : List ℕ
   pub is_text : IsTextOf cells text
   pub least : now ≡ lesser text before
 
--- a turn whose grid is the least box of these cells: the least text is that of these cells, or the least one before
+-- a turn whose grid is the least box of these cells: the least text is that of these cells or the least one before, whichever comes first
 pub record IsNextTurn (cells : ℤ → ℤ → ℕ) (before : List ℕ) (turn : Turn) : Type 0 where
   pub box : IsBoxRound cells turn.grid
   pub lesser : IsLesserWith cells before turn.least.items

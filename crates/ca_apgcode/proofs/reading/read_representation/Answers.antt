@@ -31,29 +31,29 @@ steps-preserved c =
           c.steps.invariant
     ]
 
-pub of_columns-requires-clause-height : goal.of_columns-requires-clause-height
-of_columns-requires-clause-height c = low_columns c.steps.drawing.columns.items c.steps.drawing.x c.steps.drawing.y c.steps.invariant.strips c.steps.invariant.steps c.steps.invariant.drawn
+pub from_columns-requires-clause-height : goal.from_columns-requires-clause-height
+from_columns-requires-clause-height c = low_columns c.steps.drawing.columns.items c.steps.drawing.x c.steps.drawing.y c.steps.invariant.strips c.steps.invariant.steps c.steps.invariant.drawn
 
-pub returns-in_default-of_columns-clause-only : goal.returns-in_default-of_columns-clause-only
-returns-in_default-of_columns-clause-only c = λ g code.
+pub returns-in_default-from_columns-clause-only : goal.returns-in_default-from_columns-clause-only
+returns-in_default-from_columns-clause-only c = λ g code.
     let d = c.steps.drawing in
     let reads = reads_all c.args.text.now c.steps.rest.now d.columns.items d.x d.y (eqb-true (length c.steps.rest.now) 0 (sym c.steps-test.ensures)) c.steps.invariant in
-    absurd (c.in_default-of_columns.ensures.none g (IsLeastOf-code c.args.text.now d.columns.items d.x d.y g reads code).0)
+    absurd (c.in_default-from_columns.ensures.none g (IsLeastOf-code c.args.text.now d.columns.items d.x d.y g reads code).0)
 
 pub returns-then-height-y-clause-only : goal.returns-then-height-y-clause-only
 returns-then-height-y-clause-only c = λ g code.
     let d = c.steps.drawing in
     let reads = reads_all c.args.text.now c.steps.rest.now d.columns.items d.x d.y (eqb-true (length c.steps.rest.now) 0 (sym c.steps-test.ensures)) c.steps.invariant in
     let of_code = IsLeastOf-code c.args.text.now d.columns.items d.x d.y g reads code in
-    let grid : GridCells = c.in-Some-of_columns.grid in
-    let height : g.height ≡ grid.height = ap (λ (o : GridCells). o.height) (one_least_of d.columns.items g grid of_code.0 c.in-Some-of_columns.ensures.some) in
+    let grid : GridCells = c.in-Some-from_columns.grid in
+    let height : g.height ≡ grid.height = ap (λ (o : GridCells). o.height) (one_least_of d.columns.items g grid of_code.0 c.in-Some-from_columns.ensures.some) in
     absurd (omega (arith, height, of_code.1, c.height.ensures.height, c.if-height-y.true))
 
 pub returns-clause-found : goal.returns-clause-found
 returns-clause-found c =
     let d = c.steps.drawing in
     let reads = reads_all c.args.text.now c.steps.rest.now d.columns.items d.x d.y (eqb-true (length c.steps.rest.now) 0 (sym c.steps-test.ensures)) c.steps.invariant in
-    IsCode-read c.args.text.now d.columns.items d.x d.y c.in-Some-of_columns.grid reads c.in-Some-of_columns.ensures.some (omega (arith, c.height.ensures.height, c.if-height-y.false))
+    IsCode-read c.args.text.now d.columns.items d.x d.y c.in-Some-from_columns.grid reads c.in-Some-from_columns.ensures.some (omega (arith, c.height.ensures.height, c.if-height-y.false))
 
 pub returns-clause-only : goal.returns-clause-only
-returns-clause-only c = λ g code. one_picture c.in-Some-of_columns.grid g c.args.text.now (returns-clause-found c) code
+returns-clause-only c = λ g code. one_picture c.in-Some-from_columns.grid g c.args.text.now (returns-clause-found c) code

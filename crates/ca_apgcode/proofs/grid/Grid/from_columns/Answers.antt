@@ -2,7 +2,7 @@ use Rattle.std.proofs.Common.{◌≡◌, ℕ, ◌-◌, ◌%◌, ◌<◌, ◌^◌
 use Rattle.std.specs.Int.{bit_at}
 use Rattle.std.proofs.lemmas.Bool.{false≢true}
 use Rattle.ca_apgcode.proofs.LeastBoxes.{IsLeastOf-columns, IsLeastOf-west, IsLeastOf-north}
-use Rattle.ca_apgcode.proofs.grid.Grid.of_columns.Goals as goal
+use Rattle.ca_apgcode.proofs.grid.Grid.from_columns.Goals as goal
 
 pub returns-then-not-begin_box-clause-none : goal.returns-then-not-begin_box-clause-none
 returns-then-not-begin_box-clause-none c = λ g least.
