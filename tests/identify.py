@@ -672,12 +672,12 @@ CODE_OF_57960 = "xp57960_33hm0mh33z8oy8o8z0123wswsw321y08k88k8y1gggeeez8e13y431e
 CORNERS_OF_57960 = [(0, 0, 36, 13), (0, 13, 17, 13), (17, 13, 11, 13), (28, 13, 8, 13), (0, 26, 9, 6)]
 
 
-def least_work(path):
+def least_work(path, *words):
     """The least work with which a file is identified."""
-    low, high = 1, 1 << 24
+    low, high = 1, 1 << 22
     while low < high:
         middle = (low + high) // 2
-        if run(["identify", "--work", str(middle), path]).status == 0:
+        if run(["identify", *words, "--work", str(middle), path]).status == 0:
             high = middle
         else:
             low = middle + 1
@@ -686,7 +686,7 @@ def least_work(path):
 
 def try_work_of_codes(tally, files):
     """Work that lasts for the claim and not for the code refuses the file. Objects that are too large for 40 by 40 cells at any time need none for their code, and
-    those whose phases all fit need seven units for each of them but the first."""
+    those whose phases all fit need seven units for each of them but the first, less than half of what trees of them would need."""
     path = "tests/files/period_840.rle"
     low = least_work(path)
     tally.expect("work for the claim", run(["identify", "--work", str(low), path]), whole(entry("period_840", path, "oscillator 840")))
@@ -696,10 +696,10 @@ def try_work_of_codes(tally, files):
     tally.expect("no work for the code of a large object", run(["identify", "--apgcode", "--work", str(least_work(path)), path]),
                  whole(entry("period_57960", path, "oscillator 57960") + "# period_57960: ov_p57960\n"))
     path = "tests/files/period_57960_small.rle"
-    low = least_work(path) + 7 * 57959
-    tally.expect("work for the code of a small object", run(["identify", "--apgcode", "--work", str(low), path]),
+    tally.expect("a long period of small phases", run(["identify", "--apgcode", path]),
                  whole(entry("period_57960_small", path, "oscillator 57960") + f"# period_57960_small: {CODE_OF_57960}\n"))
-    tally.expect("a unit too few for it", run(["identify", "--apgcode", "--work", str(low - 1), path]), whole(f"# period_57960_small: {path}: work\n", status=2))
+    low, bricks = least_work(path, "--apgcode"), 7 * 57959
+    tally.tell("work for the code of a small object", [] if bricks < low < 2 * bricks else [f"{low}, and {bricks} for the bricks"])
 
 
 def try_long_codes(tally, files):
