@@ -16,14 +16,14 @@ use Rattle.ca_rule.specs.Rule.{next_of}
 use Rattle.ca_rule.specs.TableNext.{TableRule}
 use Rattle.ca_text.specs.declared.line.Kind.TheVariants as kind
 use Rattle.ca_pattern.specs.declared.file.File.{File}
-use Rattle.ca_identify.specs.declared.identity.Identity.{Identity}
-use Rattle.ca_identify.specs.declared.identity.Growth.{Growth}
+use Rattle.ca_answers.specs.declared.identity.Identity.{Identity}
+use Rattle.ca_answers.specs.declared.identity.Growth.{Growth}
 use Rattle.ca_pattern.specs.declared.cause.Cause.{Cause}
 use Rattle.ca_pattern.specs.declared.cause.Cause.TheVariants as causes
-use Rattle.ca_identify.specs.declared.identity.Identity.TheVariants.{Empty, StillLife, Oscillator, Spaceship, Dies, Unknown}
+use Rattle.ca_answers.specs.declared.identity.Identity.TheVariants.{Empty, StillLife, Oscillator, Spaceship, Dies, Unknown}
 use Rattle.ca_plane.specs.Limits.{greatest_shift}
 use Rattle.ca_text.specs.Text.{ClaimTextLine, Version, Rule, Load, Claims, is_second, path_of, ClaimLinesSay}
-use Rattle.ca_identify.specs.Identified.{IsIdentity}
+use Rattle.ca_answers.specs.Identified.{IsIdentity}
 use Rattle.ca_text.proofs.LinesSaid.{path_of-append}
 use Rattle.ca_text.proofs.PathLists.{bytes_eq_self}
 use Rattle.ca_catalog.specs.declared.entry.Content.{Content}

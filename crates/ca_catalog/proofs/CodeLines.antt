@@ -11,9 +11,9 @@ use Rattle.ca_apgcode.specs.Objects.{IsObjectCode, IsLeastOfPhases, code_text, k
 use Rattle.ca_apgcode.specs.Representation.{Step, digit, gap_text, step_text}
 use Rattle.ca_apgcode.specs.declared.object.Kind.{Kind}
 use Rattle.ca_apgcode.specs.declared.object.Kind.TheVariants as kind
-use Rattle.ca_identify.specs.declared.identity.Identity.{Identity}
-use Rattle.ca_identify.specs.declared.identity.Identity.TheVariants.{Empty, StillLife, Oscillator, Spaceship, Dies, Unknown}
-use Rattle.ca_object_code.specs.Codes.{IsCodeOf}
+use Rattle.ca_answers.specs.declared.identity.Identity.{Identity}
+use Rattle.ca_answers.specs.declared.identity.Identity.TheVariants.{Empty, StillLife, Oscillator, Spaceship, Dies, Unknown}
+use Rattle.ca_answers.specs.Codes.{IsCodeOf}
 use Rattle.ca_catalog.proofs.Saying.{is_inner}
 use Rattle.ca_catalog.proofs.NameWords.{decimal_inner}
 

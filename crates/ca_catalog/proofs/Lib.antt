@@ -1,10 +1,7 @@
 pub mod CatalogSaid
-pub mod CatalogWrites
 pub mod CauseLines
 pub mod CodeLines
 pub mod Endings
-pub mod Entries
-pub mod FaultReports
 pub mod NameWords
 pub mod Saying
 pub mod TriedNames

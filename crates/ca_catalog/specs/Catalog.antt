@@ -1,5 +1,5 @@
 -- What `identify` prints: a claim text with the claims that are true of files, and the lines of `--explain` (our own; docs/CLAIMS.md).
-use Rattle.std.specs.Prelude.{ℕ, List, [], ◌∷◌, ◌++◌, Bool, true, false, Option, None, Some, option_map, Vec, codes, decimal, nat_eq, if◌then◌else◌, ◌≡◌, ◌≢◌, ◌+◌, ◌⊎◌}
+use Rattle.std.specs.Prelude.{ℕ, List, [], ◌∷◌, ◌++◌, Bool, true, false, Option, None, Some, option_map, Vec, codes, decimal, nat_eq, if◌then◌else◌, ◌≡◌, ◌≢◌, ◌+◌, ◌^◌, ◌<◌, ◌⊎◌, Unit}
 use Rattle.std.specs.declared.alloc.Global.{Global}
 use Rattle.std.specs.Fmt.{signed_decimal}
 use Rattle.std.specs.List.{flat_map, list_any, list_all, AllZip}
@@ -15,14 +15,14 @@ use Rattle.ca_report.specs.Escaped.{escaped}
 use Rattle.ca_report.specs.Remedies.{cause_remedy, bytes_of, remedy_line}
 use Rattle.ca_plane.specs.Device.{Counted}
 use Rattle.ca_rule.specs.TableNext.{TableRule}
-use Rattle.ca_identify.specs.declared.identity.Identity.{Identity}
-use Rattle.ca_identify.specs.declared.identity.Identity.TheVariants.{Empty, StillLife, Oscillator, Spaceship, Dies, Unknown}
-use Rattle.ca_identify.specs.declared.identity.Growth.{Growth}
+use Rattle.ca_answers.specs.declared.identity.Identity.{Identity}
+use Rattle.ca_answers.specs.declared.identity.Identity.TheVariants.{Empty, StillLife, Oscillator, Spaceship, Dies, Unknown}
+use Rattle.ca_answers.specs.declared.identity.Growth.{Growth}
 use Rattle.ca_pattern.specs.NamedTables.{IsQuietTable, IsTableFault}
 use Rattle.ca_text.specs.Firsts.{FirstBad}
-use Rattle.ca_identify.specs.Identified.{IsLookAt, IsUnidentifiedAfter}
-use Rattle.ca_object_code.specs.declared.coded_look.CodedLook.{CodedLook}
-use Rattle.ca_object_code.specs.Codes.{IsCodeOfFile, IsUncodedAfter}
+use Rattle.ca_answers.specs.Identified.{IsLookAt, IsUnidentifiedAfter}
+use Rattle.ca_answers.specs.declared.coded_look.CodedLook.{CodedLook}
+use Rattle.ca_answers.specs.Codes.{IsCodeOfFile, IsUncodedAfter}
 use Rattle.ca_catalog.specs.declared.task.Task.{Task}
 use Rattle.ca_catalog.specs.declared.entry.Content.{Content}
 use Rattle.ca_catalog.specs.declared.entry.Content.TheVariants.{Bytes, Missing, FaultyRule}
@@ -275,3 +275,8 @@ EndsCatalog contents old new rules task subjects tools.Memory =
     WritesOnFirst contents old new (IsCatalog rules task) subjects ⊎ ((rules ≢ []) × (new ≡ old))
 EndsCatalog contents old new rules task subjects (tools.BadTable fault) = IsFirstBadTable rules fault × (new ≡ old)
 EndsCatalog contents old new rules task subjects told = ⊥
+
+-- the last generation that was looked at has a number that fits, where the look began after n
+abbrev pub IsWithin : (n : ℕ) → Outcome → Type 0
+IsWithin n (Identified found) = n + found.look.limit < 2 ^ 64
+IsWithin n outcome = Unit {0}

@@ -1,3 +1,2 @@
 -- Definitions that private contracts alone cite. No public contract rests on them.
-pub mod Searches
 pub mod Tried

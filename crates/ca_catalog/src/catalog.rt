@@ -37,7 +37,7 @@ impl<'a> Model for Catalog<'a> {
 
 impl<'a> Catalog<'a> {
     /// The catalog of these entries.
-    pub(crate) fn of(entries: Vec<Entry<'a>>) -> Catalog<'a>
+    pub fn of(entries: Vec<Entry<'a>>) -> Catalog<'a>
         ensures { result ≡ entries.entry.items }
     {
         Catalog { entries }
@@ -139,7 +139,7 @@ fn catalog_status(entries: &[Entry<'_>]) -> u8
 /// # Errors
 ///
 /// Fails where there is no memory for them.
-pub(crate) fn rules_text(alloc: Global, rules: &[File<'_>]) -> Result<Vec<u8>, Memory>
+pub fn rules_text(alloc: Global, rules: &[File<'_>]) -> Result<Vec<u8>, Memory>
     ensures text { IfOk result (λ text. text.items ≡ flat_map rule_line rules.now) }
     ensures memory { OnErr result (rules.now ≢ []) }
 {
@@ -159,7 +159,7 @@ fn push_rules(out: &mut Vec<u8>, rules: &[File<'_>]) -> Result<(), Memory>
 }
 
 /// The head of a claim text in pieces: its version, and the lines of the rule files.
-pub(crate) fn head_pieces<'a>(rule_lines: &'a [u8]) -> [Piece<'a>; 2]
+pub fn head_pieces<'a>(rule_lines: &'a [u8]) -> [Piece<'a>; 2]
     ensures { pieces_text result ≡ version_line ++ rule_lines.now }
 {
     in_pieces![text b"claims 2\n", text rule_lines]

@@ -1,6 +1,6 @@
 //! Files that are to be identified, and what came of them.
 
-use ca_object_code::CodedLook;
+use ca_answers::CodedLook;
 use ca_pattern::Cause;
 use ca_report::{DetailedFault, FaultyRule};
 
@@ -24,7 +24,7 @@ pub struct Subject<'a> {
 
 /// What came of a file that is to be identified.
 #[derive(Drop)]
-pub(crate) enum Outcome<'a> {
+pub enum Outcome<'a> {
     /// No claim text can name its path.
     Unnameable,
     /// It isn't found out what its pattern is, for this reason.
@@ -37,8 +37,8 @@ pub(crate) enum Outcome<'a> {
 
 /// A file of a claim text: its name there, its path, and what came of it.
 #[derive(Drop)]
-pub(crate) struct Entry<'a> {
-    pub(crate) name: Vec<u8>,
-    pub(crate) path: &'a [u8],
-    pub(crate) outcome: Outcome<'a>,
+pub struct Entry<'a> {
+    pub name: Vec<u8>,
+    pub path: &'a [u8],
+    pub outcome: Outcome<'a>,
 }

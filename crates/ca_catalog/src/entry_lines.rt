@@ -2,18 +2,17 @@
 
 ghost use Rattle.std.specs.Prelude.{◌≡◌, ◌+◌, ◌<◌, ◌^◌, ◌++◌, ◌∷◌, [], codes, decimal, OnOk};
 ghost use Rattle.std.specs.Fmt.{signed_decimal};
-ghost use Rattle.ca_identify.specs.declared.identity.Identity.TheVariants.{Unknown};
+ghost use Rattle.ca_answers.specs.declared.identity.Identity.TheVariants.{Unknown};
 ghost use Rattle.ca_plane.specs.Puts.{Puts};
 ghost use Rattle.ca_catalog.specs.Catalog.{load_line, identity_line, refused_line, unnameable_line, later_text};
 ghost use Rattle.ca_catalog.specs.Catalog.{later_head, later_line, found_line, code_comment, code_line};
 ghost use Rattle.ca_catalog.specs.Catalog.{identified_lines, entry_lines, rule_line};
 ghost use Rattle.ca_report.specs.Pieces.{pieces_text};
-ghost use Rattle.ca_catalog.specs.inner.Searches.{IsWithin};
+ghost use Rattle.ca_catalog.specs.Catalog.{IsWithin};
 
 use crate::entry::{Entry, Outcome};
 use crate::growth::push_none;
-use ca_identify::{Growth, Identity, Look};
-use ca_object_code::CodedLook;
+use ca_answers::{CodedLook, Growth, Identity, Look};
 use ca_pattern::{Cause, File};
 use ca_plane::Memory;
 use ca_plane::text::push_text;
@@ -226,7 +225,7 @@ fn push_identified(
 /// # Errors
 ///
 /// Fails where there is no memory for them.
-pub(crate) fn push_entry(
+pub fn push_entry(
     out: &mut Vec<u8>,
     generations: u64,
     entry: &Entry<'_>,

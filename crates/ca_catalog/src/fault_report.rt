@@ -8,7 +8,7 @@ use ca_pattern::{Cause, LocatedFault};
 use ca_report::DetailedFault;
 
 /// The report of a fault: its cause, and what is known of it.
-pub(crate) fn report_of(refused: LocatedFault) -> DetailedFault<Cause>
+pub fn report_of(refused: LocatedFault) -> DetailedFault<Cause>
     requires { (report : DetailedFault Cause) × IsReportOf refused report }
     ensures { IsReportOf refused result }
 {

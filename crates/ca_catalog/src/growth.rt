@@ -4,7 +4,7 @@ ghost use Rattle.std.specs.Prelude.{◌≡◌, OnOk};
 ghost use Rattle.ca_plane.specs.Puts.{Puts};
 ghost use Rattle.ca_catalog.specs.Catalog.{cells_word, growth_text, none_text};
 
-use ca_identify::Growth;
+use ca_answers::Growth;
 use ca_plane::Memory;
 use ca_plane::text::push_text;
 use ca_report::{generations_word, push_counted, push_side};

@@ -1,4 +1,4 @@
-//! Runs that identify pattern files, and write a claim text with what is true of them.
+//! What is printed of files that were identified: a claim text with what is true of them.
 #![tactic(auto)]
 
 mod catalog;
@@ -6,14 +6,15 @@ mod entry;
 mod entry_lines;
 mod fault_report;
 mod growth;
-mod identification_run;
 mod names;
 mod outcome;
 mod taken_names;
 mod task;
 
-pub use catalog::{Catalog, says_its_claims};
-pub use entry::{Content, Subject};
-pub use identification_run::identify_run;
-pub use names::is_claim_path;
+pub use catalog::{Catalog, head_pieces, rules_text, says_its_claims};
+pub use entry::{Content, Entry, Outcome, Subject};
+pub use entry_lines::push_entry;
+pub use fault_report::report_of;
+pub use names::{add_name, is_claim_path};
+pub use taken_names::TakenNames;
 pub use task::Task;

@@ -110,7 +110,7 @@ fn claim_name(alloc: Global, path: &[u8]) -> Result<Vec<u8>, Memory>
 /// # Errors
 ///
 /// Fails where there is no memory for it, and then leaves the names as they were.
-pub(crate) fn add_name(
+pub fn add_name(
     alloc: Global,
     names: &mut TakenNames,
     path: &[u8],

@@ -14,7 +14,7 @@ use std::marker::Model;
 
 /// Names, of which no two are equal, in the order in which they were taken.
 #[derive(Drop)]
-pub(crate) struct TakenNames {
+pub struct TakenNames {
     names: WordSet,
     // For a name that was asked for: so many of its numbered names, from the first on, are taken.
     tried: IndexMap<Vec<u8>, u64>,
@@ -33,7 +33,7 @@ impl Model for TakenNames {
 
 impl TakenNames {
     /// No names.
-    pub(crate) fn new(alloc: Global) -> TakenNames
+    pub fn new(alloc: Global) -> TakenNames
         ensures { result ≡ [] }
     {
         TakenNames {

@@ -1,6 +1,6 @@
 //! How files are identified.
 
-use ca_identify::Scope;
+use ca_answers::Scope;
 use ca_pattern::Limits;
 
 /// How the files of a run are identified.

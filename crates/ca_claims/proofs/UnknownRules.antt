@@ -13,9 +13,9 @@ use Rattle.ca_rule.specs.declared.fault.RuleFault.TheVariants.{Unknown}
 use Rattle.ca_text.specs.Text.{ClaimText}
 use Rattle.ca_text.specs.Places.{path_at}
 use Rattle.ca_text.specs.NeededFiles.{IsNeeded}
-use Rattle.ca_verify.specs.Files.{bytes_at}
+use Rattle.ca_answers.specs.Files.{bytes_at}
 use Rattle.ca_pattern.specs.Means.{HoldsRuleText}
-use Rattle.ca_verify.specs.Answers.{AreTables}
+use Rattle.ca_answers.specs.Answers.{AreTables}
 use Rattle.ca_pattern.specs.Faults.{IsUnreadFile}
 use Rattle.ca_claims.specs.Unknown.{HoldsUnknownRule, IsUnknownRule, AreUnknownRules}
 use Rattle.ca_text.specs.Words.{with_word}

@@ -8,7 +8,7 @@ use Rattle.ca_rule.specs.declared.fault.RuleFault.TheVariants.{Unknown}
 use Rattle.ca_text.specs.Text.{ClaimText}
 use Rattle.ca_text.specs.NeededFiles.{IsNeeded}
 use Rattle.ca_pattern.specs.Means.{HoldsRuleText}
-use Rattle.ca_verify.specs.Answers.{AreTables, HoldsOfFile}
+use Rattle.ca_answers.specs.Answers.{AreTables, HoldsOfFile}
 
 -- the bytes are a pattern file that is read, and this is its rule text, which is a name: no rule of its own, and no table's
 abbrev pub HoldsUnknownRule : List TableRule → (name bytes : List ℕ) → Type 0

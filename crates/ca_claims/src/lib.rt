@@ -4,16 +4,18 @@
 
 mod unknown;
 
-pub use ca_identify::{Growth, Identity, Look, Scope, identify, identity_laws};
+pub use ca_answers::{Answer, Growth, Identity, Look, Note, Refutation, Scope, Verdict};
+pub use ca_evolution::{Observer, open_evolved};
+pub use ca_identify::{identify, identity_laws};
 pub use ca_pattern::{
-    Cause, Cells, ConvertFault, File, Format, Limits, Loaded, LocatedFault, NamedTable, Observer,
-    Pattern, PatternFault, StoredTree, Summary, Target, USUAL_MEMO, conversion_laws, convert,
-    evolution_laws, open_evolved, open_pattern, read_pattern, rule_text_of, summary, table_named,
+    Cause, Cells, ConvertFault, File, Format, Limits, Loaded, LocatedFault, NamedTable, Pattern,
+    PatternFault, StoredTree, Summary, Target, USUAL_MEMO, conversion_laws, convert,
+    evolution_laws, open_pattern, read_pattern, rule_text_of, summary, table_named,
 };
 pub use ca_plane::limits::MOST_MEMO;
 pub use ca_text::{
     ClaimFault, Claims, WordSet, no_fault_in_claim_text, one_fault, one_meaning, read_claims,
     worked_examples,
 };
-pub use ca_verify::{Answer, Judge, Note, Refutation, Verdict, verdict_laws, verify};
+pub use ca_verify::{Judge, verdict_laws, verify};
 pub use unknown::unknown_rules;

@@ -5,7 +5,7 @@ ghost use Rattle.std.specs.Prelude.{MatchOption};
 ghost use Rattle.ca_rule.specs.Rule.{IsRuleFault};
 ghost use Rattle.ca_rule.specs.declared.fault.RuleFault.TheVariants as rule_fault;
 ghost use Rattle.ca_rule.specs.declared.table.fault.TableFault.TheVariants as table_fault;
-ghost use Rattle.ca_verify.specs.Files.{contents};
+ghost use Rattle.ca_answers.specs.Files.{contents};
 ghost use Rattle.ca_pattern.specs.Means.{MayWantMemory};
 ghost use Rattle.ca_claims.specs.Unknown.{HoldsUnknownRule, AreUnknownRules};
 ghost use Rattle.ca_claims.specs.inner.Unknown.{AreAskedBefore, AddsAsked};

@@ -16,11 +16,11 @@ use Rattle.ca_text.specs.declared.line.Kind.TheVariants as kind
 use Rattle.ca_identify.specs.declared.identification.ending.Ending.TheVariants.{Death}
 use Rattle.ca_identify.specs.declared.identification.stage.First.{First}
 use Rattle.ca_identify.specs.declared.identification.stage.Stage.TheVariants.{Other}
-use Rattle.ca_identify.specs.declared.identity.Growth.{Growth}
-use Rattle.ca_identify.specs.declared.identity.Identity.{Identity}
-use Rattle.ca_identify.specs.declared.identity.Identity.TheVariants.{Unknown}
-use Rattle.ca_identify.specs.declared.scope.Scope.{Scope}
-use Rattle.ca_identify.specs.Identified.{IsIdentity, IsTrueWithin, HasNoTrueClaim, IsLook, MayNeedWork}
+use Rattle.ca_answers.specs.declared.identity.Growth.{Growth}
+use Rattle.ca_answers.specs.declared.identity.Identity.{Identity}
+use Rattle.ca_answers.specs.declared.identity.Identity.TheVariants.{Unknown}
+use Rattle.ca_answers.specs.declared.scope.Scope.{Scope}
+use Rattle.ca_answers.specs.Identified.{IsIdentity, IsTrueWithin, HasNoTrueClaim, IsLook, MayNeedWork}
 use Rattle.ca_plane.specs.Limits.{longest_period}
 use Rattle.ca_text.specs.Truth.{IsChanged, IsNowhere}
 use Rattle.ca_identify.specs.inner.Stages.{IsFirst, IsStage, IsReturn, IsGrowthOf, AreMoved, AreMovedNowhere, AreOtherUpTo, IsFirstAgain, IsEnding, HasNoReturn, TakesSearch}
@@ -30,7 +30,7 @@ use Rattle.ca_pattern.proofs.Deaths.{live_at_all}
 use Rattle.ca_identify.proofs.LaterPlanes.{tree_picture}
 use Rattle.ca_pattern.proofs.LeaptTrees.{ok_as}
 use Rattle.ca_pattern.proofs.Starts.{near_start}
-use Rattle.ca_identify.proofs.Starts.{start_near, picture_after}
+use Rattle.ca_pattern.proofs.Starts.{start_near, picture_after}
 use Rattle.ca_identify.proofs.Stages.{changes, least_right, most_right, least_down, most_down}
 
 -- ---- a picture of the first cells

@@ -1,4 +1,3 @@
-pub mod Corners
 pub mod IdentifiedFiles
 pub mod Identities
 pub mod LaterPlanes
@@ -7,6 +6,5 @@ pub mod NoReturn
 pub mod OneIdentity
 pub mod Spending
 pub mod Stages
-pub mod Starts
 pub mod Strides
 pub mod Times

@@ -16,18 +16,18 @@ use Rattle.ca_run.proofs.Returns.{after_stands, back_times, vector_times}
 use Rattle.ca_run.proofs.Vectors.{no_vector, live-moved}
 use Rattle.ca_text.specs.declared.asks.Forbidden.TheVariants.{InPlace, Anywhere, EmptyPlane}
 use Rattle.ca_text.specs.declared.line.Kind.TheVariants as kind
-use Rattle.ca_identify.specs.declared.identity.Growth.{Growth}
-use Rattle.ca_identify.specs.declared.identity.Identity.{Identity}
-use Rattle.ca_identify.specs.declared.identity.Identity.TheVariants.{Empty, StillLife, Oscillator, Spaceship, Dies, Unknown}
+use Rattle.ca_answers.specs.declared.identity.Growth.{Growth}
+use Rattle.ca_answers.specs.declared.identity.Identity.{Identity}
+use Rattle.ca_answers.specs.declared.identity.Identity.TheVariants.{Empty, StillLife, Oscillator, Spaceship, Dies, Unknown}
 use Rattle.ca_pattern.specs.declared.located_fault.LocatedFault.{LocatedFault}
 use Rattle.ca_pattern.specs.declared.located_fault.LocatedFault.TheVariants.{Work, Memory}
 use Rattle.ca_pattern.specs.LocatedFaults.{IsOpeningFault, IsSameFault}
-use Rattle.ca_identify.specs.Identified.{IsGrowth, IsIdentity, IsIdentityAfter, IsIdentifiedAfter, IsUnidentifiedAfter}
+use Rattle.ca_answers.specs.Identified.{IsGrowth, IsIdentity, IsIdentityAfter, IsIdentifiedAfter, IsUnidentifiedAfter}
 use Rattle.ca_text.specs.Truth.{ShowsNothingForbidden}
 use Rattle.ca_identify.proofs.IdentifiedFiles.{same_identity}
 use Rattle.ca_pattern.proofs.OneConversion.{one_box}
 use Rattle.ca_pattern.proofs.OneFault.{opened_or_fault, one_opening_fault}
-use Rattle.ca_pattern.proofs.Vectors.{one_vector}
+use Rattle.ca_evolution.proofs.Vectors.{one_vector}
 use Rattle.ca_pattern.proofs.OneText.{box_shown}
 use Rattle.ca_text.proofs.Truths.{back}
 use Rattle.ca_pattern.proofs.OneMeaning.{one_ruled}

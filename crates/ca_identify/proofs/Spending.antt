@@ -1,13 +1,7 @@
 -- How what calls take of a leaper's work adds up.
 use Rattle.std.proofs.Common.{ℕ, ◌+◌, ◌<◌, ◌≤◌, ◌^◌, max, arith}
 use Rattle.ca_run.specs.Leaping.{Costs, LeaperView, LeaperGrows}
-use Rattle.ca_pattern.specs.Spending.{Takes}
-
--- one run
-pub takes_one : {Rule : Type 0} (old new : LeaperView Rule) (level n : ℕ) → ((d : ℕ) → n < 2 ^ d → Costs Rule old new (14 ^ (level + d + 2)) 1048576) → Takes old.spent.used new.spent.used 1 level n
-takes_one old new level n costs d less =
-    let most = (costs d less).most in
-    omega (arith, most)
+use Rattle.ca_evolution.specs.Spending.{Takes}
 
 -- ---- a share of the work
 

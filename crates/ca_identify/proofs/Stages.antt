@@ -17,22 +17,24 @@ use Rattle.ca_quad.proofs.Measures.{boxes_stay}
 use Rattle.ca_quad.proofs.Trims.{trees_stay}
 use Rattle.ca_plane.proofs.After.{after_same, after_again}
 use Rattle.ca_run.proofs.Costs.{power_more, power_suc}
-use Rattle.ca_identify.specs.Identified.{run_work}
+use Rattle.ca_pattern.specs.Evolved.{run_work}
 use Rattle.ca_plane.specs.Limits.{longest_period}
 use Rattle.ca_identify.specs.declared.identification.stage.First.{First}
 use Rattle.ca_identify.specs.declared.identification.stage.Stage.{Stage}
 use Rattle.ca_identify.specs.declared.identification.walk.Walk.{Walk}
 use Rattle.ca_identify.specs.declared.identification.stage.Stage.TheVariants.{Empty, Back, Other}
-use Rattle.ca_pattern.specs.Spending.{Takes}
+use Rattle.ca_evolution.specs.Spending.{Takes}
 use Rattle.ca_pattern.specs.LaterTrees.{IsWithinPlane, IsStart, IsLaterTree}
 use Rattle.ca_identify.specs.inner.Stages.{IsFirst, AreMoved, AreMovedNowhere, IsStage, AreOtherUpTo, IsWalk, IsHalted, TakesSearch, TakesSearchFrom, TakesEarly, early_work, leap_work}
-use Rattle.ca_identify.specs.TreeLooks.{CanGoOn, TakesSteps, TakesRun, TakesRunAndSearch, step_work}
+use Rattle.ca_identify.specs.TreeLooks.{TakesRunAndSearch}
+use Rattle.ca_evolution.specs.Steps.{CanGoOn, TakesSteps, TakesRun, step_work}
+use Rattle.ca_evolution.proofs.Steps.{first_tree, no_step, fewer_steps}
 use Rattle.ca_pattern.proofs.Corners.{live_after}
 use Rattle.ca_pattern.proofs.CellsNearMiddle.{live_near, trimmed_low}
 use Rattle.ca_pattern.proofs.LeaptTrees.{near_stays}
 use Rattle.ca_pattern.proofs.Searches.{search_within}
 use Rattle.ca_pattern.proofs.Starts.{near_start}
-use Rattle.ca_identify.proofs.Starts.{start_stays, start_near}
+use Rattle.ca_pattern.proofs.Starts.{start_stays, start_near}
 use Rattle.ca_pattern.proofs.Times.{moved_nowhere}
 
 -- later cells that the first ones are moved onto by no vector differ from them somewhere
@@ -129,22 +131,6 @@ start_goes_on next nodes tree quiet is n few = record {
 
 -- ---- one generation on
 
--- no generation on
-pub first_tree : (next : List ℕ → ℕ) (nodes : List Node) (tree : Tree) → IsStart nodes tree → IsLaterTree next (cell nodes tree) 0 nodes tree
-first_tree next nodes tree is = record { near = near_start nodes tree is; low = let low = is.low in omega (arith, low); trimmed = is.trimmed; shows = λ x y. refl }
-
-module _ (next : List ℕ → ℕ) (p : ℤ → ℤ → ℕ) (n : ℕ) (nodes : List Node) (now : Tree) (is : IsLaterTree next p n nodes now) where
-  one_on : (x y : ℤ) → cells_after next (cell nodes now) 1 x y ≡ cells_after next p (n + 1) x y
-  one_on x y = after_same next (cell nodes now) (cells_after next p n) 1 is.shows x y ∙ after_again next p n 1 x y
-
-  -- few generations after the start no live cell lies outside the square of a plane
-  pub near_next : next (replicate 9 0) ≡ 0 → HoldsAll 62 p → n < longest_period → IsWithinPlane (cells_after next (cell nodes now) 1)
-  near_next quiet within few = λ x y out. one_on x y ∙ start_near next p (n + 1) quiet within (omega (arith, few)) x y out
-
-  -- the tree that is one generation on from this one
-  pub later_next : (new : List Node) (tree : Tree) → IsLaterTree next (cell nodes now) 1 new tree → IsLaterTree next p (n + 1) new tree
-  later_next new tree later = record { near = later.near; low = later.low; trimmed = later.trimmed; shows = λ x y. later.shows x y ∙ one_on x y }
-
 -- after none of no generations,
 pub others_at_first : (next : List ℕ → ℕ) (p : ℤ → ℤ → ℕ) → AreOtherUpTo next p 0
 others_at_first next p m some within = absurd (omega (arith, some, within))
@@ -233,27 +219,6 @@ halted_as next p q nodes walk begun end same is = record {
 
 -- ---- the work that steps take
 
--- none
-pub no_step : (old new : ℕ) (stages : ℕ → ℤ → ℤ → ℕ) (limit n : ℕ) → new ≡ old → TakesSteps old new stages limit n
-no_step old new stages limit n same level some holds = omega (arith, same)
-
--- one more, from a trimmed tree of the live cells before it
-pub one_more_step : (old mid new : ℕ) (stages : ℕ → ℤ → ℤ → ℕ) (limit n m : ℕ) (nodes : List Node) (tree : Tree) → IsTrimmed nodes tree → ((x y : ℤ) → cell nodes tree x y ≡ stages m x y)
-    → m < limit → TakesSteps old mid stages limit n → new ≤ mid + step_work tree.level → TakesSteps old new stages limit (n + 1)
-one_more_step old mid new stages limit n m nodes tree trimmed shows less before takes level some holds =
-    let high = trimmed_low nodes tree (stages m) level some trimmed shows (holds m less) in
-    let most = before level some holds in
-    let power = power_more (tree.level + 2) (level + 2) (omega (arith, high)) in
-    let sum : (n + 1) * (13 * 14 ^ (level + 2)) ≡ n * (13 * 14 ^ (level + 2)) + 13 * 14 ^ (level + 2) = omega arith in
-    omega (arith, most, power, sum, takes)
-
--- more may be allowed
-pub fewer_steps : (old new : ℕ) (stages : ℕ → ℤ → ℤ → ℕ) (limit n k : ℕ) → n ≤ k → TakesSteps old new stages limit n → TakesSteps old new stages limit k
-fewer_steps old new stages limit n k few takes level some holds =
-    let most = takes level some holds in
-    let all : n * (13 * 14 ^ (level + 2)) ≤ k * (13 * 14 ^ (level + 2)) = mul-le-mul_right (13 * 14 ^ (level + 2)) few in
-    omega (arith, most, all)
-
 -- the same over the same planes
 pub steps_as : (old new : ℕ) (stages others : ℕ → ℤ → ℤ → ℕ) (limit n : ℕ) → ((m : ℕ) (x y : ℤ) → others m x y ≡ stages m x y) → TakesSteps old new others limit n → TakesSteps old new stages limit n
 steps_as old new stages others limit n same takes level some holds = takes level some (λ m less x y live. holds m less x y (λ none. live (same m x y ∙ none)))
@@ -314,13 +279,6 @@ step_then_search old mid new stages begun sure limit few first rest level some h
     let one = fewer_steps old mid stages sure (sure - begun) sure (omega arith) first level some (λ m less. holds m (omega (arith, less, few))) in
     let most = rest level some holds in
     omega (arith, one, most)
-
--- a run of some generations
-pub some_run : (old new level n : ℕ) → (n ≡ 0 → ⊥) → Takes old new 1 level n → TakesRun old new level n
-some_run old new level zero some takes = absurd (some refl)
-some_run old new level (suc n) some takes = λ digits short.
-    let most = takes digits short in
-    omega (arith, most)
 
 -- a run, and no step
 pub run_alone : (next : List ℕ → ℕ) (p : ℤ → ℤ → ℕ) (old new level n limit : ℕ) → TakesRun old new level n → TakesRunAndSearch old new level n (cells_after next p) limit

@@ -22,13 +22,13 @@ use Rattle.ca_identify.specs.declared.identification.stage.Stage.TheVariants.{Ot
 use Rattle.ca_identify.specs.declared.identification.strides.Stride.{Stride}
 use Rattle.ca_identify.specs.declared.identification.strides.Stride.TheVariants.{On, Again, Never, Dead}
 use Rattle.ca_identify.specs.inner.Stages.{AreMoved, AreMovedNowhere, AreOtherUpTo, IsEarly, AreEarly, IsStride}
-use Rattle.ca_identify.specs.TreeLooks.{CanGoOn}
+use Rattle.ca_evolution.specs.Steps.{CanGoOn}
 use Rattle.ca_pattern.specs.LaterTrees.{IsLaterTree}
 use Rattle.ca_pattern.specs.PatternTrees.{HasLive}
 use Rattle.ca_identify.proofs.Identities.{picture_moved, picture_nowhere}
 use Rattle.ca_pattern.proofs.Searches.{search_within}
 use Rattle.ca_identify.proofs.Stages.{first_stays, later_as, stage_as}
-use Rattle.ca_identify.proofs.Starts.{start_near}
+use Rattle.ca_pattern.proofs.Starts.{start_near}
 
 module _ (next : List ℕ → ℕ) (p : ℤ → ℤ → ℕ) where
   -- where the first cells are there again, moved, so are the planes that follow them

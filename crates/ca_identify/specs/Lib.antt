@@ -1,3 +1,2 @@
-pub mod Identified
 pub mod TreeLooks
 pub mod inner

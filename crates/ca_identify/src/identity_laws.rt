@@ -8,11 +8,11 @@ ghost use Rattle.ca_rule.specs.TableNext.{TableRule};
 ghost use Rattle.ca_pattern.specs.declared.located_fault.LocatedFault.{LocatedFault};
 ghost use Rattle.ca_pattern.specs.declared.located_fault.LocatedFault.TheVariants.{Work, Memory};
 ghost use Rattle.ca_pattern.specs.LocatedFaults.{IsSameFault};
-ghost use Rattle.ca_identify.specs.declared.identity.Identity.{Identity};
-ghost use Rattle.ca_identify.specs.declared.scope.Scope.{Scope};
-ghost use Rattle.ca_identify.specs.declared.scope.Look.{Look};
-ghost use Rattle.ca_identify.specs.Identified.{IsIdentity, IsIdentityAfter, IsLookAt};
-ghost use Rattle.ca_identify.specs.Identified.{IsIdentifiedAfter, IsUnidentifiedAfter};
+ghost use Rattle.ca_answers.specs.declared.identity.Identity.{Identity};
+ghost use Rattle.ca_answers.specs.declared.scope.Scope.{Scope};
+ghost use Rattle.ca_answers.specs.declared.scope.Look.{Look};
+ghost use Rattle.ca_answers.specs.Identified.{IsIdentity, IsIdentityAfter, IsLookAt};
+ghost use Rattle.ca_answers.specs.Identified.{IsIdentifiedAfter, IsUnidentifiedAfter};
 
 /// Under any rule, one identity at most holds of some cells within a limit, and of their plane some
 /// generations on.

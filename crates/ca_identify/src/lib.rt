@@ -2,10 +2,8 @@
 #![tactic(auto)]
 
 mod identification;
-mod identity;
 pub mod identity_laws;
-mod scope;
+mod tree_look;
 
-pub use identification::{identify, later_tree, look_at_plane};
-pub use identity::{Growth, Identity};
-pub use scope::{Look, Scope, TreeLook};
+pub use identification::{identify, look_at_plane};
+pub use tree_look::TreeLook;

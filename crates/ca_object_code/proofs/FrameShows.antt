@@ -20,7 +20,8 @@ use Rattle.ca_bricks.specs.Counting.{GoesBy}
 use Rattle.ca_bricks.proofs.LaterGrids.{grid_later}
 use Rattle.ca_apgcode.specs.Grids.{GridCells, IsGrid, cell}
 use Rattle.ca_apgcode.specs.Objects.{live, IsBoxRound}
-use Rattle.ca_object_code.specs.inner.Frames.{HasTwoStates, MayGoBy, IsFrameOf, IsMiddle, IsBeside, AreColumnsOf, frame_row}
+use Rattle.ca_object_code.specs.inner.Frames.{IsFrameOf, IsMiddle, IsBeside, AreColumnsOf, frame_row}
+use Rattle.ca_object_code.specs.Countings.{HasTwoStates, MayGoBy}
 
 -- ---- two states
 

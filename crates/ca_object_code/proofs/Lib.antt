@@ -1,7 +1,6 @@
 pub mod Drawings
 pub mod LeastBoxes
 pub mod Populations
-pub mod CodedFiles
 pub mod FrameShows
 pub mod RowBoxes
 pub mod LargeObjects

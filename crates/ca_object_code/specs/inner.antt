@@ -2,5 +2,3 @@
 pub mod Drawn
 pub mod Frames
 pub mod Large
-pub mod Spent
-pub mod CodedLooks

@@ -5,7 +5,7 @@ ghost use Rattle.ca_quad.specs.Boxes.{AreSquareBoxes};
 ghost use Rattle.ca_quad.specs.Trees.{cell};
 ghost use Rattle.ca_apgcode.specs.Objects.{IsBoxRound};
 ghost use Rattle.ca_pattern.specs.PatternTrees.{IsNearTree, IsWide, ShowsTree};
-ghost use Rattle.ca_identify.specs.inner.Stages.{IsWideBox};
+ghost use Rattle.ca_pattern.specs.PatternTrees.{IsWideBox};
 ghost use Rattle.ca_object_code.specs.inner.Drawn.{HasNoText, IsLarge, IsWindowOf};
 
 use crate::drawing::{Window, draw};

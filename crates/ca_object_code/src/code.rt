@@ -7,14 +7,14 @@ ghost use Rattle.ca_plane.specs.Limits.{longest_period};
 ghost use Rattle.ca_quad.specs.Trees.{cell};
 ghost use Rattle.ca_run.specs.Leaping.{LeaperGrows, EndsAtLimit};
 ghost use Rattle.ca_apgcode.specs.Objects.{IsObjectCode};
-ghost use Rattle.ca_identify.specs.TreeLooks.{TakesSteps};
+ghost use Rattle.ca_evolution.specs.Steps.{TakesSteps};
 ghost use Rattle.ca_pattern.specs.PatternTrees.{ShowsTree};
 ghost use Rattle.ca_pattern.specs.LaterTrees.{IsStart};
-ghost use Rattle.ca_object_code.specs.Codes.{IsCodeOf, IsNoObject, HasGoodPeriod, steps_of};
+ghost use Rattle.ca_answers.specs.Codes.{IsCodeOf, IsNoObject, HasGoodPeriod, steps_of};
 
 use crate::phases::least_of_phases;
 use ca_apgcode::{Kind, object_code};
-use ca_identify::Identity;
+use ca_answers::Identity;
 use ca_plane::Automaton;
 use ca_quad::Tree;
 use ca_run::{LeapFault, Leaper};

@@ -2,7 +2,7 @@
 
 ghost use Rattle.std.specs.Prelude.{◌≡◌, ◌≤◌, ◌+◌, ◌-◌, ◌*◌, ◌≤ℤ◌, pos, ◌+ℤ◌, IsTrue};
 ghost use Rattle.ca_plane.specs.Limits.{longest_period};
-ghost use Rattle.ca_identify.specs.inner.Stages.{IsWideBox};
+ghost use Rattle.ca_pattern.specs.PatternTrees.{IsWideBox};
 ghost use Rattle.ca_pattern.specs.PatternTrees.{IsWide};
 ghost use Rattle.ca_object_code.specs.inner.Large.{IsTooLarge};
 

@@ -3,9 +3,7 @@
 
 mod boxes;
 mod code;
-mod coded_look;
 mod drawing;
-mod files;
 mod frame;
 mod frame_box;
 mod large;
@@ -15,6 +13,5 @@ mod rules;
 mod small;
 
 pub use code::code_of_tree;
-pub use coded_look::CodedLook;
-pub use files::identify_with_code;
+pub use quick::quick_code;
 pub use rules::has_codes;

@@ -7,13 +7,13 @@ ghost use Rattle.ca_quad.specs.Boxes.{AreSquareBoxes};
 ghost use Rattle.ca_quad.specs.Trees.{cell};
 ghost use Rattle.ca_run.specs.Leaping.{LeaperGrows, EndsAtLimit};
 ghost use Rattle.ca_apgcode.specs.Objects.{IsLeastOfPhases};
-ghost use Rattle.ca_identify.specs.TreeLooks.{TakesSteps};
+ghost use Rattle.ca_evolution.specs.Steps.{TakesSteps};
 ghost use Rattle.ca_pattern.specs.PatternTrees.{IsNearTree};
 ghost use Rattle.ca_pattern.specs.LaterTrees.{IsStart};
 
 use crate::boxes::box_round;
 use ca_apgcode::least_with;
-use ca_identify::later_tree;
+use ca_evolution::later_tree;
 use ca_plane::{Automaton, Memory};
 use ca_quad::{SquareBoxes, Store, Tree};
 use ca_run::{LeapFault, Leaper, Unwatched};

@@ -7,16 +7,16 @@ ghost use Rattle.ca_plane.specs.Plane.{Picture};
 ghost use Rattle.ca_quad.specs.Trees.{cell};
 ghost use Rattle.ca_run.specs.Leaping.{LeaperGrows, EndsAtLimit};
 ghost use Rattle.ca_apgcode.specs.Objects.{IsObjectCode};
-ghost use Rattle.ca_identify.specs.Identified.{IsIdentity};
+ghost use Rattle.ca_answers.specs.Identified.{IsIdentity};
 ghost use Rattle.ca_pattern.specs.PatternTrees.{IsNearTree, ShowsTree};
-ghost use Rattle.ca_object_code.specs.Codes.{IsCodeOf, HasGoodPeriod, steps_of};
-ghost use Rattle.ca_object_code.specs.inner.Frames.{MayGoBy};
+ghost use Rattle.ca_answers.specs.Codes.{IsCodeOf, HasGoodPeriod, steps_of};
+ghost use Rattle.ca_object_code.specs.Countings.{MayGoBy};
 ghost use Rattle.ca_object_code.specs.inner.Large.{IsBackBy};
 
 use crate::large::is_too_large;
 use crate::small::least_of_small;
 use ca_apgcode::{Kind, object_code};
-use ca_identify::Identity;
+use ca_answers::Identity;
 use ca_plane::{Automaton, Counting};
 use ca_quad::{SquareBoxes, Tree};
 use ca_run::{LeapFault, Leaper};
@@ -24,7 +24,7 @@ use std::alloc::Global;
 
 /// The code of an oscillator or a spaceship that is so large that no phase fits into 40 by 40 cells, or whose phases all do, where
 /// the rule goes by a counting. None says nothing.
-pub(crate) fn quick_code<A: Automaton>(
+pub fn quick_code<A: Automaton>(
     alloc: Global,
     leaper: &mut Leaper<A>,
     tree: &Tree,

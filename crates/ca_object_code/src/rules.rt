@@ -2,7 +2,7 @@
 
 ghost use Rattle.std.specs.Prelude.{◌↔◌, IsTrue};
 ghost use Rattle.ca_rule.specs.Rule.{rule_value};
-ghost use Rattle.ca_object_code.specs.Codes.{HasCodes};
+ghost use Rattle.ca_answers.specs.Codes.{HasCodes};
 
 use ca_rule::{Hood, Rule};
 

@@ -8,7 +8,7 @@ ghost use Rattle.ca_quad.specs.Trees.{cell};
 ghost use Rattle.ca_run.specs.Leaping.{LeaperGrows, EndsAtLimit};
 ghost use Rattle.ca_apgcode.specs.Objects.{IsBoxRound, IsLeastOfPhases};
 ghost use Rattle.ca_pattern.specs.PatternTrees.{IsNearTree};
-ghost use Rattle.ca_object_code.specs.inner.Frames.{HasTwoStates};
+ghost use Rattle.ca_object_code.specs.Countings.{HasTwoStates};
 
 use crate::boxes::box_round;
 use crate::frame::{STEPPED, frame_of, middle_rows, next_frame};

@@ -20,8 +20,6 @@ pub mod PicturePopulations
 pub mod ReadPatterns
 pub mod RleFiles
 pub mod Searches
-pub mod Spending
 pub mod Starts
 pub mod Times
-pub mod Vectors
 pub mod WrittenMeanings

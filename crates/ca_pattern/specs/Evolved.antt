@@ -1,5 +1,5 @@
 -- Patterns some generations on: what is reached, what is told and written of it, and why it isn't.
-use Rattle.std.specs.Prelude.{◌≡◌, ℕ, ◌+◌, ◌^◌, ◌<◌, ◌≤◌, ℤ, List, MatchOption}
+use Rattle.std.specs.Prelude.{◌≡◌, ℕ, zero, suc, ◌+◌, ◌^◌, ◌<◌, ◌≤◌, ℤ, List, MatchOption}
 use Rattle.ca_plane.specs.Plane.{Picture, cell, IsLive}
 use Rattle.ca_plane.specs.Box.{IsLeastBox}
 use Rattle.ca_plane.specs.Generations.{after, IsAfter}
@@ -31,6 +31,11 @@ pub record HoldsSmallRuledPattern (bytes : List ℕ) (tables : List TableRule) (
 -- holds them, the binary digits of n, and 2
 abbrev pub MayNeedRun : (work n : ℕ) → (ℤ → ℤ → ℕ) → Type 0
 MayNeedRun work n cells = (1 ≤ n) × ((level digits : ℕ) → 1 ≤ level → HoldsAll level cells → n < 2 ^ digits → work ≤ 14 ^ (level + digits + 2))
+
+-- what a run of n generations may need: nothing where n is 0, and else 14 to the power of a level that holds the first cells, the binary digits of n, and 2
+abbrev pub run_work : (n level digits : ℕ) → ℕ
+run_work zero level digits = 0
+run_work (suc n) level digits = 14 ^ (level + digits + 2)
 
 -- the first reason for which the plane n generations on isn't reached, where so much work may be done: the file isn't opened; or the generation
 -- would be too large; or work is out. Out of memory may come before any of them, where memory may run out for the bytes

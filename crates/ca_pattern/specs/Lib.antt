@@ -1,7 +1,6 @@
 pub mod Converted
 pub mod Evolved
 pub mod Faults
-pub mod Later
 pub mod LaterTrees
 pub mod Limited
 pub mod Loaded
@@ -11,7 +10,6 @@ pub mod NamedTables
 pub mod PatternCells
 pub mod PatternTrees
 pub mod Patterns
-pub mod Spending
 pub mod States
 pub mod Written
 pub mod inner

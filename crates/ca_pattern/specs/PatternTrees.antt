@@ -3,6 +3,7 @@ use Rattle.std.specs.Prelude.{◌≤◌, ◌^◌, ℤ, pos, neg_ℤ, ◌≤ℤ�
 use Rattle.ca_plane.specs.Limits.{reach, most_generations}
 use Rattle.ca_quad.specs.declared.node.Node.{Node}
 use Rattle.ca_quad.specs.declared.tree.Tree.{Tree}
+use Rattle.ca_quad.specs.declared.tree.WideBounds.{WideBounds}
 use Rattle.ca_quad.specs.Trees.{IsTree, cell, IsTrimmed}
 use Rattle.ca_plane.specs.Plane.{Picture}
 use Rattle.ca_plane.specs.Plane as plane
@@ -73,3 +74,10 @@ pub record IsMoved (old : List Node) (other : Tree) (dx dy : ℤ) (nodes : List 
     (tree : Tree) : Type 0 where
   pub near : IsNearTree nodes tree
   pub shows : (x y : ℤ) → cell nodes tree x y ≡ shifted_cells (cell old other) dx dy x y
+
+-- the sides of the box lie in the square of a plane
+pub record IsWideBox (box : WideBounds) : Type 0 where
+  pub left : IsWide box.x0
+  pub top : IsWide box.y0
+  pub right : IsWide box.x1
+  pub bottom : IsWide box.y1

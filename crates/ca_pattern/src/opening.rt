@@ -3,18 +3,14 @@
 ghost use Rattle.std.specs.Prelude.{◌≡◌, ◌≤◌, ℕ, ℤ, IfOk, IfErr};
 ghost use Rattle.ca_macro.specs.Pattern.{AreInRange};
 ghost use Rattle.ca_pattern.specs.declared.format.Format.TheVariants.{Rle};
-ghost use Rattle.ca_pattern.specs.Evolved.{IsPatternAfter, IsReachFault};
+ghost use Rattle.ca_pattern.specs.Evolved.{IsPatternAfter};
 ghost use Rattle.ca_pattern.specs.LocatedFaults.{IsOpeningFault};
 ghost use Rattle.ca_pattern.specs.PatternCells.{IsPatternOf};
 ghost use Rattle.ca_pattern.specs.Means.{format_of};
-ghost use Rattle.ca_pattern.specs.Limited.{AreGoodLimits};
-ghost use Rattle.ca_plane.specs.Limits.{most_generations};
 
 use crate::cells::has_large_state;
 use crate::format::Format;
-use crate::limits::Limits;
 use crate::located_fault::LocatedFault;
-use crate::observer::Observer;
 use crate::pattern::{Cells, Pattern, StoredTree};
 use crate::read::{bad_rle, format_of, read_with_line};
 use crate::ruled::{RuledPattern, UnnamedRule, with_rule};
@@ -44,29 +40,6 @@ pub fn open_pattern<'a, 't>(
         Format::Rle => open_text(alloc, bytes, tables),
         Format::Mc => open_squares(alloc, bytes, tables),
     }
-}
-
-/// The pattern of a file some generations on, at most 1152921504606846976: that of the file where there are
-/// none. The observer sees how far the run is, as that of a claim on line 1.
-///
-/// # Errors
-///
-/// As for `open_pattern` and `Pattern::evolve`.
-pub fn open_evolved<'a, 't, O: Observer>(
-    alloc: Global,
-    bytes: &'a [u8],
-    tables: &'t [Table],
-    generations: u64,
-    limits: Limits,
-    observer: &mut O,
-) -> Result<Pattern<'a, 't>, LocatedFault>
-    requires limits { AreGoodLimits limits }
-    requires few { generations ≤ most_generations }
-    ensures reached { IfOk result (IsPatternAfter bytes.now tables.now generations) }
-    ensures fault { IfErr result (IsReachFault bytes.now tables.now generations limits.work) }
-{
-    let pattern = open_pattern(alloc, bytes, tables)?;
-    pattern.evolve(alloc, generations, limits, observer)
 }
 
 /// The pattern of an RLE file, which is judged without squares and without a list of its cells.

@@ -5,10 +5,9 @@ mod claims_remedy;
 mod complaint;
 mod explanation;
 mod fault;
+mod verification_run;
 
-pub use ca_catalog::{
-    Catalog, Content, Subject, Task, identify_run, is_claim_path, says_its_claims,
-};
+pub use ca_catalog::{Catalog, Content, Subject, Task, is_claim_path, says_its_claims};
 pub use ca_draw::{Size, View, WindowFault};
 pub use ca_pattern_runs::{
     DrawRequest, Evolution, Form, FormText, TextForm, convert_run, drawing_laws, form_text,
@@ -18,8 +17,9 @@ pub use ca_report::{
     Absence, FaultyRule, InputFault, MAX_FILE, MissingFile, ToolFault, lies_outside, path_in,
     push_escaped, read_all, rule_path,
 };
-pub use ca_verdict_lines::{ReportStyle, lines, status, verify_run, verify_watched};
+pub use ca_verdict_lines::{ReportStyle, lines, status};
 pub use claims_remedy::explain_claims;
 pub use complaint::{complain, complain_with_path};
 pub use explanation::{RunFiles, explain, has_explanation};
 pub use fault::Fault;
+pub use verification_run::{verify_run, verify_watched};

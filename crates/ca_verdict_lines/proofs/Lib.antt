@@ -1,3 +1,1 @@
-pub mod ReportedClaims
 pub mod Statuses
-pub mod WrittenTexts

@@ -1,7 +1,7 @@
 -- The exit status of some answers and one more.
 use Rattle.std.proofs.Common.{◌≡◌, List, [], ◌∷◌, ◌++◌, Bool, true, false, ◌||◌, max, if◌then◌else◌, refl, ap, ◌∙◌}
 use Rattle.std.specs.List.{list_any}
-use Rattle.ca_verify.specs.declared.verdict.Answer.{Answer}
+use Rattle.ca_answers.specs.declared.verdict.Answer.{Answer}
 use Rattle.ca_verdict_lines.specs.Verdicts.{status_of, is_refusal, is_no}
 use Rattle.ca_report.proofs.OneMore.{any_more}
 

@@ -1,3 +1,2 @@
 pub mod Reports
 pub mod Verdicts
-pub mod inner

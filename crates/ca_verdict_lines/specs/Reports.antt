@@ -4,10 +4,10 @@ use Rattle.std.specs.List.{AllZip, AllByRecursion}
 use Rattle.ca_plane.specs.Device.{Counted}
 use Rattle.ca_text.specs.declared.both.Both.{Both}
 use Rattle.ca_text.specs.Text.{ClaimText, Claim}
-use Rattle.ca_verify.specs.Judging.{Judging}
-use Rattle.ca_verify.specs.Notes.{IsNote, HasItsNote}
-use Rattle.ca_verify.specs.Answers.{AreWithinWork, AreTrueAnswers}
-use Rattle.ca_verify.specs.declared.verdict.Answer.{Answer}
+use Rattle.ca_answers.specs.Judging.{Judging}
+use Rattle.ca_answers.specs.Notes.{IsNote, HasItsNote}
+use Rattle.ca_answers.specs.Answers.{AreWithinWork, AreTrueAnswers}
+use Rattle.ca_answers.specs.declared.verdict.Answer.{Answer}
 use Rattle.ca_report.specs.declared.fault.ToolFault.{ToolFault}
 use Rattle.ca_report.specs.declared.fault.ToolFault.TheVariants.{Memory}
 use Rattle.ca_verdict_lines.specs.declared.finding.ReportStyle.{ReportStyle}

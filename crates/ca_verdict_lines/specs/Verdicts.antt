@@ -4,16 +4,16 @@ use Rattle.std.specs.declared.alloc.Global.{Global}
 use Rattle.std.specs.Fmt.{signed_decimal}
 use Rattle.std.specs.List.{flat_map, list_any}
 use Rattle.std.specs.Str.{bytes_eq}
-use Rattle.ca_verify.specs.declared.verdict.Answer.{Answer}
-use Rattle.ca_verify.specs.declared.verdict.Verdict.{Verdict}
-use Rattle.ca_verify.specs.declared.verdict.Verdict.TheVariants.{Yes, No, Refused}
-use Rattle.ca_verify.specs.declared.verdict.Refutation.{Refutation}
-use Rattle.ca_verify.specs.declared.verdict.Refutation.TheVariants.{Empty, Differs, Earlier, Died}
+use Rattle.ca_answers.specs.declared.verdict.Answer.{Answer}
+use Rattle.ca_answers.specs.declared.verdict.Verdict.{Verdict}
+use Rattle.ca_answers.specs.declared.verdict.Verdict.TheVariants.{Yes, No, Refused}
+use Rattle.ca_answers.specs.declared.verdict.Refutation.{Refutation}
+use Rattle.ca_answers.specs.declared.verdict.Refutation.TheVariants.{Empty, Differs, Earlier, Died}
 use Rattle.ca_pattern.specs.declared.cause.Cause.{Cause}
 use Rattle.ca_pattern.specs.declared.cause.Cause.TheVariants as causes
 use Rattle.ca_pattern.specs.declared.file.File.{File}
-use Rattle.ca_verify.specs.declared.note.Note.{Note}
-use Rattle.ca_verify.specs.declared.note.Note.TheVariants as notes
+use Rattle.ca_answers.specs.declared.note.Note.{Note}
+use Rattle.ca_answers.specs.declared.note.Note.TheVariants as notes
 use Rattle.ca_report.specs.declared.rule_folder.FaultyRule.{FaultyRule}
 use Rattle.ca_report.specs.declared.absence.MissingFile.{MissingFile}
 use Rattle.ca_verdict_lines.specs.declared.finding.ReportStyle.{ReportStyle}

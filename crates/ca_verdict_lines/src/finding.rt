@@ -18,7 +18,7 @@ use ca_report::{
     rule_pieces, send_both, send_pieces, table_kind, table_line,
 };
 use ca_rule::TableFault;
-use ca_verify::{Answer, Note, Refutation, Verdict};
+use ca_answers::{Answer, Note, Refutation, Verdict};
 use std::io::Write;
 
 /// How the answers of a text are printed.
@@ -39,9 +39,9 @@ pub struct ReportStyle<'a> {
 
 /// An answer, and the note on it.
 #[derive(Drop)]
-pub(crate) struct Finding<'a> {
-    pub(crate) answer: Answer,
-    pub(crate) note: Note<'a>,
+pub struct Finding<'a> {
+    pub answer: Answer,
+    pub note: Note<'a>,
 }
 
 // The line about a cell that differs, with the name of the pattern.
@@ -182,7 +182,7 @@ fn is_noted_refusal(verdict: Verdict, note: &Note<'_>) -> bool
 }
 
 /// Remembers that a claim is refused for which there is a second line.
-pub(crate) fn remember_note(has_note: &mut bool, finding: &Finding<'_>)
+pub fn remember_note(has_note: &mut bool, finding: &Finding<'_>)
     ensures { has_note.new ≡ (has_note.old || is_noted_refusal finding.now.answer.verdict finding.now.note) }
 {
     if is_noted_refusal(finding.answer.verdict, &finding.note) {
@@ -288,7 +288,7 @@ fn put_finding(
 /// that, in pieces.
 ///
 /// After a failure some first part of them was written, but not all of them.
-pub(crate) fn send_finding<W: Write>(
+pub fn send_finding<W: Write>(
     device: &mut Dev<W>,
     text: &mut Vec<u8>,
     style: &ReportStyle<'_>,

@@ -1,10 +1,8 @@
-//! What is printed of verdicts, and runs that judge claims and print the lines.
+//! What is printed of verdicts.
 #![tactic(auto)]
 
 mod finding;
 mod printing;
-mod run;
 
-pub use finding::ReportStyle;
-pub use printing::{lines, status};
-pub use run::{verify_run, verify_watched};
+pub use finding::{Finding, ReportStyle, remember_note, send_finding};
+pub use printing::{lines, status, worse_status};

@@ -2,8 +2,8 @@
 
 ghost use Rattle.std.specs.Prelude.{◌≡◌, ◌≢◌, ◌++◌, List, ◌∷◌, [], IfOk, OnErr};
 ghost use Rattle.std.specs.List.{list_any};
-ghost use Rattle.ca_verify.specs.declared.verdict.Answer.{Answer as AnswerValue};
-ghost use Rattle.ca_verify.specs.declared.verdict.Verdict.TheVariants.{No, Refused};
+ghost use Rattle.ca_answers.specs.declared.verdict.Answer.{Answer as AnswerValue};
+ghost use Rattle.ca_answers.specs.declared.verdict.Verdict.TheVariants.{No, Refused};
 ghost use Rattle.ca_verdict_lines.specs.Verdicts.{return_text, refutation_text, verdict_text, answer_line};
 ghost use Rattle.ca_verdict_lines.specs.Verdicts.{answer_lines, status_of, is_refusal, is_no};
 ghost use Rattle.ca_report.specs.Pieces.{pieces_text};
@@ -11,7 +11,7 @@ ghost use Rattle.ca_report.specs.Pieces.{pieces_text};
 use ca_pattern::Cause;
 use ca_plane::Memory;
 use ca_report::{Piece, cause_pieces, in_pieces, push_pieces};
-use ca_verify::{Answer, Refutation, Verdict};
+use ca_answers::{Answer, Refutation, Verdict};
 use std::alloc::Global;
 
 fn return_pieces<'a>(generations: u64, dx: i64, dy: i64) -> [Piece<'a>; 6]
@@ -119,7 +119,7 @@ pub fn status(answers: &[Answer]) -> u8
 }
 
 /// The exit status of some answers and one more, `code` being that of the others.
-pub(crate) fn worse_status(code: u8, answer: Answer) -> u8
+pub fn worse_status(code: u8, answer: Answer) -> u8
     ensures { (answers : List AnswerValue) → code ≡ status_of answers
         → result ≡ status_of (answers ++ answer ∷ []) }
 {

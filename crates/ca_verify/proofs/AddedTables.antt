@@ -10,8 +10,8 @@ use Rattle.ca_rule.specs.Rule.{RuleValue, Bs, Gen, Tab, NamesRule, IsRuleFault, 
 use Rattle.ca_rule.specs.declared.fault.RuleFault.{RuleFault}
 use Rattle.ca_rule.specs.declared.fault.RuleFault.TheVariants.{Bounded, Wakes, Unknown}
 use Rattle.ca_text.specs.declared.asks.Asks.{Asks}
-use Rattle.ca_verify.specs.declared.verdict.Verdict.{Verdict}
-use Rattle.ca_verify.specs.declared.verdict.Verdict.TheVariants.{Yes, No, Refused}
+use Rattle.ca_answers.specs.declared.verdict.Verdict.{Verdict}
+use Rattle.ca_answers.specs.declared.verdict.Verdict.TheVariants.{Yes, No, Refused}
 use Rattle.ca_pattern.specs.declared.cause.Cause.{Cause}
 use Rattle.ca_pattern.specs.declared.cause.Cause.TheVariants.{NoFile, BadTable, BadPattern, BadRule, StateTooLarge, MixedRules, TooManyCells, Work, Memory}
 use Rattle.ca_text.specs.Text.{Claim, patterns_of}
@@ -19,7 +19,7 @@ use Rattle.ca_text.specs.Asks.{asks_of}
 use Rattle.ca_text.specs.declared.both.Both.{Both}
 use Rattle.ca_text.specs.Both.{HoldsOfBoth, HoldsOfEither, FirstBadOfBoth}
 use Rattle.ca_text.specs.SomeOf.{SomeOf}
-use Rattle.ca_verify.specs.Answers.{AreTables, IsRuled, IsMissing, IsThere, HoldsTable, HasRule, IsSmall, HaveOtherRules, FilesAreThere, AgreeOn, HasCause, IsGoodPattern, AreGood, IsJudged, IsBadTable, IsUnnamed, IsLarge, IsTrueVerdict}
+use Rattle.ca_answers.specs.Answers.{AreTables, IsRuled, IsMissing, IsThere, HoldsTable, HasRule, IsSmall, HaveOtherRules, FilesAreThere, AgreeOn, HasCause, IsGoodPattern, AreGood, IsJudged, IsBadTable, IsUnnamed, IsLarge, IsTrueVerdict}
 use Rattle.ca_text.specs.Firsts.{FirstBad}
 
 -- ---- lists

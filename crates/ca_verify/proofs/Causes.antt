@@ -18,8 +18,8 @@ use Rattle.ca_text.specs.declared.asks.Asks.{Asks}
 use Rattle.ca_text.specs.declared.asks.Expected.{Expected}
 use Rattle.ca_text.specs.declared.asks.Expected.TheVariants.{Own, Other, NoCells}
 use Rattle.ca_pattern.specs.declared.cause.Cause.TheVariants.{NoFile, BadPattern, BadRule, StateTooLarge, Work, Memory}
-use Rattle.ca_verify.specs.declared.verdict.Verdict.{Verdict}
-use Rattle.ca_verify.specs.declared.verdict.Verdict.TheVariants.{Yes, No, Refused}
+use Rattle.ca_answers.specs.declared.verdict.Verdict.{Verdict}
+use Rattle.ca_answers.specs.declared.verdict.Verdict.TheVariants.{Yes, No, Refused}
 use Rattle.ca_text.specs.declared.both.Both.{Both}
 use Rattle.ca_verify.specs.declared.verifier.prepared.PreparedClaim.{PreparedClaim}
 use Rattle.ca_verify.specs.declared.verifier.agreement.Disagreement.{Disagreement}
@@ -37,19 +37,19 @@ use Rattle.ca_pattern.specs.declared.ruled.RuledPattern.{RuledPattern}
 use Rattle.ca_pattern.specs.declared.ruled.UnnamedRule.{UnnamedRule}
 use Rattle.ca_text.specs.Text.{Claim, patterns_of, HasGoodNumbers}
 use Rattle.ca_text.specs.Places.{path_at}
-use Rattle.ca_verify.specs.Files.{bytes_at}
+use Rattle.ca_answers.specs.Files.{bytes_at}
 use Rattle.ca_pattern.specs.Means.{IsReadable, MayWantMemory}
 use Rattle.ca_text.specs.Asks.{asks_of}
 use Rattle.ca_text.specs.Truth.{expected_cells}
 use Rattle.ca_verify.specs.inner.Decided.{IsBounded, IsDecided}
-use Rattle.ca_verify.specs.Work.{IsNoMoreThan}
+use Rattle.ca_answers.specs.Work.{IsNoMoreThan}
 use Rattle.ca_pattern.specs.Faults.{IsPatternFaultOn}
-use Rattle.ca_verify.specs.Answers.{IsBadPatternOn, AreTables, IsMissing, IsThere, IsReadableFile, HasRule, IsSmall, HaveOtherRules, HasCause, IsGoodPattern, AreGood, IsJudged, IsTrueVerdict, IsBadPattern, IsUnnamed, IsUnnamedBy, IsLarge, IsCrowded, WantsMemory}
+use Rattle.ca_answers.specs.Answers.{IsBadPatternOn, AreTables, IsMissing, IsThere, IsReadableFile, HasRule, IsSmall, HaveOtherRules, HasCause, IsGoodPattern, AreGood, IsJudged, IsTrueVerdict, IsBadPattern, IsUnnamed, IsUnnamedBy, IsLarge, IsCrowded, WantsMemory}
 use Rattle.ca_pattern.specs.PatternTrees.{IsPattern}
 use Rattle.ca_verify.specs.inner.Subjects.{AreShown, IsSubject}
 use Rattle.ca_verify.specs.inner.PreparedClaim.{IsPrepared, IsFit, AreFewCounted, IsCountRefused, expected_tree, expected_part, refusal_for, disagreement_refusal}
 use Rattle.ca_verify.specs.inner.Found.{IsFound}
-use Rattle.ca_pattern.specs.Spending.{HasLimits}
+use Rattle.ca_evolution.specs.Spending.{HasLimits}
 use Rattle.ca_verify.specs.inner.Refusals.{IsRefusal, IsOnVerdict, IsJudgedOn}
 use Rattle.ca_text.specs.Both.{map_both, HoldsOfBoth, ZipBoth}
 use Rattle.ca_verify.specs.inner.Patterns.{FirstBadAt, HasName, AreOfOneRule, AreMixed, Disagree, trees_of}

@@ -13,7 +13,7 @@ use Rattle.ca_quad.specs.Trees as trees
 use Rattle.ca_run.specs.Primes.{IsPrime}
 use Rattle.ca_run.proofs.Primes.{quotient_some, swapped}
 use Rattle.ca_run.proofs.Returns.{back_times}
-use Rattle.ca_verify.specs.declared.verdict.Refutation.TheVariants.{Earlier}
+use Rattle.ca_answers.specs.declared.verdict.Refutation.TheVariants.{Earlier}
 use Rattle.ca_text.specs.declared.asks.Forbidden.{Forbidden}
 use Rattle.ca_text.specs.declared.asks.Forbidden.TheVariants.{Nothing, InPlace, Anywhere, EmptyPlane}
 use Rattle.ca_text.specs.Truth.{ShowsNothingForbidden, MayReturnBy}

@@ -3,7 +3,7 @@ use Rattle.std.proofs.Common.{◌≡◌, ℕ, List, Vec, Global, refl}
 use Rattle.ca_rule.specs.TableNext.{TableRule}
 use Rattle.ca_verify.specs.declared.verifier.tables.FaultyTable.{FaultyTable}
 use Rattle.ca_text.specs.Places.{path_at}
-use Rattle.ca_verify.specs.Answers.{IsTableAt, AreTables, IsThere, IsMissing, HoldsTable}
+use Rattle.ca_answers.specs.Answers.{IsTableAt, AreTables, IsThere, IsMissing, HoldsTable}
 use Rattle.ca_text.specs.Firsts.{FirstBad}
 use Rattle.ca_verify.specs.declared.verifier.tables.Tables.{Tables}
 use Rattle.ca_verify.specs.declared.verifier.tables.Tables.TheVariants.{Missing, Faulty, Read}

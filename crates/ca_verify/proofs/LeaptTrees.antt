@@ -17,8 +17,8 @@ use Rattle.ca_text.specs.declared.asks.Asks.{Asks}
 use Rattle.ca_text.specs.declared.asks.Expected.{Expected}
 use Rattle.ca_verify.specs.declared.decide.ClaimTrees.{ClaimTrees}
 use Rattle.ca_verify.specs.declared.decide.Case.{Case}
-use Rattle.ca_verify.specs.declared.verdict.Refutation.{Refutation}
-use Rattle.ca_verify.specs.declared.verdict.Refutation.TheVariants.{Empty, Differs, Earlier, Died}
+use Rattle.ca_answers.specs.declared.verdict.Refutation.{Refutation}
+use Rattle.ca_answers.specs.declared.verdict.Refutation.TheVariants.{Empty, Differs, Earlier, Died}
 use Rattle.ca_text.specs.Truth.{expected_cells, claimed_cells}
 use Rattle.ca_pattern.specs.PatternTrees.{ShowsTree, HasLive, IsEndTree}
 use Rattle.ca_verify.specs.inner.Subjects.{IsCase, ForbidsReturn, ForbidsDeath, AreShown, IsDifference}

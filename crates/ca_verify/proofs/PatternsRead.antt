@@ -14,9 +14,9 @@ use Rattle.ca_rule.specs.Rule.{RuleValue, NamesRule, IsRuleFault}
 use Rattle.ca_pattern.specs.declared.pattern.Loaded.{Loaded}
 use Rattle.ca_pattern.specs.declared.ruled.RuledPattern.{RuledPattern}
 use Rattle.ca_pattern.specs.declared.ruled.UnnamedRule.{UnnamedRule}
-use Rattle.ca_verify.specs.Files.{bytes_at}
+use Rattle.ca_answers.specs.Files.{bytes_at}
 use Rattle.ca_pattern.specs.Means.{HoldsPattern}
-use Rattle.ca_verify.specs.Answers.{IsRuled, IsReadableFile, HasRule, IsSmall, IsLarge, IsUnnamed, IsUnnamedBy, IsGoodPattern}
+use Rattle.ca_answers.specs.Answers.{IsRuled, IsReadableFile, HasRule, IsSmall, IsLarge, IsUnnamed, IsUnnamedBy, IsGoodPattern}
 use Rattle.ca_pattern.specs.States.{HasSmallStates}
 use Rattle.ca_pattern.specs.Patterns.{IsReadFrom, IsUnnamedFor, rule_of, IsRuledAs, ShowsLarge, ShowsSmall}
 use Rattle.ca_verify.specs.inner.Patterns.{HasName}

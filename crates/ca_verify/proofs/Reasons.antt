@@ -7,15 +7,15 @@ use Rattle.ca_quad.specs.declared.node.Node.{Node}
 use Rattle.ca_quad.specs.declared.tree.Tree.{Tree}
 use Rattle.ca_quad.specs.Sound.{IsSoundStore, Grows}
 use Rattle.ca_quad.specs.Trees as trees
-use Rattle.ca_verify.specs.declared.verdict.Refutation.{Refutation}
-use Rattle.ca_verify.specs.declared.verdict.Refutation.TheVariants.{Empty, Differs, Earlier, Died}
+use Rattle.ca_answers.specs.declared.verdict.Refutation.{Refutation}
+use Rattle.ca_answers.specs.declared.verdict.Refutation.TheVariants.{Empty, Differs, Earlier, Died}
 use Rattle.ca_text.specs.declared.asks.Asks.{Asks}
 use Rattle.ca_text.specs.declared.asks.Expected.TheVariants.{Own, NoCells}
 use Rattle.ca_text.specs.declared.asks.Forbidden.{Forbidden}
 use Rattle.ca_text.specs.declared.asks.Forbidden.TheVariants.{Nothing, InPlace, Anywhere, EmptyPlane}
 use Rattle.ca_verify.specs.declared.decide.Case.{Case}
 use Rattle.ca_text.specs.Truth.{expected_cells, claimed_cells, ShowsNothingForbidden, MayReturnBy, IsTrueClaim}
-use Rattle.ca_verify.specs.Refutations.{IsReason}
+use Rattle.ca_answers.specs.Refutations.{IsReason}
 use Rattle.ca_verify.specs.inner.Decided.{ForbidsReturns}
 use Rattle.ca_verify.specs.inner.Returns.{IsSparedBefore, IsFirstReturn, IsFirstDeath}
 use Rattle.ca_pattern.specs.PatternTrees.{ShowsTree, HasLive}

@@ -11,9 +11,9 @@ use Rattle.ca_run.proofs.Costs.{power_more}
 use Rattle.ca_text.specs.declared.asks.Asks.{Asks}
 use Rattle.ca_text.specs.declared.asks.Forbidden.{Forbidden}
 use Rattle.ca_text.specs.declared.asks.Forbidden.TheVariants.{Nothing, InPlace, Anywhere, EmptyPlane}
-use Rattle.ca_verify.specs.Work.{most_runs, IsNoMoreThan, MayBeUsedUp}
+use Rattle.ca_answers.specs.Work.{most_runs, IsNoMoreThan, MayBeUsedUp}
 use Rattle.ca_pattern.specs.PatternTrees.{ShowsTree}
-use Rattle.ca_pattern.specs.Spending.{Takes}
+use Rattle.ca_evolution.specs.Spending.{Takes}
 use Rattle.ca_verify.specs.inner.Spending.{TakesHalves, most_halvings, most_looks}
 use Rattle.ca_pattern.proofs.CellsNearMiddle.{trimmed_low}
 

@@ -7,11 +7,11 @@ use Rattle.ca_verify.specs.declared.verifier.tables.FaultyTable.{FaultyTable}
 use Rattle.ca_pattern.specs.declared.cause.Cause.TheVariants.{NoFile, BadTable}
 use Rattle.ca_text.specs.declared.asks.Asks.{Asks}
 use Rattle.ca_text.specs.Places.{path_at}
-use Rattle.ca_verify.specs.Files.{bytes_at}
+use Rattle.ca_answers.specs.Files.{bytes_at}
 use Rattle.ca_text.specs.declared.both.Both.{Both}
 use Rattle.ca_text.specs.Both.{HoldsOfBoth}
 use Rattle.ca_text.specs.SomeOf.{SomeOf}
-use Rattle.ca_verify.specs.Answers.{IsMissing, IsThere, HoldsTable, AreTables, IsBadTable}
+use Rattle.ca_answers.specs.Answers.{IsMissing, IsThere, HoldsTable, AreTables, IsBadTable}
 use Rattle.ca_text.specs.Firsts.{FirstBad}
 use Rattle.ca_verify.specs.inner.Found.{IsFound, IsTableFound, IsFaultFound}
 use Rattle.ca_verify.specs.NeededFiles.{IsFaultyAt}

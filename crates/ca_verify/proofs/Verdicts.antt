@@ -11,8 +11,8 @@ use Rattle.ca_rule.specs.declared.fault.RuleFault.{RuleFault}
 use Rattle.ca_rule.specs.Rule.{RuleValue, next_of, IsSameRule}
 use Rattle.ca_rule.proofs.OneTable.{one_table, none_of_a_table, one_fault as one_table_fault}
 use Rattle.ca_plane.proofs.Populations.{not_both}
-use Rattle.ca_verify.specs.declared.verdict.Refutation.{Refutation}
-use Rattle.ca_verify.specs.declared.verdict.Refutation.TheVariants.{Empty, Differs, Earlier, Died}
+use Rattle.ca_answers.specs.declared.verdict.Refutation.{Refutation}
+use Rattle.ca_answers.specs.declared.verdict.Refutation.TheVariants.{Empty, Differs, Earlier, Died}
 use Rattle.ca_pattern.specs.declared.pattern_fault.PatternFault.{PatternFault}
 use Rattle.ca_pattern.specs.declared.cause.Cause.{Cause}
 use Rattle.ca_pattern.specs.declared.cause.Cause.TheVariants.{NoFile, BadTable, BadPattern, BadRule, StateTooLarge, MixedRules, TooManyCells, Work, Memory}
@@ -23,13 +23,13 @@ use Rattle.ca_pattern.specs.Means.{IsReadable, HoldsRuledPattern, HasRuleFault}
 use Rattle.ca_text.specs.Text.{Claim, patterns_of}
 use Rattle.ca_text.specs.Asks.{asks_of}
 use Rattle.ca_text.specs.Truth.{expected_cells, ShowsNothingForbidden, IsTrueClaim}
-use Rattle.ca_verify.specs.Refutations.{IsReason}
+use Rattle.ca_answers.specs.Refutations.{IsReason}
 use Rattle.ca_text.specs.declared.both.Both.{Both}
 use Rattle.ca_text.specs.Both.{HoldsOfBoth, HoldsOfEither, FirstBadOfBoth}
 use Rattle.ca_text.specs.SomeOf.{SomeOf}
 use Rattle.ca_pattern.specs.Faults.{IsPatternFault}
 use Rattle.ca_pattern.specs.NamedTables.{IsQuietTable, IsTableFault}
-use Rattle.ca_verify.specs.Answers.{HoldsOfFile, IsTableAt, AreTables, IsRuled, IsMissing, IsThere, HoldsTable, IsReadableFile, HasRule, IsSmall, HaveOtherRules, FilesAreThere, TablesAreGood, PatternsAreRead, PatternsHaveRules, StatesAreSmall, AgreeOn, HasFewCounted, HasTooManyCounted, HasCause, IsCauseFor, IsGoodPattern, AreGood, IsJudged, IsBadTable, IsBadPattern, IsUnnamed, IsLarge}
+use Rattle.ca_answers.specs.Answers.{HoldsOfFile, IsTableAt, AreTables, IsRuled, IsMissing, IsThere, HoldsTable, IsReadableFile, HasRule, IsSmall, HaveOtherRules, FilesAreThere, TablesAreGood, PatternsAreRead, PatternsHaveRules, StatesAreSmall, AgreeOn, HasFewCounted, HasTooManyCounted, HasCause, IsCauseFor, IsGoodPattern, AreGood, IsJudged, IsBadTable, IsBadPattern, IsUnnamed, IsLarge}
 use Rattle.ca_text.specs.Firsts.{FirstBad}
 use Rattle.ca_verify.proofs.PatternsRead.{ruled_path_reads}
 use Rattle.ca_text.proofs.PairedLists.{zip_left}

@@ -1,9 +1,3 @@
-pub mod Answers
 pub mod Examples
-pub mod Files
-pub mod Judging
 pub mod NeededFiles
-pub mod Notes
-pub mod Refutations
-pub mod Work
 pub mod inner

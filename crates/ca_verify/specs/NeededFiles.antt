@@ -4,12 +4,12 @@ use Rattle.std.specs.Borrow.{Bor}
 use Rattle.std.specs.Option.{option_copied}
 use Rattle.ca_verify.specs.declared.verifier.tables.Tables.{Tables}
 use Rattle.ca_text.specs.Text.{ClaimText}
-use Rattle.ca_verify.specs.Files.{bytes_at}
+use Rattle.ca_answers.specs.Files.{bytes_at}
 use Rattle.std.specs.List.{AllByRecursion}
 use Rattle.ca_verify.specs.declared.verifier.tables.FaultyTable.{FaultyTable}
 use Rattle.ca_verify.specs.declared.verifier.tables.Tables.TheVariants.{Missing, Faulty, Read}
 use Rattle.ca_text.specs.Places.{path_at}
-use Rattle.ca_verify.specs.Answers.{IsBadTable, IsMissing, IsThere, HoldsTable, AreTables}
+use Rattle.ca_answers.specs.Answers.{IsBadTable, IsMissing, IsThere, HoldsTable, AreTables}
 use Rattle.ca_text.specs.Firsts.{FirstBad}
 
 -- this path is the first whose file is no good table, which has this fault

@@ -3,18 +3,19 @@
 ghost use Rattle.std.specs.Prelude.{◌≡◌, ◌≢◌, ℕ, ◌<◌, List, [], map, length, IfOk, IfSome, OnErr};
 ghost use Rattle.std.specs.Prelude.{MatchOption};
 ghost use Rattle.std.specs.Option.{option_copied};
-ghost use Rattle.ca_verify.specs.Files.{contents, bytes_at};
-ghost use Rattle.ca_verify.specs.Judging.{Judges, JudgesAndNotes, IsDone};
+ghost use Rattle.ca_answers.specs.Files.{contents, bytes_at};
+ghost use Rattle.ca_answers.specs.Judging.{Judges, JudgesAndNotes, IsDone};
 ghost use Rattle.ca_pattern.specs.Limited.{AreGoodLimits};
-ghost use Rattle.ca_verify.specs.Notes.{HasItsNote};
+ghost use Rattle.ca_answers.specs.Notes.{HasItsNote};
 ghost use Rattle.ca_verify.specs.NeededFiles.{AreFound, AreRead};
 ghost use Rattle.ca_verify.specs.inner.Kept.{IsAnswerTo};
 
-use crate::note::Note;
+use ca_answers::Note;
 use crate::noting::note_on;
-use crate::verdict::Answer;
+use ca_answers::Answer;
 use crate::verifier::{NeededFiles, PatternCache, Tables, Task, find_files, verdict_on};
-use ca_pattern::{File, Limits, Observer};
+use ca_pattern::{File, Limits};
+use ca_evolution::Observer;
 use ca_plane::Memory;
 use ca_run::Unwatched;
 use ca_text::Claims;
@@ -35,8 +36,8 @@ pub struct Judge<'a> {
 }
 
 impl<'a> Model for Judge<'a> {
-    ghost use Rattle.ca_verify.specs.Files.{contents};
-    ghost use Rattle.ca_verify.specs.Judging.{Judging};
+    ghost use Rattle.ca_answers.specs.Files.{contents};
+    ghost use Rattle.ca_answers.specs.Judging.{Judging};
     ghost use Rattle.ca_verify.specs.inner.Kept.{IsKeptOf, left_from};
 
     ghost Value = { Judging };

@@ -2,14 +2,14 @@
 
 ghost use Rattle.std.specs.Prelude.{◌≡◌, ℕ, ◌<◌, List, length};
 ghost use Rattle.ca_text.specs.Places.{path_at, named_path};
-ghost use Rattle.ca_verify.specs.Notes.{IsNote, HasItsNote};
+ghost use Rattle.ca_answers.specs.Notes.{IsNote, HasItsNote};
 ghost use Rattle.ca_text.specs.Both.{map_both, HoldsOfBoth};
 ghost use Rattle.ca_verify.specs.inner.Patterns.{part_of};
 ghost use Rattle.ca_verify.specs.inner.Refusals.{IsOnVerdict};
 
-use crate::note::Note;
+use ca_answers::Note;
 use crate::refusal::{About, JudgedClaim, WhichPattern};
-use crate::verdict::{Refutation, Verdict};
+use ca_answers::{Refutation, Verdict};
 use ca_text::{Both, Claims, NamedPath};
 
 /// The note on a verdict on a claim about these patterns.

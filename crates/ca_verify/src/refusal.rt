@@ -1,6 +1,6 @@
 //! Why a claim isn't judged, and what the cause is about.
 
-use crate::verdict::Verdict;
+use ca_answers::Verdict;
 use ca_pattern::Cause;
 
 /// Why a claim isn't judged, and what the cause is about.

@@ -4,11 +4,8 @@ ghost use Rattle.std.specs.Prelude.{◌≡◌, ◌++◌, [], codes, IfOk, OnErr,
 ghost use Rattle.ca_report.specs.Escaped.{escaped};
 
 use crate::FAULT;
-use crate::files::{
-    LoadedText, faulty_rules, load_needed, missing_files, read_source, views, with_named_rules,
-};
-use crate::progress::{Heading, Progress};
-use crate::streams::Streams;
+use ca_host::{Heading, LoadedText, Progress, Streams, faulty_rules, load_needed, missing_files, read_source, views};
+use crate::named_rules::with_named_rules;
 use ca_pattern::File;
 use ca_plane::Memory;
 use ca_plane::text::push_text;

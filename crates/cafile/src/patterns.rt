@@ -1,9 +1,7 @@
 //! The commands `show`, `convert` and `draw`.
 
 use crate::FAULT;
-use crate::files::{LoadedFile, load_rule_file, open_source, read_file};
-use crate::progress::{Heading, Progress};
-use crate::streams::Streams;
+use ca_host::{Heading, LoadedFile, Progress, Streams, load_rule_file, open_source, read_file};
 use ca_pattern::{ConvertFault, File};
 use ca_plane::limits::MOST_GENERATIONS;
 use ca_plane::{Dev, Memory, send};

@@ -3,8 +3,8 @@
 use super::expected::{expect, is_live};
 use super::objects::{OBJECTS, ORIENTATIONS, Object};
 use ca_apgcode::{Grid, ReadFault, read_representation};
-use ca_identify::Scope;
-use ca_object_code::identify_with_code;
+use ca_answers::Scope;
+use ca_catalog_runs::identify_with_code;
 use ca_pattern::Limits;
 use ca_plane::Memory;
 use ca_plane::text::{push_number, push_text};

@@ -18,9 +18,9 @@ use Rattle.ca_identify.specs.declared.identification.stage.Stage.TheVariants.{Em
 use Rattle.ca_identify.specs.declared.identification.strides.Stride.{Stride}
 use Rattle.ca_identify.specs.declared.identification.strides.Stride.TheVariants.{On, Again, Never, Dead}
 use Rattle.ca_identify.specs.declared.identification.walk.Walk.{Walk}
-use Rattle.ca_identify.specs.declared.identity.Growth.{Growth}
-use Rattle.ca_identify.specs.Identified.{IsGrowth}
-use Rattle.ca_identify.specs.TreeLooks.{step_work}
+use Rattle.ca_answers.specs.declared.identity.Growth.{Growth}
+use Rattle.ca_answers.specs.Identified.{IsGrowth}
+use Rattle.ca_evolution.specs.Steps.{step_work}
 use Rattle.ca_text.specs.Text.{IsShift}
 use Rattle.ca_text.specs.Truth.{IsChanged, IsNowhere}
 use Rattle.ca_pattern.specs.PatternTrees.{IsBroad, IsWide, ShowsTree, HasLive}
@@ -36,13 +36,6 @@ pub record IsFirst (nodes : List Node) (first : First) : Type 0 where
 pub record IsFirstBox (box : WideBounds) : Type 0 where
   pub left : IsBroad box.x0
   pub top : IsBroad box.y0
-  pub right : IsWide box.x1
-  pub bottom : IsWide box.y1
-
--- the sides of the box lie in the square of a plane
-pub record IsWideBox (box : WideBounds) : Type 0 where
-  pub left : IsWide box.x0
-  pub top : IsWide box.y0
   pub right : IsWide box.x1
   pub bottom : IsWide box.y1
 

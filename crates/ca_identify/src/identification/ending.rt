@@ -3,10 +3,10 @@
 ghost use Rattle.std.specs.Prelude.{ℕ, ◌≤◌, List};
 ghost use Rattle.ca_plane.specs.Plane.{Picture};
 ghost use Rattle.ca_plane.specs.Limits.{longest_period};
-ghost use Rattle.ca_identify.specs.Identified.{IsIdentity};
+ghost use Rattle.ca_answers.specs.Identified.{IsIdentity};
 ghost use Rattle.ca_identify.specs.inner.Stages.{IsReturn, IsEnding, generations_of};
 
-use crate::identity::Identity;
+use ca_answers::Identity;
 
 /// What a live pattern's plane shows after these generations, and at no earlier time, starting at 1.
 #[derive(Clone, Copy)]

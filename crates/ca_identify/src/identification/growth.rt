@@ -5,7 +5,7 @@ ghost use Rattle.ca_quad.specs.Trees.{cell};
 ghost use Rattle.ca_pattern.specs.PatternTrees.{IsLowTree, HasLive};
 ghost use Rattle.ca_identify.specs.inner.Stages.{IsGrowthOf};
 
-use crate::identity::Growth;
+use ca_answers::Growth;
 use ca_pattern::bounds_of;
 use ca_plane::Memory;
 use ca_quad::{Store, Tree};

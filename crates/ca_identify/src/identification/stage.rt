@@ -5,10 +5,11 @@ ghost use Rattle.ca_quad.specs.Boxes.{IsLeastWideBox, AreSquareBoxes};
 ghost use Rattle.ca_quad.specs.Trees.{IsTree, cell};
 ghost use Rattle.ca_run.specs.Leaping.{LeaperGrows, EndsAtLimit};
 ghost use Rattle.ca_pattern.specs.PatternTrees.{IsNearTree};
-ghost use Rattle.ca_identify.specs.inner.Stages.{IsFirst, IsFirstBox, IsWideBox, IsStage};
+ghost use Rattle.ca_identify.specs.inner.Stages.{IsFirst, IsFirstBox, IsStage};
+ghost use Rattle.ca_pattern.specs.PatternTrees.{IsWideBox};
 ghost use Rattle.ca_identify.specs.inner.Stages.{AreMovedNowhere, AreMovedOnlyBy};
 
-use ca_pattern::{distance, vector_if_back};
+use ca_evolution::{distance, vector_if_back};
 use ca_plane::{Automaton, Memory};
 use ca_quad::{SquareBoxes, Store, Tree, WideBounds};
 use ca_run::{LeapFault, Leaper};

@@ -10,13 +10,13 @@ ghost use Rattle.ca_quad.specs.Trees.{cell};
 ghost use Rattle.ca_run.specs.Leaping.{LeaperGrows, EndsAtLimit};
 ghost use Rattle.ca_identify.specs.inner.Stages.{IsFirst, IsStage, IsWalk, IsHalted, IsEnding, generations_of};
 ghost use Rattle.ca_pattern.specs.LaterTrees.{IsLaterTree};
-ghost use Rattle.ca_identify.specs.TreeLooks.{TakesSteps, step_work};
+ghost use Rattle.ca_evolution.specs.Steps.{TakesSteps, step_work};
 ghost use Rattle.ca_pattern.specs.PatternTrees.{ShowsTree};
 
 use super::ending::Ending;
-use super::later::later_tree;
+use ca_evolution::later_tree;
 use super::stage::{First, Stage, stage_of};
-use ca_pattern::Observer;
+use ca_evolution::Observer;
 use ca_plane::Automaton;
 use ca_quad::{SquareBoxes, Tree};
 use ca_run::{LeapFault, Leaper, Unwatched};

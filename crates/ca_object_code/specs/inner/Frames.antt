@@ -7,15 +7,6 @@ use Rattle.ca_bricks.specs.Counting.{GoesBy}
 use Rattle.ca_apgcode.specs.Grids.{GridCells}
 use Rattle.ca_apgcode.specs.Objects.{live}
 
--- no cell has another state than 0 and 1
-abbrev pub HasTwoStates : (ℤ → ℤ → ℕ) → Type 0
-HasTwoStates cells = (x y : ℤ) → cells x y < 2
-
--- if a counting is told, the rule goes by it, and no cell has another state than 0 and 1
-abbrev pub MayGoBy : (List ℕ → ℕ) → (ℤ → ℤ → ℕ) → Option Counting → Type 0
-MayGoBy next cells None = Unit {0}
-MayGoBy next cells (Some counting) = GoesBy next counting × HasTwoStates cells
-
 -- the rows of a frame: a blank one, and then the columns of the box, each with a dead cell before it
 abbrev pub frame_row : GridCells → ℕ → ℕ
 frame_row grid zero = 0

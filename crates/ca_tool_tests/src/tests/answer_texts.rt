@@ -8,7 +8,7 @@ use ca_rle::RleFault;
 use ca_rule::{RuleFault, TableFault};
 use ca_text::ClaimFault;
 use ca_tool::{Fault, InputFault, ToolFault, WindowFault, complain, lines};
-use ca_verify::{Answer, Refutation, Verdict};
+use ca_answers::{Answer, Refutation, Verdict};
 use std::alloc::{AllocError, Global};
 use std::test::*;
 

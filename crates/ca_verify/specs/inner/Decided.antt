@@ -1,8 +1,8 @@
 -- What a verdict says of a claim about cells that are at hand.
 use Rattle.std.specs.Prelude.{◌≡◌, ◌≢◌, ℕ, ◌≤◌, List, IsTrue, ◌⊎◌}
 use Rattle.ca_plane.specs.Plane.{Picture}
-use Rattle.ca_verify.specs.declared.verdict.Verdict.{Verdict}
-use Rattle.ca_verify.specs.declared.verdict.Verdict.TheVariants.{Yes, No, Refused}
+use Rattle.ca_answers.specs.declared.verdict.Verdict.{Verdict}
+use Rattle.ca_answers.specs.declared.verdict.Verdict.TheVariants.{Yes, No, Refused}
 use Rattle.ca_pattern.specs.declared.cause.Cause.TheVariants.{Work, Memory}
 use Rattle.ca_text.specs.declared.asks.Asks.{Asks}
 use Rattle.ca_text.specs.declared.asks.Forbidden.{Forbidden}
@@ -11,7 +11,7 @@ use Rattle.ca_text.specs.declared.asks.Expected.TheVariants.{Own, NoCells}
 use Rattle.ca_plane.specs.Limits.{most_generations, longest_period}
 use Rattle.ca_text.specs.Text.{IsShift}
 use Rattle.ca_text.specs.Truth.{MayReturnBy, IsTrueClaim}
-use Rattle.ca_verify.specs.Refutations.{IsReason}
+use Rattle.ca_answers.specs.Refutations.{IsReason}
 
 -- a return of the pattern is forbidden, in its place or anywhere
 abbrev pub ForbidsReturns : Forbidden → Type 0

@@ -27,8 +27,8 @@ use Rattle.ca_verify.specs.declared.verifier.agreement.Disagreement.TheVariants 
 use Rattle.ca_pattern.specs.declared.read.BadPattern.{BadPattern as Unread}
 use Rattle.ca_verify.specs.declared.verifier.patterns.BadPart.{BadPart}
 use Rattle.ca_verify.specs.declared.verifier.prepared.PreparedClaim.{PreparedClaim}
-use Rattle.ca_verify.specs.Answers.{AgreeOn, IsCounted, HasFewCounted}
-use Rattle.ca_pattern.specs.Spending.{HasLimits}
+use Rattle.ca_answers.specs.Answers.{AgreeOn, IsCounted, HasFewCounted}
+use Rattle.ca_evolution.specs.Spending.{HasLimits}
 use Rattle.ca_pattern.specs.PatternTrees.{IsPattern}
 use Rattle.ca_verify.specs.inner.Subjects.{AreShown}
 

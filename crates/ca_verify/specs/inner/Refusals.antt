@@ -7,11 +7,11 @@ use Rattle.ca_verify.specs.declared.refusal.About.TheVariants as about
 use Rattle.ca_verify.specs.declared.refusal.Refusal.{Refusal}
 use Rattle.ca_pattern.specs.declared.cause.Cause.{Cause}
 use Rattle.ca_pattern.specs.declared.cause.Cause.TheVariants.{Work}
-use Rattle.ca_verify.specs.declared.verdict.Verdict.{Verdict}
-use Rattle.ca_verify.specs.declared.verdict.Verdict.TheVariants.{Yes, No, Refused}
+use Rattle.ca_answers.specs.declared.verdict.Verdict.{Verdict}
+use Rattle.ca_answers.specs.declared.verdict.Verdict.TheVariants.{Yes, No, Refused}
 use Rattle.ca_text.specs.Text.{Claim, patterns_of}
 use Rattle.ca_text.specs.Places.{path_at}
-use Rattle.ca_verify.specs.Answers.{HasCause, IsOfClaim, IsOfPattern, IsOfRuleFile, IsTrueVerdict, IsWithinWork}
+use Rattle.ca_answers.specs.Answers.{HasCause, IsOfClaim, IsOfPattern, IsOfRuleFile, IsTrueVerdict, IsWithinWork}
 use Rattle.ca_verify.specs.inner.Patterns.{FirstBadAt}
 
 -- the cause of a refusal is about this; `paths` are all paths of the text, `rules` those of its rule lines, and `patterns` those of the

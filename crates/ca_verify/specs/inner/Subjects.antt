@@ -11,8 +11,8 @@ use Rattle.ca_text.specs.declared.asks.Forbidden.{Forbidden}
 use Rattle.ca_text.specs.declared.asks.Forbidden.TheVariants.{EmptyPlane}
 use Rattle.ca_verify.specs.declared.decide.ClaimTrees.{ClaimTrees}
 use Rattle.ca_verify.specs.declared.decide.Case.{Case}
-use Rattle.ca_verify.specs.declared.verdict.Refutation.{Refutation}
-use Rattle.ca_verify.specs.declared.verdict.Refutation.TheVariants.{Differs}
+use Rattle.ca_answers.specs.declared.verdict.Refutation.{Refutation}
+use Rattle.ca_answers.specs.declared.verdict.Refutation.TheVariants.{Differs}
 use Rattle.ca_text.specs.Truth.{MayReturnBy, ShowsNothingForbidden}
 use Rattle.ca_verify.specs.inner.Decided.{ForbidsReturns, IsBounded}
 use Rattle.ca_pattern.specs.PatternTrees.{IsPattern, ShowsTree, HasLive}

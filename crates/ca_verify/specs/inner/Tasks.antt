@@ -4,7 +4,7 @@ use Rattle.std.specs.Option.{option_copied}
 use Rattle.ca_verify.specs.declared.verifier.task.Task.{Task}
 use Rattle.ca_text.specs.Both.{HoldsOfBoth}
 use Rattle.ca_text.specs.Text.{patterns_of, HasGoodNumbers}
-use Rattle.ca_verify.specs.Files.{bytes_at}
+use Rattle.ca_answers.specs.Files.{bytes_at}
 use Rattle.ca_pattern.specs.Limited.{AreGoodLimits}
 use Rattle.ca_verify.specs.NeededFiles.{AreRead}
 

@@ -5,7 +5,7 @@ ghost use Rattle.ca_plane.specs.Plane.{Picture};
 ghost use Rattle.ca_plane.specs.Generations.{IsAfter};
 ghost use Rattle.ca_text.specs.declared.asks.Forbidden.TheVariants.{EmptyPlane};
 ghost use Rattle.ca_run.specs.Leaping.{LeaperGrows, EndsAtLimit};
-ghost use Rattle.ca_pattern.specs.Spending.{Takes};
+ghost use Rattle.ca_evolution.specs.Spending.{Takes};
 ghost use Rattle.ca_verify.specs.inner.Spending.{most_looks};
 ghost use Rattle.ca_verify.specs.inner.Returns.{IsSparedBefore, IsFirstDeath};
 ghost use Rattle.ca_pattern.specs.inner.LifeSpans.{IsLifeSpan};
@@ -13,8 +13,8 @@ ghost use Rattle.ca_pattern.specs.PatternTrees.{ShowsTree};
 ghost use Rattle.ca_verify.specs.inner.Subjects.{ForbidsDeath};
 
 use super::Case;
-use crate::verdict::Refutation;
-use ca_pattern::{Observer, is_dead, tree_after};
+use ca_answers::Refutation;
+use ca_evolution::{Observer, is_dead, tree_after};
 use ca_plane::Automaton;
 use ca_run::{LeapFault, Leaper};
 

@@ -7,9 +7,9 @@ use Rattle.ca_quad.specs.Trees.{cell}
 use Rattle.ca_apgcode.specs.Objects.{IsObjectCode}
 use Rattle.ca_apgcode.specs.declared.object.Kind.TheVariants as kind
 use Rattle.ca_apgcode.proofs.Copies.{code_of_same}
-use Rattle.ca_identify.specs.TreeLooks.{TakesSteps}
-use Rattle.ca_identify.proofs.Stages.{no_step}
-use Rattle.ca_object_code.specs.Codes.{IsCodeOf, steps_of}
+use Rattle.ca_evolution.specs.Steps.{TakesSteps}
+use Rattle.ca_evolution.proofs.Steps.{no_step}
+use Rattle.ca_answers.specs.Codes.{IsCodeOf, steps_of}
 use Rattle.ca_object_code.proofs.Populations.{population_as}
 use Rattle.ca_object_code.proofs.code.code_of_tree.Goals as goal
 

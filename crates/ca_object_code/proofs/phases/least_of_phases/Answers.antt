@@ -8,8 +8,8 @@ use Rattle.ca_run.proofs.Leap.{goes_on_same}
 use Rattle.ca_run.proofs.ShownPlanes.{goes_on_again}
 use Rattle.ca_apgcode.specs.Objects.{IsLeastOfPhases}
 use Rattle.ca_apgcode.proofs.PhaseTexts.{least_none}
-use Rattle.ca_identify.specs.TreeLooks.{CanGoOn}
-use Rattle.ca_identify.proofs.Stages.{first_tree, later_next, near_next, no_step, one_more_step, fewer_steps}
+use Rattle.ca_evolution.specs.Steps.{CanGoOn}
+use Rattle.ca_evolution.proofs.Steps.{first_tree, later_next, near_next, no_step, one_more_step, fewer_steps}
 use Rattle.ca_pattern.specs.PatternTrees.{IsNearTree}
 use Rattle.ca_pattern.specs.LaterTrees.{IsLaterTree}
 use Rattle.ca_pattern.proofs.Starts.{near_start}

@@ -5,7 +5,7 @@ use Rattle.ca_quad.specs.Boxes.{AreSquareBoxes}
 use Rattle.ca_quad.specs.Trees.{cell}
 use Rattle.ca_run.specs.Leaping.{LeaperGrows}
 use Rattle.ca_apgcode.specs.Objects.{IsLeastOfPhases}
-use Rattle.ca_identify.specs.TreeLooks.{TakesSteps}
+use Rattle.ca_evolution.specs.Steps.{TakesSteps}
 use Rattle.ca_pattern.specs.LaterTrees.{IsLaterTree}
 use Rattle.ca_object_code.proofs.phases.least_of_phases.Given as goal
 

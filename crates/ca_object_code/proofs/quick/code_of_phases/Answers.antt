@@ -2,9 +2,9 @@ use Rattle.std.proofs.Common.{None, Some, refl, ap, subst, ◌∙◌}
 use Rattle.ca_quad.specs.Boxes.{AreSquareBoxes, IsLeastWideBox}
 use Rattle.ca_quad.specs.Trees.{cell}
 use Rattle.ca_apgcode.specs.Objects.{code_text}
-use Rattle.ca_identify.proofs.Corners.{far_corner_wide}
+use Rattle.ca_pattern.proofs.Corners.{far_corner_wide}
 use Rattle.ca_pattern.proofs.Corners.{corner_wide}
-use Rattle.ca_object_code.specs.inner.Frames.{MayGoBy}
+use Rattle.ca_object_code.specs.Countings.{MayGoBy}
 use Rattle.ca_object_code.proofs.LargeObjects.{no_phase}
 use Rattle.ca_object_code.proofs.quick.code_of_phases.Goals as goal
 

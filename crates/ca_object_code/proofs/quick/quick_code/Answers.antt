@@ -1,7 +1,7 @@
 use Rattle.std.proofs.Common.{IfOk, IfSome, pos, ◌≤◌, ◌+◌, ◌*◌, sym, subst}
 use Rattle.ca_quad.specs.Trees.{cell}
 use Rattle.ca_apgcode.specs.declared.object.Kind.TheVariants as kind
-use Rattle.ca_object_code.specs.Codes.{IsCodeOf, steps_of}
+use Rattle.ca_answers.specs.Codes.{IsCodeOf, steps_of}
 use Rattle.ca_object_code.proofs.LargeObjects.{back_by, shown_code}
 use Rattle.ca_object_code.proofs.quick.quick_code.Goals as goal
 

@@ -5,7 +5,7 @@ use Rattle.ca_bricks.specs.Counting.{GoesBy}
 use Rattle.ca_quad.specs.Trees.{cell}
 use Rattle.ca_run.specs.Leaping.{LeaperGrows}
 use Rattle.ca_apgcode.specs.Objects.{IsBoxRound, IsLeastOfPhases}
-use Rattle.ca_object_code.specs.inner.Frames.{HasTwoStates}
+use Rattle.ca_object_code.specs.Countings.{HasTwoStates}
 use Rattle.ca_object_code.proofs.small.least_of_small.Given as goal
 
 -- the box of the phase that is reached, the least text of the phases up to it, and what it took

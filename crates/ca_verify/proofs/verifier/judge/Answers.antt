@@ -6,12 +6,12 @@ use Rattle.ca_text.specs.Both.{map_both, HoldsOfBoth}
 use Rattle.ca_text.specs.Text.{patterns_of, map_patterns}
 use Rattle.ca_text.specs.Places.{path_at}
 use Rattle.ca_text.proofs.ClaimPatterns.{paths_of}
-use Rattle.ca_verify.specs.Files.{bytes_at}
+use Rattle.ca_answers.specs.Files.{bytes_at}
 use Rattle.ca_verify.specs.declared.refusal.About.TheVariants.{Claim}
-use Rattle.ca_verify.specs.declared.verdict.Verdict.TheVariants.{Refused}
+use Rattle.ca_answers.specs.declared.verdict.Verdict.TheVariants.{Refused}
 use Rattle.ca_pattern.specs.declared.cause.Cause.TheVariants.{Work}
-use Rattle.ca_verify.specs.Work.{IsNoMoreThan}
-use Rattle.ca_verify.specs.Answers.{HasCause}
+use Rattle.ca_answers.specs.Work.{IsNoMoreThan}
+use Rattle.ca_answers.specs.Answers.{HasCause}
 use Rattle.ca_verify.specs.inner.Refusals.{IsRefusal, IsJudgedOn}
 use Rattle.ca_verify.specs.inner.Decided.{IsDecided}
 use Rattle.ca_verify.specs.inner.PreparedClaim.{IsPrepared}

@@ -9,9 +9,9 @@ use Rattle.ca_run.proofs.Leap.{goes_on_same}
 use Rattle.ca_run.proofs.ShownPlanes.{goes_on_again}
 use Rattle.ca_identify.specs.declared.identification.stage.First.{First}
 use Rattle.ca_identify.specs.inner.Stages.{IsFirst, AreEarly}
-use Rattle.ca_identify.specs.TreeLooks.{CanGoOn}
+use Rattle.ca_evolution.specs.Steps.{CanGoOn}
 use Rattle.ca_pattern.specs.LaterTrees.{IsLaterTree}
-use Rattle.ca_identify.proofs.Stages.{first_tree, later_next, near_next}
+use Rattle.ca_evolution.proofs.Steps.{first_tree, later_next, near_next}
 use Rattle.ca_identify.proofs.Strides.{one_more_early, early_stays}
 use Rattle.ca_identify.proofs.identification.early.early_planes.Goals as goal
 

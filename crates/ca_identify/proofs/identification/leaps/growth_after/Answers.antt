@@ -5,7 +5,7 @@ use Rattle.ca_pattern.specs.PatternTrees.{IsLowTree, HasLive}
 use Rattle.ca_identify.specs.inner.Stages.{IsGrowthOf}
 use Rattle.ca_identify.proofs.Identities.{found_growth}
 use Rattle.ca_identify.proofs.Stages.{start_goes_on}
-use Rattle.ca_identify.proofs.Starts.{start_is_low}
+use Rattle.ca_pattern.proofs.Starts.{start_is_low}
 use Rattle.ca_identify.proofs.identification.leaps.growth_after.Goals as goal
 use Rattle.ca_identify.proofs.identification.leaps.growth_after.Goals.{In_ok-last}
 

@@ -3,8 +3,8 @@ use Rattle.std.specs.Prelude.{IfOk, IfSome}
 use Rattle.ca_plane.specs.Plane.{Picture}
 use Rattle.ca_run.specs.Leaping.{LeaperView, LeaperGrows}
 use Rattle.ca_run.proofs.Leap.{goes_on_same}
-use Rattle.ca_identify.specs.declared.identity.Identity.TheVariants.{Unknown}
-use Rattle.ca_identify.specs.Identified.{IsIdentity}
+use Rattle.ca_answers.specs.declared.identity.Identity.TheVariants.{Unknown}
+use Rattle.ca_answers.specs.Identified.{IsIdentity}
 use Rattle.ca_identify.specs.inner.Stages.{HasNoReturn, leap_work}
 use Rattle.ca_pattern.specs.PatternTrees.{ShowsTree}
 use Rattle.ca_identify.proofs.Spending.{limited, shared_goes_on, shared_takes}

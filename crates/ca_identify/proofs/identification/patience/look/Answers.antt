@@ -6,12 +6,12 @@ use Rattle.ca_quad.proofs.Trims.{trees_stay}
 use Rattle.ca_run.specs.Leaping.{LeaperGrows}
 use Rattle.ca_plane.proofs.After.{after_same}
 use Rattle.ca_run.proofs.ShownPlanes.{goes_on_again}
-use Rattle.ca_identify.specs.Identified.{IsIdentity}
+use Rattle.ca_answers.specs.Identified.{IsIdentity}
 use Rattle.ca_pattern.specs.PatternTrees.{IsLowTree, HasLive}
 use Rattle.ca_identify.specs.inner.Stages.{IsWalk, IsHalted, IsGrowthOf, TakesSearch, TakesSearchFrom}
 use Rattle.ca_identify.proofs.Identities.{last_live, found_none, whole_look, search_needs}
 use Rattle.ca_pattern.proofs.LeaptTrees.{shows_stays}
-use Rattle.ca_identify.proofs.Starts.{start_is_low}
+use Rattle.ca_pattern.proofs.Starts.{start_is_low}
 use Rattle.ca_identify.proofs.Stages.{first_walk, first_stays, walk_as, halted_as, first_search, search_alone, search_as, step_then_search}
 use Rattle.ca_identify.proofs.identification.patience.look.Goals as goal
 use Rattle.ca_identify.proofs.identification.patience.look.Goals.{In_ok-soon, In_default-found}

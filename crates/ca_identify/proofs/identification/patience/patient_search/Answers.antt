@@ -2,7 +2,7 @@ use Rattle.std.proofs.Common.{subst}
 use Rattle.std.specs.Prelude.{IfOk}
 use Rattle.ca_plane.specs.Plane.{Picture}
 use Rattle.ca_run.specs.Leaping.{LeaperView}
-use Rattle.ca_identify.specs.Identified.{IsIdentity}
+use Rattle.ca_answers.specs.Identified.{IsIdentity}
 use Rattle.ca_pattern.specs.PatternTrees.{ShowsTree}
 use Rattle.ca_identify.proofs.identification.patience.patient_search.Goals as goal
 

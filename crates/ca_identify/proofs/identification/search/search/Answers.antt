@@ -7,17 +7,18 @@ use Rattle.ca_run.specs.Leaping.{LeaperGrows}
 use Rattle.ca_plane.proofs.After.{after_same}
 use Rattle.ca_run.proofs.ShownPlanes.{goes_on_again}
 use Rattle.ca_identify.specs.declared.identification.stage.First.{First}
-use Rattle.ca_identify.specs.declared.identity.Identity.TheVariants.{Unknown}
-use Rattle.ca_identify.specs.Identified.{IsIdentity}
+use Rattle.ca_answers.specs.declared.identity.Identity.TheVariants.{Unknown}
+use Rattle.ca_answers.specs.Identified.{IsIdentity}
 use Rattle.ca_pattern.specs.PatternTrees.{IsLowTree, HasLive}
 use Rattle.ca_identify.specs.inner.Stages.{IsWalk, IsEnding, IsGrowthOf, AreOtherUpTo, IsHalted, HasNoReturn, AreEarly, TakesEarly, TakesSearchFrom, early_work, leap_work}
-use Rattle.ca_identify.specs.TreeLooks.{TakesSteps}
+use Rattle.ca_evolution.specs.Steps.{TakesSteps}
 use Rattle.ca_pattern.specs.LaterTrees.{IsLaterTree}
 use Rattle.ca_identify.proofs.Identities.{picture_nowhere, last_live, found_none}
 use Rattle.ca_pattern.proofs.LeaptTrees.{shows_stays}
 use Rattle.ca_identify.proofs.LaterPlanes.{on_err}
-use Rattle.ca_identify.proofs.Starts.{start_is_low}
-use Rattle.ca_identify.proofs.Stages.{first_stays, walk_as, walk_stays, halted_here, halted_within, halted_as, no_step, fewer_steps, steps_as, whole_search, early_search}
+use Rattle.ca_pattern.proofs.Starts.{start_is_low}
+use Rattle.ca_identify.proofs.Stages.{first_stays, walk_as, walk_stays, halted_here, halted_within, halted_as, steps_as, whole_search, early_search}
+use Rattle.ca_evolution.proofs.Steps.{no_step, fewer_steps}
 use Rattle.ca_identify.proofs.Strides.{early_stays, early_as}
 use Rattle.ca_identify.proofs.identification.search.search.Goals as goal
 use Rattle.ca_identify.proofs.identification.search.search.Goals.{In_ok-soon, In_ok-planes, In_default-grown, In_default-strided, In_default-late}

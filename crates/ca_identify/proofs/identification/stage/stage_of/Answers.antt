@@ -5,7 +5,7 @@ use Rattle.ca_quad.specs.Shifted.{shifted_cells}
 use Rattle.ca_quad.specs.Trees.{cell}
 use Rattle.ca_quad.proofs.Measures.{boxes_stay}
 use Rattle.ca_identify.specs.inner.Stages.{AreMovedNowhere}
-use Rattle.ca_identify.proofs.Corners.{corner_broad, far_corner_wide}
+use Rattle.ca_pattern.proofs.Corners.{corner_broad, far_corner_wide}
 use Rattle.ca_pattern.proofs.Corners.{corner_wide}
 use Rattle.ca_pattern.proofs.Starts.{near_start}
 use Rattle.ca_identify.proofs.identification.stage.stage_of.Goals as goal

@@ -6,10 +6,11 @@ use Rattle.ca_quad.specs.Trees.{cell}
 use Rattle.ca_run.proofs.Leap.{goes_on_same}
 use Rattle.ca_run.proofs.ShownPlanes.{goes_on_again}
 use Rattle.ca_identify.specs.inner.Stages.{IsStage, IsReturn, IsHalted}
-use Rattle.ca_identify.specs.TreeLooks.{TakesSteps}
+use Rattle.ca_evolution.specs.Steps.{TakesSteps}
 use Rattle.ca_identify.proofs.Identities.{found_death, found_return}
 use Rattle.ca_identify.proofs.LaterPlanes.{on_err}
-use Rattle.ca_identify.proofs.Stages.{first_stays, one_more_other, later_stays, step_from, step_to, stage_to, no_step, one_more_step, fewer_steps}
+use Rattle.ca_identify.proofs.Stages.{first_stays, one_more_other, later_stays, step_from, step_to, stage_to}
+use Rattle.ca_evolution.proofs.Steps.{no_step, one_more_step, fewer_steps}
 use Rattle.ca_identify.proofs.identification.walk.look_on.Goals as goal
 use Rattle.ca_identify.proofs.identification.walk.look_on.Goals.{In_ok-later}
 

@@ -5,8 +5,9 @@ use Rattle.ca_quad.proofs.Measures.{boxes_stay}
 use Rattle.ca_quad.proofs.Trims.{trees_stay}
 use Rattle.ca_run.specs.Leaping.{Spent}
 use Rattle.ca_run.proofs.ShownPlanes.{goes_on_again}
-use Rattle.ca_identify.proofs.Stages.{near_next, later_next, later_stays, first_stays, stage_as}
-use Rattle.ca_identify.specs.TreeLooks.{step_work}
+use Rattle.ca_identify.proofs.Stages.{later_stays, first_stays, stage_as}
+use Rattle.ca_evolution.proofs.Steps.{near_next, later_next}
+use Rattle.ca_evolution.specs.Steps.{step_work}
 use Rattle.ca_identify.proofs.identification.walk.step.Goals as goal
 
 pub later_tree-requires : goal.later_tree-requires

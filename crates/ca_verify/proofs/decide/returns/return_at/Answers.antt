@@ -4,7 +4,7 @@ use Rattle.ca_run.proofs.ShownPlanes.{goes_on_again}
 use Rattle.ca_verify.proofs.LeaptTrees.{forbids_stays}
 use Rattle.ca_pattern.proofs.LeaptTrees.{shows_stays, pattern_stays, ok_as}
 use Rattle.ca_verify.proofs.DividedReturns.{back_here, back_there}
-use Rattle.ca_pattern.proofs.Spending.{takes_before}
+use Rattle.ca_evolution.proofs.Spending.{takes_before}
 use Rattle.ca_verify.proofs.decide.returns.return_at.Goals as goal
 
 pub tree_after-requires : goal.tree_after-requires

@@ -1,0 +1,112 @@
+-- What a pattern is found to be, by the claims that are true of it, and why that isn't found out.
+use Rattle.std.specs.Prelude.{◌≡◌, ℕ, zero, suc, ◌+◌, ◌*◌, ◌^◌, ◌≤◌, ◌<◌, ℤ, List, Some}
+use Rattle.ca_plane.specs.Plane.{Picture, cell, IsLive}
+use Rattle.ca_plane.specs.Box.{IsLeastBox}
+use Rattle.ca_plane.specs.Generations.{after, IsAfter}
+use Rattle.ca_plane.specs.Population.{HasPopulation}
+use Rattle.ca_quad.specs.Trees.{HoldsAll}
+use Rattle.ca_rule.specs.TableNext.{TableRule}
+use Rattle.ca_rule.specs.Rule.{RuleValue, next_of}
+use Rattle.ca_text.specs.declared.line.Kind.{Kind}
+use Rattle.ca_text.specs.declared.line.Kind.TheVariants as kind
+use Rattle.ca_answers.specs.declared.identity.Identity.{Identity}
+use Rattle.ca_answers.specs.declared.identity.Identity.TheVariants.{Empty, StillLife, Oscillator, Spaceship, Dies, Unknown}
+use Rattle.ca_answers.specs.declared.identity.Growth.{Growth}
+use Rattle.ca_answers.specs.declared.scope.Scope.{Scope}
+use Rattle.ca_answers.specs.declared.scope.Look.{Look}
+use Rattle.ca_pattern.specs.declared.located_fault.LocatedFault.{LocatedFault}
+use Rattle.ca_pattern.specs.declared.located_fault.LocatedFault.TheVariants.{Work}
+use Rattle.ca_text.specs.Text.{HasGoodNumbers}
+use Rattle.ca_text.specs.Asks.{asks_of}
+use Rattle.ca_text.specs.Truth.{IsTrueClaim}
+use Rattle.ca_pattern.specs.Evolved.{HoldsSmallRuledPattern, run_work}
+use Rattle.ca_pattern.specs.LocatedFaults.{IsOpeningFault}
+
+-- a claim of this kind is about one pattern alone
+abbrev pub IsOfOnePattern : Kind → Type 0
+IsOfOnePattern kind.Still = Unit {0}
+IsOfOnePattern (kind.Oscillator period) = Unit {0}
+IsOfOnePattern (kind.Spaceship period dx dy) = Unit {0}
+IsOfOnePattern (kind.Becomes generations) = ⊥
+IsOfOnePattern (kind.BecomesShifted generations dx dy) = ⊥
+IsOfOnePattern (kind.Dies generations) = Unit {0}
+
+-- a claim of this kind, which has good numbers and a time of at most the limit, is true of the cells
+pub record IsTrueWithin (next : List ℕ → ℕ) (cells : Picture) (limit : ℕ) (kind : Kind) : Type 0 where
+  pub numbers : HasGoodNumbers kind
+  pub within : (asks_of kind).generations ≤ limit
+  pub holds : IsTrueClaim next cells cells (asks_of kind)
+
+-- no claim about the one pattern whose time is at least 1, and at most the limit, is true of the cells
+abbrev pub HasNoTrueClaim : (List ℕ → ℕ) → Picture → ℕ → Type 0
+HasNoTrueClaim next cells limit = (kind : Kind) → IsOfOnePattern kind → 1 ≤ (asks_of kind).generations → (asks_of kind).generations ≤ limit
+    → IsTrueClaim next cells cells (asks_of kind) → ⊥
+
+-- so many cells of the plane are live, and this is the least box round them
+pub record IsGrowth (cells : Picture) (growth : Growth) : Type 0 where
+  pub population : HasPopulation (cell cells) growth.cells
+  pub bounds : IsLeastBox cells growth.bounds
+
+-- the cells are what is found of them: the claim that says it is true; or none is, since no cell is live or within the limit. Where none is within
+-- the limit, the growth is that of the plane after as many generations
+abbrev pub IsIdentity : (List ℕ → ℕ) → Picture → (limit : ℕ) → Identity → Type 0
+IsIdentity next cells limit Empty = IsLive cells → ⊥
+IsIdentity next cells limit StillLife = IsTrueWithin next cells limit kind.Still
+IsIdentity next cells limit (Oscillator period) = IsTrueWithin next cells limit (kind.Oscillator period)
+IsIdentity next cells limit (Spaceship period dx dy) = IsTrueWithin next cells limit (kind.Spaceship period dx dy)
+IsIdentity next cells limit (Dies generations) = IsTrueWithin next cells limit (kind.Dies generations)
+IsIdentity next cells limit (Unknown growth) = IsLive cells × HasNoTrueClaim next cells limit
+    × (later : Picture) × IsAfter next cells limit later × IsGrowth later growth
+
+-- n generations on from these cells the plane is what is found of it
+abbrev pub IsIdentityAfter : (List ℕ → ℕ) → Picture → (n limit : ℕ) → Identity → Type 0
+IsIdentityAfter next cells n limit identity = (later : Picture) × IsAfter next cells n later × IsIdentity next later limit identity
+
+-- the work is no more than so many steps of one generation may need, of a tree of a level that holds every live cell before each of them:
+-- 14 to the power of the level and 3
+abbrev pub MayNeedWork : ℕ → (ℕ → ℤ → ℤ → ℕ) → (limit : ℕ) → Type 0
+MayNeedWork work stages limit = (level : ℕ) → 1 ≤ level → ((n : ℕ) → n < limit → HoldsAll level (stages n)) → work ≤ limit * 14 ^ (level + 3)
+
+-- a look with this scope may end before its limit: nothing is found, and the units of work for which it has patience are no more than a look up to the
+-- limit may need
+abbrev pub MayEndEarly : (List ℕ → ℕ) → Picture → Scope → Identity → Type 0
+MayEndEarly next cells scope identity = (growth : Growth) × (identity ≡ Unknown growth)
+    × (units : ℕ) × (scope.patience ≡ Some units) × MayNeedWork units (after next cells) scope.limit
+
+-- what a look at the cells with this scope finds: what they are within the generations that were looked at, one at least. These are all up to the limit
+-- of the scope, but where patience ended the look
+pub record IsLook (next : List ℕ → ℕ) (cells : Picture) (scope : Scope) (look : Look) : Type 0 where
+  pub some : 1 ≤ look.limit
+  pub most : look.limit ≤ scope.limit
+  pub identity : IsIdentity next cells look.limit look.identity
+  pub early : look.limit < scope.limit → MayEndEarly next cells scope look.identity
+
+-- the same of the plane n generations on from these cells
+abbrev pub IsLookAfter : (List ℕ → ℕ) → Picture → (n : ℕ) → Scope → Look → Type 0
+IsLookAfter next cells n scope look = (later : Picture) × IsAfter next cells n later × IsLook next later scope look
+
+-- the bytes are a file whose pattern has these cells, of small states, under the rule that its rule text names, at some generation
+abbrev pub HoldsSmallPattern : List ℕ → List TableRule → Picture → RuleValue → Type 0
+HoldsSmallPattern bytes tables cells rule = (generation : ℕ) × HoldsSmallRuledPattern bytes tables cells rule generation
+
+-- n generations on from the cells that the file means, under its rule, the plane is what is found of it; after no generations it is that of these cells
+abbrev pub IsIdentifiedAfter : List ℕ → List TableRule → (n limit : ℕ) → Identity → Type 0
+IsIdentifiedAfter bytes tables n limit identity = (cells : Picture) × (rule : RuleValue) × HoldsSmallPattern bytes tables cells rule
+    × IsIdentityAfter (next_of rule) cells n limit identity
+
+-- it is that of a look with this scope at that plane
+abbrev pub IsLookAt : List ℕ → List TableRule → (n : ℕ) → Scope → Look → Type 0
+IsLookAt bytes tables n scope look = (cells : Picture) × (rule : RuleValue) × HoldsSmallPattern bytes tables cells rule
+    × IsLookAfter (next_of rule) cells n scope look
+
+-- the work is no more than a run of n generations and then so many steps of one generation may need together
+abbrev pub MayNeedWorkAfter : (work n : ℕ) → (ℕ → ℤ → ℤ → ℕ) → (limit : ℕ) → Type 0
+MayNeedWorkAfter work n stages limit = (start digits level : ℕ) → 1 ≤ start → HoldsAll start (stages 0) → n < 2 ^ digits
+    → 1 ≤ level → ((m : ℕ) → m < limit → HoldsAll level (stages (n + m))) → work ≤ run_work n start digits + limit * 14 ^ (level + 3)
+
+-- the first reason for which it isn't found out what the plane of a file's pattern is n generations on: the file isn't opened, or work is out. Out of
+-- memory may come before any of them, where memory may run out for the bytes
+abbrev pub IsUnidentifiedAfter : List ℕ → List TableRule → (work n limit : ℕ) → LocatedFault → Type 0
+IsUnidentifiedAfter bytes tables work n limit Work = (cells : Picture) × (rule : RuleValue) × HoldsSmallPattern bytes tables cells rule
+    × MayNeedWorkAfter work n (after (next_of rule) cells) limit
+IsUnidentifiedAfter bytes tables work n limit fault = IsOpeningFault bytes tables fault

@@ -1,0 +1,14 @@
+//! What is answered: verdicts on claims with their notes, what planes are found to be, and their codes.
+#![tactic(auto)]
+
+mod coded_look;
+mod identity;
+mod note;
+mod scope;
+mod verdict;
+
+pub use coded_look::CodedLook;
+pub use identity::{Growth, Identity};
+pub use note::Note;
+pub use scope::{Look, Scope};
+pub use verdict::{Answer, Refutation, Verdict};

@@ -1,0 +1,4 @@
+pub mod CatalogWrites
+pub mod CodedFiles
+pub mod Entries
+pub mod FaultReports

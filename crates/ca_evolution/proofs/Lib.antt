@@ -1,0 +1,4 @@
+pub mod EvolvedPatterns
+pub mod Spending
+pub mod Steps
+pub mod Vectors

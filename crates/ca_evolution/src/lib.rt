@@ -1,0 +1,14 @@
+//! Planes of patterns that are taken some generations on, as patterns of files and as trees.
+#![tactic(auto)]
+
+mod evolution;
+mod later;
+mod leaper;
+mod observer;
+mod trees;
+
+pub use evolution::{evolve, open_evolved};
+pub use later::later_tree;
+pub use leaper::leaper_of;
+pub use observer::Observer;
+pub use trees::{distance, is_dead, moved_inside, tree_after, vector_if_back};

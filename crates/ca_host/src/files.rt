@@ -1,0 +1,332 @@
+//! Files that are read whole.
+
+ghost use Rattle.std.specs.Prelude.{◌≡◌, ◌≢◌, [], map, IfOk, OnErr};
+
+use crate::streams::Source;
+use ca_pattern::File;
+use ca_plane::{Dev, Memory};
+use ca_report::{
+    Absence, FaultyRule, InputFault, MissingFile, path_in, read_all, rule_path,
+};
+use ca_rule::TableFault;
+use ca_text::Claims;
+use std::alloc::Global;
+use std::fs;
+use std::io::ErrorKind;
+use std::rt::{Files, Stdin};
+
+/// A file that was read: one that a claim text names, or a rule file.
+#[derive(Drop)]
+pub struct LoadedFile {
+    path: Vec<u8>,
+    bytes: Vec<u8>,
+}
+
+impl LoadedFile {
+    /// A file with this path and these bytes.
+    pub fn new(alloc: Global, path: &[u8], bytes: Vec<u8>) -> Result<LoadedFile, Memory> {
+        let path = Vec::from_slice(alloc, path)?;
+        Ok(LoadedFile { path, bytes })
+    }
+
+    /// The path and the bytes, which stay here.
+    pub fn view(&self) -> File<'_>
+        ensures path { result.path.now ≡ self.now.path.items }
+        ensures bytes { result.bytes.now ≡ self.now.bytes.items }
+    {
+        File {
+            path: self.path.as_slice(),
+            bytes: self.bytes.as_slice(),
+        }
+    }
+}
+
+/// The file of a path, or standard input where the path is `-`. A file that can't be opened can't be read.
+pub fn open_source<R: Files>(
+    rt: &R,
+    path: &str,
+    input: Stdin,
+) -> Result<Dev<Source<R::File>>, InputFault> {
+    if path == "-" {
+        return Ok(Dev::new(Source::Input(input)));
+    }
+    let file = open(rt, path)?;
+    Ok(Dev::new(Source::File(file)))
+}
+
+/// All bytes of a file, or of standard input where the path is `-`.
+pub fn read_source<R: Files + AllocGlobal>(
+    rt: &R,
+    path: &str,
+    input: Stdin,
+) -> Result<Vec<u8>, InputFault> {
+    let mut source = open_source(rt, path, input)?;
+    read_all(rt.alloc(), &mut source)
+}
+
+/// All bytes of a file.
+pub fn read_file<R: Files + AllocGlobal>(rt: &R, path: &str) -> Result<Vec<u8>, InputFault> {
+    let mut file = Dev::new(open(rt, path)?);
+    read_all(rt.alloc(), &mut file)
+}
+
+fn open<R: Files>(rt: &R, path: &str) -> Result<R::File, InputFault> {
+    match fs::open(rt, path) {
+        Ok(file) => Ok(file),
+        Err(error) if error.kind() == ErrorKind::OutOfMemory => Err(InputFault::Memory),
+        Err(_) => Err(InputFault::Read),
+    }
+}
+
+/// Fails where the path isn't that of a folder.
+pub fn check_folder<R: Files>(rt: &R, path: &str) -> Result<(), InputFault> {
+    match fs::metadata(rt, path) {
+        Ok(found) if found.is_dir() => Ok(()),
+        Err(error) if error.kind() == ErrorKind::OutOfMemory => Err(InputFault::Memory),
+        _ => Err(InputFault::Read),
+    }
+}
+
+/// The files of a claim text's paths: those that were read, and those that weren't.
+#[derive(Drop)]
+pub struct NeededFiles {
+    pub loaded: Vec<LoadedFile>,
+    pub missing: Vec<LostFile>,
+}
+
+/// A path of a claim text whose file wasn't read.
+#[derive(Drop)]
+pub struct LostFile {
+    path: Vec<u8>,
+    why: Absence,
+}
+
+impl LostFile {
+    /// The same for a run, whose bytes stay here.
+    pub fn view(&self) -> MissingFile<'_> {
+        MissingFile {
+            path: self.path.as_slice(),
+            why: self.why,
+        }
+    }
+}
+
+// Why a file's bytes aren't there: it wasn't read, or memory is out.
+#[derive(Clone, Copy)]
+enum Unread {
+    Absent(Absence),
+    Memory,
+}
+
+/// The files that a claim text needs, in the order of its paths: those that can be read, and the others with the
+/// reason. No other file is opened. Where there is a root, they are looked for there, and none whose path may lead out
+/// of it is opened. Fails where there is no memory for them, of a text that makes a claim.
+pub fn load_needed<R: Files + AllocGlobal>(
+    rt: &R,
+    claims: &Claims,
+    root: &Option<String>,
+) -> Result<NeededFiles, Memory>
+    ensures { OnErr result (claims.now.claims ≢ []) }
+{
+    let mut files = NeededFiles {
+        loaded: Vec::new(rt.alloc()),
+        missing: Vec::new(rt.alloc()),
+    };
+    if claims.claim_count() == 0 {
+        return Ok(files);
+    }
+    let needed = claims.needed(rt.alloc())?;
+    for index in 0..claims.path_count() {
+        if needed.get(index) == Some(&true) {
+            add_file(rt, root, claims.path(index), &mut files)?;
+        }
+    }
+    Ok(files)
+}
+
+// Adds the file of a text's path, or why it isn't read.
+fn add_file<R: Files + AllocGlobal>(
+    rt: &R,
+    root: &Option<String>,
+    path: &[u8],
+    files: &mut NeededFiles,
+) -> Result<(), Memory> {
+    let alloc = rt.alloc();
+    match load_below(rt, root, path) {
+        Ok(bytes) => files.loaded.push(LoadedFile::new(alloc, path, bytes)?)?,
+        Err(Unread::Absent(why)) => {
+            let path = Vec::from_slice(alloc, path)?;
+            files.missing.push(LostFile { path, why })?;
+        }
+        Err(Unread::Memory) => return Err(Memory),
+    }
+    Ok(())
+}
+
+// The bytes of a text's file. Where there is a root, it is looked for there, and isn't opened where its path may lead
+// out of it.
+fn load_below<R: Files + AllocGlobal>(
+    rt: &R,
+    root: &Option<String>,
+    path: &[u8],
+) -> Result<Vec<u8>, Unread> {
+    let Some(root) = root else {
+        return load_bytes(rt, path);
+    };
+    match path_in(rt.alloc(), root.as_bytes(), path) {
+        Ok(Some(place)) => load_bytes(rt, &place),
+        Ok(None) => Err(Unread::Absent(Absence::Outside)),
+        Err(_) => Err(Unread::Memory),
+    }
+}
+
+// The bytes of the file of a path, if the path is UTF-8, and the file can be read and isn't too long.
+fn load_bytes<R: Files + AllocGlobal>(rt: &R, path: &[u8]) -> Result<Vec<u8>, Unread> {
+    let Ok(text) = str::from_utf8(path) else {
+        return Err(Unread::Absent(Absence::NotUtf8));
+    };
+    match read_file(rt, text) {
+        Ok(bytes) => Ok(bytes),
+        Err(InputFault::Read) => Err(Unread::Absent(why_unread(rt, text))),
+        Err(InputFault::TooLong) => Err(Unread::Absent(Absence::TooLong)),
+        Err(InputFault::Memory) => Err(Unread::Memory),
+    }
+}
+
+// Why a file couldn't be read, as far as a further look at its path tells it.
+fn why_unread<R: Files>(rt: &R, path: &str) -> Absence {
+    match fs::metadata(rt, path) {
+        Ok(found) if found.is_dir() => Absence::Folder,
+        Ok(_) => Absence::Unreadable,
+        Err(error) => match error.kind() {
+            ErrorKind::NotFound | ErrorKind::NotADirectory => Absence::NoFile,
+            _ => Absence::Unreadable,
+        },
+    }
+}
+
+// The bytes of the file of a path, if it can be read.
+fn found_bytes<R: Files + AllocGlobal>(rt: &R, path: &[u8]) -> Result<Option<Vec<u8>>, Memory> {
+    match load_bytes(rt, path) {
+        Ok(bytes) => Ok(Some(bytes)),
+        Err(Unread::Absent(_)) => Ok(None),
+        Err(Unread::Memory) => Err(Memory),
+    }
+}
+
+/// The rule file with this name in a folder, if a file can have the name and it can be read.
+pub fn load_rule_file<R: Files + AllocGlobal>(
+    rt: &R,
+    folder: &str,
+    name: &[u8],
+) -> Result<Option<LoadedFile>, Memory> {
+    let Some(path) = rule_path(rt.alloc(), folder.as_bytes(), name)? else {
+        return Ok(None);
+    };
+    match found_bytes(rt, &path)? {
+        Some(bytes) => Ok(Some(LoadedFile::new(rt.alloc(), &path, bytes)?)),
+        None => Ok(None),
+    }
+}
+
+/// The claims of a text, the files that they need, those of them that weren't read, and the rule files that were looked
+/// for by the names of their patterns' rules, and aren't good.
+#[derive(Drop)]
+pub struct LoadedText {
+    pub claims: Claims,
+    pub files: Vec<LoadedFile>,
+    pub missing: Vec<LostFile>,
+    pub faulty: Vec<FaultyFile>,
+}
+
+/// A rule file that was looked for by the name of a rule, and isn't good.
+#[derive(Drop)]
+pub struct FaultyFile {
+    name: Vec<u8>,
+    path: Vec<u8>,
+    fault: TableFault,
+}
+
+impl FaultyFile {
+    /// The rule file at this path, with the name for which it was found, and its fault.
+    pub fn new(
+        alloc: Global,
+        name: &[u8],
+        path: &[u8],
+        fault: TableFault,
+    ) -> Result<FaultyFile, Memory> {
+        let name = Vec::from_slice(alloc, name)?;
+        let path = Vec::from_slice(alloc, path)?;
+        Ok(FaultyFile { name, path, fault })
+    }
+
+    /// The same for a run, whose bytes stay here.
+    pub fn view(&self) -> FaultyRule<'_> {
+        FaultyRule {
+            name: self.name.as_slice(),
+            path: self.path.as_slice(),
+            fault: self.fault,
+        }
+    }
+}
+
+/// Adds the file of a path under another one, if it isn't there yet and can be read.
+pub fn load_once<R: Files + AllocGlobal>(
+    rt: &R,
+    path: &[u8],
+    label: &[u8],
+    files: &mut Vec<LoadedFile>,
+) -> Result<(), Memory> {
+    if bytes_at(files, label).is_some() {
+        return Ok(());
+    }
+    if let Some(bytes) = found_bytes(rt, path)? {
+        files.push(LoadedFile::new(rt.alloc(), label, bytes)?)?;
+    }
+    Ok(())
+}
+
+/// The bytes of the first file with this path.
+pub fn bytes_at<'a>(files: &'a [LoadedFile], path: &[u8]) -> Option<&'a [u8]> {
+    let file = files.iter().find(|file| file.path.as_slice() == path)?;
+    Some(file.bytes.as_slice())
+}
+
+/// The files as `verify` takes them. It takes memory only where there are some.
+pub fn views<'a>(alloc: Global, loaded: &'a [LoadedFile]) -> Result<Vec<File<'a>>, Memory>
+    ensures paths { IfOk result (λ views.
+        map (λ f. f.path.now) views.items ≡ map (λ f. f.path.items) loaded.now) }
+    ensures bytes { IfOk result (λ views.
+        map (λ f. f.bytes.now) views.items ≡ map (λ f. f.bytes.items) loaded.now) }
+    ensures memory { OnErr result (loaded.now ≢ []) }
+{
+    let mut views = Vec::new(alloc);
+    'files: for file in loaded {
+        views.push(file.view())?;
+    }
+    Ok(views)
+}
+
+/// The files that weren't read as `verify` takes them.
+pub fn missing_files<'a>(
+    alloc: Global,
+    lost: &'a [LostFile],
+) -> Result<Vec<MissingFile<'a>>, Memory> {
+    let mut missing = Vec::new(alloc);
+    'files: for file in lost {
+        missing.push(file.view())?;
+    }
+    Ok(missing)
+}
+
+/// The faulty rule files as `verify` takes them.
+pub fn faulty_rules<'a>(
+    alloc: Global,
+    faulty: &'a [FaultyFile],
+) -> Result<Vec<FaultyRule<'a>>, Memory> {
+    let mut rules = Vec::new(alloc);
+    'files: for file in faulty {
+        rules.push(file.view())?;
+    }
+    Ok(rules)
+}

@@ -1,0 +1,15 @@
+//! What the program has of the machine that it runs on: files, the standard streams, and the line that tells
+//! how far a run is.
+#![tactic(auto)]
+
+mod files;
+mod progress;
+mod streams;
+
+pub use files::{
+    FaultyFile, LoadedFile, LoadedText, LostFile, NeededFiles, bytes_at, check_folder,
+    faulty_rules, load_needed, load_once, load_rule_file, missing_files, open_source, read_file,
+    read_source, views,
+};
+pub use progress::{Heading, Progress};
+pub use streams::{Source, Streams};
