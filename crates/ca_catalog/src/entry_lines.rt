@@ -225,11 +225,7 @@ fn push_identified(
 /// # Errors
 ///
 /// Fails where there is no memory for them.
-pub fn push_entry(
-    out: &mut Vec<u8>,
-    generations: u64,
-    entry: &Entry<'_>,
-) -> Result<(), Memory>
+pub fn push_entry(out: &mut Vec<u8>, generations: u64, entry: &Entry<'_>) -> Result<(), Memory>
     requires { IsWithin generations entry.now.outcome }
     ensures { OnOk result (Puts out.old.items out.new.items (entry_lines generations entry.now)) }
 {

@@ -110,11 +110,7 @@ fn claim_name(alloc: Global, path: &[u8]) -> Result<Vec<u8>, Memory>
 /// # Errors
 ///
 /// Fails where there is no memory for it, and then leaves the names as they were.
-pub fn add_name(
-    alloc: Global,
-    names: &mut TakenNames,
-    path: &[u8],
-) -> Result<Vec<u8>, Memory>
+pub fn add_name(alloc: Global, names: &mut TakenNames, path: &[u8]) -> Result<Vec<u8>, Memory>
     ensures name { IfOk result (λ name. IsFreeName names.old (claim_name path.now) name.items) }
     ensures names { IfOk result (λ name. names.new ≡ names.old ++ name.items ∷ []) }
     ensures refused { OnErr result (names.new ≡ names.old) }

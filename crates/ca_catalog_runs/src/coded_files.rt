@@ -14,11 +14,11 @@ ghost use Rattle.ca_catalog_runs.specs.inner.CodedLooks.{IsCodedLook};
 ghost use Rattle.ca_object_code.specs.Countings.{MayGoBy};
 ghost use Rattle.ca_catalog_runs.specs.inner.Spent.{TakesRunAndTwice};
 
-use ca_object_code::{code_of_tree, has_codes, quick_code};
-use ca_identify::look_at_plane;
-use ca_answers::Scope;
-use ca_pattern::{Limits, LocatedFault, StoredTree, open_pattern};
+use ca_answers::{CodedLook, Scope};
 use ca_evolution::{Observer, leaper_of};
+use ca_identify::look_at_plane;
+use ca_object_code::{code_of_tree, has_codes, quick_code};
+use ca_pattern::{Limits, LocatedFault, StoredTree, open_pattern};
 use ca_plane::{Automaton, Counting};
 use ca_quad::Tree;
 use ca_rule::Table;

@@ -15,15 +15,14 @@ ghost use Rattle.ca_catalog_runs.specs.inner.Searches.{IsGoodSearch, AreLines, E
 ghost use Rattle.ca_catalog.specs.Catalog.{IsWithin};
 
 use crate::coded_files::identify_with_code;
-use ca_catalog::{
-    Catalog, Content, Entry, Outcome, Subject, TakenNames, Task, add_name, head_pieces, is_claim_path,
-    push_entry, report_of, rules_text,
-};
-use ca_identify::identify;
 use ca_answers::CodedLook;
-use ca_catalog_runs::identify_with_code;
-use ca_pattern::{File, LocatedFault};
+use ca_catalog::{
+    Catalog, Content, Entry, Outcome, Subject, TakenNames, Task, add_name, head_pieces,
+    is_claim_path, push_entry, report_of, rules_text,
+};
 use ca_evolution::Observer;
+use ca_identify::identify;
+use ca_pattern::{File, LocatedFault};
 use ca_plane::{Dev, Memory, send};
 use ca_report::{DetailedFault, ToolFault, send_pieces};
 use ca_rule::{Table, TableFault};

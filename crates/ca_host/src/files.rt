@@ -5,9 +5,7 @@ ghost use Rattle.std.specs.Prelude.{◌≡◌, ◌≢◌, [], map, IfOk, OnErr};
 use crate::streams::Source;
 use ca_pattern::File;
 use ca_plane::{Dev, Memory};
-use ca_report::{
-    Absence, FaultyRule, InputFault, MissingFile, path_in, read_all, rule_path,
-};
+use ca_report::{Absence, FaultyRule, InputFault, MissingFile, path_in, read_all, rule_path};
 use ca_rule::TableFault;
 use ca_text::Claims;
 use std::alloc::Global;

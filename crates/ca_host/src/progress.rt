@@ -3,8 +3,8 @@
 use ca_evolution::Observer;
 use ca_plane::text::{push_number, push_text};
 use ca_plane::{Dev, Memory, send};
-use ca_run::{Milestone, Watch};
 use ca_report::push_escaped;
+use ca_run::{Milestone, Watch};
 use std::io::IsTerminal;
 use std::rt::{Clock, Stderr};
 use std::time::Instant;

@@ -22,16 +22,14 @@ mod stage;
 mod strides;
 mod walk;
 
-use ca_answers::Identity;
 use crate::tree_look::TreeLook;
-use ca_answers::{Look, Scope};
+use ca_answers::{Identity, Look, Scope};
+use ca_evolution::{Observer, later_tree, leaper_of};
 use ca_pattern::{Limits, LocatedFault, StoredTree, open_pattern};
-use ca_evolution::{Observer, leaper_of};
 use ca_plane::Automaton;
 use ca_quad::Tree;
 use ca_rule::Table;
 use ca_run::{LeapFault, Leaper};
-use ca_evolution::later_tree;
 use patience::look;
 use stage::First;
 use std::alloc::Global;

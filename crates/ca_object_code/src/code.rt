@@ -13,8 +13,8 @@ ghost use Rattle.ca_pattern.specs.LaterTrees.{IsStart};
 ghost use Rattle.ca_answers.specs.Codes.{IsCodeOf, IsNoObject, HasGoodPeriod, steps_of};
 
 use crate::phases::least_of_phases;
-use ca_apgcode::{Kind, object_code};
 use ca_answers::Identity;
+use ca_apgcode::{Kind, object_code};
 use ca_plane::Automaton;
 use ca_quad::Tree;
 use ca_run::{LeapFault, Leaper};

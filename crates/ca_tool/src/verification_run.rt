@@ -9,8 +9,8 @@ ghost use Rattle.ca_verdict_lines.specs.Reports.{all_claims, IsReport, NeedsMemo
 ghost use Rattle.ca_verdict_lines.specs.Reports.{WritesPlainReport};
 ghost use Rattle.ca_tool.specs.inner.Judged.{WereJudged, IsReportPart, WereAllJudged};
 
-use ca_pattern::{File, Limits};
 use ca_evolution::Observer;
+use ca_pattern::{File, Limits};
 use ca_plane::Dev;
 use ca_report::ToolFault;
 use ca_run::Unwatched;

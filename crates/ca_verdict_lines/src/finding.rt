@@ -10,6 +10,7 @@ ghost use Rattle.ca_report.specs.Writing.{Sends};
 ghost use Rattle.ca_report.specs.Pieces.{pieces_text};
 
 use crate::printing::answer_pieces;
+use ca_answers::{Answer, Note, Refutation, Verdict};
 use ca_pattern::{Cause, File};
 use ca_plane::{Dev, Memory, WriteFault, send};
 use ca_report::{
@@ -18,7 +19,6 @@ use ca_report::{
     rule_pieces, send_both, send_pieces, table_kind, table_line,
 };
 use ca_rule::TableFault;
-use ca_answers::{Answer, Note, Refutation, Verdict};
 use std::io::Write;
 
 /// How the answers of a text are printed.

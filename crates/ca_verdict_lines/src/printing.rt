@@ -8,10 +8,10 @@ ghost use Rattle.ca_verdict_lines.specs.Verdicts.{return_text, refutation_text, 
 ghost use Rattle.ca_verdict_lines.specs.Verdicts.{answer_lines, status_of, is_refusal, is_no};
 ghost use Rattle.ca_report.specs.Pieces.{pieces_text};
 
+use ca_answers::{Answer, Refutation, Verdict};
 use ca_pattern::Cause;
 use ca_plane::Memory;
 use ca_report::{Piece, cause_pieces, in_pieces, push_pieces};
-use ca_answers::{Answer, Refutation, Verdict};
 use std::alloc::Global;
 
 fn return_pieces<'a>(generations: u64, dx: i64, dy: i64) -> [Piece<'a>; 6]

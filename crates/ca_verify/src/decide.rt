@@ -24,8 +24,8 @@ mod primes;
 mod returns;
 
 use ca_answers::{Refutation, Verdict};
-use ca_pattern::Cause;
 use ca_evolution::{Observer, is_dead, moved_inside, tree_after};
+use ca_pattern::Cause;
 use ca_plane::{Automaton, Memory, Plane};
 use ca_quad::{Spot, Store, Tree};
 use ca_run::{LeapFault, Leaper};

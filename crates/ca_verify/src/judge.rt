@@ -10,12 +10,11 @@ ghost use Rattle.ca_answers.specs.Notes.{HasItsNote};
 ghost use Rattle.ca_verify.specs.NeededFiles.{AreFound, AreRead};
 ghost use Rattle.ca_verify.specs.inner.Kept.{IsAnswerTo};
 
-use ca_answers::Note;
 use crate::noting::note_on;
-use ca_answers::Answer;
 use crate::verifier::{NeededFiles, PatternCache, Tables, Task, find_files, verdict_on};
-use ca_pattern::{File, Limits};
+use ca_answers::{Answer, Note};
 use ca_evolution::Observer;
+use ca_pattern::{File, Limits};
 use ca_plane::Memory;
 use ca_run::Unwatched;
 use ca_text::Claims;

@@ -7,9 +7,8 @@ ghost use Rattle.ca_text.specs.Both.{map_both, HoldsOfBoth};
 ghost use Rattle.ca_verify.specs.inner.Patterns.{part_of};
 ghost use Rattle.ca_verify.specs.inner.Refusals.{IsOnVerdict};
 
-use ca_answers::Note;
 use crate::refusal::{About, JudgedClaim, WhichPattern};
-use ca_answers::{Refutation, Verdict};
+use ca_answers::{Note, Refutation, Verdict};
 use ca_text::{Both, Claims, NamedPath};
 
 /// The note on a verdict on a claim about these patterns.

@@ -5,15 +5,20 @@ ghost use Rattle.ca_plane.specs.Limits.{longest_period};
 ghost use Rattle.cafile.specs.Scopes.{scope_of};
 
 use crate::FAULT;
-use ca_host::{FaultyFile, Heading, LoadedFile, Progress, Streams, load_rule_file, read_file, views};
 use ca_answers::Scope;
+use ca_catalog_runs::identify_run;
+use ca_host::{
+    FaultyFile, Heading, LoadedFile, Progress, Streams, load_rule_file, read_file, views,
+};
 use ca_pattern::{Cause, File, rule_text_of};
 use ca_plane::Memory;
 use ca_plane::limits::LONGEST_PERIOD;
 use ca_report::DetailedFault;
 use ca_rule::{RuleFault, Table, TableFault, resolve};
-use ca_tool::{Catalog, Content, Fault, InputFault, RunFiles, Subject, Task, ToolFault, complain, explain, has_explanation, is_claim_path};
-use ca_catalog_runs::identify_run;
+use ca_tool::{
+    Catalog, Content, Fault, InputFault, RunFiles, Subject, Task, ToolFault, complain, explain,
+    has_explanation, is_claim_path,
+};
 use ca_words::IdentifyExtras;
 use std::alloc::Global;
 use std::rt::{Clock, Files};

@@ -4,8 +4,11 @@ ghost use Rattle.std.specs.Prelude.{◌≡◌, ◌++◌, [], codes, IfOk, OnErr,
 ghost use Rattle.ca_report.specs.Escaped.{escaped};
 
 use crate::FAULT;
-use ca_host::{Heading, LoadedText, Progress, Streams, faulty_rules, load_needed, missing_files, read_source, views};
 use crate::named_rules::with_named_rules;
+use ca_host::{
+    Heading, LoadedText, Progress, Streams, faulty_rules, load_needed, missing_files, read_source,
+    views,
+};
 use ca_pattern::File;
 use ca_plane::Memory;
 use ca_plane::text::push_text;

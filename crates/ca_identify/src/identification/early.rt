@@ -7,8 +7,8 @@ ghost use Rattle.ca_quad.specs.Trees.{IsTree, IsTrimmed, cell};
 ghost use Rattle.ca_run.specs.Leaping.{LeaperGrows};
 ghost use Rattle.ca_identify.specs.inner.Stages.{IsFirst, AreEarly};
 
-use ca_evolution::later_tree;
 use super::stage::First;
+use ca_evolution::later_tree;
 use ca_plane::{Automaton, Memory};
 use ca_quad::{SquareBoxes, Store, Tree};
 use ca_run::{LeapFault, Leaper, Unwatched};

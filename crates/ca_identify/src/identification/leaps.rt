@@ -14,11 +14,10 @@ ghost use Rattle.ca_identify.specs.inner.Stages.{HasNoReturn, EndsWithin, leap_w
 ghost use Rattle.ca_pattern.specs.PatternTrees.{ShowsTree};
 
 use super::growth::growth_of;
-use ca_evolution::later_tree;
 use super::stage::First;
 use super::walk::{Walk, look_on};
 use ca_answers::Growth;
-use ca_evolution::is_dead;
+use ca_evolution::{is_dead, later_tree};
 use ca_plane::Automaton;
 use ca_quad::WideBounds;
 use ca_run::{LeapFault, Leaper, Unwatched};

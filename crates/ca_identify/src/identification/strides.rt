@@ -17,12 +17,11 @@ ghost use Rattle.ca_identify.specs.inner.Stages.{IsStride, IsWalk, HasNoReturn, 
 ghost use Rattle.ca_pattern.specs.PatternTrees.{IsNearTree, HasLive, ShowsTree};
 
 use super::ending::{Ending, identity_of};
-use ca_evolution::later_tree;
 use super::leaps::growth_after;
 use super::stage::{First, Stage, stage_of};
 use super::walk::Walk;
 use ca_answers::Identity;
-use ca_evolution::{Observer, is_dead};
+use ca_evolution::{Observer, is_dead, later_tree};
 use ca_plane::Automaton;
 use ca_quad::{SquareBoxes, Tree};
 use ca_run::{LeapFault, Leaper, Unwatched};

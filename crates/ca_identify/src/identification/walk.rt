@@ -14,9 +14,8 @@ ghost use Rattle.ca_evolution.specs.Steps.{TakesSteps, step_work};
 ghost use Rattle.ca_pattern.specs.PatternTrees.{ShowsTree};
 
 use super::ending::Ending;
-use ca_evolution::later_tree;
 use super::stage::{First, Stage, stage_of};
-use ca_evolution::Observer;
+use ca_evolution::{Observer, later_tree};
 use ca_plane::Automaton;
 use ca_quad::{SquareBoxes, Tree};
 use ca_run::{LeapFault, Leaper, Unwatched};

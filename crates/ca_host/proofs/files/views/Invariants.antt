@@ -1,6 +1,6 @@
 use Rattle.std.proofs.Common.{◌≡◌, map, take}
 use Rattle.ca_pattern.specs.declared.file.File.{File}
-use Rattle.cafile.specs.declared.files.LoadedFile.{LoadedFile}
+use Rattle.ca_host.specs.declared.files.LoadedFile.{LoadedFile}
 use Rattle.ca_host.proofs.files.views.Given as goal
 
 -- the paths and the bytes of the files so far
