@@ -20,7 +20,7 @@ use ca_catalog::{
     Catalog, Content, Entry, Outcome, Subject, TakenNames, Task, add_name, head_pieces,
     is_claim_path, push_entry, report_of, rules_text,
 };
-use ca_evolution::Observer;
+use ca_evolution::{Observer, RunSubject};
 use ca_identify::identify;
 use ca_pattern::{File, LocatedFault};
 use ca_plane::{Dev, Memory, send};
@@ -37,7 +37,7 @@ use std::io::Write;
 ///
 /// The limit of the task's scope is from 1 to 4294967295 generations. Rules are looked for among the tables of the rule
 /// files, which the text names too, before the files. No two files have one name in the text. The observer hears of each
-/// file by its number, counted from 1, in place of a line; of its end before its lines are written.
+/// file before it is identified, and of its end before its lines are written.
 ///
 /// # Errors
 ///
@@ -126,8 +126,8 @@ fn write_entries<'a, W: Write, O: Observer>(
     let mut text = Vec::new(alloc);
     let mut entries = Vec::new(alloc);
     'subjects: for subject in subjects {
-        let number = (entries.len() as u64).saturating_add(1);
-        let Ok(entry) = entry_of(alloc, &mut names, number, subject, search, observer) else {
+        let index = entries.len();
+        let Ok(entry) = entry_of(alloc, &mut names, index, subject, search, observer) else {
             return Err(ToolFault::Memory);
         };
         if put_entry(&mut text, search, &entry).is_err() || entries.push(entry).is_err() {
@@ -149,12 +149,12 @@ fn put_entry(out: &mut Vec<u8>, search: &Search<'_>, entry: &Entry<'_>) -> Resul
     push_entry(out, search.task.generations, entry)
 }
 
-// The entry on the file of this number, under a name that is put after the others. The observer hears of its end in
+// The entry on the file at this index, under a name that is put after the others. The observer hears of its end in
 // any case.
 fn entry_of<'a, O: Observer>(
     alloc: Global,
     names: &mut TakenNames,
-    number: u64,
+    index: usize,
     subject: &Subject<'a>,
     search: &Search<'_>,
     observer: &mut O,
@@ -163,7 +163,7 @@ fn entry_of<'a, O: Observer>(
     ensures entry { IfOk result (IsEntry search.now.tables.now search.now.task names.old subject.now) }
     ensures names { IfOk result (λ entry. names.new ≡ names.old ++ entry.name.items ∷ []) }
 {
-    observer.begins(number);
+    observer.begins(RunSubject::File { index });
     let outcome = outcome_of(alloc, subject, search, observer);
     observer.ends();
     let name = add_name(alloc, names, subject.path)?;

@@ -5,7 +5,7 @@
 mod unknown;
 
 pub use ca_answers::{Answer, Growth, Identity, Look, Note, Refutation, Scope, Verdict};
-pub use ca_evolution::{Observer, open_evolved};
+pub use ca_evolution::{Observer, RunSubject, open_evolved};
 pub use ca_identify::{identify, identity_laws};
 pub use ca_pattern::{
     Cause, Cells, ConvertFault, File, Format, Limits, Loaded, LocatedFault, NamedTable, Pattern,

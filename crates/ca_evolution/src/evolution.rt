@@ -15,7 +15,7 @@ ghost use Rattle.ca_pattern.specs.LaterTrees.{IsLaterTree};
 ghost use Rattle.ca_pattern.specs.PatternTrees.{IsRun};
 
 use crate::leaper::leaper_of;
-use crate::observer::Observer;
+use crate::observer::{Observer, RunSubject};
 use crate::trees::tree_after;
 use ca_pattern::{Cells, Limits, LocatedFault, Pattern, StoredTree, open_pattern};
 use ca_plane::Automaton;
@@ -26,7 +26,7 @@ use ca_run::{LeapFault, Leaper};
 use std::alloc::Global;
 
 /// The pattern some generations on, at most 1152921504606846976: the same one where there are none. Its
-/// cells may then lie anywhere. The observer sees how far the run is, as that of a claim on line 1.
+/// cells may then lie anywhere. The observer sees how far the run is.
 ///
 /// # Errors
 ///
@@ -79,7 +79,7 @@ pub fn evolve<'a, 't, O: Observer>(
 }
 
 /// The pattern of a file some generations on, at most 1152921504606846976: that of the file where there are
-/// none. The observer sees how far the run is, as that of a claim on line 1.
+/// none. The observer sees how far the run is.
 ///
 /// # Errors
 ///
@@ -136,7 +136,7 @@ fn end_of<A: Automaton, O: Observer>(
     // Says what holds of every leaper.
     let _ = leaper.store();
     let _ = limits;
-    observer.begins(1);
+    observer.begins(RunSubject::Pattern);
     let run = tree_after(leaper, &pattern, generations, observer);
     observer.ends();
     let end = run?;

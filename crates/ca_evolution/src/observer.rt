@@ -1,24 +1,35 @@
-//! Those who watch how claims are judged.
+//! Those who watch runs.
 
 use ca_run::{Unwatched, Watch};
 
-/// Sees how far the judging of a claim is, while it lasts. As a `Watch`, it also sees how many generations a
-/// run has reached. A run of one file's pattern some generations on begins and ends as a claim on line 1 does.
+/// What a run is about, for those who watch it.
+#[derive(Clone, Copy, Debug, PartialEq, Eq)]
+pub enum RunSubject {
+    /// The claim on this line of its text. Lines are counted from 1.
+    Claim { line: u64 },
+    /// The file at this index of those that are identified, starting at 0.
+    File { index: usize },
+    /// The pattern of the one file that a command is about.
+    Pattern,
+}
+
+/// Sees how far the judging of a claim is, or another run, while it lasts. As a `Watch`, it also sees how many
+/// generations a run has reached.
 pub trait Observer: Watch {
-    /// The claim on this line is judged next.
-    fn begins(&mut self, line: u64);
+    /// This is judged, identified or taken some generations on next.
+    fn begins(&mut self, subject: RunSubject);
 
     /// The cells of its pattern are looked for after so many generations: those of the claim, or an earlier
     /// time at which the pattern may be back or dead.
     fn goes_to(&mut self, generations: u64);
 
-    /// The claim is judged.
+    /// It is done.
     fn ends(&mut self);
 }
 
 impl Observer for Unwatched {
-    fn begins(&mut self, line: u64) {
-        let _ = line;
+    fn begins(&mut self, subject: RunSubject) {
+        let _ = subject;
     }
 
     fn goes_to(&mut self, generations: u64) {

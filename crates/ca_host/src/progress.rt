@@ -1,6 +1,6 @@
 //! The line on standard error that tells how far a long claim or run is.
 
-use ca_evolution::Observer;
+use ca_evolution::{Observer, RunSubject};
 use ca_plane::text::{push_number, push_text};
 use ca_plane::{Dev, Memory, send};
 use ca_report::push_escaped;
@@ -30,7 +30,6 @@ pub enum Heading<'a> {
         path: &'a [u8],
     },
     /// The files of these paths, of which each is looked at for as many generations as the limit says, so many on.
-    /// They have numbers, counted from 1, in place of lines.
     Files {
         paths: &'a [Vec<u8>],
         after: u64,
@@ -48,7 +47,7 @@ pub struct Progress<'a, R> {
     heading: Heading<'a>,
     is_shown: bool,
     most_squares: usize,
-    line: u64,
+    subject: RunSubject,
     goal: u64,
     generations: u64,
     results: u64,
@@ -74,7 +73,7 @@ impl<'a, R: Clock + AllocGlobal> Progress<'a, R> {
             heading,
             is_shown,
             most_squares,
-            line: 0,
+            subject: RunSubject::Pattern,
             goal: 0,
             generations: 0,
             results: 0,
@@ -136,17 +135,18 @@ impl<'a, R: Clock + AllocGlobal> Progress<'a, R> {
 
     // Puts which claim or file it is.
     fn push_heading(&self, text: &mut Vec<u8>) -> Result<(), Memory> {
-        match self.heading {
-            Heading::Claims { before } => {
+        match (self.heading, self.subject) {
+            (Heading::Claims { before }, RunSubject::Claim { line }) => {
                 push_text(text, before)?;
                 push_text(text, b"line ")?;
-                push_number(text, self.line)
+                push_number(text, line)
             }
-            Heading::Run { path } => push_escaped(text, path),
-            Heading::Files { paths, .. } => match paths.get(self.line.saturating_sub(1) as usize) {
+            (Heading::Run { path }, _) => push_escaped(text, path),
+            (Heading::Files { paths, .. }, RunSubject::File { index }) => match paths.get(index) {
                 Some(path) => push_escaped(text, path),
                 None => Ok(()),
             },
+            _ => Ok(()),
         }
     }
 }
@@ -184,8 +184,8 @@ impl<R: Clock + AllocGlobal> Watch for Progress<'_, R> {
 }
 
 impl<R: Clock + AllocGlobal> Observer for Progress<'_, R> {
-    fn begins(&mut self, line: u64) {
-        self.line = line;
+    fn begins(&mut self, subject: RunSubject) {
+        self.subject = subject;
         self.results = 0;
         if let Heading::Files { after, .. } = self.heading {
             self.goal = after;

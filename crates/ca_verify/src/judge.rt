@@ -13,7 +13,7 @@ ghost use Rattle.ca_verify.specs.inner.Kept.{IsAnswerTo};
 use crate::noting::note_on;
 use crate::verifier::{NeededFiles, PatternCache, Tables, Task, find_files, verdict_on};
 use ca_answers::{Answer, Note};
-use ca_evolution::Observer;
+use ca_evolution::{Observer, RunSubject};
 use ca_pattern::{File, Limits};
 use ca_plane::Memory;
 use ca_run::Unwatched;
@@ -184,7 +184,7 @@ fn answer_to<'a, 'f, O: Observer>(
         → IsAnswerTo files claims.now index limits.work result.0 result.1 }
 {
     let asked = claims.claim(index);
-    observer.begins(asked.line);
+    observer.begins(RunSubject::Claim { line: asked.line });
     let task = Task {
         claim: &asked.claim,
         needed,
