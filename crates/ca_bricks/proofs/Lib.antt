@@ -22,3 +22,5 @@ pub mod NextStates
 pub mod TileCells
 pub mod Grids
 pub mod Words
+pub mod Overlaps
+pub mod Tiles

@@ -2,6 +2,8 @@ pub mod Counting
 pub mod Lanes
 pub mod Tiles
 pub mod Words
+pub mod Overlaps
+pub mod WordSquares
 pub mod Bricks
 pub mod Aged
 pub mod States

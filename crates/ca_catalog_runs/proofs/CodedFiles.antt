@@ -11,7 +11,7 @@ use Rattle.ca_quad.specs.declared.node.Node.{Node}
 use Rattle.ca_quad.specs.declared.tree.Tree.{Tree}
 use Rattle.ca_quad.specs.Trees as trees
 use Rattle.ca_rule.specs.Rule.{RuleValue, next_of}
-use Rattle.ca_run.proofs.Costs.{power_suc}
+use Rattle.ca_work.proofs.Powers.{power_suc}
 use Rattle.ca_pattern.specs.declared.pattern.StoredTree.{StoredTree}
 use Rattle.ca_pattern.specs.PatternCells.{IsTreeOf}
 use Rattle.ca_pattern.specs.PatternTrees.{ShowsTree}

@@ -45,7 +45,7 @@ use Rattle.ca_pattern.proofs.RleFiles.{text_holds}
 use Rattle.ca_pattern.proofs.ReadPatterns.{read_pattern, holds_ruled}
 use Rattle.ca_pattern.specs.LaterTrees.{IsLaterTree}
 use Rattle.ca_pattern.proofs.CellsNearMiddle.{trimmed_low}
-use Rattle.ca_run.proofs.Costs.{power_more}
+use Rattle.ca_work.proofs.Powers.{power_more}
 use Rattle.ca_evolution.specs.Later.{IsEvolvedFrom, IsUnreachedFor}
 use Rattle.ca_evolution.specs.Spending.{Takes}
 

@@ -1,6 +1,7 @@
 -- How what calls take of a leaper's work adds up.
 use Rattle.std.proofs.Common.{◌≡◌, ℕ, ◌+◌, ◌<◌, ◌≤◌, ◌^◌, ap, arith}
-use Rattle.ca_run.specs.Leaping.{Spent, LeaperView, Costs}
+use Rattle.ca_run.specs.Leaping.{LeaperView, Costs}
+use Rattle.ca_work.specs.Spending.{Spent}
 use Rattle.ca_evolution.specs.Spending.{Takes}
 
 -- and then nothing

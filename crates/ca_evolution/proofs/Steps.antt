@@ -8,7 +8,7 @@ use Rattle.ca_plane.proofs.After.{after_same, after_again}
 use Rattle.ca_quad.specs.declared.node.Node.{Node}
 use Rattle.ca_quad.specs.declared.tree.Tree.{Tree}
 use Rattle.ca_quad.specs.Trees.{cell, IsTrimmed, HoldsAll}
-use Rattle.ca_run.proofs.Costs.{power_more}
+use Rattle.ca_work.proofs.Powers.{power_more}
 use Rattle.ca_pattern.specs.LaterTrees.{IsWithinPlane, IsStart, IsLaterTree}
 use Rattle.ca_pattern.proofs.CellsNearMiddle.{trimmed_low}
 use Rattle.ca_pattern.proofs.Starts.{near_start, start_near}

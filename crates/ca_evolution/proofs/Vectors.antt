@@ -4,7 +4,7 @@ use Rattle.std.specs.Prelude.{ℤ, ◌+ℤ◌, ◌-ℤ◌}
 use Rattle.std.proofs.lemmas.Int.{ints}
 use Rattle.ca_plane.specs.Plane.{Picture, cell, IsSame, shifted, IsLive}
 use Rattle.ca_plane.proofs.Shifts.{cell-shifted}
-use Rattle.ca_run.proofs.Vectors.{no_vector}
+use Rattle.ca_steps.proofs.Vectors.{no_vector}
 
 -- ---- the vector of a return
 

@@ -4,8 +4,9 @@ ghost use Rattle.std.specs.Prelude.{◌≡◌, ◌≤◌, ◌<◌, ◌+◌, ℕ,
 ghost use Rattle.ca_plane.specs.Limits.{generation_limit, most_generations};
 ghost use Rattle.ca_quad.specs.Trees.{cell};
 ghost use Rattle.ca_macro.specs.Pattern.{AreInRange};
-ghost use Rattle.ca_run.specs.Leaping.{LeaperGrows, EndsAtLimit};
-ghost use Rattle.ca_run.specs.declared.fault.LeapFault.TheVariants.{Work};
+ghost use Rattle.ca_run.specs.Leaping.{LeaperGrows};
+ghost use Rattle.ca_work.specs.Spending.{EndsAtLimit};
+ghost use Rattle.ca_work.specs.declared.fault.LeapFault.TheVariants.{Work};
 ghost use Rattle.ca_pattern.specs.Evolved.{IsPatternAfter, IsReachFault};
 ghost use Rattle.ca_pattern.specs.Limited.{AreGoodLimits};
 ghost use Rattle.ca_pattern.specs.PatternCells.{IsPatternOf};

@@ -10,7 +10,7 @@ use Rattle.ca_quad.specs.declared.node.Node.{Node}
 use Rattle.ca_quad.specs.declared.tree.Tree.{Tree}
 use Rattle.ca_quad.specs.Boxes.{IsDead}
 use Rattle.ca_quad.specs.Trees as trees
-use Rattle.ca_run.specs.declared.fault.LeapFault.{LeapFault}
+use Rattle.ca_work.specs.declared.fault.LeapFault.{LeapFault}
 use Rattle.ca_plane.proofs.After.{after_same}
 use Rattle.ca_text.specs.declared.line.Kind.TheVariants as kind
 use Rattle.ca_identify.specs.declared.identification.ending.Ending.TheVariants.{Death}

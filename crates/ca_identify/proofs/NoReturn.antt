@@ -12,10 +12,10 @@ use Rattle.ca_quad.specs.declared.tree.Tree.{Tree}
 use Rattle.ca_quad.specs.declared.tree.WideBounds.{WideBounds}
 use Rattle.ca_quad.specs.Boxes.{IsDead, IsLeastWideBox}
 use Rattle.ca_quad.specs.Trees as trees
-use Rattle.ca_run.specs.Reach.{IsWiderByAtMost}
+use Rattle.ca_steps.specs.Reach.{IsWiderByAtMost}
 use Rattle.ca_plane.proofs.After.{after_dead, after_same}
-use Rattle.ca_run.proofs.Returning.{never_wide, settles_alike}
-use Rattle.ca_run.proofs.Returns.{after_stands}
+use Rattle.ca_steps.proofs.Returning.{never_wide, settles_alike}
+use Rattle.ca_steps.proofs.Returns.{after_stands}
 use Rattle.ca_identify.specs.declared.identification.ending.Ending.{Ending}
 use Rattle.ca_identify.specs.declared.identification.ending.Ending.TheVariants.{Death, Return}
 use Rattle.ca_identify.specs.inner.Stages.{HasNoReturn, IsEnding, generations_of, EndsWithin, box_of}

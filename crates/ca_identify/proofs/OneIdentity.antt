@@ -12,8 +12,8 @@ use Rattle.ca_plane.proofs.Shifts.{cell-shifted}
 use Rattle.ca_rule.specs.TableNext.{TableRule}
 use Rattle.ca_rule.specs.Rule.{next_of}
 use Rattle.ca_plane.proofs.After.{after_same, after_seen}
-use Rattle.ca_run.proofs.Returns.{after_stands, back_times, vector_times}
-use Rattle.ca_run.proofs.Vectors.{no_vector, live-moved}
+use Rattle.ca_steps.proofs.Returns.{after_stands, back_times, vector_times}
+use Rattle.ca_steps.proofs.Vectors.{no_vector, live-moved}
 use Rattle.ca_text.specs.declared.asks.Forbidden.TheVariants.{InPlace, Anywhere, EmptyPlane}
 use Rattle.ca_text.specs.declared.line.Kind.TheVariants as kind
 use Rattle.ca_answers.specs.declared.identity.Growth.{Growth}

@@ -16,7 +16,7 @@ use Rattle.ca_plane.proofs.Numbers.{below_or_not}
 use Rattle.ca_quad.proofs.Measures.{boxes_stay}
 use Rattle.ca_quad.proofs.Trims.{trees_stay}
 use Rattle.ca_plane.proofs.After.{after_same, after_again}
-use Rattle.ca_run.proofs.Costs.{power_more, power_suc}
+use Rattle.ca_work.proofs.Powers.{power_more, power_suc}
 use Rattle.ca_pattern.specs.Evolved.{run_work}
 use Rattle.ca_plane.specs.Limits.{longest_period}
 use Rattle.ca_identify.specs.declared.identification.stage.First.{First}

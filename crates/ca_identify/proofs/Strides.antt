@@ -16,7 +16,7 @@ use Rattle.ca_quad.specs.declared.tree.Tree.{Tree}
 use Rattle.ca_plane.proofs.Numbers.{below_or_not}
 use Rattle.ca_quad.proofs.Trims.{trees_stay}
 use Rattle.ca_plane.proofs.After.{after_same, after_seen, after_again, after_dead}
-use Rattle.ca_run.proofs.Returning.{settles_alike}
+use Rattle.ca_steps.proofs.Returning.{settles_alike}
 use Rattle.ca_identify.specs.declared.identification.stage.First.{First}
 use Rattle.ca_identify.specs.declared.identification.stage.Stage.TheVariants.{Other}
 use Rattle.ca_identify.specs.declared.identification.strides.Stride.{Stride}

@@ -3,9 +3,11 @@ use Rattle.std.proofs.Common.{◌≡◌, ℕ, suc, ◌+◌, ◌-◌, ◌*◌, �
 use Rattle.std.proofs.Math.Nat.{mul-le-mul}
 use Rattle.ca_quad.specs.Sound.{IsSoundStore}
 use Rattle.ca_quad.proofs.Growth.{grows_same}
-use Rattle.ca_run.specs.Leaping.{LeaperView, Spent, Spends}
+use Rattle.ca_run.specs.Leaping.{LeaperView}
+use Rattle.ca_work.specs.Spending.{Spent, Spends}
 use Rattle.ca_run.specs.inner.AtCost.{GoesOnAtCost}
-use Rattle.ca_run.proofs.Costs.{at_cost_more, at_both_costs, power_more, power_suc}
+use Rattle.ca_run.proofs.Costs.{at_cost_more, at_both_costs}
+use Rattle.ca_work.proofs.Powers.{power_more, power_suc}
 
 -- bricks are stepped: work is counted, and nothing else is done
 pub at_aging_cost : {Rule : Type 0} (l : LeaperView Rule) (spent : Spent) → Spends l.spent spent → IsSoundStore l.nodes → (n count : ℕ) → n ≤ 1024 → count ≤ 2 ^ 18 → spent.used ≤ l.spent.used + n * count

@@ -13,7 +13,8 @@ use Rattle.std.proofs.Math.Pow.{pow_mono}
 use Rattle.ca_quad.specs.declared.node.Node.{Node}
 use Rattle.ca_quad.specs.Trees.{AreCorners}
 use Rattle.ca_plane.proofs.Numbers.{below_or_not}
-use Rattle.ca_run.specs.inner.Shown.{ShowsAt, side}
+use Rattle.ca_run.specs.inner.Shown.{ShowsAt}
+use Rattle.ca_bricks.specs.Overlaps.{side}
 use Rattle.ca_bricks.specs.Words.{WordShows}
 
 -- ---- bits that are put into a word above those so far

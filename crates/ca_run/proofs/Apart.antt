@@ -9,9 +9,10 @@ use Rattle.ca_quad.proofs.Growth.{grows_same}
 use Rattle.ca_run.specs.Advanced.{IsAdvanced}
 use Rattle.ca_run.specs.Leaping.{LeaperView, LeaperGrows}
 use Rattle.ca_run.specs.declared.leaper.dense.ReachedTree.{ReachedTree}
-use Rattle.ca_run.specs.declared.leaper.pace.Pace.{Pace}
-use Rattle.ca_run.specs.inner.Apart.{IsCopyOfTree, KeepsOn, IsNearer, tries, most_tries}
-use Rattle.ca_run.proofs.ShownPlanes.{spends_again}
+use Rattle.ca_work.specs.declared.pace.Pace.{Pace}
+use Rattle.ca_run.specs.inner.Apart.{IsCopyOfTree, KeepsOn, IsNearer}
+use Rattle.ca_work.specs.Tries.{tries, most_tries}
+use Rattle.ca_work.proofs.Spent.{spends_again}
 
 module _ {Rule : Type 0} where
   -- one call after another

@@ -6,8 +6,8 @@ use Rattle.ca_plane.proofs.Numbers.{below_or_not}
 use Rattle.ca_quad.specs.Sound.{IsSoundStore}
 use Rattle.ca_run.specs.Leaping.{LeaperView, Costs}
 use Rattle.ca_run.specs.inner.AtCost.{GoesOnAtCost}
-use Rattle.ca_run.proofs.Leap.{goes_on_same}
-use Rattle.ca_run.proofs.ShownPlanes.{goes_on_again}
+use Rattle.ca_run.proofs.LeaperGrowth.{goes_on_same, goes_on_again}
+use Rattle.ca_work.proofs.Powers.{power_suc, power_some, power_more}
 
 module _ {Rule : Type 0} where
   -- one call after another
@@ -44,15 +44,6 @@ module _ {Rule : Type 0} where
   -- units that are counted first pay for what is done then
   pub at_paid_cost : {a b d : LeaperView Rule} {u w s : ℕ} (k : ℕ) → GoesOnAtCost Rule a b k 0 → b.spent.used ≡ a.spent.used + k → b.nodes ≡ a.nodes → GoesOnAtCost Rule b d u s → k + u ≤ w → s ≤ 4096 * k → GoesOnAtCost Rule a d w 0
   at_paid_cost {a} {b} k paid e same h n m = record { goes_on = goes_on_again Rule _ _ _ paid.goes_on h.goes_on; costs = costs_paid {a = a} {b = b} k e same h.costs n m }
-
-pub power_suc : (g : ℕ) → 14 ^ suc g ≡ 14 * 14 ^ g
-power_suc g = pow-succ' 14 g
-
-pub power_some : (g : ℕ) → 1 ≤ 14 ^ g
-power_some g = one-le-pow g 14 (omega arith)
-
-pub power_more : (g h : ℕ) → g ≤ h → 14 ^ g ≤ 14 ^ h
-power_more g h n = pow-le-pow_right (omega arith) n
 
 -- the nine and the four of a level below, and the result itself
 pub thirteen : (g : ℕ) → suc (13 * 14 ^ g) ≤ 14 ^ suc g
@@ -180,24 +171,6 @@ dense_cost k d least many =
     omega (arith, grids, leaps, e, f, twice, all)
 
 -- ---- runs in a store of their own
-
--- a number that isn't less than a power of two has as many digits
-pub long_run : (n k d : ℕ) → k ≤ 14 → 1 ≤ n / 2 ^ (14 - k) → n < 2 ^ d → 15 ≤ k + d
-long_run n k d low some time = elim (below_or_not d (15 - k)) [
-  | inl few ↦
-      let fewer : d ≤ 14 - k = omega (arith, few, low) in
-      let most : 2 ^ d ≤ 2 ^ (14 - k) = pow_mono fewer in
-      let small : n < 2 ^ (14 - k) = omega (arith, most, time) in
-      let none = div-eq_of_lt small in
-      absurd (omega (arith, some, none))
-  | inr e ↦ omega (arith, e, low)
-]
-
--- what can be counted is less than 14 to the power of 17
-pub countable_cost : (k d used : ℕ) → 15 ≤ k + d → used < 2 ^ 64 → used ≤ 14 ^ (k + d + 2)
-countable_cost k d used long few =
-    let power = power_more 17 (k + d + 2) (omega (arith, long)) in
-    omega (arith, power, few)
 
 -- and less than 13 times 14 to the power of 16
 pub countable_one : (k used : ℕ) → 14 ≤ k → used < 2 ^ 64 → used ≤ 13 * 14 ^ (k + 2)

@@ -1,8 +1,7 @@
 -- Trees made of bricks.
-use Rattle.std.proofs.Common.{◌≡◌, ℕ, suc, ◌+◌, ◌-◌, ◌*◌, ◌/◌, ◌%◌, ◌<◌, ◌≤◌, ◌^◌, inl, inr, ◌⊎◌, List, [], ap, ap₂, subst, ◌∙◌, arith}
-use Rattle.std.specs.Prelude.{ℤ, pos, neg_ℤ, ◌+ℤ◌, ◌<ℤ◌, ◌≤ℤ◌}
+use Rattle.std.proofs.Common.{◌≡◌, ℕ, suc, ◌+◌, ◌-◌, ◌≤◌, ◌^◌, inl, inr, List, subst, arith}
+use Rattle.std.specs.Prelude.{ℤ, pos, neg_ℤ, ◌+ℤ◌}
 use Rattle.std.proofs.lemmas.Int.{ints}
-use Rattle.std.proofs.lemmas.Nat.{mul-add-lt, div-mul-add, mod-mul-add}
 use Rattle.std.proofs.Math.Pow.{pow_mono}
 use Rattle.ca_quad.specs.declared.node.Node.{Node}
 use Rattle.ca_quad.specs.declared.tree.Tree.{Tree}
@@ -13,7 +12,6 @@ use Rattle.ca_run.specs.inner.Shown.{ShowsAt}
 use Rattle.ca_bricks.specs.Words.{eight}
 use Rattle.ca_run.specs.inner.Beyond.{DiesBeyond}
 use Rattle.ca_bricks.specs.Bricks.{HasMargin, IsNearGrid, LiesWithin}
-use Rattle.ca_bricks.proofs.Words.{side_words}
 use Rattle.ca_run.proofs.ShownPlanes.{at_from}
 use Rattle.ca_run.proofs.Trees.{tree_at}
 use Rattle.ca_bricks.proofs.Grids.{dies_beyond}

@@ -9,7 +9,8 @@ use Rattle.ca_quad.specs.Trees.{HasMoreStates}
 use Rattle.ca_plane.specs.Shown.{from_corner, word_cells}
 use Rattle.ca_run.specs.Centre.{IsCentre}
 use Rattle.ca_run.specs.inner.Centres.{HasCentre}
-use Rattle.ca_run.specs.inner.Shown.{ShowsAt, side}
+use Rattle.ca_run.specs.inner.Shown.{ShowsAt}
+use Rattle.ca_bricks.specs.Overlaps.{side}
 use Rattle.ca_bricks.specs.Words.{WordShows}
 use Rattle.ca_run.proofs.ShownPlanes.{is_centre_at, at_corner}
 

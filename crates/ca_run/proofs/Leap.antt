@@ -9,17 +9,15 @@ use Rattle.ca_quad.specs.Trees.{AreFour}
 use Rattle.ca_plane.specs.Shown.{from_corner}
 use Rattle.ca_quad.proofs.Growth.{grows_same, grows_on}
 use Rattle.ca_quad.proofs.Cells.{of_stays}
-use Rattle.ca_run.specs.declared.leaper.trio.Trio.{Trio}
-use Rattle.ca_run.specs.declared.leaper.trio.Rows.{Rows}
+use Rattle.ca_bricks.specs.declared.trio.Trio.{Trio}
+use Rattle.ca_bricks.specs.declared.trio.Rows.{Rows}
 use Rattle.ca_run.specs.Centre.{IsCentre, IsLeap}
 use Rattle.ca_run.specs.Leaping.{LeaperView, LeaperGrows}
-use Rattle.ca_run.specs.inner.Shown.{ShowsAt, FourShow, AreThree, ThreeShow, TwoShow, AreNine, NineShow, side}
-use Rattle.ca_run.proofs.Overlaps.{pair_lies, trio_lies, rows_lie, four_lie}
-use Rattle.ca_run.proofs.ShownPlanes.{two_stay, spends_same, at_stays, three_stay, three_are, four_was, four_stay, four_go, centre_at, is_centre_at, at_corner}
-
--- a leaper that does nothing goes on
-pub goes_on_same : (Rule : Type 0) (l : LeaperView Rule) → IsSoundStore l.nodes → LeaperGrows Rule l l
-goes_on_same Rule l sound = record { rule = refl; grows = grows_same l.nodes sound; memo = refl; spends = spends_same l.spent }
+use Rattle.ca_run.specs.inner.Shown.{ShowsAt, FourShow, AreThree, ThreeShow, TwoShow, AreNine, NineShow}
+use Rattle.ca_bricks.specs.Overlaps.{side}
+use Rattle.ca_bricks.proofs.Overlaps.{pair_lies, trio_lies, rows_lie, four_lie}
+use Rattle.ca_run.proofs.ShownPlanes.{two_stay, at_stays, three_stay, three_are, four_was, four_stay, four_go, centre_at, is_centre_at, at_corner}
+use Rattle.ca_work.proofs.Spent.{spends_same}
 
 -- the centre that a call gives shows the plane later
 pub centre_ok : {E : Type 0} (next : List ℕ → ℕ) (old new : List Node) → IsSoundStore old → Grows old new → (r : Result ℕ E) (id k j : ℕ) (p : ℤ → ℤ → ℕ) (a b : ℤ) → ShowsAt old id (suc (suc k)) p a b

@@ -14,36 +14,23 @@ use Rattle.ca_quad.specs.Trees.{ShowsSquare, AreFour, AreQuarters}
 use Rattle.ca_plane.specs.Shown.{from_corner, ShowsPlane}
 use Rattle.ca_quad.proofs.Growth.{grows_on}
 use Rattle.ca_quad.proofs.Cells.{cells_stay, of_stays}
-use Rattle.ca_run.specs.declared.leaper.trio.Trio.{Trio}
+use Rattle.ca_bricks.specs.declared.trio.Trio.{Trio}
 use Rattle.ca_run.specs.Centre.{centre, IsCentre, IsLeap}
-use Rattle.ca_run.specs.Leaping.{Spent, Spends, LeaperView, LeaperGrows}
-use Rattle.ca_run.specs.inner.Shown.{ShowsAt, FourShow, ThreeShow, TwoShow, AreThree, side}
+use Rattle.ca_work.specs.Spending.{Spent, Spends}
+use Rattle.ca_run.specs.Leaping.{LeaperView, LeaperGrows}
+use Rattle.ca_run.specs.inner.Shown.{ShowsAt, FourShow, ThreeShow, TwoShow, AreThree}
+use Rattle.ca_bricks.specs.Overlaps.{side}
 use Rattle.ca_run.specs.inner.Pages.{MemoView, HasFullLeap, HasSingle, RemembersNoMore, IsBoundedMemo}
 use Rattle.ca_run.specs.inner.Slots.{SlotsView, HasRecent}
 use Rattle.ca_run.specs.Memo.{LeapResult, FullLeap, Centre, LeapOfFour, IsTrueResult}
 use Rattle.ca_run.specs.inner.Tables.{IsLeaper}
 use Rattle.ca_run.proofs.LeapResults.{AreFullLeaps, AreSingles, AreRecentCentres, AreRecentLeaps, full_leaps_of, singles_of, centres_of, leaps_of, leaper_with}
 use Rattle.ca_plane.proofs.After.{after_again}
-use Rattle.ca_run.proofs.ShowsPlane.{quarters_each, looks_together, looks_nw, looks_ne, looks_sw, looks_se, looks_centre}
+use Rattle.ca_run.proofs.ShowsPlane.{looks_together, looks_nw, looks_ne, looks_sw, looks_se, looks_centre}
+use Rattle.ca_bricks.proofs.Overlaps.{quarters_each}
 use Rattle.ca_plane.proofs.Shown.{looks_from}
 
 -- ---- growth
-
--- work is done, and then more
-pub spends_again : {old mid new : Spent} → Spends old mid → Spends mid new → Spends old new
-spends_again g h = record { limit = h.limit ∙ g.limit; rises = omega (arith, g.rises, h.rises) }
-
--- nothing is done
-pub spends_same : (spent : Spent) → Spends spent spent
-spends_same spent = record { limit = refl; rises = omega arith }
-
-pub goes_on_again : (Rule : Type 0) (old mid new : LeaperView Rule) → LeaperGrows Rule old mid → LeaperGrows Rule mid new → LeaperGrows Rule old new
-goes_on_again Rule old mid new g h = record {
-  rule = h.rule ∙ g.rule;
-  grows = grows_on old.nodes mid.nodes new.nodes g.grows h.grows;
-  memo = h.memo ∙ g.memo;
-  spends = spends_again g.spends h.spends;
-}
 
 -- four squares of one level
 pub four_of : {nodes : List Node} {k nw ne sw se : ℕ} → k ≤ 124 → IsOf nodes nw k → IsOf nodes ne k → IsOf nodes sw k → IsOf nodes se k → AreFour nodes k nw ne sw se

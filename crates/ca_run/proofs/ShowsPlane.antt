@@ -9,14 +9,7 @@ use Rattle.ca_plane.proofs.Numbers.{below_or_not}
 use Rattle.ca_quad.proofs.Cells.{in_nw, in_ne, in_sw, in_se, at_nw, at_ne, at_sw, at_se}
 use Rattle.ca_plane.specs.Box.{IsWithin}
 use Rattle.ca_run.specs.Centre.{centre}
-use Rattle.ca_run.specs.inner.Shown.{QuartersShow}
 use Rattle.ca_plane.proofs.After.{after_near, after_seen}
-
--- where each quarter shows something else, or in another way, so does the whole
-pub quarters_each : {T U : Type 0} {Was : T → (ℤ → ℤ → ℕ) → ℤ → ℤ → Type 0} {wide : ℤ} {nw ne sw se : T} {p : ℤ → ℤ → ℕ} {a b : ℤ} (Is : U → (ℤ → ℤ → ℕ) → ℤ → ℤ → Type 0) (w x y z : U) (q : ℤ → ℤ → ℕ)
-    → QuartersShow Was wide nw ne sw se p a b → ((u v : ℤ) → Was nw p u v → Is w q u v) → ((u v : ℤ) → Was ne p u v → Is x q u v) → ((u v : ℤ) → Was sw p u v → Is y q u v)
-    → ((u v : ℤ) → Was se p u v → Is z q u v) → QuartersShow Is wide w x y z q a b
-quarters_each Is w x y z q h f g i j = record { at_nw = f _ _ h.at_nw; at_ne = g _ _ h.at_ne; at_sw = i _ _ h.at_sw; at_se = j _ _ h.at_se }
 
 module _ (s : ℕ) (nw ne sw se : ℕ → ℕ → ℕ) (p : ℤ → ℤ → ℕ) (a b : ℤ) where
   -- four that lie together show it where each of them does at its place

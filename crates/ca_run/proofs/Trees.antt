@@ -16,7 +16,8 @@ use Rattle.ca_plane.proofs.Numbers.{below_or_not}
 use Rattle.ca_quad.proofs.Cells.{cell_ends, cells_stay}
 use Rattle.ca_quad.proofs.Edges.{outside_x, outside_y}
 use Rattle.ca_run.specs.Centre.{IsCentre}
-use Rattle.ca_run.specs.inner.Shown.{ShowsAt, side}
+use Rattle.ca_run.specs.inner.Shown.{ShowsAt}
+use Rattle.ca_bricks.specs.Overlaps.{side}
 use Rattle.ca_run.specs.inner.Padded.{IsPadded}
 use Rattle.ca_run.specs.inner.Beyond.{IsBeyond, DiesBeyond}
 use Rattle.ca_plane.proofs.After.{after_same, after_dead}

@@ -5,7 +5,8 @@ use Rattle.ca_quad.specs.declared.node.Node.{Node}
 use Rattle.ca_quad.specs.Squares.{IsOf, cell_of}
 use Rattle.ca_quad.specs.Trees.{AreFour}
 use Rattle.ca_plane.specs.Shown.{from_corner}
-use Rattle.ca_run.specs.inner.Shown.{ShowsAt, FourShow, side}
+use Rattle.ca_run.specs.inner.Shown.{ShowsAt, FourShow}
+use Rattle.ca_bricks.specs.Overlaps.{side}
 
 -- the centre of a square after n generations, counted from the centre's own corner: the square lies with its upper left
 -- cell at (0, 0), all else is empty, and the centre begins a quarter of the side further in

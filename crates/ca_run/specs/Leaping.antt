@@ -1,25 +1,8 @@
 -- What a leaper works on, and what its calls leave and cost.
-use Rattle.std.specs.Prelude.{◌≡◌, ℕ, ◌+◌, ◌*◌, ◌≤◌, List, length, Result, IfErr}
+use Rattle.std.specs.Prelude.{◌≡◌, ℕ, ◌+◌, ◌*◌, ◌≤◌, List, length}
 use Rattle.ca_quad.specs.declared.node.Node.{Node}
 use Rattle.ca_quad.specs.Sound.{Grows}
-use Rattle.ca_run.specs.declared.fault.LeapFault.{LeapFault}
-use Rattle.ca_run.specs.declared.fault.LeapFault.TheVariants.{Work}
-
--- how many units of work are used up, and how many may be; a unit is the centre of a square, or the square in the middle of
--- four, that wasn't remembered; a brick of a plane that is stepped, one generation on; a square that is made of such bricks; or
--- up to 4096 squares of a store out of which a tree is copied
-pub record Spent : Type 0 where
-  pub used : ℕ
-  pub limit : ℕ
-
--- the limit is the same, and no unit is given back
-pub record Spends (old new : Spent) : Type 0 where
-  pub limit : new.limit ≡ old.limit
-  pub rises : old.used ≤ new.used
-
--- want of work is told only where all that may be used is
-abbrev pub EndsAtLimit : {T : Type 0} → Spent → Result T LeapFault → Type 0
-EndsAtLimit spent result = IfErr result (λ fault. fault ≡ Work → spent.used ≡ spent.limit)
+pub use Rattle.ca_work.specs.Spending.{Spent, Spends, EndsAtLimit}
 
 -- a rule, the squares of a store, how many entries the memo and its two tables may have together, and the work that was done
 -- and may be

@@ -1,9 +1,5 @@
-pub mod Reach
-pub mod Later
-pub mod Primes
 pub mod Centre
 pub mod Leaping
 pub mod Advanced
-pub mod Stepped
 pub mod Memo
 pub mod inner

@@ -1,12 +1,5 @@
-pub mod Order
-pub mod CellsAhead
-pub mod Row
-pub mod Window
-pub mod ReachedTree
-pub mod Written
 pub mod Shown
 pub mod Padded
-pub mod Words
 pub mod Centres
 pub mod Beyond
 pub mod AgedPlanes

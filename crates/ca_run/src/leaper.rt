@@ -1,11 +1,12 @@
 //! Leaps by powers of two over shared squares (Gosper, "Exploiting regularities in large cellular spaces").
 
-ghost use Rattle.std.specs.Prelude.{◌≡◌, ℕ, suc, ◌+◌, ◌≤◌, ◌/◌, ℤ, max, OnOk, IfOk, IfSome};
+ghost use Rattle.std.specs.Prelude.{◌≡◌, ℕ, suc, ◌+◌, ◌≤◌, ◌/◌, ℤ, max, OnOk, IfOk, IfErr, IfSome};
 ghost use Rattle.ca_quad.specs.Squares.{IsOf, one_cell, joined_cells};
 ghost use Rattle.ca_quad.specs.Sound.{IsSoundStore};
 ghost use Rattle.ca_quad.specs.Trees.{AreFour, ShowsSquare};
 ghost use Rattle.ca_run.specs.Centre.{IsCentre, IsLeap};
-ghost use Rattle.ca_run.specs.Leaping.{LeaperGrows, EndsAtLimit};
+ghost use Rattle.ca_run.specs.Leaping.{LeaperGrows};
+ghost use Rattle.ca_work.specs.Spending.{EndsAtLimit};
 ghost use Rattle.ca_run.specs.inner.AtCost.{GoesOnAtCost};
 ghost use Rattle.ca_bricks.specs.Counting.{GoesBy};
 ghost use Rattle.ca_run.specs.inner.Shown.{ShowsAt, FourShow};
@@ -26,25 +27,19 @@ mod key;
 mod lanes;
 mod memo;
 mod milestone;
-mod pace;
 mod page;
 mod parts;
 mod planes;
 mod slot_key;
 mod slots;
 mod squares;
-mod tile;
 mod to_aged_grid;
 mod to_grid;
-mod trio;
-mod wide_square;
-mod words;
 
-use crate::fault::LeapFault;
 use crate::watch::Watch;
-use crate::work::Work;
 use ca_plane::{Automaton, Counting, Memory};
 use ca_quad::{Id, Store};
+use ca_work::{LeapFault, Work};
 use memo::Memo;
 pub use milestone::Milestone;
 use slots::Slots;
@@ -170,6 +165,7 @@ impl<A: Automaton> Leaper<A> {
         ensures most { self.new.spent.used ≤ self.old.spent.used + units }
         ensures counts { OnOk result (self.new.spent.used ≡ self.old.spent.used + units) }
         ensures work { EndsAtLimit self.new.spent result }
+        ensures err { IfErr result (λ fault. fault ≡ LeapFault.Work) }
     {
         self.charge(units)
     }
@@ -180,6 +176,7 @@ impl<A: Automaton> Leaper<A> {
         ensures same { self.new.nodes ≡ self.old.nodes }
         ensures counts { OnOk result (self.new.spent.used ≡ self.old.spent.used + units) }
         ensures work { EndsAtLimit self.new.spent result }
+        ensures err { IfErr result (λ fault. fault ≡ LeapFault.Work) }
     {
         let _ = &self.store;
         self.work.charge(units)

@@ -2,18 +2,11 @@
 #![tactic(auto)]
 
 mod bricks;
-mod fault;
-mod generations;
-pub mod laws;
 mod leaper;
-mod points;
-mod row;
 mod watch;
-mod window;
-mod work;
 
 pub use ca_bricks::kernel16;
-pub use fault::{LeapFault, RunFault};
-pub use generations::{step, steps};
+pub use ca_steps::{RunFault, laws, step, steps};
+pub use ca_work::LeapFault;
 pub use leaper::{Leaper, Milestone};
 pub use watch::{Unwatched, Watch};

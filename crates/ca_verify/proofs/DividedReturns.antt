@@ -10,9 +10,9 @@ use Rattle.ca_plane.proofs.Shifts.{cell-shifted}
 use Rattle.ca_quad.specs.declared.node.Node.{Node}
 use Rattle.ca_quad.specs.declared.tree.Tree.{Tree}
 use Rattle.ca_quad.specs.Trees as trees
-use Rattle.ca_run.specs.Primes.{IsPrime}
-use Rattle.ca_run.proofs.Primes.{quotient_some, swapped}
-use Rattle.ca_run.proofs.Returns.{back_times}
+use Rattle.ca_steps.specs.Primes.{IsPrime}
+use Rattle.ca_steps.proofs.Primes.{quotient_some, swapped}
+use Rattle.ca_steps.proofs.Returns.{back_times}
 use Rattle.ca_answers.specs.declared.verdict.Refutation.TheVariants.{Earlier}
 use Rattle.ca_text.specs.declared.asks.Forbidden.{Forbidden}
 use Rattle.ca_text.specs.declared.asks.Forbidden.TheVariants.{Nothing, InPlace, Anywhere, EmptyPlane}

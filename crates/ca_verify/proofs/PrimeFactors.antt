@@ -4,8 +4,8 @@ use Rattle.std.specs.Int.{◌∣◌}
 use Rattle.std.proofs.Math.Nat.{mul-le-mul, mul-le-mul_left, mul_comm, div-mul_cancel, div-lt_self, dvd-mul_right, dvd_refl, dvd_trans, dvd_iff_mod-eq-zero}
 use Rattle.std.proofs.lemmas.Nat.{le-div}
 use Rattle.std.proofs.lemmas.Bool.{cases_eq, cases_lt}
-use Rattle.ca_run.specs.Primes.{IsPrime}
-use Rattle.ca_run.proofs.Primes.{prime_at}
+use Rattle.ca_steps.specs.Primes.{IsPrime}
+use Rattle.ca_steps.proofs.Primes.{prime_at}
 
 -- a quotient divides too
 pub quotient_divides : (n q : ℕ) → q ∣ n → n / q ∣ n

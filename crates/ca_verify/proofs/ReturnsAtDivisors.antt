@@ -7,7 +7,7 @@ use Rattle.std.proofs.lemmas.Bool.{cases_eq}
 use Rattle.ca_plane.specs.Plane.{Picture, cell, shifted}
 use Rattle.ca_plane.specs.Generations.{after, IsAfter}
 use Rattle.ca_plane.proofs.After.{after_again, after_near}
-use Rattle.ca_run.proofs.Returns.{back_times, moved_between}
+use Rattle.ca_steps.proofs.Returns.{back_times, moved_between}
 use Rattle.ca_text.specs.Truth.{IsChanged, IsNowhere}
 use Rattle.ca_pattern.proofs.Searches.{search_within}
 

@@ -6,8 +6,8 @@ use Rattle.ca_plane.specs.Plane.{Picture, cell}
 use Rattle.ca_quad.specs.declared.node.Node.{Node}
 use Rattle.ca_quad.specs.declared.tree.Tree.{Tree}
 use Rattle.ca_quad.specs.Trees.{IsTrimmed}
-use Rattle.ca_run.specs.Leaping.{Spent}
-use Rattle.ca_run.proofs.Costs.{power_more}
+use Rattle.ca_work.specs.Spending.{Spent}
+use Rattle.ca_work.proofs.Powers.{power_more}
 use Rattle.ca_text.specs.declared.asks.Asks.{Asks}
 use Rattle.ca_text.specs.declared.asks.Forbidden.{Forbidden}
 use Rattle.ca_text.specs.declared.asks.Forbidden.TheVariants.{Nothing, InPlace, Anywhere, EmptyPlane}

@@ -4,8 +4,9 @@ ghost use Rattle.std.specs.Prelude.{◌≡◌, ◌+◌, ◌-◌, ◌*◌, ◌≤
 ghost use Rattle.ca_plane.specs.Plane.{Picture};
 ghost use Rattle.ca_plane.specs.Limits.{longest_period, most_generations};
 ghost use Rattle.ca_quad.specs.Trees.{cell};
-ghost use Rattle.ca_run.specs.Leaping.{LeaperGrows, EndsAtLimit};
-ghost use Rattle.ca_run.specs.Reach.{IsWiderByAtMost};
+ghost use Rattle.ca_run.specs.Leaping.{LeaperGrows};
+ghost use Rattle.ca_work.specs.Spending.{EndsAtLimit};
+ghost use Rattle.ca_steps.specs.Reach.{IsWiderByAtMost};
 ghost use Rattle.ca_answers.specs.Identified.{IsIdentity};
 ghost use Rattle.ca_answers.specs.declared.identity.Identity.TheVariants.{Unknown};
 ghost use Rattle.ca_identify.specs.inner.Stages.{IsFirst, IsLater, IsFirstBox, box_of};

@@ -3,7 +3,8 @@
 ghost use Rattle.std.specs.Prelude.{◌≡◌, ◌≤◌, ℕ, ℤ, IfOk, IsFalse, OnOk, MatchOption};
 ghost use Rattle.ca_quad.specs.Boxes.{IsLeastWideBox, AreSquareBoxes};
 ghost use Rattle.ca_quad.specs.Trees.{IsTree, cell};
-ghost use Rattle.ca_run.specs.Leaping.{LeaperGrows, EndsAtLimit};
+ghost use Rattle.ca_run.specs.Leaping.{LeaperGrows};
+ghost use Rattle.ca_work.specs.Spending.{EndsAtLimit};
 ghost use Rattle.ca_pattern.specs.PatternTrees.{IsNearTree};
 ghost use Rattle.ca_identify.specs.inner.Stages.{IsFirst, IsFirstBox, IsStage};
 ghost use Rattle.ca_pattern.specs.PatternTrees.{IsWideBox};

@@ -1,12 +1,14 @@
 -- Runs in a store of their own (our own).
-use Rattle.std.specs.Prelude.{◌≡◌, ℕ, ℤ, ◌+◌, ◌-◌, ◌*◌, ◌^◌, ◌<◌, ◌⊎◌, List, if◌then◌else◌}
+use Rattle.std.specs.Prelude.{◌≡◌, ℕ, ℤ, ◌<◌, ◌⊎◌, List}
 use Rattle.ca_quad.specs.declared.node.Node.{Node}
 use Rattle.ca_quad.specs.declared.tree.Tree.{Tree}
 use Rattle.ca_quad.specs.Sound.{IsSoundStore}
 use Rattle.ca_quad.specs.Trees.{IsTree, cell}
-use Rattle.ca_run.specs.Leaping.{LeaperView, Spends}
+use Rattle.ca_run.specs.Leaping.{LeaperView}
+use Rattle.ca_work.specs.Spending.{Spends}
 use Rattle.ca_run.specs.declared.leaper.dense.ReachedTree.{ReachedTree}
-use Rattle.ca_run.specs.declared.leaper.pace.Pace.{Pace}
+use Rattle.ca_work.specs.declared.pace.Pace.{Pace}
+use Rattle.ca_work.specs.Tries.{tries, most_tries}
 
 -- the tree has the level and the cells of a tree of another store
 pub record IsCopyOfTree (old : List Node) (tree : Tree) (new : List Node) (copy : Tree) : Type 0 where
@@ -20,14 +22,6 @@ pub record KeepsOn (Rule : Type 0) (old new : LeaperView Rule) : Type 0 where
   pub memo : new.memo ≡ old.memo
   pub sound : IsSoundStore new.nodes
   pub spends : Spends old.spent new.spent
-
--- what may still be tried before a leap succeeds: memory may be refused for the first time, the room may grow, leaps become shorter, the same leap be tried again, or squares be dropped
-abbrev pub tries : Pace → ℕ
-tries pace = (if pace.refused then 0 else 2 ^ 75) + (2 ^ 64 - pace.room) * 1024 + 8 * pace.digit + 2 * (3 - pace.repeats) + (if pace.fresh then 0 else 1)
-
--- more than may ever be tried
-abbrev pub most_tries : ℕ
-most_tries = 2 ^ 76
 
 -- a run is nearer to its end: it has reached more generations, or as many, and less may still be tried
 abbrev pub IsNearer : ReachedTree → Pace → ReachedTree → Pace → Type 0

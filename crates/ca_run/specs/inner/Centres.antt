@@ -5,8 +5,9 @@ use Rattle.ca_quad.specs.declared.node.Node.{Node}
 use Rattle.ca_quad.specs.Squares.{IsOf}
 use Rattle.ca_run.specs.declared.leaper.lanes.CentreWords.{CentreWords}
 use Rattle.ca_run.specs.declared.leaper.lanes.CentreWords.TheVariants.{One, Four}
-use Rattle.ca_run.specs.inner.Shown.{ShowsAt, side}
-use Rattle.ca_run.specs.inner.Words.{WordsShow}
+use Rattle.ca_run.specs.inner.Shown.{ShowsAt}
+use Rattle.ca_bricks.specs.Overlaps.{side}
+use Rattle.ca_bricks.specs.WordSquares.{WordSquareShows}
 use Rattle.ca_bricks.specs.Words.{WordShows}
 
 -- a square of level k + 2, whose centre after 2 ^ j generations is known from its own cells
@@ -17,7 +18,7 @@ pub record HasCentre (nodes : List Node) (id k j : ℕ) : Type 0 where
 -- the words are as many as a square of level k + 1 has, and show the plane from (a, b) on
 abbrev pub CentreShows : CentreWords → ℕ → (ℤ → ℤ → ℕ) → ℤ → ℤ → Type 0
 CentreShows (One word) k p a b = (k ≡ 2) × WordShows word p a b
-CentreShows (Four words) k p a b = (k ≡ 3) × WordsShow words p a b
+CentreShows (Four words) k p a b = (k ≡ 3) × WordSquareShows words p a b
 
 -- whatever plane the square shows, the words show what it is 2 ^ j generations later, a quarter of the side further in
 abbrev pub ShowsCentre : (List ℕ → ℕ) → List Node → ℕ → ℕ → ℕ → CentreWords → Type 0

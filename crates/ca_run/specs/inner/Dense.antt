@@ -6,7 +6,7 @@ use Rattle.ca_plane.specs.declared.counting.Ageing.{Ageing}
 use Rattle.ca_quad.specs.declared.node.Node.{Node}
 use Rattle.ca_quad.specs.Trees.{IsTree, cell, HoldsAll}
 use Rattle.ca_quad.specs.declared.tree.Tree.{Tree}
-use Rattle.ca_run.specs.declared.fault.LeapFault.{LeapFault}
+use Rattle.ca_work.specs.declared.fault.LeapFault.{LeapFault}
 use Rattle.ca_run.specs.Leaping.{Costs, LeaperView}
 use Rattle.ca_bricks.specs.Counting.{GoesBy}
 use Rattle.ca_run.specs.declared.leaper.dense.DenseRule.{DenseRule}

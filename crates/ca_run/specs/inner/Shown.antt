@@ -1,27 +1,16 @@
 -- Squares that show a plane from some place on (our own).
-use Rattle.std.specs.Prelude.{ℕ, ◌≤◌, ◌^◌, ℤ, pos, ◌+ℤ◌, List, [], ◌∷◌, Option, Some, None}
+use Rattle.std.specs.Prelude.{ℕ, ◌≤◌, ◌^◌, ℤ, List, [], ◌∷◌, Option, Some, None}
 use Rattle.ca_plane.specs.Shown.{ShowsPlane}
 use Rattle.ca_quad.specs.declared.node.Node.{Node}
 use Rattle.ca_quad.specs.Squares.{IsOf, cell_of}
-use Rattle.ca_run.specs.declared.leaper.trio.Trio.{Trio}
-use Rattle.ca_run.specs.declared.leaper.trio.Rows.{Rows}
+use Rattle.ca_bricks.specs.declared.trio.Trio.{Trio}
+use Rattle.ca_bricks.specs.declared.trio.Rows.{Rows}
+use Rattle.ca_bricks.specs.Overlaps.{side, QuartersShow, PairShows, TrioShows, RowsShow}
 
 -- the id names a square of this level, which shows the plane from (a, b) on
 pub record ShowsAt (nodes : List Node) (id level : ℕ) (p : ℤ → ℤ → ℕ) (a b : ℤ) : Type 0 where
   pub is_square : IsOf nodes id level
   pub looks : ShowsPlane (2 ^ level) (cell_of nodes level id) p a b
-
--- the side of a square of this level
-abbrev pub side : ℕ → ℤ
-side level = pos (2 ^ level)
-
--- four of a kind show the plane, as the quarters of a square, each so wide: together they show it from (a, b) on
-pub record QuartersShow {T : Type 0} (Shows : T → (ℤ → ℤ → ℕ) → ℤ → ℤ → Type 0) (wide : ℤ) (nw ne sw se : T)
-    (p : ℤ → ℤ → ℕ) (a b : ℤ) : Type 0 where
-  pub at_nw : Shows nw p a b
-  pub at_ne : Shows ne p (a +ℤ wide) b
-  pub at_sw : Shows sw p a (b +ℤ wide)
-  pub at_se : Shows se p (a +ℤ wide) (b +ℤ wide)
 
 -- four squares of this level show it
 abbrev pub FourShow : List Node → (level nw ne sw se : ℕ) → (ℤ → ℤ → ℕ) → ℤ → ℤ → Type 0
@@ -33,13 +22,6 @@ pub record AreThree (nodes : List Node) (level : ℕ) (three : Trio ℕ) : Type 
   pub middle : IsOf nodes three.middle level
   pub east : IsOf nodes three.east level
 
--- three of a kind, side by side and each so wide, show the plane from (a, b) on
-pub record TrioShows {T : Type 0} (Shows : T → (ℤ → ℤ → ℕ) → ℤ → ℤ → Type 0) (wide : ℤ) (three : Trio T)
-    (p : ℤ → ℤ → ℕ) (a b : ℤ) : Type 0 where
-  pub at_west : Shows three.west p a b
-  pub at_middle : Shows three.middle p (a +ℤ wide) b
-  pub at_east : Shows three.east p (a +ℤ wide +ℤ wide) b
-
 -- three squares of this level show it
 abbrev pub ThreeShow : List Node → (level : ℕ) → Trio ℕ → (ℤ → ℤ → ℕ) → ℤ → ℤ → Type 0
 ThreeShow nodes level three p a b = TrioShows (λ id. ShowsAt nodes id level) (side level) three p a b
@@ -50,22 +32,9 @@ pub record AreNine (nodes : List Node) (level : ℕ) (rows : Rows ℕ) : Type 0 
   pub middle : AreThree nodes level rows.middle
   pub south : AreThree nodes level rows.south
 
--- nine of a kind, in three rows, show the plane: together they show it from (a, b) on
-pub record RowsShow {T : Type 0} (Shows : T → (ℤ → ℤ → ℕ) → ℤ → ℤ → Type 0) (wide : ℤ) (rows : Rows T)
-    (p : ℤ → ℤ → ℕ) (a b : ℤ) : Type 0 where
-  pub at_north : TrioShows Shows wide rows.north p a b
-  pub at_middle : TrioShows Shows wide rows.middle p a (b +ℤ wide)
-  pub at_south : TrioShows Shows wide rows.south p a (b +ℤ wide +ℤ wide)
-
 -- nine squares of this level show it
 abbrev pub NineShow : List Node → (level : ℕ) → Rows ℕ → (ℤ → ℤ → ℕ) → ℤ → ℤ → Type 0
 NineShow nodes level rows p a b = RowsShow (λ id. ShowsAt nodes id level) (side level) rows p a b
-
--- two of a kind, side by side and each so wide, show the plane from (a, b) on
-pub record PairShows {T : Type 0} (Shows : T → (ℤ → ℤ → ℕ) → ℤ → ℤ → Type 0) (wide : ℤ) (west east : T)
-    (p : ℤ → ℤ → ℕ) (a b : ℤ) : Type 0 where
-  pub at_west : Shows west p a b
-  pub at_east : Shows east p (a +ℤ wide) b
 
 -- two squares of this level show it
 abbrev pub TwoShow : List Node → (level west east : ℕ) → (ℤ → ℤ → ℕ) → ℤ → ℤ → Type 0

@@ -5,16 +5,15 @@ ghost use Rattle.ca_plane.specs.Generations.{cells_after};
 ghost use Rattle.ca_plane.specs.Limits.{most_generations};
 ghost use Rattle.ca_bricks.specs.Aged.{AgedGridShows, CanAgeFor, IsBeside};
 ghost use Rattle.ca_quad.specs.Trees.{cell};
-ghost use Rattle.ca_run.specs.Leaping.{Spends, EndsAtLimit};
+ghost use Rattle.ca_work.specs.Spending.{Spends, EndsAtLimit};
 
 use super::run::count_steps;
-use crate::fault::LeapFault;
 use crate::leaper::{Leaper, Milestone};
 use crate::watch::Watch;
-use crate::work::Work;
 use ca_bricks::{AgedGrid, Queue, aged_generation, wake_next};
 use ca_plane::{Ageing, Automaton};
 use ca_quad::Tree;
+use ca_work::{LeapFault, Work};
 use std::alloc::Global;
 
 /// The grid n generations on. The run began with a tree, so many generations before. Each brick that is

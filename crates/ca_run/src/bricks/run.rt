@@ -5,15 +5,14 @@ ghost use Rattle.ca_plane.specs.Generations.{cells_after};
 ghost use Rattle.ca_plane.specs.Limits.{most_generations};
 ghost use Rattle.ca_bricks.specs.Bricks.{GridShows, CanStepFor, IsInPlace};
 ghost use Rattle.ca_quad.specs.Trees.{cell};
-ghost use Rattle.ca_run.specs.Leaping.{Spends, EndsAtLimit};
+ghost use Rattle.ca_work.specs.Spending.{Spends, EndsAtLimit};
 
-use crate::fault::LeapFault;
 use crate::leaper::{Leaper, Milestone};
 use crate::watch::Watch;
-use crate::work::Work;
 use ca_bricks::{BrickGrid, Queue, blank_bricks, first_bricks, generation, wake_next};
 use ca_plane::{Automaton, Counting};
 use ca_quad::Tree;
+use ca_work::{LeapFault, Work};
 use std::alloc::Global;
 
 // Counts the bricks of a list before they are stepped, but no more than there are.

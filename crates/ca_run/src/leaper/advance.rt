@@ -4,18 +4,18 @@ ghost use Rattle.std.specs.Prelude.{◌≡◌, ℤ, ◌+◌, ◌<◌, ◌≤◌,
 ghost use Rattle.ca_quad.specs.Sound.{IsSoundStore};
 ghost use Rattle.ca_quad.specs.Trees.{IsTree, cell, IsTrimmed};
 ghost use Rattle.ca_run.specs.Advanced.{CanAdvance, IsAdvanced, Advances};
-ghost use Rattle.ca_run.specs.Leaping.{LeaperGrows, EndsAtLimit};
+ghost use Rattle.ca_run.specs.Leaping.{LeaperGrows};
+ghost use Rattle.ca_work.specs.Spending.{EndsAtLimit};
 ghost use Rattle.ca_run.specs.inner.AtCost.{GoesOnAtCost};
 ghost use Rattle.ca_run.specs.inner.Dense.{HasReached, HasLeapt, HasParted};
 ghost use Rattle.ca_run.specs.inner.Padded.{IsPadded};
 
 use super::dense::ReachedTree;
-use super::pace::{self, is_long};
 use super::{Leaper, Milestone};
-use crate::fault::LeapFault;
 use crate::watch::{Unwatched, Watch};
 use ca_plane::{Automaton, Memory};
 use ca_quad::Tree;
+use ca_work::{LeapFault, is_long, room_beside};
 
 impl<A: Automaton> Leaper<A> {
     /// The tree n generations on. Its level is at most 64, and n at most 2^60.
@@ -76,7 +76,7 @@ impl<A: Automaton> Leaper<A> {
         let mut reached = reached;
         let long = is_long(first.level, n);
         let squares = self.store.count();
-        let room = pace::room_beside(squares, watch.most_squares());
+        let room = room_beside(squares, watch.most_squares());
         self.set_room(if long { room } else { usize::MAX });
         match self.leap_on(first, &mut reached, n, watch) {
             Ok(()) => Ok(reached.tree),

@@ -4,7 +4,7 @@ ghost use Rattle.std.specs.Prelude.{◌≡◌, ◌+◌, ◌*◌, ◌<◌, ◌≤
 ghost use Rattle.ca_plane.specs.Generations.{cells_after};
 ghost use Rattle.ca_plane.specs.Limits.{most_generations};
 ghost use Rattle.ca_quad.specs.Trees.{IsTree, cell};
-ghost use Rattle.ca_run.specs.Leaping.{EndsAtLimit};
+ghost use Rattle.ca_work.specs.Spending.{EndsAtLimit};
 ghost use Rattle.ca_run.specs.inner.AtCost.{GoesOnAtCost};
 ghost use Rattle.ca_bricks.specs.Aged.{AgedGridShows, IsBeside};
 ghost use Rattle.ca_bricks.specs.Bricks.{LiesNearOrigin, IsAligned};
@@ -13,11 +13,11 @@ ghost use Rattle.ca_run.specs.inner.Dense.{HasReached, AgesBy};
 use super::Leaper;
 use super::dense::{AT_A_TIME, MOST_GROWTH, ReachedTree, Stretch};
 use crate::bricks::aged_grid_after;
-use crate::fault::LeapFault;
 use crate::watch::Watch;
 use ca_bricks::AgedGrid;
 use ca_plane::{Ageing, Automaton, Memory};
 use ca_quad::Tree;
+use ca_work::LeapFault;
 use std::alloc::Global;
 
 impl<A: Automaton> Leaper<A> {

@@ -6,19 +6,20 @@ ghost use Rattle.std.specs.Prelude.{IfOk, OnOk, OnErr};
 ghost use Rattle.ca_quad.specs.Sound.{Grows};
 ghost use Rattle.ca_quad.specs.Trees.{IsTree};
 ghost use Rattle.ca_run.specs.Advanced.{CanAdvance, IsAdvanced};
-ghost use Rattle.ca_run.specs.Leaping.{LeaperGrows, EndsAtLimit};
-ghost use Rattle.ca_run.specs.inner.Apart.{IsCopyOfTree, KeepsOn, IsNearer, tries};
+ghost use Rattle.ca_run.specs.Leaping.{LeaperGrows};
+ghost use Rattle.ca_work.specs.Spending.{EndsAtLimit};
+ghost use Rattle.ca_run.specs.inner.Apart.{IsCopyOfTree, KeepsOn, IsNearer};
+ghost use Rattle.ca_work.specs.Tries.{tries};
 ghost use Rattle.ca_run.specs.inner.Dense.{HasReached};
 ghost use Rattle.ca_run.specs.inner.InUse.{AreTrueLeaps};
 
 use super::dense::ReachedTree;
 use super::full_leap::FullLeap;
-use super::pace::Pace;
 use super::{Leaper, Milestone};
-use crate::fault::LeapFault;
 use crate::watch::Watch;
 use ca_plane::{Automaton, Memory};
 use ca_quad::{SquareMap, Store, Tree};
+use ca_work::{LeapFault, Pace};
 use std::mem;
 
 // How many squares that are copied cost a unit of work.

@@ -5,18 +5,19 @@ ghost use Rattle.ca_plane.specs.Generations.{cells_after};
 ghost use Rattle.ca_quad.specs.Squares.{IsOf};
 ghost use Rattle.ca_quad.specs.Trees.{AreFour};
 ghost use Rattle.ca_run.specs.Centre.{IsCentre, IsLeap};
-ghost use Rattle.ca_run.specs.Leaping.{EndsAtLimit};
+ghost use Rattle.ca_work.specs.Spending.{EndsAtLimit};
 ghost use Rattle.ca_run.specs.inner.AtCost.{GoesOnAtCost};
 ghost use Rattle.ca_run.specs.inner.Centres.{HasCentre};
 ghost use Rattle.ca_run.specs.inner.Shown.{ShowsAt, FourShow, TwoShow, ThreeShow, NineShow, AreThree};
-ghost use Rattle.ca_run.specs.inner.Shown.{AreNine, side, generations, IsTimely};
+ghost use Rattle.ca_run.specs.inner.Shown.{AreNine, generations, IsTimely};
+ghost use Rattle.ca_bricks.specs.Overlaps.{side};
 
 use super::Leaper;
-use super::trio::{Rows, Trio};
-use crate::fault::LeapFault;
 use crate::watch::Watch;
+use ca_bricks::{Rows, Trio};
 use ca_plane::Automaton;
 use ca_quad::Id;
+use ca_work::LeapFault;
 
 // A square's grain is the level of its sixteen parts: its own level is that and 2.
 impl<A: Automaton> Leaper<A> {

@@ -4,7 +4,8 @@ ghost use Rattle.std.specs.Prelude.{◌≡◌, ◌+◌, ◌*◌, ◌<◌, ◌≤
 ghost use Rattle.ca_plane.specs.Generations.{cells_after};
 ghost use Rattle.ca_plane.specs.Limits.{most_generations};
 ghost use Rattle.ca_quad.specs.Trees.{IsTree, cell};
-ghost use Rattle.ca_run.specs.Leaping.{LeaperGrows, EndsAtLimit};
+ghost use Rattle.ca_run.specs.Leaping.{LeaperGrows};
+ghost use Rattle.ca_work.specs.Spending.{EndsAtLimit};
 ghost use Rattle.ca_run.specs.inner.AtCost.{GoesOnAtCost};
 ghost use Rattle.ca_bricks.specs.Counting.{GoesBy};
 ghost use Rattle.ca_bricks.specs.Bricks.{GridShows, IsInPlace, LiesNearOrigin, IsAligned};
@@ -14,11 +15,11 @@ ghost use Rattle.ca_run.specs.inner.Frames.{IsReadByBricks, IsGridFrame, IsFrame
 use super::Leaper;
 use super::aged_plane::TwoStates;
 use crate::bricks::{Frame, frame_of, grid_after};
-use crate::fault::LeapFault;
 use crate::watch::Watch;
 use ca_bricks::BrickGrid;
 use ca_plane::{Ageing, Automaton, Counting, Memory};
 use ca_quad::{Tree, WideBounds};
+use ca_work::LeapFault;
 use std::alloc::Global;
 
 // The fewest generations for which it pays to read all bricks.

@@ -9,10 +9,10 @@ ghost use Rattle.ca_bricks.specs.Aged.{AgedGridShows, IsAgedGrid};
 
 use super::Leaper;
 use super::from_grid::SquareGrid;
-use crate::fault::LeapFault;
 use ca_bricks::{AgedGrid, WordPlace};
 use ca_plane::{Automaton, Memory};
 use ca_quad::Id;
+use ca_work::LeapFault;
 
 // How many squares the parts of one of 8 by 8 cells are, down to 2 by 2.
 const PARTS: u64 = 20;

@@ -4,7 +4,7 @@ ghost use Rattle.std.specs.Prelude.{◌≡◌, true, ℕ, suc, ◌+◌, ◌-◌,
 ghost use Rattle.std.specs.Prelude.{ℤ, pos, neg_ℤ, ◌+ℤ◌, ◌<ℤ◌, ◌≤ℤ◌, IfOk};
 ghost use Rattle.ca_quad.specs.Squares.{IsOf};
 ghost use Rattle.ca_quad.specs.Trees.{IsTree, cell};
-ghost use Rattle.ca_run.specs.Leaping.{EndsAtLimit};
+ghost use Rattle.ca_work.specs.Spending.{EndsAtLimit};
 ghost use Rattle.ca_run.specs.inner.AtCost.{GoesOnAtCost};
 ghost use Rattle.ca_run.specs.inner.Shown.{ShowsAt};
 ghost use Rattle.ca_bricks.specs.declared.grid.BrickGrid.{BrickGrid};
@@ -13,10 +13,10 @@ ghost use Rattle.ca_bricks.specs.Bricks.{IsGrid, GridShows, HasMargin, IsNearGri
 ghost use Rattle.ca_bricks.specs.Words.{eight};
 
 use super::Leaper;
-use crate::fault::LeapFault;
 use ca_bricks::{AgedGrid, BrickGrid, QuarterPlaces, WordPlace};
 use ca_plane::{Automaton, Memory};
 use ca_quad::{Id, Tree};
+use ca_work::LeapFault;
 
 /// Grids of which squares are made.
 pub(super) trait SquareGrid {

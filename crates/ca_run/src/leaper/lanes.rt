@@ -6,7 +6,7 @@ ghost use Rattle.ca_run.specs.inner.AtCost.{GoesOnAtCost};
 ghost use Rattle.ca_run.specs.inner.Centres.{HasCentre, ShowsCentre};
 
 use super::Leaper;
-use super::words::Words;
+use ca_bricks::WordSquare;
 use ca_plane::{Automaton, Memory};
 use ca_quad::Id;
 
@@ -14,7 +14,7 @@ use ca_quad::Id;
 #[derive(Clone, Copy, Drop)]
 pub(super) enum CentreWords {
     One(u64),
-    Four(Words),
+    Four(WordSquare),
 }
 
 // A square's grain is the level of its sixteen parts: its own level is that and 2.

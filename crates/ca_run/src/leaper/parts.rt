@@ -5,7 +5,8 @@ ghost use Rattle.ca_quad.specs.Squares.{IsOf};
 ghost use Rattle.ca_quad.specs.Sound.{IsSoundStore};
 ghost use Rattle.ca_quad.specs.Trees.{AreFour};
 ghost use Rattle.ca_run.specs.inner.AtCost.{GoesOnAtCost};
-ghost use Rattle.ca_run.specs.inner.Shown.{ShowsAt, FourShow, side};
+ghost use Rattle.ca_run.specs.inner.Shown.{ShowsAt, FourShow};
+ghost use Rattle.ca_bricks.specs.Overlaps.{side};
 
 use super::Leaper;
 use ca_plane::{Automaton, Memory};

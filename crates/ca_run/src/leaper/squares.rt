@@ -4,12 +4,11 @@ ghost use Rattle.std.specs.Prelude.{ℕ, ℤ, IfOk, IfSome};
 ghost use Rattle.ca_quad.specs.Squares.{IsOf};
 ghost use Rattle.ca_run.specs.inner.AtCost.{GoesOnAtCost};
 ghost use Rattle.ca_run.specs.inner.Shown.{ShowsAt};
-ghost use Rattle.ca_run.specs.inner.Words.{WordsShow, WideSquareShows};
+ghost use Rattle.ca_bricks.specs.WordSquares.{WordSquareShows, WideSquareShows};
 ghost use Rattle.ca_bricks.specs.Words.{WordShows};
 
 use super::Leaper;
-use super::wide_square::WideSquare;
-use super::words::Words;
+use ca_bricks::{WideSquare, WordSquare};
 use ca_plane::{Automaton, Memory};
 use ca_quad::Id;
 
@@ -24,13 +23,13 @@ impl<A: Automaton> Leaper<A> {
     }
 
     // The words of a square of 16 by 16 cells, where it has no state above 1.
-    pub(super) fn words(&self, id: Id) -> Option<Words>
+    pub(super) fn words(&self, id: Id) -> Option<WordSquare>
         requires { IsOf self.now.nodes id 4 }
         ensures { (p : ℤ → ℤ → ℕ) (a b : ℤ) → ShowsAt self.now.nodes id 4 p a b
-            → IfSome result (λ words. WordsShow words p a b) }
+            → IfSome result (λ words. WordSquareShows words p a b) }
     {
         let (nw, ne, sw, se) = self.quarters(id, 2);
-        Some(Words {
+        Some(WordSquare {
             nw: self.word(nw)?,
             ne: self.word(ne)?,
             sw: self.word(sw)?,
@@ -64,8 +63,8 @@ impl<A: Automaton> Leaper<A> {
     }
 
     // The square of 16 by 16 cells of four words.
-    pub(super) fn from_words(&mut self, words: Words) -> Result<Id, Memory>
-        ensures shows { (p : ℤ → ℤ → ℕ) (a b : ℤ) → WordsShow words p a b
+    pub(super) fn from_words(&mut self, words: WordSquare) -> Result<Id, Memory>
+        ensures shows { (p : ℤ → ℤ → ℕ) (a b : ℤ) → WordSquareShows words p a b
             → IfOk result (λ id. ShowsAt self.new.nodes id 4 p a b) }
         ensures square { IfOk result (λ id. IsOf self.new.nodes id 4) }
         ensures at_cost { GoesOnAtCost A self.old self.new 0 5 }

@@ -3,7 +3,7 @@ use Rattle.std.specs.Prelude.{pos}
 use Rattle.ca_quad.specs.Shifted.{shifted_cells, IsShiftRefused}
 use Rattle.ca_plane.specs.Generations.{cells_after}
 use Rattle.ca_quad.specs.Trees.{cell}
-use Rattle.ca_run.specs.Leaping.{Spent}
+use Rattle.ca_work.specs.Spending.{Spent}
 use Rattle.ca_pattern.specs.LaterTrees.{IsWithinPlane, IsLaterTree}
 use Rattle.ca_evolution.specs.Steps.{step_work}
 use Rattle.ca_pattern.proofs.Corners.{fits_near}

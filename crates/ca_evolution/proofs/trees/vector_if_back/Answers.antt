@@ -5,7 +5,7 @@ use Rattle.ca_quad.specs.Expanded.{HasCellOutsidePlane}
 use Rattle.ca_quad.specs.Shifted.{shifted_cells}
 use Rattle.ca_quad.specs.Trees.{cell}
 use Rattle.ca_quad.proofs.Trims.{trees_stay}
-use Rattle.ca_run.proofs.ShownPlanes.{goes_on_again}
+use Rattle.ca_run.proofs.LeaperGrowth.{goes_on_again}
 use Rattle.ca_pattern.proofs.Corners.{not_leaves, no_move}
 use Rattle.ca_evolution.proofs.trees.vector_if_back.Goals as goal
 

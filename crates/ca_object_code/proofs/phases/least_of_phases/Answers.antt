@@ -4,8 +4,8 @@ use Rattle.ca_plane.specs.Generations.{cells_after}
 use Rattle.ca_quad.specs.Boxes.{AreSquareBoxes}
 use Rattle.ca_quad.specs.Trees.{cell}
 use Rattle.ca_quad.proofs.Measures.{boxes_stay}
-use Rattle.ca_run.proofs.Leap.{goes_on_same}
-use Rattle.ca_run.proofs.ShownPlanes.{goes_on_again}
+use Rattle.ca_run.proofs.LeaperGrowth.{goes_on_same}
+use Rattle.ca_run.proofs.LeaperGrowth.{goes_on_again}
 use Rattle.ca_apgcode.specs.Objects.{IsLeastOfPhases}
 use Rattle.ca_apgcode.proofs.PhaseTexts.{least_none}
 use Rattle.ca_evolution.specs.Steps.{CanGoOn}

@@ -1,4 +1,4 @@
-use Rattle.ca_run.proofs.ShownPlanes.{goes_on_again}
+use Rattle.ca_run.proofs.LeaperGrowth.{goes_on_again}
 use Rattle.ca_pattern.proofs.LeaptTrees.{near_stays, ok_as}
 use Rattle.ca_verify.proofs.LeaptTrees.{case_stays, shown_stays, wrong_cell}
 use Rattle.ca_verify.proofs.decide.find_wrong_cell.Goals as goal

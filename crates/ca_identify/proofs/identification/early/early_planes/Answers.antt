@@ -5,8 +5,8 @@ use Rattle.ca_quad.specs.declared.tree.Tree.{Tree}
 use Rattle.ca_quad.specs.Boxes.{AreSquareBoxes}
 use Rattle.ca_quad.specs.Trees.{cell, IsTree, IsTrimmed}
 use Rattle.ca_quad.proofs.Measures.{boxes_stay}
-use Rattle.ca_run.proofs.Leap.{goes_on_same}
-use Rattle.ca_run.proofs.ShownPlanes.{goes_on_again}
+use Rattle.ca_run.proofs.LeaperGrowth.{goes_on_same}
+use Rattle.ca_run.proofs.LeaperGrowth.{goes_on_again}
 use Rattle.ca_identify.specs.declared.identification.stage.First.{First}
 use Rattle.ca_identify.specs.inner.Stages.{IsFirst, AreEarly}
 use Rattle.ca_evolution.specs.Steps.{CanGoOn}

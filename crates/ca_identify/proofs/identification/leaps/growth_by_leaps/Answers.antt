@@ -2,7 +2,7 @@ use Rattle.std.proofs.Common.{◌+◌, ◌≤◌, sym, subst, arith}
 use Rattle.std.specs.Prelude.{IfOk, IfSome}
 use Rattle.ca_plane.specs.Plane.{Picture}
 use Rattle.ca_run.specs.Leaping.{LeaperView, LeaperGrows}
-use Rattle.ca_run.proofs.Leap.{goes_on_same}
+use Rattle.ca_run.proofs.LeaperGrowth.{goes_on_same}
 use Rattle.ca_answers.specs.declared.identity.Identity.TheVariants.{Unknown}
 use Rattle.ca_answers.specs.Identified.{IsIdentity}
 use Rattle.ca_identify.specs.inner.Stages.{HasNoReturn, leap_work}

@@ -1,6 +1,6 @@
 use Rattle.std.proofs.Common.{sym, subst}
 use Rattle.std.specs.Prelude.{IfOk, IfSome}
-use Rattle.ca_run.proofs.ShownPlanes.{goes_on_again}
+use Rattle.ca_run.proofs.LeaperGrowth.{goes_on_again}
 use Rattle.ca_answers.specs.declared.identity.Identity.TheVariants.{Unknown}
 use Rattle.ca_answers.specs.Identified.{IsIdentity}
 use Rattle.ca_identify.specs.inner.Stages.{HasNoReturn}

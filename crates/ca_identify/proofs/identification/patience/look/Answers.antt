@@ -5,7 +5,7 @@ use Rattle.ca_quad.specs.Trees.{cell}
 use Rattle.ca_quad.proofs.Trims.{trees_stay}
 use Rattle.ca_run.specs.Leaping.{LeaperGrows}
 use Rattle.ca_plane.proofs.After.{after_same}
-use Rattle.ca_run.proofs.ShownPlanes.{goes_on_again}
+use Rattle.ca_run.proofs.LeaperGrowth.{goes_on_again}
 use Rattle.ca_answers.specs.Identified.{IsIdentity}
 use Rattle.ca_pattern.specs.PatternTrees.{IsLowTree, HasLive}
 use Rattle.ca_identify.specs.inner.Stages.{IsWalk, IsHalted, IsGrowthOf, TakesSearch, TakesSearchFrom}

@@ -5,7 +5,7 @@ use Rattle.ca_quad.specs.Trees.{cell}
 use Rattle.ca_quad.proofs.Trims.{trees_stay}
 use Rattle.ca_run.specs.Leaping.{LeaperGrows}
 use Rattle.ca_plane.proofs.After.{after_same}
-use Rattle.ca_run.proofs.ShownPlanes.{goes_on_again}
+use Rattle.ca_run.proofs.LeaperGrowth.{goes_on_again}
 use Rattle.ca_identify.specs.declared.identification.stage.First.{First}
 use Rattle.ca_answers.specs.declared.identity.Identity.TheVariants.{Unknown}
 use Rattle.ca_answers.specs.Identified.{IsIdentity}

@@ -2,7 +2,7 @@ use Rattle.ca_plane.specs.Generations.{cells_after}
 use Rattle.ca_quad.specs.Trees.{cell}
 use Rattle.ca_quad.proofs.Measures.{boxes_stay}
 use Rattle.ca_quad.proofs.Trims.{trees_stay}
-use Rattle.ca_run.proofs.ShownPlanes.{goes_on_again}
+use Rattle.ca_run.proofs.LeaperGrowth.{goes_on_again}
 use Rattle.ca_identify.proofs.Stages.{first_stays, stage_as}
 use Rattle.ca_identify.proofs.Strides.{stride_can_go, stride_tree}
 use Rattle.ca_identify.proofs.identification.strides.stage_after.Goals as goal

@@ -5,8 +5,8 @@ use Rattle.ca_quad.specs.Trees.{cell}
 use Rattle.ca_quad.proofs.Measures.{boxes_stay}
 use Rattle.ca_quad.proofs.Trims.{trees_stay}
 use Rattle.ca_run.specs.Leaping.{LeaperGrows}
-use Rattle.ca_run.proofs.Leap.{goes_on_same}
-use Rattle.ca_run.proofs.ShownPlanes.{goes_on_again}
+use Rattle.ca_run.proofs.LeaperGrowth.{goes_on_same}
+use Rattle.ca_run.proofs.LeaperGrowth.{goes_on_again}
 use Rattle.ca_answers.specs.Identified.{IsIdentity}
 use Rattle.ca_identify.specs.inner.Stages.{IsWalk, IsReturn, AreEarly, IsStride, HasNoReturn}
 use Rattle.ca_identify.proofs.Identities.{picture_nowhere, found_again}

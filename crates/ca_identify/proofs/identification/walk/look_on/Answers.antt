@@ -3,8 +3,8 @@ use Rattle.std.specs.Prelude.{ℤ}
 use Rattle.std.proofs.lemmas.Int.{to_z-of_z}
 use Rattle.ca_plane.specs.Generations.{cells_after}
 use Rattle.ca_quad.specs.Trees.{cell}
-use Rattle.ca_run.proofs.Leap.{goes_on_same}
-use Rattle.ca_run.proofs.ShownPlanes.{goes_on_again}
+use Rattle.ca_run.proofs.LeaperGrowth.{goes_on_same}
+use Rattle.ca_run.proofs.LeaperGrowth.{goes_on_again}
 use Rattle.ca_identify.specs.inner.Stages.{IsStage, IsReturn, IsHalted}
 use Rattle.ca_evolution.specs.Steps.{TakesSteps}
 use Rattle.ca_identify.proofs.Identities.{found_death, found_return}

@@ -11,7 +11,7 @@ use Rattle.ca_bricks.proofs.AgedGrids.{aged_edges}
 use Rattle.ca_bricks.proofs.LaterAgedGrids.{aged_later, aged_less, blank_ages, blank_ages_again, aged_again, edges_stay, beside_again, alike_back, worked}
 use Rattle.ca_run.proofs.Costs.{one_more}
 use Rattle.ca_bricks.proofs.LaterGrids.{queue_inside}
-use Rattle.ca_run.proofs.ShownPlanes.{spends_same, spends_again}
+use Rattle.ca_work.proofs.Spent.{spends_same, spends_again}
 use Rattle.ca_run.proofs.bricks.aged.aged_grid_after.Goals as goal
 
 -- one generation more is charged: no more than all bricks

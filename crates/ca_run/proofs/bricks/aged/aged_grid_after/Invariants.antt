@@ -1,7 +1,7 @@
 use Rattle.std.proofs.Common.{◌≡◌, ℕ, ◌+◌, ◌-◌, ◌*◌, ◌≤◌, length, []}
 use Rattle.ca_plane.specs.Generations.{cells_after}
 use Rattle.ca_quad.specs.Trees.{cell}
-use Rattle.ca_run.specs.Leaping.{Spends}
+use Rattle.ca_work.specs.Spending.{Spends}
 use Rattle.ca_bricks.specs.Aged.{AgedGridShows, AreAlike, IsBeside, IsNextAged, AgedBricksRest, HasBlankEdges, IsBlankAged, IsBlankRoundAged}
 use Rattle.ca_bricks.specs.Bricks.{AllHaveNeighbours, HasNeighbours, IsNotIn}
 use Rattle.ca_run.proofs.bricks.aged.aged_grid_after.Given as goal

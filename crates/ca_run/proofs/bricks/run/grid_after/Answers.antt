@@ -7,7 +7,7 @@ use Rattle.ca_quad.specs.Trees.{cell}
 use Rattle.ca_bricks.specs.Bricks.{GridShows, HasNeighbours, AllHaveNeighbours, IsNotIn, IsNextBrick, BricksRest, HasBlankEdge, IsBlankRound}
 use Rattle.ca_bricks.proofs.BrickMargins.{grid_less}
 use Rattle.ca_run.proofs.Costs.{one_more}
-use Rattle.ca_run.proofs.ShownPlanes.{spends_same, spends_again}
+use Rattle.ca_work.proofs.Spent.{spends_same, spends_again}
 use Rattle.ca_bricks.proofs.BrickBlanks.{blank_rests, blank_again}
 use Rattle.ca_bricks.proofs.LaterGrids.{edge_blank, grid_later, grid_seen, queue_inside}
 use Rattle.ca_run.proofs.bricks.run.grid_after.Goals as goal

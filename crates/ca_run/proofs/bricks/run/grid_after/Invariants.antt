@@ -1,7 +1,7 @@
 use Rattle.std.proofs.Common.{◌≡◌, ℕ, ◌+◌, ◌-◌, ◌*◌, ◌≤◌, length, get_or, []}
 use Rattle.ca_plane.specs.Generations.{cells_after}
 use Rattle.ca_quad.specs.Trees.{cell}
-use Rattle.ca_run.specs.Leaping.{Spends}
+use Rattle.ca_work.specs.Spending.{Spends}
 use Rattle.ca_bricks.specs.Bricks.{GridShows, IsInPlace, AllHaveNeighbours, HasNeighbours, IsNotIn, IsNextBrick, BricksRest, HasBlankEdge, IsBlank, IsBlankRound}
 use Rattle.ca_run.proofs.bricks.run.grid_after.Given as goal
 

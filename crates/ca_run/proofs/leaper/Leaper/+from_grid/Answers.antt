@@ -3,7 +3,8 @@ use Rattle.std.specs.Prelude.{ℤ, pos, ◌+ℤ◌}
 use Rattle.std.proofs.lemmas.Int.{ints}
 use Rattle.std.proofs.Math.Nat.{two-pow-succ}
 use Rattle.ca_quad.specs.Trees.{AreFour}
-use Rattle.ca_run.specs.inner.Shown.{ShowsAt, FourShow, side}
+use Rattle.ca_run.specs.inner.Shown.{ShowsAt, FourShow}
+use Rattle.ca_bricks.specs.Overlaps.{side}
 use Rattle.ca_bricks.specs.Words.{eight}
 use Rattle.ca_run.proofs.ShownPlanes.{four_made, four_are, at_from}
 use Rattle.ca_bricks.proofs.Words.{side_words}

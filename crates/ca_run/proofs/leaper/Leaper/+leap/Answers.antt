@@ -9,11 +9,13 @@ use Rattle.ca_quad.specs.Trees.{AreFour}
 use Rattle.ca_quad.proofs.Growth.{grows_on}
 use Rattle.ca_quad.proofs.Cells.{of_stays}
 use Rattle.ca_run.specs.Centre.{IsCentre, IsLeap}
-use Rattle.ca_run.specs.inner.Shown.{ShowsAt, FourShow, side, generations}
+use Rattle.ca_run.specs.inner.Shown.{ShowsAt, FourShow, generations}
+use Rattle.ca_bricks.specs.Overlaps.{side}
 use Rattle.ca_run.proofs.ShownPlanes.{at_stays, three_stay, three_are, four_of, four_go, four_there, four_stay}
-use Rattle.ca_run.proofs.Overlaps.{west_four, east_four, four_between, four_halfway, four_inner}
+use Rattle.ca_bricks.proofs.Overlaps.{west_four, east_four, four_between, four_halfway, four_inner}
 use Rattle.ca_run.proofs.Leap.{rule_on, leap_shows, leap_square, leap_of_join, centre_ok, nine_centre, trio_are, nine_are, pair_at, trio_at, nine_at, four_at}
-use Rattle.ca_run.proofs.Costs.{at_cost_none, at_cost_more, at_cost_as, at_both_costs, at_cost_of_thirteen, at_cost_of_nine, at_cost_of_centre, power_some}
+use Rattle.ca_run.proofs.Costs.{at_cost_none, at_cost_more, at_cost_as, at_both_costs, at_cost_of_thirteen, at_cost_of_nine, at_cost_of_centre}
+use Rattle.ca_work.proofs.Powers.{power_some}
 use Rattle.ca_run.proofs.leaper.Leaper.+leap.Goals as goal
 
 pub centre-returns-in-Some-clause-at_cost : goal.centre-returns-in-Some-clause-at_cost

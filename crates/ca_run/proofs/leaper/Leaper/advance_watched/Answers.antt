@@ -3,10 +3,10 @@ use Rattle.std.proofs.lemmas.Result.{err_from_is_err_and}
 use Rattle.ca_quad.specs.Sound.{IsSoundStore}
 use Rattle.ca_quad.proofs.Cells.{of_stays}
 use Rattle.ca_run.specs.Advanced.{IsAdvanced}
-use Rattle.ca_run.specs.Leaping.{EndsAtLimit}
+use Rattle.ca_work.specs.Spending.{EndsAtLimit}
 use Rattle.ca_run.specs.inner.Dense.{HasReached}
 use Rattle.ca_run.proofs.DenseRuns.{reached_now, advanced_before, stepped_cost, whole_cost, parted_cost, stepped_one, whole_one, parted_one}
-use Rattle.ca_run.proofs.ShownPlanes.{goes_on_again}
+use Rattle.ca_run.proofs.LeaperGrowth.{goes_on_again}
 use Rattle.ca_run.proofs.leaper.Leaper.advance_watched.Goals as goal
 
 pub go_on-requires-clause-first : goal.go_on-requires-clause-first

@@ -1,4 +1,4 @@
-use Rattle.ca_run.specs.inner.Words.{WordsShow}
+use Rattle.ca_bricks.specs.WordSquares.{WordSquareShows}
 use Rattle.ca_bricks.specs.Words.{WordShows}
 use Rattle.ca_run.proofs.Lanes.{centre_shown}
 use Rattle.ca_run.proofs.leaper.Leaper.centre_words.Goals as goal
@@ -10,5 +10,5 @@ returns-in_ok-words-in-2 g c =
 
 pub returns-in_ok-wide-in-3 : goal.returns-in_ok-wide-in-3
 returns-in_ok-wide-in-3 g c =
-    centre_shown WordsShow (g.A.Automaton.next_of c.args.self.now.rule) c.args.self.now.nodes c.args.id c.args.grain c.args.j 3 _ c.centre-in-3.result c.in-3.is c.split_leap-first.ensures.sum
+    centre_shown WordSquareShows (g.A.Automaton.next_of c.args.self.now.rule) c.args.self.now.nodes c.args.id c.args.grain c.args.j 3 _ c.centre-in-3.result c.in-3.is c.split_leap-first.ensures.sum
     (λ p a b shows. c.centre-in-3.ensures _ p a b c.in_ok-counting.ensures (c.in_ok-wide-in-3.ensures p a b shows))

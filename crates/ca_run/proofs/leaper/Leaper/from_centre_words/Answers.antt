@@ -1,6 +1,6 @@
 use Rattle.std.proofs.Common.{subst}
 use Rattle.ca_quad.specs.Sound.{IsSoundStore}
-use Rattle.ca_run.specs.inner.Words.{WordsShow}
+use Rattle.ca_bricks.specs.WordSquares.{WordSquareShows}
 use Rattle.ca_bricks.specs.Words.{WordShows}
 use Rattle.ca_run.proofs.Lanes.{centre_made}
 use Rattle.ca_run.proofs.leaper.Leaper.from_centre_words.Goals as goal
@@ -14,5 +14,5 @@ returns-in-One-clause-centre g c =
 pub returns-in-Four-clause-centre : goal.returns-in-Four-clause-centre
 returns-in-Four-clause-centre g c =
     let sound = subst (λ l. IsSoundStore l.nodes) c.self.view_is c.self.invariant.squares in
-    centre_made WordsShow (g.A.Automaton.next_of c.args.self.now.rule) c.args.self.now.nodes c.from_words.new.self.nodes sound c.from_words.ensures.at_cost.goes_on.grows c.from_words.result c.args.id c.args.grain c.args.j 3 c.in-Four.words
+    centre_made WordSquareShows (g.A.Automaton.next_of c.args.self.now.rule) c.args.self.now.nodes c.from_words.new.self.nodes sound c.from_words.ensures.at_cost.goes_on.grows c.from_words.result c.args.id c.args.grain c.args.j 3 c.in-Four.words
     c.requires.square (rw c.in-Four.is at c.requires.words) c.from_words.ensures.shows

@@ -1,7 +1,7 @@
 use Rattle.std.proofs.Common.{◌-◌, length, sym, subst, ◌∙◌, arith}
 use Rattle.ca_quad.specs.Added.{AreCopies}
 use Rattle.ca_run.specs.inner.InUse.{IsTrueLeap}
-use Rattle.ca_run.proofs.ShownPlanes.{goes_on_again}
+use Rattle.ca_run.proofs.LeaperGrowth.{goes_on_again}
 use Rattle.ca_run.proofs.CopiedLeaps.{no_error}
 use Rattle.ca_run.proofs.leaper.Leaper.keep_leaps.Goals as goal
 

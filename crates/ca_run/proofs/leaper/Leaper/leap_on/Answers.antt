@@ -9,7 +9,7 @@ use Rattle.ca_quad.specs.Trees.{cell}
 use Rattle.ca_quad.proofs.Shifts.{some_level}
 use Rattle.ca_run.proofs.DenseRuns.{reached_kept, reached_level, leapt_on}
 use Rattle.ca_run.proofs.Levels.{one_leapt, leapt_more}
-use Rattle.ca_run.proofs.ShownPlanes.{goes_on_again}
+use Rattle.ca_run.proofs.LeaperGrowth.{goes_on_again}
 use Rattle.ca_plane.proofs.After.{after_same}
 use Rattle.ca_run.proofs.Trees.{tree_stays, digit_adds, no_digit, shifted_two}
 use Rattle.ca_run.proofs.leaper.Leaper.leap_on.Goals as goal

@@ -3,7 +3,7 @@ use Rattle.ca_quad.specs.Sound.{IsSoundStore}
 use Rattle.ca_quad.proofs.Cells.{of_stays}
 use Rattle.ca_run.specs.inner.Dense.{HasReached}
 use Rattle.ca_run.proofs.DenseRuns.{reached_now, reached_before, reached_stays, grid_more, grids_done}
-use Rattle.ca_run.proofs.ShownPlanes.{goes_on_again}
+use Rattle.ca_run.proofs.LeaperGrowth.{goes_on_again}
 use Rattle.ca_run.proofs.leaper.Leaper.step_grids.Goals as goal
 
 pub returns-in_default-clause-reached : goal.returns-in_default-clause-reached

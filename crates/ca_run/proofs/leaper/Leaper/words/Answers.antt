@@ -1,4 +1,4 @@
-use Rattle.ca_run.proofs.ShowsPlane.{quarters_each}
+use Rattle.ca_bricks.proofs.Overlaps.{quarters_each}
 use Rattle.ca_run.proofs.leaper.Leaper.words.Goals as goal
 
 pub returns : goal.returns

@@ -1,5 +1,5 @@
 use Rattle.std.proofs.Common.{◌-◌, refl, rules, arith}
-use Rattle.ca_run.proofs.ShownPlanes.{goes_on_again}
+use Rattle.ca_run.proofs.LeaperGrowth.{goes_on_again}
 use Rattle.ca_pattern.proofs.LeaptTrees.{pattern_stays}
 use Rattle.ca_verify.proofs.Spending.{halves_none, takes_half, halves_all}
 use Rattle.ca_verify.proofs.LifeSpans.{dead_by_middle, lives_at_middle, span_found}

@@ -1,6 +1,6 @@
 use Rattle.std.proofs.Common.{◌/◌, arith}
 use Rattle.std.proofs.Math.Nat.{dvd_trans, dvd_of_mod-eq-zero}
-use Rattle.ca_run.proofs.Primes.{quotient_some, divides_without}
+use Rattle.ca_steps.proofs.Primes.{quotient_some, divides_without}
 use Rattle.ca_verify.proofs.PrimeFactors.{quotient_less, quotient_divides}
 use Rattle.ca_verify.proofs.decide.primes.without_prime.Goals as goal
 

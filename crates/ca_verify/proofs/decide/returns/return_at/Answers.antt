@@ -1,6 +1,6 @@
 use Rattle.std.proofs.Common.{refl}
 use Rattle.std.specs.Prelude.{pos, Some, None}
-use Rattle.ca_run.proofs.ShownPlanes.{goes_on_again}
+use Rattle.ca_run.proofs.LeaperGrowth.{goes_on_again}
 use Rattle.ca_verify.proofs.LeaptTrees.{forbids_stays}
 use Rattle.ca_pattern.proofs.LeaptTrees.{shows_stays, pattern_stays, ok_as}
 use Rattle.ca_verify.proofs.DividedReturns.{back_here, back_there}

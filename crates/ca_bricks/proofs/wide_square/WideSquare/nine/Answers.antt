@@ -1,0 +1,12 @@
+use Rattle.std.specs.Prelude.{pos, ◌+ℤ◌}
+use Rattle.ca_plane.specs.Generations.{cells_after}
+use Rattle.ca_bricks.specs.Words.{WordShows}
+use Rattle.ca_bricks.proofs.Overlaps.{rows_lie}
+use Rattle.ca_bricks.proofs.wide_square.WideSquare.nine.Goals as goal
+
+pub returns : goal.returns
+returns c = λ next p a b goes_by shows.
+    rows_lie WordShows 2 (record { north = c.three_centres.result; middle = c.three_centres-2.result; south = c.three_centres-3.result }) (cells_after next p c.args.n) (a +ℤ pos 4) b
+    (c.three_centres.ensures next p a b goes_by shows.at_nw shows.at_ne)
+    (c.three_centres-2.ensures next p a (b +ℤ pos 8) goes_by (c.middle_of_column-west.ensures p a b shows.at_nw shows.at_sw) (c.middle_of_column-east.ensures p (a +ℤ pos 16) b shows.at_ne shows.at_se))
+    (c.three_centres-3.ensures next p a (b +ℤ pos 16) goes_by shows.at_sw shows.at_se)

@@ -1,5 +1,0 @@
-use Rattle.ca_run.proofs.Vectors.{no_vector}
-use Rattle.ca_run.proofs.laws.l5.Goals as goal
-
-pub returns : goal.returns
-returns c = no_vector

@@ -1,5 +1,0 @@
-use Rattle.ca_run.proofs.Returning.{settles_alike}
-use Rattle.ca_run.proofs.laws.returning_pictures_settle_as_they_are.Goals as goal
-
-pub returns : goal.returns
-returns g c = settles_alike (g.A.Automaton.next_of c.args.rule.now)

@@ -1,8 +1,0 @@
-use Rattle.ca_plane.specs.Generations.{cells_after}
-use Rattle.ca_run.proofs.Tiles.{tile_less}
-use Rattle.ca_run.proofs.leaper.words.Words.centre.Goals as goal
-
-pub returns : goal.returns
-returns c = λ next p a b goes_by shows.
-    c.middle.ensures (cells_after next p c.args.n) a b
-    (tile_less c.later_tile.result.rows c.args.n 4 (cells_after next p c.args.n) a b c.requires (c.later_tile.ensures next p a b goes_by (c.tile_of.ensures p a b shows)))

@@ -1,5 +1,0 @@
-use Rattle.ca_run.proofs.Overlaps.{four_halfway}
-use Rattle.ca_run.proofs.leaper.words.Words.middle_of_column.Goals as goal
-
-pub returns : goal.returns
-returns c = λ p a b north south. four_halfway 3 north south

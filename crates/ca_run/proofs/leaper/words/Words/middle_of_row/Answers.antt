@@ -1,5 +1,0 @@
-use Rattle.ca_run.proofs.Overlaps.{four_between}
-use Rattle.ca_run.proofs.leaper.words.Words.middle_of_row.Goals as goal
-
-pub returns : goal.returns
-returns c = λ p a b west east. four_between 3 west east

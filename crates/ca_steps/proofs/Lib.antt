@@ -1,0 +1,10 @@
+pub mod Spreading
+pub mod Vectors
+pub mod Primes
+pub mod Returns
+pub mod Returning
+pub mod Reading
+pub mod Heads
+pub mod Windows
+pub mod WrittenGenerations
+pub mod OutOfReach

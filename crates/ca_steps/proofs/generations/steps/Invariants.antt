@@ -1,0 +1,10 @@
+use Rattle.ca_steps.specs.Reach.{LeavesReachBefore}
+use Rattle.ca_steps.specs.Stepped.{IsStepped}
+use Rattle.ca_steps.proofs.generations.steps.Given as goal
+
+-- as many generations on as were counted
+abbrev pub invariant-generations : goal.invariant-generations
+invariant-generations g l = record {
+  stepped : IsStepped (g.A.Automaton.next_of l.rule) (g.A.Automaton.state_count l.rule) l.plane l.counter l.now;
+  within : LeavesReachBefore (g.A.Automaton.next_of l.rule) l.plane l.counter → ⊥;
+}

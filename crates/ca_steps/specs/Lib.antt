@@ -1,0 +1,5 @@
+pub mod Reach
+pub mod Later
+pub mod Primes
+pub mod Stepped
+pub mod inner

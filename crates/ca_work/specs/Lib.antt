@@ -1,0 +1,2 @@
+pub mod Spending
+pub mod Tries
