@@ -67,8 +67,8 @@ dots_at new (Ok id) s t u v p a b f g h i shows = record {
 -- the middle of four squares of four cells
 pub inner_cells_at : {E : Type 0} (old new : List Node) (r : Result ℕ E) (nw ne sw se : ℕ) (cells : List ℕ) (p : ℤ → ℤ → ℕ) (a b : ℤ)
     → cells ≡ sixteen (joined_cells 2 (cell_of old 1 nw) (cell_of old 1 ne) (cell_of old 1 sw) (cell_of old 1 se)) → FourShow old 1 nw ne sw se p a b
-    → IfOk r (λ half. ShowsSquare new half 1 (joined_cells 1 (one_cell (slice_index cells 5)) (one_cell (slice_index cells 6)) (one_cell (slice_index cells 9)) (one_cell (slice_index cells 10))))
-    → IfOk r (λ half. ShowsAt new half 1 p (a +ℤ pos 1) (b +ℤ pos 1))
+    → IfOk r (λ result_id. ShowsSquare new result_id 1 (joined_cells 1 (one_cell (slice_index cells 5)) (one_cell (slice_index cells 6)) (one_cell (slice_index cells 9)) (one_cell (slice_index cells 10))))
+    → IfOk r (λ result_id. ShowsAt new result_id 1 p (a +ℤ pos 1) (b +ℤ pos 1))
 inner_cells_at old new r nw ne sw se cells p a b e show made =
     let ax : a +ℤ pos 2 ≡ (a +ℤ pos 1) +ℤ pos 1 = omega (arith, ints) in
     let by : b +ℤ pos 2 ≡ (b +ℤ pos 1) +ℤ pos 1 = omega (arith, ints) in
@@ -86,7 +86,7 @@ pub next_inner_leap : {E : Type 0} (next : List ℕ → ℕ) (old new : List Nod
     → t ≡ next (slice_index cells 1 ∷ slice_index cells 2 ∷ slice_index cells 3 ∷ slice_index cells 5 ∷ slice_index cells 6 ∷ slice_index cells 7 ∷ slice_index cells 9 ∷ slice_index cells 10 ∷ slice_index cells 11 ∷ [])
     → u ≡ next (slice_index cells 4 ∷ slice_index cells 5 ∷ slice_index cells 6 ∷ slice_index cells 8 ∷ slice_index cells 9 ∷ slice_index cells 10 ∷ slice_index cells 12 ∷ slice_index cells 13 ∷ slice_index cells 14 ∷ [])
     → v ≡ next (slice_index cells 5 ∷ slice_index cells 6 ∷ slice_index cells 7 ∷ slice_index cells 9 ∷ slice_index cells 10 ∷ slice_index cells 11 ∷ slice_index cells 13 ∷ slice_index cells 14 ∷ slice_index cells 15 ∷ [])
-    → IfOk r (λ half. ShowsSquare new half 1 (joined_cells 1 (one_cell s) (one_cell t) (one_cell u) (one_cell v))) → IfOk r (IsLeap next new 0 nw ne sw se)
+    → IfOk r (λ result_id. ShowsSquare new result_id 1 (joined_cells 1 (one_cell s) (one_cell t) (one_cell u) (one_cell v))) → IfOk r (IsLeap next new 0 nw ne sw se)
 next_inner_leap next old new sound grows r nw ne sw se cells s t u v four e a b c d made = leap_of r (dots_at new r s t u v q (pos 0 +ℤ pos 1) (pos 0 +ℤ pos 1)
     (subst (λ l. s ≡ next (slice_index l 0 ∷ slice_index l 1 ∷ slice_index l 2 ∷ slice_index l 4 ∷ slice_index l 5 ∷ slice_index l 6 ∷ slice_index l 8 ∷ slice_index l 9 ∷ slice_index l 10 ∷ [])) e a)
     (subst (λ l. t ≡ next (slice_index l 1 ∷ slice_index l 2 ∷ slice_index l 3 ∷ slice_index l 5 ∷ slice_index l 6 ∷ slice_index l 7 ∷ slice_index l 9 ∷ slice_index l 10 ∷ slice_index l 11 ∷ [])) e b)
@@ -99,16 +99,16 @@ next_inner_leap next old new sound grows r nw ne sw se cells s t u v four e a b 
     q : ℤ → ℤ → ℕ
     q = cells_after next (from_corner f) 1
 
-    leap_of : {E : Type 0} (r : Result ℕ E) → IfOk r (λ half. ShowsAt new half 1 q (pos 0 +ℤ pos 1) (pos 0 +ℤ pos 1)) → IfOk r (IsLeap next new 0 nw ne sw se)
+    leap_of : {E : Type 0} (r : Result ℕ E) → IfOk r (λ result_id. ShowsAt new result_id 1 q (pos 0 +ℤ pos 1) (pos 0 +ℤ pos 1)) → IfOk r (IsLeap next new 0 nw ne sw se)
     leap_of (Err f) shows = tt
-    leap_of (Ok half) shows = record {
+    leap_of (Ok result_id) shows = record {
       are_four = four_go old new sound grows 1 nw ne sw se four;
-      is_half = shows.is_square;
+      is_result = shows.is_square;
       shows = λ p a b show.
           let was = four_was old new sound grows 1 nw ne sw se p a b four show in
           record {
             is_square = shows.is_square;
-            looks = looks_centre next 1 1 f (cell_of new 1 half) p a b (omega arith)
+            looks = looks_centre next 1 1 f (cell_of new 1 result_id) p a b (omega arith)
                 (looks_together 2 (cell_of old 1 nw) (cell_of old 1 ne) (cell_of old 1 sw) (cell_of old 1 se) p a b was.at_nw.looks was.at_ne.looks was.at_sw.looks was.at_se.looks)
                 (λ x y i j.
                 let ax : (pos 0 +ℤ pos 1) +ℤ pos x ≡ pos (1 + x) = omega (arith, ints) in
@@ -121,9 +121,9 @@ next_inner_leap next old new sound grows r nw ne sw se cells s t u v four e a b 
 pub centre_of_leap : {E : Type 0} (next : List ℕ → ℕ) (old new : List Node) → IsSoundStore old → Grows old new → (r : Result ℕ E) (id nw ne sw se : ℕ) → IsOf old id 2
     → ((p : ℤ → ℤ → ℕ) (a b : ℤ) → ShowsAt old id 2 p a b → FourShow old 1 nw ne sw se p a b) → IfOk r (IsLeap next new 0 nw ne sw se) → IfOk r (IsCentre next new id 0 0)
 centre_of_leap next old new sound grows (Err f) id nw ne sw se square quarters leap = tt
-centre_of_leap next old new sound grows (Ok half) id nw ne sw se square quarters leap =
+centre_of_leap next old new sound grows (Ok result_id) id nw ne sw se square quarters leap =
     let q = from_corner (cell_of old 2 id) in
-    is_centre_at next old new sound grows id 0 0 0 1 half square (omega arith) refl
+    is_centre_at next old new sound grows id 0 0 0 1 result_id square (omega arith) refl
     (leap.shows q (pos 0) (pos 0) (four_stay old new sound grows 1 nw ne sw se q (pos 0) (pos 0) (quarters q (pos 0) (pos 0) (at_corner old id 2 square))))
 
 -- ---- empty squares
@@ -138,12 +138,12 @@ from_corner-empty cells empty (pos x) (negsuc y) = refl
 from_corner-empty cells empty (negsuc x) y = refl
 
 -- the centre of an empty square is an empty square
-pub empty_is_centre : (next : List ℕ → ℕ) → next (replicate 9 0) ≡ 0 → (nodes : List Node) (id k j half : ℕ) → IsOf nodes id (suc (suc k)) → j ≤ k → IsEmpty (cell_of nodes (suc (suc k)) id)
-    → ShowsAt nodes half (suc k) (λ _ _. 0) (pos 0) (pos 0) → IsCentre next nodes id k j half
-empty_is_centre next quiet nodes id k j half square few empty shows = record {
+pub empty_is_centre : (next : List ℕ → ℕ) → next (replicate 9 0) ≡ 0 → (nodes : List Node) (id k j result_id : ℕ) → IsOf nodes id (suc (suc k)) → j ≤ k → IsEmpty (cell_of nodes (suc (suc k)) id)
+    → ShowsAt nodes result_id (suc k) (λ _ _. 0) (pos 0) (pos 0) → IsCentre next nodes id k j result_id
+empty_is_centre next quiet nodes id k j result_id square few empty shows = record {
   in_time = few;
   is_square = square;
-  is_half = shows.is_square;
+  is_result = shows.is_square;
   has_cells = λ u v s t.
       shows.looks u v s t
       ∙ sym (after_same next (from_corner (cell_of nodes (suc (suc k)) id)) (λ _ _. 0) (2 ^ j) (from_corner-empty (cell_of nodes (suc (suc k)) id) empty) (pos (2 ^ k + u)) (pos (2 ^ k + v)) ∙ after_none next quiet (2 ^ j) (pos (2 ^ k + u)) (pos (2 ^ k + v)));

@@ -15,7 +15,7 @@ use Rattle.ca_quad.proofs.Cells.{cells_stay, of_stays}
 use Rattle.ca_run.specs.Centre.{centre, IsCentre}
 use Rattle.ca_run.specs.Leaping.{LeaperView, LeaperGrows}
 use Rattle.ca_run.specs.declared.leaper.full_leap.FullLeap.{FullLeap}
-use Rattle.ca_run.specs.inner.Apart.{IsCopyOfTree}
+use Rattle.ca_run.specs.inner.OwnStore.{IsCopyOfTree}
 use Rattle.ca_run.specs.inner.InUse.{IsTrueLeap}
 
 -- what holds anyway holds where a call succeeds
@@ -29,12 +29,12 @@ no_error (Ok value) P e holds = holds
 no_error (Err error) P e holds = absurd (false≢true (sym e))
 
 -- the centre of a square is that of its copy, copied
-centre_copied : (next : List ℕ → ℕ) (from new : List Node) (k id half square centre_id : ℕ) → IsCentre next from id k k half → ShowsSquare new square (suc (suc k)) (cell_of from (suc (suc k)) id) → ShowsSquare new centre_id (suc k) (cell_of from (suc k) half)
+centre_copied : (next : List ℕ → ℕ) (from new : List Node) (k id result_id square centre_id : ℕ) → IsCentre next from id k k result_id → ShowsSquare new square (suc (suc k)) (cell_of from (suc (suc k)) id) → ShowsSquare new centre_id (suc k) (cell_of from (suc k) result_id)
     → IsCentre next new square k k centre_id
-centre_copied next from new k id half square centre_id h a b = record {
+centre_copied next from new k id result_id square centre_id h a b = record {
   in_time = h.in_time;
   is_square = a.is_square;
-  is_half = b.is_square;
+  is_result = b.is_square;
   has_cells = λ u v s t.
       b.has_cells u v ∙ (h.has_cells u v s t ∙ ap (λ f. centre next f (2 ^ k) (2 ^ k) u v) (sym (λ i x y. a.has_cells x y i)));
 }
@@ -46,7 +46,7 @@ leap_copied next_of from l0 l1 l2 g1 g2 leap level square centre_id true_leap e 
     let k = true_leap.0 in
     let h = true_leap.1 in
     let known : level_of from leap.square ≡ suc (suc k) = h.is_square.is_level in
-    let half_known : level_of from leap.centre ≡ suc k = h.is_half.is_level in
+    let half_known : level_of from leap.centre ≡ suc k = h.is_result.is_level in
     let here : k ≡ level - 2 = omega (arith, e, known) in
     let a0 : ShowsSquare l1.nodes square (suc (suc k)) (cell_of from (suc (suc k)) leap.square) = subst (λ l. ShowsSquare l1.nodes square l (cell_of from l leap.square)) known first in
     let a = shows_stays l1.nodes l2.nodes g1.grows.sound g2.grows square (suc (suc k)) (cell_of from (suc (suc k)) leap.square) a0 in

@@ -58,17 +58,17 @@ module _ {Rule : Type 0} where
   at_cost_of_thirteen x nine north south joined = at_cost_more (at_both_costs (at_both_costs nine north) (at_both_costs south joined)) (omega arith) (omega arith)
 
   -- the centre of a square that has parts
-  pub at_cost_of_nine : {a b : LeaperView Rule} (grain : ℕ) → 1 ≤ grain → GoesOnAtCost Rule a b (13 * 14 ^ (grain - 1)) 19 → GoesOnAtCost Rule a b (14 ^ grain - 1) 19
-  at_cost_of_nine grain some h =
-      let up : suc (grain - 1) ≡ grain = omega arith in
-      let few = subst (λ g. suc (13 * 14 ^ (grain - 1)) ≤ 14 ^ g) up (thirteen (grain - 1)) in
+  pub at_cost_of_nine : {a b : LeaperView Rule} (part_level : ℕ) → 1 ≤ part_level → GoesOnAtCost Rule a b (13 * 14 ^ (part_level - 1)) 19 → GoesOnAtCost Rule a b (14 ^ part_level - 1) 19
+  at_cost_of_nine part_level some h =
+      let up : suc (part_level - 1) ≡ part_level = omega arith in
+      let few = subst (λ g. suc (13 * 14 ^ (part_level - 1)) ≤ 14 ^ g) up (thirteen (part_level - 1)) in
       at_cost_more h (omega (arith, few)) (omega arith)
 
   -- the same, which is counted first
-  pub at_cost_of_centre : {old a b d new : LeaperView Rule} (grain : ℕ) → a ≡ old → new ≡ d → GoesOnAtCost Rule a b 1 0 → b.spent.used ≡ a.spent.used + 1 → b.nodes ≡ a.nodes → GoesOnAtCost Rule b d (14 ^ grain - 1) 19
-      → GoesOnAtCost Rule old new (14 ^ grain) 0
-  at_cost_of_centre {old} {a} {b} grain begins ends paid e same h =
-      let some = power_some grain in
+  pub at_cost_of_centre : {old a b d new : LeaperView Rule} (part_level : ℕ) → a ≡ old → new ≡ d → GoesOnAtCost Rule a b 1 0 → b.spent.used ≡ a.spent.used + 1 → b.nodes ≡ a.nodes → GoesOnAtCost Rule b d (14 ^ part_level - 1) 19
+      → GoesOnAtCost Rule old new (14 ^ part_level) 0
+  at_cost_of_centre {old} {a} {b} part_level begins ends paid e same h =
+      let some = power_some part_level in
       at_cost_as begins ends (at_paid_cost {a = a} {b = b} 1 paid e same h (omega (arith, some)) (omega arith))
 
 -- a tree is made no wider than the centre needs that shows it some generations on

@@ -13,7 +13,7 @@ use Rattle.ca_work.specs.declared.fault.LeapFault.{LeapFault}
 use Rattle.ca_run.specs.Advanced.{IsAdvanced}
 use Rattle.ca_run.specs.Leaping.{Costs, LeaperView}
 use Rattle.ca_work.specs.Spending.{Spent, Spends}
-use Rattle.ca_run.specs.inner.Apart.{IsCopyOfTree}
+use Rattle.ca_run.specs.inner.OwnStore.{IsCopyOfTree}
 use Rattle.ca_run.specs.inner.AtCost.{GoesOnAtCost}
 use Rattle.ca_run.specs.inner.Dense.{HasReached, IsIdle, IsDense, HasLeapt, HasParted}
 use Rattle.ca_plane.proofs.After.{after_same, after_again}

@@ -21,10 +21,10 @@ module _ {Rule : Type 0} where
       at_paid_cost {a = a} {b = b} 4 paid counts same (at_both_costs (at_both_costs (at_both_costs nw ne) (at_both_costs sw se)) joined) (omega arith) (omega arith)
 
   -- what they cost in all
-  pub at_cost_of_parts : {a b : LeaperView Rule} (n grain : ℕ) → 1 ≤ n → 1 ≤ grain → GoesOnAtCost Rule a b (4 + 4 * (n * 14 ^ (grain - 1))) 0 → GoesOnAtCost Rule a b (n * 14 ^ grain) 125
-  at_cost_of_parts n grain some parts h =
-      let up : suc (grain - 1) ≡ grain = omega arith in
-      let few = subst (λ g. 4 + 4 * (n * 14 ^ (grain - 1)) ≤ n * 14 ^ g) up (four_of_each n (grain - 1) some) in
+  pub at_cost_of_parts : {a b : LeaperView Rule} (n halvings : ℕ) → 1 ≤ n → 1 ≤ halvings → GoesOnAtCost Rule a b (4 + 4 * (n * 14 ^ (halvings - 1))) 0 → GoesOnAtCost Rule a b (n * 14 ^ halvings) 125
+  at_cost_of_parts n halvings some parts h =
+      let up : suc (halvings - 1) ≡ halvings = omega arith in
+      let few = subst (λ g. 4 + 4 * (n * 14 ^ (halvings - 1)) ≤ n * 14 ^ g) up (four_of_each n (halvings - 1) some) in
       at_cost_more h few (omega arith)
 
 -- a square without parts costs no more than one with some

@@ -34,10 +34,10 @@ centre_shown Show next nodes id k j l n words level time shows p a b square = (
 -- a square that is made of words that show another's centre is that centre
 pub centre_made : {X E : Type 0} (Show : X → (ℤ → ℤ → ℕ) → ℤ → ℤ → Type 0) (next : List ℕ → ℕ) (old new : List Node) → IsSoundStore old → Grows old new → (r : Result ℕ E) (id k j l : ℕ) (words : X) → HasCentre old id k j
     → ((p : ℤ → ℤ → ℕ) (a b : ℤ) → ShowsAt old id (suc (suc k)) p a b → (k ≡ l) × Show words (cells_after next p (2 ^ j)) (a +ℤ side k) (b +ℤ side k))
-    → ((p : ℤ → ℤ → ℕ) (a b : ℤ) → Show words p a b → IfOk r (λ half. ShowsAt new half (suc l) p a b)) → IfOk r (IsCentre next new id k j)
+    → ((p : ℤ → ℤ → ℕ) (a b : ℤ) → Show words p a b → IfOk r (λ result_id. ShowsAt new result_id (suc l) p a b)) → IfOk r (IsCentre next new id k j)
 centre_made Show next old new sound grows (Err e) id k j l words has shows made = tt
-centre_made Show next old new sound grows (Ok half) id k j l words has shows made =
+centre_made Show next old new sound grows (Ok result_id) id k j l words has shows made =
     let shown = shows _ _ _ (at_corner old id (suc (suc k)) has.is_square) in
     let later = cells_after next (from_corner (cell_of old (suc (suc k)) id)) (2 ^ j) in
-    let there = subst (λ g. ShowsAt new half (suc g) later (pos 0 +ℤ side k) (pos 0 +ℤ side k)) (sym shown.0) (made later _ _ shown.1) in
-    is_centre_at next old new sound grows id k j 0 (2 ^ j) half has.is_square has.in_time (omega arith) there
+    let there = subst (λ g. ShowsAt new result_id (suc g) later (pos 0 +ℤ side k) (pos 0 +ℤ side k)) (sym shown.0) (made later _ _ shown.1) in
+    is_centre_at next old new sound grows id k j 0 (2 ^ j) result_id has.is_square has.in_time (omega arith) there

@@ -21,45 +21,45 @@ use Rattle.ca_work.proofs.Spent.{spends_same}
 
 -- the centre that a call gives shows the plane later
 pub centre_ok : {E : Type 0} (next : List ℕ → ℕ) (old new : List Node) → IsSoundStore old → Grows old new → (r : Result ℕ E) (id k j : ℕ) (p : ℤ → ℤ → ℕ) (a b : ℤ) → ShowsAt old id (suc (suc k)) p a b
-    → IfOk r (IsCentre next new id k j) → IfOk r (λ half. ShowsAt new half (suc k) (cells_after next p (2 ^ j)) (a +ℤ side k) (b +ℤ side k))
+    → IfOk r (IsCentre next new id k j) → IfOk r (λ result_id. ShowsAt new result_id (suc k) (cells_after next p (2 ^ j)) (a +ℤ side k) (b +ℤ side k))
 centre_ok next old new sound grows (Err e) id k j p a b shows is_centre = tt
-centre_ok next old new sound grows (Ok half) id k j p a b shows is_centre = centre_at next old new sound grows id k j half p a b shows is_centre
+centre_ok next old new sound grows (Ok result_id) id k j p a b shows is_centre = centre_at next old new sound grows id k j result_id p a b shows is_centre
 
 -- the square that a leap of four gives shows the plane later
 pub leap_shows : {E : Type 0} (next : List ℕ → ℕ) (old new : List Node) → IsSoundStore old → Grows old new → (r : Result ℕ E) (k nw ne sw se : ℕ) (p : ℤ → ℤ → ℕ) (a b : ℤ) → FourShow old (suc k) nw ne sw se p a b
-    → IfOk r (IsLeap next new k nw ne sw se) → IfOk r (λ half. ShowsAt new half (suc k) (cells_after next p (2 ^ k)) (a +ℤ side k) (b +ℤ side k))
+    → IfOk r (IsLeap next new k nw ne sw se) → IfOk r (λ result_id. ShowsAt new result_id (suc k) (cells_after next p (2 ^ k)) (a +ℤ side k) (b +ℤ side k))
 leap_shows next old new sound grows (Err e) k nw ne sw se p a b four leap = tt
-leap_shows next old new sound grows (Ok half) k nw ne sw se p a b four leap = leap.shows p a b (four_stay old new sound grows (suc k) nw ne sw se p a b four)
+leap_shows next old new sound grows (Ok result_id) k nw ne sw se p a b four leap = leap.shows p a b (four_stay old new sound grows (suc k) nw ne sw se p a b four)
 
-pub leap_square : {E : Type 0} (next : List ℕ → ℕ) (new : List Node) (r : Result ℕ E) (k nw ne sw se : ℕ) → IfOk r (IsLeap next new k nw ne sw se) → IfOk r (λ half. IsOf new half (suc k))
+pub leap_square : {E : Type 0} (next : List ℕ → ℕ) (new : List Node) (r : Result ℕ E) (k nw ne sw se : ℕ) → IfOk r (IsLeap next new k nw ne sw se) → IfOk r (λ result_id. IsOf new result_id (suc k))
 leap_square next new (Err e) k nw ne sw se leap = tt
-leap_square next new (Ok half) k nw ne sw se leap = leap.is_half
+leap_square next new (Ok result_id) k nw ne sw se leap = leap.is_result
 
 -- the centre of the square of four is the one in their middle
-pub leap_of_join : {Rule : Type 0} (next_of : Rule → List ℕ → ℕ) (old mid new : LeaperView Rule) → IsSoundStore old.nodes → LeaperGrows Rule old mid → LeaperGrows Rule mid new → (id half k nw ne sw se : ℕ) → AreFour old.nodes (suc k) nw ne sw se
-    → ((p : ℤ → ℤ → ℕ) (a b : ℤ) → FourShow old.nodes (suc k) nw ne sw se p a b → ShowsAt mid.nodes id (suc (suc k)) p a b) → IsCentre (next_of mid.rule) new.nodes id k k half → IsLeap (next_of old.rule) new.nodes k nw ne sw se half
-leap_of_join next_of old mid new sound g h id half k nw ne sw se four joined is =
+pub leap_of_join : {Rule : Type 0} (next_of : Rule → List ℕ → ℕ) (old mid new : LeaperView Rule) → IsSoundStore old.nodes → LeaperGrows Rule old mid → LeaperGrows Rule mid new → (id result_id k nw ne sw se : ℕ) → AreFour old.nodes (suc k) nw ne sw se
+    → ((p : ℤ → ℤ → ℕ) (a b : ℤ) → FourShow old.nodes (suc k) nw ne sw se p a b → ShowsAt mid.nodes id (suc (suc k)) p a b) → IsCentre (next_of mid.rule) new.nodes id k k result_id → IsLeap (next_of old.rule) new.nodes k nw ne sw se result_id
+leap_of_join next_of old mid new sound g h id result_id k nw ne sw se four joined is =
     let next = next_of old.rule in
-    let centre = subst (λ f. IsCentre f new.nodes id k k half) (ap next_of g.rule) is in
+    let centre = subst (λ f. IsCentre f new.nodes id k k result_id) (ap next_of g.rule) is in
     let grows = grows_on old.nodes mid.nodes new.nodes g.grows h.grows in
     record {
       are_four = four_go old.nodes new.nodes sound grows (suc k) nw ne sw se four;
-      is_half = centre.is_half;
-      shows = λ p a b show. centre_at next mid.nodes new.nodes g.grows.sound h.grows id k k half p a b (joined p a b (four_was old.nodes new.nodes sound grows (suc k) nw ne sw se p a b four show)) centre;
+      is_result = centre.is_result;
+      shows = λ p a b show. centre_at next mid.nodes new.nodes g.grows.sound h.grows id k k result_id p a b (joined p a b (four_was old.nodes new.nodes sound grows (suc k) nw ne sw se p a b four show)) centre;
     }
 
 -- what shows a square's own cells later is its centre
 pub nine_centre : {E : Type 0} (next : List ℕ → ℕ) (old new : List Node) → IsSoundStore old → Grows old new → (r : Result ℕ E) (id below k m n j : ℕ) → suc below ≡ k → IsOf old id (suc (suc k)) → j ≤ k → m + n ≡ 2 ^ j
-    → ((p : ℤ → ℤ → ℕ) (a b : ℤ) → ShowsAt old id (suc (suc (suc below))) p a b → IfOk r (λ half. ShowsAt new half (suc (suc below)) (cells_after next (cells_after next p m) n) (a +ℤ side (suc below)) (b +ℤ side (suc below))))
+    → ((p : ℤ → ℤ → ℕ) (a b : ℤ) → ShowsAt old id (suc (suc (suc below))) p a b → IfOk r (λ result_id. ShowsAt new result_id (suc (suc below)) (cells_after next (cells_after next p m) n) (a +ℤ side (suc below)) (b +ℤ side (suc below))))
     → IfOk r (IsCentre next new id k j)
 nine_centre next old new sound grows r id below k m n j up square few sum shows =
-    given r (subst (λ l. ((p : ℤ → ℤ → ℕ) (a b : ℤ) → ShowsAt old id (suc (suc l)) p a b → IfOk r (λ half. ShowsAt new half (suc l) (cells_after next (cells_after next p m) n) (a +ℤ side l) (b +ℤ side l)))) up shows
+    given r (subst (λ l. ((p : ℤ → ℤ → ℕ) (a b : ℤ) → ShowsAt old id (suc (suc l)) p a b → IfOk r (λ result_id. ShowsAt new result_id (suc l) (cells_after next (cells_after next p m) n) (a +ℤ side l) (b +ℤ side l)))) up shows
     (from_corner (cell_of old (suc (suc k)) id)) (pos 0) (pos 0) (at_corner old id (suc (suc k)) square))
   where
-    given : {E : Type 0} (r : Result ℕ E) → IfOk r (λ half. ShowsAt new half (suc k) (cells_after next (cells_after next (from_corner (cell_of old (suc (suc k)) id)) m) n) (pos 0 +ℤ side k) (pos 0 +ℤ side k))
+    given : {E : Type 0} (r : Result ℕ E) → IfOk r (λ result_id. ShowsAt new result_id (suc k) (cells_after next (cells_after next (from_corner (cell_of old (suc (suc k)) id)) m) n) (pos 0 +ℤ side k) (pos 0 +ℤ side k))
         → IfOk r (IsCentre next new id k j)
     given (Err e) h = tt
-    given (Ok half) h = is_centre_at next old new sound grows id k j m n half square few sum h
+    given (Ok result_id) h = is_centre_at next old new sound grows id k j m n result_id square few sum h
 
 -- the rule stays what it was
 pub rule_on : {Rule : Type 0} {old new : LeaperView Rule} {next : List ℕ → ℕ} (next_of : Rule → List ℕ → ℕ) → next ≡ next_of old.rule → LeaperGrows Rule old new → next ≡ next_of new.rule
@@ -84,7 +84,7 @@ nine_are f g h k rows north middle south = record {
 }
 
 module _ (k : ℕ) where
-  -- centres of two squares that lie side by side and overlap by half
+  -- centres of two squares that lie side by side and overlap by result_id
   pub pair_at : {old mid new : List Node} → Grows old mid → Grows mid new → (west east : ℕ) (p : ℤ → ℤ → ℕ) (a b c : ℤ) → ShowsAt mid west (suc k) p (a +ℤ side k) c → ShowsAt new east (suc k) p ((a +ℤ side (suc k)) +ℤ side k) c
       → TwoShow new (suc k) west east p (a +ℤ side k) c
   pair_at {new = new} f g west east p a b c w e = pair_lies (λ id. ShowsAt new id (suc k)) k west east p a c (at_stays _ _ f.sound g west (suc k) p (a +ℤ side k) c w) e

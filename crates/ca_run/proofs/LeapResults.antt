@@ -6,13 +6,13 @@ use Rattle.std.proofs.lemmas.List.Elements.{Contains-append_left, Contains-appen
 use Rattle.lru.proofs.Splits.{Contains-head, Contains-tail, Contains-cons, Contains-nil}
 use Rattle.ca_plane.specs.declared.counting.Counting.{Counting}
 use Rattle.ca_quad.specs.declared.node.Node.{Node}
-use Rattle.ca_run.specs.declared.leaper.key.Key.{Key}
-use Rattle.ca_run.specs.declared.leaper.key.Key.TheVariants.{Page as OfPage, Single}
-use Rattle.ca_run.specs.declared.leaper.page.Page.{Page}
+use Rattle.ca_memo.specs.declared.key.Key.{Key}
+use Rattle.ca_memo.specs.declared.key.Key.TheVariants.{Page as OfPage, Single}
+use Rattle.ca_memo.specs.declared.page.Page.{Page}
 use Rattle.ca_run.specs.Centre.{IsCentre, IsLeap}
 use Rattle.ca_run.specs.Memo.{LeapResult, FullLeap, Centre, LeapOfFour, IsTrueResult}
-use Rattle.ca_run.specs.inner.Pages.{MemoView, HasPageKey, HasSlot, HasFullLeap, HasSingle}
-use Rattle.ca_run.specs.inner.Slots.{SlotsView, HasRecent}
+use Rattle.ca_memo.specs.Pages.{MemoView, HasPageKey, HasSlot, HasFullLeap, HasSingle}
+use Rattle.ca_memo.specs.SlotResults.{SlotsView, HasRecent}
 use Rattle.ca_run.specs.inner.Tables.{slot_results, page_results, single_result, centre_result, leap_result, results_of, AreBounded, IsLeaper}
 
 -- ---- lists
@@ -226,25 +226,25 @@ results_most memo centres leaps capacity h =
 
 -- each result that is remembered at full leap is the centre of its square
 abbrev pub AreFullLeaps : (List ℕ → ℕ) → List Node → MemoView → Type 0
-AreFullLeaps next nodes memo = (id half : ℕ) → HasFullLeap memo id half → (k : ℕ) × IsCentre next nodes id k k half
+AreFullLeaps next nodes memo = (id result_id : ℕ) → HasFullLeap memo id result_id → (k : ℕ) × IsCentre next nodes id k k result_id
 
 -- and so is each single one
 abbrev pub AreSingles : (List ℕ → ℕ) → List Node → MemoView → Type 0
-AreSingles next nodes memo = (id j half : ℕ) → HasSingle memo id j half → (k : ℕ) × IsCentre next nodes id k j half
+AreSingles next nodes memo = (id j result_id : ℕ) → HasSingle memo id j result_id → (k : ℕ) × IsCentre next nodes id k j result_id
 
 -- what a slot has for a square and a j is the square's centre after 2 ^ j generations
 abbrev pub AreRecentCentres : (List ℕ → ℕ) → List Node → List (Option ((ℕ × ℕ) × ℕ)) → Type 0
-AreRecentCentres next nodes slots = (id j half : ℕ) → HasRecent slots (id, j) half → (k : ℕ) × IsCentre next nodes id k j half
+AreRecentCentres next nodes slots = (id j result_id : ℕ) → HasRecent slots (id, j) result_id → (k : ℕ) × IsCentre next nodes id k j result_id
 
 -- what a slot has for four squares is the one in their middle, as far on as a leap goes
 abbrev pub AreRecentLeaps : (List ℕ → ℕ) → List Node → List (Option ((ℕ × ℕ × ℕ × ℕ) × ℕ)) → Type 0
-AreRecentLeaps next nodes slots = (nw ne sw se half : ℕ) → HasRecent slots (nw, ne, sw, se) half → (k : ℕ) × IsLeap next nodes k nw ne sw se half
+AreRecentLeaps next nodes slots = (nw ne sw se result_id : ℕ) → HasRecent slots (nw, ne, sw, se) result_id → (k : ℕ) × IsLeap next nodes k nw ne sw se result_id
 
 abbrev pub AreTrue : (List ℕ → ℕ) → List Node → List LeapResult → Type 0
 AreTrue next nodes results = (result : LeapResult) → Contains results result → IsTrueResult next nodes result
 
 module _ (next : List ℕ → ℕ) (nodes : List Node) where
-  single_true : (entries : List (Key × Option ℕ)) → ((id j half : ℕ) → Contains entries (Single id j, Some half) → (k : ℕ) × IsCentre next nodes id k j half) → (entry : Key × Option ℕ) (result : LeapResult) → Contains entries entry → single_result entry ≡ Some result → IsTrueResult next nodes result
+  single_true : (entries : List (Key × Option ℕ)) → ((id j result_id : ℕ) → Contains entries (Single id j, Some result_id) → (k : ℕ) × IsCentre next nodes id k j result_id) → (entry : Key × Option ℕ) (result : LeapResult) → Contains entries entry → single_result entry ≡ Some result → IsTrueResult next nodes result
   single_true entries all (OfPage number, centre) result c e = let no : ⊥ = cc in absurd no
   single_true entries all (Single square j, None) result c e = let no : ⊥ = cc in absurd no
   single_true entries all (Single square j, Some centre) result c e = let same : Centre square j centre ≡ result = cc in subst (IsTrueResult next nodes) same (all square j centre c)
@@ -289,30 +289,30 @@ module _ (next : List ℕ → ℕ) (nodes : List Node) where
 
     -- and the other way round
     pub full_leaps_of : AreTrue next nodes (results_of memo centres leaps) → AreFullLeaps next nodes memo
-    full_leaps_of all id half f =
+    full_leaps_of all id result_id f =
         let is : 64 * (0 + id / 64) + id % 64 ≡ id = omega arith in
-        let there = pages_there 0 memo.pages (id / 64) f.0 (id % 64) half (omega arith) f.1 f.2 in
-        all (FullLeap id half) (Contains-append_left in_pages (in_entries ++ (in_centres ++ in_leaps)) (FullLeap id half) (subst (λ n. Contains in_pages (FullLeap n half)) is there))
+        let there = pages_there 0 memo.pages (id / 64) f.0 (id % 64) result_id (omega arith) f.1 f.2 in
+        all (FullLeap id result_id) (Contains-append_left in_pages (in_entries ++ (in_centres ++ in_leaps)) (FullLeap id result_id) (subst (λ n. Contains in_pages (FullLeap n result_id)) is there))
 
     pub singles_of : AreTrue next nodes (results_of memo centres leaps) → AreSingles next nodes memo
-    singles_of all id j half c =
-        let result = Centre id j half in
+    singles_of all id j result_id c =
+        let result = Centre id j result_id in
         all result (Contains-append_right in_pages (in_entries ++ (in_centres ++ in_leaps)) result
-        (Contains-append_left in_entries (in_centres ++ in_leaps) result (filter_map-there single_result memo.order.entries (Single id j, Some half) result c refl)))
+        (Contains-append_left in_entries (in_centres ++ in_leaps) result (filter_map-there single_result memo.order.entries (Single id j, Some result_id) result c refl)))
 
     pub centres_of : AreTrue next nodes (results_of memo centres leaps) → AreRecentCentres next nodes centres.slots
-    centres_of all id j half c =
-        let result = Centre id j half in
+    centres_of all id j result_id c =
+        let result = Centre id j result_id in
         all result (Contains-append_right in_pages (in_entries ++ (in_centres ++ in_leaps)) result
         (Contains-append_right in_entries (in_centres ++ in_leaps) result
-        (Contains-append_left in_centres in_leaps result (filter_map-there centre_result centres.slots (Some ((id, j), half)) result c refl))))
+        (Contains-append_left in_centres in_leaps result (filter_map-there centre_result centres.slots (Some ((id, j), result_id)) result c refl))))
 
     pub leaps_of : AreTrue next nodes (results_of memo centres leaps) → AreRecentLeaps next nodes leaps.slots
-    leaps_of all nw ne sw se half c =
-        let result = LeapOfFour nw ne sw se half in
+    leaps_of all nw ne sw se result_id c =
+        let result = LeapOfFour nw ne sw se result_id in
         all result (Contains-append_right in_pages (in_entries ++ (in_centres ++ in_leaps)) result
         (Contains-append_right in_entries (in_centres ++ in_leaps) result
-        (Contains-append_right in_centres in_leaps result (filter_map-there leap_result leaps.slots (Some ((nw, ne, sw, se), half)) result c refl))))
+        (Contains-append_right in_centres in_leaps result (filter_map-there leap_result leaps.slots (Some ((nw, ne, sw, se), result_id)) result c refl))))
 
 -- a leaper with other tables, where these are true and no more than may be
 pub leaper_with : {next : List ℕ → ℕ} {S : Type 0} {nodes : List Node} {memo : MemoView} {centres : SlotsView (ℕ × ℕ)} {leaps : SlotsView (ℕ × ℕ × ℕ × ℕ)} {capacity : ℕ} {counting : Option Counting}

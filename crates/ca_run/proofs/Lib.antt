@@ -1,4 +1,4 @@
-pub mod Apart
+pub mod OwnStore
 pub mod ShowsPlane
 pub mod Lanes
 pub mod LeaperGrowth
@@ -9,15 +9,12 @@ pub mod Levels
 pub mod Trees
 pub mod PlaneLevels
 pub mod ReadWords
-pub mod RecentResults
 pub mod LiveFrames
 pub mod GridBricks
 pub mod Grids
 pub mod DenseRuns
-pub mod OrdersOfUse
 pub mod Costs
 pub mod GridCosts
-pub mod MemoKeys
 pub mod LeapResults
 pub mod CopiedLeaps
 pub mod AgedWords

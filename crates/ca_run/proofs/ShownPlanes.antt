@@ -20,8 +20,8 @@ use Rattle.ca_work.specs.Spending.{Spent, Spends}
 use Rattle.ca_run.specs.Leaping.{LeaperView, LeaperGrows}
 use Rattle.ca_run.specs.inner.Shown.{ShowsAt, FourShow, ThreeShow, TwoShow, AreThree}
 use Rattle.ca_bricks.specs.Overlaps.{side}
-use Rattle.ca_run.specs.inner.Pages.{MemoView, HasFullLeap, HasSingle, RemembersNoMore, IsBoundedMemo}
-use Rattle.ca_run.specs.inner.Slots.{SlotsView, HasRecent}
+use Rattle.ca_memo.specs.Pages.{MemoView, HasFullLeap, HasSingle, RemembersNoMore, IsBoundedMemo}
+use Rattle.ca_memo.specs.SlotResults.{SlotsView, HasRecent}
 use Rattle.ca_run.specs.Memo.{LeapResult, FullLeap, Centre, LeapOfFour, IsTrueResult}
 use Rattle.ca_run.specs.inner.Tables.{IsLeaper}
 use Rattle.ca_run.proofs.LeapResults.{AreFullLeaps, AreSingles, AreRecentCentres, AreRecentLeaps, full_leaps_of, singles_of, centres_of, leaps_of, leaper_with}
@@ -63,13 +63,13 @@ module _ (old new : List Node) (sound : IsSoundStore old) (grows : Grows old new
     at_east = at_stays east level p (a +ℤ side level) b h.at_east;
   }
 
-  pub centre_stays : (next : List ℕ → ℕ) (id k j half : ℕ) → IsCentre next old id k j half → IsCentre next new id k j half
-  centre_stays next id k j half h = record {
+  pub centre_stays : (next : List ℕ → ℕ) (id k j result_id : ℕ) → IsCentre next old id k j result_id → IsCentre next new id k j result_id
+  centre_stays next id k j result_id h = record {
     in_time = h.in_time;
     is_square = of_stays old new sound grows id (suc (suc k)) h.is_square;
-    is_half = of_stays old new sound grows half (suc k) h.is_half;
+    is_result = of_stays old new sound grows result_id (suc k) h.is_result;
     has_cells = λ u v s t.
-        ap (λ f. f u v) (cells_stay old new sound grows (suc k) half h.is_half)
+        ap (λ f. f u v) (cells_stay old new sound grows (suc k) result_id h.is_result)
         ∙ (h.has_cells u v s t ∙ ap (λ f. centre next f (2 ^ k) (2 ^ j) u v) (sym (cells_stay old new sound grows (suc (suc k)) id h.is_square)));
   }
 
@@ -99,12 +99,12 @@ module _ (old new : List Node) (sound : IsSoundStore old) (grows : Grows old new
   pub four_there : (k nw ne sw se : ℕ) → k ≤ 124 → IsOf old nw k → IsOf old ne k → IsOf old sw k → IsOf old se k → AreFour new k nw ne sw se
   four_there k nw ne sw se low f g h i = four_go k nw ne sw se (four_of low f g h i)
 
-  leap_stays : (next : List ℕ → ℕ) (k nw ne sw se half : ℕ) → IsLeap next old k nw ne sw se half → IsLeap next new k nw ne sw se half
-  leap_stays next k nw ne sw se half h = record {
+  leap_stays : (next : List ℕ → ℕ) (k nw ne sw se result_id : ℕ) → IsLeap next old k nw ne sw se result_id → IsLeap next new k nw ne sw se result_id
+  leap_stays next k nw ne sw se result_id h = record {
     are_four = four_go (suc k) nw ne sw se h.are_four;
-    is_half = of_stays old new sound grows half (suc k) h.is_half;
+    is_result = of_stays old new sound grows result_id (suc k) h.is_result;
     shows = λ p a b four.
-        at_stays half (suc k) (cells_after next p (2 ^ k)) (a +ℤ side k) (b +ℤ side k) (h.shows p a b (four_was (suc k) nw ne sw se p a b h.are_four four));
+        at_stays result_id (suc k) (cells_after next p (2 ^ k)) (a +ℤ side k) (b +ℤ side k) (h.shows p a b (four_was (suc k) nw ne sw se p a b h.are_four four));
   }
 
   pub result_stays : (next : List ℕ → ℕ) (result : LeapResult) → IsTrueResult next old result → IsTrueResult next new result
@@ -195,17 +195,17 @@ parts_at nodes id k quarters p a b are h =
 -- ---- centres
 
 -- the centre of a square that shows a plane shows what the plane is 2 ^ j generations later
-pub centre_at : (next : List ℕ → ℕ) (old new : List Node) → IsSoundStore old → Grows old new → (id k j half : ℕ) (p : ℤ → ℤ → ℕ) (a b : ℤ) → ShowsAt old id (suc (suc k)) p a b → IsCentre next new id k j half
-    → ShowsAt new half (suc k) (cells_after next p (2 ^ j)) (a +ℤ side k) (b +ℤ side k)
-centre_at next old new sound grows id k j half p a b shows is_centre =
+pub centre_at : (next : List ℕ → ℕ) (old new : List Node) → IsSoundStore old → Grows old new → (id k j result_id : ℕ) (p : ℤ → ℤ → ℕ) (a b : ℤ) → ShowsAt old id (suc (suc k)) p a b → IsCentre next new id k j result_id
+    → ShowsAt new result_id (suc k) (cells_after next p (2 ^ j)) (a +ℤ side k) (b +ℤ side k)
+centre_at next old new sound grows id k j result_id p a b shows is_centre =
     let up = two-pow-succ k in
     let up_again = two-pow-succ (suc k) in
     let wide : 2 ^ suc (suc k) ≡ 2 ^ k + 2 ^ k + (2 ^ k + 2 ^ k) = omega arith in
     let there = at_stays old new sound grows id (suc (suc k)) p a b shows in
-    let looks = looks_centre next (2 ^ k) (2 ^ j) (cell_of new (suc (suc k)) id) (cell_of new (suc k) half) p a b (pow_mono is_centre.in_time)
+    let looks = looks_centre next (2 ^ k) (2 ^ j) (cell_of new (suc (suc k)) id) (cell_of new (suc k) result_id) p a b (pow_mono is_centre.in_time)
     (subst (λ n. ShowsPlane n (cell_of new (suc (suc k)) id) p a b) wide there.looks)
     (λ u v s t. is_centre.has_cells u v (subst (λ n. u < n) (sym up) s) (subst (λ n. v < n) (sym up) t)) in
-    record { is_square = is_centre.is_half; looks = subst (λ n. ShowsPlane n (cell_of new (suc k) half) (cells_after next p (2 ^ j)) (a +ℤ side k) (b +ℤ side k)) (sym up) looks }
+    record { is_square = is_centre.is_result; looks = subst (λ n. ShowsPlane n (cell_of new (suc k) result_id) (cells_after next p (2 ^ j)) (a +ℤ side k) (b +ℤ side k)) (sym up) looks }
 
 -- a square shows its own cells from (0, 0) on
 pub at_corner : (nodes : List Node) (id level : ℕ) → IsOf nodes id level → ShowsAt nodes id level (from_corner (cell_of nodes level id)) (pos 0) (pos 0)
@@ -218,13 +218,13 @@ at_corner nodes id level h = record {
 }
 
 -- a square that shows the plane of another's cells later, a quarter of the side further in, is its centre
-pub is_centre_at : (next : List ℕ → ℕ) (old new : List Node) → IsSoundStore old → Grows old new → (id k j m n half : ℕ) → IsOf old id (suc (suc k)) → j ≤ k → m + n ≡ 2 ^ j
-    → ShowsAt new half (suc k) (cells_after next (cells_after next (from_corner (cell_of old (suc (suc k)) id)) m) n) (pos 0 +ℤ side k) (pos 0 +ℤ side k)
-    → IsCentre next new id k j half
-is_centre_at next old new sound grows id k j m n half square few sum shows = record {
+pub is_centre_at : (next : List ℕ → ℕ) (old new : List Node) → IsSoundStore old → Grows old new → (id k j m n result_id : ℕ) → IsOf old id (suc (suc k)) → j ≤ k → m + n ≡ 2 ^ j
+    → ShowsAt new result_id (suc k) (cells_after next (cells_after next (from_corner (cell_of old (suc (suc k)) id)) m) n) (pos 0 +ℤ side k) (pos 0 +ℤ side k)
+    → IsCentre next new id k j result_id
+is_centre_at next old new sound grows id k j m n result_id square few sum shows = record {
   in_time = few;
   is_square = of_stays old new sound grows id (suc (suc k)) square;
-  is_half = shows.is_square;
+  is_result = shows.is_square;
   has_cells = λ u v s t.
       let p = from_corner (cell_of old (suc (suc k)) id) in
       let ax : (pos 0 +ℤ side k) +ℤ pos u ≡ pos (2 ^ k + u) = omega (arith, ints) in
@@ -237,32 +237,32 @@ is_centre_at next old new sound grows id k j m n half square few sum shows = rec
 -- ---- what is remembered
 
 -- a centre of a square of some level is that of its level
-centre_of : (next : List ℕ → ℕ) (nodes : List Node) (id k j half : ℕ) → ((l : ℕ) × IsCentre next nodes id l j half) → IsOf nodes id (suc (suc k)) → IsCentre next nodes id k j half
-centre_of next nodes id k j half there square =
+centre_of : (next : List ℕ → ℕ) (nodes : List Node) (id k j result_id : ℕ) → ((l : ℕ) × IsCentre next nodes id l j result_id) → IsOf nodes id (suc (suc k)) → IsCentre next nodes id k j result_id
+centre_of next nodes id k j result_id there square =
     let same : there.0 ≡ k = omega (arith, there.1.is_square.is_level, square.is_level) in
-    subst (λ l. IsCentre next nodes id l j half) same there.1
+    subst (λ l. IsCentre next nodes id l j result_id) same there.1
 
 -- what is remembered for a square is its centre
 pub recalled : (next : List ℕ → ℕ) (nodes : List Node) (memo : MemoView) (id k j : ℕ) (found : Option ℕ) → AreSingles next nodes memo → IsOf nodes id (suc (suc k))
     → IfSome found (HasSingle memo id j) → IfSome found (IsCentre next nodes id k j)
 recalled next nodes memo id k j None all square e = tt
-recalled next nodes memo id k j (Some half) all square e = centre_of next nodes id k j half (all id j half e) square
+recalled next nodes memo id k j (Some result_id) all square e = centre_of next nodes id k j result_id (all id j result_id e) square
 
 -- and so is what a slot has for it
 pub kept_recalled : (next : List ℕ → ℕ) (nodes : List Node) (slots : List (Option ((ℕ × ℕ) × ℕ))) (id k j : ℕ) (found : Option ℕ) → AreRecentCentres next nodes slots → IsOf nodes id (suc (suc k))
     → IfSome found (HasRecent slots (id, j)) → IfSome found (IsCentre next nodes id k j)
 kept_recalled next nodes slots id k j None all square e = tt
-kept_recalled next nodes slots id k j (Some half) all square e = centre_of next nodes id k j half (all id j half e) square
+kept_recalled next nodes slots id k j (Some result_id) all square e = centre_of next nodes id k j result_id (all id j result_id e) square
 
 -- after a write, what is remembered by squares and times are still their centres
-centres_more : (next : List ℕ → ℕ) (nodes : List Node) (Was Is : ℕ → ℕ → ℕ → Type 0) (id k j half : ℕ) → ((other time centre : ℕ) → Was other time centre → (l : ℕ) × IsCentre next nodes other l time centre) → IsCentre next nodes id k j half
-    → ((other time centre : ℕ) → Is other time centre → Was other time centre ⊎ ((other ≡ id) × (time ≡ j) × (centre ≡ half))) → (other time centre : ℕ) → Is other time centre → (l : ℕ) × IsCentre next nodes other l time centre
-centres_more next nodes Was Is id k j half all this more other time centre h = elim (more other time centre h) [
+centres_more : (next : List ℕ → ℕ) (nodes : List Node) (Was Is : ℕ → ℕ → ℕ → Type 0) (id k j result_id : ℕ) → ((other time centre : ℕ) → Was other time centre → (l : ℕ) × IsCentre next nodes other l time centre) → IsCentre next nodes id k j result_id
+    → ((other time centre : ℕ) → Is other time centre → Was other time centre ⊎ ((other ≡ id) × (time ≡ j) × (centre ≡ result_id))) → (other time centre : ℕ) → Is other time centre → (l : ℕ) × IsCentre next nodes other l time centre
+centres_more next nodes Was Is id k j result_id all this more other time centre h = elim (more other time centre h) [
   | inl e ↦ all other time centre e
   | inr same ↦ (
     k,
     subst (λ x. IsCentre next nodes other k time x) (sym same.2)
-        (subst (λ x. IsCentre next nodes other k x half) (sym same.1) (subst (λ x. IsCentre next nodes x k j half) (sym same.0) this)),
+        (subst (λ x. IsCentre next nodes other k x result_id) (sym same.1) (subst (λ x. IsCentre next nodes x k j result_id) (sym same.0) this)),
   )
 ]
 
@@ -275,58 +275,58 @@ results_more Holds old new key square all this more other any h = elim (more oth
 ]
 
 -- they are still centres
-pub kept_more : (next : List ℕ → ℕ) (nodes : List Node) (old new : List (Option ((ℕ × ℕ) × ℕ))) (id k j half : ℕ) → AreRecentCentres next nodes old → IsCentre next nodes id k j half
-    → ((key : ℕ × ℕ) (any : ℕ) → HasRecent new key any → HasRecent old key any ⊎ ((key ≡ (id, j)) × (any ≡ half))) → AreRecentCentres next nodes new
-kept_more next nodes old new id k j half all this more other time =
-    results_more (λ key any. (l : ℕ) × IsCentre next nodes key.0 l key.1 any) old new (id, j) half (λ key. all key.0 key.1) (k, this) more (other, time)
+pub kept_more : (next : List ℕ → ℕ) (nodes : List Node) (old new : List (Option ((ℕ × ℕ) × ℕ))) (id k j result_id : ℕ) → AreRecentCentres next nodes old → IsCentre next nodes id k j result_id
+    → ((key : ℕ × ℕ) (any : ℕ) → HasRecent new key any → HasRecent old key any ⊎ ((key ≡ (id, j)) × (any ≡ result_id))) → AreRecentCentres next nodes new
+kept_more next nodes old new id k j result_id all this more other time =
+    results_more (λ key any. (l : ℕ) × IsCentre next nodes key.0 l key.1 any) old new (id, j) result_id (λ key. all key.0 key.1) (k, this) more (other, time)
 
 -- what a slot has for four squares is the one in their middle
 pub leap_recalled : (next : List ℕ → ℕ) (nodes : List Node) (slots : List (Option ((ℕ × ℕ × ℕ × ℕ) × ℕ))) (k nw ne sw se : ℕ) (found : Option ℕ) → AreRecentLeaps next nodes slots → AreFour nodes (suc k) nw ne sw se
     → IfSome found (HasRecent slots (nw, ne, sw, se)) → IfSome found (IsLeap next nodes k nw ne sw se)
 leap_recalled next nodes slots k nw ne sw se None all four e = tt
-leap_recalled next nodes slots k nw ne sw se (Some half) all four e =
-    let there = all nw ne sw se half e in
+leap_recalled next nodes slots k nw ne sw se (Some result_id) all four e =
+    let there = all nw ne sw se result_id e in
     let same : there.0 ≡ k = omega (arith, there.1.are_four.is_nw.is_level, four.is_nw.is_level) in
-    subst (λ l. IsLeap next nodes l nw ne sw se half) same there.1
+    subst (λ l. IsLeap next nodes l nw ne sw se result_id) same there.1
 
 -- and so after a write
-pub leaps_more : (next : List ℕ → ℕ) (nodes : List Node) (old new : List (Option ((ℕ × ℕ × ℕ × ℕ) × ℕ))) (k nw ne sw se half : ℕ) → AreRecentLeaps next nodes old → IsLeap next nodes k nw ne sw se half
-    → ((key : ℕ × ℕ × ℕ × ℕ) (any : ℕ) → HasRecent new key any → HasRecent old key any ⊎ ((key ≡ (nw, ne, sw, se)) × (any ≡ half))) → AreRecentLeaps next nodes new
-leaps_more next nodes old new k nw ne sw se half all this more a b c d =
-    results_more (λ key any. (l : ℕ) × IsLeap next nodes l key.0 key.1 key.2 key.3 any) old new (nw, ne, sw, se) half (λ key. all key.0 key.1 key.2 key.3) (k, this) more (a, b, c, d)
+pub leaps_more : (next : List ℕ → ℕ) (nodes : List Node) (old new : List (Option ((ℕ × ℕ × ℕ × ℕ) × ℕ))) (k nw ne sw se result_id : ℕ) → AreRecentLeaps next nodes old → IsLeap next nodes k nw ne sw se result_id
+    → ((key : ℕ × ℕ × ℕ × ℕ) (any : ℕ) → HasRecent new key any → HasRecent old key any ⊎ ((key ≡ (nw, ne, sw, se)) × (any ≡ result_id))) → AreRecentLeaps next nodes new
+leaps_more next nodes old new k nw ne sw se result_id all this more a b c d =
+    results_more (λ key any. (l : ℕ) × IsLeap next nodes l key.0 key.1 key.2 key.3 any) old new (nw, ne, sw, se) result_id (λ key. all key.0 key.1 key.2 key.3) (k, this) more (a, b, c, d)
 
 -- what its page has for a square is its centre
 pub full_leap_recalled : (next : List ℕ → ℕ) (nodes : List Node) (memo : MemoView) (id k j : ℕ) (found : Option ℕ) → j ≡ k → AreFullLeaps next nodes memo → IsOf nodes id (suc (suc k))
     → IfSome found (HasFullLeap memo id) → IfSome found (IsCentre next nodes id k j)
 full_leap_recalled next nodes memo id k j None time all square e = tt
-full_leap_recalled next nodes memo id k j (Some half) time all square e =
-    let there = all id half e in
+full_leap_recalled next nodes memo id k j (Some result_id) time all square e =
+    let there = all id result_id e in
     let same : there.0 ≡ k = omega (arith, there.1.is_square.is_level, square.is_level) in
-    subst (λ t. IsCentre next nodes id k t half) (sym time) (subst (λ l. IsCentre next nodes id l l half) same there.1)
+    subst (λ t. IsCentre next nodes id k t result_id) (sym time) (subst (λ l. IsCentre next nodes id l l result_id) same there.1)
 
 -- and so after a write
-pub full_leaps_more : (next : List ℕ → ℕ) (nodes : List Node) (old new : MemoView) (id k j half : ℕ) → j ≡ k → AreFullLeaps next nodes old → IsCentre next nodes id k j half
-    → ((other centre : ℕ) → HasFullLeap new other centre → HasFullLeap old other centre ⊎ ((other ≡ id) × (centre ≡ half))) → AreFullLeaps next nodes new
-full_leaps_more next nodes old new id k j half time all this more other centre h = elim (more other centre h) [
+pub full_leaps_more : (next : List ℕ → ℕ) (nodes : List Node) (old new : MemoView) (id k j result_id : ℕ) → j ≡ k → AreFullLeaps next nodes old → IsCentre next nodes id k j result_id
+    → ((other centre : ℕ) → HasFullLeap new other centre → HasFullLeap old other centre ⊎ ((other ≡ id) × (centre ≡ result_id))) → AreFullLeaps next nodes new
+full_leaps_more next nodes old new id k j result_id time all this more other centre h = elim (more other centre h) [
   | inl e ↦ all other centre e
   | inr same ↦ (
     k,
     subst (λ t. IsCentre next nodes other k t centre) time
-        (subst (λ x. IsCentre next nodes other k j x) (sym same.1) (subst (λ x. IsCentre next nodes x k j half) (sym same.0) this)),
+        (subst (λ x. IsCentre next nodes other k j x) (sym same.1) (subst (λ x. IsCentre next nodes x k j result_id) (sym same.0) this)),
   )
 ]
 
 -- and so is a single one after a write
-pub singles_more : (next : List ℕ → ℕ) (nodes : List Node) (old new : MemoView) (id k j half : ℕ) → AreSingles next nodes old → IsCentre next nodes id k j half
-    → ((other time centre : ℕ) → HasSingle new other time centre → HasSingle old other time centre ⊎ ((other ≡ id) × (time ≡ j) × (centre ≡ half))) → AreSingles next nodes new
-singles_more next nodes old new id k j half all this more = centres_more next nodes (HasSingle old) (HasSingle new) id k j half all this more
+pub singles_more : (next : List ℕ → ℕ) (nodes : List Node) (old new : MemoView) (id k j result_id : ℕ) → AreSingles next nodes old → IsCentre next nodes id k j result_id
+    → ((other time centre : ℕ) → HasSingle new other time centre → HasSingle old other time centre ⊎ ((other ≡ id) × (time ≡ j) × (centre ≡ result_id))) → AreSingles next nodes new
+singles_more next nodes old new id k j result_id all this more = centres_more next nodes (HasSingle old) (HasSingle new) id k j result_id all this more
 
 -- what a look-up leaves
 pub leaper_looked : {next : List ℕ → ℕ} {S : Type 0} {nodes : List Node} {old new : MemoView} {slots : SlotsView (ℕ × ℕ)} {leaps : SlotsView (ℕ × ℕ × ℕ × ℕ)} {capacity : ℕ} {counting : Option Counting}
     → RemembersNoMore old new → IsBoundedMemo new.pages new.order → IsLeaper next S nodes old slots leaps capacity counting → IsLeaper next S nodes new slots leaps capacity counting
 leaper_looked {next} {nodes} {old} {new} {slots} {leaps} f bounded h =
     let all = h.remembers.true_results in
-    leaper_with h new slots leaps (λ id half e. full_leaps_of next nodes old slots leaps all id half (f.full_leaps id half e)) (λ id j half e. singles_of next nodes old slots leaps all id j half (f.singles id j half e))
+    leaper_with h new slots leaps (λ id result_id e. full_leaps_of next nodes old slots leaps all id result_id (f.full_leaps id result_id e)) (λ id j result_id e. singles_of next nodes old slots leaps all id j result_id (f.singles id j result_id e))
     (centres_of next nodes old slots leaps all) (leaps_of next nodes old slots leaps all)
     (record { within = omega (arith, f.capacity, h.bounded.within); entries = bounded; few_centres = h.bounded.few_centres; few_leaps = h.bounded.few_leaps })
 

@@ -55,9 +55,9 @@ module _ (s : ℕ) (nw ne sw se : ℕ → ℕ → ℕ) (p : ℤ → ℤ → ℕ)
         sym (at_se s nw ne sw se x y) ∙ h (s + x) (s + y) (omega arith) (omega arith) ∙ ap₂ p u v
 
 -- the centre of a square that shows a plane shows what the plane is n generations later, a quarter of the side further in
-pub looks_centre : (next : List ℕ → ℕ) (h n : ℕ) (cells half : ℕ → ℕ → ℕ) (p : ℤ → ℤ → ℕ) (a b : ℤ) → n ≤ h → ShowsPlane (h + h + (h + h)) cells p a b
-    → ((u v : ℕ) → u < h + h → v < h + h → half u v ≡ centre next cells h n u v) → ShowsPlane (h + h) half (cells_after next p n) (a +ℤ pos h) (b +ℤ pos h)
-looks_centre next h n cells half p a b few shows is_centre u v i j =
+pub looks_centre : (next : List ℕ → ℕ) (h n : ℕ) (cells later : ℕ → ℕ → ℕ) (p : ℤ → ℤ → ℕ) (a b : ℤ) → n ≤ h → ShowsPlane (h + h + (h + h)) cells p a b
+    → ((u v : ℕ) → u < h + h → v < h + h → later u v ≡ centre next cells h n u v) → ShowsPlane (h + h) later (cells_after next p n) (a +ℤ pos h) (b +ℤ pos h)
+looks_centre next h n cells later p a b few shows is_centre u v i j =
     let ax : a +ℤ pos (h + u) ≡ (a +ℤ pos h) +ℤ pos u = omega (arith, ints) in
     let by : b +ℤ pos (h + v) ≡ (b +ℤ pos h) +ℤ pos v = omega (arith, ints) in
     is_centre u v i j

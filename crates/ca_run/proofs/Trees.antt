@@ -93,11 +93,11 @@ powers_fit l j k some low time =
     omega (arith, a, b, up)
 
 -- the centre of a tree with a wide empty margin is the tree 2 ^ j generations later
-pub leap_cells : (next : List ℕ → ℕ) → next (replicate 9 0) ≡ 0 → (s0 s1 s2 : List Node) → IsSoundStore s1 → Grows s1 s2 → (tree wide half : Tree) (k j root : ℕ) → 1 ≤ tree.level → tree.level ≤ k → j + 1 ≤ k
+pub leap_cells : (next : List ℕ → ℕ) → next (replicate 9 0) ≡ 0 → (s0 s1 s2 : List Node) → IsSoundStore s1 → Grows s1 s2 → (tree wide result : Tree) (k j root : ℕ) → 1 ≤ tree.level → tree.level ≤ k → j + 1 ≤ k
     → IsPadded s0 tree (suc (suc k)) s1 wide → IsCentre next s2 wide.root k j root
-    → half.root ≡ root → half.level ≡ suc k
-    → (x y : ℤ) → cell s2 half x y ≡ cells_after next (cell s0 tree) (2 ^ j) x y
-leap_cells next quiet s0 s1 s2 sound grows tree wide half k j root some low time padded is_centre e f x y =
+    → result.root ≡ root → result.level ≡ suc k
+    → (x y : ℤ) → cell s2 result x y ≡ cells_after next (cell s0 tree) (2 ^ j) x y
+leap_cells next quiet s0 s1 s2 sound grows tree wide result k j root some low time padded is_centre e f x y =
     let level = padded.has_level in
     let same = padded.cells in
     let p = cell s1 wide in
@@ -110,7 +110,7 @@ leap_cells next quiet s0 s1 s2 sound grows tree wide half k j root some low time
     (centre_at next s1 s2 sound grows wide.root k j root p (neg_ℤ (pos (2 ^ suc k))) (neg_ℤ (pos (2 ^ suc k))) shown is_centre) in
     let dies : DiesBeyond (2 ^ (tree.level - 1)) p = λ u v out. same u v ∙ tree_dies s0 tree some u v out in
     let later_dead_out = later_dies next quiet p (2 ^ (tree.level - 1)) (2 ^ j) (2 ^ k) (powers_fit tree.level j k some low time) dies in
-    tree_at s2 root k (cells_after next p (2 ^ j)) centred later_dead_out half e f x y ∙ after_same next p (cell s0 tree) (2 ^ j) same x y
+    tree_at s2 root k (cells_after next p (2 ^ j)) centred later_dead_out result e f x y ∙ after_same next p (cell s0 tree) (2 ^ j) same x y
 
 -- a binary digit that is 1 adds its power of two to those before it
 pub digit_adds : (n j : ℕ) → n / 2 ^ j % 2 ≡ 1 → n % 2 ^ j + 2 ^ j ≡ n % 2 ^ (1 + j)

@@ -13,18 +13,18 @@ use Rattle.ca_bricks.specs.Overlaps.{side}
 abbrev pub centre : (List ℕ → ℕ) → (ℕ → ℕ → ℕ) → ℕ → ℕ → ℕ → ℕ → ℕ
 centre next cells quarter n u v = cells_after next (from_corner cells) n (pos (quarter + u)) (pos (quarter + v))
 
--- half names the centre, of level k + 1, of a square of level k + 2 after 2 ^ j generations; j is at most k
-pub record IsCentre (next : List ℕ → ℕ) (nodes : List Node) (id k j half : ℕ) : Type 0 where
+-- result_id names the result, the centre of level k + 1, of a square of level k + 2 after 2 ^ j generations; j is at most k
+pub record IsCentre (next : List ℕ → ℕ) (nodes : List Node) (id k j result_id : ℕ) : Type 0 where
   pub in_time : j ≤ k
   pub is_square : IsOf nodes id (suc (suc k))
-  pub is_half : IsOf nodes half (suc k)
+  pub is_result : IsOf nodes result_id (suc k)
   pub has_cells : (u v : ℕ) → u < 2 ^ suc k → v < 2 ^ suc k
-      → cell_of nodes (suc k) half u v ≡ centre next (cell_of nodes (suc (suc k)) id) (2 ^ k) (2 ^ j) u v
+      → cell_of nodes (suc k) result_id u v ≡ centre next (cell_of nodes (suc (suc k)) id) (2 ^ k) (2 ^ j) u v
 
 -- four squares of level k + 1, and the one in their middle as far on as it can be known: whatever plane they show, it shows
 -- what that is 2 ^ k generations later
-pub record IsLeap (next : List ℕ → ℕ) (nodes : List Node) (k nw ne sw se half : ℕ) : Type 0 where
+pub record IsLeap (next : List ℕ → ℕ) (nodes : List Node) (k nw ne sw se result_id : ℕ) : Type 0 where
   pub are_four : AreFour nodes (suc k) nw ne sw se
-  pub is_half : IsOf nodes half (suc k)
+  pub is_result : IsOf nodes result_id (suc k)
   pub shows : (p : ℤ → ℤ → ℕ) (a b : ℤ) → FourShow nodes (suc k) nw ne sw se p a b
-      → ShowsAt nodes half (suc k) (cells_after next p (2 ^ k)) (a +ℤ side k) (b +ℤ side k)
+      → ShowsAt nodes result_id (suc k) (cells_after next p (2 ^ k)) (a +ℤ side k) (b +ℤ side k)

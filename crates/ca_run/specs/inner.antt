@@ -5,9 +5,7 @@ pub mod Beyond
 pub mod AgedPlanes
 pub mod Frames
 pub mod Dense
-pub mod Apart
+pub mod OwnStore
 pub mod AtCost
-pub mod Slots
-pub mod Pages
 pub mod Tables
 pub mod InUse

@@ -15,34 +15,28 @@ ghost use Rattle.ca_plane.specs.Limits.{most_memo};
 mod advance;
 mod aged;
 mod aged_plane;
-mod apart;
 mod base;
 mod centres;
 mod dense;
 mod from_aged_grid;
 mod from_grid;
 mod full_leap;
+mod garbage;
 mod in_use;
-mod key;
 mod lanes;
-mod memo;
 mod milestone;
-mod page;
 mod parts;
 mod planes;
-mod slot_key;
-mod slots;
 mod squares;
 mod to_aged_grid;
 mod to_grid;
 
 use crate::watch::Watch;
+use ca_memo::{Memo, Slots, slot_count};
 use ca_plane::{Automaton, Counting, Memory};
 use ca_quad::{Id, Store};
 use ca_work::{LeapFault, Work};
-use memo::Memo;
 pub use milestone::Milestone;
-use slots::Slots;
 use std::alloc::Global;
 use std::marker::Model;
 use std::num::NonZeroUsize;
@@ -127,7 +121,6 @@ impl<A: Automaton> Leaper<A> {
         ensures value { result ≡ self.now.spent.used }
         ensures most { result ≤ self.now.spent.limit }
     {
-        let _ = &self.store;
         self.work.used()
     }
 
@@ -135,7 +128,6 @@ impl<A: Automaton> Leaper<A> {
     pub fn work_limit(&self) -> u64
         ensures { result ≡ self.now.spent.limit }
     {
-        let _ = &self.store;
         self.work.limit()
     }
 
@@ -150,7 +142,6 @@ impl<A: Automaton> Leaper<A> {
         } }
         ensures most { self.old.spent.used ≤ self.old.spent.limit }
     {
-        let _ = &self.store;
         self.work.set_limit(limit);
     }
 
@@ -178,7 +169,6 @@ impl<A: Automaton> Leaper<A> {
         ensures work { EndsAtLimit self.new.spent result }
         ensures err { IfErr result (λ fault. fault ≡ LeapFault.Work) }
     {
-        let _ = &self.store;
         self.work.charge(units)
     }
 
@@ -212,7 +202,6 @@ impl<A: Automaton> Leaper<A> {
     fn set_room(&mut self, room: usize)
         ensures { self.new ≡ self.old }
     {
-        let _ = &self.store;
         self.room = room;
     }
 
@@ -234,67 +223,65 @@ impl<A: Automaton> Leaper<A> {
     }
 
     // What is remembered for a square.
-    fn recall(&mut self, id: Id, grain: u8, j: u8) -> Option<Id>
-        requires { IsOf self.old.nodes id (suc (suc grain)) }
-        ensures centre { IfSome result (IsCentre (A.next_of self.old.rule) self.old.nodes id grain j) }
+    fn recall(&mut self, id: Id, part_level: u8, j: u8) -> Option<Id>
+        requires { IsOf self.old.nodes id (suc (suc part_level)) }
+        ensures centre { IfSome result (IsCentre (A.next_of self.old.rule) self.old.nodes id part_level j) }
         ensures same { self.new ≡ self.old }
     {
-        if self.is_tile(grain) {
+        if self.is_tile(part_level) {
             return None;
         }
-        if j == grain {
+        if j == part_level {
             return self.memo.full_leap(id);
         }
-        if self.is_cheap(grain) {
+        if self.is_cheap(part_level) {
             return self.recent_centres.get((id, j));
         }
         self.memo.single(id, j)
     }
 
     // Remembers the centre of a square.
-    fn remember(&mut self, id: Id, grain: u8, j: u8, half: Id) -> Result<(), Memory>
-        requires { IsCentre (A.next_of self.old.rule) self.old.nodes id grain j half }
+    fn remember(&mut self, id: Id, part_level: u8, j: u8, result_id: Id) -> Result<(), Memory>
+        requires { IsCentre (A.next_of self.old.rule) self.old.nodes id part_level j result_id }
         ensures { self.new ≡ self.old }
     {
-        if self.is_tile(grain) {
+        if self.is_tile(part_level) {
             return Ok(());
         }
-        if j == grain {
-            return self.memo.put_full_leap(id, half);
+        if j == part_level {
+            return self.memo.put_full_leap(id, result_id);
         }
-        if self.is_cheap(grain) {
-            self.recent_centres.put((id, j), half);
+        if self.is_cheap(part_level) {
+            self.recent_centres.put((id, j), result_id);
             return Ok(());
         }
-        self.memo.put_single(id, j, half)
+        self.memo.put_single(id, j, result_id)
     }
 
     // What is remembered for four squares.
-    fn recall_leap(&self, nw: Id, ne: Id, sw: Id, se: Id, grain: u8) -> Option<Id>
-        requires { AreFour self.now.nodes (suc grain) nw ne sw se }
-        ensures { IfSome result (IsLeap (A.next_of self.now.rule) self.now.nodes grain nw ne sw se) }
+    fn recall_leap(&self, nw: Id, ne: Id, sw: Id, se: Id) -> Option<Id>
+        ensures { (k : ℕ) → AreFour self.now.nodes (suc k) nw ne sw se
+            → IfSome result (IsLeap (A.next_of self.now.rule) self.now.nodes k nw ne sw se) }
     {
-        let _ = grain;
         self.recent_leaps.get((nw, ne, sw, se))
     }
 
     // Remembers the square in the middle of four.
-    fn remember_leap(&mut self, nw: Id, ne: Id, sw: Id, se: Id, grain: u8, half: Id)
-        requires { IsLeap (A.next_of self.old.rule) self.old.nodes grain nw ne sw se half }
+    fn remember_leap(&mut self, nw: Id, ne: Id, sw: Id, se: Id, result_id: Id)
+        requires { (k : ℕ) × IsLeap (A.next_of self.old.rule) self.old.nodes k nw ne sw se result_id }
         ensures { self.new ≡ self.old }
     {
-        let _ = grain;
-        self.recent_leaps.put((nw, ne, sw, se), half);
+        self.recent_leaps.put((nw, ne, sw, se), result_id);
     }
 
     // Whether a square is a tile, whose centre costs less to work out again than to remember.
-    fn is_tile(&self, grain: u8) -> bool {
-        grain == 2 && self.counting.is_some()
+    fn is_tile(&self, part_level: u8) -> bool {
+        part_level == 2 && self.counting.is_some()
     }
 
     // Whether the centre of a square is worked out on words, which costs little.
-    fn is_cheap(&self, grain: u8) -> bool {
-        grain == 3 && self.counting.is_some()
+    fn is_cheap(&self, part_level: u8) -> bool {
+        part_level == 3 && self.counting.is_some()
     }
 
     // The 2 by 2 square of these cells.
@@ -306,15 +293,15 @@ impl<A: Automaton> Leaper<A> {
         self.store.leaf(nw, ne, sw, se)
     }
 
-    // The square of four whose own parts have the level `grain`.
-    fn join(&mut self, nw: Id, ne: Id, sw: Id, se: Id, grain: u8) -> Result<Id, Memory>
-        requires { AreFour self.old.nodes (suc grain) nw ne sw se }
-        ensures shows { (p : ℤ → ℤ → ℕ) (a b : ℤ) → FourShow self.old.nodes (suc grain) nw ne sw se p a b
-            → IfOk result (λ id. ShowsAt self.new.nodes id (suc (suc grain)) p a b) }
-        ensures square { IfOk result (λ id. IsOf self.new.nodes id (suc (suc grain))) }
+    // The square of four whose own parts have the level `part_level`.
+    fn join(&mut self, nw: Id, ne: Id, sw: Id, se: Id, part_level: u8) -> Result<Id, Memory>
+        requires { AreFour self.old.nodes (suc part_level) nw ne sw se }
+        ensures shows { (p : ℤ → ℤ → ℕ) (a b : ℤ) → FourShow self.old.nodes (suc part_level) nw ne sw se p a b
+            → IfOk result (λ id. ShowsAt self.new.nodes id (suc (suc part_level)) p a b) }
+        ensures square { IfOk result (λ id. IsOf self.new.nodes id (suc (suc part_level))) }
         ensures at_cost { GoesOnAtCost A self.old self.new 0 1 }
     {
-        let _ = grain;
+        let _ = part_level;
         self.store.join(nw, ne, sw, se)
     }
 }
@@ -325,5 +312,5 @@ fn table_slots(memo: usize, by_counting: bool) -> (usize, usize)
     ensures { result.0 + result.1 ≤ memo / 2 }
 {
     let centres = if by_counting { memo / 16 } else { 0 };
-    (slots::of_entries(centres), slots::of_entries(memo / 4))
+    (slot_count(centres), slot_count(memo / 4))
 }

@@ -45,10 +45,10 @@ abbrev pub generations : Option ℕ → ℕ
 generations None = 0
 generations (Some j) = 2 ^ j
 
--- they aren't too many for a centre of squares of level grain + 2
+-- they aren't too many for a centre of squares of level part_level + 2
 abbrev pub IsTimely : ℕ → Option ℕ → Type 0
-IsTimely grain None = Unit {0}
-IsTimely grain (Some j) = j ≤ grain
+IsTimely part_level None = Unit {0}
+IsTimely part_level (Some j) = j ≤ part_level
 
 -- the sixteen cells of a square of 4 by 4, row by row
 abbrev pub sixteen : (ℕ → ℕ → ℕ) → List ℕ

@@ -4,13 +4,13 @@ use Rattle.std.specs.List.{filter_map}
 use Rattle.ca_plane.specs.declared.counting.Counting.{Counting}
 use Rattle.ca_quad.specs.declared.node.Node.{Node}
 use Rattle.ca_quad.specs.Sound.{IsSoundStore}
-use Rattle.ca_run.specs.declared.leaper.key.Key.{Key}
-use Rattle.ca_run.specs.declared.leaper.key.Key.TheVariants.{Page as OfPage, Single}
-use Rattle.ca_run.specs.declared.leaper.page.Page.{Page}
+use Rattle.ca_memo.specs.declared.key.Key.{Key}
+use Rattle.ca_memo.specs.declared.key.Key.TheVariants.{Page as OfPage, Single}
+use Rattle.ca_memo.specs.declared.page.Page.{Page}
 use Rattle.ca_bricks.specs.Counting.{GoesBy}
 use Rattle.ca_run.specs.Memo.{LeapResult, FullLeap, Centre, LeapOfFour, Remembers}
-use Rattle.ca_run.specs.inner.Pages.{MemoView, IsBoundedMemo}
-use Rattle.ca_run.specs.inner.Slots.{SlotsView}
+use Rattle.ca_memo.specs.Pages.{MemoView, IsBoundedMemo}
+use Rattle.ca_memo.specs.SlotResults.{SlotsView}
 
 -- the results in so many slots, of squares from one on
 abbrev pub slot_results : ℕ → ℕ → List (Option ℕ) → List LeapResult

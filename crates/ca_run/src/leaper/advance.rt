@@ -72,7 +72,6 @@ impl<A: Automaton> Leaper<A> {
             ⊎ HasParted A self.old first.now n self.new }
         ensures work { EndsAtLimit self.new.spent result }
     {
-        let _ = &self.store;
         let mut reached = reached;
         let long = is_long(first.level, n);
         let squares = self.store.count();
@@ -81,7 +80,7 @@ impl<A: Automaton> Leaper<A> {
         match self.leap_on(first, &mut reached, n, watch) {
             Ok(()) => Ok(reached.tree),
             Err(LeapFault::Memory) if long && self.store.count() > squares => {
-                let end = self.leap_apart(first, reached, squares, n, watch);
+                let end = self.leap_in_own_store(first, reached, squares, n, watch);
                 // No more than can be counted.
                 let _used = self.used();
                 end
@@ -141,12 +140,12 @@ impl<A: Automaton> Leaper<A> {
         ensures work { EndsAtLimit self.new.spent result }
     {
         // So all that is live 2^j generations on lies in the centre.
-        let grain = self.store.level(tree.root).max(j + 1);
-        let wide = self.padded_tree(tree, grain + 2)?;
-        let root = self.centre(wide.root, grain, j, watch)?;
+        let part_level = self.store.level(tree.root).max(j + 1);
+        let wide = self.padded_tree(tree, part_level + 2)?;
+        let root = self.centre(wide.root, part_level, j, watch)?;
         let later = Tree {
             root,
-            level: grain + 1,
+            level: part_level + 1,
         };
         Ok(self.trim(later)?)
     }

@@ -116,16 +116,16 @@ impl<A: Automaton> Leaper<A> {
         }
     }
 
-    // The part of a square in the west or the east of it, and in the north or the south. The grain is the level of the part's own
+    // The part of a square in the west or the east of it, and in the north or the south. `part_level` is the level of the part's own
     // parts.
-    pub(super) fn part_in(&self, id: Id, grain: u8, west: bool, north: bool) -> Id
-        requires { IsOf self.now.nodes id (suc (suc grain)) }
-        ensures square { IsOf self.now.nodes result (suc grain) }
-        ensures shows { (p : ℤ → ℤ → ℕ) (a b : ℤ) → ShowsAt self.now.nodes id (suc (suc grain)) p a b
-            → ShowsAt self.now.nodes result (suc grain) p (if west then a else (a +ℤ side (suc grain)))
-            (if north then b else (b +ℤ side (suc grain))) }
+    pub(super) fn part_in(&self, id: Id, part_level: u8, west: bool, north: bool) -> Id
+        requires { IsOf self.now.nodes id (suc (suc part_level)) }
+        ensures square { IsOf self.now.nodes result (suc part_level) }
+        ensures shows { (p : ℤ → ℤ → ℕ) (a b : ℤ) → ShowsAt self.now.nodes id (suc (suc part_level)) p a b
+            → ShowsAt self.now.nodes result (suc part_level) p (if west then a else (a +ℤ side (suc part_level)))
+            (if north then b else (b +ℤ side (suc part_level))) }
     {
-        let (nw, ne, sw, se) = self.quarters(id, grain);
+        let (nw, ne, sw, se) = self.quarters(id, part_level);
         match (west, north) {
             (true, true) => nw,
             (false, true) => ne,

@@ -19,48 +19,48 @@ use ca_plane::Automaton;
 use ca_quad::Id;
 use ca_work::LeapFault;
 
-// A square's grain is the level of its sixteen parts: its own level is that and 2.
+// `part_level` is the level of a square's sixteen parts: its own level is that and 2.
 impl<A: Automaton> Leaper<A> {
     // The centre of a square after 2^j generations.
     #[cycle(leap)]
     pub(super) fn centre<W: Watch>(
         &mut self,
         id: Id,
-        grain: u8,
+        part_level: u8,
         j: u8,
         watch: &mut W,
     ) -> Result<Id, LeapFault>
-        requires centre { HasCentre self.old.nodes id grain j }
-        requires low { grain ≤ 123 }
-        ensures centre { IfOk result (IsCentre (A.next_of self.old.rule) self.new.nodes id grain j) }
-        ensures at_cost { GoesOnAtCost A self.old self.new (14 ^ grain) 0 }
+        requires centre { HasCentre self.old.nodes id part_level j }
+        requires low { part_level ≤ 123 }
+        ensures centre { IfOk result (IsCentre (A.next_of self.old.rule) self.new.nodes id part_level j) }
+        ensures at_cost { GoesOnAtCost A self.old self.new (14 ^ part_level) 0 }
         ensures work { EndsAtLimit self.new.spent result }
     {
         let _ = &self.store;
-        if let Some(half) = self.recall(id, grain, j) {
-            return Ok(half);
+        if let Some(result_id) = self.recall(id, part_level, j) {
+            return Ok(result_id);
         }
-        if let Some(half) = self.empty_centre(id, grain, j) {
-            self.remember(id, grain, j, half)?;
-            return Ok(half);
+        if let Some(result_id) = self.empty_centre(id, part_level) {
+            self.remember(id, part_level, j, result_id)?;
+            return Ok(result_id);
         }
         self.charge_watched(watch)?;
-        let half = self.new_centre(id, grain, j, watch)?;
-        self.remember(id, grain, j, half)?;
-        Ok(half)
+        let result_id = self.new_centre(id, part_level, j, watch)?;
+        self.remember(id, part_level, j, result_id)?;
+        Ok(result_id)
     }
 
     // The centre of a square that is empty.
-    fn empty_centre(&self, id: Id, grain: u8, j: u8) -> Option<Id>
-        requires { HasCentre self.now.nodes id grain j }
-        ensures { IfSome result (IsCentre (A.next_of self.now.rule) self.now.nodes id grain j) }
+    fn empty_centre(&self, id: Id, part_level: u8) -> Option<Id>
+        requires { IsOf self.now.nodes id (suc (suc part_level)) }
+        ensures { (j : ℕ) → j ≤ part_level
+            → IfSome result (IsCentre (A.next_of self.now.rule) self.now.nodes id part_level j) }
     {
-        let _ = j;
         if !self.store.is_empty(id) {
             return None;
         }
-        let (half, _, _, _) = self.quarters(id, grain);
-        Some(half)
+        let (result_id, _, _, _) = self.quarters(id, part_level);
+        Some(result_id)
     }
 
     // The centre of a square that isn't remembered.
@@ -68,56 +68,56 @@ impl<A: Automaton> Leaper<A> {
     fn new_centre<W: Watch>(
         &mut self,
         id: Id,
-        grain: u8,
+        part_level: u8,
         j: u8,
         watch: &mut W,
     ) -> Result<Id, LeapFault>
-        requires centre { HasCentre self.old.nodes id grain j }
-        requires low { grain ≤ 123 }
-        ensures centre { IfOk result (IsCentre (A.next_of self.old.rule) self.new.nodes id grain j) }
-        ensures at_cost { GoesOnAtCost A self.old self.new (14 ^ grain - 1) 19 }
+        requires centre { HasCentre self.old.nodes id part_level j }
+        requires low { part_level ≤ 123 }
+        ensures centre { IfOk result (IsCentre (A.next_of self.old.rule) self.new.nodes id part_level j) }
+        ensures at_cost { GoesOnAtCost A self.old self.new (14 ^ part_level - 1) 19 }
         ensures work { EndsAtLimit self.new.spent result }
     {
         let _ = &self.store;
-        if grain == 0 {
+        if part_level == 0 {
             return Ok(self.next_four(id)?);
         }
-        if let Some(words) = self.centre_words(id, grain, j) {
-            return Ok(self.from_centre_words(id, grain, j, words)?);
+        if let Some(words) = self.centre_words(id, part_level, j) {
+            return Ok(self.from_centre_words(words)?);
         }
-        if j == grain {
-            return self.centre_of_nine(id, grain - 1, Some(j - 1), j - 1, watch);
+        if j == part_level {
+            return self.centre_of_nine(id, part_level - 1, Some(j - 1), j - 1, watch);
         }
-        self.centre_of_nine(id, grain - 1, None, j, watch)
+        self.centre_of_nine(id, part_level - 1, None, j, watch)
     }
 
-    // The centre of a square by nine squares that overlap, each half as wide: their centres make four
+    // The centre of a square by nine squares that overlap, each result_id as wide: their centres make four
     // squares, and the centres of these are the result.
     #[cycle(leap)]
     fn centre_of_nine<W: Watch>(
         &mut self,
         id: Id,
-        grain: u8,
+        part_level: u8,
         first: Option<u8>,
         j: u8,
         watch: &mut W,
     ) -> Result<Id, LeapFault>
-        requires square { IsOf self.old.nodes id (suc (suc (suc grain))) }
-        requires low { grain ≤ 122 }
-        requires first { IsTimely grain first }
-        requires time { j ≤ grain }
+        requires square { IsOf self.old.nodes id (suc (suc (suc part_level))) }
+        requires low { part_level ≤ 122 }
+        requires first { IsTimely part_level first }
+        requires time { j ≤ part_level }
         ensures shows { (next : List ℕ → ℕ) (p : ℤ → ℤ → ℕ) (a b : ℤ) → next ≡ A.next_of self.old.rule
-            → ShowsAt self.old.nodes id (suc (suc (suc grain))) p a b
-            → IfOk result (λ half. ShowsAt self.new.nodes half (suc (suc grain))
+            → ShowsAt self.old.nodes id (suc (suc (suc part_level))) p a b
+            → IfOk result (λ result_id. ShowsAt self.new.nodes result_id (suc (suc part_level))
             (cells_after next (cells_after next p (generations first)) (2 ^ j))
-            (a +ℤ side (suc grain)) (b +ℤ side (suc grain))) }
-        ensures at_cost { GoesOnAtCost A self.old self.new (13 * 14 ^ grain) 19 }
+            (a +ℤ side (suc part_level)) (b +ℤ side (suc part_level))) }
+        ensures at_cost { GoesOnAtCost A self.old self.new (13 * 14 ^ part_level) 19 }
         ensures work { EndsAtLimit self.new.spent result }
     {
-        let rows = self.nine(id, grain, first, watch)?;
-        let (nw, ne) = self.pair(&rows.north, &rows.middle, grain, j, watch)?;
-        let (sw, se) = self.pair(&rows.middle, &rows.south, grain, j, watch)?;
-        Ok(self.join(nw, ne, sw, se, grain)?)
+        let rows = self.nine(id, part_level, first, watch)?;
+        let (nw, ne) = self.pair(&rows.north, &rows.middle, part_level, j, watch)?;
+        let (sw, se) = self.pair(&rows.middle, &rows.south, part_level, j, watch)?;
+        Ok(self.join(nw, ne, sw, se, part_level)?)
     }
 
     // The centres of the nine squares.
@@ -125,25 +125,25 @@ impl<A: Automaton> Leaper<A> {
     fn nine<W: Watch>(
         &mut self,
         id: Id,
-        grain: u8,
+        part_level: u8,
         first: Option<u8>,
         watch: &mut W,
     ) -> Result<Rows<Id>, LeapFault>
-        requires square { IsOf self.old.nodes id (suc (suc (suc grain))) }
-        requires low { grain ≤ 122 }
-        requires first { IsTimely grain first }
+        requires square { IsOf self.old.nodes id (suc (suc (suc part_level))) }
+        requires low { part_level ≤ 122 }
+        requires first { IsTimely part_level first }
         ensures shows { (next : List ℕ → ℕ) (p : ℤ → ℤ → ℕ) (a b : ℤ) → next ≡ A.next_of self.old.rule
-            → ShowsAt self.old.nodes id (suc (suc (suc grain))) p a b
-            → IfOk result (λ rows. NineShow self.new.nodes (suc grain) rows
-            (cells_after next p (generations first)) (a +ℤ side grain) (b +ℤ side grain)) }
-        ensures squares { IfOk result (AreNine self.new.nodes (suc grain)) }
-        ensures at_cost { GoesOnAtCost A self.old self.new (9 * 14 ^ grain) 9 }
+            → ShowsAt self.old.nodes id (suc (suc (suc part_level))) p a b
+            → IfOk result (λ rows. NineShow self.new.nodes (suc part_level) rows
+            (cells_after next p (generations first)) (a +ℤ side part_level) (b +ℤ side part_level)) }
+        ensures squares { IfOk result (AreNine self.new.nodes (suc part_level)) }
+        ensures at_cost { GoesOnAtCost A self.old self.new (9 * 14 ^ part_level) 9 }
         ensures work { EndsAtLimit self.new.spent result }
     {
-        let (nw, ne, sw, se) = self.quarters(id, grain + 1);
-        let north = self.trio(nw, ne, grain, first, watch)?;
-        let middle = self.middle_trio(nw, ne, sw, se, grain, first, watch)?;
-        let south = self.trio(sw, se, grain, first, watch)?;
+        let (nw, ne, sw, se) = self.quarters(id, part_level + 1);
+        let north = self.trio(nw, ne, part_level, first, watch)?;
+        let middle = self.middle_trio(nw, ne, sw, se, part_level, first, watch)?;
+        let south = self.trio(sw, se, part_level, first, watch)?;
         Ok(Rows {
             north,
             middle,
@@ -157,32 +157,31 @@ impl<A: Automaton> Leaper<A> {
         &mut self,
         west: Id,
         east: Id,
-        grain: u8,
+        part_level: u8,
         first: Option<u8>,
         watch: &mut W,
     ) -> Result<Trio<Id>, LeapFault>
-        requires west { IsOf self.old.nodes west (suc (suc grain)) }
-        requires east { IsOf self.old.nodes east (suc (suc grain)) }
-        requires low { grain ≤ 122 }
-        requires first { IsTimely grain first }
+        requires west { IsOf self.old.nodes west (suc (suc part_level)) }
+        requires east { IsOf self.old.nodes east (suc (suc part_level)) }
+        requires low { part_level ≤ 122 }
+        requires first { IsTimely part_level first }
         ensures shows { (next : List ℕ → ℕ) (p : ℤ → ℤ → ℕ) (a b : ℤ) → next ≡ A.next_of self.old.rule
-            → TwoShow self.old.nodes (suc (suc grain)) west east p a b
-            → IfOk result (λ three. ThreeShow self.new.nodes (suc grain) three
-            (cells_after next p (generations first)) (a +ℤ side grain) (b +ℤ side grain)) }
-        ensures squares { IfOk result (AreThree self.new.nodes (suc grain)) }
-        ensures at_cost { GoesOnAtCost A self.old self.new (3 * 14 ^ grain) 3 }
+            → TwoShow self.old.nodes (suc (suc part_level)) west east p a b
+            → IfOk result (λ three. ThreeShow self.new.nodes (suc part_level) three
+            (cells_after next p (generations first)) (a +ℤ side part_level) (b +ℤ side part_level)) }
+        ensures squares { IfOk result (AreThree self.new.nodes (suc part_level)) }
+        ensures at_cost { GoesOnAtCost A self.old self.new (3 * 14 ^ part_level) 3 }
         ensures work { EndsAtLimit self.new.spent result }
     {
-        let _ = &self.store;
-        let (_, nw, _, sw) = self.quarters(west, grain);
-        let (ne, _, se, _) = self.quarters(east, grain);
-        let west = self.first_centre(west, grain, first, watch)?;
-        let middle = self.first_inner(nw, ne, sw, se, grain, first, watch)?;
-        let east = self.first_centre(east, grain, first, watch)?;
+        let (_, nw, _, sw) = self.quarters(west, part_level);
+        let (ne, _, se, _) = self.quarters(east, part_level);
+        let west = self.first_centre(west, part_level, first, watch)?;
+        let middle = self.first_inner(nw, ne, sw, se, part_level, first, watch)?;
+        let east = self.first_centre(east, part_level, first, watch)?;
         Ok(Trio { west, middle, east })
     }
 
-    // The centres of the three squares in the middle row of four squares: each lies half in the north.
+    // The centres of the three squares in the middle row of four squares: each lies result_id in the north.
     #[cycle(leap)]
     fn middle_trio<W: Watch>(
         &mut self,
@@ -190,30 +189,29 @@ impl<A: Automaton> Leaper<A> {
         ne: Id,
         sw: Id,
         se: Id,
-        grain: u8,
+        part_level: u8,
         first: Option<u8>,
         watch: &mut W,
     ) -> Result<Trio<Id>, LeapFault>
-        requires four { AreFour self.old.nodes (suc (suc grain)) nw ne sw se }
-        requires low { grain ≤ 122 }
-        requires first { IsTimely grain first }
+        requires four { AreFour self.old.nodes (suc (suc part_level)) nw ne sw se }
+        requires low { part_level ≤ 122 }
+        requires first { IsTimely part_level first }
         ensures shows { (next : List ℕ → ℕ) (p : ℤ → ℤ → ℕ) (a b : ℤ) → next ≡ A.next_of self.old.rule
-            → FourShow self.old.nodes (suc (suc grain)) nw ne sw se p a b
-            → IfOk result (λ three. ThreeShow self.new.nodes (suc grain) three
-            (cells_after next p (generations first)) (a +ℤ side grain)
-            ((b +ℤ side (suc grain)) +ℤ side grain)) }
-        ensures squares { IfOk result (AreThree self.new.nodes (suc grain)) }
-        ensures at_cost { GoesOnAtCost A self.old self.new (3 * 14 ^ grain) 3 }
+            → FourShow self.old.nodes (suc (suc part_level)) nw ne sw se p a b
+            → IfOk result (λ three. ThreeShow self.new.nodes (suc part_level) three
+            (cells_after next p (generations first)) (a +ℤ side part_level)
+            ((b +ℤ side (suc part_level)) +ℤ side part_level)) }
+        ensures squares { IfOk result (AreThree self.new.nodes (suc part_level)) }
+        ensures at_cost { GoesOnAtCost A self.old self.new (3 * 14 ^ part_level) 3 }
         ensures work { EndsAtLimit self.new.spent result }
     {
-        let _ = &self.store;
-        let (_, _, a, b) = self.quarters(nw, grain);
-        let (_, _, c, d) = self.quarters(ne, grain);
-        let (e, f, _, _) = self.quarters(sw, grain);
-        let (g, h, _, _) = self.quarters(se, grain);
-        let west = self.first_inner(a, b, e, f, grain, first, watch)?;
-        let middle = self.first_inner(b, c, f, g, grain, first, watch)?;
-        let east = self.first_inner(c, d, g, h, grain, first, watch)?;
+        let (_, _, a, b) = self.quarters(nw, part_level);
+        let (_, _, c, d) = self.quarters(ne, part_level);
+        let (e, f, _, _) = self.quarters(sw, part_level);
+        let (g, h, _, _) = self.quarters(se, part_level);
+        let west = self.first_inner(a, b, e, f, part_level, first, watch)?;
+        let middle = self.first_inner(b, c, f, g, part_level, first, watch)?;
+        let east = self.first_inner(c, d, g, h, part_level, first, watch)?;
         Ok(Trio { west, middle, east })
     }
 
@@ -225,30 +223,30 @@ impl<A: Automaton> Leaper<A> {
         ne: Id,
         sw: Id,
         se: Id,
-        grain: u8,
+        part_level: u8,
         first: Option<u8>,
         watch: &mut W,
     ) -> Result<Id, LeapFault>
-        requires four { AreFour self.old.nodes (suc grain) nw ne sw se }
-        requires low { grain ≤ 122 }
-        requires first { IsTimely grain first }
+        requires four { AreFour self.old.nodes (suc part_level) nw ne sw se }
+        requires low { part_level ≤ 122 }
+        requires first { IsTimely part_level first }
         ensures shows { (next : List ℕ → ℕ) (p : ℤ → ℤ → ℕ) (a b : ℤ) → next ≡ A.next_of self.old.rule
-            → FourShow self.old.nodes (suc grain) nw ne sw se p a b
-            → IfOk result (λ half. ShowsAt self.new.nodes half (suc grain)
-            (cells_after next p (generations first)) (a +ℤ side grain) (b +ℤ side grain)) }
-        ensures square { IfOk result (λ half. IsOf self.new.nodes half (suc grain)) }
-        ensures at_cost { GoesOnAtCost A self.old self.new (14 ^ grain) 1 }
+            → FourShow self.old.nodes (suc part_level) nw ne sw se p a b
+            → IfOk result (λ result_id. ShowsAt self.new.nodes result_id (suc part_level)
+            (cells_after next p (generations first)) (a +ℤ side part_level) (b +ℤ side part_level)) }
+        ensures square { IfOk result (λ result_id. IsOf self.new.nodes result_id (suc part_level)) }
+        ensures at_cost { GoesOnAtCost A self.old self.new (14 ^ part_level) 1 }
         ensures work { EndsAtLimit self.new.spent result }
     {
         let _ = &self.store;
         match first {
-            None => Ok(self.inner_of_four(nw, ne, sw, se, grain)?),
+            None => Ok(self.inner_of_four(nw, ne, sw, se, part_level)?),
             Some(j) => {
-                if j == grain {
-                    return self.leap_of_four(nw, ne, sw, se, grain, watch);
+                if j == part_level {
+                    return self.leap_of_four(nw, ne, sw, se, part_level, watch);
                 }
-                let id = self.join(nw, ne, sw, se, grain)?;
-                self.centre(id, grain, j, watch)
+                let id = self.join(nw, ne, sw, se, part_level)?;
+                self.centre(id, part_level, j, watch)
             }
         }
     }
@@ -258,50 +256,50 @@ impl<A: Automaton> Leaper<A> {
     fn first_centre<W: Watch>(
         &mut self,
         id: Id,
-        grain: u8,
+        part_level: u8,
         first: Option<u8>,
         watch: &mut W,
     ) -> Result<Id, LeapFault>
-        requires square { IsOf self.old.nodes id (suc (suc grain)) }
-        requires low { grain ≤ 122 }
-        requires first { IsTimely grain first }
+        requires square { IsOf self.old.nodes id (suc (suc part_level)) }
+        requires low { part_level ≤ 122 }
+        requires first { IsTimely part_level first }
         ensures shows { (next : List ℕ → ℕ) (p : ℤ → ℤ → ℕ) (a b : ℤ) → next ≡ A.next_of self.old.rule
-            → ShowsAt self.old.nodes id (suc (suc grain)) p a b
-            → IfOk result (λ half. ShowsAt self.new.nodes half (suc grain)
-            (cells_after next p (generations first)) (a +ℤ side grain) (b +ℤ side grain)) }
-        ensures square { IfOk result (λ half. IsOf self.new.nodes half (suc grain)) }
-        ensures at_cost { GoesOnAtCost A self.old self.new (14 ^ grain) 1 }
+            → ShowsAt self.old.nodes id (suc (suc part_level)) p a b
+            → IfOk result (λ result_id. ShowsAt self.new.nodes result_id (suc part_level)
+            (cells_after next p (generations first)) (a +ℤ side part_level) (b +ℤ side part_level)) }
+        ensures square { IfOk result (λ result_id. IsOf self.new.nodes result_id (suc part_level)) }
+        ensures at_cost { GoesOnAtCost A self.old self.new (14 ^ part_level) 1 }
         ensures work { EndsAtLimit self.new.spent result }
     {
         let _ = &self.store;
         match first {
-            None => Ok(self.inner_square(id, grain)?),
-            Some(j) => self.centre(id, grain, j, watch),
+            None => Ok(self.inner_square(id, part_level)?),
+            Some(j) => self.centre(id, part_level, j, watch),
         }
     }
 
-    // The centres after 2^j generations of two squares that overlap by half, made of two rows of three.
+    // The centres after 2^j generations of two squares that overlap by result_id, made of two rows of three.
     #[cycle(leap)]
     fn pair<W: Watch>(
         &mut self,
         north: &Trio<Id>,
         south: &Trio<Id>,
-        grain: u8,
+        part_level: u8,
         j: u8,
         watch: &mut W,
     ) -> Result<(Id, Id), LeapFault>
-        requires north { AreThree self.old.nodes (suc grain) north.now }
-        requires south { AreThree self.old.nodes (suc grain) south.now }
-        requires low { grain ≤ 122 }
-        requires time { j ≤ grain }
+        requires north { AreThree self.old.nodes (suc part_level) north.now }
+        requires south { AreThree self.old.nodes (suc part_level) south.now }
+        requires low { part_level ≤ 122 }
+        requires time { j ≤ part_level }
         ensures shows { (next : List ℕ → ℕ) (p : ℤ → ℤ → ℕ) (a b : ℤ) → next ≡ A.next_of self.old.rule
-            → ThreeShow self.old.nodes (suc grain) north.now p a b
-            → ThreeShow self.old.nodes (suc grain) south.now p a (b +ℤ side (suc grain))
-            → IfOk result (λ two. TwoShow self.new.nodes (suc grain) two.0 two.1 (cells_after next p (2 ^ j))
-            (a +ℤ side grain) (b +ℤ side grain)) }
-        ensures west { IfOk result (λ two. IsOf self.new.nodes two.0 (suc grain)) }
-        ensures east { IfOk result (λ two. IsOf self.new.nodes two.1 (suc grain)) }
-        ensures at_cost { GoesOnAtCost A self.old self.new (2 * 14 ^ grain) 2 }
+            → ThreeShow self.old.nodes (suc part_level) north.now p a b
+            → ThreeShow self.old.nodes (suc part_level) south.now p a (b +ℤ side (suc part_level))
+            → IfOk result (λ two. TwoShow self.new.nodes (suc part_level) two.0 two.1 (cells_after next p (2 ^ j))
+            (a +ℤ side part_level) (b +ℤ side part_level)) }
+        ensures west { IfOk result (λ two. IsOf self.new.nodes two.0 (suc part_level)) }
+        ensures east { IfOk result (λ two. IsOf self.new.nodes two.1 (suc part_level)) }
+        ensures at_cost { GoesOnAtCost A self.old self.new (2 * 14 ^ part_level) 2 }
         ensures work { EndsAtLimit self.new.spent result }
     {
         let _ = &self.store;
@@ -310,7 +308,7 @@ impl<A: Automaton> Leaper<A> {
             north.middle,
             south.west,
             south.middle,
-            grain,
+            part_level,
             Some(j),
             watch,
         )?;
@@ -319,7 +317,7 @@ impl<A: Automaton> Leaper<A> {
             north.east,
             south.middle,
             south.east,
-            grain,
+            part_level,
             Some(j),
             watch,
         )?;
@@ -334,26 +332,26 @@ impl<A: Automaton> Leaper<A> {
         ne: Id,
         sw: Id,
         se: Id,
-        grain: u8,
+        part_level: u8,
         watch: &mut W,
     ) -> Result<Id, LeapFault>
-        requires four { AreFour self.old.nodes (suc grain) nw ne sw se }
-        requires low { grain ≤ 122 }
-        ensures leap { IfOk result (IsLeap (A.next_of self.old.rule) self.new.nodes grain nw ne sw se) }
-        ensures at_cost { GoesOnAtCost A self.old self.new (14 ^ grain) 1 }
+        requires four { AreFour self.old.nodes (suc part_level) nw ne sw se }
+        requires low { part_level ≤ 122 }
+        ensures leap { IfOk result (IsLeap (A.next_of self.old.rule) self.new.nodes part_level nw ne sw se) }
+        ensures at_cost { GoesOnAtCost A self.old self.new (14 ^ part_level) 1 }
         ensures work { EndsAtLimit self.new.spent result }
     {
         let _ = &self.store;
-        if let Some(half) = self.recall_leap(nw, ne, sw, se, grain) {
-            return Ok(half);
+        if let Some(result_id) = self.recall_leap(nw, ne, sw, se) {
+            return Ok(result_id);
         }
-        if grain == 0 {
+        if part_level == 0 {
             return self.counted_inner(nw, ne, sw, se, watch);
         }
-        let id = self.join(nw, ne, sw, se, grain)?;
-        let half = self.centre(id, grain, grain, watch)?;
-        self.remember_leap(nw, ne, sw, se, grain, half);
-        Ok(half)
+        let id = self.join(nw, ne, sw, se, part_level)?;
+        let result_id = self.centre(id, part_level, part_level, watch)?;
+        self.remember_leap(nw, ne, sw, se, result_id);
+        Ok(result_id)
     }
 
     // The four cells in the middle of four squares of 2 by 2, one generation on, which are remembered: a
@@ -374,9 +372,9 @@ impl<A: Automaton> Leaper<A> {
         if !self.are_empty(nw, ne, sw, se) {
             self.charge_watched(watch)?;
         }
-        let half = self.next_inner(nw, ne, sw, se)?;
-        self.remember_leap(nw, ne, sw, se, 0, half);
-        Ok(half)
+        let result_id = self.next_inner(nw, ne, sw, se)?;
+        self.remember_leap(nw, ne, sw, se, result_id);
+        Ok(result_id)
     }
 
     // Whether four squares are empty.

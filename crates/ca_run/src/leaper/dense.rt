@@ -37,7 +37,7 @@ const GREATEST: u8 = 62;
 pub(super) const AT_A_TIME: u64 = 1024;
 
 // How many grids are made at most, one after the other.
-const MOST_WALLS: u64 = 8;
+const MOST_GRIDS: u64 = 8;
 
 // How many levels more than the first tree the tree of a grid has at most, as a reach.
 pub(super) const MOST_GROWTH: u8 = 6;
@@ -128,7 +128,7 @@ impl<A: Automaton> Leaper<A> {
     {
         let _ = &self.store;
         let mut most = 0;
-        'grids: for _ in 0..MOST_WALLS {
+        'grids: for _ in 0..MOST_GRIDS {
             let Some(stretch) = self.step_by_rule(rule, first, &reached, n, watch)? else {
                 return Ok(reached);
             };
@@ -178,7 +178,6 @@ impl<A: Automaton> Leaper<A> {
     fn dense_rule(&self) -> Option<DenseRule>
         ensures { IfSome result (GoesDensely (A.next_of self.now.rule)) }
     {
-        let _ = &self.store;
         if let Some(counting) = self.counting {
             return Some(DenseRule::ByCounting(counting));
         }

@@ -71,12 +71,12 @@ impl SquareGrid for BrickGrid {
     }
 }
 
-// How many words the side of a square of this grain has.
-fn width(grain: u8) -> u64
-    requires { grain ≤ 61 }
-    ensures { result ≡ 2 ^ grain }
+// How many words a side has that can be halved so often.
+fn width(halvings: u8) -> u64
+    requires { halvings ≤ 61 }
+    ensures { result ≡ 2 ^ halvings }
 {
-    1 << grain
+    1 << halvings
 }
 
 impl<A: Automaton> Leaper<A> {
@@ -122,61 +122,61 @@ impl<A: Automaton> Leaper<A> {
         })
     }
 
-    // The square of the words of a grid from a place on. A square's grain is the number of times that its
-    // side of words can be halved: its level is that and 3.
+    // The square of the words of a grid from a place on. `halvings` is how often its side of words can be
+    // halved: its level is that and 3.
     #[cycle(from_grid)]
     pub(super) fn from_grid<S: SquareGrid>(
         &mut self,
         grid: &S,
-        grain: u8,
+        halvings: u8,
         at: WordPlace,
     ) -> Result<Id, LeapFault>
         requires grid { S.is_whole grid.now }
-        requires low { grain ≤ 61 }
-        requires near { IsNearGrid (2 ^ grain) at }
+        requires low { halvings ≤ 61 }
+        requires near { IsNearGrid (2 ^ halvings) at }
         ensures shows { (m : ℕ) (p : ℤ → ℤ → ℕ) → S.shows_plane grid.now m p
-            → IfOk result (λ id. ShowsAt self.new.nodes id (suc (suc (suc grain))) p
+            → IfOk result (λ id. ShowsAt self.new.nodes id (suc (suc (suc halvings))) p
             ((S.live_grid grid.now).x +ℤ eight at.i) ((S.live_grid grid.now).y +ℤ eight at.j)) }
-        ensures square { IfOk result (λ id. IsOf self.new.nodes id (suc (suc (suc grain)))) }
-        ensures at_cost { GoesOnAtCost A self.old self.new ((1 + S.units grid.now) * 14 ^ grain) 125 }
+        ensures square { IfOk result (λ id. IsOf self.new.nodes id (suc (suc (suc halvings)))) }
+        ensures at_cost { GoesOnAtCost A self.old self.new ((1 + S.units grid.now) * 14 ^ halvings) 125 }
         ensures work { EndsAtLimit self.new.spent result }
     {
-        if grain == 0 {
+        if halvings == 0 {
             return grid.square(self, at);
         }
-        let count = width(grain);
+        let count = width(halvings);
         let (words, rows) = at.naturals(count);
         if grid.is_blank_between(words, rows) {
-            return Ok(self.empty_square(grain + 3)?);
+            return Ok(self.empty_square(halvings + 3)?);
         }
-        self.from_grid_parts(grid, grain - 1, at)
+        self.from_grid_parts(grid, halvings - 1, at)
     }
 
-    // The same where it has parts: the grain is theirs. Each is counted before it is made.
+    // The same where it has parts: `halvings` is theirs. Each is counted before it is made.
     #[cycle(from_grid)]
     fn from_grid_parts<S: SquareGrid>(
         &mut self,
         grid: &S,
-        grain: u8,
+        halvings: u8,
         at: WordPlace,
     ) -> Result<Id, LeapFault>
         requires grid { S.is_whole grid.now }
-        requires low { grain ≤ 60 }
-        requires near { IsNearGrid (2 ^ grain + 2 ^ grain) at }
+        requires low { halvings ≤ 60 }
+        requires near { IsNearGrid (2 ^ halvings + 2 ^ halvings) at }
         ensures shows { (m : ℕ) (p : ℤ → ℤ → ℕ) → S.shows_plane grid.now m p
-            → IfOk result (λ id. ShowsAt self.new.nodes id (suc (suc (suc (suc grain)))) p
+            → IfOk result (λ id. ShowsAt self.new.nodes id (suc (suc (suc (suc halvings)))) p
             ((S.live_grid grid.now).x +ℤ eight at.i) ((S.live_grid grid.now).y +ℤ eight at.j)) }
-        ensures square { IfOk result (λ id. IsOf self.new.nodes id (suc (suc (suc (suc grain))))) }
-        ensures at_cost { GoesOnAtCost A self.old self.new (4 + 4 * ((1 + S.units grid.now) * 14 ^ grain)) 0 }
+        ensures square { IfOk result (λ id. IsOf self.new.nodes id (suc (suc (suc (suc halvings))))) }
+        ensures at_cost { GoesOnAtCost A self.old self.new (4 + 4 * ((1 + S.units grid.now) * 14 ^ halvings)) 0 }
         ensures work { EndsAtLimit self.new.spent result }
     {
-        let places = at.quarters(width(grain));
+        let places = at.quarters(width(halvings));
         self.charge(4)?;
-        let nw = self.from_grid(grid, grain, at)?;
-        let ne = self.from_grid(grid, grain, places.ne)?;
-        let sw = self.from_grid(grid, grain, places.sw)?;
-        let se = self.from_grid(grid, grain, places.se)?;
-        Ok(self.join(nw, ne, sw, se, grain + 2)?)
+        let nw = self.from_grid(grid, halvings, at)?;
+        let ne = self.from_grid(grid, halvings, places.ne)?;
+        let sw = self.from_grid(grid, halvings, places.sw)?;
+        let se = self.from_grid(grid, halvings, places.se)?;
+        Ok(self.join(nw, ne, sw, se, halvings + 2)?)
     }
 
     // The empty square of a level.

@@ -4,7 +4,7 @@ ghost use Rattle.std.specs.Prelude.{◌≡◌, IfOk, IfSome, OnOk};
 ghost use Rattle.ca_quad.specs.Trees.{IsIn, IsTree};
 ghost use Rattle.ca_quad.specs.Added.{IsCopy, AreCopies};
 ghost use Rattle.ca_run.specs.Leaping.{LeaperGrows};
-ghost use Rattle.ca_run.specs.inner.Apart.{IsCopyOfTree};
+ghost use Rattle.ca_run.specs.inner.OwnStore.{IsCopyOfTree};
 ghost use Rattle.ca_run.specs.inner.InUse.{IsTrueLeap, AreTrueLeaps};
 
 use super::Leaper;
@@ -120,10 +120,10 @@ impl<A: Automaton> Leaper<A> {
         ensures goes_on { LeaperGrows A self.old self.new }
         ensures spent { self.new.spent ≡ self.old.spent }
     {
-        let grain = from.level(leap.square) - 2;
+        let part_level = from.level(leap.square) - 2;
         let square = self.import_square(from, leap.square, copies)?;
         let centre = self.import_square(from, leap.centre, copies)?;
-        self.remember(square, grain, grain, centre)
+        self.remember(square, part_level, part_level, centre)
     }
 
     // The square of another store.

@@ -1,6 +1,6 @@
 //! Centres of squares of 16 by 16 and of 32 by 32 cells, many cells at once.
 
-ghost use Rattle.std.specs.Prelude.{◌≡◌, ◌+◌, ◌≤◌, ◌^◌, IfOk, IfSome};
+ghost use Rattle.std.specs.Prelude.{◌≡◌, ℕ, ◌+◌, ◌≤◌, ◌^◌, IfOk, IfSome};
 ghost use Rattle.ca_run.specs.Centre.{IsCentre};
 ghost use Rattle.ca_run.specs.inner.AtCost.{GoesOnAtCost};
 ghost use Rattle.ca_run.specs.inner.Centres.{HasCentre, ShowsCentre};
@@ -17,16 +17,16 @@ pub(super) enum CentreWords {
     Four(WordSquare),
 }
 
-// A square's grain is the level of its sixteen parts: its own level is that and 2.
+// `part_level` is the level of a square's sixteen parts: its own level is that and 2.
 impl<A: Automaton> Leaper<A> {
     // The words of a square's centre after 2^j generations: of 16 by 16 or of 32 by 32 cells, none of them
     // above 1, where the rule goes by a counting.
-    pub(super) fn centre_words(&self, id: Id, grain: u8, j: u8) -> Option<CentreWords>
-        requires { HasCentre self.now.nodes id grain j }
-        ensures { IfSome result (ShowsCentre (A.next_of self.now.rule) self.now.nodes id grain j) }
+    pub(super) fn centre_words(&self, id: Id, part_level: u8, j: u8) -> Option<CentreWords>
+        requires { HasCentre self.now.nodes id part_level j }
+        ensures { IfSome result (ShowsCentre (A.next_of self.now.rule) self.now.nodes id part_level j) }
     {
         let counting = self.counting()?;
-        match grain {
+        match part_level {
             2 => {
                 let words = self.words(id)?;
                 Some(CentreWords::One(words.centre(counting, leap_length(j))))
@@ -40,21 +40,14 @@ impl<A: Automaton> Leaper<A> {
         }
     }
 
-    // The centre of a square, made of its words.
-    pub(super) fn from_centre_words(
-        &mut self,
-        id: Id,
-        grain: u8,
-        j: u8,
-        words: CentreWords,
-    ) -> Result<Id, Memory>
-        requires square { HasCentre self.old.nodes id grain j }
-        requires words { ShowsCentre (A.next_of self.old.rule) self.old.nodes id grain j words }
-        ensures centre { IfOk result (IsCentre (A.next_of self.old.rule) self.new.nodes id grain j) }
+    // The centre of each square whose centre these words show.
+    pub(super) fn from_centre_words(&mut self, words: CentreWords) -> Result<Id, Memory>
+        ensures centre { (id k j : ℕ) → HasCentre self.old.nodes id k j
+            → ShowsCentre (A.next_of self.old.rule) self.old.nodes id k j words
+            → IfOk result (IsCentre (A.next_of self.old.rule) self.new.nodes id k j) }
         ensures at_cost { GoesOnAtCost A self.old self.new 0 5 }
     {
         let _ = &self.store;
-        let _ = (id, grain, j);
         match words {
             CentreWords::One(word) => self.from_word(word),
             CentreWords::Four(words) => self.from_words(words),

@@ -40,26 +40,33 @@ fn place_from(place: usize, first: usize, count: usize) -> Option<usize>
     Some(place - first)
 }
 
-// A square's grain is here the number of times that its side of words can be halved: its level is that and 3.
+// `halvings` is how often a square's side of words can be halved: its level is that and 3.
 impl<A: Automaton> Leaper<A> {
     // The word at a place of a square, where its bits can be told.
-    fn word_at<P: StatePlane>(&self, plane: P, id: Id, grain: u8, i: usize, j: usize) -> Option<u64>
-        requires square { IsOf self.now.nodes id (suc (suc (suc grain))) }
-        requires low { grain ≤ 61 }
-        requires place_x { suc i ≤ 2 ^ grain }
-        requires place_y { suc j ≤ 2 ^ grain }
-        ensures { (p : ℤ → ℤ → ℕ) (a b : ℤ) → ShowsAt self.now.nodes id (suc (suc (suc grain))) p a b
+    fn word_at<P: StatePlane>(
+        &self,
+        plane: P,
+        id: Id,
+        halvings: u8,
+        i: usize,
+        j: usize,
+    ) -> Option<u64>
+        requires square { IsOf self.now.nodes id (suc (suc (suc halvings))) }
+        requires low { halvings ≤ 61 }
+        requires place_x { suc i ≤ 2 ^ halvings }
+        requires place_y { suc j ≤ 2 ^ halvings }
+        ensures { (p : ℤ → ℤ → ℕ) (a b : ℤ) → ShowsAt self.now.nodes id (suc (suc (suc halvings))) p a b
             → IfSome result (λ word. WordShows word (λ x y. P.bit_of plane (p x y))
             (a +ℤ eight (pos i)) (b +ℤ eight (pos j))) }
     {
-        if grain == 0 {
+        if halvings == 0 {
             return plane.word(self, id);
         }
-        let half = 1 << (grain - 1);
-        let (nw, ne, sw, se) = self.quarters(id, grain + 1);
+        let half = 1 << (halvings - 1);
+        let (nw, ne, sw, se) = self.quarters(id, halvings + 1);
         let (west, east) = if j < half { (nw, ne) } else { (sw, se) };
         let part = if i < half { west } else { east };
-        self.word_at(plane, part, grain - 1, i % half, j % half)
+        self.word_at(plane, part, halvings - 1, i % half, j % half)
     }
 
     // The eight words side by side from a place of a square on, where their bits can be told.
@@ -67,22 +74,22 @@ impl<A: Automaton> Leaper<A> {
         &self,
         plane: P,
         id: Id,
-        grain: u8,
+        halvings: u8,
         i: usize,
         j: usize,
     ) -> Option<[u64; 8]>
-        requires square { IsOf self.now.nodes id (suc (suc (suc grain))) }
-        requires low { grain ≤ 61 }
-        requires place_x { i + 8 ≤ 2 ^ grain }
-        requires place_y { suc j ≤ 2 ^ grain }
-        ensures { (p : ℤ → ℤ → ℕ) (a b : ℤ) → ShowsAt self.now.nodes id (suc (suc (suc grain))) p a b
+        requires square { IsOf self.now.nodes id (suc (suc (suc halvings))) }
+        requires low { halvings ≤ 61 }
+        requires place_x { i + 8 ≤ 2 ^ halvings }
+        requires place_y { suc j ≤ 2 ^ halvings }
+        ensures { (p : ℤ → ℤ → ℕ) (a b : ℤ) → ShowsAt self.now.nodes id (suc (suc (suc halvings))) p a b
             → IfSome result (λ words. (k : ℕ) → k < 8
             → WordShows (slice_index words k) (λ x y. P.bit_of plane (p x y))
             (a +ℤ eight (pos (i + k))) (b +ℤ eight (pos j))) }
     {
         let mut words = [0; 8];
         'words: for k in 0..8 {
-            words[k] = self.word_at(plane, id, grain, i + k, j)?;
+            words[k] = self.word_at(plane, id, halvings, i + k, j)?;
         }
         Some(words)
     }

@@ -8,9 +8,9 @@ use Rattle.ca_run.proofs.ReadWords.{half_is, near, far, found_from}
 use Rattle.ca_run.proofs.leaper.Leaper.+word_at.Goals as goal
 use Rattle.ca_run.proofs.leaper.Leaper.+word_at.Goals.{then-j-half, else-j-half, then-i-half, else-i-half}
 
-pub returns-then-grain-eq0 : goal.returns-then-grain-eq0
-returns-then-grain-eq0 g t c = λ p a b shows.
-    let none : c.args.grain ≡ 0 = grind (arith, nat_tests, c.if-grain-eq0.true) in
+pub returns-then-halvings-eq0 : goal.returns-then-halvings-eq0
+returns-then-halvings-eq0 g t c = λ p a b shows.
+    let none : c.args.halvings ≡ 0 = grind (arith, nat_tests, c.if-halvings-eq0.true) in
     let i : suc c.args.i ≤ 2 ^ 0 = subst (λ n. suc c.args.i ≤ 2 ^ n) none c.requires.place_x in
     let j : suc c.args.j ≤ 2 ^ 0 = subst (λ n. suc c.args.j ≤ 2 ^ n) none c.requires.place_y in
     found_from c.word.result (λ x y. g.P.StatePlane.bit_of c.args.plane (p x y)) _ _ _ _ (omega (arith, ints, i)) (omega (arith, ints, j))
@@ -19,15 +19,15 @@ returns-then-grain-eq0 g t c = λ p a b shows.
 pub returns : goal.returns
 returns g t c = λ p a b shows.
     let nodes = c.args.self.now.nodes in
-    let k = c.args.grain - 1 in
+    let k = c.args.halvings - 1 in
     let i = c.args.i in
     let j = c.args.j in
     let q = c.quarters-nw.result in
     let l = suc (suc (suc k)) in
-    let some : 1 ≤ c.args.grain = grind (arith, nat_tests, c.if-grain-eq0.false) in
-    let one : c.args.grain + 1 ≡ suc c.args.grain = omega arith in
-    let two : c.args.grain + 1 ≡ suc (suc k) = omega (arith, some) in
-    let up : c.args.grain ≡ suc k = omega (arith, some) in
+    let some : 1 ≤ c.args.halvings = grind (arith, nat_tests, c.if-halvings-eq0.false) in
+    let one : c.args.halvings + 1 ≡ suc c.args.halvings = omega arith in
+    let two : c.args.halvings + 1 ≡ suc (suc k) = omega (arith, some) in
+    let up : c.args.halvings ≡ suc k = omega (arith, some) in
     let h = 1 * 2 ^ k % 2 ^ 64 in
     let e : h ≡ 2 ^ k = half_is k (omega (arith, c.requires.low)) in
     let wide_x : suc i ≤ 2 ^ suc k = subst (λ n. suc i ≤ 2 ^ n) up c.requires.place_x in

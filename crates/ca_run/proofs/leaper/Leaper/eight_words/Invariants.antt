@@ -8,6 +8,6 @@ use Rattle.ca_run.proofs.leaper.Leaper.eight_words.Given as goal
 abbrev pub invariant-words : goal.invariant-words
 invariant-words g l = record {
   size : length l.words ≡ 8;
-  shown : (p : ℤ → ℤ → ℕ) (a b : ℤ) → ShowsAt l.self.nodes l.id (suc (suc (suc l.grain))) p a b
+  shown : (p : ℤ → ℤ → ℕ) (a b : ℤ) → ShowsAt l.self.nodes l.id (suc (suc (suc l.halvings))) p a b
       → (m : ℕ) → m < l.k → WordShows (slice_index l.words m) (λ x y. g.P.StatePlane.bit_of l.plane (p x y)) (a +ℤ eight (pos (l.i + m))) (b +ℤ eight (pos l.j));
 }

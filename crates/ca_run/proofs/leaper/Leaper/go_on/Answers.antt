@@ -7,7 +7,7 @@ use Rattle.ca_quad.proofs.Shifts.{some_level}
 use Rattle.ca_run.specs.Advanced.{CanAdvance, IsAdvanced}
 use Rattle.ca_run.specs.Leaping.{LeaperGrows}
 use Rattle.ca_run.specs.inner.Dense.{HasReached, HasLeapt}
-use Rattle.ca_run.proofs.Apart.{keeps_then, keeps_of, back_again}
+use Rattle.ca_run.proofs.OwnStore.{keeps_then, keeps_of, back_again}
 use Rattle.ca_run.proofs.DenseRuns.{reached_level, advanced_at}
 use Rattle.ca_run.proofs.leaper.Leaper.go_on.Goals as goal
 
@@ -15,15 +15,15 @@ use Rattle.ca_run.proofs.leaper.Leaper.go_on.Goals as goal
 were_first : (old new : List Node) (squares : ℕ) → squares ≡ length old → Grows old new → take squares new ≡ old
 were_first old new squares count grows = subst (λ k. take k new ≡ old) (sym count) (grown_firsts old new grows)
 
-pub leap_apart-end-requires-clause-first : goal.leap_apart-end-requires-clause-first
-leap_apart-end-requires-clause-first g c =
+pub leap_in_own_store-end-requires-clause-first : goal.leap_in_own_store-end-requires-clause-first
+leap_in_own_store-end-requires-clause-first g c =
     let on = subst (λ l. LeaperGrows _ l c.leap_on.new.self) c.set_room.ensures c.in-Err-Memory.ensures.goes_on in
     let count = subst (λ l. c.count-squares.result ≡ length l.nodes) c.self.view_is c.count-squares.ensures.count in
     let firsts = were_first c.args.self.now.nodes c.leap_on.new.self.nodes c.count-squares.result count on.grows in
     subst (λ nodes. CanAdvance nodes c.args.first.now c.args.n) (sym firsts) c.requires.first
 
-pub leap_apart-end-requires-clause-reached : goal.leap_apart-end-requires-clause-reached
-leap_apart-end-requires-clause-reached g c =
+pub leap_in_own_store-end-requires-clause-reached : goal.leap_in_own_store-end-requires-clause-reached
+leap_in_own_store-end-requires-clause-reached g c =
     let next = g.A.Automaton.next_of in
     let s0 = c.args.self.now.nodes in
     let s1 = c.leap_on.new.self.nodes in
@@ -50,13 +50,13 @@ returns-in-Err-Memory-clause-advanced g c =
     let next = g.A.Automaton.next_of in
     let s0 = c.args.self.now.nodes in
     let s1 = c.leap_on.new.self.nodes in
-    let s2 = c.leap_apart-end.new.self.nodes in
+    let s2 = c.leap_in_own_store-end.new.self.nodes in
     let first = c.args.first.now in
-    let r = c.leap_apart-end.result in
+    let r = c.leap_in_own_store-end.result in
     let on = subst (λ l. LeaperGrows _ l c.leap_on.new.self) c.set_room.ensures c.in-Err-Memory.ensures.goes_on in
     let count = subst (λ l. c.count-squares.result ≡ length l.nodes) c.self.view_is c.count-squares.ensures.count in
     let firsts = were_first s0 s1 c.count-squares.result count on.grows in
-    let advanced = subst (λ nodes. IfOk r (IsAdvanced (next c.leap_on.new.self.rule) nodes first c.args.n s2)) firsts c.leap_apart-end.ensures.advanced in
+    let advanced = subst (λ nodes. IfOk r (IsAdvanced (next c.leap_on.new.self.rule) nodes first c.args.n s2)) firsts c.leap_in_own_store-end.ensures.advanced in
     subst (λ rule. IfOk r (IsAdvanced (next rule) s0 first c.args.n s2)) on.rule advanced
 
 pub returns-in-Err-Memory-clause-goes_on : goal.returns-in-Err-Memory-clause-goes_on
@@ -66,7 +66,7 @@ returns-in-Err-Memory-clause-goes_on g c =
     let on = subst (λ l. LeaperGrows _ l c.leap_on.new.self) c.set_room.ensures c.in-Err-Memory.ensures.goes_on in
     let count = subst (λ l. c.count-squares.result ≡ length l.nodes) c.self.view_is c.count-squares.ensures.count in
     let firsts = were_first s0 s1 c.count-squares.result count on.grows in
-    back_again (keeps_then (keeps_of on) c.leap_apart-end.ensures.keeps) (subst (λ nodes. Grows nodes c.leap_apart-end.new.self.nodes) firsts c.leap_apart-end.ensures.grows)
+    back_again (keeps_then (keeps_of on) c.leap_in_own_store-end.ensures.keeps) (subst (λ nodes. Grows nodes c.leap_in_own_store-end.new.self.nodes) firsts c.leap_in_own_store-end.ensures.grows)
 
 pub returns-in-Err-Memory-clause-costs : goal.returns-in-Err-Memory-clause-costs
 returns-in-Err-Memory-clause-costs g c =
@@ -76,5 +76,5 @@ returns-in-Err-Memory-clause-costs g c =
     inr (record {
       long = c.is_long-long.ensures c.if-long-2.true;
       used = omega (arith, c.used-used.ensures.value);
-      made = omega (arith, before.made, c.leap_apart-end.ensures.made);
+      made = omega (arith, before.made, c.leap_in_own_store-end.ensures.made);
     })

@@ -9,9 +9,9 @@ invariant_of-self g c = leaper_stays c.self.invariant c.join.ensures.grows
 
 pub returns-clause-shows : goal.returns-clause-shows
 returns-clause-shows g c = λ p a b four.
-    let there = subst (λ l. FourShow l.nodes (suc c.args.grain) c.args.nw c.args.ne c.args.sw c.args.se p a b) (sym c.self.view_is) four in
-    joined_at c.self.inside.store c.join.new.self c.join.result (suc c.args.grain) c.args.nw c.args.ne c.args.sw c.args.se p a b there (c.join.ensures.shows (suc c.args.grain) there.at_nw.is_square)
+    let there = subst (λ l. FourShow l.nodes (suc c.args.part_level) c.args.nw c.args.ne c.args.sw c.args.se p a b) (sym c.self.view_is) four in
+    joined_at c.self.inside.store c.join.new.self c.join.result (suc c.args.part_level) c.args.nw c.args.ne c.args.sw c.args.se p a b there (c.join.ensures.shows (suc c.args.part_level) there.at_nw.is_square)
 
 pub returns-clause-square : goal.returns-clause-square
 returns-clause-square g c =
-    joined_of c.join.new.self c.join.result (suc c.args.grain) _ (c.join.ensures.shows (suc c.args.grain) (subst (λ l. IsOf l.nodes c.args.nw (suc c.args.grain)) (sym c.self.view_is) c.requires.is_nw))
+    joined_of c.join.new.self c.join.result (suc c.args.part_level) _ (c.join.ensures.shows (suc c.args.part_level) (subst (λ l. IsOf l.nodes c.args.nw (suc c.args.part_level)) (sym c.self.view_is) c.requires.is_nw))

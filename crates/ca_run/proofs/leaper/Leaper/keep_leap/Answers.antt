@@ -8,7 +8,7 @@ use Rattle.ca_run.proofs.leaper.Leaper.keep_leap.Goals as goal
 pub remember-requires : goal.remember-requires
 remember-requires g c =
     leap_copied g.A.Automaton.next_of c.args.from.now c.args.self.now c.import_square.new.self c.import_square-2.new.self c.import_square.ensures.goes_on c.import_square-2.ensures.goes_on
-    c.args.leap c.level-grain.result c.in_ok-square.square c.in_ok-centre.centre c.requires.leap c.level-grain.ensures.level c.in_ok-square.ensures.copy c.in_ok-centre.ensures.copy
+    c.args.leap c.level-part_level.result c.in_ok-square.square c.in_ok-centre.centre c.requires.leap c.level-part_level.ensures.level c.in_ok-square.ensures.copy c.in_ok-centre.ensures.copy
 
 pub returns-clause-copies : goal.returns-clause-copies
 returns-clause-copies g c =

@@ -9,9 +9,9 @@ use Rattle.ca_quad.proofs.Cells.{one_up}
 use Rattle.ca_quad.proofs.Shifts.{some_level}
 use Rattle.ca_run.specs.declared.leaper.dense.ReachedTree.{ReachedTree}
 use Rattle.ca_run.specs.Leaping.{LeaperView, LeaperGrows}
-use Rattle.ca_run.specs.inner.Apart.{KeepsOn}
+use Rattle.ca_run.specs.inner.OwnStore.{KeepsOn}
 use Rattle.ca_run.specs.inner.Dense.{HasReached}
-use Rattle.ca_run.proofs.Apart.{keeps_then, keeps_of}
+use Rattle.ca_run.proofs.OwnStore.{keeps_then, keeps_of}
 use Rattle.ca_run.proofs.DenseRuns.{reached_kept, reached_level, reached_moved, leapt_on}
 use Rattle.ca_run.proofs.Trees.{shifted_one}
 use Rattle.ca_run.proofs.leaper.Leaper.leap_once.Goals as goal

@@ -2,7 +2,7 @@ use Rattle.std.proofs.Common.{◌≡◌, subst, arith}
 use Rattle.std.specs.Prelude.{replicate}
 use Rattle.ca_quad.proofs.Shifts.{some_level}
 use Rattle.ca_run.specs.inner.Dense.{HasReached}
-use Rattle.ca_run.proofs.Apart.{keeps_then, less_to_do}
+use Rattle.ca_run.proofs.OwnStore.{keeps_then, less_to_do}
 use Rattle.ca_run.proofs.DenseRuns.{reached_level, reached_moved, advanced_at}
 use Rattle.ca_run.proofs.leaper.Leaper.leap_until.Goals as goal
 

@@ -1,5 +1,5 @@
 use Rattle.std.proofs.Common.{◌+◌, ◌-◌, ◌*◌}
-use Rattle.ca_run.specs.inner.Apart.{KeepsOn}
+use Rattle.ca_run.specs.inner.OwnStore.{KeepsOn}
 use Rattle.ca_work.specs.Tries.{tries, most_tries}
 use Rattle.ca_run.specs.inner.Dense.{HasReached}
 use Rattle.ca_run.proofs.leaper.Leaper.leap_until.Given as goal

@@ -12,9 +12,9 @@ invariant_of-self g c =
     let all = c.self.invariant.remembers.true_results in
     let bounded = c.self.invariant.bounded in
     let put = c.put_full_leap in
-    let centre = subst (λ l. IsCentre (g.A.Automaton.next_of l.rule) l.nodes c.args.id c.args.grain c.args.j c.args.half) (sym c.self.view_is) c.requires in
-    let full = full_leaps_more next s.store s.memo put.new.self c.args.id c.args.grain c.args.j c.args.half (grind (arith, nat_tests)) (full_leaps_of next s.store s.memo s.recent_centres s.recent_leaps all) centre put.ensures.full_leaps in
-    leaper_with c.self.invariant put.new.self s.recent_centres s.recent_leaps full (λ id j half e. singles_of next s.store s.memo s.recent_centres s.recent_leaps all id j half (put.ensures.singles id j half e))
+    let centre = subst (λ l. IsCentre (g.A.Automaton.next_of l.rule) l.nodes c.args.id c.args.part_level c.args.j c.args.result_id) (sym c.self.view_is) c.requires in
+    let full = full_leaps_more next s.store s.memo put.new.self c.args.id c.args.part_level c.args.j c.args.result_id (grind (arith, nat_tests)) (full_leaps_of next s.store s.memo s.recent_centres s.recent_leaps all) centre put.ensures.full_leaps in
+    leaper_with c.self.invariant put.new.self s.recent_centres s.recent_leaps full (λ id j result_id e. singles_of next s.store s.memo s.recent_centres s.recent_leaps all id j result_id (put.ensures.singles id j result_id e))
     (centres_of next s.store s.memo s.recent_centres s.recent_leaps all) (leaps_of next s.store s.memo s.recent_centres s.recent_leaps all)
     (record { within = omega (arith, put.ensures.capacity, bounded.within); entries = put.ensures.bounded; few_centres = bounded.few_centres; few_leaps = bounded.few_leaps })
 
@@ -25,8 +25,8 @@ invariant_of-self-then-is_cheap g c =
     let all = c.self.invariant.remembers.true_results in
     let bounded = c.self.invariant.bounded in
     let put = c.put in
-    let centre = subst (λ l. IsCentre (g.A.Automaton.next_of l.rule) l.nodes c.args.id c.args.grain c.args.j c.args.half) (sym c.self.view_is) c.requires in
-    let more = kept_more next s.store s.recent_centres.slots put.new.self.slots c.args.id c.args.grain c.args.j c.args.half (centres_of next s.store s.memo s.recent_centres s.recent_leaps all) centre put.ensures.results in
+    let centre = subst (λ l. IsCentre (g.A.Automaton.next_of l.rule) l.nodes c.args.id c.args.part_level c.args.j c.args.result_id) (sym c.self.view_is) c.requires in
+    let more = kept_more next s.store s.recent_centres.slots put.new.self.slots c.args.id c.args.part_level c.args.j c.args.result_id (centres_of next s.store s.memo s.recent_centres s.recent_leaps all) centre put.ensures.results in
     leaper_with c.self.invariant s.memo put.new.self s.recent_leaps (full_leaps_of next s.store s.memo s.recent_centres s.recent_leaps all) (singles_of next s.store s.memo s.recent_centres s.recent_leaps all)
     more (leaps_of next s.store s.memo s.recent_centres s.recent_leaps all)
     (record { within = omega (arith, put.ensures.most, bounded.within); entries = bounded.entries; few_centres = put.ensures.bounded; few_leaps = bounded.few_leaps })
@@ -38,8 +38,8 @@ invariant_of-self-2 g c =
     let all = c.self.invariant.remembers.true_results in
     let bounded = c.self.invariant.bounded in
     let put = c.put_single in
-    let centre = subst (λ l. IsCentre (g.A.Automaton.next_of l.rule) l.nodes c.args.id c.args.grain c.args.j c.args.half) (sym c.self.view_is) c.requires in
-    let singles = singles_more next s.store s.memo put.new.self c.args.id c.args.grain c.args.j c.args.half (singles_of next s.store s.memo s.recent_centres s.recent_leaps all) centre put.ensures.singles in
-    leaper_with c.self.invariant put.new.self s.recent_centres s.recent_leaps (λ id half e. full_leaps_of next s.store s.memo s.recent_centres s.recent_leaps all id half (put.ensures.full_leaps id half e)) singles
+    let centre = subst (λ l. IsCentre (g.A.Automaton.next_of l.rule) l.nodes c.args.id c.args.part_level c.args.j c.args.result_id) (sym c.self.view_is) c.requires in
+    let singles = singles_more next s.store s.memo put.new.self c.args.id c.args.part_level c.args.j c.args.result_id (singles_of next s.store s.memo s.recent_centres s.recent_leaps all) centre put.ensures.singles in
+    leaper_with c.self.invariant put.new.self s.recent_centres s.recent_leaps (λ id result_id e. full_leaps_of next s.store s.memo s.recent_centres s.recent_leaps all id result_id (put.ensures.full_leaps id result_id e)) singles
     (centres_of next s.store s.memo s.recent_centres s.recent_leaps all) (leaps_of next s.store s.memo s.recent_centres s.recent_leaps all)
     (record { within = omega (arith, put.ensures.capacity, bounded.within); entries = put.ensures.bounded; few_centres = bounded.few_centres; few_leaps = bounded.few_leaps })

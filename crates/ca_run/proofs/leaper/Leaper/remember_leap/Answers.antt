@@ -10,8 +10,8 @@ invariant_of-self g c =
     let s = c.self.inside in
     let all = c.self.invariant.remembers.true_results in
     let bounded = c.self.invariant.bounded in
-    let leap = subst (λ l. IsLeap (g.A.Automaton.next_of l.rule) l.nodes c.args.grain c.args.nw c.args.ne c.args.sw c.args.se c.args.half) (sym c.self.view_is) c.requires in
+    let leap = subst (λ l. IsLeap (g.A.Automaton.next_of l.rule) l.nodes c.requires.0 c.args.nw c.args.ne c.args.sw c.args.se c.args.result_id) (sym c.self.view_is) c.requires.1 in
     leaper_with c.self.invariant s.memo s.recent_centres c.put.new.self (full_leaps_of next s.store s.memo s.recent_centres s.recent_leaps all) (singles_of next s.store s.memo s.recent_centres s.recent_leaps all)
     (centres_of next s.store s.memo s.recent_centres s.recent_leaps all)
-    (leaps_more next s.store s.recent_leaps.slots c.put.new.self.slots c.args.grain c.args.nw c.args.ne c.args.sw c.args.se c.args.half (leaps_of next s.store s.memo s.recent_centres s.recent_leaps all) leap c.put.ensures.results)
+    (leaps_more next s.store s.recent_leaps.slots c.put.new.self.slots c.requires.0 c.args.nw c.args.ne c.args.sw c.args.se c.args.result_id (leaps_of next s.store s.memo s.recent_centres s.recent_leaps all) leap c.put.ensures.results)
     (record { within = omega (arith, c.put.ensures.most, bounded.within); entries = bounded.entries; few_centres = bounded.few_centres; few_leaps = c.put.ensures.bounded })

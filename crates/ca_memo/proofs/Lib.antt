@@ -1,0 +1,3 @@
+pub mod OrdersOfUse
+pub mod MemoKeys
+pub mod RecentResults

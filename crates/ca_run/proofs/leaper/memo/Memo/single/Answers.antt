@@ -1,7 +1,0 @@
-use Rattle.std.proofs.Common.{sym, ◌∙◌, ap}
-use Rattle.std.specs.Option.{option_copied}
-use Rattle.ca_run.proofs.MemoKeys.{near-found}
-use Rattle.ca_run.proofs.leaper.memo.Memo.single.Goals as goal
-
-pub returns : goal.returns
-returns c = rw (sym c.self.view_is) (near-found c.self.inside.order.entries c.args.id c.args.j c.in_ok-peek.field-0.now (sym c.peek.ensures ∙ ap option_copied c.in_ok-peek.was))
