@@ -1,5 +1,5 @@
 -- The least of the eight texts of a plane.
-use Rattle.std.proofs.Common.{Result, Ok, Err, IfOk, Vec, Global, ◌≡◌, ℕ, List, [], ◌∷◌, refl, sym, ap, subst, ◌∙◌, inl, inr, ◌⊎◌, ℤ, neg_ℤ, arith}
+use Rattle.std.proofs.Common.{Result, Ok, Err, IfOk, Vec, Global, ◌≡◌, ℕ, ◌<◌, List, [], ◌∷◌, length, refl, sym, ap, subst, ◌∙◌, inl, inr, ◌⊎◌, ℤ, neg_ℤ, arith}
 use Rattle.std.proofs.lemmas.Int.{ints}
 use Rattle.ca_apgcode.specs.Order.{Precedes, IsLeastText}
 use Rattle.ca_apgcode.specs.Objects.{IsTextOf, IsTurnedText, IsLeastAmong}
@@ -8,6 +8,7 @@ use Rattle.ca_apgcode.specs.declared.orientation.Orientation.TheVariants.{Uprigh
 use Rattle.ca_apgcode.specs.inner.Least.{lesser, least_from}
 use Rattle.ca_apgcode.specs.inner.Rounds.{IsLeastWith}
 use Rattle.ca_apgcode.proofs.Leasts.{IsLeastText-from, is_each}
+use Rattle.ca_apgcode.proofs.Lengths.{shorter_first}
 use Rattle.ca_apgcode.proofs.PlaneBoxes.{one_text_of}
 
 -- a number that is turned round twice
@@ -45,6 +46,16 @@ pub least_of_turns : (first a b c d e f g h l m n o p q r s : List ℕ) → l �
     → s ≡ least_from (a ∷ b ∷ c ∷ d ∷ e ∷ f ∷ g ∷ h ∷ []) first
 least_of_turns first a b c d e f g h l m n o p q r s one two three four five six seven eight =
     eight ∙ ap (lesser h) (seven ∙ ap (lesser g) (six ∙ ap (lesser f) (five ∙ ap (lesser e) (four ∙ ap (lesser d) (three ∙ ap (lesser c) (two ∙ ap (lesser b) one))))))
+
+-- where all eight are longer than a text, that one is the least
+pub least_where_long : (p : ℤ → ℤ → ℕ) (first : List ℕ) → ((text : List ℕ) → IsTurnedText p text → length first < length text) → IsLeastWith (IsTurnedText p) first first
+least_where_long p first long = record {
+  is_one = inl refl;
+  not_after = (IsLeastText-from [] first).is_first.0;
+  is_first = λ text is.
+      let both = subst (IsLeastText (first ∷ text ∷ [])) (sym (shorter_first text first (long text is))) (IsLeastText-from (text ∷ []) first) in
+      both.is_first.1.0;
+}
 
 -- the least of a text of a plane and of all eight is the least of the eight
 pub least_among : (p : ℤ → ℤ → ℕ) (first least : List ℕ) → IsTextOf p first → IsLeastWith (IsTurnedText p) first least → IsLeastAmong (IsTurnedText p) least

@@ -51,7 +51,7 @@ pub MeasuresStrips-none : (cells : ℕ → ℕ → ℕ) → MeasuresStrips cells
 MeasuresStrips-none cells = record { text = []; begins = BeginsStrips-none cells [] refl; is_length = refl; most = omega arith }
 
 -- how long what is before a strip is
-joint_length : (count joint : ℕ) → joint ≡ (if count == 0 then 0 else 1) → (joint ≡ length {A = ℕ} (if count == 0 then [] else 122 ∷ [])) × (joint ≤ 1)
+pub joint_length : (count joint : ℕ) → joint ≡ (if count == 0 then 0 else 1) → (joint ≡ length {A = ℕ} (if count == 0 then [] else 122 ∷ [])) × (joint ≤ 1)
 joint_length count joint is = elim (cases_eq count 0) [
   | inl none ↦ let j : joint ≡ 0 = rw (eq-eqb count 0 none) at is in rw (eq-eqb count 0 none) (j, omega (arith, j))
   | inr some ↦ let j : joint ≡ 1 = rw (ne_eqb count 0 some) at is in rw (ne_eqb count 0 some) (j, omega (arith, j))

@@ -2,8 +2,10 @@ pub mod Columns
 pub mod Steps
 pub mod Strips
 pub mod Lengths
+pub mod MaskBits
 pub mod StepTexts
 pub mod StepColumns
+pub mod MaskLengths
 pub mod Codes
 pub mod StepsRead
 pub mod Drawn
@@ -16,7 +18,11 @@ pub mod Leasts
 pub mod RowBits
 pub mod ColumnBits
 pub mod PlaneBoxes
+pub mod LiveMasks
 pub mod TurnedBoxes
+pub mod SeenBoxes
+pub mod MirroredLengths
+pub mod TurnedTexts
 pub mod EightTexts
 pub mod Copies
 pub mod PhaseTexts

@@ -12,7 +12,7 @@ pub digit_again : (n : ℕ) → n < 36 → digit_value (digit n) ≡ Some n
 digit_again n low = grind (arith, nat_tests)
 
 -- a long gap is `y` and a digit
-long_text : (gap : ℕ) → 4 ≤ gap → gap_text gap ≡ 121 ∷ digit (gap - 4) ∷ []
+pub long_text : (gap : ℕ) → 4 ≤ gap → gap_text gap ≡ 121 ∷ digit (gap - 4) ∷ []
 long_text gap long = grind (arith, nat_tests)
 
 -- the digit of a column with cells is none of the letters before it

@@ -6,3 +6,4 @@ pub mod Drawing
 pub mod Turned
 pub mod Least
 pub mod Rounds
+pub mod Sides

@@ -11,7 +11,6 @@ mod turning;
 use ca_plane::Memory;
 use std::alloc::Global;
 use std::marker::Model;
-
 /// The most columns of a grid, and the most rows.
 pub const MOST_SIDE: u8 = 40;
 
@@ -95,6 +94,14 @@ impl Grid {
         ensures grid { IsGrid self.now }
     {
         self.columns[usize::from(x)]
+    }
+
+    /// The columns from the west, each as a binary number with the northern cell as 1.
+    pub(crate) fn columns(&self) -> &[u64]
+        ensures columns { result.now ≡ self.now.columns }
+        ensures most { length result.now ≤ 40 }
+    {
+        &self.columns
     }
 
     /// The least box round the cells of at most 40 columns, from the west, each of them a binary number below 2^40 with

@@ -7,13 +7,14 @@ mod fault;
 mod front;
 mod grid;
 pub mod laws;
-mod length;
+mod masks;
 mod object;
 mod order;
 mod orientation;
 mod phases;
 mod reading;
 mod rounds;
+mod sides;
 mod writing;
 
 pub use fault::ReadFault;

@@ -8,8 +8,8 @@ ghost use Rattle.ca_apgcode.specs.inner.Least.{lesser};
 ghost use Rattle.ca_apgcode.specs.inner.Rounds.{IsLesserWith, IsNextTurn, IsLeastWith};
 
 use crate::grid::Grid;
-use crate::length::representation_length;
 use crate::order::compare;
+use crate::sides::representation_length;
 use crate::writing::representation;
 use ca_plane::Memory;
 use std::alloc::Global;

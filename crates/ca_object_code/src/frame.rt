@@ -2,7 +2,7 @@
 
 ghost use Rattle.std.specs.Prelude.{◌≡◌, ◌+◌, ◌*◌, ◌/◌, ◌%◌, ◌<◌, ◌≤◌, [], ℕ, length, slice_index, get_or, IfOk};
 ghost use Rattle.ca_bricks.specs.Bricks.{HasBlankEdge, HasNeighbours, IsNextBrick};
-ghost use Rattle.ca_object_code.specs.inner.Frames.{IsFrameOf, frame_row};
+ghost use Rattle.ca_object_code.specs.inner.Frames.{IsDarkBeside, IsFrameOf, frame_row};
 
 use ca_apgcode::Grid;
 use ca_bricks::{Queue, blank_bricks, generation};
@@ -15,12 +15,12 @@ const ACROSS: usize = 3;
 // How many a frame has: those at its edge are blank, and three in the middle, one below the other, have the cells.
 const BRICKS: usize = 15;
 
-// The bricks that are stepped: those that have others on all sides, where the last brick of a row lies beside the first one of
-// the next row, as in ca_bricks.
-const INNER: [usize; 7] = [4, 5, 6, 7, 8, 9, 10];
+// The bricks in the middle, which are stepped. The others see no live cell.
+const MIDDLE: [usize; 3] = [4, 7, 10];
 
-/// How many bricks are stepped in a generation.
-pub(crate) const STEPPED: u64 = 7;
+/// What a generation counts as work: as many bricks as have others on all sides, where the last brick of a row lies beside the
+/// first one of the next row, as in ca_bricks.
+pub(crate) const WORK: u64 = 7;
 
 /// How many rows the bricks in the middle have.
 pub(crate) const ROWS: usize = 48;
@@ -58,13 +58,15 @@ fn frame_row(grid: &Grid, row: u8) -> u64
     grid.column(row - 1) << 1
 }
 
-/// A frame one generation on. The bricks that aren't stepped are blank then.
+/// A frame one generation on, where no cell is born that has no live neighbour. The bricks that aren't stepped are blank then.
 pub(crate) fn next_frame(
     alloc: Global,
     mut bricks: Vec<[u64; 16]>,
     counting: Counting,
 ) -> Result<Vec<[u64; 16]>, Memory>
-    requires { length bricks.items ≡ 15 }
+    requires size { length bricks.items ≡ 15 }
+    requires dark { IsDarkBeside bricks.items }
+    requires quiet { counting.birth % 2 ≡ 0 }
     ensures size { IfOk result (λ later. length later.items ≡ 15) }
     ensures edge { IfOk result (λ later. HasBlankEdge 3 later.items) }
     ensures next { IfOk result (λ later. (t : ℕ) → HasNeighbours 3 15 t → IsNextBrick counting 3 bricks.items later.items t) }
@@ -75,7 +77,7 @@ pub(crate) fn next_frame(
         ACROSS,
         &mut bricks,
         &mut before,
-        &INNER,
+        &MIDDLE,
         &mut queue,
         counting,
     )?;

@@ -22,7 +22,7 @@ pub(crate) fn box_of_rows(alloc: Global, rows: &[u64; ROWS]) -> Result<Option<Gr
     if !are_blank_from(rows, end) {
         return Ok(None);
     }
-    let mut columns = Vec::new(alloc);
+    let mut columns = Vec::with_capacity(alloc, usize::from(MOST_SIDE))?;
     'columns: for r in first..end {
         let column = rows[r] >> low;
         if column >> MOST_SIDE != 0 {

@@ -1,6 +1,6 @@
 //! Phases that fit into 40 by 40 cells, which are stepped in a frame of bricks and not as trees.
 
-ghost use Rattle.std.specs.Prelude.{◌≡◌, ◌≤◌, ◌+◌, ◌-◌, ◌*◌, ℕ, ℤ, List, replicate, IfOk, IfSome, Some};
+ghost use Rattle.std.specs.Prelude.{◌≡◌, ◌≤◌, ◌+◌, ◌-◌, ◌*◌, ◌%◌, ℕ, ℤ, List, replicate, IfOk, IfSome, Some};
 ghost use Rattle.ca_plane.specs.Generations.{cells_after};
 ghost use Rattle.ca_bricks.specs.Counting.{GoesBy};
 ghost use Rattle.ca_quad.specs.Boxes.{AreSquareBoxes};
@@ -12,7 +12,7 @@ ghost use Rattle.ca_pattern.specs.PatternTrees.{IsNearTree};
 ghost use Rattle.ca_object_code.specs.Countings.{HasTwoStates};
 
 use crate::boxes::box_round;
-use crate::frame::{STEPPED, frame_of, middle_rows, next_frame};
+use crate::frame::{WORK, frame_of, middle_rows, next_frame};
 use crate::frame_box::box_of_rows;
 use ca_apgcode::{Grid, least_with};
 use ca_plane::{Automaton, Counting, Memory};
@@ -21,7 +21,7 @@ use ca_run::{LeapFault, Leaper};
 use std::alloc::Global;
 
 /// The least text of so many phases, where all of them fit into 40 by 40 cells and the rule goes by this counting. None says
-/// nothing. Each brick that is stepped counts as a unit of work.
+/// nothing.
 pub(crate) fn least_of_small<A: Automaton>(
     alloc: Global,
     leaper: &mut Leaper<A>,
@@ -44,10 +44,13 @@ pub(crate) fn least_of_small<A: Automaton>(
     let Some(first) = box_round(alloc, leaper.store(), tree, boxes)? else {
         return Ok(None);
     };
+    if counting.birth % 2 != 0 {
+        return Ok(None);
+    }
     let mut least = least_with(alloc, None, &first)?;
     let mut now = first;
     'phases: for n in 0..count - 1 {
-        leaper.spend(STEPPED)?;
+        leaper.spend(WORK)?;
         let Some(later) = next_box(alloc, &now, counting)? else {
             return Ok(None);
         };
@@ -60,10 +63,13 @@ pub(crate) fn least_of_small<A: Automaton>(
 
 // The least box round the live cells of a plane one generation on, where it fits into 40 by 40 cells.
 fn next_box(alloc: Global, grid: &Grid, counting: Counting) -> Result<Option<Grid>, Memory>
+    requires { counting.birth % 2 ≡ 0 }
     ensures { (next : List ℕ → ℕ) (cells : ℤ → ℤ → ℕ) → GoesBy next counting → next (replicate 9 0) ≡ 0
         → HasTwoStates cells → IsBoxRound cells grid.now
         → IfOk result (λ found. IfSome found (IsBoxRound (cells_after next cells 1))) }
 {
+    // Says what holds of every grid.
+    let _ = grid.width();
     let bricks = frame_of(alloc, grid)?;
     let later = next_frame(alloc, bricks, counting)?;
     box_of_rows(alloc, &middle_rows(&later))

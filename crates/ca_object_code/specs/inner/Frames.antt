@@ -2,7 +2,7 @@
 use Rattle.std.specs.Prelude.{◌≡◌, ℕ, zero, suc, ◌+◌, ◌*◌, ◌<◌, ◌⊎◌, ℤ, pos, ◌+ℤ◌, ◌<ℤ◌, ◌≤ℤ◌, List, [], length, slice_index, get_or, Option, Some, None}
 use Rattle.std.specs.Int.{bit_at}
 use Rattle.ca_plane.specs.declared.counting.Counting.{Counting}
-use Rattle.ca_bricks.specs.Bricks.{IsBlank}
+use Rattle.ca_bricks.specs.Bricks.{IsBlank, IsBlankRound, HasNeighbours}
 use Rattle.ca_bricks.specs.Counting.{GoesBy}
 use Rattle.ca_apgcode.specs.Grids.{GridCells}
 use Rattle.ca_apgcode.specs.Objects.{live}
@@ -21,6 +21,10 @@ pub record IsFrameOf (grid : GridCells) (bricks : List (List ℕ)) : Type 0 wher
   pub size : length bricks ≡ 15
   pub middle : (k y : ℕ) → k < 3 → y < 16 → slice_index (get_or bricks (4 + 3 * k) []) y ≡ frame_row grid (16 * k + y)
   pub blank : (t : ℕ) → (IsMiddle t → ⊥) → IsBlank (get_or bricks t [])
+
+-- of a frame the bricks beside those in the middle, which have others on all sides too, see no live cell
+abbrev pub IsDarkBeside : List (List ℕ) → Type 0
+IsDarkBeside bricks = (t : ℕ) → HasNeighbours 3 15 t → (IsMiddle t → ⊥) → IsBlankRound 3 bricks t
 
 -- the place lies beside 48 columns and 64 rows from (left, top) on
 abbrev pub IsBeside : (left top x y : ℤ) → Type 0

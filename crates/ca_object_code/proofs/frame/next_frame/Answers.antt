@@ -1,20 +1,11 @@
-use Rattle.std.proofs.Common.{◌≡◌, ℕ, zero, suc, ◌+◌, ◌-◌, ◌<◌, [], ◌∷◌, slice_index, refl, ◌∙◌, arith}
+use Rattle.std.proofs.Common.{sym, subst, inl, inr, arith}
+use Rattle.ca_bricks.specs.Bricks.{HasNeighbours}
+use Rattle.ca_object_code.proofs.FrameRounds.{dark_rests}
 use Rattle.ca_object_code.proofs.frame.next_frame.Goals as goal
 
--- the bricks that have others on all sides are those of the list
-inner_at : (k : ℕ) → k < 7 → slice_index (4 ∷ 5 ∷ 6 ∷ 7 ∷ 8 ∷ 9 ∷ 10 ∷ []) k ≡ 4 + k
-inner_at zero low = refl
-inner_at (suc zero) low = refl
-inner_at (suc (suc zero)) low = refl
-inner_at (suc (suc (suc zero))) low = refl
-inner_at (suc (suc (suc (suc zero)))) low = refl
-inner_at (suc (suc (suc (suc (suc zero))))) low = refl
-inner_at (suc (suc (suc (suc (suc (suc zero)))))) low = refl
-inner_at (suc (suc (suc (suc (suc (suc (suc k))))))) low = absurd (omega (arith, low))
-
+-- the bricks that aren't stepped see no live cell
 pub generation-requires-clause-rest : goal.generation-requires-clause-rest
 generation-requires-clause-rest c = λ t has not_in.
-    let before = has.before in
-    let behind = has.behind in
-    let place : 4 + (t - 4) ≡ t = omega (arith, before) in
-    absurd (not_in (t - 4) (omega (arith, c.requires, before, behind)) (inner_at (t - 4) (omega (arith, c.requires, before, behind)) ∙ place))
+    dark_rests c.args.counting c.args.bricks.items c.in_ok-before.before.items t c.requires.quiet c.requires.dark (c.in_ok-before.ensures.blank t)
+    (subst (λ n. HasNeighbours 3 n t) c.requires.size has)
+    (λ middle. elim middle [ inl e ↦ not_in 0 (omega arith) (sym e) | inr (inl e) ↦ not_in 1 (omega arith) (sym e) | inr (inr e) ↦ not_in 2 (omega arith) (sym e) ])

@@ -2,9 +2,13 @@ use Rattle.std.proofs.Common.{◌≡◌, ℕ, ◌+◌, ◌*◌, ◌/◌, ◌%◌
 use Rattle.ca_plane.specs.Generations.{cells_after}
 use Rattle.ca_apgcode.specs.Objects.{IsBoxRound}
 use Rattle.ca_apgcode.proofs.PlaneBoxes.{box_as}
+use Rattle.ca_object_code.proofs.FrameRounds.{dark_beside}
 use Rattle.ca_object_code.proofs.FrameShows.{frame_x, frame_y, next_shows, are_columns, turned_after}
 use Rattle.ca_object_code.proofs.LargeObjects.{found_weaker}
 use Rattle.ca_object_code.proofs.small.next_box.Goals as goal
+
+pub next_frame-requires-clause-dark : goal.next_frame-requires-clause-dark
+next_frame-requires-clause-dark c = dark_beside c.args.grid.now c.in_ok-bricks.bricks.items c.width.ensures.grid c.in_ok-bricks.ensures
 
 pub returns : goal.returns
 returns c = λ next cells by quiet two box.
