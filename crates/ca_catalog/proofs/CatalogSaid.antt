@@ -15,7 +15,6 @@ use Rattle.ca_plane.proofs.Fronts.{every_append}
 use Rattle.ca_rule.specs.Rule.{next_of}
 use Rattle.ca_rule.specs.TableNext.{TableRule}
 use Rattle.ca_text.specs.declared.line.Kind.TheVariants as kind
-use Rattle.ca_pattern.specs.declared.file.File.{File}
 use Rattle.ca_answers.specs.declared.identity.Identity.{Identity}
 use Rattle.ca_answers.specs.declared.identity.Growth.{Growth}
 use Rattle.ca_pattern.specs.declared.cause.Cause.{Cause}
@@ -39,7 +38,7 @@ use Rattle.ca_report.specs.FaultTexts.{cause_text}
 use Rattle.ca_report.specs.FileLines.{at_line}
 use Rattle.ca_report.specs.Counts.{generations_word, side_length}
 use Rattle.ca_catalog.specs.Names.{is_claim_path, is_taken}
-use Rattle.ca_catalog.specs.Catalog.{cells_word, growth_text, none_text, later_text, later_head, later_line, found_line, code_line, code_lines, identified_lines, IsAskedCode, refused_line, identity_line, entry_lines, outcome_lines, rule_line, version_line, catalog_head, catalog_text, IsContentOutcome, IsEntry, AreEntries}
+use Rattle.ca_catalog.specs.Catalog.{cells_word, growth_text, none_text, later_text, later_head, later_line, found_line, code_line, code_lines, identified_lines, IsAskedCode, refused_line, identity_line, entry_lines, outcome_lines, rule_lines, version_line, catalog_head, catalog_text, IsContentOutcome, IsEntry, AreEntries}
 use Rattle.ca_catalog.specs.CatalogSays.{claim_line, identity_says, found_says, outcome_says, entry_says, AreRuleWords, SaysItsClaims}
 use Rattle.ca_catalog.proofs.Saying.{is_inner, TextSays, says_none, says_then, says_words, says_comment, line_end, line_more}
 use Rattle.ca_catalog.proofs.NameWords.{word_by_test, path_word, free_word, digits_word, integer_word, decimal_inner, signed_inner, escaped_inner}
@@ -260,19 +259,19 @@ entries_said tables task taken earlier (s ∷ ss) (e ∷ es) all free second =
     (second_stays earlier (entry_says task.generations e) second))
 
 -- what the lines of rule files say
-abbrev rules_say : List File → List ClaimTextLine
-rules_say rules = map (λ (file : File). Rule file.path.now) rules
+abbrev rules_say : List (Vec ℕ Global) → List ClaimTextLine
+rules_say paths = map (λ (path : Vec ℕ Global). Rule path.items) paths
 
-rules_said : (earlier : List ClaimTextLine) (rules : List File) → AreRuleWords rules → TextSays earlier (flat_map rule_line rules) (rules_say rules)
+rules_said : (earlier : List ClaimTextLine) (paths : List (Vec ℕ Global)) → AreRuleWords paths → TextSays earlier (rule_lines paths) (rules_say paths)
 rules_said earlier [] words = says_none earlier
-rules_said earlier (f ∷ fs) words =
-    says_then earlier _ _ (Rule f.path.now ∷ []) (rules_say fs)
-    (says_words earlier (codes "rule" ∷ f.path.now ∷ []) (Rule f.path.now) (refl, (word_by_test f.path.now words.0, tt)) refl refl tt)
-    (rules_said (earlier ++ Rule f.path.now ∷ []) fs words.1)
+rules_said earlier (p ∷ ps) words =
+    says_then earlier _ _ (Rule p.items ∷ []) (rules_say ps)
+    (says_words earlier (codes "rule" ∷ p.items ∷ []) (Rule p.items) (refl, (word_by_test p.items words.0, tt)) refl refl tt)
+    (rules_said (earlier ++ Rule p.items ∷ []) ps words.1)
 
-rules_load : (rules : List File) (name : List ℕ) → path_of (rules_say rules) name ≡ None
+rules_load : (paths : List (Vec ℕ Global)) (name : List ℕ) → path_of (rules_say paths) name ≡ None
 rules_load [] name = refl
-rules_load (f ∷ fs) name = rules_load fs name
+rules_load (p ∷ ps) name = rules_load ps name
 
 -- the line of the version says it
 version_said : TextSays [] version_line (Version ∷ [])
@@ -281,11 +280,12 @@ version_said = says_words [] (codes "claims" ∷ codes "2" ∷ []) Version (refl
 -- the whole text says all that
 pub catalog_said : SaysItsClaims
 catalog_said subjects rules task text entries words catalog =
+    let paths = rules.paths.now in
     let version = Version ∷ [] in
-    let before = version ++ rules_say rules in
-    let head = says_then [] version_line (flat_map rule_line rules) version (rules_say rules) version_said (rules_said version rules words) in
-    let all = says_then [] (catalog_head rules) (flat_map (entry_lines task.generations) entries) before (flat_map (entry_says task.generations) entries) head
-    (entries_said catalog.tables task [] before subjects entries catalog.holds (λ name new. rules_load rules name) refl) in
+    let before = version ++ rules_say paths in
+    let head = says_then [] version_line (rule_lines paths) version (rules_say paths) version_said (rules_said version paths words) in
+    let all = says_then [] (catalog_head paths) (flat_map (entry_lines task.generations) entries) before (flat_map (entry_says task.generations) entries) head
+    (entries_said rules.tables.now task [] before subjects entries catalog.holds (λ name new. rules_load paths name) refl) in
     let here : lines_of text ≡ all.lines =
-    ap lines_of catalog.lines ∙ ap lines_of (sym (append-nil (catalog_text task.generations rules entries))) ∙ all.split [] ∙ append-nil all.lines in
+    ap lines_of catalog.lines ∙ ap lines_of (sym (append-nil (catalog_text task.generations paths entries))) ∙ all.split [] ∙ append-nil all.lines in
     record { said = all.said; reads = subst (λ ls. ClaimLinesSay [] ls all.said) (sym here) all.good; says = all.all }

@@ -2,8 +2,7 @@
 use Rattle.std.specs.Prelude.{ℕ, List, [], ◌∷◌, ◌++◌, Bool, true, false, Option, None, Some, option_map, Vec, codes, decimal, nat_eq, if◌then◌else◌, ◌≡◌, ◌≢◌, ◌+◌, ◌^◌, ◌<◌, ◌⊎◌}
 use Rattle.std.specs.declared.alloc.Global.{Global}
 use Rattle.std.specs.Fmt.{signed_decimal}
-use Rattle.std.specs.List.{flat_map, list_any, list_all, AllZip}
-use Rattle.ca_rule.specs.declared.table.fault.TableFault.{TableFault}
+use Rattle.std.specs.List.{flat_map, list_any, list_all}
 use Rattle.ca_pattern.specs.declared.cause.Cause.{Cause}
 use Rattle.ca_pattern.specs.declared.cause.Cause.TheVariants as causes
 use Rattle.ca_pattern.specs.declared.file.File.{File}
@@ -18,11 +17,10 @@ use Rattle.ca_rule.specs.TableNext.{TableRule}
 use Rattle.ca_answers.specs.declared.identity.Identity.{Identity}
 use Rattle.ca_answers.specs.declared.identity.Identity.TheVariants.{Empty, StillLife, Oscillator, Spaceship, Dies, Unknown}
 use Rattle.ca_answers.specs.declared.identity.Growth.{Growth}
-use Rattle.ca_pattern.specs.NamedTables.{IsQuietTable, IsTableFault}
-use Rattle.ca_text.specs.Firsts.{FirstBad}
 use Rattle.ca_answers.specs.Identified.{IsLookAt, IsUnidentifiedAfter}
 use Rattle.ca_answers.specs.declared.coded_look.CodedLook.{CodedLook}
 use Rattle.ca_answers.specs.Codes.{IsCodeOfFile, IsUncodedAfter}
+use Rattle.ca_catalog.specs.declared.known_rules.KnownRules.{KnownRules}
 use Rattle.ca_catalog.specs.declared.task.Task.{Task}
 use Rattle.ca_catalog.specs.declared.entry.Content.{Content}
 use Rattle.ca_catalog.specs.declared.entry.Content.TheVariants.{Bytes, Missing, FaultyRule}
@@ -122,21 +120,25 @@ outcome_lines n name path (Identified found) = identified_lines n name path foun
 abbrev pub entry_lines : (n : ℕ) → Entry → List ℕ
 entry_lines n entry = outcome_lines n entry.name.items entry.path.now entry.outcome
 
--- the line that gives the table of a rule file to the text
-abbrev pub rule_line : File → List ℕ
-rule_line file = codes "rule " ++ (file.path.now ++ 10 ∷ [])
+-- the line that gives the table of the rule file at a path to the text
+abbrev pub rule_line : List ℕ → List ℕ
+rule_line path = codes "rule " ++ (path ++ 10 ∷ [])
+
+-- those of all rule files, in order
+abbrev pub rule_lines : List (Vec ℕ Global) → List ℕ
+rule_lines paths = flat_map (λ (path : Vec ℕ Global). rule_line path.items) paths
 
 -- the first line of the text, since `dies` came with the second version of the language
 abbrev pub version_line : List ℕ
 version_line = codes "claims 2" ++ 10 ∷ []
 
--- the head of the text: its version and the rule files
-abbrev pub catalog_head : List File → List ℕ
-catalog_head rules = version_line ++ flat_map rule_line rules
+-- the head of the text: its version and the rule files, by their paths
+abbrev pub catalog_head : List (Vec ℕ Global) → List ℕ
+catalog_head paths = version_line ++ rule_lines paths
 
 -- the whole text: its head, and the lines on each file
-abbrev pub catalog_text : (n : ℕ) → List File → List Entry → List ℕ
-catalog_text n rules entries = catalog_head rules ++ flat_map (entry_lines n) entries
+abbrev pub catalog_text : (n : ℕ) → List (Vec ℕ Global) → List Entry → List ℕ
+catalog_text n paths entries = catalog_head paths ++ flat_map (entry_lines n) entries
 
 -- the file is identified
 abbrev pub is_identified : Outcome → Bool
@@ -245,35 +247,24 @@ AreEntries tables task taken (s ∷ ss) [] = ⊥
 AreEntries tables task taken (s ∷ ss) (e ∷ es) =
     IsEntry tables task taken s e × AreEntries tables task (taken ++ e.name.items ∷ []) ss es
 
--- the rule files hold these tables
-abbrev pub AreRuleTables : List File → List TableRule → Type 0
-AreRuleTables rules tables = AllZip (λ file table. IsQuietTable file.bytes.now table) rules tables
-
 -- these are true entries on these files, under the tables of the rule files, and the text has their lines
-pub record IsCatalog (rules : List File) (task : Task) (subjects : List Subject) (text : List ℕ)
+pub record IsCatalog (rules : KnownRules) (task : Task) (subjects : List Subject) (text : List ℕ)
     (entries : List Entry) : Type 0 where
-  pub tables : List TableRule
-  pub known : AreRuleTables rules tables
-  pub holds : AreEntries tables task [] subjects entries
-  pub lines : text ≡ catalog_text task.generations rules entries
-
--- this is the fault of the first rule file that is no good table
-abbrev pub IsFirstBadTable : List File → TableFault → Type 0
-IsFirstBadTable rules fault = FirstBad (λ file. (table : TableRule) × IsQuietTable file.bytes.now table) (λ file. IsTableFault file.bytes.now fault) rules
+  pub holds : AreEntries rules.tables.now task [] subjects entries
+  pub lines : text ≡ catalog_text task.generations rules.paths.now entries
 
 -- the whole text on these files is written, with these entries
-abbrev pub WritesCatalog : {W : Type 0} → (W → Option (List ℕ)) → Counted W → Counted W → List File → Task → List Subject
+abbrev pub WritesCatalog : {W : Type 0} → (W → Option (List ℕ)) → Counted W → Counted W → KnownRules → Task → List Subject
     → List Entry → Type 0
 WritesCatalog contents old new rules task subjects entries = WritesOn contents old new (IsCatalog rules task) subjects entries
 
--- why it isn't, and what is written: a write failed, after a first part of the text on the first so many files; memory is out for the lines on a file, and the
--- text on those before it is written, or it is out for the rule files, and nothing is; or nothing is, for the fault of the first one that is no good table
-abbrev pub EndsCatalog : {W : Type 0} → (W → Option (List ℕ)) → Counted W → Counted W → List File → Task → List Subject
+-- why it isn't, and what is written: a write failed, after a first part of the text on the first so many files; or memory is out for the lines on a file, and
+-- the text on those before it is written, or it is out for the lines of the rule files, and nothing is
+abbrev pub EndsCatalog : {W : Type 0} → (W → Option (List ℕ)) → Counted W → Counted W → KnownRules → Task → List Subject
     → ToolFault → Type 0
 EndsCatalog contents old new rules task subjects tools.Write = WritesPartOn contents old new (IsCatalog rules task) subjects
 EndsCatalog contents old new rules task subjects tools.Memory =
-    WritesOnFirst contents old new (IsCatalog rules task) subjects ⊎ ((rules ≢ []) × (new ≡ old))
-EndsCatalog contents old new rules task subjects (tools.BadTable fault) = IsFirstBadTable rules fault × (new ≡ old)
+    WritesOnFirst contents old new (IsCatalog rules task) subjects ⊎ ((rules.paths.now ≢ []) × (new ≡ old))
 EndsCatalog contents old new rules task subjects told = ⊥
 
 -- the last generation that was looked at has a number that fits, where the look began after n

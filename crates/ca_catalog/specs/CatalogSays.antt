@@ -1,9 +1,9 @@
 -- What the text that `identify` prints says, read as a claim text.
-use Rattle.std.specs.Prelude.{◌≡◌, ℕ, List, [], ◌∷◌, ◌++◌, map, true, Option, None, nat_eq, if◌then◌else◌}
+use Rattle.std.specs.Prelude.{◌≡◌, ℕ, List, [], ◌∷◌, ◌++◌, map, true, Option, None, Vec, nat_eq, if◌then◌else◌}
+use Rattle.std.specs.declared.alloc.Global.{Global}
 use Rattle.std.specs.List.{flat_map, AllByRecursion}
 use Rattle.ca_text.specs.declared.line.Kind.{Kind}
 use Rattle.ca_text.specs.declared.line.Kind.TheVariants as kind
-use Rattle.ca_pattern.specs.declared.file.File.{File}
 use Rattle.ca_answers.specs.declared.identity.Identity.{Identity}
 use Rattle.ca_answers.specs.declared.identity.Identity.TheVariants.{Empty, StillLife, Oscillator, Spaceship, Dies, Unknown}
 use Rattle.ca_text.specs.Text.{ClaimTextLine, Version, Rule, Load, Claims, IsClaimText, said_lines}
@@ -11,6 +11,7 @@ use Rattle.ca_catalog.specs.declared.entry.Outcome.{Outcome}
 use Rattle.ca_catalog.specs.declared.entry.Outcome.TheVariants.{Identified}
 use Rattle.ca_catalog.specs.declared.entry.Entry.{Entry}
 use Rattle.ca_catalog.specs.declared.entry.Subject.{Subject}
+use Rattle.ca_catalog.specs.declared.known_rules.KnownRules.{KnownRules}
 use Rattle.ca_catalog.specs.declared.task.Task.{Task}
 use Rattle.ca_catalog.specs.Names.{is_word}
 use Rattle.ca_catalog.specs.Catalog.{IsCatalog}
@@ -41,8 +42,8 @@ abbrev pub entry_says : ℕ → Entry → List ClaimTextLine
 entry_says n entry = outcome_says n entry.name.items entry.path.now entry.outcome
 
 -- the version, the rule files, and each file's lines
-abbrev pub catalog_says : ℕ → List File → List Entry → List ClaimTextLine
-catalog_says n rules entries = Version ∷ (map (λ file. Rule file.path.now) rules ++ flat_map (entry_says n) entries)
+abbrev pub catalog_says : ℕ → List (Vec ℕ Global) → List Entry → List ClaimTextLine
+catalog_says n paths entries = Version ∷ (map (λ (path : Vec ℕ Global). Rule path.items) paths ++ flat_map (entry_says n) entries)
 
 -- the text is a claim text, and its lines that aren't skipped say just this
 pub record SaysOf (text : List ℕ) (lines : List ClaimTextLine) : Type 0 where
@@ -51,11 +52,11 @@ pub record SaysOf (text : List ℕ) (lines : List ClaimTextLine) : Type 0 where
   pub says : said_lines said ≡ lines
 
 -- each rule file's path is a word
-abbrev pub AreRuleWords : List File → Type 0
-AreRuleWords rules = AllByRecursion (λ file. is_word file.path.now ≡ true) rules
+abbrev pub AreRuleWords : List (Vec ℕ Global) → Type 0
+AreRuleWords paths = AllByRecursion (λ (path : Vec ℕ Global). is_word path.items ≡ true) paths
 
 -- the text that `identify` prints says just the claims that are true of the patterns, and so does what is printed of it after each file, which is the text on
 -- the first so many of the files; after some generations it makes no claim
 abbrev pub SaysItsClaims : Type 0
-SaysItsClaims = (subjects : List Subject) (rules : List File) (task : Task) (text : List ℕ) (entries : List Entry) → AreRuleWords rules
-    → IsCatalog rules task subjects text entries → SaysOf text (catalog_says task.generations rules entries)
+SaysItsClaims = (subjects : List Subject) (rules : KnownRules) (task : Task) (text : List ℕ) (entries : List Entry) → AreRuleWords rules.paths.now
+    → IsCatalog rules task subjects text entries → SaysOf text (catalog_says task.generations rules.paths.now entries)

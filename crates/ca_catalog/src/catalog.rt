@@ -2,9 +2,9 @@
 //! `--explain`.
 
 ghost use Rattle.std.specs.Prelude.{◌≡◌, ◌≢◌, ◌++◌, [], IfOk, OnOk, OnErr};
-ghost use Rattle.std.specs.List.{list_all, flat_map};
+ghost use Rattle.std.specs.List.{list_all};
 ghost use Rattle.ca_plane.specs.Puts.{Puts};
-ghost use Rattle.ca_catalog.specs.Catalog.{version_line, rule_line, is_identified, catalog_status};
+ghost use Rattle.ca_catalog.specs.Catalog.{version_line, rule_lines, is_identified, catalog_status};
 ghost use Rattle.ca_catalog.specs.Catalog.{entry_explanation, catalog_explanation, catalog_has_explanation};
 ghost use Rattle.ca_catalog.specs.CatalogSays.{SaysItsClaims};
 ghost use Rattle.ca_report.specs.Writing.{Sends};
@@ -134,26 +134,26 @@ fn catalog_status(entries: &[Entry<'_>]) -> u8
     if are_identified(entries) { 0 } else { 2 }
 }
 
-/// The lines of the rule files.
+/// The lines of the rule files with these paths.
 ///
 /// # Errors
 ///
 /// Fails where there is no memory for them.
-pub fn rules_text(alloc: Global, rules: &[File<'_>]) -> Result<Vec<u8>, Memory>
-    ensures text { IfOk result (λ text. text.items ≡ flat_map rule_line rules.now) }
-    ensures memory { OnErr result (rules.now ≢ []) }
+pub fn rules_text(alloc: Global, paths: &[Vec<u8>]) -> Result<Vec<u8>, Memory>
+    ensures text { IfOk result (λ text. text.items ≡ rule_lines paths.now) }
+    ensures memory { OnErr result (paths.now ≢ []) }
 {
     let mut text = Vec::new(alloc);
-    push_rules(&mut text, rules)?;
+    push_rules(&mut text, paths)?;
     Ok(text)
 }
 
-fn push_rules(out: &mut Vec<u8>, rules: &[File<'_>]) -> Result<(), Memory>
-    ensures puts { OnOk result (Puts out.old.items out.new.items (flat_map rule_line rules.now)) }
-    ensures memory { OnErr result (rules.now ≢ []) }
+fn push_rules(out: &mut Vec<u8>, paths: &[Vec<u8>]) -> Result<(), Memory>
+    ensures puts { OnOk result (Puts out.old.items out.new.items (rule_lines paths.now)) }
+    ensures memory { OnErr result (paths.now ≢ []) }
 {
-    'rules: for file in rules {
-        push_rule(out, file)?;
+    'paths: for path in paths {
+        push_rule(out, path)?;
     }
     Ok(())
 }

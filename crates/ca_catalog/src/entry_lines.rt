@@ -13,7 +13,7 @@ ghost use Rattle.ca_catalog.specs.Catalog.{IsWithin};
 use crate::entry::{Entry, Outcome};
 use crate::growth::push_none;
 use ca_answers::{CodedLook, Growth, Identity, Look};
-use ca_pattern::{Cause, File};
+use ca_pattern::Cause;
 use ca_plane::Memory;
 use ca_plane::text::push_text;
 use ca_report::{
@@ -250,10 +250,10 @@ pub fn push_entry(out: &mut Vec<u8>, generations: u64, entry: &Entry<'_>) -> Res
 /// # Errors
 ///
 /// Fails where there is no memory for it.
-pub(crate) fn push_rule(out: &mut Vec<u8>, file: &File<'_>) -> Result<(), Memory>
-    ensures { OnOk result (Puts out.old.items out.new.items (rule_line file.now)) }
+pub(crate) fn push_rule(out: &mut Vec<u8>, path: &[u8]) -> Result<(), Memory>
+    ensures { OnOk result (Puts out.old.items out.new.items (rule_line path.now)) }
 {
     push_text(out, b"rule ")?;
-    push_text(out, file.path)?;
+    push_text(out, path)?;
     push_text(out, b"\n")
 }

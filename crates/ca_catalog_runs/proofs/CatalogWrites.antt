@@ -4,45 +4,44 @@ use Rattle.std.specs.Io.KnownBytes.{Appends}
 use Rattle.std.proofs.lemmas.List.{append-nil}
 use Rattle.ca_plane.specs.Device.{Counted, Rises, AppendsPrefix}
 use Rattle.ca_plane.proofs.Sends.{sent_both, prefix_of_second}
-use Rattle.ca_rule.specs.TableNext.{TableRule}
-use Rattle.ca_pattern.specs.declared.file.File.{File}
+use Rattle.ca_catalog.specs.declared.known_rules.KnownRules.{KnownRules}
 use Rattle.ca_catalog.specs.declared.entry.Entry.{Entry}
 use Rattle.ca_catalog.specs.declared.entry.Subject.{Subject}
 use Rattle.ca_report.specs.declared.fault.ToolFault.{ToolFault}
 use Rattle.ca_report.specs.declared.fault.ToolFault.TheVariants as tools
 use Rattle.ca_catalog_runs.specs.declared.identification_run.Search.{Search}
 use Rattle.ca_catalog.specs.declared.task.Task.{Task}
-use Rattle.ca_catalog.specs.Catalog.{catalog_head, AreRuleTables, IsCatalog, WritesCatalog, EndsCatalog}
+use Rattle.ca_catalog.specs.Catalog.{catalog_head, AreEntries, IsCatalog, WritesCatalog, EndsCatalog}
 use Rattle.ca_catalog.specs.WrittenOn.{WritesOn, WritesPartOn}
 use Rattle.ca_catalog_runs.specs.inner.Searches.{AreLines, EndsLines}
 
 -- they are a claim text
-catalog_of : (rules : List File) (search : Search) (subjects : List Subject) (text : List ℕ) (entries : List Entry) → AreRuleTables rules search.tables.now
-    → AreLines search subjects text entries → IsCatalog rules search.task subjects (catalog_head rules ++ text) entries
+catalog_of : (rules : KnownRules) (search : Search) (subjects : List Subject) (text : List ℕ) (entries : List Entry) → search.tables.now ≡ rules.tables.now
+    → AreLines search subjects text entries → IsCatalog rules search.task subjects (catalog_head rules.paths.now ++ text) entries
 catalog_of rules search subjects text entries known are =
-    record { tables = search.tables.now; known = known; holds = are.holds; lines = ap (λ l. catalog_head rules ++ l) are.lines }
+    record { holds = subst (λ tables. AreEntries tables search.task [] subjects entries) known are.holds; lines = ap (λ l. catalog_head rules.paths.now ++ l) are.lines }
 
 -- the head was written, and then the lines were
-pub writes_catalog : {W : Type 0} (contents : W → Option (List ℕ)) (old mid new : Counted W) (rules : List File) (search : Search) (subjects : List Subject) (entries : List Entry)
-    → AreRuleTables rules search.tables.now → Appends (contents old.inner) (contents mid.inner) (catalog_head rules) → mid.failures ≡ old.failures
+pub writes_catalog : {W : Type 0} (contents : W → Option (List ℕ)) (old mid new : Counted W) (rules : KnownRules) (search : Search) (subjects : List Subject) (entries : List Entry)
+    → search.tables.now ≡ rules.tables.now → Appends (contents old.inner) (contents mid.inner) (catalog_head rules.paths.now) → mid.failures ≡ old.failures
     → WritesOn contents mid new (AreLines search) subjects entries → WritesCatalog contents old new rules search.task subjects entries
 writes_catalog contents old mid new rules search subjects entries known sent kept writes = record {
-  text = catalog_head rules ++ writes.text;
+  text = catalog_head rules.paths.now ++ writes.text;
   is = catalog_of rules search subjects writes.text entries known writes.is;
-  written = sent_both (contents old.inner) (contents mid.inner) (contents new.inner) (catalog_head rules) writes.text sent writes.written;
+  written = sent_both (contents old.inner) (contents mid.inner) (contents new.inner) (catalog_head rules.paths.now) writes.text sent writes.written;
   kept = writes.kept ∙ kept;
 }
 
 -- or not all of them
-pub ends_catalog : {W : Type 0} (contents : W → Option (List ℕ)) (old mid new : Counted W) (rules : List File) (search : Search) (subjects : List Subject) (fault : ToolFault)
-    → AreRuleTables rules search.tables.now → Appends (contents old.inner) (contents mid.inner) (catalog_head rules) → mid.failures ≡ old.failures
+pub ends_catalog : {W : Type 0} (contents : W → Option (List ℕ)) (old mid new : Counted W) (rules : KnownRules) (search : Search) (subjects : List Subject) (fault : ToolFault)
+    → search.tables.now ≡ rules.tables.now → Appends (contents old.inner) (contents mid.inner) (catalog_head rules.paths.now) → mid.failures ≡ old.failures
     → EndsLines contents mid new search subjects fault → EndsCatalog contents old new rules search.task subjects fault
 ends_catalog contents old mid new rules search subjects tools.Write known sent kept ends = record {
   count = ends.count;
   told = ends.told;
-  text = catalog_head rules ++ ends.text;
+  text = catalog_head rules.paths.now ++ ends.text;
   is = catalog_of rules search _ ends.text ends.told known ends.is;
-  front = prefix_of_second (contents old.inner) (contents mid.inner) (contents new.inner) (catalog_head rules) ends.text sent ends.front;
+  front = prefix_of_second (contents old.inner) (contents mid.inner) (contents new.inner) (catalog_head rules.paths.now) ends.text sent ends.front;
   counted = subst (λ n. Rises n new.failures) kept ends.counted;
 }
 ends_catalog contents old mid new rules search subjects tools.Memory known sent kept ends = inl (record {
@@ -60,14 +59,14 @@ ends_catalog contents old mid new rules search subjects tools.Range known sent k
 ends_catalog contents old mid new rules search subjects (tools.Window fault) known sent kept ends = absurd ends
 
 -- the head alone is the text on no file
-pub head_in_part : {W : Type 0} (contents : W → Option (List ℕ)) (old new : Counted W) (rules : List File) (tables : List TableRule) (task : Task) (subjects : List Subject)
-    → AreRuleTables rules tables → AppendsPrefix (contents old.inner) (contents new.inner) (catalog_head rules) → Rises old.failures new.failures
+pub head_in_part : {W : Type 0} (contents : W → Option (List ℕ)) (old new : Counted W) (rules : KnownRules) (task : Task) (subjects : List Subject)
+    → AppendsPrefix (contents old.inner) (contents new.inner) (catalog_head rules.paths.now) → Rises old.failures new.failures
     → WritesPartOn contents old new (IsCatalog rules task) subjects
-head_in_part contents old new rules tables task subjects known front counted = record {
+head_in_part contents old new rules task subjects front counted = record {
   count = 0;
   told = [];
-  text = catalog_head rules;
-  is = record { tables = tables; known = known; holds = tt; lines = sym (append-nil (catalog_head rules)) };
+  text = catalog_head rules.paths.now;
+  is = record { holds = tt; lines = sym (append-nil (catalog_head rules.paths.now)) };
   front = front;
   counted = counted;
 }

@@ -1,14 +1,10 @@
 //! Runs of `identify`: pattern files in, a claim text out with the claims that are true of them, those of each file
 //! before the next one is identified.
 
-ghost use Rattle.std.specs.Prelude.{◌≡◌, ◌≢◌, ◌≤◌, ◌++◌, ◌∷◌, [], IfOk, IfErr, OnOk, OnErr};
-ghost use Rattle.ca_rule.specs.TableNext.{TableRule};
-ghost use Rattle.ca_rule.specs.declared.table.fault.TableFault.TheVariants as table_fault;
-ghost use Rattle.ca_pattern.specs.NamedTables.{IsQuietTable, IsTableFault};
-ghost use Rattle.ca_text.specs.Firsts.{FirstBad};
+ghost use Rattle.std.specs.Prelude.{◌≡◌, ◌≤◌, ◌++◌, ◌∷◌, [], IfOk, IfErr, OnOk};
 ghost use Rattle.ca_pattern.specs.Limited.{AreGoodLimits};
 ghost use Rattle.ca_plane.specs.Limits.{longest_period, most_generations};
-ghost use Rattle.ca_catalog.specs.Catalog.{entry_lines, IsOutcome, IsEntry, AreRuleTables, WritesCatalog};
+ghost use Rattle.ca_catalog.specs.Catalog.{entry_lines, IsOutcome, IsEntry, WritesCatalog};
 ghost use Rattle.ca_catalog.specs.Catalog.{EndsCatalog, IsFoundIn, IsUnfoundFor};
 ghost use Rattle.ca_catalog.specs.WrittenOn.{WritesOn};
 ghost use Rattle.ca_catalog_runs.specs.inner.Searches.{IsGoodSearch, AreLines, EndsLines};
@@ -17,15 +13,15 @@ ghost use Rattle.ca_catalog.specs.Catalog.{IsWithin};
 use crate::coded_files::identify_with_code;
 use ca_answers::CodedLook;
 use ca_catalog::{
-    Catalog, Content, Entry, Outcome, Subject, TakenNames, Task, add_name, head_pieces,
+    Catalog, Content, Entry, KnownRules, Outcome, Subject, TakenNames, Task, add_name, head_pieces,
     is_claim_path, push_entry, report_of, rules_text,
 };
 use ca_evolution::{Observer, RunSubject};
 use ca_identify::identify;
-use ca_pattern::{File, LocatedFault};
+use ca_pattern::LocatedFault;
 use ca_plane::{Dev, Memory, send};
 use ca_report::{DetailedFault, ToolFault, send_pieces};
-use ca_rule::{Table, TableFault};
+use ca_rule::Table;
 use std::alloc::Global;
 use std::io::Write;
 
@@ -41,13 +37,12 @@ use std::io::Write;
 ///
 /// # Errors
 ///
-/// Fails for the first rule file that is no good table, and where there is no memory for the rule files; then
-/// nothing is written. Where there is none for the name or the lines of a file, what was written is the text on the
-/// files before it.
+/// Fails where there is no memory for the lines of the rule files; then nothing is written. Where there is none for the
+/// name or the lines of a file, what was written is the text on the files before it.
 pub fn identify_run<'a, W: Write, O: Observer>(
     alloc: Global,
     subjects: &[Subject<'a>],
-    rules: &[File<'_>],
+    rules: &KnownRules<'_>,
     task: Task,
     device: &mut Dev<W>,
     observer: &mut O,
@@ -59,19 +54,14 @@ pub fn identify_run<'a, W: Write, O: Observer>(
     ensures writes { IfOk result (WritesCatalog W.contents device.old device.new rules.now task subjects.now) }
     ensures ends { IfErr result (EndsCatalog W.contents device.old device.new rules.now task subjects.now) }
 {
-    let tables = match parse_tables(alloc, rules) {
-        Ok(tables) => tables,
-        Err(TableFault::Memory) => return Err(ToolFault::Memory),
-        Err(fault) => return Err(ToolFault::BadTable(fault)),
-    };
-    let Ok(rule_lines) = rules_text(alloc, rules) else {
+    let Ok(rule_lines) = rules_text(alloc, rules.paths) else {
         return Err(ToolFault::Memory);
     };
     if send_pieces(device, &head_pieces(&rule_lines)).is_err() {
         return Err(ToolFault::Write);
     }
     let search = Search {
-        tables: &tables,
+        tables: rules.tables,
         task,
     };
     let entries = match write_entries(alloc, subjects, &search, device, observer) {
@@ -79,27 +69,6 @@ pub fn identify_run<'a, W: Write, O: Observer>(
         Err(fault) => return Err(fault),
     };
     Ok(Catalog::of(entries))
-}
-
-// The tables of the rule files, or the fault of the first that is no good table.
-fn parse_tables(alloc: Global, rules: &[File<'_>]) -> Result<Vec<Table>, TableFault>
-    ensures known { IfOk result (λ tables. AreRuleTables rules.now tables.items) }
-    ensures fault { IfErr result (λ fault. fault ≢ table_fault.Memory
-        → FirstBad (λ file. (table : TableRule) × IsQuietTable file.bytes.now table)
-        (λ file. IsTableFault file.bytes.now fault) rules.now) }
-    ensures memory { OnErr result (rules.now ≢ []) }
-{
-    let mut tables = Vec::new(alloc);
-    'rules: for file in rules {
-        let table = match Table::parse(alloc, file.bytes) {
-            Ok(table) => table,
-            Err(fault) => return Err(fault),
-        };
-        if tables.push(table).is_err() {
-            return Err(TableFault::Memory);
-        }
-    }
-    Ok(tables)
 }
 
 // How files are identified, and under which tables.

@@ -21,8 +21,8 @@ pub struct LoadedFile {
 }
 
 impl LoadedFile {
-    /// A file with this path and these bytes.
-    pub fn new(alloc: Global, path: &[u8], bytes: Vec<u8>) -> Result<LoadedFile, Memory> {
+    // A file with this path and these bytes.
+    fn new(alloc: Global, path: &[u8], bytes: Vec<u8>) -> Result<LoadedFile, Memory> {
         let path = Vec::from_slice(alloc, path)?;
         Ok(LoadedFile { path, bytes })
     }

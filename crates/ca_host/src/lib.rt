@@ -4,12 +4,14 @@
 
 mod files;
 mod progress;
+mod rules;
 mod streams;
 
 pub use files::{
     FaultyFile, LoadedFile, LoadedText, LostFile, NeededFiles, bytes_at, check_folder,
-    faulty_rules, load_needed, load_once, load_rule_file, missing_files, open_source, read_file,
-    read_source, views,
+    faulty_rules, load_needed, load_once, missing_files, open_source, read_file, read_source,
+    views,
 };
 pub use progress::{Heading, Progress};
+pub use rules::{NamedTable, RuleFiles, table_named};
 pub use streams::{Source, Streams};

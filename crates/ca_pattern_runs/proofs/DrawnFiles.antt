@@ -31,8 +31,8 @@ use Rattle.ca_pattern_runs.specs.declared.form.TextForm.TheVariants as forms
 use Rattle.ca_pattern_runs.specs.Details.{IsRunDetailOf, HasRunDetail}
 use Rattle.ca_draw.specs.Views.{IsBoxShown}
 use Rattle.ca_pattern_runs.specs.Drawn.{IsPictureOf, IsCaptionOf, HasNoWindow, IsDrawnAfter, IsCaptionAfter}
-use Rattle.ca_pattern_runs.specs.Runs.{IsRuleFileFault, IsBytesFault, IsTextFault, IsFormFaultAfter, TellsTable, reported}
-use Rattle.ca_pattern_runs.proofs.OfFiles.{table_not_write, pattern_not_write}
+use Rattle.ca_pattern_runs.specs.Runs.{IsTextFault, IsFormFaultAfter, reported}
+use Rattle.ca_pattern_runs.proofs.OfFiles.{pattern_not_write}
 use Rattle.ca_pattern_runs.specs.inner.Refusals.{IsUndrawn, IsUndrawnAfter}
 
 -- ---- cells that are the same everywhere
@@ -191,17 +191,8 @@ module _ (bytes : List ℕ) (tables : List TableRule) (n work : ℕ) where
   text_detail (forms.File target) located.Memory is = (refl, refl)
 
   -- none of these is a failed write
-  form_not_write : (form : Form) (told : ToolFault) → IsFormFaultAfter form bytes tables n work told → told ≢ Write
+  pub form_not_write : (form : Form) (told : ToolFault) → IsFormFaultAfter form bytes tables n work told → told ≢ Write
   form_not_write (Text form) told is = pattern_not_write (IsTextFault form bytes tables n work) told is
   form_not_write (Picture request) (Window fault) is = λ e. cc
   form_not_write (Picture request) Write is = pattern_not_write (IsReachFault bytes tables n work) Write is
   form_not_write (Picture request) told is = λ e. cc
-
-pub form_told : (rule : Option (List ℕ)) (bytes : List ℕ) (n work : ℕ) (form : Form) (told : ToolFault) → IsBytesFault rule (λ tables. IsFormFaultAfter form bytes tables n work) told → told ≢ Write
-form_told rule bytes n work form told (inl table) = table_not_write (IsRuleFileFault rule) told table
-form_told rule bytes n work form told (inr of) = form_not_write bytes of.tables n work form told of.holds
-
--- and what is told of a rule file has no more known of it
-pub table_plainly : (bytes : List ℕ) (rule : Option (List ℕ)) (told : ToolFault) → TellsTable (IsRuleFileFault rule) told → IsRunDetailOf bytes told None None
-table_plainly bytes rule (Convert fault) none = absurd none
-table_plainly bytes rule told h = (refl, refl)

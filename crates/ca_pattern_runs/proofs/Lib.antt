@@ -1,4 +1,3 @@
 pub mod DrawnFiles
 pub mod OfFiles
 pub mod OneDrawing
-pub mod RuleFiles

@@ -36,7 +36,7 @@ table_told IsFault fault Memory same is = subst IsFault (sym same) is
 table_told IsFault fault told none is = absurd none
 
 -- none of it is a failed write
-pub table_not_write : (IsFault : TableFault → Type 0) (told : ToolFault) → TellsTable IsFault told → told ≢ Write
+table_not_write : (IsFault : TableFault → Type 0) (told : ToolFault) → TellsTable IsFault told → told ≢ Write
 table_not_write IsFault Write none = absurd none
 table_not_write IsFault told tells = λ is. cc
 

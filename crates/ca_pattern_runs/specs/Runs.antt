@@ -96,15 +96,17 @@ TellsPattern IsFault told = (refused : LocatedFault) × IsFault refused × (told
 abbrev pub IsBytesFault : Option (List ℕ) → (List TableRule → ToolFault → Type 0) → ToolFault → Type 0
 IsBytesFault rule IsFault told = TellsTable (IsRuleFileFault rule) told ⊎ HoldsOfTables rule (λ tables. IsFault tables told)
 
--- a run over the bytes of a pattern file, and over the text of a rule file, if there is one: a text that IsText of them is written, with the status
--- 0; or a first part of such a text, and then a write fails; or nothing, for a fault that holds
+-- a text that IsText is written, with the status 0; or a first part of such a text, and then a write fails; or nothing, for a fault that holds
+abbrev pub WritesText : {W : Type 0} → (W → Option (List ℕ)) → Counted W → Counted W
+    → (List ℕ → Type 0) → (ToolFault → Type 0) → Result ℕ ToolFault → Type 0
+WritesText contents old new IsText IsFault result = WritesOneOf contents old new (λ text status. (status ≡ 0) × IsText text) IsText IsFault result
+
+-- the same of a run over the bytes of a pattern file, and over the text of a rule file, if there is one, by whose table the text and the fault go
 abbrev pub WritesUnder : {W : Type 0} → (W → Option (List ℕ)) → Counted W → Counted W → Option (List ℕ)
     → (List TableRule → List ℕ → Type 0)
     → (List TableRule → ToolFault → Type 0) → Result ℕ ToolFault → Type 0
-WritesUnder contents old new rule IsText IsFault result = WritesOneOf contents old new
-    (λ text status. (status ≡ 0) × HoldsOfTables rule (λ tables. IsText tables text))
-    (λ text. HoldsOfTables rule (λ tables. IsText tables text))
-    (IsBytesFault rule IsFault) result
+WritesUnder contents old new rule IsText IsFault result =
+    WritesText contents old new (λ text. HoldsOfTables rule (λ tables. IsText tables text)) (IsBytesFault rule IsFault) result
 
 -- the text is what is written of a pattern file with these bytes: the five lines of a true summary, or the file that it is converted to
 abbrev pub IsFormOf : TextForm → List ℕ → List TableRule → List ℕ → Type 0

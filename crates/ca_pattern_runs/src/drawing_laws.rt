@@ -1,13 +1,13 @@
 //! Laws of pictures of files, which no call needs to run: out of work and memory apart, one is drawn of a
 //! file as it is asked for, or none for one fault.
 
-ghost use Rattle.std.specs.Prelude.{◌≡◌, ◌≢◌, ℕ, List, Option};
+ghost use Rattle.std.specs.Prelude.{◌≡◌, ◌≢◌, ℕ, List};
 ghost use Rattle.ca_rule.specs.TableNext.{TableRule};
 ghost use Rattle.ca_pattern_runs.specs.declared.form.DrawRequest.{DrawRequest};
 ghost use Rattle.ca_report.specs.declared.fault.ToolFault.{ToolFault};
 ghost use Rattle.ca_report.specs.declared.fault.ToolFault.TheVariants.{Work, Memory};
 ghost use Rattle.ca_pattern_runs.specs.Drawn.{IsDrawnAfter, IsCaptionAfter};
-ghost use Rattle.ca_pattern_runs.specs.Runs.{HoldsOfTables, IsBytesFault, IsFormFaultAfter};
+ghost use Rattle.ca_pattern_runs.specs.Runs.{IsFormFaultAfter};
 ghost use Rattle.ca_pattern_runs.specs.declared.form.Form.TheVariants.{Picture};
 
 /// As it is asked for, one picture at most is drawn of a file, with one caption, or none for one cause, and not
@@ -24,22 +24,4 @@ pub fn one_kind_of_drawing()
     ensures one_fault { (bytes : List ℕ) (tables : List TableRule) (n work : ℕ)
         (request : DrawRequest) (one two : ToolFault) → one ≢ Memory → one ≢ Work → two ≢ Memory → two ≢ Work
         → IsFormFaultAfter (Picture request) bytes tables n work one → IsFormFaultAfter (Picture request) bytes tables n work two → one ≡ two }
-{}
-
-/// The same of a run, which has the text of a rule file, if there is one.
-pub fn one_kind_of_drawing_run()
-    ensures one_picture { (bytes : List ℕ) (rule : Option (List ℕ)) (n : ℕ)
-        (request : DrawRequest) (one two : List ℕ) → HoldsOfTables rule (λ tables. IsDrawnAfter bytes tables n request one)
-        → HoldsOfTables rule (λ tables. IsDrawnAfter bytes tables n request two) → one ≡ two }
-    ensures one_caption { (bytes : List ℕ) (rule : Option (List ℕ)) (n : ℕ)
-        (request : DrawRequest) (one two : List ℕ) → HoldsOfTables rule (λ tables. IsCaptionAfter bytes tables n request one)
-        → HoldsOfTables rule (λ tables. IsCaptionAfter bytes tables n request two) → one ≡ two }
-    ensures picture_or_fault { (bytes : List ℕ) (rule : Option (List ℕ)) (n work : ℕ)
-        (request : DrawRequest) (text : List ℕ) (told : ToolFault) → told ≢ Memory → told ≢ Work
-        → HoldsOfTables rule (λ tables. IsDrawnAfter bytes tables n request text)
-        → IsBytesFault rule (λ tables. IsFormFaultAfter (Picture request) bytes tables n work) told → ⊥ }
-    ensures one_fault { (bytes : List ℕ) (rule : Option (List ℕ)) (n work : ℕ)
-        (request : DrawRequest) (one two : ToolFault) → one ≢ Memory → one ≢ Work → two ≢ Memory → two ≢ Work
-        → IsBytesFault rule (λ tables. IsFormFaultAfter (Picture request) bytes tables n work) one
-        → IsBytesFault rule (λ tables. IsFormFaultAfter (Picture request) bytes tables n work) two → one ≡ two }
 {}

@@ -1,7 +1,6 @@
 //! What is written of a pattern file, some generations on.
 
 ghost use Rattle.std.specs.Prelude.{◌≡◌, ℕ, ◌≤◌, List, IfOk, IfErr};
-ghost use Rattle.std.specs.Option.{option_copied};
 ghost use Rattle.ca_plane.specs.Limits.{most_generations};
 ghost use Rattle.ca_rule.specs.TableNext.{TableRule};
 ghost use Rattle.ca_pattern.specs.Evolved.{IsPatternAfter};
@@ -10,11 +9,11 @@ ghost use Rattle.ca_pattern_runs.specs.Details.{HasRunDetail, fault_alone};
 ghost use Rattle.ca_pattern_runs.specs.declared.form.Form.TheVariants.{Text};
 ghost use Rattle.ca_pattern_runs.specs.Runs.{IsFormAfter, IsFormCaption, IsFormFaultAfter};
 ghost use Rattle.ca_pattern_runs.specs.Runs.{IsTextFault, reported};
-ghost use Rattle.ca_pattern_runs.specs.Runs.{HoldsOfTables, IsBytesFault, WritesUnder};
+ghost use Rattle.ca_pattern_runs.specs.Runs.{WritesText};
 
 use crate::drawing::picture;
 use crate::form::{Evolution, Form, FormText, TextForm};
-use crate::pattern_run::{rule_table, table_fault, table_slice, write};
+use crate::pattern_run::write;
 use crate::summary::summary_lines;
 use ca_evolution::{Observer, open_evolved};
 use ca_pattern::{ConvertFault, LocatedFault, Pattern};
@@ -24,16 +23,15 @@ use ca_rule::Table;
 use std::alloc::Global;
 use std::io::Write;
 
-/// Writes what is asked of the pattern file with these bytes, some generations on, under the table of the rule
-/// file, if there is one. It answers the exit status 0. The observer sees how far the generations are. A fault
-/// comes with what is known of it.
+/// Writes what is asked of the pattern file with these bytes, some generations on, under these tables. It answers
+/// the exit status 0. The observer sees how far the generations are. A fault comes with what is known of it.
 ///
 /// Nothing is written before all is judged.
 pub fn write_form<W: Write, O: Observer>(
     alloc: Global,
     bytes: &[u8],
     form: Form,
-    table: Option<&[u8]>,
+    tables: &[Table],
     evolution: Evolution,
     observer: &mut O,
     output: &mut Dev<W>,
@@ -41,13 +39,13 @@ pub fn write_form<W: Write, O: Observer>(
     requires limits { AreGoodLimits evolution.limits }
     requires few { evolution.generations ≤ most_generations }
     // That text is written, or a first part of it and then a write fails, or nothing for another fault.
-    ensures writes { WritesUnder W.contents output.old output.new (option_copied table.entry)
-        (λ tables. IsFormAfter form bytes.now tables evolution.generations)
-        (λ tables. IsFormFaultAfter form bytes.now tables evolution.generations evolution.limits.work)
+    ensures writes { WritesText W.contents output.old output.new
+        (IsFormAfter form bytes.now tables.now evolution.generations)
+        (IsFormFaultAfter form bytes.now tables.now evolution.generations evolution.limits.work)
         (fault_alone result) }
     ensures detail { IfErr result (HasRunDetail bytes.now) }
 {
-    let written = match form_text(alloc, bytes, form, table, evolution, observer) {
+    let written = match form_text(alloc, bytes, form, tables, evolution, observer) {
         Ok(written) => written,
         Err(refused) => return Err(refused),
     };
@@ -63,36 +61,6 @@ pub fn write_form<W: Write, O: Observer>(
 ///
 /// As for `write_form`, but no write fails.
 pub fn form_text<O: Observer>(
-    alloc: Global,
-    bytes: &[u8],
-    form: Form,
-    table: Option<&[u8]>,
-    evolution: Evolution,
-    observer: &mut O,
-) -> Result<FormText, DetailedFault<ToolFault>>
-    requires limits { AreGoodLimits evolution.limits }
-    requires few { evolution.generations ≤ most_generations }
-    ensures text { IfOk result (λ written. HoldsOfTables (option_copied table.entry)
-        (λ tables. IsFormAfter form bytes.now tables evolution.generations written.text.items)) }
-    ensures caption { IfOk result (λ written. HoldsOfTables (option_copied table.entry)
-        (λ tables. IsFormCaption form bytes.now tables evolution.generations written.caption.items)) }
-    ensures fault { IfErr result (λ refused. IsBytesFault (option_copied table.entry)
-        (λ tables. IsFormFaultAfter form bytes.now tables evolution.generations evolution.limits.work)
-        refused.fault) }
-    ensures detail { IfErr result (HasRunDetail bytes.now) }
-{
-    let table = match rule_table(alloc, table) {
-        Ok(table) => table,
-        Err(fault) => return Err(DetailedFault::of(table_fault(fault))),
-    };
-    match text_under(alloc, bytes, form, table_slice(&table), evolution, observer) {
-        Ok(written) => Ok(written),
-        Err(refused) => Err(refused),
-    }
-}
-
-// What is written under these tables.
-fn text_under<O: Observer>(
     alloc: Global,
     bytes: &[u8],
     form: Form,

@@ -107,8 +107,8 @@ fn read<R: Read>(alloc: Global, input: &mut Dev<R>) -> Result<Vec<u8>, ToolFault
     }
 }
 
-/// The table of the rule file's text, if there is one.
-pub(crate) fn rule_table(alloc: Global, rule: Option<&[u8]>) -> Result<Option<Table>, TableFault>
+// The table of the rule file's text, if there is one.
+fn rule_table(alloc: Global, rule: Option<&[u8]>) -> Result<Option<Table>, TableFault>
     ensures known { IfOk result (λ table. AreKnownTables (option_copied rule.entry) (option_to_list table)) }
     ensures fault { IfErr result (IsRuleFileFault (option_copied rule.entry)) }
 {
@@ -119,15 +119,15 @@ pub(crate) fn rule_table(alloc: Global, rule: Option<&[u8]>) -> Result<Option<Ta
     Ok(Some(table))
 }
 
-/// The table, if there is one, as a list.
-pub(crate) fn table_slice(table: &Option<Table>) -> &[Table]
+// The table, if there is one, as a list.
+fn table_slice(table: &Option<Table>) -> &[Table]
     ensures { result.now ≡ option_to_list table.now }
 {
     table.as_slice()
 }
 
-/// What a run answers where the rule file holds no good table.
-pub(crate) fn table_fault(fault: TableFault) -> ToolFault
+// What a run answers where the rule file holds no good table.
+fn table_fault(fault: TableFault) -> ToolFault
     ensures { TellsTable (λ f. f ≡ fault) result }
 {
     match fault {

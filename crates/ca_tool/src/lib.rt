@@ -7,7 +7,7 @@ mod explanation;
 mod fault;
 mod verification_run;
 
-pub use ca_catalog::{Catalog, Content, Subject, Task, is_claim_path, says_its_claims};
+pub use ca_catalog::{Catalog, Content, KnownRules, Subject, Task, is_claim_path, says_its_claims};
 pub use ca_draw::{Size, View, WindowFault};
 pub use ca_pattern_runs::{
     DrawRequest, Evolution, Form, FormText, TextForm, convert_run, drawing_laws, form_text,

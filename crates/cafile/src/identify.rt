@@ -7,17 +7,14 @@ ghost use Rattle.cafile.specs.Scopes.{scope_of};
 use crate::FAULT;
 use ca_answers::Scope;
 use ca_catalog_runs::identify_run;
-use ca_host::{
-    FaultyFile, Heading, LoadedFile, Progress, Streams, load_rule_file, read_file, views,
-};
-use ca_pattern::{Cause, File, rule_text_of};
+use ca_host::{FaultyFile, Heading, Progress, RuleFiles, Streams, read_file};
+use ca_pattern::{Cause, File};
 use ca_plane::Memory;
 use ca_plane::limits::LONGEST_PERIOD;
 use ca_report::DetailedFault;
-use ca_rule::{RuleFault, Table, TableFault, resolve};
 use ca_tool::{
-    Catalog, Content, Fault, InputFault, RunFiles, Subject, Task, ToolFault, complain, explain,
-    has_explanation, is_claim_path,
+    Catalog, Content, Fault, InputFault, KnownRules, RunFiles, Subject, Task, ToolFault, complain,
+    explain, has_explanation, is_claim_path,
 };
 use ca_words::IdentifyExtras;
 use std::alloc::Global;
@@ -30,13 +27,6 @@ enum FileContent {
     Missing(Cause),
     // The rule file that has the name of its rule isn't good.
     FaultyRule(FaultyFile),
-}
-
-// The rule files that the text names, and their tables.
-#[derive(Drop)]
-struct RuleFiles {
-    files: Vec<LoadedFile>,
-    tables: Vec<Table>,
 }
 
 // Why no claim text is written, and the path of the file that this is about.
@@ -117,10 +107,7 @@ fn rule_files<'a, R: Files + AllocGlobal>(
     rt: &R,
     rule: &'a Option<String>,
 ) -> Result<RuleFiles, Failure<'a>> {
-    let mut rules = RuleFiles {
-        files: Vec::new(rt.alloc()),
-        tables: Vec::new(rt.alloc()),
-    };
+    let mut rules = RuleFiles::new(rt.alloc());
     let Some(path) = rule else {
         return Ok(rules);
     };
@@ -133,42 +120,9 @@ fn rule_files<'a, R: Files + AllocGlobal>(
             return Err(Failure { fault, path });
         }
     };
-    let table = match Table::parse(rt.alloc(), &bytes) {
-        Ok(table) => table,
-        Err(fault) => return Err(Failure::of(table_fault(fault))),
-    };
-    let Ok(file) = LoadedFile::new(rt.alloc(), path.as_bytes(), bytes) else {
-        return Err(Failure::of(OUT_OF_MEMORY));
-    };
-    if rules.add(file, table).is_err() {
-        return Err(Failure::of(OUT_OF_MEMORY));
-    }
-    Ok(rules)
-}
-
-fn table_fault(fault: TableFault) -> Fault {
-    match fault {
-        TableFault::Memory => OUT_OF_MEMORY,
-        _ => Fault::Tool(ToolFault::BadTable(fault)),
-    }
-}
-
-impl RuleFiles {
-    fn add(&mut self, file: LoadedFile, table: Table) -> Result<(), Memory> {
-        self.files.push(file)?;
-        self.tables.push(table)?;
-        Ok(())
-    }
-
-    // Takes away the last file and its table.
-    fn drop_last(&mut self) {
-        let _ = self.files.pop();
-        let _ = self.tables.pop();
-    }
-
-    // Whether the text names no rule that is known.
-    fn is_unknown(&self, text: &[u8]) -> bool {
-        matches!(resolve(text, &self.tables), Err(RuleFault::Unknown))
+    match rules.add(rt.alloc(), path.as_bytes(), &bytes) {
+        Ok(()) => Ok(rules),
+        Err(fault) => Err(Failure::of(Fault::Tool(fault))),
     }
 }
 
@@ -225,44 +179,11 @@ fn find_rule<R: Files + AllocGlobal>(
     let FileContent::Bytes(bytes) = content else {
         return None;
     };
-    match add_rule(rt, folder, bytes, rules) {
-        Ok(fault) => fault,
+    match rules.find(rt, folder, bytes) {
+        Ok(None) => None,
+        Ok(Some(faulty)) => Some(FileContent::FaultyRule(faulty)),
         Err(_) => Some(FileContent::Missing(Cause::Memory)),
     }
-}
-
-fn add_rule<R: Files + AllocGlobal>(
-    rt: &R,
-    folder: &str,
-    bytes: &[u8],
-    rules: &mut RuleFiles,
-) -> Result<Option<FileContent>, Memory> {
-    let Some(text) = rule_text_of(rt.alloc(), bytes)? else {
-        return Ok(None);
-    };
-    if !rules.is_unknown(&text) {
-        return Ok(None);
-    }
-    let Some(file) = load_rule_file(rt, folder, &text)? else {
-        return Ok(None);
-    };
-    let view = file.view();
-    if !is_claim_path(view.path) {
-        return Ok(None);
-    }
-    let table = match Table::parse(rt.alloc(), view.bytes) {
-        Ok(table) => table,
-        Err(TableFault::Memory) => return Err(Memory),
-        Err(fault) => {
-            let faulty = FaultyFile::new(rt.alloc(), &text, view.path, fault)?;
-            return Ok(Some(FileContent::FaultyRule(faulty)));
-        }
-    };
-    rules.add(file, table)?;
-    if rules.is_unknown(&text) {
-        rules.drop_last();
-    }
-    Ok(None)
 }
 
 // How many generations of a pattern are looked at, unless that is set.
@@ -299,8 +220,9 @@ fn run<'a, R: Files + Clock + AllocGlobal>(
     let Ok(subjects) = subjects(rt.alloc(), paths, contents) else {
         return Err(ToolFault::Memory);
     };
-    let Ok(files) = views(rt.alloc(), &rules.files) else {
-        return Err(ToolFault::Memory);
+    let known = KnownRules {
+        paths: &rules.paths,
+        tables: &rules.tables,
     };
     let scope = scope_of(extras.limit);
     let heading = Heading::Files {
@@ -320,7 +242,7 @@ fn run<'a, R: Files + Clock + AllocGlobal>(
     identify_run(
         rt.alloc(),
         &subjects,
-        &files,
+        &known,
         task,
         &mut streams.output,
         &mut observer,

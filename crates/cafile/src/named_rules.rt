@@ -1,8 +1,9 @@
 //! Rule files that are looked for in a folder by the names of the rules of claims' patterns.
 
 use ca_claims::unknown_rules;
-use ca_host::{FaultyFile, LoadedFile, LoadedText, bytes_at, load_once, views};
-use ca_pattern::{NamedTable, table_named};
+use ca_host::{
+    FaultyFile, LoadedFile, LoadedText, NamedTable, bytes_at, load_once, table_named, views,
+};
 use ca_plane::Memory;
 use ca_plane::text::push_text;
 use ca_text::{Claims, WordSet};
@@ -56,7 +57,7 @@ fn with_named_rule(
         return Ok(text);
     };
     match table_named(alloc, name, bytes)? {
-        NamedTable::Good => {
+        NamedTable::Good(_) => {
             let claims = text.claims.with_rule(alloc, label)?;
             Ok(LoadedText { claims, ..text })
         }

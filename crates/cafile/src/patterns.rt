@@ -1,18 +1,18 @@
 //! The commands `show`, `convert` and `draw`.
 
 use crate::FAULT;
-use ca_host::{Heading, LoadedFile, Progress, Streams, load_rule_file, open_source, read_file};
-use ca_pattern::{ConvertFault, File};
+use ca_host::{FaultyFile, Heading, Progress, RuleFiles, Streams, open_source, read_file};
+use ca_pattern::File;
 use ca_plane::limits::MOST_GENERATIONS;
-use ca_plane::{Dev, Memory, send};
+use ca_plane::send;
 use ca_report::DetailedFault;
-use ca_rule::RuleFault;
+use ca_rule::Table;
 use ca_tool::{
-    Evolution, Fault, Form, FormText, InputFault, RunFiles, ToolFault, complain, explain,
-    form_text, has_explanation, read_all, write_form,
+    Evolution, Fault, FaultyRule, Form, FormText, InputFault, RunFiles, ToolFault, complain,
+    explain, form_text, has_explanation, read_all, write_form,
 };
 use ca_words::PatternExtras;
-use std::rt::{Clock, Files, Stderr, Stdin};
+use std::rt::{Clock, Files, Stdin};
 
 /// What is written of a pattern file.
 #[derive(Clone, Copy)]
@@ -41,18 +41,18 @@ pub fn write_pattern<R: Files + Clock + AllocGlobal>(
         path: path.as_bytes(),
         bytes: bytes.as_slice(),
     };
-    let rule = rule_file(&extras.rule, &rule);
-    let first = run(rt, asked, pattern, rule, extras, streams);
-    match named_rule(rt, &first, extras) {
-        Ok(Some(found)) => {
-            let rule = Some(found.view());
-            let second = run(rt, asked, pattern, rule, extras, streams);
-            exit_status(second, pattern, rule, extras, streams)
-        }
-        Ok(None) => exit_status(first, pattern, rule, extras, streams),
-        Err(_) => {
-            let memory = Err(DetailedFault::of(ToolFault::Memory));
-            exit_status(memory, pattern, rule, extras, streams)
+    let rules = match known_rules(rt, pattern.bytes, rule, extras) {
+        Ok(rules) => rules,
+        Err(unknown) => return refuse_rules(&unknown, pattern, extras, streams),
+    };
+    match run(rt, asked, pattern, &rules.tables, extras, streams) {
+        Ok(status) => status,
+        Err(refused) => {
+            let files = RunFiles {
+                pattern,
+                rule_path: b"",
+            };
+            refuse(&refused, &files, extras, streams)
         }
     }
 }
@@ -97,14 +97,36 @@ fn load_rule<'a, R: Files + AllocGlobal>(
     }
 }
 
-// The rule file with this path and these bytes, if there is one.
-fn rule_file<'a>(path: &'a Option<String>, bytes: &'a Option<Vec<u8>>) -> Option<File<'a>> {
-    match (path, bytes) {
-        (Some(path), Some(bytes)) => Some(File {
-            path: path.as_bytes(),
-            bytes: bytes.as_slice(),
-        }),
-        _ => None,
+// Why the tables of a run aren't known.
+#[derive(Drop)]
+enum UnknownRules {
+    // The rule file that is named is faulty, or memory is out.
+    Named(ToolFault),
+    // The rule file that has the name of the pattern's rule is faulty.
+    Found(FaultyFile),
+}
+
+// The rule file that is named, with these bytes, if there is one; and where there is a folder, the one there that has the
+// name of the pattern's rule, if no rule is known by it.
+fn known_rules<R: Files + AllocGlobal>(
+    rt: &R,
+    pattern: &[u8],
+    rule: Option<Vec<u8>>,
+    extras: &PatternExtras,
+) -> Result<RuleFiles, UnknownRules> {
+    let mut rules = RuleFiles::new(rt.alloc());
+    if let (Some(path), Some(bytes)) = (&extras.rule, &rule) {
+        if let Err(fault) = rules.add(rt.alloc(), path.as_bytes(), bytes) {
+            return Err(UnknownRules::Named(fault));
+        }
+    }
+    let Some(folder) = &extras.folder else {
+        return Ok(rules);
+    };
+    match rules.find(rt, folder.as_str(), pattern) {
+        Ok(None) => Ok(rules),
+        Ok(Some(faulty)) => Err(UnknownRules::Found(faulty)),
+        Err(_) => Err(UnknownRules::Named(ToolFault::Memory)),
     }
 }
 
@@ -114,14 +136,10 @@ fn run<R: Clock + AllocGlobal>(
     rt: &R,
     asked: Asked,
     pattern: File<'_>,
-    rule: Option<File<'_>>,
+    tables: &[Table],
     extras: &PatternExtras,
     streams: &mut Streams,
 ) -> Result<u8, DetailedFault<ToolFault>> {
-    let table = match rule {
-        Some(rule) => Some(rule.bytes),
-        None => None,
-    };
     // The words keep the generations within their limit, and more are brought within.
     let generations = extras.after.unwrap_or(0).min(MOST_GENERATIONS);
     let evolution = Evolution {
@@ -135,11 +153,11 @@ fn run<R: Clock + AllocGlobal>(
     let observer = &mut observer;
     let (alloc, bytes, form) = (rt.alloc(), pattern.bytes, asked.form);
     if asked.captioned {
-        let written = form_text(alloc, bytes, form, table, evolution, observer)?;
+        let written = form_text(alloc, bytes, form, tables, evolution, observer)?;
         return write_captioned(&written, streams);
     }
     let output = &mut streams.output;
-    write_form(alloc, bytes, form, table, evolution, observer, output)
+    write_form(alloc, bytes, form, tables, evolution, observer, output)
 }
 
 // Writes the caption of a picture to standard error, and the picture to standard output.
@@ -154,55 +172,51 @@ fn write_captioned(
     Ok(0)
 }
 
-// The rule file that has the name of the pattern's rule, where a run knew no such rule.
-fn named_rule<R: Files + AllocGlobal>(
-    rt: &R,
-    run: &Result<u8, DetailedFault<ToolFault>>,
-    extras: &PatternExtras,
-) -> Result<Option<LoadedFile>, Memory> {
-    let (Err(refused), Some(folder)) = (run, &extras.folder) else {
-        return Ok(None);
-    };
-    match (refused.fault, &refused.rule_text) {
-        (ToolFault::Convert(ConvertFault::BadRule(RuleFault::Unknown)), Some(name)) => {
-            load_rule_file(rt, folder.as_str(), name)
-        }
-        _ => Ok(None),
-    }
-}
-
-// The exit status of a run, whose fault is reported, and explained where that is asked for.
-fn exit_status(
-    run: Result<u8, DetailedFault<ToolFault>>,
+// Reports why the tables of a run aren't known, and answers the exit status.
+fn refuse_rules(
+    unknown: &UnknownRules,
     pattern: File<'_>,
-    rule: Option<File<'_>>,
     extras: &PatternExtras,
     streams: &mut Streams,
 ) -> u8 {
-    let refused = match run {
-        Ok(status) => return status,
-        Err(refused) => refused,
-    };
+    match unknown {
+        UnknownRules::Named(fault) => {
+            let rule_path = named_path(&extras.rule);
+            let files = RunFiles { pattern, rule_path };
+            refuse(&DetailedFault::of(*fault), &files, extras, streams)
+        }
+        UnknownRules::Found(faulty) => {
+            let FaultyRule { path, fault, .. } = faulty.view();
+            let files = RunFiles {
+                pattern,
+                rule_path: path,
+            };
+            let refused = DetailedFault::of(ToolFault::BadTable(fault));
+            refuse(&refused, &files, extras, streams)
+        }
+    }
+}
+
+fn named_path(rule: &Option<String>) -> &[u8] {
+    match rule {
+        Some(path) => path.as_bytes(),
+        None => b"",
+    }
+}
+
+// Reports a fault, which is explained where that is asked for, and answers the exit status.
+fn refuse(
+    refused: &DetailedFault<ToolFault>,
+    files: &RunFiles<'_>,
+    extras: &PatternExtras,
+    streams: &mut Streams,
+) -> u8 {
     let fault = Fault::Tool(refused.fault);
-    let _ = complain(&fault, pattern.path, &mut streams.errors);
+    let _ = complain(&fault, files.pattern.path, &mut streams.errors);
     if extras.explained {
-        explain_fault(&refused, pattern, rule, &mut streams.errors);
+        let _ = explain(refused, files, &mut streams.errors);
     } else if has_explanation(refused.fault) {
         streams.suggest_explain();
     }
     FAULT
-}
-
-fn explain_fault(
-    refused: &DetailedFault<ToolFault>,
-    pattern: File<'_>,
-    rule: Option<File<'_>>,
-    errors: &mut Dev<Stderr>,
-) {
-    let rule_path: &[u8] = match rule {
-        Some(rule) => rule.path,
-        None => b"",
-    };
-    let files = RunFiles { pattern, rule_path };
-    let _ = explain(refused, &files, errors);
 }

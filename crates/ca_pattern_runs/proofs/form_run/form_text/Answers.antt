@@ -5,7 +5,7 @@ use Rattle.ca_pattern_runs.specs.declared.form.Form.{Form}
 use Rattle.ca_pattern_runs.specs.Details.{HasRunDetail}
 use Rattle.ca_pattern_runs.specs.Runs.{IsFormFaultAfter}
 use Rattle.ca_pattern_runs.proofs.DrawnFiles.{undrawn_told, text_detail}
-use Rattle.ca_pattern_runs.proofs.form_run.text_under.Goals as goal
+use Rattle.ca_pattern_runs.proofs.form_run.form_text.Goals as goal
 
 -- what is known of why no text is written
 pub returns-in-Err-text_of_pattern-clause-detail : goal.returns-in-Err-text_of_pattern-clause-detail

@@ -1,0 +1,39 @@
+-- Tables of rule files, and those that are put after others.
+use Rattle.std.specs.Prelude.{◌≡◌, ◌≢◌, ℕ, List, [], ◌∷◌, ◌++◌}
+use Rattle.ca_rule.specs.Rule.{IsRuleFault}
+use Rattle.ca_rule.specs.TableNext.{TableRule}
+use Rattle.ca_rule.specs.declared.fault.RuleFault.TheVariants as rule_fault
+use Rattle.ca_host.specs.declared.rules.NamedTable.{NamedTable}
+use Rattle.ca_host.specs.declared.rules.NamedTable.TheVariants.{Good, OtherName, Faulty}
+use Rattle.ca_pattern.specs.Means.{HoldsRuleText}
+use Rattle.ca_pattern.specs.NamedTables.{IsQuietTable, IsTableFault}
+use Rattle.ca_report.specs.declared.fault.ToolFault.{ToolFault}
+use Rattle.ca_report.specs.declared.fault.ToolFault.TheVariants.{BadTable, Memory}
+
+-- what the text of a rule file holds that is looked for by a name: this good table, which has the name, or one of another name; or it has this fault
+abbrev pub IsNamedTable : (name bytes : List ℕ) → NamedTable → Type 0
+IsNamedTable name bytes (Good table) = IsQuietTable bytes table × (table.name ≡ name)
+IsNamedTable name bytes OtherName = (table : TableRule) × IsQuietTable bytes table × (table.name ≢ name)
+IsNamedTable name bytes (Faulty fault) = IsTableFault bytes fault
+
+-- there is one more table, that of the rule file with these bytes
+abbrev pub AddsTableOf : List ℕ → (old new : List TableRule) → Type 0
+AddsTableOf bytes old new = (table : TableRule) × IsQuietTable bytes table × (new ≡ old ++ table ∷ [])
+
+-- why there isn't: the bytes are the text of no good table, for this fault; or memory is out
+abbrev pub IsBadTable : List ℕ → ToolFault → Type 0
+IsBadTable bytes (BadTable fault) = IsTableFault bytes fault
+IsBadTable bytes Memory = Unit {0}
+IsBadTable bytes told = ⊥
+
+-- there is one more, that of some rule file, and it has this name
+abbrev pub AddsTableNamed : (name : List ℕ) → (old new : List TableRule) → Type 0
+AddsTableNamed name old new = (bytes : List ℕ) × (table : TableRule) × IsQuietTable bytes table × (table.name ≡ name) × (new ≡ old ++ table ∷ [])
+
+-- this is the rule text of a pattern file with these bytes, and it names no rule: none in its own notation, and none of the tables
+abbrev pub IsUnknownRuleOf : (bytes : List ℕ) → List TableRule → (name : List ℕ) → Type 0
+IsUnknownRuleOf bytes tables name = HoldsRuleText name bytes × IsRuleFault name tables rule_fault.Unknown
+
+-- there is one more, of the name that is such a rule text
+abbrev pub AddsTableFor : (bytes : List ℕ) → (old new : List TableRule) → Type 0
+AddsTableFor bytes old new = (name : List ℕ) × IsUnknownRuleOf bytes old name × AddsTableNamed name old new
