@@ -2,8 +2,8 @@
 
 use super::expected::{expect, is_live};
 use super::objects::{OBJECTS, ORIENTATIONS, Object};
-use ca_apgcode::{Grid, ReadFault, read_representation};
 use ca_answers::Scope;
+use ca_apgcode::{Grid, ReadFault, read_representation};
 use ca_catalog_runs::identify_with_code;
 use ca_pattern::Limits;
 use ca_plane::Memory;

@@ -1,6 +1,7 @@
 //! Lines of answers and faults that no text causes, and causes and faults in the words of their crates.
 
 use super::devices::expect;
+use ca_answers::{Answer, Refutation, Verdict};
 use ca_macro::MacroFault;
 use ca_pattern::{Cause, ConvertFault, PatternFault};
 use ca_plane::{Dev, Memory};
@@ -8,7 +9,6 @@ use ca_rle::RleFault;
 use ca_rule::{RuleFault, TableFault};
 use ca_text::ClaimFault;
 use ca_tool::{Fault, InputFault, ToolFault, WindowFault, complain, lines};
-use ca_answers::{Answer, Refutation, Verdict};
 use std::alloc::{AllocError, Global};
 use std::test::*;
 

@@ -1,8 +1,8 @@
 //! What patterns are, found out from their files. Periods and life spans are those of the field's collections.
 
 use super::devices::expect;
-use ca_identify::identify;
 use ca_answers::{Growth, Identity, Look, Scope};
+use ca_identify::identify;
 use ca_pattern::{Limits, LocatedFault};
 use ca_plane::Bounds;
 use ca_run::Unwatched;
