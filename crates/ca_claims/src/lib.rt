@@ -8,9 +8,9 @@ pub use ca_answers::{Answer, Growth, Identity, Look, Note, Refutation, Scope, Ve
 pub use ca_evolution::{Observer, RunSubject, open_evolved};
 pub use ca_identify::{identify, identity_laws};
 pub use ca_pattern::{
-    Cause, Cells, ConvertFault, File, Format, Limits, Loaded, LocatedFault, NamedTable, Pattern,
-    PatternFault, StoredTree, Summary, Target, USUAL_MEMO, conversion_laws, convert,
-    evolution_laws, open_pattern, read_pattern, rule_text_of, summary, table_named,
+    Cause, Cells, ConvertFault, File, Format, Limits, Loaded, LocatedFault, Pattern, PatternFault,
+    StoredTree, Summary, Target, USUAL_MEMO, conversion_laws, convert, evolution_laws,
+    open_pattern, read_pattern, rule_text_of, summary,
 };
 pub use ca_plane::limits::MOST_MEMO;
 pub use ca_text::{
