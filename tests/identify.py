@@ -699,7 +699,8 @@ def try_work_of_codes(tally, files):
     tally.expect("a long period of small phases", run(["identify", "--apgcode", path]),
                  whole(entry("period_57960_small", path, "oscillator 57960") + f"# period_57960_small: {CODE_OF_57960}\n"))
     alone, coded = (min(timed(["identify", *words, path])[1] for _ in range(3)) for words in ([], ["--apgcode"]))
-    tally.tell("its code takes no longer than the claim", [] if coded <= 2 * alone else [f"{coded:.2f} s, and {alone:.2f} s without it"])
+    # that takes up to twice as long, and five times where each phase is turned and written
+    tally.tell("no phase is turned and written in vain", [] if coded <= 4 * alone else [f"{coded:.2f} s, and {alone:.2f} s without it"])
     low, bricks = least_work(path, "--apgcode"), 7 * 57959
     tally.tell("work for the code of a small object", [] if bricks < low < 2 * bricks else [f"{low}, and {bricks} for the bricks"])
 
