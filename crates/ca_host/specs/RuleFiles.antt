@@ -1,5 +1,6 @@
 -- Tables of rule files, and those that are put after others.
-use Rattle.std.specs.Prelude.{◌≡◌, ◌≢◌, ℕ, List, [], ◌∷◌, ◌++◌}
+use Rattle.std.specs.Prelude.{◌≡◌, ◌≢◌, ℕ, ◌⊎◌, List, [], ◌∷◌, ◌++◌, Vec}
+use Rattle.std.specs.declared.alloc.Global.{Global}
 use Rattle.ca_rule.specs.Rule.{IsRuleFault}
 use Rattle.ca_rule.specs.TableNext.{TableRule}
 use Rattle.ca_rule.specs.declared.fault.RuleFault.TheVariants as rule_fault
@@ -7,6 +8,8 @@ use Rattle.ca_host.specs.declared.rules.NamedTable.{NamedTable}
 use Rattle.ca_host.specs.declared.rules.NamedTable.TheVariants.{Good, OtherName, Faulty}
 use Rattle.ca_pattern.specs.Means.{HoldsRuleText}
 use Rattle.ca_pattern.specs.NamedTables.{IsQuietTable, IsTableFault}
+use Rattle.ca_rule.specs.TableFaults.{IsTableTextFault}
+use Rattle.ca_rule.specs.declared.table.fault.TableFault.TheVariants as table_fault
 use Rattle.ca_report.specs.declared.fault.ToolFault.{ToolFault}
 use Rattle.ca_report.specs.declared.fault.ToolFault.TheVariants.{BadTable, Memory}
 
@@ -20,10 +23,14 @@ IsNamedTable name bytes (Faulty fault) = IsTableFault bytes fault
 abbrev pub AddsTableOf : List ℕ → (old new : List TableRule) → Type 0
 AddsTableOf bytes old new = (table : TableRule) × IsQuietTable bytes table × (new ≡ old ++ table ∷ [])
 
--- why there isn't: the bytes are the text of no good table, for this fault; or memory is out
+-- and one more path
+abbrev pub AddsPath : List ℕ → (old new : List (Vec ℕ Global)) → Type 0
+AddsPath path old new = (added : Vec ℕ Global) × (added.items ≡ path) × (new ≡ old ++ added ∷ [])
+
+-- why there isn't: the bytes are the text of no good table, for this fault; or memory is out for their table, or for a good table
 abbrev pub IsBadTable : List ℕ → ToolFault → Type 0
 IsBadTable bytes (BadTable fault) = IsTableFault bytes fault
-IsBadTable bytes Memory = Unit {0}
+IsBadTable bytes Memory = IsTableTextFault bytes table_fault.Memory ⊎ ((table : TableRule) × IsQuietTable bytes table)
 IsBadTable bytes told = ⊥
 
 -- there is one more, that of some rule file, and it has this name

@@ -252,14 +252,22 @@ impl FaultyFile {
         name: &[u8],
         path: &[u8],
         fault: TableFault,
-    ) -> Result<FaultyFile, Memory> {
+    ) -> Result<FaultyFile, Memory>
+        ensures name { IfOk result (λ f. f.name.items ≡ name.now) }
+        ensures path { IfOk result (λ f. f.path.items ≡ path.now) }
+        ensures fault { IfOk result (λ f. f.fault ≡ fault) }
+    {
         let name = Vec::from_slice(alloc, name)?;
         let path = Vec::from_slice(alloc, path)?;
         Ok(FaultyFile { name, path, fault })
     }
 
     /// The same for a run, whose bytes stay here.
-    pub fn view(&self) -> FaultyRule<'_> {
+    pub fn view(&self) -> FaultyRule<'_>
+        ensures name { result.name.now ≡ self.now.name.items }
+        ensures path { result.path.now ≡ self.now.path.items }
+        ensures fault { result.fault ≡ self.now.fault }
+    {
         FaultyRule {
             name: self.name.as_slice(),
             path: self.path.as_slice(),

@@ -5,7 +5,9 @@ ghost use Rattle.ca_rule.specs.Rule.{IsRuleFault};
 ghost use Rattle.ca_rule.specs.TableFaults.{IsTableTextFault};
 ghost use Rattle.ca_rule.specs.declared.fault.RuleFault.TheVariants as rule_fault;
 ghost use Rattle.ca_rule.specs.declared.table.fault.TableFault.TheVariants as table_fault;
-ghost use Rattle.ca_host.specs.RuleFiles.{IsNamedTable, AddsTableOf, AddsTableNamed, AddsTableFor, IsBadTable, IsUnknownRuleOf};
+ghost use Rattle.ca_host.specs.RuleFiles.{IsNamedTable, AddsTableOf, AddsPath, AddsTableNamed, AddsTableFor};
+ghost use Rattle.ca_host.specs.RuleFiles.{IsBadTable, IsUnknownRuleOf};
+ghost use Rattle.ca_pattern.specs.NamedTables.{IsTableFault};
 
 use crate::files::{FaultyFile, LoadedFile, load_rule_file};
 use ca_pattern::rule_text_of;
@@ -73,6 +75,7 @@ impl RuleFiles {
     /// then.
     pub fn add(&mut self, alloc: Global, path: &[u8], bytes: &[u8]) -> Result<(), ToolFault>
         ensures added { OnOk result (AddsTableOf bytes.now self.old.tables.items self.new.tables.items) }
+        ensures path { OnOk result (AddsPath path.now self.old.paths.items self.new.paths.items) }
         ensures fault { IfErr result (IsBadTable bytes.now) }
         ensures err { OnErr result (self.new.tables.items ≡ self.old.tables.items) }
     {
@@ -81,10 +84,10 @@ impl RuleFiles {
             Err(TableFault::Memory) => return Err(ToolFault::Memory),
             Err(fault) => return Err(ToolFault::BadTable(fault)),
         };
-        if self.put(alloc, path, table).is_err() {
-            return Err(ToolFault::Memory);
+        match self.put(alloc, path, table) {
+            Ok(()) => Ok(()),
+            Err(_) => Err(ToolFault::Memory),
         }
-        Ok(())
     }
 
     /// Looks in a folder for the rule file of the pattern file with these bytes, where its rule text names no rule: none in
@@ -134,8 +137,9 @@ impl RuleFiles {
         name: &[u8],
         file: &LoadedFile,
     ) -> Result<Option<FaultyFile>, Memory>
-        ensures { (self.new.tables.items ≡ self.old.tables.items)
+        ensures kept { (self.new.tables.items ≡ self.old.tables.items)
             ⊎ AddsTableNamed name.now self.old.tables.items self.new.tables.items }
+        ensures faulty { IfOk result (λ found. IfSome found (λ f. IsTableFault file.now.bytes.items f.fault)) }
     {
         let file = file.view();
         match table_named(alloc, name, file.bytes)? {
@@ -151,6 +155,7 @@ impl RuleFiles {
     // Puts a path and a table after the others.
     fn put(&mut self, alloc: Global, path: &[u8], table: Table) -> Result<(), Memory>
         ensures ok { OnOk result (self.new.tables.items ≡ self.old.tables.items ++ table ∷ []) }
+        ensures path { OnOk result (AddsPath path.now self.old.paths.items self.new.paths.items) }
         ensures err { OnErr result (self.new.tables.items ≡ self.old.tables.items) }
     {
         let path = Vec::from_slice(alloc, path)?;

@@ -1,4 +1,4 @@
-//! Pattern files of both formats: read, with their rules, taken some generations on, summed up and written.
+//! Pattern files of both formats: read, with their rules, summed up and written.
 #![tactic(auto)]
 
 mod cause;
