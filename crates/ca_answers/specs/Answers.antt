@@ -28,7 +28,7 @@ use Rattle.ca_text.specs.Truth.{expected_cells, IsTrueClaim}
 use Rattle.ca_answers.specs.Refutations.{IsReason}
 use Rattle.ca_pattern.specs.NamedTables.{IsQuietTable, IsTableFault}
 use Rattle.ca_pattern.specs.States.{HasSmallStates, HasLargeState}
-use Rattle.ca_pattern.specs.Faults.{IsPatternFault, IsPatternFaultOn}
+use Rattle.ca_pattern.specs.Formats.{IsPatternFault, IsPatternFaultOn}
 
 -- the file of a path was handed in, and this holds of its bytes
 abbrev pub HoldsOfFile : List (List ℕ × List ℕ) → (List ℕ → Type 0) → List ℕ → Type 0

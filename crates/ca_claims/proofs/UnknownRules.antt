@@ -16,7 +16,7 @@ use Rattle.ca_text.specs.NeededFiles.{IsNeeded}
 use Rattle.ca_answers.specs.Files.{bytes_at}
 use Rattle.ca_pattern.specs.Means.{HoldsRuleText}
 use Rattle.ca_answers.specs.Answers.{AreTables}
-use Rattle.ca_pattern.specs.Faults.{IsUnreadFile}
+use Rattle.ca_pattern.specs.Formats.{IsUnreadFile}
 use Rattle.ca_claims.specs.Unknown.{HoldsUnknownRule, IsUnknownRule, AreUnknownRules}
 use Rattle.ca_text.specs.Words.{with_word}
 use Rattle.ca_claims.specs.inner.Unknown.{AsksFor, IsAskedBefore, AreAskedBefore, AddsAsked}

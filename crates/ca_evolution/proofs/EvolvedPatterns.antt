@@ -29,7 +29,7 @@ use Rattle.ca_pattern.specs.declared.ruled.RuledPattern.{RuledPattern}
 use Rattle.ca_pattern.specs.Converted.{IsConvertFault}
 use Rattle.ca_pattern.specs.Evolved.{HoldsSmallRuledPattern, IsPatternAfter, IsReachFault, MayNeedRun, IsEvolved, IsSummaryAfter, IsConvertedAfter, IsConvertFaultAfter}
 use Rattle.ca_pattern.specs.LocatedFaults.{convert_fault_of}
-use Rattle.ca_pattern.specs.Means.{format_of}
+use Rattle.ca_pattern.specs.Formats.{format_of}
 use Rattle.ca_pattern.specs.PatternCells.{IsTreeOf, IsPatternOf}
 use Rattle.ca_pattern.specs.PatternTrees.{IsPattern}
 use Rattle.ca_pattern.specs.Patterns.{IsReadFrom, rule_of, ShowsSmall}

@@ -9,7 +9,8 @@ use Rattle.ca_macro.proofs.OneMeaning as macrocell
 use Rattle.ca_macro.proofs.Ranges.{cells_in_range}
 use Rattle.ca_pattern.specs.declared.format.Format.{Format}
 use Rattle.ca_pattern.specs.declared.format.Format.TheVariants.{Rle, Mc}
-use Rattle.ca_pattern.specs.Means.{format_of, MeansAs, IsReadableAs, HoldsPattern}
+use Rattle.ca_pattern.specs.Formats.{format_of, MeansAs, IsReadableAs}
+use Rattle.ca_pattern.specs.Means.{HoldsPattern}
 
 -- the cells of a text that reads are in range
 pub read_in_range : (format : Format) (text : List ℕ) (cells : Picture) (rule_text : List ℕ) (generation : ℕ) → IsReadableAs format text → MeansAs format text cells rule_text generation → AreInRange (cell cells)

@@ -8,7 +8,7 @@ use Rattle.ca_plane.specs.Limits.{IsInRange}
 use Rattle.ca_plane.proofs.Pictures.{Contains-cell}
 use Rattle.ca_macro.specs.Pattern.{AreInRange}
 use Rattle.ca_pattern.specs.declared.format.Format.{Format}
-use Rattle.ca_pattern.specs.Means.{format_of}
+use Rattle.ca_pattern.specs.Formats.{format_of}
 
 -- what holds of bytes in their format holds of them
 pub in_format : (P : Format → Type 0) (bytes : List ℕ) (format : Format) → format_of bytes ≡ format → P format → P (format_of bytes)

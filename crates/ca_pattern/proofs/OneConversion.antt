@@ -14,7 +14,8 @@ use Rattle.ca_pattern.specs.declared.format.Format.{Format}
 use Rattle.ca_pattern.specs.declared.format.Format.TheVariants.{Rle, Mc}
 use Rattle.ca_pattern.specs.declared.convert_fault.ConvertFault.{ConvertFault}
 use Rattle.ca_pattern.specs.declared.convert_fault.ConvertFault.TheVariants.{BadPattern, BadRule, StateTooLarge, TooManyCells, Memory}
-use Rattle.ca_pattern.specs.Means.{format_of, MeansAs, IsReadableAs, HoldsRuledPattern}
+use Rattle.ca_pattern.specs.Formats.{format_of, MeansAs, IsReadableAs}
+use Rattle.ca_pattern.specs.Means.{HoldsRuledPattern}
 use Rattle.ca_pattern.specs.States.{HasSmallStates}
 use Rattle.ca_pattern.specs.Converted.{IsConverted, IsSummaryFault, IsConvertFault}
 use Rattle.ca_pattern.specs.Evolved.{IsEvolved}

@@ -18,7 +18,7 @@ use Rattle.ca_pattern.specs.declared.located_fault.LocatedFault.TheVariants.{Unr
 use Rattle.ca_pattern.specs.declared.read.BadPattern.{BadPattern}
 use Rattle.ca_pattern.specs.declared.ruled.UnnamedRule.{UnnamedRule as Unnamed}
 use Rattle.ca_pattern.specs.Converted.{IsSummaryFault}
-use Rattle.ca_pattern.specs.Faults.{IsPatternFaultOn}
+use Rattle.ca_pattern.specs.Formats.{IsPatternFaultOn}
 use Rattle.ca_pattern.specs.LocatedFaults.{IsOpeningFault, convert_fault_of, IsSameFault}
 use Rattle.ca_pattern.specs.Means.{HoldsRuledPattern, HoldsRuleText, HasRuleFault}
 use Rattle.ca_pattern.specs.States.{HasSmallStates}

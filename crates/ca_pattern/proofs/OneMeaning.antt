@@ -14,8 +14,8 @@ use Rattle.ca_pattern.specs.declared.pattern_fault.PatternFault.{PatternFault}
 use Rattle.ca_pattern.specs.declared.pattern_fault.PatternFault.TheVariants as pattern_fault
 use Rattle.ca_pattern.specs.declared.format.Format.{Format}
 use Rattle.ca_pattern.specs.declared.format.Format.TheVariants as formats
-use Rattle.ca_pattern.specs.Means.{format_of, MeansAs, Means, IsReadableAs, IsReadable, HoldsRuledPattern, HasRuleFault}
-use Rattle.ca_pattern.specs.Faults.{IsPatternFault}
+use Rattle.ca_pattern.specs.Formats.{format_of, MeansAs, IsReadableAs, IsPatternFault}
+use Rattle.ca_pattern.specs.Means.{Means, IsReadable, HoldsRuledPattern, HasRuleFault}
 use Rattle.ca_pattern.specs.States.{HasLargeState, HasSmallStates}
 
 -- ---- one meaning

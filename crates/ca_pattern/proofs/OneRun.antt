@@ -19,10 +19,10 @@ use Rattle.ca_pattern.specs.declared.pattern.Pattern.{Pattern}
 use Rattle.ca_pattern.specs.declared.located_fault.LocatedFault.{LocatedFault}
 use Rattle.ca_pattern.specs.declared.located_fault.LocatedFault.TheVariants.{GenTooLarge, Work, Range, TooManyCells, Memory}
 use Rattle.ca_pattern.specs.Evolved.{HoldsSmallRuledPattern, IsPatternAfter, IsSamePattern, IsReachFault, IsEvolved, IsSummaryAfter, IsConvertedAfter, IsConvertFaultAfter}
-use Rattle.ca_pattern.specs.Written.{IsTidyAs, HasCellOutOfRange}
+use Rattle.ca_pattern.specs.Formats.{IsTidyAs, format_of}
+use Rattle.ca_pattern.specs.Written.{HasCellOutOfRange}
 use Rattle.ca_pattern.specs.LocatedFaults.{IsSameFault}
 use Rattle.ca_pattern.specs.Converted.{IsSameSummary}
-use Rattle.ca_pattern.specs.Means.{format_of}
 use Rattle.ca_pattern.proofs.FilesInRange.{read_in_range}
 use Rattle.ca_pattern.proofs.OneConversion.{few_shown, one_bounds}
 use Rattle.ca_pattern.proofs.OneFault.{opened_or_fault, one_opening_fault}

@@ -10,7 +10,7 @@ use Rattle.ca_rle.proofs.OneTidy as rle_tidy
 use Rattle.ca_macro.proofs.OneTidy as macrocell_tidy
 use Rattle.ca_pattern.specs.declared.format.Format.{Format}
 use Rattle.ca_pattern.specs.declared.format.Format.TheVariants.{Rle, Mc}
-use Rattle.ca_pattern.specs.Written.{IsTidyAs}
+use Rattle.ca_pattern.specs.Formats.{IsTidyAs}
 use Rattle.ca_pattern.proofs.WrittenMeanings.{tidy_shown}
 
 -- a text that is tidy for a picture is so for one that shows the same

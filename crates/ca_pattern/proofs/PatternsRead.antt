@@ -10,10 +10,10 @@ use Rattle.ca_rule.specs.Rule.{RuleValue, states_of}
 use Rattle.ca_macro.specs.Pattern.{AreInRange}
 use Rattle.ca_pattern.specs.declared.format.Format.{Format}
 use Rattle.ca_pattern.specs.declared.format.Format.TheVariants.{Rle, Mc}
-use Rattle.ca_pattern.specs.Means.{format_of, IsReadableAs, IsReadable, MayWantMemoryAs, MayWantMemory}
+use Rattle.ca_pattern.specs.Formats.{format_of, IsReadableAs, MayWantMemoryAs, IsPatternFault, IsPatternFaultOn}
+use Rattle.ca_pattern.specs.Means.{IsReadable, MayWantMemory}
 use Rattle.ca_pattern.specs.declared.pattern_fault.PatternFault.{PatternFault}
 use Rattle.ca_pattern.specs.declared.pattern_fault.PatternFault.TheVariants as pattern_fault
-use Rattle.ca_pattern.specs.Faults.{IsPatternFault, IsPatternFaultOn}
 use Rattle.ca_pattern.specs.States.{HasSmallStates}
 
 -- ---- files that read

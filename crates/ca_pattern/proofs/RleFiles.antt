@@ -14,7 +14,8 @@ use Rattle.ca_rule.specs.TableNext.{TableRule}
 use Rattle.ca_rule.specs.Rule.{RuleValue, NamesRule, states_of}
 use Rattle.ca_macro.specs.Pattern.{AreInRange}
 use Rattle.ca_pattern.specs.declared.format.Format.TheVariants.{Rle}
-use Rattle.ca_pattern.specs.Means.{format_of, MeansAs, IsReadableAs, HoldsPattern}
+use Rattle.ca_pattern.specs.Formats.{format_of, MeansAs, IsReadableAs}
+use Rattle.ca_pattern.specs.Means.{HoldsPattern}
 use Rattle.ca_pattern.specs.States.{HasSmallStates, HasLargeState}
 use Rattle.ca_pattern.proofs.FilesRead.{in_format, shown_in_range}
 use Rattle.ca_pattern.proofs.EqualCells.{small_shown}

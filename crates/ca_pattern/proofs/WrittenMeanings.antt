@@ -24,7 +24,7 @@ use Rattle.ca_macro.proofs.TidyFiles.{tidy_nodes_as}
 use Rattle.ca_rule.specs.Rule.{RuleValue, states_of, printed_form}
 use Rattle.ca_pattern.specs.declared.format.Format.{Format}
 use Rattle.ca_pattern.specs.declared.format.Format.TheVariants.{Rle, Mc}
-use Rattle.ca_pattern.specs.Means.{format_of, MeansAs, IsReadableAs}
+use Rattle.ca_pattern.specs.Formats.{format_of, MeansAs, IsReadableAs}
 use Rattle.ca_pattern.specs.inner.Cells.{IsPlaneOf}
 use Rattle.ca_macro.proofs.Ranges.{range_as}
 use Rattle.ca_pattern.specs.declared.located_fault.LocatedFault.{LocatedFault}

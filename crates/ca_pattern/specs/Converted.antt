@@ -11,7 +11,7 @@ use Rattle.ca_pattern.specs.declared.convert_fault.ConvertFault.TheVariants.{Bad
 use Rattle.ca_pattern.specs.declared.pattern.Summary.{Summary}
 use Rattle.ca_pattern.specs.Evolved.{IsConvertedAfter, IsSummaryAfter}
 use Rattle.ca_pattern.specs.Means.{HoldsRuledPattern, HasRuleFault, MayWantMemory}
-use Rattle.ca_pattern.specs.Faults.{IsPatternFault}
+use Rattle.ca_pattern.specs.Formats.{IsPatternFault}
 use Rattle.ca_pattern.specs.States.{HasLargeState, HasSmallStates}
 
 -- the text is what the bytes are converted to: what their pattern is written as, after no generations

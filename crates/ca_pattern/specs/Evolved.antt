@@ -15,11 +15,12 @@ use Rattle.ca_pattern.specs.declared.pattern.Summary.{Summary}
 use Rattle.ca_pattern.specs.declared.pattern.Pattern.{Pattern}
 use Rattle.ca_pattern.specs.declared.located_fault.LocatedFault.{LocatedFault}
 use Rattle.ca_pattern.specs.declared.located_fault.LocatedFault.TheVariants.{GenTooLarge, Work, Range, TooManyCells}
-use Rattle.ca_pattern.specs.Means.{format_of, HoldsPattern, HoldsRuledPattern}
+use Rattle.ca_pattern.specs.Formats.{format_of, IsTidyAs}
+use Rattle.ca_pattern.specs.Means.{HoldsPattern, HoldsRuledPattern}
 use Rattle.ca_pattern.specs.States.{HasSmallStates}
 use Rattle.ca_pattern.specs.LocatedFaults.{IsOpeningFault}
 use Rattle.ca_pattern.specs.PatternCells.{AreCells, IsPatternOf}
-use Rattle.ca_pattern.specs.Written.{IsTidyAs, HasCellOutOfRange}
+use Rattle.ca_pattern.specs.Written.{HasCellOutOfRange}
 
 -- the bytes are a file whose pattern has these cells, of small states, under the rule that its rule text names, at this generation
 pub record HoldsSmallRuledPattern (bytes : List ℕ) (tables : List TableRule) (cells : Picture)

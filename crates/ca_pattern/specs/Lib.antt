@@ -1,6 +1,6 @@
 pub mod Converted
 pub mod Evolved
-pub mod Faults
+pub mod Formats
 pub mod LaterTrees
 pub mod Limited
 pub mod Loaded

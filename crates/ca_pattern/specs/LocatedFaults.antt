@@ -8,7 +8,7 @@ use Rattle.ca_pattern.specs.declared.convert_fault.ConvertFault.TheVariants as c
 use Rattle.ca_pattern.specs.declared.located_fault.LocatedFault.{LocatedFault}
 use Rattle.ca_pattern.specs.declared.located_fault.LocatedFault.TheVariants.{Unread, UnnamedRule, StateTooLarge, GenTooLarge, Work, Range, TooManyCells, Memory}
 use Rattle.ca_pattern.specs.Means.{HoldsRuleText, HoldsRuledPattern, MayWantMemory}
-use Rattle.ca_pattern.specs.Faults.{IsPatternFaultOn}
+use Rattle.ca_pattern.specs.Formats.{IsPatternFaultOn}
 use Rattle.ca_pattern.specs.States.{HasLargeState}
 
 -- the first reason for which a pattern file isn't opened: the bytes aren't read, for this fault, which stands on this line where it is one of their

@@ -13,9 +13,9 @@ use Rattle.ca_macro.specs.Pattern.{AreInRange}
 use Rattle.ca_pattern.specs.declared.pattern.Loaded.{Loaded}
 use Rattle.ca_pattern.specs.declared.read.BadPattern.{BadPattern}
 use Rattle.ca_pattern.specs.declared.pattern_fault.PatternFault.{PatternFault}
-use Rattle.ca_pattern.specs.declared.pattern_fault.PatternFault.TheVariants.{Rle, Macro, Memory}
+use Rattle.ca_pattern.specs.declared.pattern_fault.PatternFault.TheVariants.{Memory}
 use Rattle.ca_pattern.specs.Means.{MayWantMemory}
-use Rattle.ca_pattern.specs.Faults.{IsPatternFaultOn}
+use Rattle.ca_pattern.specs.Formats.{IsPatternFaultOn}
 use Rattle.ca_pattern.specs.States.{HasLargeState, HasSmallStates}
 use Rattle.ca_pattern.specs.Loaded.{IsLoaded}
 
@@ -30,9 +30,8 @@ pub record IsReadFrom (nodes : List Node) (bytes : List ℕ) (pattern : Loaded) 
 
 -- why the bytes aren't read, and on which line: their fault, or out of memory where they may need memory
 abbrev pub IsUnreadFor : List ℕ → PatternFault → Option ℕ → Type 0
-IsUnreadFor bytes (Rle fault) line = IsPatternFaultOn bytes (Rle fault) line
-IsUnreadFor bytes (Macro fault) line = IsPatternFaultOn bytes (Macro fault) line
 IsUnreadFor bytes Memory line = MayWantMemory bytes
+IsUnreadFor bytes fault line = IsPatternFaultOn bytes fault line
 
 abbrev pub IsUnread : List ℕ → BadPattern → Type 0
 IsUnread bytes bad = IsUnreadFor bytes bad.fault bad.line

@@ -6,15 +6,14 @@ use Rattle.ca_plane.specs.Box.{IsLeastBox}
 use Rattle.ca_plane.specs.Limits.{IsInRange}
 use Rattle.ca_plane.specs.Population.{HasPopulation, HasTooManyCells}
 use Rattle.ca_macro.specs.Pattern.{AreInRange}
-use Rattle.ca_macro.specs.Tidy as macrocell
-use Rattle.ca_rle.specs.Tidy as rle
 use Rattle.ca_rule.specs.Rule.{RuleValue, states_of, printed_form}
 use Rattle.ca_pattern.specs.declared.format.Format.{Format}
-use Rattle.ca_pattern.specs.declared.format.Format.TheVariants.{Rle, Mc}
+use Rattle.ca_pattern.specs.declared.format.Format.TheVariants.{Rle}
 use Rattle.ca_pattern.specs.declared.located_fault.LocatedFault.{LocatedFault}
 use Rattle.ca_pattern.specs.declared.located_fault.LocatedFault.TheVariants.{Range, TooManyCells, Memory}
 use Rattle.ca_pattern.specs.declared.pattern.Summary.{Summary}
-use Rattle.ca_pattern.specs.Means.{format_of, HoldsPattern}
+use Rattle.ca_pattern.specs.Formats.{format_of, IsTidyAs}
+use Rattle.ca_pattern.specs.Means.{HoldsPattern}
 
 -- the summary is that of a file of this format, with these cells, this rule and this generation
 pub record IsSummaryOf (kind : Format) (cells : ℤ → ℤ → ℕ) (rule : RuleValue) (generation : ℕ)
@@ -24,11 +23,6 @@ pub record IsSummaryOf (kind : Format) (cells : ℤ → ℤ → ℕ) (rule : Rul
   pub generation_is : summary.generation ≡ generation
   pub population : HasPopulation cells summary.cells
   pub bounds : (picture : Picture) → ((x y : ℤ) → cells x y ≡ plane.cell picture x y) → MatchOption summary.bounds (IsLive picture → ⊥) (IsLeastBox picture)
-
--- the tidy text of a format
-abbrev pub IsTidyAs : Format → List ℕ → Picture → List ℕ → ℕ → ℕ → Type 0
-IsTidyAs Rle text cells rule_text generation states = rle.IsTidyRle text cells rule_text generation states
-IsTidyAs Mc text cells rule_text generation states = macrocell.IsTidyMacrocell text (cell cells) rule_text generation states
 
 -- the text is the tidy one of a format with these cells, the printed form of the rule, and the generation
 pub record IsWrittenAs (target : Format) (cells : ℤ → ℤ → ℕ) (rule : RuleValue) (generation : ℕ)

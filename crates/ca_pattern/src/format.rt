@@ -1,4 +1,29 @@
-//! The two formats of pattern files.
+//! The formats of pattern files: which one bytes are of, how each is read, and how cells are written in it. Another
+//! format is a case here, and one of each definition of `specs/Formats.antt`.
+
+ghost use Rattle.std.specs.Prelude.{◌≡◌, IfOk, IfErr, MatchResult};
+ghost use Rattle.ca_plane.specs.Plane.{cell as plane_cell};
+ghost use Rattle.ca_quad.specs.Sound.{Grows};
+ghost use Rattle.ca_quad.specs.Trees.{cell};
+ghost use Rattle.ca_rule.specs.Rule.{rule_value};
+ghost use Rattle.ca_pattern.specs.declared.format.Format.TheVariants.{Rle, Mc};
+ghost use Rattle.ca_pattern.specs.Formats.{format_of};
+ghost use Rattle.ca_pattern.specs.Patterns.{IsReadFrom, IsUnread};
+ghost use Rattle.ca_pattern.specs.Written.{IsWrittenAs, AreUnwritten};
+ghost use Rattle.ca_pattern.specs.inner.Ready.{IsWritableTree, IsWritablePlane};
+
+use crate::cells::{plane_of, tree_of};
+use crate::located_fault::LocatedFault;
+use crate::pattern::Loaded;
+use crate::pattern_fault::PatternFault;
+use crate::read::{BadPattern, OUT_OF_MEMORY, bad_rle};
+use ca_macro::{LineFault, MacroFault, read_macro_with_line, write_macro};
+use ca_plane::text::rule_text;
+use ca_plane::{Automaton, Plane};
+use ca_quad::{Store, Tree};
+use ca_rle::{draw_text, judge_rle, write_rle};
+use ca_rule::Rule;
+use std::alloc::Global;
 
 /// A format of pattern files.
 #[derive(Clone, Copy, Debug, PartialEq, Eq)]
@@ -7,4 +32,132 @@ pub enum Format {
     Rle,
     /// Macrocell.
     Mc,
+}
+
+/// The format of a file with these bytes.
+pub(crate) fn format_of(bytes: &[u8]) -> Format
+    ensures { result ≡ format_of bytes.now }
+{
+    if bytes.starts_with(b"[M2]") {
+        return Format::Mc;
+    }
+    Format::Rle
+}
+
+/// Reads a pattern file into the store, by its format. A fault comes with its line.
+pub(crate) fn load(alloc: Global, store: &mut Store, bytes: &[u8]) -> Result<Loaded, BadPattern>
+    ensures read { MatchResult result (IsReadFrom store.new bytes.now) (IsUnread bytes.now) }
+    ensures grows { Grows store.old store.new }
+{
+    match format_of(bytes) {
+        Format::Rle => load_rle(alloc, store, bytes),
+        Format::Mc => load_macro(alloc, store, bytes),
+    }
+}
+
+/// Reads an RLE file into the store.
+fn load_rle(alloc: Global, store: &mut Store, bytes: &[u8]) -> Result<Loaded, BadPattern>
+    requires { format_of bytes.now ≡ Rle }
+    ensures read { MatchResult result (IsReadFrom store.new bytes.now) (IsUnread bytes.now) }
+    ensures grows { Grows store.old store.new }
+{
+    let _ = store.count();
+    let text = match judge_rle(bytes) {
+        Ok(text) => text,
+        Err(found) => return Err(bad_rle(found)),
+    };
+    let Ok(rule_text) = rule_text(alloc, text.rule) else {
+        return Err(OUT_OF_MEMORY);
+    };
+    let Ok(cells) = draw_text(alloc, text) else {
+        return Err(OUT_OF_MEMORY);
+    };
+    let Ok(tree) = tree_of(store, cells) else {
+        return Err(OUT_OF_MEMORY);
+    };
+    Ok(Loaded {
+        kind: Format::Rle,
+        tree,
+        rule_text,
+        generation: text.generation,
+    })
+}
+
+/// Reads a macrocell file into the store.
+fn load_macro(alloc: Global, store: &mut Store, bytes: &[u8]) -> Result<Loaded, BadPattern>
+    requires { format_of bytes.now ≡ Mc }
+    ensures read { MatchResult result (IsReadFrom store.new bytes.now) (IsUnread bytes.now) }
+    ensures grows { Grows store.old store.new }
+{
+    match read_macro_with_line(alloc, store, bytes) {
+        Ok(pattern) => Ok(Loaded {
+            kind: Format::Mc,
+            tree: pattern.tree,
+            rule_text: pattern.rule_text,
+            generation: pattern.generation,
+        }),
+        Err(
+            LineFault {
+                fault: MacroFault::Memory,
+                ..
+            },
+        ) => Err(OUT_OF_MEMORY),
+        Err(LineFault { fault, line }) => Err(BadPattern {
+            fault: PatternFault::Macro(fault),
+            line,
+        }),
+    }
+}
+
+/// The tidy text of the target's format with the cells of a tree, where they aren't too many for it.
+pub(crate) fn text_of_tree(
+    alloc: Global,
+    store: &mut Store,
+    tree: Tree,
+    rule: &Rule<'_>,
+    generation: u64,
+    target: Format,
+) -> Result<Vec<u8>, LocatedFault>
+    requires { IsWritableTree store.old tree (rule_value rule.now) generation }
+    ensures written { IfOk result (λ text.
+        IsWrittenAs target (cell store.old tree) (rule_value rule.now) generation text.items) }
+    ensures fault { IfErr result (AreUnwritten target (cell store.old tree)) }
+{
+    match target {
+        Format::Rle => match plane_of(alloc, store, tree) {
+            Ok(Some(cells)) => rle_of_plane(alloc, &cells, rule, generation),
+            Ok(None) => Err(LocatedFault::TooManyCells),
+            Err(_) => Err(LocatedFault::Memory),
+        },
+        Format::Mc => {
+            let Ok(rule_text) = rule.text(alloc) else {
+                return Err(LocatedFault::Memory);
+            };
+            match write_macro(alloc, store, tree, &rule_text, generation, rule.states()) {
+                Ok(text) => Ok(text),
+                Err(_) => Err(LocatedFault::Memory),
+            }
+        }
+    }
+}
+
+/// The tidy RLE of the cells of a plane.
+fn rle_of_plane(
+    alloc: Global,
+    cells: &Plane,
+    rule: &Rule<'_>,
+    generation: u64,
+) -> Result<Vec<u8>, LocatedFault>
+    requires { IsWritablePlane cells.now (rule_value rule.now) generation }
+    ensures written { IfOk result (λ text.
+        IsWrittenAs Rle (plane_cell cells.now) (rule_value rule.now) generation text.items) }
+    ensures fault { IfErr result (AreUnwritten Rle (plane_cell cells.now)) }
+{
+    let Ok(rule_text) = rule.text(alloc) else {
+        return Err(LocatedFault::Memory);
+    };
+    match write_rle(alloc, cells, &rule_text, generation, rule.states()) {
+        Ok(text) => Ok(text),
+        Err(_) => Err(LocatedFault::Memory),
+    }
 }

@@ -6,13 +6,13 @@ ghost use Rattle.ca_pattern.specs.declared.format.Format.TheVariants.{Rle};
 ghost use Rattle.ca_pattern.specs.Evolved.{IsPatternAfter};
 ghost use Rattle.ca_pattern.specs.LocatedFaults.{IsOpeningFault};
 ghost use Rattle.ca_pattern.specs.PatternCells.{IsPatternOf};
-ghost use Rattle.ca_pattern.specs.Means.{format_of};
+ghost use Rattle.ca_pattern.specs.Formats.{format_of};
 
 use crate::cells::has_large_state;
-use crate::format::Format;
+use crate::format::{Format, format_of};
 use crate::located_fault::LocatedFault;
 use crate::pattern::{Cells, Pattern, StoredTree};
-use crate::read::{bad_rle, format_of, read_with_line};
+use crate::read::{bad_rle, read_with_line};
 use crate::ruled::{RuledPattern, UnnamedRule, with_rule};
 use ca_plane::Automaton;
 use ca_plane::text::rule_text;
@@ -38,7 +38,7 @@ pub fn open_pattern<'a, 't>(
 {
     match format_of(bytes) {
         Format::Rle => open_text(alloc, bytes, tables),
-        Format::Mc => open_squares(alloc, bytes, tables),
+        _ => open_squares(alloc, bytes, tables),
     }
 }
 

@@ -1,4 +1,4 @@
-//! Pattern files of both formats, read into a store of squares.
+//! Pattern files, read into a store of squares.
 
 ghost use Rattle.std.specs.Prelude.{◌≡◌, ◌≢◌, ℕ, ◌<◌, List, IfOk, IfErr, IsErrOf, MatchOption, MatchResult, OnErr};
 ghost use Rattle.ca_plane.specs.Plane.{Picture};
@@ -10,22 +10,20 @@ ghost use Rattle.ca_macro.specs.Pattern.{AreInRange};
 ghost use Rattle.ca_rle.specs.FaultyLine.{IsRleFaultOn};
 ghost use Rattle.ca_rle.specs.Pattern.{IsReadableRle};
 ghost use Rattle.ca_rle.specs.declared.fault.RleFault.TheVariants as rle_fault;
-ghost use Rattle.ca_pattern.specs.declared.format.Format.TheVariants.{Rle, Mc};
+ghost use Rattle.ca_pattern.specs.declared.format.Format.TheVariants.{Rle};
 ghost use Rattle.ca_pattern.specs.declared.pattern_fault.PatternFault.TheVariants as pattern_fault;
-ghost use Rattle.ca_pattern.specs.Means.{format_of, HoldsRuleText, MayWantMemory};
-ghost use Rattle.ca_pattern.specs.Faults.{IsUnreadFile, IsPatternFault};
+ghost use Rattle.ca_pattern.specs.Formats.{format_of, IsUnreadFile, IsPatternFault};
+ghost use Rattle.ca_pattern.specs.Means.{HoldsRuleText, MayWantMemory};
 ghost use Rattle.ca_pattern.specs.Loaded.{IsLoaded};
 ghost use Rattle.ca_pattern.specs.Patterns.{IsReadFrom, IsUnread};
 
-use crate::cells::tree_of;
-use crate::format::Format;
+use crate::format::{Format, format_of, load};
 use crate::pattern::Loaded;
 use crate::pattern_fault::PatternFault;
-use ca_macro::{LineFault as MacroLineFault, MacroFault, read_macro_with_line};
 use ca_plane::Memory;
 use ca_plane::text::rule_text;
 use ca_quad::Store;
-use ca_rle::{LineFault as RleLineFault, RleFault, draw_text, judge_rle};
+use ca_rle::{LineFault, RleFault, judge_rle};
 use std::alloc::Global;
 
 /// Reads a pattern file into the store: bytes that begin with `[M2]` as macrocell, and all others as RLE.
@@ -70,7 +68,7 @@ pub fn rule_text_of(alloc: Global, bytes: &[u8]) -> Result<Option<Vec<u8>>, Memo
             Ok(text) => Ok(Some(rule_text(alloc, text.rule)?)),
             Err(_) => Ok(None),
         },
-        Format::Mc => {
+        _ => {
             let mut store = Store::new(alloc);
             match read_pattern(alloc, &mut store, bytes) {
                 Ok(pattern) => Ok(Some(pattern.rule_text)),
@@ -103,24 +101,11 @@ pub fn read_with_line(alloc: Global, store: &mut Store, bytes: &[u8]) -> Result<
     ensures read { MatchResult result (IsReadFrom store.new bytes.now) (IsUnread bytes.now) }
     ensures grows { Grows store.old store.new }
 {
-    match format_of(bytes) {
-        Format::Rle => load_rle(alloc, store, bytes),
-        Format::Mc => load_macro(alloc, store, bytes),
-    }
-}
-
-/// The format of a file with these bytes.
-pub(crate) fn format_of(bytes: &[u8]) -> Format
-    ensures { result ≡ format_of bytes.now }
-{
-    if bytes.starts_with(b"[M2]") {
-        return Format::Mc;
-    }
-    Format::Rle
+    load(alloc, store, bytes)
 }
 
 /// Why an RLE file isn't read.
-pub(crate) fn bad_rle(found: RleLineFault) -> BadPattern
+pub(crate) fn bad_rle(found: LineFault) -> BadPattern
     ensures { (bytes : List ℕ) → format_of bytes ≡ Rle → IsRleFaultOn bytes found.fault found.line
         → (found.fault ≡ rle_fault.Memory → IsReadableRle bytes) → IsUnread bytes result }
 {
@@ -130,59 +115,5 @@ pub(crate) fn bad_rle(found: RleLineFault) -> BadPattern
             fault: PatternFault::Rle(fault),
             line: found.line,
         },
-    }
-}
-
-/// Reads an RLE file into the store.
-fn load_rle(alloc: Global, store: &mut Store, bytes: &[u8]) -> Result<Loaded, BadPattern>
-    requires { format_of bytes.now ≡ Rle }
-    ensures read { MatchResult result (IsReadFrom store.new bytes.now) (IsUnread bytes.now) }
-    ensures grows { Grows store.old store.new }
-{
-    let _ = store.count();
-    let text = match judge_rle(bytes) {
-        Ok(text) => text,
-        Err(found) => return Err(bad_rle(found)),
-    };
-    let Ok(rule_text) = rule_text(alloc, text.rule) else {
-        return Err(OUT_OF_MEMORY);
-    };
-    let Ok(cells) = draw_text(alloc, text) else {
-        return Err(OUT_OF_MEMORY);
-    };
-    let Ok(tree) = tree_of(store, cells) else {
-        return Err(OUT_OF_MEMORY);
-    };
-    Ok(Loaded {
-        kind: Format::Rle,
-        tree,
-        rule_text,
-        generation: text.generation,
-    })
-}
-
-/// Reads a macrocell file into the store.
-fn load_macro(alloc: Global, store: &mut Store, bytes: &[u8]) -> Result<Loaded, BadPattern>
-    requires { format_of bytes.now ≡ Mc }
-    ensures read { MatchResult result (IsReadFrom store.new bytes.now) (IsUnread bytes.now) }
-    ensures grows { Grows store.old store.new }
-{
-    match read_macro_with_line(alloc, store, bytes) {
-        Ok(pattern) => Ok(Loaded {
-            kind: Format::Mc,
-            tree: pattern.tree,
-            rule_text: pattern.rule_text,
-            generation: pattern.generation,
-        }),
-        Err(
-            MacroLineFault {
-                fault: MacroFault::Memory,
-                ..
-            },
-        ) => Err(OUT_OF_MEMORY),
-        Err(MacroLineFault { fault, line }) => Err(BadPattern {
-            fault: PatternFault::Macro(fault),
-            line,
-        }),
     }
 }

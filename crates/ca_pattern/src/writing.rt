@@ -12,16 +12,14 @@ ghost use Rattle.ca_pattern.specs.declared.pattern.Cells.TheVariants.{Text};
 ghost use Rattle.ca_pattern.specs.PatternCells.{AreCells, IsPatternOf};
 ghost use Rattle.ca_pattern.specs.States.{HasSmallStates};
 ghost use Rattle.ca_pattern.specs.Written.{IsWrittenAs, AreUnwritten};
-ghost use Rattle.ca_pattern.specs.inner.Ready.{IsWritableTree, IsWritablePlane, IsSmallTree};
+ghost use Rattle.ca_pattern.specs.inner.Ready.{IsSmallTree};
 
-use crate::cells::{are_in_range, plane_of};
-use crate::format::Format;
+use crate::cells::are_in_range;
+use crate::format::{Format, text_of_tree};
 use crate::located_fault::LocatedFault;
 use crate::pattern::{Cells, Pattern, StoredTree};
-use ca_macro::write_macro;
-use ca_plane::{Automaton, Plane};
-use ca_quad::{Store, Tree};
-use ca_rle::{RleText, rewrite_rle, write_rle};
+use ca_plane::Automaton;
+use ca_rle::{RleText, rewrite_rle};
 use ca_rule::Rule;
 use std::alloc::Global;
 
@@ -77,27 +75,6 @@ fn rle_of_text(alloc: Global, text: RleText<'_>, rule: &Rule<'_>) -> Result<Vec<
     }
 }
 
-/// The tidy RLE of the cells of a plane.
-fn rle_of_plane(
-    alloc: Global,
-    cells: &Plane,
-    rule: &Rule<'_>,
-    generation: u64,
-) -> Result<Vec<u8>, LocatedFault>
-    requires { IsWritablePlane cells.now (rule_value rule.now) generation }
-    ensures written { IfOk result (λ text.
-        IsWrittenAs Rle (plane_cell cells.now) (rule_value rule.now) generation text.items) }
-    ensures fault { IfErr result (AreUnwritten Rle (plane_cell cells.now)) }
-{
-    let Ok(rule_text) = rule.text(alloc) else {
-        return Err(LocatedFault::Memory);
-    };
-    match write_rle(alloc, cells, &rule_text, generation, rule.states()) {
-        Ok(text) => Ok(text),
-        Err(_) => Err(LocatedFault::Memory),
-    }
-}
-
 /// The tidy text of the target's format with the cells of a tree, where it may have them.
 fn text_of_squares(
     alloc: Global,
@@ -118,36 +95,4 @@ fn text_of_squares(
         Err(_) => return Err(LocatedFault::Memory),
     }
     text_of_tree(alloc, &mut store, tree, rule, generation, target)
-}
-
-/// The tidy text of the target's format with the cells of a tree, where they aren't too many for it.
-fn text_of_tree(
-    alloc: Global,
-    store: &mut Store,
-    tree: Tree,
-    rule: &Rule<'_>,
-    generation: u64,
-    target: Format,
-) -> Result<Vec<u8>, LocatedFault>
-    requires { IsWritableTree store.old tree (rule_value rule.now) generation }
-    ensures written { IfOk result (λ text.
-        IsWrittenAs target (cell store.old tree) (rule_value rule.now) generation text.items) }
-    ensures fault { IfErr result (AreUnwritten target (cell store.old tree)) }
-{
-    match target {
-        Format::Rle => match plane_of(alloc, store, tree) {
-            Ok(Some(cells)) => rle_of_plane(alloc, &cells, rule, generation),
-            Ok(None) => Err(LocatedFault::TooManyCells),
-            Err(_) => Err(LocatedFault::Memory),
-        },
-        Format::Mc => {
-            let Ok(rule_text) = rule.text(alloc) else {
-                return Err(LocatedFault::Memory);
-            };
-            match write_macro(alloc, store, tree, &rule_text, generation, rule.states()) {
-                Ok(text) => Ok(text),
-                Err(_) => Err(LocatedFault::Memory),
-            }
-        }
-    }
 }

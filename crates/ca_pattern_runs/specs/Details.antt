@@ -3,7 +3,7 @@ use Rattle.std.specs.Prelude.{◌≡◌, ℕ, List, Option, None, Some, Vec, Res
 use Rattle.std.specs.declared.alloc.Global.{Global}
 use Rattle.ca_pattern.specs.declared.convert_fault.ConvertFault.TheVariants.{BadPattern, BadRule}
 use Rattle.ca_pattern.specs.Means.{HoldsRuleText}
-use Rattle.ca_pattern.specs.Faults.{IsPatternFaultOn}
+use Rattle.ca_pattern.specs.Formats.{IsPatternFaultOn}
 use Rattle.ca_report.specs.declared.detailed_fault.DetailedFault.{DetailedFault}
 use Rattle.ca_report.specs.declared.fault.ToolFault.{ToolFault}
 use Rattle.ca_report.specs.declared.fault.ToolFault.TheVariants.{Convert}

@@ -43,7 +43,7 @@ use Rattle.ca_text.specs.Asks.{asks_of}
 use Rattle.ca_text.specs.Truth.{expected_cells}
 use Rattle.ca_verify.specs.inner.Decided.{IsBounded, IsDecided}
 use Rattle.ca_answers.specs.Work.{IsNoMoreThan}
-use Rattle.ca_pattern.specs.Faults.{IsPatternFaultOn}
+use Rattle.ca_pattern.specs.Formats.{IsPatternFaultOn}
 use Rattle.ca_answers.specs.Answers.{IsBadPatternOn, AreTables, IsMissing, IsThere, IsReadableFile, HasRule, IsSmall, HaveOtherRules, HasCause, IsGoodPattern, AreGood, IsJudged, IsTrueVerdict, IsBadPattern, IsUnnamed, IsUnnamedBy, IsLarge, IsCrowded, WantsMemory}
 use Rattle.ca_pattern.specs.PatternTrees.{IsPattern}
 use Rattle.ca_verify.specs.inner.Subjects.{AreShown, IsSubject}

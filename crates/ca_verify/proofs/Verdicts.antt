@@ -27,7 +27,7 @@ use Rattle.ca_answers.specs.Refutations.{IsReason}
 use Rattle.ca_text.specs.declared.both.Both.{Both}
 use Rattle.ca_text.specs.Both.{HoldsOfBoth, HoldsOfEither, FirstBadOfBoth}
 use Rattle.ca_text.specs.SomeOf.{SomeOf}
-use Rattle.ca_pattern.specs.Faults.{IsPatternFault}
+use Rattle.ca_pattern.specs.Formats.{IsPatternFault}
 use Rattle.ca_pattern.specs.NamedTables.{IsQuietTable, IsTableFault}
 use Rattle.ca_answers.specs.Answers.{HoldsOfFile, IsTableAt, AreTables, IsRuled, IsMissing, IsThere, HoldsTable, IsReadableFile, HasRule, IsSmall, HaveOtherRules, FilesAreThere, TablesAreGood, PatternsAreRead, PatternsHaveRules, StatesAreSmall, AgreeOn, HasFewCounted, HasTooManyCounted, HasCause, IsCauseFor, IsGoodPattern, AreGood, IsJudged, IsBadTable, IsBadPattern, IsUnnamed, IsLarge}
 use Rattle.ca_text.specs.Firsts.{FirstBad}

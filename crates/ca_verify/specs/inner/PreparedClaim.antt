@@ -70,9 +70,8 @@ IsCountRefused nodes asks subject are_one refusal = (refusal ≡ record { cause 
 
 -- the refusal of a claim with a pattern that isn't read
 abbrev pub refusal_for : WhichPattern → PatternFault → Option ℕ → Refusal
-refusal_for part (pattern_fault.Rle fault) line = record { cause = BadPattern (pattern_fault.Rle fault); about = about.Pattern part line None }
-refusal_for part (pattern_fault.Macro fault) line = record { cause = BadPattern (pattern_fault.Macro fault); about = about.Pattern part line None }
 refusal_for part pattern_fault.Memory line = record { cause = cause.Memory; about = about.Claim }
+refusal_for part fault line = record { cause = BadPattern fault; about = about.Pattern part line None }
 
 abbrev pub reading_refusal : BadPart Unread → Refusal
 reading_refusal unread = refusal_for unread.part unread.why.fault unread.why.line

@@ -1,9 +1,9 @@
 use Rattle.std.proofs.Common.{refl, sym}
 use Rattle.ca_macro.specs.Shown.{picture_of_nodes}
 use Rattle.ca_pattern.specs.declared.format.Format.TheVariants.{Mc}
-use Rattle.ca_pattern.specs.Means.{MeansAs, IsReadableAs}
+use Rattle.ca_pattern.specs.Formats.{MeansAs, IsReadableAs}
 use Rattle.ca_pattern.proofs.FilesRead.{in_format, shown_in_range}
-use Rattle.ca_pattern.proofs.read.load_macro.Goals as goal
+use Rattle.ca_pattern.proofs.format.load_macro.Goals as goal
 
 pub returns-in-Ok-clause-read : goal.returns-in-Ok-clause-read
 returns-in-Ok-clause-read c =

@@ -7,7 +7,7 @@ use Rattle.ca_pattern.specs.Means.{HoldsPattern}
 use Rattle.ca_plane.specs.Limits.{generation_limit}
 use Rattle.ca_pattern.proofs.OpenedCells.{text_cells, text_in_range}
 use Rattle.ca_pattern.proofs.RleFiles.{text_holds}
-use Rattle.ca_pattern.proofs.read.load_rle.Goals as goal
+use Rattle.ca_pattern.proofs.format.load_rle.Goals as goal
 
 pub returns-clause-read : goal.returns-clause-read
 returns-clause-read c =

@@ -6,7 +6,7 @@ use Rattle.ca_rule.specs.Rule.{rule_value}
 use Rattle.ca_pattern.specs.declared.format.Format.TheVariants.{Rle}
 use Rattle.ca_pattern.specs.Written.{IsWrittenAs, AreUnwritten}
 use Rattle.ca_pattern.proofs.WrittenMeanings.{plane_is, plane_is_writable, written_ok, unwritten_err, written_macro}
-use Rattle.ca_pattern.proofs.writing.text_of_tree.Goals as goal
+use Rattle.ca_pattern.proofs.format.text_of_tree.Goals as goal
 
 pub rle_of_plane-requires : goal.rle_of_plane-requires
 rle_of_plane-requires c =

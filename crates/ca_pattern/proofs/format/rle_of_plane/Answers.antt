@@ -5,7 +5,7 @@ use Rattle.ca_rle.specs.Tidy.{IsTidyRle}
 use Rattle.ca_rule.specs.Rule.{rule_value}
 use Rattle.ca_pattern.proofs.PatternsRead.{listed_in_range, listed_small}
 use Rattle.ca_pattern.proofs.WrittenMeanings.{written_rle}
-use Rattle.ca_pattern.proofs.writing.rle_of_plane.Goals as goal
+use Rattle.ca_pattern.proofs.format.rle_of_plane.Goals as goal
 
 pub write_rle-requires : goal.write_rle-requires
 write_rle-requires c = record {
