@@ -139,7 +139,8 @@ impl RuleFiles {
     ) -> Result<Option<FaultyFile>, Memory>
         ensures kept { (self.new.tables.items ≡ self.old.tables.items)
             ⊎ AddsTableNamed name.now self.old.tables.items self.new.tables.items }
-        ensures faulty { IfOk result (λ found. IfSome found (λ f. IsTableFault file.now.bytes.items f.fault)) }
+        ensures faulty { IfOk result (λ found. IfSome found
+            (λ f. IsTableFault file.now.bytes.items f.fault)) }
     {
         let file = file.view();
         match table_named(alloc, name, file.bytes)? {

@@ -69,7 +69,8 @@ pub(crate) fn next_frame(
     requires quiet { counting.birth % 2 ≡ 0 }
     ensures size { IfOk result (λ later. length later.items ≡ 15) }
     ensures edge { IfOk result (λ later. HasBlankEdge 3 later.items) }
-    ensures next { IfOk result (λ later. (t : ℕ) → HasNeighbours 3 15 t → IsNextBrick counting 3 bricks.items later.items t) }
+    ensures next { IfOk result (λ later. (t : ℕ) → HasNeighbours 3 15 t
+        → IsNextBrick counting 3 bricks.items later.items t) }
 {
     let mut queue = Queue::new(alloc, BRICKS)?;
     let mut before = blank_bricks(alloc, BRICKS)?;

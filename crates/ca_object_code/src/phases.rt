@@ -61,7 +61,8 @@ fn least_up_to(
 ) -> Result<Option<Vec<u8>>, Memory>
     requires tree { IsNearTree store.now tree.now }
     requires boxes { AreSquareBoxes store.now boxes.old }
-    ensures least { (phases : ℕ → ℤ → ℤ → ℕ) (n : ℕ) → ((x y : ℤ) → cell store.now tree.now x y ≡ phases n x y)
+    ensures least { (phases : ℕ → ℤ → ℤ → ℕ) (n : ℕ)
+        → ((x y : ℤ) → cell store.now tree.now x y ≡ phases n x y)
         → IsLeastOfPhases phases n (option_map (λ text. text.items) least)
         → IfOk result (λ now. IsLeastOfPhases phases (n + 1) (option_map (λ text. text.items) now)) }
     ensures boxes { OnOk result (AreSquareBoxes store.now boxes.new) }

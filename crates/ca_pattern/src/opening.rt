@@ -33,7 +33,8 @@ pub fn open_pattern<'a, 't>(
     tables: &'t [Table],
 ) -> Result<Pattern<'a, 't>, LocatedFault>
     ensures opened { IfOk result (IsPatternAfter bytes.now tables.now 0) }
-    ensures range { IfOk result (λ pattern. (cells : ℤ → ℤ → ℕ) × IsPatternOf cells pattern × AreInRange cells) }
+    ensures range { IfOk result (λ pattern.
+        (cells : ℤ → ℤ → ℕ) × IsPatternOf cells pattern × AreInRange cells) }
     ensures fault { IfErr result (IsOpeningFault bytes.now tables.now) }
 {
     match format_of(bytes) {

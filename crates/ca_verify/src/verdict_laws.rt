@@ -135,7 +135,8 @@ pub fn false_claims()
 /// Where there is a reason against a claim, the claim isn't true.
 pub fn no_is_false()
     ensures { (next : List ℕ → ℕ) (cells other : Picture) (kind : Kind) (refutation : Refutation)
-        → IsReason next cells other (asks_of kind) refutation → IsTrueClaim next cells other (asks_of kind) → ⊥ }
+        → IsReason next cells other (asks_of kind) refutation
+        → IsTrueClaim next cells other (asks_of kind) → ⊥ }
 {}
 
 /// A claim is false for one kind of reason at most: two reasons are both want of live cells, or both cells
@@ -157,14 +158,16 @@ pub fn one_meaning_of_a_file()
 /// where no other cause is. Nor are out of memory and a file that isn't there, or out of memory and a bad
 /// table.
 pub fn one_kind_of_verdict()
-    ensures yes_or_no { (files : List (List ℕ × List ℕ)) (rules : List (List ℕ)) (claim : Claim) (refutation : Refutation)
+    ensures yes_or_no { (files : List (List ℕ × List ℕ)) (rules : List (List ℕ)) (claim : Claim)
+        (refutation : Refutation)
         → IsTrueVerdict files rules claim Yes → IsTrueVerdict files rules claim (No refutation) → ⊥ }
     ensures yes_or_refused { (files : List (List ℕ × List ℕ)) (rules : List (List ℕ)) (claim : Claim)
         (cause : Cause) → cause ≢ Memory → cause ≢ Work
         → IsTrueVerdict files rules claim Yes → IsTrueVerdict files rules claim (Refused cause) → ⊥ }
     ensures no_or_refused { (files : List (List ℕ × List ℕ)) (rules : List (List ℕ)) (claim : Claim)
         (refutation : Refutation) (cause : Cause) → cause ≢ Memory → cause ≢ Work
-        → IsTrueVerdict files rules claim (No refutation) → IsTrueVerdict files rules claim (Refused cause) → ⊥ }
+        → IsTrueVerdict files rules claim (No refutation)
+        → IsTrueVerdict files rules claim (Refused cause) → ⊥ }
     ensures work_or_refused { (files : List (List ℕ × List ℕ)) (rules : List (List ℕ)) (claim : Claim)
         (cause : Cause) → cause ≢ Memory → cause ≢ Work
         → IsTrueVerdict files rules claim (Refused Work) → IsTrueVerdict files rules claim (Refused cause)

@@ -122,7 +122,8 @@ impl<A: Automaton> Leaper<A> {
     ) -> Option<[u64; 16]>
         requires tree { IsReadByBricks self.now.nodes tree.now }
         requires none { P.bit_of plane 0 ≡ 0 }
-        ensures { IfSome result (λ rows. BrickShows rows (λ x y. P.bit_of plane (cell self.now.nodes tree.now x y))
+        ensures { IfSome result (λ rows. BrickShows rows
+            (λ x y. P.bit_of plane (cell self.now.nodes tree.now x y))
             (piece_start column) (row_start row)) }
     {
         let half = bricks_in_half(tree.level);
@@ -157,7 +158,8 @@ impl<A: Automaton> Leaper<A> {
         requires row { j < 4 * frame.now.rows.count }
         requires none { P.bit_of plane 0 ≡ 0 }
         ensures { (m : ℕ) → IsFramed m frame.now (cell self.now.nodes tree.now)
-            → IfSome result (λ rows. BrickShows rows (λ x y. P.bit_of plane (cell self.now.nodes tree.now x y))
+            → IfSome result (λ rows. BrickShows rows
+            (λ x y. P.bit_of plane (cell self.now.nodes tree.now x y))
             (piece_start (frame.now.columns.first + i)) (row_start (4 * frame.now.rows.first + j))) }
     {
         let column = frame.columns.first + i;

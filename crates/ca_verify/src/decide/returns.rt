@@ -33,7 +33,8 @@ pub(super) fn first_return<A: Automaton, O: Observer>(
     observer: &mut O,
 ) -> Result<Option<Refutation>, LeapFault>
     requires { ForbidsReturn leaper.old.nodes case.now }
-    ensures refutation { (cells : Picture) → ShowsTree leaper.old.nodes case.now.subject.pattern cells → (u v : ℤ)
+    ensures refutation { (cells : Picture) → ShowsTree leaper.old.nodes case.now.subject.pattern cells
+        → (u v : ℤ)
         → MayReturnBy case.now.asks.forbidden u v
         → IsAfter (A.next_of leaper.old.rule) cells case.now.asks.generations (shifted cells u v)
         → IfOk result (λ refutation. MatchOption refutation
