@@ -1,0 +1,181 @@
+#!/usr/bin/env -S python3 -B
+"""`cafile import`: Life 1.06, Life 1.05, plaintext and apgcodes, translated into RLE and macrocell, and what is wrong with such texts.
+
+    tests/imports.py [--count N] [--seed S]
+
+What the examples come to was worked out by hand. N mutated texts of each format are compared with a reader in Python (lib/other_formats.py), and what
+is printed is read again by `show`. The same seed and count give the same texts.
+"""
+import argparse
+import random
+import tempfile
+
+from lib import macrocell, other_formats
+from lib.other_formats import EDGE
+from lib.program import Outcome, Runs, Tally, ample, fault, run
+from lib.rle import tidy
+from lib.rle_reader import Fault
+
+GLIDER = {(1, 0): 1, (2, 1): 1, (0, 2): 1, (1, 2): 1, (2, 2): 1}
+
+# Texts, their cells, and the rule that they name.
+TEXTS = (
+    ("#Life 1.06\n1 0\n2 1\n0 2\n1 2\n2 2\n", GLIDER, None),
+    ("#Life 1.06\r\n# a remark\r\n\r\n 2\t2 \r\n1 2\r\n0 2\r\n2 1\r\n1 0\r\n1 0\r\n", GLIDER, None),
+    (f"#Life 1.06\n-{EDGE} {EDGE - 1}\n00 -0\n", {(-EDGE, EDGE - 1): 1, (0, 0): 1}, None),
+    ("#Life 1.06", {}, None),
+    ("#Life 1.05\n#D Glider\n#N\n#P 0 0\n.*.\n..*\n***\n", GLIDER, "B3/S23"),
+    ("#Life 1.05\n#R 23/36\n#P 1 0\n*\n.*\n\n#P 0 2\n***\n", GLIDER, "B36/S23"),
+    ("#Life 1.05\n#C no block\n.*\n..*\n***", GLIDER, None),
+    ("#Life 1.05\n#P\n.*\n..*\n#P\n***\n", GLIDER, None),
+    ("#Life 1.05\n#P -3 -2\n**\n#P -2 -2\n**\n", {(-3, -2): 1, (-2, -2): 1, (-1, -2): 1}, None),
+    ("#Life 1.05\n#R 23/3\n#R 125/36\n#P 5 -7\n*\n", {(5, -7): 1}, "B36/S125"),
+    ("!Name: Glider\n!\n.O\n..O\nOOO\n", GLIDER, None),
+    ("!\n.O\n\n..*\r\nO*O.. \n", {(1, 0): 1, (2, 2): 1, (0, 3): 1, (1, 3): 1, (2, 3): 1}, None),
+    ("\n.O\n..O\nOOO", {(x, y + 1): 1 for x, y in GLIDER}, None),
+    ("...", {}, None),
+    ("xq4_153\n", {(0, 0): 1, (1, 0): 1, (2, 0): 1, (2, 1): 1, (1, 2): 1}, None),
+    ("\n xs4_33 \r\n", {(0, 0): 1, (1, 0): 1, (0, 1): 1, (1, 1): 1}, None),
+    ("xp2_7", {(0, 0): 1, (0, 1): 1, (0, 2): 1}, None),
+)
+
+# Texts that are refused, and what is told of them.
+REFUSED = (
+    ("", "unknown format"), ("\n\n", "unknown format"), ("x = 3, y = 3\n3o!\n", "unknown format"), ("[M2]\n", "unknown format"), ("glider", "unknown format"),
+    ("#Life 1.07\n0 0\n", "unknown format"), ("#Life 1.06 x\n0 0\n", "unknown format"), ("xq4_153 xs4_33", "unknown format"), ("xq4_351z", "unknown format"),
+    ("xt4_153", "unknown format"), ("ov_p3", "unknown format"), ("xq4_y", "unknown format"), ("xs4_330", "unknown format"),
+    ("#Life 1.06\n0 0\n1\n", "import line 3: syntax"), ("#Life 1.06\n0 0 0\n", "import line 2: syntax"), ("#Life 1.06\n+1 0\n", "import line 2: syntax"),
+    ("#Life 1.06\n1 x\n", "import line 2: syntax"), (f"#Life 1.06\n0 0\n{EDGE} 0\n", "import line 3: range"), (f"#Life 1.06\n0 -{EDGE + 1}\n", "import line 2: range"),
+    (f"#Life 1.06\n{10 ** 40} 0\n", "import line 2: range"),
+    ("#Life 1.05\n#P 0\n*\n", "import line 2: syntax"), ("#Life 1.05\n#P 0 0\n*o\n", "import line 3: syntax"), ("#Life 1.05\n#R 23/3/4\n", "import line 2: syntax"),
+    ("#Life 1.05\n#R\n", "import line 2: syntax"), ("#Life 1.05\n#R /0\n", "import line 2: syntax"), ("#Life 1.05\n#R 23/3 x\n", "import line 2: syntax"),
+    (f"#Life 1.05\n#P {EDGE} 0\n*\n", "import line 2: range"), (f"#Life 1.05\n#P {EDGE - 1} 0\n**\n", "import line 3: range"),
+    (f"#Life 1.05\n#P 0 {EDGE - 1}\n*\n*\n", "import line 4: range"),
+    ("!\n.O\n.o\n", "import line 3: syntax"), (".O\n!ok\n O\n", "import line 3: syntax"),
+)
+
+# Words for the rule, and what is written, or the fault.
+RULES = (
+    (None, "B3/S23", 2), ("s23b36", "B36/S23", 2), ("B2/S34h", "B2/S34H", 2), ("345/2/4", "345/2/4", 4), ("B2-a/S12", "B2-a/S12", 2), ("WireWorld", "WireWorld", 2),
+)
+BAD_RULES = (("B0/S23", "bad rule: wakes"), ("B3/S23:T9,9", "bad rule: bounded"))
+
+PIECES = (b"\n", b"\r\n", b" ", b"\t", b"#", b"-", b"0", b"1", b"*", b".", b"O", b"!", b"#P", b"#P 1 2\n", b"#R 23/3\n", b"#N\n", b"#D\n", b"-1 2\n", b"x", b"z",
+          b"w", b"y3", b"xs4_33", b"\x00", b"\xff", b"%d" % EDGE, b"-%d" % (EDGE + 1))
+
+
+def good_text(chance, kind):
+    """A text of a format."""
+    cells = sorted({(chance.randint(-4, 9), chance.randint(-4, 9)) for _ in range(chance.randint(0, 12))}, key=lambda _: chance.random())
+    if kind == 0:
+        return "#Life 1.06\n" + "".join(f"{x} {y}\n" for x, y in cells)
+    rows = [["".join(chance.choice(".*" if kind == 1 else ".*O") for _ in range(chance.randint(kind == 1, 7))) for _ in range(chance.randint(0, 5))] for _ in range(3)]
+    if kind == 1:
+        return "#Life 1.05\n" + "".join(f"#P {chance.randint(-9, 9)} {chance.randint(-9, 9)}\n" + "".join(f"{it}\n" for it in block) for block in rows)
+    if kind == 2:
+        return "!Name\n" + "".join(f"{it}\n" for it in rows[0])
+    return chance.choice(("xs4_33", "xq4_153", "xp2_7", "xp3_co9nas0san9oczgoldlo0oldlogz1047210127401", "xs12_2521zw1"))
+
+
+def mutated(chance, text):
+    """The text with a few pieces put in, left out or exchanged."""
+    for _ in range(chance.choice((0, 0, 1, 1, 2, 4))):
+        at, end = sorted(chance.randint(0, len(text)) for _ in range(2))
+        text = text[:at] + chance.choice(PIECES) + text[chance.choice((at, at + 1, end if end - at < 6 else at)):]
+    return text
+
+
+def wanted_of(text):
+    """What is printed of a text."""
+    try:
+        return ample(other_formats.rle_of(text))
+    except Fault as it:
+        return fault(f"import line {it.line}: {it.kind}" if it.line else it.kind)
+
+
+def check_examples(runs, tally):
+    """Texts of all formats, as RLE and as macrocell."""
+    for at, (text, cells, rule) in enumerate(TEXTS):
+        path = runs.path(f"{at}.txt", text)
+        rle = tidy(cells, rule or "B3/S23", 0, 2)
+        runs.expect("a text", ["import", path], ample(rle))
+        runs.expect("from standard input", ["import", "-"], ample(rle), input=text.encode())
+        runs.expect("to rle", ["import", path, "--to", "rle"], ample(rle))
+        tree = macrocell.tidy(macrocell.Pattern(macrocell.tree_of(cells), rule or "B3/S23", 0), 2)
+        runs.expect("to mc", ["import", path, "--to", "mc"], ample(tree))
+        back = runs.path(f"{at}.mc", tree)
+        runs.expect("read again", ["convert", back, "--to", "rle"], ample(rle))
+    runs.tell(tally, "texts of all formats")
+
+
+def check_refused(runs, tally):
+    """Texts that are refused."""
+    for at, (text, told) in enumerate(REFUSED):
+        path = runs.path(f"{at}.bad", text)
+        runs.expect("a refused text", ["import", path], fault(told))
+        runs.expect("as macrocell", ["import", path, "--to", "mc"], fault(told))
+    lost = runs.path("lost.lif")
+    runs.expect("a lost file", ["import", lost], fault(f"cannot read {lost}"))
+    runs.tell(tally, "texts that are refused")
+
+
+def check_rules(runs, tally):
+    """The rule of texts that name none."""
+    path, own = runs.path("glider.cells", "!\n.O\n..O\nOOO\n"), runs.path("own.lif", "#Life 1.05\n#R 23/36\n.*\n..*\n***\n")
+    for word, rule, states in RULES:
+        words = ["--rule", word] if word else []
+        runs.expect("a rule", ["import", path, *words], ample(tidy(GLIDER, rule, 0, states)))
+        runs.expect("a rule of its own", ["import", own, *words], ample(tidy(GLIDER, "B36/S23", 0, 2)))
+        tree = macrocell.tidy(macrocell.Pattern(macrocell.tree_of(GLIDER), rule, 0), states)
+        runs.expect("a rule in macrocell", ["import", path, "--to", "mc", *words], ample(tree))
+    for word, told in BAD_RULES:
+        runs.expect("a bad rule", ["import", path, "--rule", word], fault(told))
+    runs.tell(tally, "rules")
+
+
+def check_large(runs, tally):
+    """Many cells, in any order, and the most that an RLE may have."""
+    cells = [(x * 7919 % 1000, y) for y in range(100) for x in range(1000) if (x * y) % 3]
+    random.Random(1).shuffle(cells)
+    path = runs.path("large.lif", "#Life 1.06\n" + "".join(f"{x} {y}\n" for x, y in cells))
+    runs.expect("many cells", ["import", path], ample(tidy({it: 1 for it in cells}, "B3/S23", 0, 2)))
+    full = runs.path("full.cells", "O" * 4096 + ("\n" + "O" * 4096) * 4095)
+    got = run(["import", full])
+    wanted = b"#CXRLE Pos=0,0\nx = 4096, y = 4096, rule = B3/S23\n" + "\n".join(("4096o$" * 11, "4096o$" * 10)[:1]).encode()
+    runs.count += 1
+    if got.status or not got.printed.startswith(wanted):
+        runs.complaints.append(f"16777216 cells: {Outcome(got.printed[:100], got.complaint, got.status)}")
+    over = runs.path("over.cells", "O" * 4096 + ("\n" + "O" * 4096) * 4095 + "\nO")
+    runs.expect("one cell more", ["import", over], fault("import line 4097: too many cells"))
+    runs.tell(tally, "many cells")
+
+
+def check_mutated(runs, tally, count, seed):
+    """Mutated texts."""
+    chance = random.Random(seed)
+    for at in range(count):
+        text = mutated(chance, good_text(chance, at % 4).encode())
+        wanted = wanted_of(text)
+        runs.expect(f"text {at}, {text!r}", ["import", "-"], wanted, input=text)
+        if wanted.status == 0 and at % 10 < 4:
+            runs.expect("read again", ["convert", "-", "--to", "rle"], wanted, input=wanted.printed)
+    runs.tell(tally, "mutated texts")
+
+
+def main():
+    words = argparse.ArgumentParser()
+    words.add_argument("--count", type=int, default=2000)
+    words.add_argument("--seed", type=int, default=1)
+    asked, tally = words.parse_args(), Tally()
+    with tempfile.TemporaryDirectory() as folder:
+        runs = Runs(folder)
+        check_examples(runs, tally)
+        check_refused(runs, tally)
+        check_rules(runs, tally)
+        check_large(runs, tally)
+        check_mutated(runs, tally, asked.count, asked.seed)
+    tally.finish()
+
+
+if __name__ == "__main__":
+    main()

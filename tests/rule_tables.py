@@ -1,0 +1,149 @@
+#!/usr/bin/env -S python3 -B
+"""`cafile rule`: isotropic rules in Hensel's notation, MAP strings, B/S and Generations rules, written as rule tables, and texts that are refused.
+
+What is written is read by the reader of tests/lib/rule_table.py, and its next states are compared with those of tests/lib/isotropic.py and of
+tests/lib/steps.py, which know nothing of tables; and soups that the program runs under the written table with naive steps.
+"""
+import itertools
+import random
+import tempfile
+
+from lib import isotropic, steps
+from lib.program import Runs, Tally, fault, run
+from lib.rle import cells_and_rule, tidy
+from lib.rle_reader import Fault, rule_of
+from lib.rule_table import read_table
+
+LIFE = "MAPARYXfhZofugWaH7oaIDogBZofuhogOiAaIDogIAAgAAWaH7oaIDogGiA6ICAAIAAaIDogIAAgACAAIAAAAAAAA"
+ALPHABET = isotropic.ALPHABET
+
+# Isotropic rules in all spellings, and every letter of every digit by itself.
+ISOTROPIC = (
+    "B2-a/S12", "B3/S2-i34q", "b3-ks23", "S12ae/B2ce3", "s2-k3b3-cnry4z", "23-q/2n3", "B34w/S23", "B3/S234y", "2-i34q/2i34cej5y", "B3aijn/S2-in3-ekq4j",
+    "B2cek3i/S12cei", "B2c/S", "B3CE/S2-I", "B33a/S", "B3a3i/S", "/2a", "B1c/S", "B/S0", "B8/S8", "B2c/S2ceaikn", "B4-ceaiknjqrytw/S4-z",
+    "B/S", "/", *(f"B{count}{letter}/S{count}-{letter}" for count, letter in isotropic.kinds() if letter),
+)
+BS_RULES = ("B3/S23", "23/3", "s23b36", "B3678/S34678", "B2/S013V", "b13/s012v", "B2/S34H", "B24/S34h", "B/S012345678")
+GENERATIONS = ("345/2/4", "/2/3", "23/3/2", "12/34/256", "2/13/21")
+REFUSED = (
+    ("B0/S23", "wakes"), ("B03-k/S23", "wakes"), ("/0", "wakes"), ("23/0/4", "wakes"), ("MAP" + "/" * 86, "wakes"), ("B3/S23:T9,9", "bounded"),
+    ("B2-a/S12:P3,3", "bounded"), ("", "unknown"), ("Life", "unknown"), ("B3x/S23", "unknown"), ("B1a/S23", "unknown"), ("B3-/S23", "unknown"), ("B0c/S", "unknown"),
+    ("B8e/S", "unknown"), ("B9/S", "unknown"), ("B2-a/S12V", "unknown"), ("B2-a/S12H", "unknown"), ("B2a-c/S", "unknown"), ("B2--a/S", "unknown"), ("B3/S23/", "unknown"),
+    (LIFE[:-1], "unknown"), (LIFE + "A", "unknown"), (LIFE[:-1] + "=", "unknown"), ("map" + LIFE[3:], "unknown"), ("B2-a /S12", "unknown"), ("2-a/12/4", "unknown"),
+    ("Ba2/S", "unknown"), ("B2w/S", "unknown"), ("B5t/S", "unknown"),
+)
+
+# The neighbours of a cell in the order of a table's ring, as the bits of a neighbourhood's number.
+RING_BITS = (128, 64, 8, 1, 2, 4, 32, 256)
+
+
+def map_text(bits):
+    """The MAP string of 512 next states."""
+    padded = "".join(map(str, bits)) + "0000"
+    return "MAP" + "".join(ALPHABET[int(padded[at:at + 6], 2)] for at in range(0, 516, 6))
+
+
+def maps():
+    """MAP strings: Life's, those of some rules that turn and reflect to others, and random ones."""
+    chance = random.Random(7)
+    yield LIFE
+    for shown in ((256, 16), (128, 2), (64, 1), (32, 8), (4, 256)):
+        yield map_text([int(any(number & it for it in shown[:1]) and not number & shown[1]) for number in range(512)])
+    for _ in range(8):
+        yield map_text([0, *(int(chance.random() < 0.4) for _ in range(511))])
+
+
+def written(runs, text):
+    """The table that is written for a text, and the path of its file; None where there is none."""
+    got = run(["rule", text])
+    runs.count += 1
+    if got.status or got.complaint:
+        runs.complaints.append(f"{text}: {got}")
+        return None, None
+    path = runs.path("written.rule", got.printed)
+    table = read_table(got.printed.decode("latin-1"))
+    if table.name != text:
+        runs.complaints.append(f"{text}: the table is named {table.name}")
+    return table, path
+
+
+def two_states(runs, text, bits):
+    """A rule of two states, with these next states for all 512 neighbourhoods."""
+    table, path = written(runs, text)
+    if not table:
+        return
+    at = {it: next((at for at, step in enumerate(table.ring) if step == place), None)
+          for it, place in zip(RING_BITS, ((0, -1), (1, -1), (1, 0), (1, 1), (0, 1), (-1, 1), (-1, 0), (-1, -1)))}
+    for number in range(512):
+        ring = [0] * len(table.ring)
+        for bit, place in at.items():
+            if place is not None:
+                ring[place] = int(bool(number & bit))
+        if table.states != 2 or table.next(int(bool(number & 16)), tuple(ring)) != bits[number]:
+            runs.complaints.append(f"{text}: neighbourhood {number}")
+            return
+    chance = random.Random(text)
+    live = {(x, y) for x in range(9) for y in range(9) if chance.random() < 0.4}
+    pattern = runs.path("soup.rle", tidy({it: 1 for it in live}, text, 0, 2))
+    for _ in range(5):
+        live = isotropic.step(live, bits)
+    names_itself = not is_known(text)
+    words = ["convert", pattern, "--to", "rle", "--after", "5"]
+    got = run([*words, *(["--rule", path] if names_itself else [])])
+    runs.count += 1
+    if got.status or set(cells_and_rule(got.printed.decode())[0]) != live:
+        runs.complaints.append(f"{text}: after 5 generations {got}")
+
+
+def is_known(text):
+    """Whether the text names a rule of its own, without a table."""
+    try:
+        rule_of(text.encode())
+        return True
+    except Fault:
+        return False
+
+
+def counted_bits(rule):
+    """The next states of all 512 neighbourhoods under a B/S rule."""
+    place = {(dx, dy): 1 << (4 - 3 * dy - dx) for dx in (-1, 0, 1) for dy in (-1, 0, 1)}
+    return [rule.next(int(bool(number & 16)), tuple(int(bool(number & place[it])) for it in rule.ring)) for number in range(512)]
+
+
+def check_generations(runs, tally):
+    """Generations rules, at neighbourhoods of chosen and of random states."""
+    chance = random.Random(3)
+    for text in GENERATIONS:
+        table, _ = written(runs, text)
+        rule = steps.rule_of(text)
+        states = sorted({0, 1, rule.states - 1, min(2, rule.states - 1)})
+        rings = [tuple(chance.choice(states) for _ in range(8)) for _ in range(300)] + [(0,) * at + (1,) * (8 - at) for at in range(9)]
+        for centre, ring in itertools.product(sorted({*states, rule.states // 2}), rings):
+            if table and (table.states != rule.states or table.next(centre, ring) != rule.next(centre, ring)):
+                runs.complaints.append(f"{text}: {centre} among {ring}")
+                break
+    runs.tell(tally, "Generations rules")
+
+
+def main():
+    tally = Tally()
+    with tempfile.TemporaryDirectory() as folder:
+        runs = Runs(folder)
+        for text in ISOTROPIC:
+            two_states(runs, text, isotropic.rule_bits(text))
+        runs.tell(tally, "isotropic rules")
+        for text in maps():
+            two_states(runs, text, isotropic.rule_bits(text))
+        runs.tell(tally, "MAP strings")
+        for text in BS_RULES:
+            two_states(runs, text, counted_bits(steps.rule_of(rule_of(text.encode())[0])))
+        runs.tell(tally, "B/S rules")
+        check_generations(runs, tally)
+        for text, told in REFUSED:
+            runs.expect("a refused text", ["rule", text], fault(f"bad rule: {told}"))
+        runs.tell(tally, "texts that are refused")
+    tally.finish()
+
+
+if __name__ == "__main__":
+    main()
