@@ -17,6 +17,7 @@ from lib.golly import AFTER, LEAPS
 from lib.planes import distinct_squares
 from lib.program import ROOT, Folder, Tally, contents
 from lib.rows import Rows, text_of
+from lib.rule_table import RINGS
 from lib.work import excess, timed
 
 # How many times the known work a run may take, and one that mostly waits for memory, which a busy machine makes slower than all else.
@@ -289,9 +290,7 @@ def try_slides(claims):
     claims.judge("cells that slide as far as they can", text)
 
 
-EIGHT = [(x, y) for x in (-1, 0, 1) for y in (-1, 0, 1) if (x, y) != (0, 0)]
-FOUR = [(x, y) for x, y in EIGHT if 0 in (x, y)]
-SIX = [(x, y) for x, y in EIGHT if (x, y) not in ((1, -1), (-1, 1))]
+EIGHT, FOUR, SIX = RINGS["Moore"], RINGS["vonNeumann"], RINGS["hexagonal"]
 
 # The places of the neighbours of a cell, of which a cell under a rule of odd counts takes the parity; the side of a soup, generations, few
 # beside it and many, and how far west and north of the origin the soup begins.

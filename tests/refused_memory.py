@@ -19,14 +19,19 @@ file is missing or a rule file is bad, the note is always given. Of a run over s
 line or the rule.
 
 Of claims with many allocations some are tried, of `show`, `convert` and `draw` all. tests/address_space.py has memory that is refused by the system itself.
+
+Last comes a call that no command reaches: a leap that is refused memory, and is asked for again then on the same leaper, comes to what it has to. A test of
+ca_run_tests has it, which is built where it isn't yet.
 """
 import itertools
 import os
 import re
+import subprocess
 
 from lib import golden, remedies
 from lib.long_texts import BLOCK, long_text, spelled
-from lib.program import Outcome, Tally, lines_outcome, run
+from lib.parts import try_each
+from lib.program import ROOT, Outcome, Tally, lines_outcome, run
 from lib.refusing import refusing_program
 from lib.want_of_memory import NO_MEMORY, allowed, answers_in, consists_of, judged
 
@@ -61,6 +66,11 @@ SEVERAL = (
     (("verify", "--explain", "--rules", "examples/rules"), ("verify/folder_of_rules", "explain/several", "explain/rules")),
 )
 
+# The tests of ca_run, the one of a refused leap, and how many allocations it makes at least: the leaper's memo, its store, its trees and its slots take more.
+CRATE = os.path.join(ROOT, "crates", "ca_run_tests")
+TESTS = os.path.join(CRATE, "out", "ca_run_tests_tests")
+LEAP, FEWEST = "tests::generations::a_refused_leap_goes_on", 20
+
 # Files of larger patterns, a soup in both formats, of which each allocation of `show`, of `convert` to either format and of `draw` is refused.
 LARGER = ("tests/files/soup/soup.rle", "tests/files/soup/soup_40.mc")
 
@@ -70,7 +80,7 @@ def by_eighths():
     return itertools.accumulate(itertools.repeat(1), lambda number, least: number + max(least, number // 8))
 
 
-def try_claim_texts(tally, refusing):
+def try_claim_texts(tally, refusing, _):
     """Each allocation of runs over some claim texts in turn."""
     for name, step in CLAIM_TEXTS.items():
         words, ample = golden.words(f"verify/{name}"), golden.outcome(f"verify/{name}")
@@ -90,7 +100,7 @@ def tell_sweep(tally, name, texts, outcomes):
     tally.tell(f"refused memory, {name}: {len(outcomes)} allocations refused, {refused} times one claim", complaints)
 
 
-def try_explained(tally, refusing):
+def try_explained(tally, refusing, _):
     """Each allocation of some explained runs in turn: a claim is refused, or its note is less or isn't there where it isn't promised."""
     for case, step in EXPLAINED.items():
         outcomes = refusing.sweep(golden.words(case), itertools.count(1, step))
@@ -102,7 +112,7 @@ def text_of(case):
     return golden.words(case)[-1]
 
 
-def try_several(tally, refusing):
+def try_several(tally, refusing, _):
     """Each allocation of some runs over several texts in turn: one text is out of memory, or one claim."""
     for words, cases in SEVERAL:
         paths = [text_of(case) for case in cases]
@@ -128,7 +138,7 @@ def tell_words(tally, refusing, words, ample, name, less=None):
     tally.tell(f"refused memory, {name}: {len(outcomes)} allocations refused", complaints)
 
 
-def try_words(tally, refusing):
+def try_words(tally, refusing, _):
     """Each allocation of some golden runs of `show`, `convert` and `draw` in turn."""
     for case in WORDS:
         tell_words(tally, refusing, golden.words(case), golden.outcome(case), case)
@@ -146,7 +156,7 @@ def identified(head, lines, is_explained=False):
                    2 if any(re.search("^# .*: .*: ", it, re.M) for it in lines) else 0)
 
 
-def try_identify(tally, refusing):
+def try_identify(tally, refusing, _):
     """Each allocation of some runs of `identify` in turn, and all from each on: all is printed, or of one file that memory is out, or nothing, or the lines on the
     first so many files."""
     files = {"glider": ("examples/glider.rle", "spaceship glider 4 1 1"), "diehard": ("examples/reactions/diehard.rle", "dies diehard 130"),
@@ -173,7 +183,7 @@ def try_identify(tally, refusing):
             tally.tell(f"refused memory{' for good' * goes_on}, {' '.join(words)}: {len(outcomes)} allocations refused", complaints)
 
 
-def try_larger(tally, refusing):
+def try_larger(tally, refusing, _):
     """Each allocation in turn of `show`, `convert` and `draw` on larger patterns, which with ample memory print something."""
     for path, words in itertools.product(LARGER,
                                          (["show"], ["convert", "--to", "rle"], ["convert", "--to", "mc"], ["draw"], ["draw", "--to", "pgm", "--after", "1"])):
@@ -182,7 +192,7 @@ def try_larger(tally, refusing):
         tell_words(tally, refusing, [*words, path], ample, f"{' '.join(words)} {path}")
 
 
-def try_large(tally, refusing, folder):
+def try_large(tally, refusing, files):
     """Some of the allocations of a long claim text, of one with many paths, and of a long run."""
     r_pentomino = ["load r examples/r_pentomino.rle", "load s tests/files/r_pentomino_1103.rle", "becomes r 1103 s", "becomes r 1102 s", "becomes s 0 s"]
     for name, (lines, verdicts) in {
@@ -191,9 +201,7 @@ def try_large(tally, refusing, folder):
                       [(201 + at, "yes") for at in range(200)]),
         "1103 generations": (r_pentomino, [(3, "yes"), (4, "no, cells differ after 1102"), (5, "yes")]),
     }.items():
-        path = os.path.join(folder, "large.claims")
-        with open(path, "w", encoding="ascii") as file:
-            file.write("\n".join(lines) + "\n")
+        path = files.path("large.claims", "\n".join(lines) + "\n")
         outcomes = refusing.sweep(["verify", path], by_eighths())
         complaints, told = judged(lines_outcome(verdicts), outcomes)
         tally.tell(f"refused memory, {name}: {told}", complaints if outcomes else ["no allocation was refused"])
@@ -206,7 +214,7 @@ def wrong_for_good(ample, outcomes):
             if it not in (ample, NO_MEMORY) and not consists_of([(b"", answers)], it)]
 
 
-def try_for_good(tally, refusing):
+def try_for_good(tally, refusing, _):
     """All allocations from one on: the complaint itself takes none, and the claims that were judged before are told."""
     for words in (["verify", "tests/golden/verify/syntax/claims"], ["verify", "examples/lost"], ["--help"], ["verify"],
                   ["draw", "examples/glider.rle"], ["show", "examples/macrocell/glider.mc"], ["convert", "examples/glider.rle", "--to", "mc"],
@@ -222,13 +230,30 @@ def try_for_good(tally, refusing):
         tally.tell(f"memory refused for good, {' '.join([*words, *cases])}: {len(outcomes)} runs", wrong if outcomes else ["no allocation was refused"])
 
 
+def are_built():
+    """Whether the tests of ca_run are there, or could be built."""
+    if not os.access(TESTS, os.X_OK):
+        subprocess.run(["rt", "test"], cwd=CRATE, stdin=subprocess.DEVNULL, stdout=subprocess.DEVNULL, stderr=subprocess.DEVNULL, check=False)
+    return os.access(TESTS, os.X_OK)
+
+
+def try_leap(tally, refusing, _):
+    """Each allocation of the test of a refused leap in turn: it passes as with ample memory."""
+    if not are_built():
+        tally.tell("refused leaps", ["the tests of ca_run_tests could not be built"])
+        return
+    outcomes = refusing.until_unmet([LEAP], "REFUSE", itertools.count(1), program=TESTS)
+    complaints = [f"allocation {number}: {it}" for number, it in outcomes.items() if (it.complaint, it.status) != (b"", 0)]
+    if len(outcomes) < FEWEST:
+        complaints.append(f"no more than {len(outcomes)} allocations were refused")
+    tally.tell(f"a leap goes on after a refusal: {len(outcomes)} allocations refused", complaints)
+
+
 def main():
     tally = Tally()
-    with refusing_program(tally, "refused memory") as (folder, refusing):
+    with refusing_program(tally, "refused memory") as (_, refusing):
         if refusing:
-            for it in (try_claim_texts, try_explained, try_several, try_words, try_identify, try_larger, try_for_good):
-                it(tally, refusing)
-            try_large(tally, refusing, folder)
+            try_each(tally, (try_claim_texts, try_explained, try_several, try_words, try_identify, try_larger, try_for_good, try_large, try_leap), refusing)
     tally.finish()
 
 

@@ -8,12 +8,11 @@ import itertools
 import os
 import tempfile
 
-from lib import macrocell, rle
 from lib.claim_text import ClaimText, outcome, printed, status_of
-from lib.pictures import drawn
-from lib.program import MAX_FILE, Folder, Outcome, Runs, Tally, ample, escaped, fault, figures, run
+from lib.parts import as_one_test, try_all
+from lib.program import MAX_FILE, Folder, Outcome, Runs, ample, escaped, fault, figures, run
 from lib.remedies import explained
-from lib.small_files import COMMANDS, GOOD, PATTERNS, SPREAD, TABLES, with_file
+from lib.small_files import COMMANDS, GOOD, PATTERNS, SPREAD, TABLES, printed_by_commands, with_file
 
 # The seconds in which a run that opens no pipe ends.
 SOON = 60
@@ -53,14 +52,13 @@ def spread_pattern(name):
     return f"x = 2, y = 1, rule = {name}\nB.A!\n", figures(0, 2, "0 0 3 1", "rle", name)
 
 
+@as_one_test(Rules, "a folder of rules, found")
 def try_found(files):
     """A rule that is found by its name, in both formats, in every order of the words; and rules that need no table."""
     files.rule("Spread.rule", SPREAD)
     for name, (text, kind, rule, states, cells) in GOOD.items():
         path = files.path(name, text)
-        pattern = macrocell.Pattern(macrocell.tree_of(cells), rule, 0)
-        for command, wanted in zip(COMMANDS, (pattern.shown(kind=kind), macrocell.tidy(pattern, states), rle.tidy(cells, rule, 0, states),
-                                              drawn(cells, states))):
+        for command, wanted in zip(COMMANDS, printed_by_commands(kind, rule, states, cells)):
             for words in (with_file(command, path, "--rules", files.rules), [command[0], "--rules", files.rules + "/", *command[1:], path],
                           with_file(command, path, "--rules", files.rules, "--explain")):
                 files.expect("found", words, ample(wanted))
@@ -68,6 +66,7 @@ def try_found(files):
     files.expect("standard input", ["show", "-", "--rules", files.rules], wanted, input=text.encode())
 
 
+@as_one_test(Rules, "a folder of rules, names")
 def try_names(files):
     """Names that are looked for byte for byte, and those that never are."""
     for name in ("A", "a", "Life-2", "x.y", "x_y", "~", "-", "--rule", "é", "n" * 200, "*", "$HOME", "%2F", "Spread.rule", ".hidden", "a.b.c"):
@@ -93,6 +92,7 @@ def try_names(files):
         files.refuse(f"the name {name}", ["show", path, "--rules", files.rules], "bad rule: unknown", path.encode() + b": rule " + escaped(name))
 
 
+@as_one_test(Rules, "a folder of rules, faulty")
 def try_faulty(files):
     """A faulty rule file refuses the patterns whose rule has its name, and no other; and one whose table has another name is of no use."""
     files.rule("Spread.rule", SPREAD)
@@ -110,6 +110,7 @@ def try_faulty(files):
     files.refuse("a state too large", ["show", large, "--rules", files.rules], "state too large", large)
 
 
+@as_one_test(Rules, "a folder of rules, beside --rule")
 def try_given(files):
     """The table of `--rule` goes before the folder, and its faults before all."""
     spread, text = files.path("spread.rule", SPREAD), spread_pattern("Spread")
@@ -128,6 +129,7 @@ def try_given(files):
     files.expect("one is given that isn't there", ["show", second, "--rule", files.rules, "--rules", files.rules], fault(f"cannot read {files.rules}"))
 
 
+@as_one_test(Rules, "a folder of rules, after")
 def try_given_after(files):
     """The table of `--rule` goes before another good one of its name in the folder, some generations on too: under it each cell is put to its four sides, and
     under the other one nothing changes."""
@@ -138,11 +140,11 @@ def try_given_after(files):
     second = {**first, (-1, 0): 2, (0, -1): 2, (0, 1): 2, (2, -1): 1, (2, 1): 1, (3, 0): 1}
     for words, cells in ((["--rule", spread, "--rules", files.rules], second), (["--rules", files.rules, "--rule", spread], second),
                          (["--rules", files.rules], first)):
-        pattern = macrocell.Pattern(macrocell.tree_of(cells), "Spread", 1)
-        for command, wanted in zip(COMMANDS, (pattern.shown(kind="rle"), macrocell.tidy(pattern, 3), rle.tidy(cells, "Spread", 1, 3), drawn(cells, 3))):
+        for command, wanted in zip(COMMANDS, printed_by_commands("rle", "Spread", 3, cells, 1)):
             files.expect(f"after a generation, {words[0]}", with_file(command, path, "--after", "1", *words), ample(wanted))
 
 
+@as_one_test(Rules, "a folder of rules, not read")
 def try_unread(files):
     """A rule file that isn't there, or can't be read, is as none; a folder that is none is a fault, also where no rule is looked for."""
     pattern, block = files.path("pattern", spread_pattern("Spread")[0]), files.path("block", "x = 2, y = 2\n2o$2o!\n")
@@ -169,6 +171,7 @@ def try_unread(files):
     files.expect("an endless pattern", ["show", "/dev/zero", "--rules", files.rules], fault("too long /dev/zero"))
 
 
+@as_one_test(Rules, "a folder of rules, not needed")
 def try_unneeded(files):
     """No file is opened but the one of the rule that isn't known: a run that opens a pipe which nobody writes doesn't end."""
     spread, text = files.path("spread.rule", SPREAD), spread_pattern("Spread")
@@ -230,6 +233,7 @@ def unknown(text, name, content, told):
     text.claim(f"still {name}", UNKNOWN, name.encode() + b": " + path + b": rule " + escaped(told))
 
 
+@as_one_test(ClaimRules, "a folder of rules, claims, found")
 def try_claims_found(files):
     """Rules that are found by their names, in both formats, beside rules that need no table."""
     for name in ("Spread", "a", "A", "Life-2", "x.y", "~", "-", "--rule", "é", "n" * 200, "*", "%2F", "Spread.rule", ".hidden"):
@@ -255,6 +259,7 @@ def try_claims_found(files):
         files.check("standard input", ["verify", "-", "--rules", files.rules], outcome(text.answers, False), stdin=file)
 
 
+@as_one_test(ClaimRules, "a folder of rules, claims, several texts")
 def try_several_texts(files):
     """Several texts with the same folder: each looks for its own rules."""
     files.table("S")
@@ -276,6 +281,7 @@ def try_several_texts(files):
         files.check("one is missing", [*words, missing], got)
 
 
+@as_one_test(ClaimRules, "a folder of rules, claims, names")
 def try_claimed_names(files):
     """Names that are never looked for, though there is such a file."""
     os.mkdir(os.path.join(files.rules, "sub"))
@@ -297,6 +303,7 @@ def try_claimed_names(files):
         files.judge(f"the name {name}", text)
 
 
+@as_one_test(ClaimRules, "a folder of rules, claims, faulty")
 def try_claims_on_faulty(files):
     """A faulty rule file refuses the claims on patterns that name it, and no other claim; a table of another name is of no use."""
     files.table("Good")
@@ -345,6 +352,7 @@ def try_claims_on_faulty(files):
         files.judge("a grid", text)
 
 
+@as_one_test(ClaimRules, "a folder of rules, claims, not read")
 def try_claims_unread(files):
     """A rule file that isn't there, or can't be read, is as none; a folder that is none is a fault before any text is read."""
     os.mkdir(os.path.join(files.rules, "Folder.rule"))
@@ -372,6 +380,7 @@ def try_claims_unread(files):
     files.judge("a pattern that is missing", text)
 
 
+@as_one_test(ClaimRules, "a folder of rules, claims, beside rule lines")
 def try_rule_lines(files):
     """The tables of rule lines go before the folder; a faulty one refuses all claims, and then nothing is looked for."""
     files.table("S", TURN)
@@ -410,6 +419,7 @@ def try_rule_lines(files):
     files.judge("a rule file that is loaded as a pattern", text)
 
 
+@as_one_test(ClaimRules, "a folder of rules, claims, two patterns")
 def try_pairs(files):
     """Claims on two patterns: of one found table, of two, and of one whose table isn't found."""
     files.table("S", TURN)
@@ -433,6 +443,7 @@ def try_pairs(files):
     files.judge("pairs", text)
 
 
+@as_one_test(ClaimRules, "a folder of rules, claims, not needed")
 def try_claims_unneeded(files):
     """No file is opened but those of rules that aren't known of patterns that some claim is about: a run that opens a pipe doesn't end."""
     for name in ("Loaded", "B3S23", "b3s23", "Given", "Broken", "Grid"):
@@ -461,6 +472,7 @@ def try_claims_unneeded(files):
     files.check("a faulty text", ["verify", path, "--rules", files.rules], fault("claims line 2: syntax"))
 
 
+@as_one_test(ClaimRules, "a folder of rules, claims, Golly's files")
 def try_layout(files):
     """Rule files as Golly has them: sections before and after the table, CR LF, and colours and icons that no rule is."""
     golly = "@RULE NAME\r\n\r\nBy somebody.\r\n\r\n" + STILL.split("\n", 1)[1].replace("\n",
@@ -479,6 +491,7 @@ def try_layout(files):
     files.judge("two hundred rules", text)
 
 
+@as_one_test(ClaimRules, "a folder of rules, claims, many patterns")
 def try_many_patterns(files):
     """1100 patterns, of which the last hundred have rules of their own."""
     text = files.text()
@@ -491,21 +504,6 @@ def try_many_patterns(files):
     files.check("1100 patterns", ["verify", "--rules", files.rules, text.write()], outcome(text.answers, False))
 
 
-def main():
-    tally = Tally()
-    with tempfile.TemporaryDirectory() as folder:
-        for kind, name, it in ((Rules, "found", try_found), (Rules, "names", try_names), (Rules, "faulty", try_faulty), (Rules, "beside --rule", try_given),
-                               (Rules, "after", try_given_after), (Rules, "not read", try_unread), (Rules, "not needed", try_unneeded),
-                               (ClaimRules, "claims, found", try_claims_found), (ClaimRules, "claims, several texts", try_several_texts),
-                               (ClaimRules, "claims, names", try_claimed_names), (ClaimRules, "claims, faulty", try_claims_on_faulty),
-                               (ClaimRules, "claims, not read", try_claims_unread), (ClaimRules, "claims, beside rule lines", try_rule_lines),
-                               (ClaimRules, "claims, two patterns", try_pairs), (ClaimRules, "claims, not needed", try_claims_unneeded),
-                               (ClaimRules, "claims, Golly's files", try_layout), (ClaimRules, "claims, many patterns", try_many_patterns)):
-            files = kind(tempfile.mkdtemp(dir=folder))
-            it(files)
-            files.tell(tally, f"a folder of rules, {name}")
-    tally.finish()
-
-
 if __name__ == "__main__":
-    main()
+    try_all(try_found, try_names, try_faulty, try_given, try_given_after, try_unread, try_unneeded, try_claims_found, try_several_texts,
+            try_claimed_names, try_claims_on_faulty, try_claims_unread, try_rule_lines, try_pairs, try_claims_unneeded, try_layout, try_many_patterns)

@@ -1,6 +1,8 @@
 """Small pattern files and rule files, good and faulty, and what is told of them."""
+from lib import macrocell, rle
 from lib.macrocell import EDGE
 from lib.macrocell_texts import FOURFOLD, FULL_LEAF, chain
+from lib.pictures import drawn
 
 HEADER = "x = 1, y = 1, rule = B3/S23\n"
 DOT = HEADER + "o!\n"
@@ -78,6 +80,12 @@ BAD_RLES = (
     (HEADER + "4611686018427387905b!", "range", None), (f"#CXRLE Pos={EDGE},0\n" + HEADER + "!", "range", None),
     (HEADER + "16777217o!", "too many cells", None),
 )
+
+
+def printed_by_commands(kind, rule, states, cells, generation=0):
+    """What each of these commands prints of a file of this kind with these cells."""
+    pattern = macrocell.Pattern(macrocell.tree_of(cells), rule, generation)
+    return pattern.shown(kind=kind), macrocell.tidy(pattern, states), rle.tidy(cells, rule, generation, states), drawn(cells, states)
 
 
 def with_file(command, path, *more):

@@ -20,6 +20,19 @@ RETURNING = (
     ("B38/S23567", "2o$obo$o!"), ("B36/S2358", "obo$b2o$bo!"), ("B3568/S236", "2bo$bo$o2bo$bo$2bo!"), ("B347/S12", "2o$b2o$b2o$bo!"),
 )
 
+# The same under Generations rules, and still lifes.
+AGEING_RETURNING = (
+    ("/2/3", "2A$2B!"), ("/2/3", "2.A$A2B$.2BA$.A!"), ("/2/3", "2.2A$.A2B$AB$B.A$.AB!"), ("/2/3", "BA$2.B$.ABA!"), ("/2/3", "2.2A$2.2B$.A$ABA$B.BA$3.B$.BA!"),
+    ("/2/3", ".2A$.2BA$3.BA$2.A.BA$.ABA.B$.B$A$BA$.B$2.A$3.B!"), ("23/3/8", "2A$2A!"), ("23/3/8", "2.2A$3.A$A$2A!"),
+    ("23/3/8", ".D$EFCB$.2FCA$3.2CA$.AFCA$.3A$2.A!"),
+    ("345/2/4", ".A$3A$.A!"), ("345/2/4", "2A$2B$2C!"), ("345/2/4", "2A$2B$2CA$2.B$.ACA$.B.B$.C.C$2.B!"), ("345/2/4", "C.A$B3A$A.A!"),
+    ("345/2/4", "2.C$A.A.A$B3AB$C.2A$3.BA!"), ("345/2/4", "CA.C$B.B6.C$AC.A5.B$.B.B4.CA$.AC.C3.B$2.B.B2.CA$2.ACA2.B$3.B2.CA$3.A2CB$4.2BA$4.2A!"),
+    ("0/2/5", "A!"), ("0/2/5", "A3.A5$A2$4.A$.A2$3.A!"), ("0/2/5", ".A$C.C$ACA$.A!"), ("08/23/5", "D$BD.C$ABCA$2.A!"), ("12/34/3", "A2.A$A2.A$.2A!"),
+    ("12/34/3", "A.B$A$.2A!"), ("23/3/2", "2o$2o!"), ("23/3/2", "bo$2bo$3o!"), ("23/3/2", "2bo4bo$2ob4ob2o$2bo4bo!"), ("34/23/3", ".A$BAB$3.A$2.B!"),
+    ("345/24/25", "XWVUTSRQPONMLKJIHGFEDCBA$XWVUTSRQPONMLKJIHGFEDCBA!"), ("345/24/25", "2.XW$.2AX$3A$.A!"), ("3456/2/6", "E.A$D3A$C.3A$.B.A$2.A!"),
+    ("3456/2/6", "DB$E2AD$3AB$.C!"), ("3458/37/4", ".C$B2A$3A!"), ("345/3/6", "2.E$E.CD$CDAB$ABA$3A$.A!"),
+)
+
 # How far a pattern goes in the steps made here.
 ROOM = 400
 

@@ -55,10 +55,10 @@ def step(cells, rule):
     return {place: state for place, state in following.items() if state}
 
 
-def steps(cells, rule, generations):
-    """The cells after so many generations."""
+def steps(cells, rule, generations, stepped=step):
+    """The cells after so many generations, each made by this stepper."""
     for _ in range(generations):
-        cells = step(cells, rule)
+        cells = stepped(cells, rule)
     return cells
 
 

@@ -1,19 +1,31 @@
 #!/usr/bin/env -S python3 -B
-"""`verify --explain`: one more line after each no and each refusal that has more to tell.
+"""What is told of files that can't be read, that are faulty, or that aren't what a claim says; and what `--explain` adds.
 
-It names the cell, the pattern, its file, the faulty line or the rule that isn't known. The lines of the verdicts are those of a run that isn't explained.
+- `show`, `convert` and `draw`: of two faults the first is told, and nothing stands on standard output. With `--explain` one more line on standard error names the
+  file and the line of its fault, or the rule that isn't known. All else is as without it.
+- `verify`: `--explain` adds a line after each no and each refusal that has more to tell. It names the cell, the pattern, its file, the faulty line or the rule
+  that isn't known. The lines of the verdicts are those of a run that isn't explained.
 """
+import itertools
 import os
 import random
 import re
-import tempfile
 
 from lib import rle, steps
 from lib.claim_text import ClaimTexts, differs, printed
 from lib.macrocell import EDGE
 from lib.macrocell_texts import FULL_SQUARE, faulty_macrocells
-from lib.program import MAX_FILE, Tally, run
-from lib.small_files import BAD_RLES, DOT, HEADER, SPREAD, TABLES, where
+from lib.parts import as_one_test, over, try_all
+from lib.program import MAX_FILE, Runs, ample, fault, figures, run
+from lib.remedies import explained
+from lib.small_files import (BAD_RLES, COMMANDS, DOT, FULL, FULL_OF_TWOS, GOOD, HEADER, PATTERNS, SPREAD, TABLES, printed_by_commands, where, with_file)
+
+# A block, whose file names no rule.
+BLOCK_FILE = "x = 2, y = 2\n2o$2o!\n"
+
+# What is told of the patterns of lib/small_files.py: the line of their fault or their rule, where there is one.
+DETAILS = {"no_end": ", line 2", "first_fault": ", line 4", "unknown": ": rule Life", "unknown_mc": ": rule Life", "unknown_full": ": rule Life",
+           "wakes": ": rule B03/S23", "wakes_mc": ": rule /0", "bounded": ": rule B3/S23:T30,20", "bounded_mc": ": rule Spread:P8"}
 
 NOTHING, BLOCK = HEADER + "!\n", HEADER + "2o$2o!\n"
 BLINKER = "x = 3, y = 1, rule = B3/S23\n3o!\n"
@@ -53,8 +65,164 @@ CELLS = (
 
 HIGH = "@RULE High\n@TABLE\nn_states:256\nneighborhood:Moore\nsymmetries:none\n"
 
+# Faulty files in each format: what they hold, their faults as they are told, and the lines on which these stand.
+FAULTY_FILES = {
+    "RLE": [(text.encode(), f"rle {told}", line) for text, told, line in BAD_RLES],
+    "macrocell": [(text, f"macrocell {told}", line) for text, told, line in faulty_macrocells()],
+}
 
-def try_cells(texts):
+
+@as_one_test(Runs, "faulty patterns")
+def try_patterns(files):
+    """Faults of a file: of several the first is told, in each command."""
+    spread = files.path("spread.rule", SPREAD)
+    for (name, (text, told)), command in itertools.product(PATTERNS.items(), COMMANDS):
+        files.expect(told, with_file(command, files.path(name, text), "--rule", spread), fault(told))
+    full = files.path("full.mc", FULL)
+    files.expect("too many cells", ["convert", full, "--to", "rle"], fault("too many cells"))
+    files.expect("too many cells, and a table", ["convert", "--to", "rle", "--rule", spread, full], fault("too many cells"))
+    twos = files.path("twos.mc", FULL_OF_TWOS.replace("Life", "Spread"))
+    files.expect("too many cells of two", ["convert", twos, "--to", "rle", "--rule", spread], fault("too many cells"))
+    files.expect("a table that isn't given", ["convert", twos, "--to", "rle"], fault("bad rule: unknown"))
+
+
+@as_one_test(Runs, "patterns without a fault")
+def try_good(files):
+    """Files under B/S rules and tables, in every order of the words."""
+    spread = files.path("spread.rule", SPREAD)
+    for name, (text, kind, rule, states, cells) in GOOD.items():
+        path = files.path(name, text)
+        for command, wanted in zip(COMMANDS, printed_by_commands(kind, rule, states, cells)):
+            files.expect("no fault", with_file(command, path, "--rule", spread), ample(wanted))
+            files.expect("no fault", [command[0], "--rule", spread, *command[1:], path], ample(wanted))
+            if rule != "Spread":
+                files.expect("no fault", with_file(command, path), ample(wanted))
+            else:
+                files.expect("no table", with_file(command, path), fault("bad rule: unknown"))
+
+
+@as_one_test(Runs, "faulty rule files")
+def try_tables(files):
+    """Faulty rule files go before every fault of a pattern, and after a file that can't be read."""
+    missing = os.path.join(files.folder, "missing")
+    patterns = [files.path("block", BLOCK_FILE), files.path("empty", ""), files.path("no_end", PATTERNS["no_end"][0])]
+    patterns.append(files.path("forward", PATTERNS["first_fault"][0]))
+    for name, (text, told) in TABLES.items():
+        table = files.path(name, text)
+        for path, command in itertools.product(patterns, COMMANDS):
+            files.expect("a faulty table", with_file(command, path, "--rule", table), fault(f"bad table: {told}"))
+        files.expect("a faulty table", ["show", missing, "--rule", table], fault(f"cannot read {missing}"))
+        files.expect("a faulty table", ["show", files.folder, "--rule", table], fault(f"cannot read {files.folder}"))
+        files.expect("a faulty table", ["convert", "/dev/zero", "--to", "rle", "--rule", table], fault("too long /dev/zero"))
+
+
+@as_one_test(Runs, "files that can't be read, or are too long")
+def try_files(files):
+    """Files and rule files that aren't there, are folders, or are too long."""
+    missing, other = (os.path.join(files.folder, name) for name in ("missing", "missing_rule"))
+    block, table = files.path("block", BLOCK_FILE), files.path("table", SPREAD)
+    shown = figures(0, 4, "0 0 2 2", "rle")
+    for command in COMMANDS:
+        for path in (missing, files.folder, ""):
+            files.expect("no file", with_file(command, path), fault(f"cannot read {path}"))
+            files.expect("no file", with_file(command, path, "--rule", table), fault(f"cannot read {path}"))
+            files.expect("no rule file", with_file(command, block, "--rule", path), fault(f"cannot read {path}"))
+        files.expect("neither", with_file(command, missing, "--rule", other), fault(f"cannot read {missing}"))
+        files.expect("an endless file", with_file(command, "/dev/zero"), fault("too long /dev/zero"))
+        files.expect("an endless rule file", with_file(command, block, "--rule", "/dev/zero"), fault("too long /dev/zero"))
+        # the file is opened, the rule file is read, and then the file
+        files.expect("a rule file that isn't there", with_file(command, "/dev/zero", "--rule", other), fault(f"cannot read {other}"))
+        files.expect("a folder for a rule file", with_file(command, "/dev/zero", "--rule", files.folder), fault(f"cannot read {files.folder}"))
+    text = BLOCK_FILE.encode()
+    longest, longer = files.path("longest", text.ljust(MAX_FILE)), files.path("longer", text.ljust(MAX_FILE + 1))
+    files.expect("67108864 bytes", ["show", longest], shown)
+    files.expect("67108865 bytes", ["show", longer], fault(f"too long {longer}"))
+    tree = files.path("longest.mc", b"[M2]\n$$$$....**$....**$".ljust(MAX_FILE))
+    files.expect("67108864 bytes", ["show", tree], figures(0, 4, "0 0 2 2"))
+    table = files.path("longest.rule", SPREAD.encode().ljust(MAX_FILE))
+    files.expect("a rule file of 67108864 bytes", ["show", block, "--rule", table], shown)
+    table = files.path("longer.rule", SPREAD.encode().ljust(MAX_FILE + 1))
+    files.expect("a rule file of 67108865 bytes", ["show", block, "--rule", table], fault(f"too long {table}"))
+
+
+class Explained(Runs):
+    """Runs over files, explained and not."""
+
+    def refuse(self, name, words, told, note):
+        """The run complains of this; where it is explained, with this note; and there is none where it is None."""
+        self.expect(name, words, fault(told))
+        wanted = fault(told) if note is None else explained(told, note)
+        self.expect(name, [*words, "--explain"], wanted)
+        self.expect(name, [words[0], "--explain", *words[1:]], wanted)
+
+
+@as_one_test(Explained, "explained, faulty patterns")
+def try_notes_on_patterns(files):
+    """Faults of a file: its path, with the line of the fault or the rule that isn't known."""
+    spread = files.path("spread.rule", SPREAD)
+    for (name, (text, told)), command in itertools.product(PATTERNS.items(), COMMANDS):
+        path = files.path(name, text)
+        files.refuse(told, with_file(command, path, "--rule", spread), told, path + DETAILS.get(name, ""))
+    full, twos = files.path("full.mc", FULL), files.path("twos.mc", FULL_OF_TWOS.replace("Life", "Spread"))
+    files.refuse("too many cells", ["convert", full, "--to", "rle"], "too many cells", full)
+    files.refuse("too many cells of two", ["convert", twos, "--to", "rle", "--rule", spread], "too many cells", twos)
+    files.refuse("a table that isn't given", ["show", twos], "bad rule: unknown", f"{twos}: rule Spread")
+    odd = files.path("odd", b"x = 1, y = 1, rule = \xff\xfe\x00\nA!\n")
+    files.expect("a rule of any bytes", ["show", odd, "--explain"], explained("bad rule: unknown", odd.encode() + b": rule \xff\xfe\\x00"))
+    long = files.path("long", f"[M2]\n#R {'n' * 100000}\n")
+    files.expect("a long rule", ["show", long, "--explain"], explained("bad rule: unknown", f"{long}: rule {'n' * 100000}"))
+
+
+@as_one_test(Explained, "explained, faulty lines")
+def try_notes_on_lines(files):
+    """The faulty lines of files in either format."""
+    for at, (text, told, line) in enumerate(itertools.chain(*FAULTY_FILES.values())):
+        path = files.path(f"a{at}", text)
+        for command in COMMANDS:
+            files.expect(told, with_file(command, path, "--explain"), explained(f"bad pattern: {told}", where(path.encode(), line)))
+
+
+@as_one_test(Explained, "explained, faulty rule files")
+def try_notes_on_rule_files(files):
+    """Faulty rule files: their path and line."""
+    block, no_end = files.path("block", BLOCK_FILE), files.path("no_end", PATTERNS["no_end"][0])
+    for name, (text, told) in TABLES.items():
+        table = files.path(name, text)
+        line = told.split()[1]
+        for path, command in itertools.product((block, no_end), COMMANDS):
+            files.refuse("a faulty table", with_file(command, path, "--rule", table), f"bad table: {told}", f"rule file: {table}, line {line}")
+
+
+@as_one_test(Explained, "explained, no note")
+def try_no_notes(files):
+    """Runs without a fault, and faults that name their file: there is no note."""
+    spread, missing = files.path("spread.rule", SPREAD), os.path.join(files.folder, "missing")
+    for (name, (text, _, rule, _, _)), command in itertools.product(GOOD.items(), COMMANDS):
+        words = with_file(command, files.path(name, text), "--rule", spread)
+        files.expect(f"no fault, {rule}", [*words, "--explain"], run(words))
+    block = files.path("block", BLOCK_FILE)
+    longer = files.path("longer", BLOCK_FILE.encode().ljust(MAX_FILE + 1))
+    for command in COMMANDS:
+        for path in (missing, files.folder):
+            files.refuse("no file", with_file(command, path), f"cannot read {path}", None)
+            files.refuse("no rule file", with_file(command, block, "--rule", path), f"cannot read {path}", None)
+        files.refuse("a long file", with_file(command, longer), f"too long {longer}", None)
+        files.refuse("a long rule file", with_file(command, block, "--rule", longer), f"too long {longer}", None)
+
+
+@as_one_test(Explained, "explained, standard input")
+def try_standard_input(files):
+    """A pattern on standard input is named by its path, `-`."""
+    for text, told, note in (("x = 1, y = 1, rule = Codd\no!", "bad rule: unknown", "-: rule Codd"),
+                             ("x = 1, y = 1\no\nz!", "bad pattern: rle syntax", "-, line 3"),
+                             ("[M2]\n#R B3/S23\n4 0 0 0 9\n", "bad pattern: macrocell forward", "-, line 3"), ("x = 1, y = 1\nB!", "state too large", "-")):
+        for command in COMMANDS:
+            files.expect(f"{text!r}", with_file(command, "-", "--explain"), explained(told, note), input=text.encode())
+    files.expect("no fault", ["show", "-", "--explain"], figures(0, 4, "0 0 2 2", "rle"), input=BLOCK_FILE.encode())
+
+
+@over(ClaimTexts)
+def try_claimed_cells(texts):
     """Claims that fail at one cell."""
     for at, (loads, claim, generations, note) in enumerate(CELLS):
         text = texts.text()
@@ -66,7 +234,8 @@ def try_cells(texts):
         texts.judge(f"one cell differs, {at}", text)
 
 
-def try_patterns(texts):
+@over(ClaimTexts)
+def try_claimed_patterns(texts):
     """A claim is refused for the file of its first pattern, or of its second."""
     text = texts.text()
     paths = {name: text.load(name, content) for name, content in {
@@ -138,10 +307,10 @@ def try_patterns(texts):
     texts.judge("refused for a file that is too long", text)
 
 
-def try_faulty_lines(texts):
+@over(ClaimTexts)
+def try_claimed_lines(texts):
     """The faulty lines of files in either format."""
-    for name, files in (("RLE", [(text.encode(), f"rle {told}", line) for text, told, line in BAD_RLES]),
-                        ("macrocell", [(text, f"macrocell {told}", line) for text, told, line in faulty_macrocells()])):
+    for name, files in FAULTY_FILES.items():
         text = texts.text()
         text.load("block", BLOCK)
         for at, (content, told, line) in enumerate(files):
@@ -151,7 +320,8 @@ def try_faulty_lines(texts):
         texts.judge(f"faulty lines, {name}", text)
 
 
-def try_rule_files(texts):
+@over(ClaimTexts)
+def try_claimed_rule_files(texts):
     """Every claim of a text is refused for a rule file that is missing or faulty."""
     missing = [("no such file", texts.files.path("lost.rule").encode()), ("a folder", texts.files.folder.encode()), ("not UTF-8", b"\xff.rule")]
     for name, path in missing:
@@ -197,6 +367,7 @@ def is_told(note, name, patterns, generations, claimed):
     return state != wanted and (patterns.get(place, 0), claimed.get(place, 0)) == (state, wanted)
 
 
+@over(ClaimTexts)
 def try_soups(texts):
     """Of many cells that differ any is told, and it does."""
     chance, rule, complaints, count = random.Random(1), steps.Counting("B3/S23"), [], 0
@@ -222,6 +393,7 @@ def try_soups(texts):
     texts.tally.tell(f"a cell of random squares: {count} claims", complaints)
 
 
+@over(ClaimTexts)
 def try_missing_twice(texts):
     """Where a rule file and a pattern's are both missing, one of the two is told."""
     text = texts.text()
@@ -233,6 +405,7 @@ def try_missing_twice(texts):
     texts.tally.tell("two files are missing", [] if got.printed in wanted and (got.complaint, got.status) == (b"", 2) else [str(got)])
 
 
+@over(ClaimTexts)
 def try_nothing(texts):
     """Texts without claims, or with a fault, are told as ever."""
     text = texts.text()
@@ -243,15 +416,7 @@ def try_nothing(texts):
         texts.tally.expect(f"no explanation, {path}", run(["verify", "--explain", path]), run(["verify", path]))
 
 
-def main():
-    tally = Tally()
-    with tempfile.TemporaryDirectory() as folder:
-        for it in (try_cells, try_patterns, try_faulty_lines, try_rule_files, try_soups, try_missing_twice, try_nothing):
-            inner = os.path.join(folder, it.__name__)
-            os.mkdir(inner)
-            it(ClaimTexts(tally, inner))
-    tally.finish()
-
-
 if __name__ == "__main__":
-    main()
+    try_all(try_patterns, try_good, try_tables, try_files, try_notes_on_patterns, try_notes_on_lines, try_notes_on_rule_files, try_no_notes,
+            try_standard_input, try_claimed_cells, try_claimed_patterns, try_claimed_lines, try_claimed_rule_files, try_soups, try_missing_twice,
+            try_nothing)
