@@ -1,5 +1,7 @@
 #!/usr/bin/env -S python3 -B
-"""What the pages show: README.md and docs/SERVICE.md the files and outputs that they quote, and each crate's README.md the lines of a test."""
+"""What the pages show: README.md and docs/SERVICE.md the files and outputs that they quote, each crate's README.md the lines of a test, and examples/README.md
+each file of the gallery. And each example that a page names is there, but for those that are missing on purpose."""
+import glob
 import os
 import re
 import subprocess
@@ -8,6 +10,9 @@ from lib.program import MOST_WAITING, PROGRAM, ROOT, Tally, contents, run
 
 # A paragraph, and the block of text that follows it.
 QUOTED = re.compile(r"^([^\n]+)\n\n```(\w*)\n(.*?)^```$", re.MULTILINE | re.DOTALL)
+
+# What pages name to show what is told of a file that isn't there.
+LOST = {"examples/lost.rle", "examples/tables/lost.rule"}
 
 
 def page(*names):
@@ -43,8 +48,24 @@ def try_caller(tally, crate):
     tally.tell(f"{crate}/README.md", [] if lines[1] in source else [f"isn't in {lines[2]}"])
 
 
+def try_gallery(tally):
+    """The gallery's page names each of its files, and no other."""
+    named = [f"examples/{it}" for row in re.findall(r"^\| (`.*?) \|", page("examples", "README.md"), re.MULTILINE) for it in re.findall("`([^`]*)`", row)]
+    there = glob.glob("examples/**/*.*", root_dir=ROOT, recursive=True)
+    tally.tell("the files of the gallery", sorted({*named} ^ {*there} - {"examples/README.md"}))
+
+
+def try_named_examples(tally):
+    """Each example that a page names is there."""
+    pages = glob.glob("*.md", root_dir=ROOT) + glob.glob("docs/*.md", root_dir=ROOT) + glob.glob("crates/*/README.md", root_dir=ROOT)
+    named = {it for name in pages for it in re.findall(r"\bexamples/[\w/]+\.\w+", page(name))}
+    tally.tell(f"examples that pages name: {len(named)}", sorted(it for it in named - LOST if not os.path.exists(os.path.join(ROOT, it))))
+
+
 def main():
     tally = Tally()
+    try_gallery(tally)
+    try_named_examples(tally)
     for name in (["README.md"], ["docs", "SERVICE.md"]):
         for said, kind, block in QUOTED.findall(page(*name)):
             if not kind:
