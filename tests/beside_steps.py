@@ -1,9 +1,9 @@
 #!/usr/bin/env -S python3 -B
 """What small planes become, beside naive steps (tests/lib/steps.py), and under Generations rules worked out by hand too.
 
-The planes are random ones under random rules, Generations rules and tables, and patterns that come back, after any number of generations, anywhere on the plane.
-Claims of `verify` ask for what they become. `show` and `convert` with `--after` tell it, from both formats and in both. `--after 0` changes nothing, and each
-refusal comes at its edge. Where it is on the path, Golly's command line tells what planes become under Generations rules.
+The planes are random ones under random rules, Generations rules and tables, and patterns that come back, after any number of generations, anywhere on the
+plane. Claims of `verify` ask for what they become. `show` and `convert` with `--after` tell it, from both formats and in both. `--after 0` changes nothing, and
+each refusal comes at its edge. Where it is on the path, Golly's command line tells what planes become under Generations rules.
 """
 import itertools
 import random

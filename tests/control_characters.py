@@ -4,11 +4,11 @@
 So no terminal obeys them. What a file holds is repeated as it is, in `show`, in `convert` and in the lines of a claim text.
 """
 import os
-import tempfile
 
 from lib import remedies
 from lib.claim_text import ClaimText, outcome
-from lib.program import Folder, Outcome, Tally, ample, fault, figures, run
+from lib.parts import try_all
+from lib.program import Folder, Outcome, ample, fault, figures, run
 from lib.refusing import refusing_program
 
 BLOCK = "x = 2, y = 2, rule = B3/S23\n2o$2o!\n"
@@ -132,7 +132,7 @@ def try_contents(tally, files):
     tally.expect("convert repeats a rule's name", run(["convert", pattern, "--rule", rule, "--to", "mc"]), ample(b"[M2] (cafile)\n#R %s\n1 0 0 0 2\n" % name))
 
 
-def try_progress(tally):
+def try_progress(tally, _):
     """The line of progress."""
     with refusing_program(tally, "progress") as (folder, refusing):
         if refusing is None:
@@ -153,16 +153,5 @@ def try_progress(tally):
         tally.tell("the progress of a file", [] if lines and all(it.startswith(told + b": ") for it in lines) else [str(got)])
 
 
-def main():
-    tally = Tally()
-    with tempfile.TemporaryDirectory() as folder:
-        for it in (try_paths, try_faults, try_claims, try_folder, try_contents):
-            inner = os.path.join(folder, it.__name__)
-            os.mkdir(inner)
-            it(tally, Folder(inner))
-    try_progress(tally)
-    tally.finish()
-
-
 if __name__ == "__main__":
-    main()
+    try_all(try_paths, try_faults, try_claims, try_folder, try_contents, try_progress)

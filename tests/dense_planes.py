@@ -10,13 +10,13 @@ Each plane is claimed to become what it does, which is true, and the same with o
 """
 import random
 import re
-import tempfile
 
 from lib import ageing, golly, rle, rows, small_planes
 from lib.ageing import AgeingRule
 from lib.claim_text import ClaimText, outcome
 from lib.macrocell import EDGE
-from lib.program import Folder, Tally, run
+from lib.parts import try_all
+from lib.program import run
 from lib.small_planes import moved
 
 # A brick has so many columns and rows, and a plane is stepped for so many generations at a time.
@@ -168,6 +168,14 @@ class Text(ClaimText):
         note = f"{before} at {x},{y}: {state} after {count} generation{'s' * (count != 1)}, claimed {1 - state}"
         self.claim(f"becomes {before} {count} {other}", f"no, cells differ after {count}", note)
 
+    def becomes_each(self, rule, before, generations):
+        """Claims what a plane becomes by each of these numbers of generations, and gives its last."""
+        name, later, done = self.plane(rule, before), before, 0
+        for count in generations:
+            later, done = later.after(rule, count - done), count
+            self.becomes(name, rule, count, later)
+        return later
+
     def judge(self, tally, name):
         """Expects the verdicts, and the notes of those that are no."""
         came, wanted = run(["verify", "--explain", self.write()]), outcome(self.answers, True)
@@ -181,10 +189,7 @@ def try_rules(tally, files):
     for rule, side, generations in RULES:
         chance = random.Random(side)
         text, before = Text(files, chance), rows.soup(chance, side, side).moved(chance.randint(-200, 100), chance.randint(-200, 100))
-        name, later, done = text.plane(rule, before), before, 0
-        for count in generations:
-            later, done = later.after(rule, count - done), count
-            text.becomes(name, rule, count, later)
+        text.becomes_each(rule, before, generations)
         text.judge(tally, f"{side} by {side} cells, {rule}")
 
 
@@ -315,10 +320,7 @@ def try_large(tally, files):
     for rule, wide, high, generations in LARGE:
         chance = random.Random(wide)
         text, before = Text(files, chance), rows.soup(chance, wide, high).moved(-wide // 2, -high // 3)
-        name, later, done = text.plane(rule, before), before, 0
-        for count in generations:
-            later, done = later.after(rule, count - done), count
-            text.becomes(name, rule, count, later)
+        later = text.becomes_each(rule, before, generations)
         text.judge(tally, f"{wide} by {high} cells, {rule}, from {before.population()} live cells to {later.population()}")
 
 
@@ -416,15 +418,6 @@ def try_aged_golly(tally, files):
         tally.tell(f"as Golly: {name} by {count}", [] if wanted and wanted == came else [f"wanted {wanted}, got {came}"])
 
 
-def main():
-    tally = Tally()
-    with tempfile.TemporaryDirectory() as folder:
-        for it in (try_rules, try_places, try_rest, try_busy, try_waking, try_gliders, try_deaths, try_apart, try_large, try_golly, try_aged_rules,
-                   try_aged_places,
-                   try_aged_edges, try_dying, try_aged_rest, try_aged_golly):
-            it(tally, Folder(folder))
-    tally.finish()
-
-
 if __name__ == "__main__":
-    main()
+    try_all(try_rules, try_places, try_rest, try_busy, try_waking, try_gliders, try_deaths, try_apart, try_large, try_golly, try_aged_rules,
+            try_aged_places, try_aged_edges, try_dying, try_aged_rest, try_aged_golly)

@@ -6,12 +6,12 @@ Pictures are held against those that are made here cell by cell, apart from the 
 import os
 import random
 import subprocess
-import tempfile
 
 from lib import macrocell, planes, rows
 from lib.gallery import found
 from lib.pictures import box_of, cells_squares, drawn, picture, squares_of, wanted_window
-from lib.program import ROOT, Folder, Outcome, Tally, ample, contents, fault, run
+from lib.parts import try_all
+from lib.program import ROOT, Outcome, ample, contents, fault, run
 from lib.rle_reader import PatternFile
 from lib.steps import next_live
 from lib.terminal import on_terminal
@@ -353,13 +353,5 @@ def try_terminal(tally, files):
             tally.expect(f"the caption of {pattern.split(chr(10))[-2] if '!' in pattern else pattern} {words}", got, wanted)
 
 
-def main():
-    tally = Tally()
-    with tempfile.TemporaryDirectory() as folder:
-        for it in (try_by_hand, try_widest, try_examples, try_large, try_the_largest, try_after, try_faults, try_tables, try_terminal):
-            it(tally, Folder(folder))
-    tally.finish()
-
-
 if __name__ == "__main__":
-    main()
+    try_all(try_by_hand, try_widest, try_examples, try_large, try_the_largest, try_after, try_faults, try_tables, try_terminal)

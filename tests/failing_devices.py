@@ -15,7 +15,8 @@ import re
 import subprocess
 
 from lib import golden, remedies
-from lib.program import MOST_WAITING, PROGRAM, ROOT, Folder, Outcome, Tally, ample, fault, run
+from lib.parts import try_each
+from lib.program import MOST_WAITING, PROGRAM, ROOT, Outcome, Tally, ample, fault, run
 from lib.refusing import refusing_program
 
 RULE = "@RULE S\n@TABLE\nn_states:3\nneighborhood:oneDimensional\nsymmetries:none\n"
@@ -281,7 +282,7 @@ def without(descriptor, words):
     return Outcome(ran.stdout, ran.stderr, ran.returncode)
 
 
-def try_no_output(tally):
+def try_no_output(tally, _):
     """Standard output or standard error takes nothing at all."""
     with open("/dev/full", "wb") as full, open(os.devnull, "rb") as unwritable:
         for words in (VERIFY, ["verify", "examples/several.claims"], SHOW, CONVERT, BACK, IDENTIFY, DRAW, IMAGE, ["--help"], ["--version"]):
@@ -312,12 +313,10 @@ def try_no_output(tally):
 
 def main():
     tally = Tally()
-    with refusing_program(tally, "failing devices") as (folder, refusing):
-        for it in (try_bytes, try_output, try_claims, try_errors, try_reads, try_several, try_long) if refusing else ():
-            inner = os.path.join(folder, it.__name__)
-            os.mkdir(inner)
-            it(tally, refusing, Folder(inner))
-    try_no_output(tally)
+    with refusing_program(tally, "failing devices") as (_, refusing):
+        parts = (try_bytes, try_output, try_claims, try_errors, try_reads, try_several, try_long)
+        try_each(tally, parts if refusing else (), refusing)
+    try_each(tally, (try_no_output,))
     tally.finish()
 
 

@@ -1,8 +1,8 @@
 #!/usr/bin/env -S python3 -B
 """What is told of files that can't be read, that are faulty, or that aren't what a claim says; and what `--explain` adds.
 
-- `show`, `convert` and `draw`: of two faults the first is told, and nothing stands on standard output. With `--explain` one more line on standard error names the
-  file and the line of its fault, or the rule that isn't known. All else is as without it.
+- `show`, `convert` and `draw`: of two faults the first is told, and nothing stands on standard output. With `--explain` one more line on standard error names
+  the file and the line of its fault, or the rule that isn't known. All else is as without it.
 - `verify`: `--explain` adds a line after each no and each refusal that has more to tell. It names the cell, the pattern, its file, the faulty line or the rule
   that isn't known. The lines of the verdicts are those of a run that isn't explained.
 """

@@ -9,13 +9,13 @@ import math
 import os
 import random
 import resource
-import tempfile
 
 from lib import macrocell, rle
 from lib.claim_text import ClaimText, outcome
 from lib.golly import AFTER, LEAPS
 from lib.planes import distinct_squares
-from lib.program import ROOT, Folder, Tally, contents
+from lib.parts import over, try_all
+from lib.program import ROOT, Folder, contents
 from lib.rows import Rows, text_of
 from lib.rule_table import RINGS
 from lib.work import excess, timed
@@ -122,7 +122,7 @@ class Claims:
         return seconds
 
 
-def try_after(claims, name, before, rule, count):
+def judge_after(claims, name, before, rule, count):
     """A pattern is what Golly made of it, and not where one cell is another."""
     after = f"{LEAPS}/{name}_after.mc"
     changed, (x, y), state = without_a_cell(contents(os.path.join(ROOT, after)), random.Random(name))
@@ -147,7 +147,7 @@ def claim_of(name, period, times, dx, dy):
     return f"oscillator {name} {period * times}"
 
 
-def try_returns(claims, path, period, dx, dy):
+def judge_returns(claims, path, period, dx, dy):
     """Multiples of a period, up to the longest, fifty-four claims about one file."""
     text = claims.text()
     text.load_path("p", path)
@@ -163,6 +163,21 @@ def try_returns(claims, path, period, dx, dy):
     claims.judge(f"{path}, {len(text.answers)} claims", text)
 
 
+@over(Claims)
+def try_after(claims):
+    """What Golly made of patterns."""
+    for it in AFTER:
+        judge_after(claims, *it)
+
+
+@over(Claims)
+def try_returns(claims):
+    """Patterns that come back."""
+    for it in RETURNS:
+        judge_returns(claims, *it)
+
+
+@over(Claims)
 def try_circles(claims):
     """Cells that go round circles of 1 to 20 states, one or two of them: a multiple of their period is that of it alone, and no other number is one."""
     first, turns, starts = 1, [], {}
@@ -186,6 +201,7 @@ def glider_at(x, y):
     return f"#CXRLE Pos={x},{y}\nx = 3, y = 3, rule = B3/S23\nbo$2bo$3o!\n"
 
 
+@over(Claims)
 def try_far_gliders(claims):
     """A glider after every power of four generations and more, and beyond the places that files have."""
     text = claims.text()
@@ -210,6 +226,7 @@ def try_far_gliders(claims):
     claims.judge("a glider that leaves the places of files", text)
 
 
+@over(Claims)
 def try_squares(claims):
     """Squares of more cells than memory holds: still lifes, oscillators, and planes that are others."""
     for level in (25, 40, 61):
@@ -234,6 +251,7 @@ def try_squares(claims):
         claims.judge(f"squares of level {level}", text)
 
 
+@over(Claims)
 def try_one_cell(claims):
     """One cell of a square of level 61 is another: it is found wherever it is, after any number of generations."""
     chance = random.Random(61)
@@ -254,6 +272,7 @@ def try_one_cell(claims):
         claims.judge(f"a cell of {name} at {x},{y}", text, explained=True)
 
 
+@over(Claims)
 def try_most_cells(claims):
     """A spaceship claim takes 16777216 live cells, and no more."""
     nodes = ["********$", *(f"{up} {up - 3} {up - 3} 0 0" for up in range(4, 25))]
@@ -272,6 +291,7 @@ def try_most_cells(claims):
     claims.judge("rows of 16777216 cells and of one more", text)
 
 
+@over(Claims)
 def try_slides(claims):
     """Cells that move one place each generation, as far as they can: under a table whose cells take the state of the cell to the west."""
     slide = "@RULE Slide\n@TABLE\nn_states:3\nneighborhood:oneDimensional\nsymmetries:none\n" + "".join(
@@ -321,6 +341,7 @@ def parity_after(rows, places, generations):
     return rows
 
 
+@over(Claims)
 def try_many_squares(claims):
     """Planes without order, of some hundred thousand squares and more: what becomes of them is known, since each generation is a sum."""
     for rule, places, side, generations, before in PARITIES:
@@ -341,6 +362,7 @@ DENSE = ((4, 4, 4, 4), (8, 8, 4, 4), (8, 8, 8, 8), (16, 16, 8, 8), (16, 16, 16, 
 LARGE = (32, 32, 32, 32)
 
 
+@over(Claims)
 def try_stepped(claims):
     """Large planes that are stepped, of which it is known what becomes: all cells die, or all stay."""
     for counts in DENSE:
@@ -360,6 +382,7 @@ def try_stepped(claims):
         claims.judge(f"cells that stay, level {level}", text)
 
 
+@over(Claims)
 def try_a_million_squares(claims):
     """A plane of more than a million squares that are all different."""
     content, _ = distinct_squares(LARGE, "B/S")
@@ -370,6 +393,7 @@ def try_a_million_squares(claims):
     claims.judge("a plane of 1398132 squares", text, most=WAITING)
 
 
+@over(Claims)
 def try_beside_many_squares(claims):
     """A small pattern is leapt in a store that has the squares of a large one: some 7 million, of cells far apart, each of which takes 44."""
     chance, count = random.Random(1), 1 << 20
@@ -381,6 +405,7 @@ def try_beside_many_squares(claims):
     claims.judge("a gun beside cells far apart", text, most=WAITING)
 
 
+@over(Claims)
 def try_dense_beside_sparse(claims):
     """Far gliders are leapt over, however few the generations are beside the side of their square: stepped cell by cell they take a thousand times as long."""
     text = claims.text()
@@ -391,6 +416,7 @@ def try_dense_beside_sparse(claims):
     claims.judge("two far gliders", text, most=5)
 
 
+@over(Claims)
 def try_settled(claims):
     """A dense plane that doesn't change takes a small part of the time of one that goes on changing."""
     seconds = {}
@@ -404,6 +430,7 @@ def try_settled(claims):
     claims.tally.tell("settled beside changing", [] if seconds["all cells stay"] < 0.15 * seconds["without end"] else [str(seconds)])
 
 
+@over(Claims)
 def try_want_of_memory(claims):
     """A plane that grows without order, of which no memory holds the generations: its claim is refused alone."""
     chance = random.Random(2)
@@ -417,19 +444,6 @@ def try_want_of_memory(claims):
     claims.judge("want of memory", text, most=WAITING, preexec_fn=lambda: resource.setrlimit(resource.RLIMIT_AS, (SPACE, SPACE)))
 
 
-def main():
-    tally = Tally()
-    with tempfile.TemporaryDirectory() as folder:
-        claims = Claims(tally, folder)
-        for it in AFTER:
-            try_after(claims, *it)
-        for it in RETURNS:
-            try_returns(claims, *it)
-        for it in (try_circles, try_far_gliders, try_squares, try_one_cell, try_most_cells, try_slides, try_many_squares, try_stepped, try_a_million_squares,
-                   try_beside_many_squares, try_dense_beside_sparse, try_settled, try_want_of_memory):
-            it(claims)
-    tally.finish()
-
-
 if __name__ == "__main__":
-    main()
+    try_all(try_after, try_returns, try_circles, try_far_gliders, try_squares, try_one_cell, try_most_cells, try_slides, try_many_squares, try_stepped,
+            try_a_million_squares, try_beside_many_squares, try_dense_beside_sparse, try_settled, try_want_of_memory)

@@ -19,7 +19,8 @@ from lib.ageing import AgeingRule
 from lib.claim_text import ClaimText, outcome
 from lib.golly import AFTER, LEAPS
 from lib.planes import FLIGHT, GROWING, explosion, far_gliders
-from lib.program import Folder, Outcome, Tally, ample, fault, figures, lines_outcome, run
+from lib.parts import try_all
+from lib.program import Folder, Outcome, ample, fault, figures, lines_outcome, run
 
 BLOCK = "x = 2, y = 2, rule = B3/S23\n2o$2o!\n"
 EMPTY = "x = 0, y = 0, rule = B3/S23\n!\n"
@@ -142,20 +143,20 @@ def claim_text(folder, patterns, first=()):
     return text
 
 
-def try_claims(tally, folder):
+def try_claims(tally, files):
     """One claim within some limits. There is no note on a refusal for want of work."""
     for options, patterns, claim, verdict in CLAIMS:
-        text = claim_text(folder, patterns, (b"claims 2",))
+        text = claim_text(files.folder, patterns, (b"claims 2",))
         text.claim(claim, verdict)
         tally.expect(f"{' '.join(options)}: {claim}", run(["verify", *options, text.write()]), outcome(text.answers, False))
-    text = claim_text(folder, {"b": BLOCK})
+    text = claim_text(files.folder, {"b": BLOCK})
     text.claim("still b", "refused, work")
     tally.expect("no note on work", run(["verify", "--explain", "--work", "0", text.write()]), outcome(text.answers, True))
 
 
-def try_each_by_itself(tally, folder):
+def try_each_by_itself(tally, files):
     """Each of two claims has its own count: with each limit both are refused, or none is."""
-    text = claim_text(folder, {"b": BLOCK})
+    text = claim_text(files.folder, {"b": BLOCK})
     text.lines += [b"still b", b"still b"]
     path = text.write()
     for work in range(AMPLE_WORK):
@@ -169,18 +170,18 @@ def try_each_by_itself(tally, folder):
     tally.tell(f"two claims, each by itself, {work} units", [str(got)])
 
 
-def try_a_soup(tally, folder):
+def try_a_soup(tally, files):
     """A dense plane is refused alone: the claims before and after it are judged."""
-    text = claim_text(folder, {"b": BLOCK, "s": SOUP})
+    text = claim_text(files.folder, {"b": BLOCK, "s": SOUP})
     for claim, verdict in (("still b", "yes"), ("becomes s 500 s", "refused, work"), ("still b", "yes")):
         text.claim(claim, verdict)
     tally.expect("a soup among blocks", run(["verify", "--work", "1000", text.write()]), outcome(text.answers, False))
 
 
-def try_least_work(tally, folder):
+def try_least_work(tally, files):
     """A soup of a table of four states is leapt, and each square of 4 by 4 cells that isn't empty is counted: the run took 816560 units, by the program's own
     count when this was written, and no value from outside."""
-    text = claim_text(folder, {})
+    text = claim_text(files.folder, {})
     text.rule(ageing.table_of(AgeingRule.of("345/2/4"), "Ageing"))
     text.load("s", rows.text_of("Ageing", rows.soup(random.Random(200), 200, 200)))
     text.claim("becomes s 300 s", "no, cells differ after 300")
@@ -189,7 +190,7 @@ def try_least_work(tally, folder):
         tally.expect(f"a soup of four states, {work} units", run(["verify", "--work", str(work), path]), wanted)
 
 
-def try_faults(tally):
+def try_faults(tally, _):
     """Other numbers are faults of the words."""
     for options in FAULTS:
         got = run(["verify", *options, "examples/block.claims"])
@@ -224,11 +225,11 @@ def least_work(words, done):
     return high
 
 
-def try_limits_of_commands(tally, folder):
+def try_limits_of_commands(tally, files):
     """A command that has just the work that it needs is refused with less, and with a memo of one entry also where it has four times as much. The run is the
     same for all of them, and so is what it needs; an identification takes some steps more."""
     most = {}
-    for words, done, refused in long_runs(folder):
+    for words, done, refused in long_runs(files.folder):
         most[words[0]] = work = least_work(words, done)
         tries = [(["--work", str(work)], done), (["--work", str(work - 1)], refused), (["--work", str(work), "--memo", "262144"], done),
                  (["--work", str(work), "--memo", str(MOST_MEMO)], done), (["--work", str(4 * work), "--memo", "1"], refused)]
@@ -239,10 +240,10 @@ def try_limits_of_commands(tally, folder):
     tally.tell("each command needs as much work", others if claim <= more < 2 * claim else [*others, f"identify needs {more} units, verify {claim}"])
 
 
-def try_no_generations(tally, folder):
+def try_no_generations(tally, files):
     """A large plane after no generations needs no work, with a memo of one entry."""
     text = rle.tidy(WIDE, "B3/S23", 0, 2)
-    path = Folder(tempfile.mkdtemp(dir=folder)).path("wide.rle", text)
+    path = Folder(tempfile.mkdtemp(dir=files.folder)).path("wide.rle", text)
     shown = figures(0, len(WIDE), f"0 0 {SIDE} {SIDE}", "rle").printed
     draw = ["draw", path, "--scale", "17"]
     tries = ((draw, WIDE_PICTURE.encode()), ([*draw, "--after", "0"], WIDE_PICTURE.encode()), (["show", path, "--after", "0"], shown),
@@ -257,12 +258,12 @@ def judge_units(tally, name, text, memo, units):
     tally.expect(f"{name}, {memo} entries: {units} units", run(words), outcome(text.answers, False))
 
 
-def try_patterns(tally, folder):
+def try_patterns(tally, files):
     """What patterns become by leaps."""
     known = {name: it for name, *it in AFTER}
     for name, memo, units in UNITS_OF_PATTERNS:
         before, rule, count = known[name]
-        text = ClaimText(Folder(folder))
+        text = ClaimText(files)
         if rule:
             text.rule_path(rule)
         text.load_path("before", before)
@@ -271,35 +272,35 @@ def try_patterns(tally, folder):
         judge_units(tally, f"{name} by {count}", text, memo, units)
 
 
-def try_soups(tally, folder):
+def try_soups(tally, files):
     """Soups: those of rules are stepped, and that of a table is leapt."""
     for rule, count, memo, units in UNITS_OF_SOUPS:
-        text = ClaimText(Folder(folder))
+        text = ClaimText(files)
         text.load("soup", rows.text_of(rule, rows.soup(random.Random(200), 200, 200)))
         text.claim(f"becomes soup {count} soup", f"no, cells differ after {count}")
         judge_units(tally, f"a soup of {rule} by {count}", text, memo, units)
     name, count, needs = UNITS_OF_TABLE
     for memo, units in needs:
-        text = ClaimText(Folder(folder))
+        text = ClaimText(files)
         text.rule(ageing.table_of(AgeingRule.of(name), "Ageing"))
         text.load("soup", rows.text_of("Ageing", rows.soup(random.Random(200), 200, 200)))
         text.claim(f"becomes soup {count} soup", f"no, cells differ after {count}")
         judge_units(tally, f"a soup of a table of {name} by {count}", text, memo, units)
 
 
-def try_copies(tally, folder):
+def try_copies(tally, files):
     """A soup whose bricks soon are copies of few."""
     rule, side, count, units = COPIED
     soup = rows.soup(random.Random(side), side, side)
     steps = (-count, 0, count)
-    text = ClaimText(Folder(folder))
+    text = ClaimText(files)
     text.load("soup", rows.text_of(rule, soup))
     text.load("copies", rows.text_of(rule, *(soup.moved(x, y) for x in steps for y in steps if x or y)))
     text.claim(f"becomes soup {count} copies", "yes")
     judge_units(tally, f"a soup of {rule} by {count}", text, USUAL, units)
 
 
-def try_room(tally):
+def try_room(tally, _):
     """A run that may keep few squares: it ends, and takes more work."""
     name, count, units = ROOM
     path = f"{LEAPS}/{name}.rle"
@@ -312,10 +313,10 @@ def try_room(tally):
     tally.expect(f"{name} by {count} in a megabyte: {FEWEST} units", run([*few, "--work", str(FEWEST)]), Outcome(b"", b"cafile: work\n", 2))
 
 
-def try_room_of_claims(tally, folder):
+def try_room_of_claims(tally, files):
     """The same of a claim."""
     name, count, _ = ROOM
-    text = ClaimText(Folder(folder))
+    text = ClaimText(files)
     text.load_path("before", f"{LEAPS}/{name}.rle")
     text.load_path("after", f"{LEAPS}/{name}_after.mc")
     text.claim(f"becomes before {count} after", "yes")
@@ -324,7 +325,7 @@ def try_room_of_claims(tally, folder):
     tally.expect(f"{name} becomes by {count} in a megabyte", run([*words, "--max-memory", "1", text.write()]), Outcome(b"line 3: refused, work\n", b"", 2))
 
 
-def try_identification(tally):
+def try_identification(tally, _):
     """What is back at no time, and what is back late."""
     for name, grown, units in NEVER_BACK:
         path = f"examples/{name}.rle"
@@ -356,27 +357,17 @@ def judge_squares(tally, folder, name, texts, generations, verdict, *words):
     tally.tell(name, [] if well else [f"{got}, squares {squares}"])
 
 
-def try_full_stores(tally, folder):
+def try_full_stores(tally, files):
     """A plane that grows in all directions, and another one that is claimed of it; and gliders far apart."""
     plane = explosion()
     later = plane.after(GROWING, GROWN)
     other, _ = later.with_changed(later.x, later.y)
     for name, it, verdict in (("yes", later, "yes"), ("no", other, f"no, cells differ after {GROWN}")):
         texts = [rows.text_of(GROWING, which) for which in (plane, it)]
-        judge_squares(tally, folder, f"a long run, {name}", texts, GROWN, verdict, "--work", str(GROWN_WORK))
-    judge_squares(tally, folder, f"{GLIDERS} gliders far apart", far_gliders(GLIDERS), FLIGHT, "yes")
-
-
-def main():
-    tally = Tally()
-    with tempfile.TemporaryDirectory() as folder:
-        for it in (try_claims, try_each_by_itself, try_a_soup, try_least_work, try_limits_of_commands, try_no_generations, try_patterns, try_soups, try_copies,
-                   try_room_of_claims, try_full_stores):
-            it(tally, folder)
-    for it in (try_faults, try_room, try_identification):
-        it(tally)
-    tally.finish()
+        judge_squares(tally, files.folder, f"a long run, {name}", texts, GROWN, verdict, "--work", str(GROWN_WORK))
+    judge_squares(tally, files.folder, f"{GLIDERS} gliders far apart", far_gliders(GLIDERS), FLIGHT, "yes")
 
 
 if __name__ == "__main__":
-    main()
+    try_all(try_claims, try_each_by_itself, try_a_soup, try_least_work, try_limits_of_commands, try_no_generations, try_patterns, try_soups, try_copies,
+            try_room_of_claims, try_full_stores, try_faults, try_room, try_identification)

@@ -8,14 +8,14 @@ what is converted has to come back byte for byte.
 import os
 import random
 import re
-import tempfile
 
 from lib import macrocell, rle, steps
 from lib.claim_table import ClaimTable
 from lib.macrocell import EDGE
 from lib.macrocell_texts import CELL, FAULTS, FOURFOLD, FULL_LEAF, FULL_SQUARE, NORTH_EAST, NORTH_WEST, SOUTH_EAST, TWO_BY_TWO, Sloppy, chain, header
 from lib.planes import distinct_leaves
-from lib.program import MAX_FILE, Runs, Tally, ample, fault, figures, lines_outcome, run
+from lib.parts import over, try_all
+from lib.program import MAX_FILE, Folder, Runs, ample, fault, figures, lines_outcome, run
 from lib.work import excess, timed
 
 
@@ -173,9 +173,9 @@ class FileRuns(Runs):
         self.expect(repr(text[:1500]), [path if word == "FILE" else word for word in words], wanted)
 
 
-def try_faults(tally, folder):
+def try_faults(tally, files):
     """Texts with a fault, shown, converted and judged."""
-    runs, table = FileRuns(folder), ClaimTable(folder)
+    runs, table = FileRuns(files.folder), ClaimTable(files.folder)
     for kind, bodies in FAULTS.items():
         for body in bodies:
             text = b"[M2]\n" + body.encode("latin-1")
@@ -191,9 +191,9 @@ def try_faults(tally, folder):
     table.judge(tally, "faulty macrocell texts, judged")
 
 
-def try_good(tally, folder):
+def try_good(tally, files):
     """Texts without a fault: their figures, and both formats of their planes."""
-    runs = FileRuns(folder)
+    runs = FileRuns(files.folder)
     for text, cells, generation, *rule in GOOD:
         pattern = macrocell.Pattern(macrocell.tree_of(cells), *(rule or ["B3/S23"]), generation)
         runs.of(text.encode(), ["show", "FILE"], ample(pattern.shown()))
@@ -222,9 +222,9 @@ def cut_glider(length):
     return figures(0, count, box, rule=rule)
 
 
-def try_cut_texts(tally, folder):
+def try_cut_texts(tally, files):
     """A macrocell and an RLE cut after each byte, and RLE bodies of one byte and an end."""
-    runs = FileRuns(folder)
+    runs = FileRuns(files.folder)
     for length in range(len(GLIDER) + 1):
         runs.of(GLIDER[:length], ["show", "FILE"], cut_glider(length))
     runs.tell(tally, "a macrocell text cut short")
@@ -294,16 +294,16 @@ def claim_of(table, chance, pattern, text):
         table.becomes(text, 0, rle.tidy({place: 1 for place in cells if place != lost}, rule, 0, 2), "no, cells differ after 0")
 
 
-def try_random_planes(tally, folder):
+def try_random_planes(tally, files):
     """Random planes: shown, converted each way, and back again, and judged."""
-    chance, runs, table_of_claims = random.Random(1), FileRuns(folder), ClaimTable(folder)
+    chance, runs, table_of_claims = random.Random(1), FileRuns(files.folder), ClaimTable(files.folder)
     for name in TABLES:
         runs.path(name, table_file(name))
     for _ in range(100):
         rule, printed, table, states = chance.choice(RULES)
         cells = random_cells(chance, states)
         pattern = macrocell.Pattern(macrocell.tree_of(cells), printed, chance.choice((0, 0, 1, 77, (1 << 63) - 1)))
-        more = ["--rule", os.path.join(folder, table)] if table else []
+        more = ["--rule", os.path.join(files.folder, table)] if table else []
         level = min(macrocell.HIGHEST_LEVEL, max(1, pattern.tree.level) + chance.choice((0, 0, 1, 2, 7, 59)))
         sloppy = Sloppy(chance, pattern.tree.squares).text(pattern.tree.fitted(level), rule, pattern.generation)
         tidy, items = macrocell.tidy(pattern, states), rle.tidy(cells, pattern.rule, pattern.generation, states)
@@ -336,9 +336,9 @@ def mutilated(chance, text):
     return "\n".join(lines)
 
 
-def try_mutilated_texts(tally, folder):
+def try_mutilated_texts(tally, files):
     """Texts with random changes: the program has to tell what the naive reader tells."""
-    chance, runs, kinds = random.Random(2), FileRuns(folder), {}
+    chance, runs, kinds = random.Random(2), FileRuns(files.folder), {}
     while sum(kinds.values()) < 400:
         tree = macrocell.tree_of(random_cells(chance, 2))
         text = Sloppy(chance, tree.squares).text(tree.fitted(tree.level + chance.randrange(3)), "B3/S23", 0).decode()
@@ -360,18 +360,12 @@ def try_mutilated_texts(tally, folder):
     runs.tell(tally, f"mutilated macrocell texts ({told})")
 
 
-class LargeTexts:
+class LargeTexts(Folder):
     """Files in a folder of their own, and runs over them that have to end within the bound."""
 
     def __init__(self, tally, folder):
-        self.tally, self.folder = tally, folder
-
-    def path(self, name, text):
-        """Writes a file, and gives its path."""
-        path = os.path.join(self.folder, name)
-        with open(path, "wb") as file:
-            file.write(text if isinstance(text, bytes) else text.encode("ascii"))
-        return path
+        super().__init__(folder)
+        self.tally = tally
 
     def expect(self, name, words, wanted):
         """Runs the program. It fails the test too where it takes longer than the bound."""
@@ -402,6 +396,14 @@ class LargeTexts:
         self.expect(f"{name}, in both formats", ["verify", self.path("text.claims", loads + "becomes a 0 b\n")], lines_outcome([(3, "yes")]))
 
 
+@over(LargeTexts)
+def try_large_texts(texts):
+    """Texts of many squares, many levels and long lines."""
+    for name, text, wanted in LARGE_TEXTS:
+        texts.shown(name, text(), wanted)
+
+
+@over(LargeTexts)
 def try_far_cells(texts):
     """Cells at both ends of the range, and long diagonals and squares, of as many cells as an RLE may have and of more."""
     lines = []
@@ -426,6 +428,7 @@ def try_far_cells(texts):
     texts.converted("a diagonal of 2^61 cells", chain(("1 1 0 0 1", 1), "{0} 0 0 {0}", 61), "rle", TOO_MANY)
 
 
+@over(LargeTexts)
 def try_rows(texts):
     """A row of 16777216 cells, and one of a cell more."""
     count = 1 << 24
@@ -441,6 +444,7 @@ def try_rows(texts):
                  lines_outcome([(3, "refused, too many cells"), (4, "no, cells differ after 0"), (5, "yes")]))
 
 
+@over(LargeTexts)
 def try_many_nodes(texts):
     """Files of 100000 and 500000 nodes, all different, with millions of cells."""
     # The upper left quarter of the root, and a fourth or a half of its upper right one; right-most and lowest leaves are those of all ones.
@@ -451,6 +455,7 @@ def try_many_nodes(texts):
         texts.round_trip(f"{len(lines)} nodes and {cells} cells", text, "mc", cells, f"-{half} -{half} {width} {height}")
 
 
+@over(LargeTexts)
 def try_soups(texts):
     """A random plane of 3 million cells, and one of 256 states."""
     chance = random.Random(3)
@@ -466,18 +471,6 @@ def try_soups(texts):
                  ample(text))
 
 
-def main():
-    tally = Tally()
-    with tempfile.TemporaryDirectory() as folder:
-        for it in (try_faults, try_good, try_cut_texts, try_random_planes, try_mutilated_texts):
-            it(tally, folder)
-        texts = LargeTexts(tally, folder)
-        for name, text, wanted in LARGE_TEXTS:
-            texts.shown(name, text(), wanted)
-        for it in (try_far_cells, try_rows, try_many_nodes, try_soups):
-            it(texts)
-    tally.finish()
-
-
 if __name__ == "__main__":
-    main()
+    try_all(try_faults, try_good, try_cut_texts, try_random_planes, try_mutilated_texts, try_large_texts, try_far_cells, try_rows, try_many_nodes,
+            try_soups)

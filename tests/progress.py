@@ -16,14 +16,14 @@ import re
 import select
 import signal
 import subprocess
-import tempfile
 import time
 
 from lib import ageing, rle
 from lib.ageing import AgeingRule
 from lib.claim_text import ClaimText
 from lib.planes import distinct_squares
-from lib.program import MOST_WAITING, PROGRAM, ROOT, Folder, Outcome, Tally, run
+from lib.parts import try_each
+from lib.program import MOST_WAITING, PROGRAM, ROOT, Outcome, Tally, run
 from lib.refusing import refusing_program
 from lib.terminal import on_terminal
 
@@ -509,16 +509,11 @@ def try_head(tally, files):
 
 def main():
     tally = Tally()
-    with refusing_program(tally, "progress") as (folder, refusing):
-        for it in (try_claims, try_identify, try_identify_after, try_identify_results, try_after, try_notes, try_dense, try_order, try_closed, try_terminal,
-                   try_results,
-                   try_refused_memory, try_the_clock, try_quick) if refusing else ():
-            inner = os.path.join(folder, it.__name__)
-            os.mkdir(inner)
-            it(tally, refusing, Folder(inner))
-    with tempfile.TemporaryDirectory() as folder:
-        for it in (try_stopped, try_stopped_identify, try_head):
-            it(tally, Folder(folder))
+    with refusing_program(tally, "progress") as (_, refusing):
+        parts = (try_claims, try_identify, try_identify_after, try_identify_results, try_after, try_notes, try_dense, try_order, try_closed,
+                 try_terminal, try_results, try_refused_memory, try_the_clock, try_quick)
+        try_each(tally, parts if refusing else (), refusing)
+    try_each(tally, (try_stopped, try_stopped_identify, try_head))
     tally.finish()
 
 

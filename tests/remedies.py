@@ -9,10 +9,10 @@ import gzip
 import os
 import re
 import subprocess
-import tempfile
 
 from lib import remedies
-from lib.program import Folder, Outcome, Tally, escaped, fault, file_word, lines_outcome, run
+from lib.parts import try_all
+from lib.program import Outcome, escaped, fault, file_word, lines_outcome, run
 from lib.terminal import on_terminal
 
 GOOD = b"x = 3, y = 3, rule = B3/S23\nbo$2bo$3o!\n"
@@ -104,7 +104,7 @@ def write(path, data):
         file.write(data)
 
 
-def try_mistake(tally, folder, name, data, cause, mended):
+def judge_mistake(tally, folder, name, data, cause, mended):
     """A file with a usual mistake: it is refused for its cause, explained, and read where it is mended."""
     path = os.path.join(folder, "file")
     write(path, data)
@@ -116,6 +116,12 @@ def try_mistake(tally, folder, name, data, cause, mended):
     if mended is not None:
         write(path, mended)
         tally.expect(f"{name}, mended", run(["verify", claims]), lines_outcome([(2, "yes")]))
+
+
+def try_mistakes(tally, files):
+    """Files with the usual mistakes."""
+    for name, (data, cause, mended) in MISTAKES.items():
+        judge_mistake(tally, files.folder, name, data, cause, mended)
 
 
 def last_line(path, words):
@@ -145,41 +151,41 @@ def try_explained(tally, name, path, cause, words):
     tally.tell(f"{name}, explained: {helps}", complaints)
 
 
-def try_seeming(tally, folder):
+def try_seeming(tally, files):
     """Files that are taken for others, or aren't, by their bytes; and rule texts."""
     for name, (data, cause, words) in SEEMING.items():
-        path = os.path.join(folder, "seeming")
+        path = os.path.join(files.folder, "seeming")
         write(path, data)
         try_explained(tally, name, path, f"bad pattern: {cause}", words)
     for rule, words in RULES.items():
-        path = os.path.join(folder, "ruled")
+        path = os.path.join(files.folder, "ruled")
         write(path, b"x = 1, y = 1, rule = %s\no!\n" % rule)
         try_explained(tally, f"the rule {rule}", path, "bad rule: unknown", words)
 
 
-def try_paths(tally, folder):
+def try_paths(tally, files):
     """A path with a byte that a shell doesn't take as it stands is the word FILE in what helps."""
     for name in (b"a\x1b[2J", b"b\x7f", b"c\xc2\x9b", b"\xc3\xa9", b"d\\x1b", b"e;f", b"$(g)", b"`h`", b"i*", b"j'", b"k&l", b"m>n", b"o~p", b"{q,r}",
                  b"-s,t:u=v@w_x.y+Z"):
-        path = os.path.join(folder, os.fsdecode(name))
+        path = os.path.join(files.folder, os.fsdecode(name))
         for data, words in ((gzip.compress(GOOD), b"gunzip -c FILE"), (b"\xef\xbb\xbf" + GOOD, rb"sed '1s/^\xef\xbb\xbf//' FILE"),
                             (b"#C\rx", rb"tr '\r' '\n' < FILE")):
             write(path, data)
             try_explained(tally, f"the path {name}", path, "bad pattern: rle header", words)
 
 
-def try_commands(tally, folder):
+def try_commands(tally, files):
     """What is told as a command mends the file."""
     for name, (data, cause, mended) in MISTAKES.items():
         if WORDS[name] and WORDS[name].endswith(b"FILE"):
-            path = os.path.join(folder, "broken")
+            path = os.path.join(files.folder, "broken")
             write(path, data)
             command = run(["show", "--explain", path]).complaint.split(b"  try: ")[-1]
             done = subprocess.run(["sh", "-c", os.fsdecode(command)], capture_output=True, check=False)
             tally.tell(f"{name}, mended by {command}", [] if done.stdout.strip() == mended.strip() else [str(done)])
 
 
-def try_others(tally, folder):
+def try_others(tally, files):
     """Want of work and too many cells, of runs and of claims; and refusals that no line helps."""
     soup, full = "tests/files/soup/soup.rle", "examples/macrocell/full_square.mc"
     for command in (["show"], ["convert", "--to", "mc"], ["draw"]):
@@ -187,7 +193,7 @@ def try_others(tally, folder):
         tally.expect(f"want of work, {command[0]}", run([*command, soup, "--after", "1000", "--work", "100", "--explain"]), wanted)
     wanted = Outcome(b"", f"cafile: too many cells\n  {full}\n".encode() + last_line(full, b"convert it --to mc, which takes any number of cells"), 2)
     tally.expect("too many cells, convert", run(["convert", full, "--to", "rle", "--explain"]), wanted)
-    claims = Folder(folder).path("full.claims", f"load full {full}\nspaceship full 1 1 0\nload lost nowhere\nstill lost\n")
+    claims = files.path("full.claims", f"load full {full}\nspaceship full 1 1 0\nload lost nowhere\nstill lost\n")
     helps = last_line(full, b"claim that it becomes a file of its moved plane, without a shift").decode()
     wanted = f"line 2: refused, too many cells\n  full: {full}\n{helps}line 4: refused, no file\n  lost: nowhere: no such file\n"
     tally.expect("too many cells, verify", run(["verify", "--explain", claims]), Outcome(wanted.encode(), b"", 2))
@@ -202,7 +208,7 @@ def try_others(tally, folder):
         tally.tell(f"nothing helps, {' '.join(words)}", [] if is_noted and b"  try: " not in said else [str(got)])
 
 
-def try_table(tally):
+def try_table(tally, _):
     """Each remedy of the table is one of those here, word for word; and these are in the table."""
     told = {it.decode() for it in (*WORDS.values(), *(words for _, _, words in SEEMING.values())) if it}
     told |= {"allow more by --work", "convert it --to mc, which takes any number of cells", "claim that it becomes a file of its moved plane, without a shift"}
@@ -282,18 +288,5 @@ def try_more(tally, files):
                 tally.tell(f"and there is more, {name}", [] if len(told.printed + told.complaint) > len(plain.printed + plain.complaint) else [str(told)])
 
 
-def main():
-    tally = Tally()
-    with tempfile.TemporaryDirectory() as folder:
-        for name, (data, told, mended) in MISTAKES.items():
-            try_mistake(tally, folder, name, data, told, mended)
-        for it in (try_seeming, try_paths, try_commands, try_others):
-            it(tally, folder)
-        for it in (try_claim_texts, try_more):
-            it(tally, Folder(folder))
-    try_table(tally)
-    tally.finish()
-
-
 if __name__ == "__main__":
-    main()
+    try_all(try_mistakes, try_seeming, try_paths, try_commands, try_others, try_claim_texts, try_more, try_table)

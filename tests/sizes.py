@@ -5,13 +5,14 @@ No limit is hidden between a few lines and 100000, a few files and as many, or a
 The texts and patterns are made here, of blocks, blinkers and gliders, so that their verdicts are known.
 """
 import itertools
-import os
 import random
 import re
 import tempfile
+
 from lib.claim_text import ClaimText, outcome
 from lib.long_texts import BLINKER, BLOCK, MANY_LINES, long_text, spelled
-from lib.program import Folder, Tally, ample, fault, lines_outcome, run
+from lib.parts import over, try_all
+from lib.program import Folder, ample, fault, lines_outcome, run
 from lib.work import excess, timed
 
 # The cells a side of a pattern whose file is long and whose squares are few, how many claims there are about two such, and how many times the known work
@@ -35,11 +36,12 @@ KINDS = (
 )
 
 
-class Texts:
+class Texts(Folder):
     """Files in a folder of their own, and runs over them."""
 
     def __init__(self, tally, folder):
-        self.tally, self.folder = tally, folder
+        super().__init__(folder)
+        self.tally = tally
 
     def text(self):
         """A new claim text, which loads a block and a blinker, and whose files stand in a folder of their own."""
@@ -54,19 +56,13 @@ class Texts:
         for words in (["verify", "--explain", path], ["verify", path]):
             self.tally.expect(f"{name}: {len(text.lines)} lines{', explained' * (len(words) - 2)}", run(words), outcome(text.answers, len(words) > 2))
 
-    def path(self, name, text):
-        """Writes a file, and gives its path."""
-        path = os.path.join(self.folder, name)
-        with open(path, "w", encoding="ascii") as file:
-            file.write(text)
-        return path
-
     def expect(self, name, lines, wanted):
         """Runs the program on a claim text of these lines."""
         path = self.path("text.claims", "\n".join(lines) + "\n")
         self.tally.expect(f"{name}: {len(lines)} lines", run(["verify", path]), wanted)
 
 
+@over(Texts)
 def try_long_texts(texts):
     """Thousands of lines, and a fault of each kind in a late one."""
     lines, verdicts = long_text()
@@ -89,6 +85,7 @@ def try_long_texts(texts):
     texts.expect("two faults, of which the first is told", both, fault("claims line 4001: unknown name"))
 
 
+@over(Texts)
 def try_many_files(texts):
     """Thousands of names, over one path and over as many."""
     count = 3000
@@ -103,6 +100,7 @@ def try_many_files(texts):
     texts.expect("names, one of them taken", lines, fault(f"claims line {count + 1}: name taken"))
 
 
+@over(Texts)
 def try_kinds(texts):
     """Each kind of a verdict and of a note, on all lines up to more than 100000, and in a text of more than 1000 paths."""
     for paths in (0, 3000):
@@ -117,6 +115,7 @@ def try_kinds(texts):
         texts.judge(f"each kind, {paths} paths more", text)
 
 
+@over(Texts)
 def try_one_reading(texts):
     """Many claims about the same two large patterns: each is read once."""
     text = texts.text()
@@ -130,6 +129,7 @@ def try_one_reading(texts):
                      ([] if got == wanted else [f"{got}"]) + excess(seconds, STRIPED_WORK))
 
 
+@over(Texts)
 def try_rule_files(texts):
     """A rule file that is missing or faulty, in a text of more than 1000 paths and on lines beyond 100000."""
     good = "@RULE S\n@TABLE\nn_states:3\nneighborhood:oneDimensional\nsymmetries:none\n"
@@ -146,6 +146,7 @@ def try_rule_files(texts):
         texts.judge(verdict, text)
 
 
+@over(Texts)
 def try_more_files(texts):
     """100000 files, each of which some claim needs."""
     text = texts.text()
@@ -157,6 +158,7 @@ def try_more_files(texts):
     texts.tally.expect("100000 files", run(["verify", path]), outcome(text.answers, False))
 
 
+@over(Texts)
 def try_periods(texts):
     """Every number of generations from 0 to 1500, in claims of each kind that has one."""
     text = texts.text()
@@ -173,6 +175,7 @@ def try_periods(texts):
     texts.tally.expect("numbers of generations", run(["verify", path]), outcome(text.answers, False))
 
 
+@over(Texts)
 def try_many_cells(texts):
     """Patterns of 100000 live cells, and of as many as are read."""
     row = "2o2b" * 250
@@ -191,6 +194,7 @@ def try_many_cells(texts):
     ]))
 
 
+@over(Texts)
 def try_ships(texts):
     """20000 gliders on one course are a spaceship, and where one of them is on another, they are none."""
     glider, other = ["bo8b", "2bo7b", "3o7b"], ["bo8b", "o9b", "3o7b"]
@@ -204,6 +208,7 @@ def try_ships(texts):
         texts.expect(name, [f"load gliders {path}", "spaceship gliders 4 1 1"], lines_outcome([(2, verdict)]))
 
 
+@over(Texts)
 def try_the_most_cells(texts):
     """16777216 live cells are read, and one more isn't."""
     row = texts.path("row.rle", "x = 1, y = 1, rule = B3/S23\n16777216o!\n")
@@ -212,6 +217,7 @@ def try_the_most_cells(texts):
                  lines_outcome([(4, "no, cells differ after 0"), (5, "refused, bad pattern: rle too many cells")]))
 
 
+@over(Texts)
 def try_many_states(texts):
     """16777216 cells of three states: a run of a million of them, and then rows that don't repeat, which take 48 million bytes."""
     chance, left = random.Random(6), (1 << 24) - 1000000
@@ -229,6 +235,7 @@ def try_many_states(texts):
     texts.tally.expect("16777216 cells of three states, written anew", run(["convert", path, "--to", "rle"]), ample(text.encode()))
 
 
+@over(Texts)
 def try_long_planes(texts):
     """A run of a million cells of a third state that becomes squares, and squares of 4096 by 4096 cells whose text takes 17 million bytes."""
     text = "#CXRLE Pos=0,0\nx = 1000000, y = 1, rule = 345/2/4\n1000000B!\n"
@@ -241,15 +248,6 @@ def try_long_planes(texts):
     texts.tally.expect("stripes of 8388608 cells, from mc to rle", run(["convert", path, "--to", "rle"]), ample(text.encode()))
 
 
-def main():
-    tally = Tally()
-    with tempfile.TemporaryDirectory() as folder:
-        texts = Texts(tally, folder)
-        for it in (try_long_texts, try_kinds, try_rule_files, try_many_files, try_more_files, try_one_reading, try_periods, try_many_cells, try_ships,
-                   try_the_most_cells, try_many_states, try_long_planes):
-            it(texts)
-    tally.finish()
-
-
 if __name__ == "__main__":
-    main()
+    try_all(try_long_texts, try_kinds, try_rule_files, try_many_files, try_more_files, try_one_reading, try_periods, try_many_cells, try_ships,
+            try_the_most_cells, try_many_states, try_long_planes)

@@ -143,6 +143,6 @@ class Tally:
         self.tell(name, [] if outcome == wanted else [f"wanted: {wanted}", f"got:    {outcome}"])
 
     def finish(self):
-        """Prints the sums, and ends with status 1 where a test failed."""
+        """Prints the sums, and ends with status 1 where a test failed, or none was tried."""
         print(f"{self.passed} passed, {self.failed} failed")
-        sys.exit(1 if self.failed else 0)
+        sys.exit(0 if self.passed and not self.failed else 1)
