@@ -7,11 +7,12 @@ It prints a line for each run: seconds of wall clock (the best of three), and th
 """
 import os
 import random
-import re
 import subprocess
 import sys
 import tempfile
 import time
+
+from naive import folded, items_of
 
 PROGRAM = os.path.abspath("crates/cafile/out/cafile")
 
@@ -20,14 +21,7 @@ def write_soup(width, height, path):
     """Writes a random soup in RLE, with lines of at most 70 characters, and a second file that ends in a faulty item."""
     random.seed(width)
     rows = ["".join(random.choices("ob", (3, 5), k=width)).rstrip("b") for _ in range(height)]
-    body = re.sub(r"(.)\1+", lambda run: f"{len(run[0])}{run[1]}", "$".join(rows)) + "!"
-    lines, line = [], ""
-    for item in re.findall(r"\d*\D", body):
-        if len(line) + len(item) > 70:
-            lines.append(line)
-            line = ""
-        line += item
-    text = f"x = {width}, y = {height}, rule = B3/S23\n" + "\n".join(lines + [line]) + "\n"
+    text = f"x = {width}, y = {height}, rule = B3/S23\n" + folded(items_of("$".join(rows) + "!")) + "\n"
     for name, content in ((path, text), (path + ".bad", text.replace("!", "z"))):
         with open(name, "w", encoding="ascii") as file:
             file.write(content)

@@ -192,8 +192,7 @@ def try_unlisted_cells(tally, files):
     text, cells = soup(LISTED_SIDE, "B3/S23")
     path = files.path("unlisted.rle", text)
     tally.expect("show, no room for a list of cells", run(["show", path], **within(UNLISTED)), figures(0, cells, f"0 0 {LISTED_SIDE} {LISTED_SIDE}", "rle"))
-    rows = [re.sub(r"(.)\1+", lambda run: f"{len(run[0])}{run[1]}", row.rstrip("b")) for row in text[:-2].split("\n", 1)[1].split("$\n")]
-    body = "\n".join(re.findall(r".{0,69}\D", "$".join(rows) + "!"))
+    body = rle.folded(rle.items_of("$".join(row.rstrip("b") for row in text[:-2].split("\n", 1)[1].split("$\n")) + "!"))
     wanted = f"#CXRLE Pos=0,0\nx = {LISTED_SIDE}, y = {LISTED_SIDE}, rule = B3/S23\n{body}\n"
     tally.expect("convert, no room for a list of cells", run(["convert", path, "--to", "rle"], **within(UNLISTED)), ample(wanted.encode()))
 

@@ -460,8 +460,7 @@ def try_soups(texts):
     """A random plane of 3 million cells, and one of 256 states."""
     chance = random.Random(3)
     rows = ["o" + "".join(chance.choices("bo", (1, 3), k=1998)) + "o" for _ in range(2000)]
-    items = re.findall(r"\d*[bo$!]", re.sub(r"(.)\1+", lambda it: f"{len(it[0])}{it[1]}", "$".join(rows)) + "!")
-    text = header("rle", 0, 0, 2000, 2000) + rle.folded(items).encode() + b"\n"
+    text = header("rle", 0, 0, 2000, 2000) + rle.folded(rle.items_of("$".join(rows) + "!")).encode() + b"\n"
     texts.round_trip("a random plane", text, "rle", sum(row.count("o") for row in rows), "0 0 2000 2000")
     table = texts.path("Wide", "@RULE Wide\n@TABLE\nn_states:256\nneighborhood:Moore\nsymmetries:none\n")
     cells = {(x, y): chance.randrange(1, 256) for x in range(500) for y in range(500) if chance.random() < 0.8}

@@ -9,6 +9,7 @@ import random
 import re
 import tempfile
 
+from lib import rle
 from lib.claim_text import ClaimText, outcome
 from lib.long_texts import BLINKER, BLOCK, MANY_LINES, long_text, spelled
 from lib.parts import over, try_all
@@ -222,7 +223,7 @@ def try_many_states(texts):
     """16777216 cells of three states: a run of a million of them, and then rows that don't repeat, which take 48 million bytes."""
     chance, left = random.Random(6), (1 << 24) - 1000000
     kinds = ["".join(chance.choices(".AB", (12, 1, 1), k=8000)) + "A" for _ in range(200)]
-    kinds = [(len(it) - it.count("."), re.sub(r"(.)\1+", lambda run: f"{len(run[0])}{run[1]}", it)) for it in kinds]
+    kinds = [(len(it) - it.count("."), "".join(rle.items_of(it))) for it in kinds]
     rows = ["1000000B"]
     while left:
         live, row = chance.choice(kinds)

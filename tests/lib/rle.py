@@ -60,6 +60,11 @@ def counted(count, tag):
     return f"{count if count > 1 else ''}{tag}"
 
 
+def items_of(tags):
+    """The items of tags of one byte each, in which equal ones side by side are counted."""
+    return [counted(len(run[0]), run[1]) for run in re.finditer(r"(.)\1*", tags)]
+
+
 def row_items(row, left, states):
     """The items of a row, given by the sorted places of its live cells and their states, without the dead cells at its end."""
     items, at, runs = [], left, []
