@@ -20,14 +20,14 @@ use Rattle.ca_pattern.specs.Written.{IsWrittenAs}
 use Rattle.ca_pattern.proofs.OpenedFiles.{pattern_written}
 use Rattle.ca_pattern.specs.PatternCells.{IsTreeOf}
 use Rattle.ca_pattern.proofs.PatternsRead.{reads_may_want}
-use Rattle.ca_pattern_runs.specs.declared.form.DrawRequest.{DrawRequest}
+use Rattle.ca_report.specs.declared.form.DrawRequest.{DrawRequest}
 use Rattle.ca_report.specs.declared.fault.ToolFault.{ToolFault}
 use Rattle.ca_report.specs.declared.fault.ToolFault.TheVariants.{Convert, Window, Write, Memory}
 use Rattle.ca_draw.specs.declared.view.WindowFault.{WindowFault}
-use Rattle.ca_pattern_runs.specs.declared.form.Form.{Form}
-use Rattle.ca_pattern_runs.specs.declared.form.Form.TheVariants.{Text, Picture}
-use Rattle.ca_pattern_runs.specs.declared.form.TextForm.{TextForm}
-use Rattle.ca_pattern_runs.specs.declared.form.TextForm.TheVariants as forms
+use Rattle.ca_report.specs.declared.form.Form.{Form}
+use Rattle.ca_report.specs.declared.form.Form.TheVariants.{Text, Picture}
+use Rattle.ca_report.specs.declared.form.TextForm.{TextForm}
+use Rattle.ca_report.specs.declared.form.TextForm.TheVariants as forms
 use Rattle.ca_pattern_runs.specs.Details.{IsRunDetailOf, HasRunDetail}
 use Rattle.ca_draw.specs.Views.{IsBoxShown}
 use Rattle.ca_pattern_runs.specs.Drawn.{IsPictureOf, IsCaptionOf, HasNoWindow, IsDrawnAfter, IsCaptionAfter}

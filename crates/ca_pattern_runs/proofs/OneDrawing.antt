@@ -18,14 +18,14 @@ use Rattle.ca_pattern.specs.declared.located_fault.LocatedFault.TheVariants.{Unr
 use Rattle.ca_pattern.specs.Evolved.{IsReachFault}
 use Rattle.ca_pattern.specs.LocatedFaults.{IsSameFault}
 use Rattle.ca_pattern.proofs.OneRun.{one_start, one_plane, evolved_or_fault, one_reach_fault}
-use Rattle.ca_pattern_runs.specs.declared.form.DrawRequest.{DrawRequest}
+use Rattle.ca_report.specs.declared.form.DrawRequest.{DrawRequest}
 use Rattle.ca_report.specs.declared.fault.ToolFault.{ToolFault}
 use Rattle.ca_report.specs.declared.fault.ToolFault.TheVariants.{Convert, Work, Window as NoWindow, Memory}
 use Rattle.ca_draw.specs.declared.view.Size.{Size}
 use Rattle.ca_draw.specs.declared.view.WindowFault.{WindowFault}
 use Rattle.ca_draw.specs.declared.view.WindowFault.TheVariants as window_fault
 use Rattle.ca_pattern_runs.specs.Captions.{caption_text}
-use Rattle.ca_pattern_runs.specs.declared.form.Form.TheVariants.{Picture}
+use Rattle.ca_report.specs.declared.form.Form.TheVariants.{Picture}
 use Rattle.ca_pattern_runs.specs.Drawn.{IsPictureOf, IsCaptionOf, HasNoWindow, HoldsOfLater, IsDrawnAfter, IsCaptionAfter}
 use Rattle.ca_pattern_runs.specs.Runs.{TellsPattern, IsFormFaultAfter, reported}
 use Rattle.ca_draw.specs.Views.{IsBoxShown, box_shown, ShowsWhole, HasScale, size_of, IsWindowFrom, IsNoWindowFrom}

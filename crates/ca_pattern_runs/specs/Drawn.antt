@@ -10,7 +10,7 @@ use Rattle.ca_rule.specs.Rule.{RuleValue, next_of, states_of}
 use Rattle.ca_draw.specs.declared.window.Window.{Window}
 use Rattle.ca_draw.specs.Drawings.{drawing}
 use Rattle.ca_pattern.specs.Evolved.{HoldsSmallRuledPattern}
-use Rattle.ca_pattern_runs.specs.declared.form.DrawRequest.{DrawRequest}
+use Rattle.ca_report.specs.declared.form.DrawRequest.{DrawRequest}
 use Rattle.ca_draw.specs.declared.view.WindowFault.{WindowFault}
 use Rattle.ca_pattern_runs.specs.Captions.{caption_text}
 use Rattle.ca_draw.specs.Views.{IsBoxShown, box_shown, IsWindowFor, IsNoWindowFor}

@@ -19,10 +19,10 @@ use Rattle.ca_report.specs.declared.fault.InputFault.{InputFault}
 use Rattle.ca_report.specs.declared.fault.InputFault.TheVariants as inputs
 use Rattle.ca_report.specs.declared.fault.ToolFault.{ToolFault}
 use Rattle.ca_report.specs.declared.fault.ToolFault.TheVariants.{Input, BadTable, Convert, GenTooLarge, Work, Range, Window, Memory}
-use Rattle.ca_pattern_runs.specs.declared.form.TextForm.{TextForm}
-use Rattle.ca_pattern_runs.specs.declared.form.TextForm.TheVariants as forms
-use Rattle.ca_pattern_runs.specs.declared.form.Form.{Form}
-use Rattle.ca_pattern_runs.specs.declared.form.Form.TheVariants.{Text, Picture}
+use Rattle.ca_report.specs.declared.form.TextForm.{TextForm}
+use Rattle.ca_report.specs.declared.form.TextForm.TheVariants as forms
+use Rattle.ca_report.specs.declared.form.Form.{Form}
+use Rattle.ca_report.specs.declared.form.Form.TheVariants.{Text, Picture}
 use Rattle.ca_pattern_runs.specs.Drawn.{IsDrawnAfter, IsCaptionAfter, HasNoWindowAfter}
 use Rattle.ca_pattern_runs.specs.Shown.{summary_text}
 use Rattle.ca_report.specs.Writing.{WritesOneOf}

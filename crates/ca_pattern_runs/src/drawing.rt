@@ -11,13 +11,13 @@ ghost use Rattle.ca_pattern_runs.specs.Drawn.{IsPictureOf, IsCaptionOf, IsDrawnA
 ghost use Rattle.ca_pattern_runs.specs.inner.Refusals.{IsUndrawn, IsUndrawnAfter};
 
 use crate::caption::caption;
-use crate::form::{DrawRequest, FormText};
+use crate::form::FormText;
 use ca_draw::laws::least_boxes;
 use ca_draw::{Style, draw};
 use ca_pattern::{Pattern, StoredTree};
 use ca_plane::{Automaton, Memory};
 use ca_quad::{Store, Tree, WideBounds};
-use ca_report::ToolFault;
+use ca_report::{DrawRequest, ToolFault};
 use std::alloc::Global;
 
 /// The box that is drawn of an empty plane.

@@ -3,12 +3,12 @@
 
 ghost use Rattle.std.specs.Prelude.{◌≡◌, ◌≢◌, ℕ, List};
 ghost use Rattle.ca_rule.specs.TableNext.{TableRule};
-ghost use Rattle.ca_pattern_runs.specs.declared.form.DrawRequest.{DrawRequest};
+ghost use Rattle.ca_report.specs.declared.form.DrawRequest.{DrawRequest};
 ghost use Rattle.ca_report.specs.declared.fault.ToolFault.{ToolFault};
 ghost use Rattle.ca_report.specs.declared.fault.ToolFault.TheVariants.{Work, Memory};
 ghost use Rattle.ca_pattern_runs.specs.Drawn.{IsDrawnAfter, IsCaptionAfter};
 ghost use Rattle.ca_pattern_runs.specs.Runs.{IsFormFaultAfter};
-ghost use Rattle.ca_pattern_runs.specs.declared.form.Form.TheVariants.{Picture};
+ghost use Rattle.ca_report.specs.declared.form.Form.TheVariants.{Picture};
 
 /// As it is asked for, one picture at most is drawn of a file, with one caption, or none for one cause, and not
 /// both; out of work and memory apart.

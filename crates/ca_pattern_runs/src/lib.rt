@@ -9,6 +9,7 @@ mod form_run;
 mod pattern_run;
 mod summary;
 
-pub use form::{DrawRequest, Evolution, Form, FormText, TextForm};
+pub use ca_report::{DrawRequest, Form, TextForm};
+pub use form::{Evolution, FormText};
 pub use form_run::{form_text, write_form};
 pub use pattern_run::{convert_run, show_run};

@@ -10,11 +10,10 @@ ghost use Rattle.ca_pattern_runs.specs.Runs.{AreKnownTables, IsShown, IsRuleFile
 ghost use Rattle.ca_pattern_runs.specs.Runs.{TellsConvert, IsFormOf, IsFormFault, WritesUnder};
 ghost use Rattle.ca_pattern_runs.specs.inner.Refusals.{IsReadingFault};
 
-use crate::form::TextForm;
 use crate::summary::summary_lines;
 use ca_pattern::{ConvertFault, Target, convert, summary};
 use ca_plane::{Dev, send};
-use ca_report::{ToolFault, read_all};
+use ca_report::{TextForm, ToolFault, read_all};
 use ca_rule::{Table, TableFault};
 use std::alloc::Global;
 use std::io::{Read, Write};

@@ -3,7 +3,7 @@ use Rattle.std.specs.Prelude.{ℕ, ℤ, List, Option}
 use Rattle.ca_report.specs.declared.fault.ToolFault.{ToolFault}
 use Rattle.ca_report.specs.declared.fault.ToolFault.TheVariants.{Input, Window, Memory}
 use Rattle.ca_pattern_runs.specs.Runs.{IsInputFault}
-use Rattle.ca_pattern_runs.specs.declared.form.DrawRequest.{DrawRequest}
+use Rattle.ca_report.specs.declared.form.DrawRequest.{DrawRequest}
 use Rattle.ca_pattern_runs.specs.Drawn.{HasNoWindow, HasNoWindowAfter}
 use Rattle.ca_rule.specs.TableNext.{TableRule}
 use Rattle.ca_pattern.specs.Means.{MayWantMemory}

@@ -1,7 +1,7 @@
 use Rattle.std.proofs.Common.{subst, sym}
 use Rattle.ca_report.specs.declared.detailed_fault.DetailedFault.{DetailedFault}
 use Rattle.ca_report.specs.declared.fault.ToolFault.{ToolFault}
-use Rattle.ca_pattern_runs.specs.declared.form.Form.{Form}
+use Rattle.ca_report.specs.declared.form.Form.{Form}
 use Rattle.ca_pattern_runs.specs.Details.{HasRunDetail}
 use Rattle.ca_pattern_runs.specs.Runs.{IsFormFaultAfter}
 use Rattle.ca_pattern_runs.proofs.DrawnFiles.{undrawn_told, text_detail}
