@@ -1,15 +1,9 @@
 -- What the words of a command line are taken for.
 use Rattle.std.specs.Prelude.{◌≡◌, ℕ, ◌*◌, ◌<◌, ◌^◌, min, max, List, Option, None, Some, option_map, unwrap_or, String, string_bytes}
-use Rattle.std.specs.Option.{option_or}
 use Rattle.std.specs.Str.Parse.{IsNumeral, digits_value, without_leading_plus}
 use Rattle.clap.specs.Matches.{found_of, one_text, first_value}
 use Rattle.clap.specs.declared.parser.matches.ArgMatches.{ArgMatches}
 use Rattle.ca_plane.specs.Limits.{most_memo, most_generations}
-use Rattle.ca_quad.specs.declared.tree.Spot.{Spot}
-use Rattle.ca_draw.specs.declared.drawing.ImageFormat.{ImageFormat}
-use Rattle.ca_draw.specs.declared.drawing.ImageFormat.TheVariants.{Text, Pgm}
-use Rattle.ca_draw.specs.declared.view.Size.{Size}
-use Rattle.ca_draw.specs.declared.view.View.{View}
 
 -- the text after a word, none where the word isn't there
 abbrev pub IsTextAfter : {A : Type 0} → ArgMatches → (name : List ℕ) → Option (String A) → Type 0
@@ -44,14 +38,3 @@ generations_of set = min (unwrap_or set 0) most_generations
 abbrev pub scale_of : (zoom scale : Option ℕ) → Option ℕ
 scale_of None scale = scale
 scale_of (Some zoom) scale = Some 0
-
--- the size that a terminal with this room gives a picture in place of the usual one: none to an image, nor to a whole box at a scale that is asked for
-abbrev pub room_for : ImageFormat → Option Spot → (scale : Option ℕ) → Option Size → Option Size
-room_for Pgm corner scale room = None
-room_for Text None (Some scale) room = None
-room_for Text None None room = room
-room_for Text (Some corner) scale room = room
-
--- the size of a picture: the one that is asked for, or else the one that the terminal gives
-abbrev pub size_on : ImageFormat → View → (room : Option Size) → Option Size
-size_on format view room = option_or view.size (room_for format view.corner view.scale room)

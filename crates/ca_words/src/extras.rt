@@ -1,4 +1,4 @@
-//! What a run on claims is asked for besides these, and how much each may take.
+//! What a run is asked for besides claims or patterns, and how much each of these may take.
 
 ghost use Rattle.std.specs.Prelude.{◌≡◌, codes};
 ghost use Rattle.ca_pattern.specs.Limited.{AreGoodLimits};
@@ -11,66 +11,49 @@ use ca_plane::limits::MOST_MEMO;
 use clap::{ArgMatches, Command};
 use std::alloc::{AllocError, Global};
 
-/// What a run of `verify` is asked for besides verdicts.
-#[derive(Clone, Copy)]
-pub struct Extras {
-    /// What more there is to tell of each answer.
-    pub explained: bool,
-    /// How far a long claim is.
-    pub progress: bool,
-    /// How many entries the memo of each claim may have, where that is set.
-    pub memo: Option<u64>,
-    /// How much work each claim may take, where that is set.
-    pub work: Option<u64>,
-    /// How many megabytes of squares and results a long run keeps, about, where that is set.
-    pub memory: Option<u64>,
-}
-
-impl Extras {
-    /// The limits of each claim.
-    pub fn limits(self) -> Limits
-        ensures good { AreGoodLimits result }
-        ensures memo { result.memo ≡ memo_of self.memo }
-        ensures work { result.work ≡ work_of self.work }
-    {
-        limits_of(self.memo, self.work)
-    }
-
-    /// How many squares a long run may keep.
-    pub fn most_squares(self) -> usize
-        ensures { result ≡ squares_of self.memory }
-    {
-        most_squares(self.memory)
-    }
-}
-
 // About how many squares, with what is remembered of them, a megabyte has room for.
 const SQUARES: u64 = 16384;
 
 // How many megabytes a long run keeps of them, unless that is set.
 const USUAL_MEMORY: u64 = 1024;
 
-/// How many squares a long run may keep, in so many megabytes. The words keep these within their limits, and a number outside
-/// is brought within.
-pub fn most_squares(memory: Option<u64>) -> usize
-    ensures { result ≡ squares_of memory }
-{
-    let memory = memory.unwrap_or(USUAL_MEMORY).clamp(1, MOST_MEMORY);
-    (SQUARES * memory) as usize
+/// What a run is asked for besides claims or patterns, and how much each of these may take.
+#[derive(Clone, Copy)]
+pub struct Extras {
+    /// What more there is to tell of each answer.
+    pub explained: bool,
+    /// How far each is that takes long.
+    pub progress: bool,
+    /// How many entries the memo of each may have, where that is set.
+    pub memo: Option<u64>,
+    /// How much work each may take, where that is set.
+    pub work: Option<u64>,
+    /// How many megabytes of squares and results a long run keeps, about, where that is set.
+    pub memory: Option<u64>,
 }
 
-/// The limits that are set, and else the usual ones. The words keep a memo within its limits, and one outside
-/// is brought within.
-pub fn limits_of(memo: Option<u64>, work: Option<u64>) -> Limits
-    ensures good { AreGoodLimits result }
-    ensures memo { result.memo ≡ memo_of memo }
-    ensures work { result.work ≡ work_of work }
-{
-    let usual = Limits::default();
-    let memo = memo.unwrap_or(usual.memo as u64).clamp(1, MOST_MEMO as u64);
-    Limits {
-        memo: memo as usize,
-        work: work.unwrap_or(usual.work),
+impl Extras {
+    /// The limits of each. The words keep a memo within its limits, and one outside is brought within.
+    pub fn limits(self) -> Limits
+        ensures good { AreGoodLimits result }
+        ensures memo { result.memo ≡ memo_of self.memo }
+        ensures work { result.work ≡ work_of self.work }
+    {
+        let usual = Limits::default();
+        let memo = self.memo.unwrap_or(usual.memo as u64);
+        Limits {
+            memo: memo.clamp(1, MOST_MEMO as u64) as usize,
+            work: self.work.unwrap_or(usual.work),
+        }
+    }
+
+    /// How many squares a long run may keep, in so many megabytes. The words keep these within their limits, and a number
+    /// outside is brought within.
+    pub fn most_squares(self) -> usize
+        ensures { result ≡ squares_of self.memory }
+    {
+        let memory = self.memory.unwrap_or(USUAL_MEMORY).clamp(1, MOST_MEMORY);
+        (SQUARES * memory) as usize
     }
 }
 

@@ -2,21 +2,14 @@
 #![tactic(auto)]
 
 mod arguments;
-mod drawing;
+mod commands;
 mod extras;
-mod identification;
-mod pattern;
 mod raw;
 mod request;
-mod texts;
 mod values;
-mod verification;
 mod words;
 
-pub use drawing::DrawWords;
+pub use commands::{Folders, PatternExtras, Search};
 pub use extras::Extras;
-pub use identification::IdentifyExtras;
-pub use pattern::PatternExtras;
 pub use request::{Request, WordsFault};
-pub use verification::Folders;
 pub use words::read_words;

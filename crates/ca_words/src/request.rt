@@ -1,44 +1,29 @@
 //! What the words of the command line ask for.
 
-use crate::drawing::DrawWords;
+use crate::commands::{Folders, PatternExtras, Search};
 use crate::extras::Extras;
-use crate::identification::IdentifyExtras;
-use crate::pattern::PatternExtras;
-use crate::verification::Folders;
-use ca_pattern::Target;
+use ca_report::Form;
 
 /// What the words ask for.
 #[derive(Drop)]
 pub enum Request {
-    /// What the pattern file at this path holds.
-    Show {
+    /// What is written of the pattern file at this path.
+    Write {
         path: String,
+        form: Form,
         extras: PatternExtras,
     },
-    /// The pattern file at this path in the target's format.
-    Convert {
-        path: String,
-        target: Target,
-        extras: PatternExtras,
-    },
-    /// A picture of the pattern file at this path.
-    Draw {
-        path: String,
-        words: DrawWords,
-        extras: PatternExtras,
-    },
-    /// A verdict for each claim of the texts at these paths, the folders in which files are looked for, and what more
-    /// is asked for.
+    /// A verdict for each claim of the texts at these paths.
     Verify {
         paths: Vec<String>,
         folders: Folders,
         extras: Extras,
     },
-    /// What is true of the patterns of the files at these paths, which needn't be UTF-8, and what more is given and asked
-    /// for.
+    /// What is true of the patterns of the files at these paths, which needn't be UTF-8.
     Identify {
         paths: Vec<Vec<u8>>,
-        extras: IdentifyExtras,
+        search: Search,
+        extras: PatternExtras,
     },
     /// This text, the help or the version.
     Help {
@@ -50,11 +35,10 @@ impl Request {
     /// The folder where rule files are looked for, if there is one.
     pub fn rules_folder(&self) -> Option<&str> {
         match self {
-            Request::Show { extras, .. }
-            | Request::Convert { extras, .. }
-            | Request::Draw { extras, .. } => path_text(&extras.folder),
+            Request::Write { extras, .. } | Request::Identify { extras, .. } => {
+                path_text(&extras.folder)
+            }
             Request::Verify { folders, .. } => path_text(&folders.rules),
-            Request::Identify { extras, .. } => path_text(&extras.folder),
             Request::Help { .. } => None,
         }
     }

@@ -16,7 +16,7 @@ use ca_tool::{
     Catalog, Content, Fault, InputFault, KnownRules, RunFiles, Subject, Task, ToolFault, complain,
     explain, has_explanation, is_claim_path,
 };
-use ca_words::IdentifyExtras;
+use ca_words::{PatternExtras, Search};
 use std::alloc::Global;
 use std::rt::{Clock, Files};
 
@@ -48,10 +48,11 @@ const OUT_OF_MEMORY: Fault = Fault::Tool(ToolFault::Memory);
 pub fn identify_files<R: Files + Clock + AllocGlobal>(
     rt: &R,
     paths: &[Vec<u8>],
-    extras: &IdentifyExtras,
+    search: Search,
+    extras: &PatternExtras,
     streams: &mut Streams,
 ) -> u8 {
-    match write_claims(rt, paths, extras, streams) {
+    match write_claims(rt, paths, search, extras, streams) {
         Ok(status) => status,
         Err(Failure { fault, path }) => {
             let _ = complain(&fault, path.as_bytes(), &mut streams.errors);
@@ -65,7 +66,8 @@ pub fn identify_files<R: Files + Clock + AllocGlobal>(
 fn write_claims<'a, R: Files + Clock + AllocGlobal>(
     rt: &R,
     paths: &[Vec<u8>],
-    extras: &'a IdentifyExtras,
+    search: Search,
+    extras: &'a PatternExtras,
     streams: &mut Streams,
 ) -> Result<u8, Failure<'a>> {
     if let Some(folder) = &extras.folder {
@@ -81,7 +83,7 @@ fn write_claims<'a, R: Files + Clock + AllocGlobal>(
     let Ok(files) = read_files(rt.alloc(), paths, &contents) else {
         return Err(Failure::of(OUT_OF_MEMORY));
     };
-    let catalog = match run(rt, paths, &contents, &rules, extras, streams) {
+    let catalog = match run(rt, paths, &contents, &rules, search, extras, streams) {
         Ok(catalog) => catalog,
         Err(fault) => return Err(Failure::of(Fault::Tool(fault))),
     };
@@ -214,7 +216,8 @@ fn run<'a, R: Files + Clock + AllocGlobal>(
     paths: &'a [Vec<u8>],
     contents: &'a [FileContent],
     rules: &RuleFiles,
-    extras: &IdentifyExtras,
+    search: Search,
+    extras: &PatternExtras,
     streams: &mut Streams,
 ) -> Result<Catalog<'a>, ToolFault> {
     let Ok(subjects) = subjects(rt.alloc(), paths, contents) else {
@@ -224,7 +227,7 @@ fn run<'a, R: Files + Clock + AllocGlobal>(
         paths: &rules.paths,
         tables: &rules.tables,
     };
-    let scope = scope_of(extras.limit);
+    let scope = scope_of(search.limit);
     let heading = Heading::Files {
         paths,
         after: extras.after(),
@@ -237,7 +240,7 @@ fn run<'a, R: Files + Clock + AllocGlobal>(
         generations: extras.after(),
         limits: extras.extras.limits(),
         scope,
-        codes: extras.codes,
+        codes: search.codes,
     };
     identify_run(
         rt.alloc(),
@@ -283,7 +286,7 @@ fn read_files<'a>(
 }
 
 // Tells the line of a faulty rule file that the words name, where that is asked for.
-fn explain_failure(fault: Fault, extras: &IdentifyExtras, streams: &mut Streams) {
+fn explain_failure(fault: Fault, extras: &PatternExtras, streams: &mut Streams) {
     if let (Fault::Tool(fault), Some(rule)) = (fault, &extras.rule) {
         if !extras.extras.explained {
             if has_explanation(fault) {

@@ -1,10 +1,11 @@
 //! The commands `show`, `convert` and `draw`.
 
 use crate::FAULT;
+use crate::terminal::{on_terminal, terminal_room};
+use ca_draw::ImageFormat;
 use ca_host::{FaultyFile, Heading, Progress, RuleFiles, Streams, open_source, read_file};
 use ca_pattern::File;
-use ca_plane::limits::MOST_GENERATIONS;
-use ca_plane::send;
+use ca_plane::{Dev, send};
 use ca_report::DetailedFault;
 use ca_rule::Table;
 use ca_tool::{
@@ -12,24 +13,42 @@ use ca_tool::{
     explain, form_text, has_explanation, read_all, write_form,
 };
 use ca_words::PatternExtras;
-use std::rt::{Clock, Files, Stdin};
+use std::io::IsTerminal;
+use std::rt::{Clock, Env, Files, Stdin, Stdout};
 
-/// What is written of a pattern file.
+// What is written of a pattern file.
 #[derive(Clone, Copy)]
-pub struct Asked {
-    pub form: Form,
-    /// Whether the line that tells of it goes to standard error.
-    pub captioned: bool,
+struct Asked {
+    form: Form,
+    // Whether the line that tells of it goes to standard error.
+    captioned: bool,
 }
 
-/// Writes what is asked of the pattern file of a path, and answers the exit status.
-pub fn write_pattern<R: Files + Clock + AllocGlobal>(
+// The form that the words ask for. On a terminal a picture that is text fits that, and has a caption.
+fn asked_of<R: Env + AllocGlobal>(rt: &R, form: Form, output: &Dev<Stdout>) -> Asked {
+    let Form::Picture(request) = form else {
+        return Asked {
+            form,
+            captioned: false,
+        };
+    };
+    let is_terminal = output.inner().is_terminal();
+    let room = if is_terminal { terminal_room(rt) } else { None };
+    Asked {
+        form: Form::Picture(on_terminal(request, room)),
+        captioned: is_terminal && request.format == ImageFormat::Text,
+    }
+}
+
+/// Writes this form of the pattern file of a path, and answers the exit status.
+pub fn write_pattern<R: Env + Files + Clock + AllocGlobal>(
     rt: &R,
     path: &str,
-    asked: Asked,
+    form: Form,
     extras: &PatternExtras,
     streams: &mut Streams,
 ) -> u8 {
+    let asked = asked_of(rt, form, &streams.output);
     let (bytes, rule) = match load(rt, path, &extras.rule, streams.input) {
         Ok(loaded) => loaded,
         Err(UnreadFile { fault, path }) => {
@@ -140,16 +159,14 @@ fn run<R: Clock + AllocGlobal>(
     extras: &PatternExtras,
     streams: &mut Streams,
 ) -> Result<u8, DetailedFault<ToolFault>> {
-    // The words keep the generations within their limit, and more are brought within.
-    let generations = extras.after.unwrap_or(0).min(MOST_GENERATIONS);
     let evolution = Evolution {
-        generations,
-        limits: extras.limits(),
+        generations: extras.after(),
+        limits: extras.extras.limits(),
     };
     let heading = Heading::Run { path: pattern.path };
-    let squares = extras.most_squares();
+    let squares = extras.extras.most_squares();
     let errors = &mut streams.errors;
-    let mut observer = Progress::new(rt, errors, heading, extras.progress, squares);
+    let mut observer = Progress::new(rt, errors, heading, extras.extras.progress, squares);
     let observer = &mut observer;
     let (alloc, bytes, form) = (rt.alloc(), pattern.bytes, asked.form);
     if asked.captioned {
@@ -213,7 +230,7 @@ fn refuse(
 ) -> u8 {
     let fault = Fault::Tool(refused.fault);
     let _ = complain(&fault, files.pattern.path, &mut streams.errors);
-    if extras.explained {
+    if extras.extras.explained {
         let _ = explain(refused, files, &mut streams.errors);
     } else if has_explanation(refused.fault) {
         streams.suggest_explain();

@@ -1,9 +1,11 @@
 //! The terminal that a picture is drawn on.
 
 ghost use Rattle.std.specs.Prelude.{◌≡◌, ◌<◌, ℕ, min, max, MatchOption};
-ghost use Rattle.cafile.specs.Terminals.{IsCountText, terminal_side, room_in};
+ghost use Rattle.cafile.specs.Terminals.{IsCountText, terminal_side, room_in, room_for, size_on};
 
-use ca_draw::{MOST_SIDE, Size};
+use ca_draw::{ImageFormat, MOST_SIDE, Size, View};
+use ca_quad::Spot;
+use ca_tool::DrawRequest;
 use std::env;
 use std::rt::Env;
 
@@ -48,4 +50,38 @@ fn side_of(count: u64) -> u16
     ensures { result ≡ terminal_side count }
 {
     count.clamp(1, u64::from(MOST_SIDE)) as u16
+}
+
+/// What is asked for of a picture on a terminal that has this room, if that is known: a text fits it, unless another size or
+/// the scale of a whole box is asked for.
+pub fn on_terminal(request: DrawRequest, room: Option<Size>) -> DrawRequest
+    ensures size { result.view.size ≡ size_on request.format request.view room }
+    ensures corner { result.view.corner ≡ request.view.corner }
+    ensures scale { result.view.scale ≡ request.view.scale }
+    ensures zoom { result.view.zoom ≡ request.view.zoom }
+    ensures format { result.format ≡ request.format }
+{
+    let DrawRequest { view, format } = request;
+    let room = room_for(format, view.corner, view.scale, room);
+    let size = view.size.or(room);
+    DrawRequest {
+        view: View { size, ..view },
+        format,
+    }
+}
+
+// The size that a terminal with this room gives a picture in place of the usual one.
+fn room_for(
+    format: ImageFormat,
+    corner: Option<Spot>,
+    scale: Option<u8>,
+    room: Option<Size>,
+) -> Option<Size>
+    ensures { result ≡ room_for format corner scale room }
+{
+    match (format, corner, scale) {
+        (ImageFormat::Pgm, _, _) => None,
+        (ImageFormat::Text, None, Some(_)) => None,
+        (ImageFormat::Text, _, _) => room,
+    }
 }

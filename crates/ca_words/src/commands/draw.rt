@@ -1,68 +1,58 @@
-//! The words of `draw`.
+//! The command `draw`.
 
 ghost use Rattle.std.specs.Prelude.{◌≡◌, ◌≢◌, ℕ, ◌≤◌, pos, unwrap_or, MatchOption};
-ghost use Rattle.ca_words.specs.Words.{scale_of, room_for, size_on};
+ghost use Rattle.ca_words.specs.Words.{scale_of};
 
 use crate::arguments::{file_word, value_word, with_rule_words};
-use crate::pattern::{after_word, pattern_extras, with_limits};
+use crate::commands::pattern::{after_word, pattern_help, with_limits, write_request};
 use crate::request::{Request, WordsFault};
-use crate::texts;
-use crate::values::value_of;
 use ca_draw::{ImageFormat, MOST_SIDE, Size, View};
 use ca_quad::Spot;
+use ca_report::{DrawRequest, Form};
 use clap::{Arg, ArgMatches, Command, value_parser};
 use std::alloc::{AllocError, Global};
 
-/// What a run of `draw` is asked for.
-#[derive(Clone, Copy)]
-pub struct DrawWords {
-    /// The window.
-    pub view: View,
-    /// What the picture is written as.
-    pub format: ImageFormat,
-}
+const HELP: &str = pattern_help!(
+    "The plane is drawn row by row: `.` where no cell is live, and `o` where one is. At scale K each character
+stands for 2^K by 2^K cells, and is `o` if one of them is live; the squares begin at multiples of 2^K. At scale
+0 the states of a rule with more than two are letters: A to X for 1 to 24, a to x for 25 to 48, and * above.
 
-impl DrawWords {
-    /// What is asked for on a terminal that has this room, if that is known: a text fits it, unless another size or the
-    /// scale of a whole box is asked for.
-    pub fn on_terminal(self, room: Option<Size>) -> DrawWords
-        ensures size { result.view.size ≡ size_on self.format self.view room }
-        ensures corner { result.view.corner ≡ self.view.corner }
-        ensures scale { result.view.scale ≡ self.view.scale }
-        ensures zoom { result.view.zoom ≡ self.view.zoom }
-        ensures format { result.format ≡ self.format }
-    {
-        let view = self.view;
-        let room = room_for(self.format, view.corner, view.scale, room);
-        let size = view.size.or(room);
-        DrawWords {
-            view: View { size, ..view },
-            format: self.format,
-        }
-    }
-}
+  without words   all live cells, at the smallest scale at which they fit into 80 by 40 characters
+  --size W,H      all live cells, at the smallest scale at which they fit into W by H
+  --scale K       all live cells at scale K, in at most 8192 by 8192; with --size, in at most W by H
+  --at X,Y        80 by 40 characters at scale 0, with the cell X,Y in the upper left one; with --size, W by H;
+                  with --scale, at scale K. X grows to the right, and Y downward.
+On a terminal, its columns and all but two of its lines stand in place of 80 by 40, and a line on standard error
+tells the box of the live cells, the scale and the generation, as `box 0 0 36 9, scale 0, gen 0`.
 
-// The size that a terminal with this room gives a picture in place of the usual one.
-fn room_for(
-    format: ImageFormat,
-    corner: Option<Spot>,
-    scale: Option<u8>,
-    room: Option<Size>,
-) -> Option<Size>
-    ensures { result ≡ room_for format corner scale room }
-{
-    match (format, corner, scale) {
-        (ImageFormat::Pgm, _, _) => None,
-        (ImageFormat::Text, None, Some(_)) => None,
-        (ImageFormat::Text, _, _) => room,
-    }
-}
+An empty plane is drawn as the cell 0,0 alone. `window too large` says that the cells don't fit, and `window
+out of range` that the window reaches beyond the columns and rows from -2^124 to 2^124 - 1 of its scale.
 
-/// The command `draw`.
-pub fn draw_command<'a>(alloc: Global) -> Result<Command<'a>, AllocError> {
+--to pgm writes an image that most viewers open: all live cells in at most 1024 by 1024 pixels, or 1024 by 1024
+with --at. White is no live cell, black is a live one, and states above 1 are lighter greys. --zoom K draws each
+cell as K by K pixels, at scale 0: all live cells in at most 8192 by 8192 pixels, or W by H with --size.
+
+--after N draws the plane N generations later. --memo, --work and --max-memory are limits for that, as for verify: a
+run that needs more than --work units of work ends as `work`.
+
+",
+    "The status is 0, or 2 where the pattern can't be drawn. Then standard error says why.
+
+Examples:
+  cafile draw examples/glider.rle
+  cafile draw examples/gun.rle --after 300 --size 60,30
+  cafile draw examples/glider.rle --at -2,-2 --size 10,6
+  cafile draw examples/tables/wireworld_clock.rle --rule examples/tables/wireworld.rule
+  cafile draw examples/macrocell/gun.mc --to pgm --scale 0 --after 1000
+  cafile draw examples/glider.rle --to pgm --zoom 16
+  cat examples/glider.rle | cafile draw -"
+);
+
+/// The command with its words.
+pub fn command<'a>(alloc: Global) -> Result<Command<'a>, AllocError> {
     let draw = Command::new(alloc, "draw")
         .about("Draws a window of the plane, as text or as an image, to standard output")
-        .after_help(texts::DRAW)
+        .after_help(HELP)
         .args(vec![in alloc;
             file_word(alloc),
             corner_word(alloc),
@@ -125,19 +115,13 @@ fn format_word<'a>(alloc: Global) -> Arg<'a> {
     .value_parser(["text", "pgm"].as_slice())
 }
 
-/// What the words of `draw` ask for.
-pub fn draw_request(alloc: Global, words: &ArgMatches<'_>) -> Result<Request, WordsFault> {
-    let path = value_of(alloc, words, "FILE")?;
-    let extras = pattern_extras(alloc, words)?;
-    let words = draw_words(alloc, words)?;
-    Ok(Request::Draw {
-        path,
-        words,
-        extras,
-    })
+/// What its words ask for.
+pub fn request(alloc: Global, words: &ArgMatches<'_>) -> Result<Request, WordsFault> {
+    let form = Form::Picture(draw_request(alloc, words)?);
+    write_request(alloc, words, form)
 }
 
-fn draw_words(alloc: Global, words: &ArgMatches<'_>) -> Result<DrawWords, WordsFault> {
+fn draw_request(alloc: Global, words: &ArgMatches<'_>) -> Result<DrawRequest, WordsFault> {
     let format = format_of(words);
     let scale: Option<u8> = words.get_one("scale");
     let zoom: Option<u8> = words.get_one("zoom");
@@ -146,7 +130,7 @@ fn draw_words(alloc: Global, words: &ArgMatches<'_>) -> Result<DrawWords, WordsF
     }
     let corner = corner_value(alloc, words)?;
     let size = size_of(alloc, words)?;
-    Ok(DrawWords {
+    Ok(DrawRequest {
         view: view_of(corner, size, scale, zoom),
         format,
     })

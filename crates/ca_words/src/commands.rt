@@ -1,0 +1,61 @@
+//! The commands of the program. Each has its words and its help in a file of its own.
+
+mod convert;
+mod draw;
+mod identify;
+mod pattern;
+mod show;
+mod verify;
+
+use crate::request::{Request, WordsFault};
+use clap::{ArgMatches, Command};
+pub use identify::Search;
+pub use pattern::PatternExtras;
+use std::alloc::{AllocError, Global};
+pub use verify::Folders;
+
+const HELP: &str = "Examples:
+  cafile show examples/glider.rle
+  cafile identify examples/glider.rle examples/blinker.rle
+  cafile convert examples/glider.rle --to mc
+  cafile draw examples/glider.rle
+  cafile convert examples/gun.rle --after 1000 --to mc
+  cafile verify --explain examples/several.claims
+
+`cafile verify --help` tells how claims are written.";
+
+/// The program with its commands, in the order in which the help lists them.
+pub fn program<'a>(alloc: Global) -> Result<Command<'a>, AllocError> {
+    Command::new(alloc, "cafile")
+        .version("0.1.0")
+        .about(
+            "Reads and writes Golly's pattern files, and gives proved verdicts on claims about them",
+        )
+        .after_help(HELP)
+        .subcommand_required(true)
+        .subcommands(vec![in alloc;
+            show::command(alloc)?,
+            convert::command(alloc)?,
+            draw::command(alloc)?,
+            verify::command(alloc)?,
+            identify::command(alloc)?,
+        ]?)
+}
+
+/// What the words of a command ask for. A command and its words are required, so that clap finds them wherever it finds
+/// no fault. Words that aren't UTF-8 are paths that `identify` tells of, or a fault.
+pub fn request_of(
+    alloc: Global,
+    matches: &ArgMatches<'_>,
+    raw: Vec<Vec<u8>>,
+) -> Result<Request, WordsFault> {
+    match matches.subcommand() {
+        Some(("identify", words)) => identify::request(alloc, words, raw),
+        _ if !raw.is_empty() => Err(WordsFault::Usage),
+        Some(("show", words)) => show::request(alloc, words),
+        Some(("convert", words)) => convert::request(alloc, words),
+        Some(("draw", words)) => draw::request(alloc, words),
+        Some(("verify", words)) => verify::request(alloc, words),
+        _ => Err(WordsFault::Usage),
+    }
+}

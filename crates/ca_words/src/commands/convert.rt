@@ -1,0 +1,56 @@
+//! The command `convert`.
+
+use crate::arguments::{file_word, value_word};
+use crate::commands::pattern::{pattern_help, with_pattern_words, write_request};
+use crate::request::{Request, WordsFault};
+use ca_pattern::Target;
+use ca_report::{Form, TextForm};
+use clap::{Arg, ArgMatches, Command};
+use std::alloc::{AllocError, Global};
+
+const HELP: &str = pattern_help!(
+    "What is printed is a whole file in the wanted format: the same cells in the same places, with the rule and
+the generation.
+
+",
+    after "writes",
+    "The status is 0, or 2 where the pattern can't be converted. Then standard error says why.
+
+Examples:
+  cafile convert examples/glider.rle --to mc
+  cafile convert examples/gun.rle --after 1000 --to mc
+  cafile convert examples/tables/spread_1.rle --to mc --rule examples/tables/spread.rule
+  cafile convert examples/tables/spread_1.rle --to mc --rules examples/rules
+  cat examples/macrocell/gun.mc | cafile convert - --to rle"
+);
+
+/// The command with its words.
+pub fn command<'a>(alloc: Global) -> Result<Command<'a>, AllocError> {
+    let convert = Command::new(alloc, "convert")
+        .about("Writes the pattern of a file in a format to standard output")
+        .after_help(HELP)
+        .arg(file_word(alloc))?
+        .arg(target_word(alloc))?;
+    with_pattern_words(alloc, convert)
+}
+
+fn target_word<'a>(alloc: Global) -> Arg<'a> {
+    value_word(
+        alloc,
+        "to",
+        "FORMAT",
+        "The format to write: extended RLE or macrocell",
+    )
+    .required(true)
+    .value_parser(["rle", "mc"].as_slice())
+}
+
+/// What its words ask for.
+pub fn request(alloc: Global, words: &ArgMatches<'_>) -> Result<Request, WordsFault> {
+    let target = match words.get_str("to") {
+        Some("rle") => Target::Rle,
+        Some("mc") => Target::Mc,
+        _ => return Err(WordsFault::Usage),
+    };
+    write_request(alloc, words, Form::Text(TextForm::File(target)))
+}
