@@ -36,6 +36,17 @@ pub fn file_word<'a>(alloc: Global) -> Arg<'a> {
     )
 }
 
+/// The format to write.
+pub fn target_word<'a>(alloc: Global) -> Arg<'a> {
+    value_word(
+        alloc,
+        "to",
+        "FORMAT",
+        "The format to write: extended RLE or macrocell",
+    )
+    .value_parser(["rle", "mc"].as_slice())
+}
+
 /// The folder of `--rules`.
 pub fn folder_word<'a>(alloc: Global) -> Arg<'a> {
     value_word(

@@ -3,13 +3,16 @@
 mod convert;
 mod draw;
 mod identify;
+mod import;
 mod pattern;
+mod rule;
 mod show;
 mod verify;
 
 use crate::request::{Request, WordsFault};
 use clap::{ArgMatches, Command};
 pub use identify::Search;
+pub use import::ImportWords;
 pub use pattern::PatternExtras;
 use std::alloc::{AllocError, Global};
 pub use verify::Folders;
@@ -21,6 +24,8 @@ const HELP: &str = "Examples:
   cafile draw examples/glider.rle
   cafile convert examples/gun.rle --after 1000 --to mc
   cafile verify --explain examples/several.claims
+  cafile import examples/other/glider.cells
+  cafile rule B2-a/S12
 
 `cafile verify --help` tells how claims are written.";
 
@@ -39,6 +44,8 @@ pub fn program<'a>(alloc: Global) -> Result<Command<'a>, AllocError> {
             draw::command(alloc)?,
             verify::command(alloc)?,
             identify::command(alloc)?,
+            import::command(alloc)?,
+            rule::command(alloc)?,
         ]?)
 }
 
@@ -56,6 +63,8 @@ pub fn request_of(
         Some(("convert", words)) => convert::request(alloc, words),
         Some(("draw", words)) => draw::request(alloc, words),
         Some(("verify", words)) => verify::request(alloc, words),
+        Some(("import", words)) => import::request(alloc, words),
+        Some(("rule", words)) => rule::request(alloc, words),
         _ => Err(WordsFault::Usage),
     }
 }

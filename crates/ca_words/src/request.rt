@@ -1,6 +1,6 @@
 //! What the words of the command line ask for.
 
-use crate::commands::{Folders, PatternExtras, Search};
+use crate::commands::{Folders, ImportWords, PatternExtras, Search};
 use crate::extras::Extras;
 use ca_report::Form;
 
@@ -25,6 +25,12 @@ pub enum Request {
         search: Search,
         extras: PatternExtras,
     },
+    /// The pattern of a file in another format.
+    Import(ImportWords),
+    /// The rule file of the rule that this text names.
+    RuleFile {
+        text: String,
+    },
     /// This text, the help or the version.
     Help {
         text: String,
@@ -39,7 +45,7 @@ impl Request {
                 path_text(&extras.folder)
             }
             Request::Verify { folders, .. } => path_text(&folders.rules),
-            Request::Help { .. } => None,
+            Request::Import(_) | Request::RuleFile { .. } | Request::Help { .. } => None,
         }
     }
 

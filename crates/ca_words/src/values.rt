@@ -4,6 +4,7 @@ ghost use Rattle.std.specs.Prelude.{◌≡◌, Some, string_bytes, IfOk};
 ghost use Rattle.ca_words.specs.Words.{IsTextAfter, IsNumberAfter};
 
 use crate::request::WordsFault;
+use ca_pattern::Target;
 use clap::ArgMatches;
 use std::alloc::Global;
 
@@ -64,4 +65,13 @@ pub fn number_value(words: &ArgMatches<'_>, name: &str) -> Option<u64>
     ensures { IsNumberAfter words.now name.now result }
 {
     words.get_one(name)
+}
+
+/// The format to write, where the words say one.
+pub fn target_of(words: &ArgMatches<'_>) -> Option<Target> {
+    match words.get_str("to") {
+        Some("rle") => Some(Target::Rle),
+        Some("mc") => Some(Target::Mc),
+        _ => None,
+    }
 }

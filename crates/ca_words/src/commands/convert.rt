@@ -1,11 +1,11 @@
 //! The command `convert`.
 
-use crate::arguments::{file_word, value_word};
+use crate::arguments::{file_word, target_word};
 use crate::commands::pattern::{pattern_help, with_pattern_words, write_request};
 use crate::request::{Request, WordsFault};
-use ca_pattern::Target;
+use crate::values::target_of;
 use ca_report::{Form, TextForm};
-use clap::{Arg, ArgMatches, Command};
+use clap::{ArgMatches, Command};
 use std::alloc::{AllocError, Global};
 
 const HELP: &str = pattern_help!(
@@ -30,27 +30,14 @@ pub fn command<'a>(alloc: Global) -> Result<Command<'a>, AllocError> {
         .about("Writes the pattern of a file in a format to standard output")
         .after_help(HELP)
         .arg(file_word(alloc))?
-        .arg(target_word(alloc))?;
+        .arg(target_word(alloc).required(true))?;
     with_pattern_words(alloc, convert)
-}
-
-fn target_word<'a>(alloc: Global) -> Arg<'a> {
-    value_word(
-        alloc,
-        "to",
-        "FORMAT",
-        "The format to write: extended RLE or macrocell",
-    )
-    .required(true)
-    .value_parser(["rle", "mc"].as_slice())
 }
 
 /// What its words ask for.
 pub fn request(alloc: Global, words: &ArgMatches<'_>) -> Result<Request, WordsFault> {
-    let target = match words.get_str("to") {
-        Some("rle") => Target::Rle,
-        Some("mc") => Target::Mc,
-        _ => return Err(WordsFault::Usage),
+    let Some(target) = target_of(words) else {
+        return Err(WordsFault::Usage);
     };
     write_request(alloc, words, Form::Text(TextForm::File(target)))
 }

@@ -1,0 +1,80 @@
+//! The command `import`.
+
+ghost use Rattle.std.specs.Prelude.{codes, IfOk};
+ghost use Rattle.ca_words.specs.Words.{IsTextAfter};
+
+use crate::arguments::{target_word, value_word};
+use crate::request::{Request, WordsFault};
+use crate::values::{path_value, target_of, value_of};
+use ca_pattern::Target;
+use clap::{Arg, ArgMatches, Command};
+use std::alloc::{AllocError, Global};
+
+const HELP: &str =
+    "The pattern of a file in another format is printed as RLE, or with --to mc as macrocell: the same cells in the
+same places, which all other commands read, and Golly too. The text says which format it is:
+  Life 1.06, Life 1.05   the first line is `#Life 1.06` or `#Life 1.05`
+  plaintext (.cells)     comments begin with `!`, and rows are made of `.` and `O`
+  an apgcode             the only word of the text, as xq4_153
+
+--rule TEXT is the rule of a text that names none: as 23/36, 345/2/4, or the name of a rule table. Unless it is
+given, that is B3/S23. Only Life 1.05 can name a rule of its own.
+
+The status is 0, or 2 where the text is in none of these formats, or faulty. Then standard error says why, with
+the number of the first faulty line.
+
+Examples:
+  cafile import examples/other/glider.cells
+  cafile import examples/other/glider.lif --to mc
+  cafile import examples/other/glider.cells --rule B2-a/S12
+  echo xq4_153 | cafile import -";
+
+/// What is imported.
+#[derive(Drop)]
+pub struct ImportWords {
+    /// The path of the file.
+    pub path: String,
+    /// The format that is written: RLE unless the words say another.
+    pub target: Target,
+    /// The rule of a text that names none, where it is given.
+    pub rule: Option<String>,
+}
+
+/// The command with its words.
+pub fn command<'a>(alloc: Global) -> Result<Command<'a>, AllocError> {
+    Command::new(alloc, "import")
+        .about("Translates a pattern of another format into RLE or macrocell")
+        .after_help(HELP)
+        .args(vec![in alloc;
+            source_word(alloc),
+            target_word(alloc),
+            value_word(
+                alloc,
+                "rule",
+                "TEXT",
+                "The rule of a text that names none; unless given, B3/S23",
+            ),
+        ]?)
+}
+
+fn source_word<'a>(alloc: Global) -> Arg<'a> {
+    Arg::new(alloc, "FILE").required(true).help(
+        "The path of the file: Life 1.06, Life 1.05, plaintext, or an apgcode; - is standard input",
+    )
+}
+
+/// What its words ask for.
+pub fn request(alloc: Global, words: &ArgMatches<'_>) -> Result<Request, WordsFault> {
+    let import = import_of(alloc, words)?;
+    Ok(Request::Import(import))
+}
+
+fn import_of(alloc: Global, words: &ArgMatches<'_>) -> Result<ImportWords, WordsFault>
+    ensures rule { IfOk result (λ import. IsTextAfter words.now (codes "rule") import.rule) }
+{
+    Ok(ImportWords {
+        path: value_of(alloc, words, "FILE")?,
+        target: target_of(words).unwrap_or(Target::Rle),
+        rule: path_value(alloc, words, "rule")?,
+    })
+}

@@ -1,0 +1,39 @@
+//! The command `rule`.
+
+use crate::request::{Request, WordsFault};
+use crate::values::value_of;
+use clap::{Arg, ArgMatches, Command};
+use std::alloc::{AllocError, Global};
+
+const HELP: &str =
+    "A rule file is printed whose @RULE line has the name TEXT, and whose @TABLE is TEXT's rule. TEXT is
+  an isotropic rule      in Hensel's notation, as B2-a/S12
+  a MAP string           MAP and 86 characters
+  a B/S rule             as B3/S23, for programs that read tables alone
+
+A pattern under an isotropic rule is then run with that file: by --rule, by the line `rule PATH` of a claim text,
+or in Golly.
+
+The status is 0, or 2 where TEXT is no such rule. Then standard error says why.
+
+Examples:
+  cafile rule B2-a/S12 > b2a.rule
+  cafile show examples/other/isotropic.rle --rule b2a.rule";
+
+/// The command with its words.
+pub fn command<'a>(alloc: Global) -> Result<Command<'a>, AllocError> {
+    Command::new(alloc, "rule")
+        .about("Writes an isotropic rule, a MAP string or a B/S rule as a rule file")
+        .after_help(HELP)
+        .arg(
+            Arg::new(alloc, "TEXT")
+                .required(true)
+                .help("The rule, as B2-a/S12"),
+        )
+}
+
+/// What its words ask for.
+pub fn request(alloc: Global, words: &ArgMatches<'_>) -> Result<Request, WordsFault> {
+    let text = value_of(alloc, words, "TEXT")?;
+    Ok(Request::RuleFile { text })
+}

@@ -1,0 +1,62 @@
+//! The commands `import` and `rule`, which write files that other commands read.
+
+use crate::{FAULT, write_text};
+use ca_host::{Streams, read_source};
+use ca_import::{ImportTarget, complain as complain_of_import, import_text};
+use ca_isotropic::{RuleFileFault, rule_file};
+use ca_pattern::{ConvertFault, Target};
+use ca_tool::{Fault, ToolFault, complain};
+use ca_words::ImportWords;
+use std::rt::Files;
+
+/// The rule of a text that names none, unless the words give one.
+const USUAL_RULE: &[u8] = b"B3/S23";
+
+/// Writes the pattern of a file in another format, and answers the exit status.
+pub fn import_file<R: Files + AllocGlobal>(
+    rt: &R,
+    words: &ImportWords,
+    streams: &mut Streams,
+) -> u8 {
+    let path = words.path.as_str();
+    let bytes = match read_source(rt, path, streams.input) {
+        Ok(bytes) => bytes,
+        Err(fault) => return refuse(&Fault::Input(fault), path.as_bytes(), streams),
+    };
+    let rule = match &words.rule {
+        Some(rule) => rule.as_bytes(),
+        None => USUAL_RULE,
+    };
+    match import_text(rt.alloc(), &bytes, rule, import_target(words.target)) {
+        Ok(text) => write_text(&text, streams),
+        Err(fault) => {
+            let _ = complain_of_import(&fault, &mut streams.errors);
+            FAULT
+        }
+    }
+}
+
+fn import_target(target: Target) -> ImportTarget {
+    match target {
+        Target::Rle => ImportTarget::Rle,
+        Target::Mc => ImportTarget::Macrocell,
+    }
+}
+
+/// Writes the rule file of the rule that a text names, and answers the exit status.
+pub fn write_rule_file<R: AllocGlobal>(rt: &R, text: &str, streams: &mut Streams) -> u8 {
+    match rule_file(rt.alloc(), text.as_bytes()) {
+        Ok(file) => write_text(&file, streams),
+        Err(RuleFileFault::Rule(fault)) => {
+            let fault = ToolFault::Convert(ConvertFault::BadRule(fault));
+            refuse(&Fault::Tool(fault), b"", streams)
+        }
+        Err(RuleFileFault::Memory) => refuse(&Fault::Tool(ToolFault::Memory), b"", streams),
+    }
+}
+
+// Reports a fault, and answers the exit status.
+fn refuse(fault: &Fault, path: &[u8], streams: &mut Streams) -> u8 {
+    let _ = complain(fault, path, &mut streams.errors);
+    FAULT
+}
