@@ -44,8 +44,8 @@ MISTAKES = {
 # What the last line of an explained run says of some of these, word for word; None where there is no such line.
 WORDS = {
     "byte order mark": rb"sed '1s/^\xef\xbb\xbf//' FILE", "gzip": b"gunzip -c FILE", "gzip of a macrocell": b"gunzip -c FILE",
-    "plaintext": b"open it in Golly and save it as RLE",
-    "Life 1.05": b"open it in Golly and save it as RLE", "Life 1.06": b"open it in Golly and save it as RLE",
+    "plaintext": b"cafile import FILE",
+    "Life 1.05": b"cafile import FILE", "Life 1.06": b"open it in Golly and save it as RLE",
     "no commas": b"write the header as x = 3, y = 3, rule = B3/S23",
     "CR alone": rb"tr '\r' '\n' < FILE", "CR alone after a comment": rb"tr '\r' '\n' < FILE", "cut off": b"get the file again, or put ! at its end",
     "another letter": b"look for bytes other than b o . $ !, A to X, p to y and digits", "a rule line of XLife": b"write the rule into the header",
@@ -69,7 +69,7 @@ SEEMING = {
     "a comment on life": (b"#life 1.05\n.*\n", "rle header", b"write the header as x = 3, y = 3, rule = B3/S23"),
     "CR and LF": (GOOD[:-2].replace(b"\n", b"\r\n"), "rle no end", b"get the file again, or put ! at its end"),
     "CR and one LF": (GOOD[:-2].replace(b"\n", b"\r") + b"\n", "rle no end", b"get the file again, or put ! at its end"),
-    "an end alone": (b"!", "rle header", b"open it in Golly and save it as RLE"),
+    "an end alone": (b"!", "rle header", b"cafile import FILE"),
     "nothing": (b"", "rle header", b"write the header as x = 3, y = 3, rule = B3/S23"),
     "a byte order mark before a faulty item": (GOOD.replace(b"3o", b"\xef\xbb\xbf3o"), "rle syntax",
                                                b"look for bytes other than b o . $ !, A to X, p to y and digits"),

@@ -16,7 +16,7 @@ use Rattle.ca_pattern.specs.declared.convert_fault.ConvertFault.TheVariants as c
 use Rattle.ca_report.specs.declared.fault.ToolFault.{ToolFault}
 use Rattle.ca_report.specs.declared.fault.ToolFault.TheVariants as tools
 use Rattle.ca_report.specs.declared.remedy.Remedy.{Remedy}
-use Rattle.ca_report.specs.declared.remedy.Remedy.TheVariants.{DropMark, Unpack, SaveAsRle, BreakLines, WriteHeader, WriteEnd, FindByte, MoveRule, MendState, NameFolder, CutRule, SavePlane, ClaimBecomes, ToMacrocell, AllowWork}
+use Rattle.ca_report.specs.declared.remedy.Remedy.TheVariants.{DropMark, Unpack, Import, BreakLines, WriteHeader, WriteEnd, FindByte, MoveRule, MendState, NameFolder, CutRule, SavePlane, ClaimBecomes, ToMacrocell, AllowWork}
 use Rattle.ca_report.specs.Escaped.{escaped}
 use Rattle.ca_report.specs.RulePaths.{is_file_name}
 
@@ -34,7 +34,7 @@ abbrev pub unread_remedy : List ℕ → Remedy → Remedy
 unread_remedy bytes otherwise =
     if begins bytes (239 ∷ 187 ∷ 191 ∷ []) then DropMark
     else (if begins bytes (31 ∷ 139 ∷ []) then Unpack
-    else (if begins bytes (codes "#Life 1.0") || begins bytes (codes "!") then SaveAsRle
+    else (if begins bytes (codes "#Life 1.0") || begins bytes (codes "!") then Import
     else (if has 13 bytes && not (has 10 bytes) then BreakLines else otherwise)))
 
 -- what helps against a pattern that isn't read
@@ -88,7 +88,7 @@ file_word path = if list_all is_plain_byte path then path else codes "FILE"
 abbrev pub remedy_text : Remedy → List ℕ → Option (Vec ℕ Global) → List ℕ
 remedy_text DropMark path text = codes "sed '1s/^\\xef\\xbb\\xbf//' " ++ file_word path
 remedy_text Unpack path text = codes "gunzip -c " ++ file_word path
-remedy_text SaveAsRle path text = codes "open it in Golly and save it as RLE"
+remedy_text Import path text = codes "cafile import " ++ file_word path
 remedy_text BreakLines path text = codes "tr '\\r' '\\n' < " ++ file_word path
 remedy_text WriteHeader path text = codes "write the header as x = 3, y = 3, rule = B3/S23"
 remedy_text WriteEnd path text = codes "get the file again, or put ! at its end"

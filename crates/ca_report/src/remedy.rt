@@ -23,8 +23,8 @@ pub enum Remedy {
     DropMark,
     /// Unpack what is packed by gzip.
     Unpack,
-    /// Have Golly save a file of another format as RLE.
-    SaveAsRle,
+    /// Translate a file of another format.
+    Import,
     /// Put LF in place of CR.
     BreakLines,
     /// Write the header with commas and a rule.
@@ -63,7 +63,7 @@ fn unread_remedy(bytes: &[u8], otherwise: Remedy) -> Remedy
         return Remedy::Unpack;
     }
     if bytes.starts_with(b"#Life 1.0") || bytes.starts_with(b"!") {
-        return Remedy::SaveAsRle;
+        return Remedy::Import;
     }
     if bytes.contains(&b'\r') && !bytes.contains(&b'\n') {
         return Remedy::BreakLines;
@@ -175,7 +175,7 @@ fn remedy_pieces<'a>(
             return in_pieces![3; text b"sed '1s/^\\xef\\xbb\\xbf//' ", text file_word(path)];
         }
         Remedy::Unpack => return in_pieces![3; text b"gunzip -c ", text file_word(path)],
-        Remedy::SaveAsRle => b"open it in Golly and save it as RLE",
+        Remedy::Import => return in_pieces![3; text b"cafile import ", text file_word(path)],
         Remedy::BreakLines => return in_pieces![3; text b"tr '\\r' '\\n' < ", text file_word(path)],
         Remedy::WriteHeader => b"write the header as x = 3, y = 3, rule = B3/S23",
         Remedy::WriteEnd => b"get the file again, or put ! at its end",

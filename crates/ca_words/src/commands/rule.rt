@@ -18,7 +18,7 @@ The status is 0, or 2 where TEXT is no such rule. Then standard error says why.
 
 Examples:
   cafile rule B2-a/S12 > b2a.rule
-  cafile show examples/other/isotropic.rle --rule b2a.rule";
+  cafile identify examples/other/just_friends.rle --rule b2a.rule";
 
 /// The command with its words.
 pub fn command<'a>(alloc: Global) -> Result<Command<'a>, AllocError> {
