@@ -58,8 +58,7 @@ pub(crate) fn live_rows(grid: &Grid, end: u8) -> u64
 /// where a column without live cells is before it, and another one where four of them are.
 pub(crate) fn mask_length(mask: u64) -> usize
     requires { mask < 2 ^ 40 }
-    ensures length { (grid : Cells) (y : ℕ) → IsStripMask (cell grid) y mask
-        → IsStripLength (cell grid) y result }
+    ensures length { (grid : Cells) (y : ℕ) → IsStripMask (cell grid) y mask → IsStripLength (cell grid) y result }
     ensures most { result ≤ 192 }
 {
     let one = west_bits(mask);

@@ -113,8 +113,7 @@ fn seen_height(grid: &Grid, side: Side) -> u8
 fn strip_mask(grid: &Grid, side: Side, strip: u8) -> u64
     requires few { strip < 8 }
     requires within { 5 * strip < seen_height side grid.now }
-    ensures mask { (seen : Cells) → IsSeenFrom side grid.now seen
-        → IsStripMask (cell seen) (5 * strip) result }
+    ensures mask { (seen : Cells) → IsSeenFrom side grid.now seen → IsStripMask (cell seen) (5 * strip) result }
     ensures low { result < 2 ^ seen_width side grid.now }
 {
     match side {

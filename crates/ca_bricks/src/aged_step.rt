@@ -248,8 +248,7 @@ fn bits_without(a: &[u64; 16], b: &[u64; 16]) -> [u64; 16]
 // The bits that are in one of two bricks or in both.
 #[inline(always)]
 fn bits_of_both(a: &[u64; 16], b: &[u64; 16]) -> [u64; 16]
-    ensures { (x y : ℕ) → x < 64 → y < 16
-        → row_cells result x y ≡ max (row_cells a.now x y) (row_cells b.now x y) }
+    ensures { (x y : ℕ) → x < 64 → y < 16 → row_cells result x y ≡ max (row_cells a.now x y) (row_cells b.now x y) }
 {
     let mut rows = [0; 16];
     'rows: for y in 0..16 {

@@ -56,8 +56,7 @@ impl WideSquare {
 // The centres of two squares side by side, and of the one between them.
 fn three_centres(west: WordSquare, east: WordSquare, counting: Counting, n: u8) -> Trio<u64>
     requires { n ≤ 4 }
-    ensures { (next : List ℕ → ℕ) (p : ℤ → ℤ → ℕ) (a b : ℤ) → GoesBy next counting
-        → WordSquareShows west p a b
+    ensures { (next : List ℕ → ℕ) (p : ℤ → ℤ → ℕ) (a b : ℤ) → GoesBy next counting → WordSquareShows west p a b
         → WordSquareShows east p (a +ℤ pos 16) b
         → TrioShows WordShows (pos 8) result (cells_after next p n) (a +ℤ pos 4) (b +ℤ pos 4) }
 {

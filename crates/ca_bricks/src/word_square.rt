@@ -22,8 +22,7 @@ impl WordSquare {
     /// The 8 by 8 cells in the middle after n generations, at most 4, under a rule that goes by this counting.
     pub fn centre(&self, counting: Counting, n: u8) -> u64
         requires { n ≤ 4 }
-        ensures { (next : List ℕ → ℕ) (p : ℤ → ℤ → ℕ) (a b : ℤ) → GoesBy next counting
-            → WordSquareShows self.now p a b
+        ensures { (next : List ℕ → ℕ) (p : ℤ → ℤ → ℕ) (a b : ℤ) → GoesBy next counting → WordSquareShows self.now p a b
             → WordShows result (cells_after next p n) (a +ℤ pos 4) (b +ℤ pos 4) }
     {
         middle(&later_tile(tile_of(self), counting, n).rows.to_array())
@@ -31,8 +30,7 @@ impl WordSquare {
 
     /// The square in the middle between two that lie side by side.
     pub(crate) fn middle_of_row(west: WordSquare, east: WordSquare) -> WordSquare
-        ensures { (p : ℤ → ℤ → ℕ) (a b : ℤ) → WordSquareShows west p a b
-            → WordSquareShows east p (a +ℤ pos 16) b
+        ensures { (p : ℤ → ℤ → ℕ) (a b : ℤ) → WordSquareShows west p a b → WordSquareShows east p (a +ℤ pos 16) b
             → WordSquareShows result p (a +ℤ pos 8) b }
     {
         WordSquare {
@@ -45,8 +43,7 @@ impl WordSquare {
 
     /// The square in the middle between two of which one lies over the other.
     pub(crate) fn middle_of_column(north: WordSquare, south: WordSquare) -> WordSquare
-        ensures { (p : ℤ → ℤ → ℕ) (a b : ℤ) → WordSquareShows north p a b
-            → WordSquareShows south p a (b +ℤ pos 16)
+        ensures { (p : ℤ → ℤ → ℕ) (a b : ℤ) → WordSquareShows north p a b → WordSquareShows south p a (b +ℤ pos 16)
             → WordSquareShows result p a (b +ℤ pos 8) }
     {
         WordSquare {
