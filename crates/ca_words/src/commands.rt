@@ -31,22 +31,28 @@ const HELP: &str = "Examples:
 
 /// The program with its commands, in the order in which the help lists them.
 pub fn program<'a>(alloc: Global) -> Result<Command<'a>, AllocError> {
-    Command::new(alloc, "cafile")
+    let program = Command::new(alloc, "cafile")
         .version("0.1.0")
         .about(
             "Reads and writes Golly's pattern files, and gives proved verdicts on claims about them",
         )
         .after_help(HELP)
-        .subcommand_required(true)
-        .subcommands(vec![in alloc;
-            show::command(alloc)?,
-            convert::command(alloc)?,
-            draw::command(alloc)?,
-            verify::command(alloc)?,
-            identify::command(alloc)?,
-            import::command(alloc)?,
-            rule::command(alloc)?,
-        ]?)
+        .subcommand_required(true);
+    let program = with_command(program, show::command(alloc))?;
+    let program = with_command(program, convert::command(alloc))?;
+    let program = with_command(program, draw::command(alloc))?;
+    let program = with_command(program, verify::command(alloc))?;
+    let program = with_command(program, identify::command(alloc))?;
+    let program = with_command(program, import::command(alloc))?;
+    with_command(program, rule::command(alloc))
+}
+
+// Adds a command of the program, where there was memory to make it.
+fn with_command<'a>(
+    program: Command<'a>,
+    command: Result<Command<'a>, AllocError>,
+) -> Result<Command<'a>, AllocError> {
+    program.subcommand(command?)
 }
 
 /// What the words of a command ask for. A command and its words are required, so that clap finds them wherever it finds

@@ -61,12 +61,12 @@ pub fn on_terminal(request: DrawRequest, room: Option<Size>) -> DrawRequest
     ensures zoom { result.view.zoom ≡ request.view.zoom }
     ensures format { result.format ≡ request.format }
 {
-    let DrawRequest { view, format } = request;
-    let room = room_for(format, view.corner, view.scale, room);
+    let view = request.view;
+    let room = room_for(request.format, view.corner, view.scale, room);
     let size = view.size.or(room);
     DrawRequest {
         view: View { size, ..view },
-        format,
+        format: request.format,
     }
 }
 
