@@ -1,2 +1,3 @@
+pub mod ImportFaults
 pub mod Scopes
 pub mod Terminals

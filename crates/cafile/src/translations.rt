@@ -1,8 +1,9 @@
 //! The commands `import` and `rule`, which write files that other commands read.
 
+use crate::import_complaint::complain_of_import;
 use crate::{FAULT, write_text};
 use ca_host::{Streams, read_source};
-use ca_import::{ImportTarget, complain as complain_of_import, import_text};
+use ca_import::{ImportTarget, import_text};
 use ca_isotropic::{RuleFileFault, rule_file};
 use ca_pattern::{ConvertFault, Target};
 use ca_tool::{Fault, ToolFault, complain};
@@ -30,7 +31,7 @@ pub fn import_file<R: Files + AllocGlobal>(
     match import_text(rt.alloc(), &bytes, rule, import_target(words.target)) {
         Ok(text) => write_text(&text, streams),
         Err(fault) => {
-            let _ = complain_of_import(&fault, &mut streams.errors);
+            let _ = complain_of_import(fault, &mut streams.errors);
             FAULT
         }
     }
