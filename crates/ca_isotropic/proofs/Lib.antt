@@ -1,0 +1,4 @@
+pub mod WrittenTables
+pub mod WrittenNext
+pub mod ListBytes
+pub mod KindTexts

@@ -1,0 +1,132 @@
+-- A transition of nine cells fits those alone, so the written table gives each neighbourhood the next state it was written for.
+use Rattle.std.proofs.Common.{◌≡◌, ℕ, zero, suc, ◌+◌, ◌*◌, ◌/◌, ◌%◌, ◌<◌, ◌≤◌, List, [], ◌∷◌, ◌++◌, length, map, filter, zip, Bool, true, false, not, ◌==◌, ◌&&◌, refl, sym, ap, subst, ◌∙◌, inl, inr, ◌⊎◌, arith, if◌then◌else◌, slice_index, get_or, unwrap_or, Some, None, All, add-zero, zero-add}
+use Rattle.std.proofs.lemmas.List.FromFn.{fill_by_all}
+use Rattle.std.specs.List.{list_all, range_with_len, AllByRecursion}
+use Rattle.std.proofs.lemmas.Bool.{cases_Bool, and_parts, and_from, false≢true}
+use Rattle.std.proofs.lemmas.Bool.Decides.{nat_tests}
+use Rattle.ca_rule.specs.declared.table.neighbourhood.Neighbourhood.TheVariants.{Moore}
+use Rattle.ca_rule.specs.declared.table.neighbourhood.Symmetry.TheVariants.{Identity}
+use Rattle.ca_rule.specs.declared.table.slot.Slot.{Slot}
+use Rattle.ca_rule.specs.declared.table.slot.Slot.TheVariants.{Number}
+use Rattle.ca_rule.specs.TableNext.{Transition, SlotCell, admits, take_one_cell, fits, outcome, next_by}
+use Rattle.ca_rule.specs.TableOrders.{orders}
+use Rattle.ca_isotropic.specs.Map.{number_of}
+use Rattle.ca_isotropic.specs.inner.WrittenTables.{inputs_of, neighbourhood, changes}
+use Rattle.ca_isotropic.proofs.WrittenTables.{transition}
+
+-- ---- which cells fit
+
+-- a slot of a number takes its cell
+abbrev takes : List SlotCell → SlotCell → Bool
+takes all t = admits [] t.0 t.1 && take_one_cell all t.0 t.1
+
+same-cell : (c : ℕ) → (c == c) ≡ true
+same-cell c = grind (arith, nat_tests)
+
+fits-itself : (all : List SlotCell) (cells : List ℕ) → list_all (takes all) (zip (map Number cells) cells) ≡ true
+fits-itself all [] = refl
+fits-itself all (c ∷ cs) = and_from ((c == c) && true) (list_all (takes all) (zip (map Number cs) cs)) (and_from (c == c) true (same-cell c) refl) (fits-itself all cs)
+
+fits-only : (all : List SlotCell) (cells others : List ℕ) → length cells ≡ length others → list_all (takes all) (zip (map Number cells) others) ≡ true → cells ≡ others
+fits-only all [] [] same fit = refl
+fits-only all [] (o ∷ os) same fit = cc
+fits-only all (c ∷ cs) [] same fit = cc
+fits-only all (c ∷ cs) (o ∷ os) same fit =
+    let parts = and_parts ((o == c) && true) (list_all (takes all) (zip (map Number cs) os)) fit in
+    let test = (and_parts (o == c) true parts.0).0 in
+    let equal : c ≡ o = grind (arith, nat_tests) in
+    let more : length cs ≡ length os = omega arith in
+    ap (λ x. x ∷ cs) equal ∙ ap (λ l. o ∷ l) (fits-only all cs os more parts.1)
+
+-- ---- nine cells by their inputs
+
+-- nine cells as their list
+spread : (nine : List ℕ) → length nine ≡ 9 → nine ≡ map (slice_index nine) (0 ∷ 1 ∷ 2 ∷ 3 ∷ 4 ∷ 5 ∷ 6 ∷ 7 ∷ 8 ∷ [])
+spread nine long = fill_by_all (slice_index nine) nine 9 0 long (λ k h. refl)
+
+pub inputs-tell : (m n : List ℕ) → length m ≡ 9 → length n ≡ 9 → inputs_of m ≡ inputs_of n → m ≡ n
+inputs-tell m n lm ln e =
+    let back = ap (λ l. map (slice_index l) (8 ∷ 1 ∷ 2 ∷ 7 ∷ 0 ∷ 3 ∷ 6 ∷ 5 ∷ 4 ∷ [])) e in
+    spread m lm ∙ back ∙ sym (spread n ln)
+
+-- ---- the next state
+
+-- the list has these nine cells
+abbrev pub Holds : List ℕ → List (List ℕ) → Type 0
+Holds nine [] = ⊥
+Holds nine (m ∷ ms) = (m ≡ nine) ⊎ Holds nine ms
+
+module _ (next : List ℕ → ℕ) (nine : List ℕ) (long : length nine ≡ 9) where
+  -- what the transitions of these neighbourhoods give
+  abbrev given : List (List ℕ) → ℕ
+  given ms = next_by Moore [] (orders Moore Identity) nine (map (λ m. transition (inputs_of m) (next m)) ms)
+
+  -- what the transition of the first gives, else what the others give
+  first : (m : List ℕ) (ms : List (List ℕ)) → length m ≡ 9 → ((m ≡ nine) × (given (m ∷ ms) ≡ next nine)) ⊎ ((m ≡ nine → ⊥) × (given (m ∷ ms) ≡ given ms))
+  first m ms lm =
+      let all = zip (map Number (inputs_of m)) (inputs_of nine) in
+      elim (cases_Bool (fits [] all)) [
+        | inl t ↦
+            let same = inputs-tell m nine lm long (fits-only all (inputs_of m) (inputs_of nine) refl t) in
+            inl (same, ap (λ v. unwrap_or (if v then Some (next m) else None) (given ms)) t ∙ ap next same)
+        | inr t ↦ inr (λ same. false≢true (sym t ∙ ap (λ l. fits [] (zip (map Number (inputs_of l)) (inputs_of nine))) same ∙ fits-itself _ (inputs_of nine)),
+            ap (λ v. unwrap_or (if v then Some (next m) else None) (given ms)) t)
+      ]
+
+  -- where the first is another neighbourhood, the others have it if all have it
+  left-out : (m : List ℕ) (ms : List (List ℕ)) → (m ≡ nine → ⊥) → (next nine ≡ slice_index nine 4) ⊎ Holds nine (m ∷ ms) → (next nine ≡ slice_index nine 4) ⊎ Holds nine ms
+  left-out m ms other (inl stays) = inl stays
+  left-out m ms other (inr (inl same)) = absurd (other same)
+  left-out m ms other (inr (inr more)) = inr more
+
+  -- where the first doesn't change, it is left out
+  passed : (m : List ℕ) (ms : List (List ℕ)) → changes next m ≡ false → (next nine ≡ slice_index nine 4) ⊎ Holds nine (m ∷ ms) → (next nine ≡ slice_index nine 4) ⊎ Holds nine ms
+  passed m ms t (inl stays) = inl stays
+  passed m ms t (inr (inl same)) =
+      let u : changes next nine ≡ false = ap (changes next) (sym same) ∙ t in
+      let equal : next nine ≡ slice_index nine 4 = grind (arith, nat_tests) in inl equal
+  passed m ms t (inr (inr more)) = inr more
+
+  pub next-written : (ms : List (List ℕ)) → AllByRecursion (λ m. length m ≡ 9) ms → (next nine ≡ slice_index nine 4) ⊎ Holds nine ms
+      → given (filter (changes next) ms) ≡ next nine
+  next-written [] all (inl stays) = sym stays
+  next-written [] all (inr h) = absurd h
+  next-written (m ∷ ms) all h = elim (cases_Bool (changes next m)) [
+    | inl t ↦ ap (λ v. given (if v then m ∷ filter (changes next) ms else filter (changes next) ms)) t ∙ elim (first m (filter (changes next) ms) all.0) [
+      | inl here ↦ here.1
+      | inr other ↦ other.1 ∙ next-written ms all.1 (left-out m ms other.0 h)
+    ]
+    | inr t ↦ ap (λ v. given (if v then m ∷ filter (changes next) ms else filter (changes next) ms)) t ∙ next-written ms all.1 (passed m ms t h)
+  ]
+
+-- ---- all neighbourhoods
+
+-- nine cells, each dead or live, are the neighbourhood of their number, which is below 512
+abbrev pub IsBit : ℕ → Type 0
+IsBit c = c < 2
+
+digit-back : (above c below weight : ℕ) → IsBit c → below < weight → (2 * weight * above + weight * c + below) / weight % 2 ≡ c
+digit-back above c below weight bit low = ?
+
+pub number-low : (nine : List ℕ) → All (λ s. s < 2) nine → number_of nine < 512
+number-low nine bits = ?
+
+pub number-tells : (nine : List ℕ) → length nine ≡ 9 → All (λ s. s < 2) nine → neighbourhood (number_of nine) ≡ nine
+number-tells nine long bits = ?
+
+-- a neighbourhood of the range is held
+pub in-range : (from count n : ℕ) (nine : List ℕ) → n < count → neighbourhood (from + n) ≡ nine → Holds nine (map neighbourhood (range_with_len from count))
+in-range from zero n nine low e = absurd (omega arith)
+in-range from (suc count) zero nine low e = inl (ap neighbourhood (sym (add-zero from)) ∙ e)
+in-range from (suc count) (suc n) nine low e =
+    let lower : n < count = omega arith in
+    let moved : from + 1 + n ≡ from + suc n = omega arith in
+    inr (in-range (from + 1) count n nine lower (ap neighbourhood moved ∙ e))
+
+pub all-held : (nine : List ℕ) → length nine ≡ 9 → All (λ s. s < 2) nine → Holds nine (map neighbourhood (range_with_len 0 512))
+all-held nine long bits = in-range 0 512 (number_of nine) nine (number-low nine bits) (ap neighbourhood (zero-add (number_of nine)) ∙ number-tells nine long bits)
+
+-- and each of them has nine cells
+pub all-nine : (from count : ℕ) → AllByRecursion (λ m. length m ≡ 9) (map neighbourhood (range_with_len from count))
+all-nine from zero = tt
+all-nine from (suc count) = (refl, all-nine (from + 1) count)

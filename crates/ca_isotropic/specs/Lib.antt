@@ -1,0 +1,6 @@
+pub mod Kinds
+pub mod Isotropic
+pub mod Map
+pub mod TextRules
+pub mod RuleFiles
+pub mod inner

@@ -1,0 +1,3 @@
+//! The tests, by what they try.
+
+mod texts;
