@@ -1,5 +1,6 @@
 -- What is read from the text of an isotropic rule is what it spells, and nothing else.
-use Rattle.std.proofs.Common.{◌≡◌, ℕ, ◌+◌, ◌≤◌, List, [], ◌∷◌, ◌++◌, Bool, true, false, not, ◌==◌, ◌&&◌, ◌||◌, Option, Some, None, refl, sym, ap, ◌∙◌, inl, inr, ◌⊎◌, arith, append_assoc, append-nil}
+use Rattle.std.proofs.Common.{◌≡◌, ℕ, ◌+◌, ◌≤◌, List, [], ◌∷◌, ◌++◌, Bool, true, false, not, ◌==◌, ◌&&◌, ◌||◌, Option, Some, None, if◌then◌else◌, refl, sym, ap, ◌∙◌, inl, inr, ◌⊎◌, arith}
+use Rattle.std.proofs.lemmas.List.{append-nil}
 use Rattle.std.specs.List.{list_all}
 use Rattle.std.proofs.lemmas.Bool.{cases_Bool, and_parts, and_from}
 use Rattle.std.proofs.lemmas.Bool.Decides.{nat_tests}
@@ -83,10 +84,10 @@ read text birth survival is =
     by-form : IsLettered 66 83 text birth survival Moore ⊎ (IsLettered 83 66 text survival birth Moore ⊎ IsUnlettered text survival birth Moore) → Every (λ b. not (ends_list b)) birth → Every (λ b. not (ends_list b)) survival → lists_of text ≡ Some (birth, survival)
     by-form (inl f) b s =
         let whole : text ≡ f.0 ∷ (birth ++ (f.2 ++ (f.1 ∷ survival))) = f.8 ∙ ap (λ l. f.0 ∷ (birth ++ (f.2 ++ f.1 ∷ (survival ++ l)))) f.7 ∙ ap (λ l. f.0 ∷ (birth ++ (f.2 ++ f.1 ∷ l))) (append-nil survival) in
-        ap lists_of whole ∙ birth-first f.0 _ f.4 ∙ around 83 f.1 birth f.2 survival (inr refl) b f.6 f.5
+        ap lists_of whole ∙ birth-first f.0 (birth ++ (f.2 ++ (f.1 ∷ survival))) f.4 ∙ around 83 f.1 birth f.2 survival (inr refl) b f.6 f.5
     by-form (inr (inl f)) b s =
         let whole : text ≡ f.0 ∷ (survival ++ (f.2 ++ (f.1 ∷ birth))) = f.8 ∙ ap (λ l. f.0 ∷ (survival ++ (f.2 ++ f.1 ∷ (birth ++ l)))) f.7 ∙ ap (λ l. f.0 ∷ (survival ++ (f.2 ++ f.1 ∷ l))) (append-nil birth) in
-        ap lists_of whole ∙ survival-first f.0 _ f.4 ∙ ap swapped_lists (around 66 f.1 survival f.2 birth (inl refl) s f.6 f.5)
+        ap lists_of whole ∙ survival-first f.0 (survival ++ (f.2 ++ (f.1 ∷ birth))) f.4 ∙ ap swapped_lists (around 66 f.1 survival f.2 birth (inl refl) s f.6 f.5)
     by-form (inr (inr f)) b s =
         let whole : text ≡ survival ++ (47 ∷ birth) = f.2 ∙ ap (λ l. survival ++ (47 ∷ (birth ++ l))) f.1 ∙ ap (λ l. survival ++ (47 ∷ l)) (append-nil birth) in
         ap lists_of whole ∙ no-letter-first survival birth s ∙ ap swapped_lists (around-slash survival birth s)
@@ -128,16 +129,16 @@ lettered first second a bs list later is e =
     let s = slash-split (list_rest bs) in
     let t = tail-some second (without_slash (list_rest bs)) later parts.1 in
     let whole : bs ≡ list ++ (s.0 ++ t.0 ∷ (later ++ [])) =
-        sym (front_then_rest (λ b. not (ends_list b)) bs) ∙ ap (λ x. x ++ list_rest bs) parts.0
-        ∙ ap (λ x. list ++ x) (s.2 ∙ ap (λ x. s.0 ++ x) (t.2 ∙ ap (λ x. t.0 ∷ x) (sym (append-nil later)))) in
+    sym (front_then_rest (λ b. not (ends_list b)) bs) ∙ ap (λ x. x ++ list_rest bs) parts.0
+    ∙ ap (λ x. list ++ x) (s.2 ∙ ap (λ x. s.0 ++ x) (t.2 ∙ ap (λ x. t.0 ∷ x) (sym (append-nil later)))) in
     (a, t.0, s.0, [], is, t.1, s.1, refl, ap (λ x. a ∷ x) whole)
 
 unlettered : (text survival birth : List ℕ) → lists_around_slash text ≡ Some (survival, birth) → IsUnlettered text survival birth Moore
 unlettered text survival birth e =
     let parts = both-some (list_front text) (tail_after_slash (list_rest text)) (survival, birth) e in
     let whole : text ≡ survival ++ (47 ∷ (birth ++ [])) =
-        sym (front_then_rest (λ b. not (ends_list b)) text) ∙ ap (λ x. x ++ list_rest text) parts.0
-        ∙ ap (λ x. survival ++ x) (slash-some (list_rest text) birth parts.1 ∙ ap (λ x. 47 ∷ x) (sym (append-nil birth))) in
+    sym (front_then_rest (λ b. not (ends_list b)) text) ∙ ap (λ x. x ++ list_rest text) parts.0
+    ∙ ap (λ x. survival ++ x) (slash-some (list_rest text) birth parts.1 ∙ ap (λ x. 47 ∷ x) (sym (append-nil birth))) in
     ([], refl, whole)
 
 formed : (text birth survival : List ℕ) → lists_of text ≡ Some (birth, survival) → IsLettered 66 83 text birth survival Moore ⊎ (IsLettered 83 66 text survival birth Moore ⊎ IsUnlettered text survival birth Moore)
@@ -145,8 +146,13 @@ formed [] birth survival r = cc
 formed (b ∷ bs) birth survival r = elim (cases_Bool (is_rule_letter 66 b)) [
   | inl t ↦ let k = rw t at r in inl (lettered 66 83 b bs birth survival (IsLetter-from_test 66 b t) k)
   | inr t ↦ elim (cases_Bool (is_rule_letter 83 b)) [
-    | inl u ↦ let k = rw (t, u) at r in inr (inl (lettered 83 66 b bs survival birth (IsLetter-from_test 83 b u) (swapped-some _ birth survival k)))
-    | inr u ↦ let k = rw (t, u) at r in inr (inr (unlettered (b ∷ bs) survival birth (swapped-some _ birth survival k)))
+    | inl u ↦ let k = rw (t, u) at r in inr (inl (lettered 83 66 b bs survival birth (IsLetter-from_test 83 b u) (swapped-some (lists_around 66 bs) birth survival k)))
+    | inr u ↦
+        let slashed = swapped_lists (lists_around_slash (b ∷ bs)) in
+        let k : swapped_lists (lists_around_slash (b ∷ bs)) ≡ Some (birth, survival) =
+        sym (ap (λ v. if v then lists_around 83 bs else (if is_rule_letter 83 b then swapped_lists (lists_around 66 bs) else slashed)) t
+        ∙ ap (λ v. if v then swapped_lists (lists_around 66 bs) else slashed) u) ∙ r in
+        inr (inr (unlettered (b ∷ bs) survival birth (swapped-some (lists_around_slash (b ∷ bs)) birth survival k)))
   ]
 ]
 
@@ -157,4 +163,14 @@ spelled text birth survival r b s = record { birth_kinds = b; survival_kinds = s
 pub spells-once : (text b s c t : List ℕ) → SpellsIsotropicRule text b s → SpellsIsotropicRule text c t → (b ≡ c) × (s ≡ t)
 spells-once text b s c t h k =
     let lists : Some (b, s) ≡ Some (c, t) = sym (read text b s h) ∙ read text c t k in
+    (ap first_list lists, ap second_list lists)
+
+-- nor does one that is read as none spell any
+pub spells-none : (text birth survival : List ℕ) → lists_of text ≡ None → SpellsIsotropicRule text birth survival → ⊥
+spells-none text birth survival none is = let e = read text birth survival is in cc
+
+-- what it spells are the lists that are read
+pub spells-read : (text birth survival b s : List ℕ) → lists_of text ≡ Some (birth, survival) → SpellsIsotropicRule text b s → (b ≡ birth) × (s ≡ survival)
+spells-read text birth survival b s r is =
+    let lists : Some (b, s) ≡ Some (birth, survival) = sym (read text b s is) ∙ r in
     (ap first_list lists, ap second_list lists)

@@ -2,3 +2,11 @@ pub mod WrittenTables
 pub mod WrittenNext
 pub mod ListBytes
 pub mod KindTexts
+pub mod Parts
+pub mod Names
+pub mod WrittenFiles
+pub mod Maps
+pub mod PutTexts
+pub mod Neighbourhoods
+pub mod DigitLists
+pub mod OneRule

@@ -1,5 +1,5 @@
 -- A transition of nine cells fits those alone, so the written table gives each neighbourhood the next state it was written for.
-use Rattle.std.proofs.Common.{◌≡◌, ℕ, zero, suc, ◌+◌, ◌*◌, ◌/◌, ◌%◌, ◌<◌, ◌≤◌, List, [], ◌∷◌, ◌++◌, length, map, filter, zip, Bool, true, false, not, ◌==◌, ◌&&◌, refl, sym, ap, subst, ◌∙◌, inl, inr, ◌⊎◌, arith, if◌then◌else◌, slice_index, get_or, unwrap_or, Some, None, All, add-zero, zero-add}
+use Rattle.std.proofs.Common.{◌≡◌, ℕ, zero, suc, ◌+◌, ◌*◌, ◌/◌, ◌%◌, ◌<◌, ◌≤◌, List, [], ◌∷◌, ◌++◌, length, map, filter, zip, Bool, true, false, not, ◌==◌, ◌&&◌, refl, sym, ap, subst, ◌∙◌, inl, inr, ◌⊎◌, arith, if◌then◌else◌, slice_index, get_or, unwrap_or, Some, None, All, add-zero, zero-add, lit<}
 use Rattle.std.proofs.lemmas.List.FromFn.{fill_by_all}
 use Rattle.std.specs.List.{list_all, range_with_len, AllByRecursion}
 use Rattle.std.proofs.lemmas.Bool.{cases_Bool, and_parts, and_from, false≢true}
@@ -11,7 +11,7 @@ use Rattle.ca_rule.specs.declared.table.slot.Slot.TheVariants.{Number}
 use Rattle.ca_rule.specs.TableNext.{Transition, SlotCell, admits, take_one_cell, fits, outcome, next_by}
 use Rattle.ca_rule.specs.TableOrders.{orders}
 use Rattle.ca_isotropic.specs.Map.{number_of}
-use Rattle.ca_isotropic.specs.inner.WrittenTables.{inputs_of, neighbourhood, changes}
+use Rattle.ca_isotropic.specs.inner.WrittenTables.{inputs_of, neighbourhood, neighbourhoods, changes}
 use Rattle.ca_isotropic.proofs.WrittenTables.{transition}
 
 -- ---- which cells fit
@@ -69,8 +69,10 @@ module _ (next : List ℕ → ℕ) (nine : List ℕ) (long : length nine ≡ 9) 
         | inl t ↦
             let same = inputs-tell m nine lm long (fits-only all (inputs_of m) (inputs_of nine) refl t) in
             inl (same, ap (λ v. unwrap_or (if v then Some (next m) else None) (given ms)) t ∙ ap next same)
-        | inr t ↦ inr (λ same. false≢true (sym t ∙ ap (λ l. fits [] (zip (map Number (inputs_of l)) (inputs_of nine))) same ∙ fits-itself _ (inputs_of nine)),
-            ap (λ v. unwrap_or (if v then Some (next m) else None) (given ms)) t)
+        | inr t ↦ inr (
+          λ same. false≢true (sym t ∙ ap (λ l. fits [] (zip (map Number (inputs_of l)) (inputs_of nine))) same ∙ fits-itself (zip (map Number (inputs_of nine)) (inputs_of nine)) (inputs_of nine)),
+          ap (λ v. unwrap_or (if v then Some (next m) else None) (given ms)) t,
+        )
       ]
 
   -- where the first is another neighbourhood, the others have it if all have it
@@ -101,18 +103,43 @@ module _ (next : List ℕ → ℕ) (nine : List ℕ) (long : length nine ≡ 9) 
 
 -- ---- all neighbourhoods
 
--- nine cells, each dead or live, are the neighbourhood of their number, which is below 512
-abbrev pub IsBit : ℕ → Type 0
-IsBit c = c < 2
+-- a cell of two states
+bit-at : (nine : List ℕ) → length nine ≡ 9 → All (λ s. s < 2) nine → (k : ℕ) → k < 9 → slice_index nine k < 2
+bit-at nine long bits k low = bits k 0 (omega arith)
 
-digit-back : (above c below weight : ℕ) → IsBit c → below < weight → (2 * weight * above + weight * c + below) / weight % 2 ≡ c
-digit-back above c below weight bit low = ?
+-- the binary digits of a number made of them
+module _ (a b c d e f g h i : ℕ) (ha : a < 2) (hb : b < 2) (hc : c < 2) (hd : d < 2) (he : e < 2) (hf : f < 2) (hg : g < 2) (hh : h < 2) (hi : i < 2) where
+  abbrev whole : ℕ
+  whole = 256 * a + 128 * b + 64 * c + 32 * d + 16 * e + 8 * f + 4 * g + 2 * h + i
 
-pub number-low : (nine : List ℕ) → All (λ s. s < 2) nine → number_of nine < 512
-number-low nine bits = ?
+  whole-low : whole < 512
+  whole-low = omega arith
 
-pub number-tells : (nine : List ℕ) → length nine ≡ 9 → All (λ s. s < 2) nine → neighbourhood (number_of nine) ≡ nine
-number-tells nine long bits = ?
+  digits-back : neighbourhood whole ≡ a ∷ b ∷ c ∷ d ∷ e ∷ f ∷ g ∷ h ∷ i ∷ []
+  digits-back =
+      let da : whole / 256 % 2 ≡ a = omega arith in
+      let db : whole / 128 % 2 ≡ b = omega arith in
+      let dc : whole / 64 % 2 ≡ c = omega arith in
+      let dd : whole / 32 % 2 ≡ d = omega arith in
+      let de : whole / 16 % 2 ≡ e = omega arith in
+      let df : whole / 8 % 2 ≡ f = omega arith in
+      let dg : whole / 4 % 2 ≡ g = omega arith in
+      let dh : whole / 2 % 2 ≡ h = omega arith in
+      let di : whole / 1 % 2 ≡ i = omega arith in
+      λ t. da t ∷ db t ∷ dc t ∷ dd t ∷ de t ∷ df t ∷ dg t ∷ dh t ∷ di t ∷ []
+
+module _ (nine : List ℕ) (long : length nine ≡ 9) (bits : All (λ s. s < 2) nine) where
+  bit : (k : ℕ) → k < 9 → slice_index nine k < 2
+  bit = bit-at nine long bits
+
+  pub number-low : number_of nine < 512
+  number-low = whole-low (slice_index nine 0) (slice_index nine 1) (slice_index nine 2) (slice_index nine 3) (slice_index nine 4) (slice_index nine 5) (slice_index nine 6) (slice_index nine 7) (slice_index nine 8) (bit 0 (lit< tt)) (bit 1 (lit< tt)) (bit 2 (lit< tt)) (bit 3 (lit< tt)) (bit 4 (lit< tt)) (bit 5 (lit< tt)) (bit 6 (lit< tt)) (bit 7 (lit< tt)) (bit 8 (lit< tt))
+
+  pub number-tells : neighbourhood (number_of nine) ≡ nine
+  number-tells =
+      digits-back (slice_index nine 0) (slice_index nine 1) (slice_index nine 2) (slice_index nine 3) (slice_index nine 4) (slice_index nine 5) (slice_index nine 6) (slice_index nine 7) (slice_index nine 8)
+      (bit 0 (lit< tt)) (bit 1 (lit< tt)) (bit 2 (lit< tt)) (bit 3 (lit< tt)) (bit 4 (lit< tt)) (bit 5 (lit< tt)) (bit 6 (lit< tt)) (bit 7 (lit< tt)) (bit 8 (lit< tt))
+      ∙ sym (spread nine long)
 
 -- a neighbourhood of the range is held
 pub in-range : (from count n : ℕ) (nine : List ℕ) → n < count → neighbourhood (from + n) ≡ nine → Holds nine (map neighbourhood (range_with_len from count))
@@ -123,10 +150,15 @@ in-range from (suc count) (suc n) nine low e =
     let moved : from + 1 + n ≡ from + suc n = omega arith in
     inr (in-range (from + 1) count n nine lower (ap neighbourhood moved ∙ e))
 
-pub all-held : (nine : List ℕ) → length nine ≡ 9 → All (λ s. s < 2) nine → Holds nine (map neighbourhood (range_with_len 0 512))
-all-held nine long bits = in-range 0 512 (number_of nine) nine (number-low nine bits) (ap neighbourhood (zero-add (number_of nine)) ∙ number-tells nine long bits)
+pub all-held : (nine : List ℕ) → length nine ≡ 9 → All (λ s. s < 2) nine → Holds nine (neighbourhoods 512)
+unfolding neighbourhoods
+all-held nine long bits = in-range 0 512 (number_of nine) nine (number-low nine long bits) (ap neighbourhood (zero-add (number_of nine)) ∙ number-tells nine long bits)
 
 -- and each of them has nine cells
-pub all-nine : (from count : ℕ) → AllByRecursion (λ m. length m ≡ 9) (map neighbourhood (range_with_len from count))
-all-nine from zero = tt
-all-nine from (suc count) = (refl, all-nine (from + 1) count)
+nine-in-range : (from count : ℕ) → AllByRecursion (λ m. length m ≡ 9) (map neighbourhood (range_with_len from count))
+nine-in-range from zero = tt
+nine-in-range from (suc count) = (refl, nine-in-range (from + 1) count)
+
+pub all-nine : (count : ℕ) → AllByRecursion (λ m. length m ≡ 9) (neighbourhoods count)
+unfolding neighbourhoods
+all-nine count = nine-in-range 0 count

@@ -1,10 +1,10 @@
 -- The text of a written table is that of the table.
-use Rattle.std.proofs.Common.{◌≡◌, ℕ, zero, suc, ◌+◌, ◌<◌, ◌≤◌, List, [], ◌∷◌, ◌++◌, length, map, filter, Bool, true, false, not, ◌==◌, ◌&&◌, ◌||◌, nat_le, Some, codes, refl, sym, ap, subst, ◌∙◌, inr, true≢false, append_assoc, append-nil, arith, if◌then◌else◌, slice_index}
+use Rattle.std.proofs.Common.{◌≡◌, ℕ, zero, suc, ◌+◌, ◌<◌, ◌≤◌, List, [], ◌∷◌, ◌++◌, length, map, filter, Bool, true, false, not, ◌==◌, ◌&&◌, ◌||◌, nat_le, Some, codes, refl, sym, ap, subst, ◌∙◌, inr, append_assoc, arith, if◌then◌else◌, slice_index}
 use Rattle.std.specs.List.{list_all, list_any, flat_map, enumerate_from, AllByRecursion, AllZip}
-use Rattle.std.proofs.lemmas.Bool.{cases_Bool, and_parts, and_from}
+use Rattle.std.proofs.lemmas.Bool.{and_parts, and_from, not-true, false≢true}
 use Rattle.std.proofs.lemmas.Bool.Decides.{nat_tests}
 use Rattle.std.proofs.lemmas.List.Folds.{list_all-append}
-use Rattle.std.proofs.lemmas.List.{length-map, length-append}
+use Rattle.std.proofs.lemmas.List.{append-nil, length-map, length-append}
 use Rattle.ca_plane.specs.Bytes.{is_blank, is_line_end, Every, front, rest, without_last_blanks, trimmed, with_front, lines_of, text_of, words_of, IsWord, is_word_byte}
 use Rattle.ca_plane.proofs.Fronts.{every_append, every_left, every_right, every_wider, front_append}
 use Rattle.ca_plane.proofs.Lines.{lines_ahead, words_ahead}
@@ -32,7 +32,7 @@ pub record IsSaid (line : List ℕ) : Type 0 where
 
 lines-back : (lines : List (List ℕ)) → AllByRecursion IsSaid lines → lines_of (text_of lines) ≡ lines
 lines-back [] all = refl
-lines-back (l ∷ ls) all = ap lines_of (append_assoc {A = ℕ} {xs = l}) ∙ lines_ahead l (text_of ls) all.0.one_line ∙ ap (λ more. l ∷ more) (lines-back ls all.1)
+lines-back (l ∷ ls) all = ap lines_of (append_assoc l (10 ∷ []) (text_of ls)) ∙ lines_ahead l (text_of ls) all.0.one_line ∙ ap (λ more. l ∷ more) (lines-back ls all.1)
 
 contents-back : (lines : List (List ℕ)) → AllByRecursion IsSaid lines → map content_of lines ≡ lines
 contents-back [] all = refl
@@ -58,10 +58,6 @@ one-line bytes all = every_wider is_plain (λ b. not (is_line_end b)) (λ b h. (
 no-blanks : (bytes : List ℕ) → Every is_plain bytes → Every (λ b. not (is_blank b)) bytes
 no-blanks bytes all = every_wider is_plain (λ b. not (is_blank b)) (λ b h. (and_parts (not (is_blank b)) _ h).0) bytes all
 
-not-true : (b : Bool) → not b ≡ true → b ≡ false
-not-true true e = cc
-not-true false e = refl
-
 and-false : (b : Bool) → (b && false) ≡ false
 and-false true = refl
 and-false false = refl
@@ -81,8 +77,11 @@ keeps-end [] b bs all = keeps-last (b ∷ bs) all
 keeps-end (x ∷ xs) b bs all =
     let parts = and_parts (not (is_blank b)) (list_all (λ b. not (is_blank b)) bs) all in
     let ends : list_all is_blank ((x ∷ xs) ++ b ∷ bs) ≡ false =
-        list_all-append is_blank (x ∷ xs) (b ∷ bs) ∙ ap (λ v. list_all is_blank (x ∷ xs) && (v && list_all is_blank bs)) (not-true (is_blank b) parts.0) ∙ and-false (list_all is_blank (x ∷ xs)) in
+    list_all-append is_blank (x ∷ xs) (b ∷ bs) ∙ ap (λ v. list_all is_blank (x ∷ xs) && (v && list_all is_blank bs)) (not-true (is_blank b) parts.0) ∙ and-false (list_all is_blank (x ∷ xs)) in
     ap (λ v. if v then [] else x ∷ without_last_blanks (xs ++ b ∷ bs)) ends ∙ ap (λ l. x ∷ l) (keeps-end xs b bs all)
+
+something-said : (b : ℕ) (bs : List ℕ) → nat_le 1 (length (b ∷ bs)) ≡ true
+something-said b bs = grind (arith, nat_tests)
 
 pub plain-said : (b : ℕ) (bs : List ℕ) → Every is_plain (b ∷ bs) → IsSaid (b ∷ bs)
 plain-said b bs all =
@@ -90,9 +89,9 @@ plain-said b bs all =
     record {
       one_line = one-line (b ∷ bs) all;
       content = ap trimmed (front-all (λ b. not (b == 35)) (b ∷ bs) (no-comment (b ∷ bs) all))
-        ∙ ap (λ v. without_last_blanks (if v then rest is_blank bs else b ∷ bs)) (not-true (is_blank b) parts.0)
-        ∙ keeps-last (b ∷ bs) (no-blanks (b ∷ bs) all);
-      something = refl;
+          ∙ ap (λ v. without_last_blanks (if v then rest is_blank bs else b ∷ bs)) (not-true (is_blank b) parts.0)
+          ∙ keeps-last (b ∷ bs) (no-blanks (b ∷ bs) all);
+      something = something-said b bs;
     }
 
 plain-name : (name : List ℕ) → Every is_word_byte name → Every (λ b. not (b == 35)) name → Every is_plain name
@@ -104,14 +103,14 @@ plain-name (b ∷ bs) word all =
     and_from (is_plain b) (list_all is_plain bs) (and_from (not (is_blank b)) _ v.0 (and_from (not (is_line_end b)) _ v.1 n.0)) (plain-name bs w.1 n.1)
 
 rule-line-said : (name : List ℕ) → IsWord name → Every (λ b. not (b == 35)) name → IsSaid (codes "@RULE " ++ name)
-rule-line-said [] word all = absurd (true≢false (sym word))
+rule-line-said [] word all = absurd (false≢true word)
 rule-line-said (b ∷ bs) word all =
     let plain = plain-name (b ∷ bs) word all in
     let none = every_append (λ b. not (b == 35)) (codes "@RULE ") (b ∷ bs) refl all in
     record {
       one_line = every_append (λ b. not (is_line_end b)) (codes "@RULE ") (b ∷ bs) refl (one-line (b ∷ bs) plain);
       content = ap trimmed (front-all (λ b. not (b == 35)) (codes "@RULE " ++ b ∷ bs) none) ∙ keeps-end (codes "@RULE ") b bs (no-blanks (b ∷ bs) plain);
-      something = refl;
+      something = something-said 64 (codes "RULE " ++ b ∷ bs);
     }
 
 name-said : (name : List ℕ) → IsWord name → words_of (codes "@RULE " ++ name) ≡ codes "@RULE" ∷ name ∷ []
@@ -174,28 +173,28 @@ are-fields (zero ∷ cs) result bits low = are-fields cs result bits.1 low
 are-fields (suc zero ∷ cs) result bits low = are-fields cs result bits.1 low
 are-fields (suc (suc n) ∷ cs) result bits low = no-more n bits.0
 
--- the line of nine cells or more is a transition of these fields, and no variable
+no-variable : (n c : ℕ) (cs : List ℕ) (result : ℕ) → c < 2 → begins_variable (n, input_digits (c ∷ cs) ++ digit_of result ∷ []) ≡ false
+no-variable n zero cs result low = refl
+no-variable n (suc zero) cs result low = refl
+no-variable n (suc (suc m)) cs result low = no-more m low
+
+has-comma : (c : ℕ) (cs : List ℕ) (result : ℕ) → c < 2 → list_any (λ b. b == 44) (input_digits (c ∷ cs) ++ digit_of result ∷ []) ≡ true
+has-comma zero cs result low = refl
+has-comma (suc zero) cs result low = refl
+has-comma (suc (suc m)) cs result low = no-more m low
+
+field-count : (cells : List ℕ) (result : ℕ) → length cells ≡ 9 → length (map field_of cells ++ field_of result ∷ []) ≡ 10
+field-count cells result nine = length-append (map field_of cells) (field_of result ∷ []) ∙ ap (λ k. k + 1) (length-map cells field_of ∙ nine)
+
+-- the line of nine cells is a transition of these fields
 is-transition : (n c : ℕ) (cs : List ℕ) (result : ℕ) → AreBits (c ∷ cs) → result < 2 → length (c ∷ cs) ≡ 9
     → IsTransitionLine (n, input_digits (c ∷ cs) ++ digit_of result ∷ []) 10 (map field_of (c ∷ cs) ++ field_of result ∷ [])
 is-transition n c cs result bits low nine = record {
-  no_variable = first-is-none c cs result bits.0;
+  no_variable = no-variable n c cs result bits.0;
   fields_are = ap (λ v. if v then fields_between (input_digits (c ∷ cs) ++ digit_of result ∷ []) else map (λ b. b ∷ []) (input_digits (c ∷ cs) ++ digit_of result ∷ [])) (has-comma c cs result bits.0) ∙ parts-read (c ∷ cs) result bits low;
   are_fields = are-fields (c ∷ cs) result bits low;
   count = field-count (c ∷ cs) result nine;
 }
-  where
-    first-is-none : (c : ℕ) (cs : List ℕ) (result : ℕ) → c < 2 → begins_variable (n, input_digits (c ∷ cs) ++ digit_of result ∷ []) ≡ false
-    first-is-none zero cs result low = refl
-    first-is-none (suc zero) cs result low = refl
-    first-is-none (suc (suc n)) cs result low = no-more n low
-
-    has-comma : (c : ℕ) (cs : List ℕ) (result : ℕ) → c < 2 → list_any (λ b. b == 44) (input_digits (c ∷ cs) ++ digit_of result ∷ []) ≡ true
-    has-comma zero cs result low = refl
-    has-comma (suc zero) cs result low = refl
-    has-comma (suc (suc n)) cs result low = no-more n low
-
-    field-count : (cells : List ℕ) (result : ℕ) → length cells ≡ 9 → length (map field_of cells ++ field_of result ∷ []) ≡ 10
-    field-count cells result nine = length-append (map field_of cells) (field_of result ∷ []) ∙ ap (λ k. k + 1) (length-map cells field_of ∙ nine)
 
 -- cells and a result, of which a transition is made
 pub record IsInput (cells : List ℕ) (result : ℕ) : Type 0 where
@@ -206,10 +205,7 @@ pub record IsInput (cells : List ℕ) (result : ℕ) : Type 0 where
 -- it is said of cells of two states
 says-one : (ts : List Transition) (n : ℕ) (cells : List ℕ) (result : ℕ) → IsInput cells result
     → SaysTransition written_settings (said_of ts) (n, input_digits cells ++ digit_of result ∷ []) (said_of (ts ++ transition cells result ∷ []))
-says-one ts n [] result is = absurd (zero≢nine is.nine)
-  where
-    zero≢nine : 0 ≡ 9 → ⊥
-    zero≢nine e = cc
+says-one ts n [] result is = absurd (omega (arith, is.nine))
 says-one ts n (c ∷ cs) result is = record {
   fields = map field_of (c ∷ cs) ++ field_of result ∷ [];
   inputs = map Number (c ∷ cs);
@@ -219,35 +215,33 @@ says-one ts n (c ∷ cs) result is = record {
   holds = (refl, refl);
 }
 
+one-said : (cells : List ℕ) (result : ℕ) → IsInput cells result → IsSaid (input_digits cells ++ digit_of result ∷ [])
+one-said [] result is = plain-said (digit_of result) [] (plain-digits [] result is.bits is.low)
+one-said (c ∷ cs) result is = plain-said (digit_of c) (44 ∷ (input_digits cs ++ digit_of result ∷ [])) (plain-digits (c ∷ cs) result is.bits is.low)
+
 -- nine cells, as inputs and a result
 module _ (inputs : List ℕ → List ℕ) (next : List ℕ → ℕ) where
-  line-of : List ℕ → List ℕ
-  line-of nine = input_digits (inputs nine) ++ digit_of (next nine) ∷ []
-
   pub says-all : (nines : List (List ℕ)) (ts : List Transition) (n : ℕ) → AllByRecursion (λ nine. IsInput (inputs nine) (next nine)) nines
       → LinesSay written_settings (said_of ts) (enumerate_from n (map (λ nine. input_digits (inputs nine) ++ digit_of (next nine) ∷ []) nines)) (said_of (ts ++ map (λ nine. transition (inputs nine) (next nine)) nines))
   says-all [] ts n all = ap said_of (sym (append-nil ts))
-  says-all (m ∷ ms) ts n all =
-      (said_of (ts ++ transition (inputs m) (next m) ∷ []),
-      inr (says-one ts n (inputs m) (next m) all.0),
-      subst (λ l. LinesSay written_settings (said_of (ts ++ transition (inputs m) (next m) ∷ [])) (enumerate_from (n + 1) (map (λ nine. input_digits (inputs nine) ++ digit_of (next nine) ∷ []) ms)) (said_of l))
-        (append_assoc {A = Transition} {xs = ts})
-        (says-all ms (ts ++ transition (inputs m) (next m) ∷ []) (n + 1) all.1))
+  says-all (m ∷ ms) ts n all = (
+    said_of (ts ++ transition (inputs m) (next m) ∷ []),
+    inr (says-one ts n (inputs m) (next m) all.0),
+    subst (λ l. LinesSay written_settings (said_of (ts ++ transition (inputs m) (next m) ∷ [])) (enumerate_from (n + 1) (map (λ nine. input_digits (inputs nine) ++ digit_of (next nine) ∷ []) ms)) (said_of l))
+        (append_assoc ts (transition (inputs m) (next m) ∷ []) (map (λ nine. transition (inputs nine) (next nine)) ms))
+        (says-all ms (ts ++ transition (inputs m) (next m) ∷ []) (n + 1) all.1),
+  )
 
   all-said : (nines : List (List ℕ)) → AllByRecursion (λ nine. IsInput (inputs nine) (next nine)) nines → AllByRecursion IsSaid (map (λ nine. input_digits (inputs nine) ++ digit_of (next nine) ∷ []) nines)
   all-said [] all = tt
   all-said (m ∷ ms) all = (one-said (inputs m) (next m) all.0, all-said ms all.1)
-    where
-      one-said : (cells : List ℕ) (result : ℕ) → IsInput cells result → IsSaid (input_digits cells ++ digit_of result ∷ [])
-      one-said [] result is = plain-said (digit_of result) [] (plain-digits [] result is.bits is.low)
-      one-said (c ∷ cs) result is = plain-said (digit_of c) (44 ∷ (input_digits cs ++ digit_of result ∷ [])) (plain-digits (c ∷ cs) result is.bits is.low)
 
   -- the head and the lines of transitions are the text of the table
   pub is-table : (name : List ℕ) (nines : List (List ℕ)) → IsTableName name → AllByRecursion (λ nine. IsInput (inputs nine) (next nine)) nines
       → IsTable (text_of (head_lines name ++ map (λ nine. input_digits (inputs nine) ++ digit_of (next nine) ∷ []) nines)) (table_from name written_settings (said_of (map (λ nine. transition (inputs nine) (next nine)) nines)))
   is-table name nines is all =
       let lines = map (λ nine. input_digits (inputs nine) ++ digit_of (next nine) ∷ []) nines in
-      let said : AllByRecursion IsSaid (head_lines name ++ lines) = (rule-line-said name is.word is.no_comment, plain-said 64 _ refl, plain-said 110 _ refl, plain-said 110 _ refl, plain-said 115 _ refl, all-said nines all) in
+      let said : AllByRecursion IsSaid (head_lines name ++ lines) = (rule-line-said name is.word is.no_comment, (plain-said 64 (codes "TABLE") refl, (plain-said 110 (codes "_states:2") refl, (plain-said 110 (codes "eighborhood:Moore") refl, (plain-said 115 (codes "ymmetries:none") refl, all-said nines all))))) in
       record {
         name = name;
         setting_lines = (3, codes "n_states:2") ∷ (4, codes "neighborhood:Moore") ∷ (5, codes "symmetries:none") ∷ [];

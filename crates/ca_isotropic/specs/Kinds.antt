@@ -1,6 +1,6 @@
 -- The 51 kinds of neighbourhoods of Hensel's notation: a number of live neighbours, and where it is 1 to 7 a letter (Golly
 -- Help, QuickLife: non-totalistic rules; LifeWiki, "Isotropic non-totalistic rule").
-use Rattle.std.specs.Prelude.{ℕ, ◌-◌, List, [], ◌∷◌, ◌++◌, Bool, ◌==◌, nat_le, map, find, Option, option_map, slice_index, codes, if◌then◌else◌}
+use Rattle.std.specs.Prelude.{ℕ, ◌-◌, List, [], ◌∷◌, ◌++◌, Bool, ◌==◌, nat_le, map, filter, length, ◌||◌, find, Option, option_map, slice_index, codes, if◌then◌else◌}
 use Rattle.std.specs.List.{list_any}
 use Rattle.std.specs.Str.{bytes_eq}
 use Prim.Native.String.{String}
@@ -104,7 +104,7 @@ live_neighbours nine = neighbour_count Moore nine
 
 -- nine cells with live and dead ones exchanged
 abbrev pub exchanged : List ℕ → List ℕ
-exchanged nine = map (λ cell. if cell == 0 then 1 else 0) nine
+exchanged nine = map (λ place. if slice_index nine place == 0 then 1 else 0) (0 ∷ 1 ∷ 2 ∷ 3 ∷ 4 ∷ 5 ∷ 6 ∷ 7 ∷ 8 ∷ [])
 
 -- the letter of the kind among these that the neighbourhood is of
 abbrev pub letter_among : List Kind → List ℕ → Option ℕ
@@ -116,3 +116,13 @@ abbrev pub letter_of : List ℕ → Option ℕ
 letter_of nine =
     if nat_le (live_neighbours nine) 4 then letter_among (kinds_with (live_neighbours nine)) nine
     else letter_among (kinds_with (8 - live_neighbours nine)) (exchanged nine)
+
+-- the kinds, among those with its number of live neighbours, that a neighbourhood is of
+abbrev pub kinds_of : List ℕ → List Kind
+kinds_of nine =
+    if nat_le (live_neighbours nine) 4 then filter (is_of_kind nine) (kinds_with (live_neighbours nine))
+    else filter (is_of_kind (exchanged nine)) (kinds_with (8 - live_neighbours nine))
+
+-- with no live neighbours there is one neighbourhood, and with eight: their kinds have no letters
+abbrev pub has_no_letter : List ℕ → Bool
+has_no_letter nine = (live_neighbours nine == 0) || (live_neighbours nine == 8)

@@ -3,4 +3,5 @@ pub mod Isotropic
 pub mod Map
 pub mod TextRules
 pub mod RuleFiles
+pub mod Examples
 pub mod inner

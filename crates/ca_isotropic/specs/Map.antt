@@ -41,12 +41,14 @@ number_of nine =
 abbrev pub map_next : List ℕ → List ℕ → ℕ
 map_next characters nine = bit_of characters (number_of nine)
 
--- the text is a MAP string: `MAP` in capitals and 86 characters of base64. They have 516 bits, of which the last four, which
--- are of no neighbourhood, are 0 (that they have to be is our own)
+-- 86 characters of base64. They have 516 bits, of which the last four, which are of no neighbourhood, are 0 (that they have to
+-- be is our own)
+abbrev pub are_characters : List ℕ → Bool
+are_characters characters = (length characters == 86) && (list_all is_base64 characters && (sextet (slice_index characters 85) % 16 == 0))
+
+-- the text is a MAP string: `MAP` in capitals and these characters
 pub record IsMap (text characters : List ℕ) : Type 0 where
-  pub count : length characters ≡ 86
-  pub base64 : IsTrue (list_all is_base64 characters)
-  pub last : sextet (slice_index characters 85) % 16 ≡ 0
+  pub good : IsTrue (are_characters characters)
   pub form : text ≡ codes "MAP" ++ characters
 
 -- the text names the rule, which leaves the empty plane empty

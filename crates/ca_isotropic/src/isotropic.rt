@@ -81,7 +81,10 @@ fn spelled_lists(text: &[u8]) -> Option<(&[u8], &[u8])>
     ensures none { IfNone result (SpellsNoIsotropicRule text.now) }
 {
     let (birth, survival) = lists_of(text)?;
-    if !is_kind_list(birth) || !is_kind_list(survival) {
+    if !is_kind_list(birth) {
+        return None;
+    }
+    if !is_kind_list(survival) {
         return None;
     }
     Some((birth, survival))

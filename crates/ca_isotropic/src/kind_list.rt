@@ -1,7 +1,7 @@
 //! Lists of kinds of neighbourhoods, as `2-a3ij`.
 
 ghost use Rattle.std.specs.Prelude.{◌≡◌, ◌∷◌, ◌<◌, [], not, length, MatchOption, IfSome};
-ghost use Rattle.std.specs.List.{list_all, prefix_len};
+ghost use Rattle.std.specs.List.{list_all, list_any, prefix_len};
 ghost use Rattle.ca_plane.specs.Bytes.{is_digit, front, rest};
 ghost use Rattle.ca_isotropic.specs.Isotropic.{is_letter, lettered_kinds, has_letter, are_letters, is_part};
 ghost use Rattle.ca_isotropic.specs.Isotropic.{parts, is_kind_list, is_named, picks, part_has, has_kind};
@@ -84,6 +84,7 @@ fn split_before_digit(bytes: &[u8]) -> (&[u8], &[u8])
 }
 
 /// The first byte of the first part of a list, the bytes after it in that part, and the other parts.
+#[tactic(auto, using(crate::proofs::Parts::first_part, crate::proofs::Parts::rest_no_longer))]
 fn next_part(list: &[u8]) -> Option<(u8, &[u8], &[u8])>
     ensures parts { MatchOption result (list.now ≡ [])
         (λ p. parts list.now ≡ (p.0 ∷ p.1.now) ∷ parts p.2.now) }
@@ -114,8 +115,15 @@ fn is_named(letters: &[u8], kind: Option<u8>) -> bool
 {
     match kind {
         None => false,
-        Some(lower) => letters.iter().any(|byte| is_letter(lower, *byte)),
+        Some(lower) => is_among(letters, lower),
     }
+}
+
+/// Whether one of the bytes is this letter, which is given in lower case.
+fn is_among(letters: &[u8], lower: u8) -> bool
+    ensures { result ≡ list_any (is_letter lower) letters.now }
+{
+    letters.iter().any(|byte| is_letter(lower, *byte))
 }
 
 /// Whether what follows a digit picks the kind of this letter.

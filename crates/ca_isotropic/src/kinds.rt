@@ -1,6 +1,6 @@
 //! The kinds of neighbourhoods of isotropic rules.
 
-ghost use Rattle.std.specs.Prelude.{◌≡◌};
+ghost use Rattle.std.specs.Prelude.{◌≡◌, ◌==◌, if◌then◌else◌};
 ghost use Rattle.std.specs.List.{list_any};
 ghost use Rattle.std.specs.Str.{bytes_eq};
 ghost use Rattle.ca_isotropic.specs.Kinds.{kinds_with, turned, mirrored, turns, neighbours, is_of_kind};
@@ -234,7 +234,25 @@ pub(crate) fn live_neighbours(nine: &Nine) -> u16
 fn exchanged(nine: &Nine) -> Nine
     ensures { result ≡ exchanged nine.now }
 {
-    nine.map(|cell| u8::from(cell == 0))
+    let [nw, n, ne, w, c, e, sw, s, se] = *nine;
+    [
+        other(nw),
+        other(n),
+        other(ne),
+        other(w),
+        other(c),
+        other(e),
+        other(sw),
+        other(s),
+        other(se),
+    ]
+}
+
+/// A live cell for a dead one, and a dead one for any other.
+fn other(cell: u8) -> u8
+    ensures { result ≡ (if cell == 0 then 1 else 0) }
+{
+    u8::from(cell == 0)
 }
 
 /// The letter of the kind among these that the neighbourhood is of.

@@ -5,12 +5,14 @@ mod fault;
 mod isotropic;
 mod kind_list;
 mod kinds;
+mod laws;
 mod map;
-mod rule_file;
+mod texts;
 mod writing;
 
 pub use fault::RuleFileFault;
 pub use isotropic::IsotropicRule;
+pub use laws::{all_letters, digits_alone, one_kind, one_text_rule, worked_rules};
 pub use map::MapRule;
-pub use rule_file::rule_file;
+pub use texts::rule_file;
 pub use writing::table_file;

@@ -1,8 +1,9 @@
 //! Rules as MAP strings.
 
 ghost use Rattle.std.specs.Prelude.{◌≡◌, ◌<◌, ◌^◌, ◌-◌, ℕ, List, replicate, IfOk, IfErr, IfSome, IfNone};
-ghost use Rattle.ca_isotropic.specs.Map.{is_base64, sextet, bit_of, number_of, map_next, IsMap};
-ghost use Rattle.ca_isotropic.specs.Map.{NamesMap, IsMapFault};
+ghost use Rattle.std.specs.List.{list_all};
+ghost use Rattle.ca_isotropic.specs.Map.{is_base64, sextet, bit_of, number_of, map_next, are_characters};
+ghost use Rattle.ca_isotropic.specs.Map.{IsMap, NamesMap, IsMapFault};
 ghost use Rattle.std.proofs.Common.{arith, rules};
 ghost use Rattle.std.proofs.lemmas.Bool.Decides.{nat_tests};
 
@@ -63,18 +64,33 @@ impl Automaton for MapRule<'_> {
 }
 
 /// The characters of a MAP string.
+#[tactic(auto, using(crate::proofs::Maps::same_characters))]
 fn map_characters(text: &[u8]) -> Option<&[u8]>
     ensures found { IfSome result (λ c. IsMap text.now c.now) }
     ensures none { IfNone result ((characters : List ℕ) → IsMap text.now characters → ⊥) }
 {
     let characters = strip(text, b"MAP")?;
-    if characters.len() != 86 || !characters.iter().all(|byte| is_base64(*byte)) {
-        return None;
-    }
-    if sextet(characters[85]) % 16 != 0 {
+    if !are_characters(characters) {
         return None;
     }
     Some(characters)
+}
+
+/// Whether the bytes are 86 characters of base64 whose last four bits are 0.
+fn are_characters(characters: &[u8]) -> bool
+    ensures { result ≡ are_characters characters.now }
+{
+    if characters.len() != 86 {
+        return false;
+    }
+    are_base64(characters) && sextet(characters[85]) % 16 == 0
+}
+
+/// Whether each byte is a character of base64.
+fn are_base64(bytes: &[u8]) -> bool
+    ensures { result ≡ list_all is_base64 bytes.now }
+{
+    bytes.iter().all(|byte| is_base64(*byte))
 }
 
 /// Whether the byte is a character of base64.

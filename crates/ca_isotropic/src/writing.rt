@@ -1,6 +1,6 @@
 //! The rule file of a rule of two states.
 
-ghost use Rattle.std.specs.Prelude.{◌≡◌, ◌∷◌, [], ℕ, List, OnOk, IfOk};
+ghost use Rattle.std.specs.Prelude.{◌≡◌, ◌<◌, ◌/◌, ◌%◌, ◌∷◌, [], ℕ, List, OnOk, IfOk};
 ghost use Rattle.ca_plane.specs.Bytes.{text_of};
 ghost use Rattle.ca_plane.specs.Puts.{Puts};
 ghost use Rattle.ca_isotropic.specs.RuleFiles.{IsTableName, WritesRule};
@@ -43,7 +43,8 @@ fn push_head(out: &mut Vec<u8>, name: &[u8]) -> Result<(), Memory>
     push_text(
         out,
         b"\n@TABLE\nn_states:2\nneighborhood:Moore\nsymmetries:none\n",
-    )
+    )?;
+    Ok(())
 }
 
 /// Puts a transition for each neighbourhood whose centre changes.
@@ -88,15 +89,14 @@ fn cell(number: u16, weight: u16) -> u8
 
 /// Puts the line of a transition.
 fn push_transition(out: &mut Vec<u8>, nine: &Nine, next: u8) -> Result<(), Memory>
-    ensures { (rule : List ℕ → ℕ) → rule nine.now ≡ next
-        → OnOk result (Puts out.old.items out.new.items (text_of (transition_line rule nine.now ∷ []))) }
+    ensures { OnOk result (Puts out.old.items out.new.items (text_of (transition_line nine.now next ∷ []))) }
 {
-    let [nw, n, ne, w, c, e, sw, s, se] = nine.map(digit);
-    let line = [
-        c, b',', n, b',', ne, b',', e, b',', se, b',', s, b',', sw, b',', w, b',', nw, b',',
-        digit(next), b'\n',
-    ];
-    push_text(out, &line)
+    let [nw, n, ne, w, c, e, sw, s, se] = *nine;
+    push_text(out, &[digit(c), b',', digit(n), b',', digit(ne), b','])?;
+    push_text(out, &[digit(e), b',', digit(se), b',', digit(s), b','])?;
+    push_text(out, &[digit(sw), b',', digit(w), b',', digit(nw), b','])?;
+    push_text(out, &[digit(next), b'\n'])?;
+    Ok(())
 }
 
 /// The digit of a cell.

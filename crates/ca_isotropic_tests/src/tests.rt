@@ -1,3 +1,4 @@
 //! The tests, by what they try.
 
+mod callers;
 mod texts;

@@ -19,16 +19,16 @@ inputs_of nine = map (slice_index nine) (4 ∷ 1 ∷ 2 ∷ 5 ∷ 8 ∷ 7 ∷ 6 �
 abbrev pub input_digits : List ℕ → List ℕ
 input_digits inputs = flat_map (λ cell. digit_of cell ∷ 44 ∷ []) inputs
 
--- the line of a transition: its inputs, then its result
-abbrev pub transition_line : (List ℕ → ℕ) → List ℕ → List ℕ
-transition_line next nine = input_digits (inputs_of nine) ++ digit_of (next nine) ∷ []
+-- the line of a transition: the inputs of nine cells, then its result
+abbrev pub transition_line : List ℕ → ℕ → List ℕ
+transition_line nine result = input_digits (inputs_of nine) ++ digit_of result ∷ []
 
 -- the neighbourhood with this number: its binary digits
 abbrev pub neighbourhood : ℕ → List ℕ
 neighbourhood n = map (λ weight. n / weight % 2) (256 ∷ 128 ∷ 64 ∷ 32 ∷ 16 ∷ 8 ∷ 4 ∷ 2 ∷ 1 ∷ [])
 
 -- the first neighbourhoods
-abbrev pub neighbourhoods : ℕ → List (List ℕ)
+unfoldable pub neighbourhoods : ℕ → List (List ℕ)
 neighbourhoods count = map neighbourhood (range_with_len 0 count)
 
 -- the centre changes
@@ -37,4 +37,4 @@ changes next nine = not (next nine == slice_index nine 4)
 
 -- the lines of the transitions of the first neighbourhoods
 abbrev pub transition_lines : (List ℕ → ℕ) → ℕ → List (List ℕ)
-transition_lines next count = map (transition_line next) (filter (changes next) (neighbourhoods count))
+transition_lines next count = map (λ nine. transition_line nine (next nine)) (filter (changes next) (neighbourhoods count))

@@ -1,0 +1,68 @@
+-- A list of kinds without letters has the kinds whose numbers of live neighbours are its digits.
+use Rattle.std.proofs.Common.{◌≡◌, ℕ, zero, suc, ◌+◌, ◌≤◌, ◌<◌, List, [], ◌∷◌, map, length, Bool, true, false, ◌==◌, ◌&&◌, ◌||◌, nat_le, Option, refl, sym, ap, ◌∙◌, arith, All, slice_index, get_or, if◌then◌else◌}
+use Rattle.std.specs.List.{list_all, list_any}
+use Rattle.std.proofs.lemmas.Bool.{and_parts}
+use Rattle.std.proofs.lemmas.Bool.Decides.{nat_tests}
+use Rattle.ca_plane.specs.Bytes.{Every, is_digit, is_end_or, with_front}
+use Rattle.ca_plane.proofs.Fronts.{every_wider}
+use Rattle.ca_rule.specs.Counts.{is_count, has_digit, counts_of, are_digits_up_to}
+use Rattle.ca_isotropic.specs.Kinds.{live_neighbours, letter_of}
+use Rattle.ca_isotropic.specs.Isotropic.{parts, part_has, has_kind, isotropic_next}
+use Rattle.ca_isotropic.specs.Examples.{AreNineCells, counted_next}
+
+digit-parts : (ds : List ℕ) → Every is_digit ds → parts ds ≡ map (λ d. d ∷ []) ds
+digit-parts [] all = refl
+digit-parts (d ∷ []) all = refl
+digit-parts (d ∷ e ∷ ds) all =
+    let both = and_parts (is_digit d) (list_all is_digit (e ∷ ds)) all in
+    let next = and_parts (is_digit e) (list_all is_digit ds) both.1 in
+    ap (λ v. if v then (d ∷ []) ∷ parts (e ∷ ds) else with_front d (parts (e ∷ ds))) next.0 ∙ ap (λ ps. (d ∷ []) ∷ ps) (digit-parts (e ∷ ds) both.1)
+
+and-true : (b : Bool) → (b && true) ≡ b
+and-true true = refl
+and-true false = refl
+
+digit-among : (n : ℕ) (kind : Option ℕ) (ds : List ℕ) → list_any (part_has n kind) (map (λ d. d ∷ []) ds) ≡ has_digit ds n
+digit-among n kind [] = refl
+digit-among n kind (d ∷ ds) = ap (λ v. v || list_any (part_has n kind) (map (λ d. d ∷ []) ds)) (and-true (d == 48 + n)) ∙ ap (λ v. (d == 48 + n) || v) (digit-among n kind ds)
+
+count-read : (ds : List ℕ) (n : ℕ) → n < 9 → is_count (counts_of ds) n ≡ has_digit ds n
+count-read ds zero h = refl
+count-read ds (suc zero) h = refl
+count-read ds (suc (suc zero)) h = refl
+count-read ds (suc (suc (suc zero))) h = refl
+count-read ds (suc (suc (suc (suc zero)))) h = refl
+count-read ds (suc (suc (suc (suc (suc zero))))) h = refl
+count-read ds (suc (suc (suc (suc (suc (suc zero)))))) h = refl
+count-read ds (suc (suc (suc (suc (suc (suc (suc zero))))))) h = refl
+count-read ds (suc (suc (suc (suc (suc (suc (suc (suc zero)))))))) h = refl
+count-read ds (suc (suc (suc (suc (suc (suc (suc (suc (suc n))))))))) h = absurd (omega arith)
+
+few-neighbours : (nine : List ℕ) → AreNineCells nine → live_neighbours nine < 9
+few-neighbours nine are =
+    let a : slice_index nine 0 < 2 = are.two_states 0 0 (omega (arith, are.nine_cells)) in
+    let b : slice_index nine 1 < 2 = are.two_states 1 0 (omega (arith, are.nine_cells)) in
+    let c : slice_index nine 2 < 2 = are.two_states 2 0 (omega (arith, are.nine_cells)) in
+    let d : slice_index nine 3 < 2 = are.two_states 3 0 (omega (arith, are.nine_cells)) in
+    let e : slice_index nine 5 < 2 = are.two_states 5 0 (omega (arith, are.nine_cells)) in
+    let f : slice_index nine 6 < 2 = are.two_states 6 0 (omega (arith, are.nine_cells)) in
+    let g : slice_index nine 7 < 2 = are.two_states 7 0 (omega (arith, are.nine_cells)) in
+    let h : slice_index nine 8 < 2 = are.two_states 8 0 (omega (arith, are.nine_cells)) in
+    omega arith
+
+digits-only : (ds : List ℕ) → are_digits_up_to 8 ds ≡ true → Every is_digit ds
+digits-only ds all = every_wider (λ d. nat_le 48 d && nat_le d 56) is_digit (λ d t. grind (arith, nat_tests)) ds all
+
+kinds-counted : (ds nine : List ℕ) → are_digits_up_to 8 ds ≡ true → AreNineCells nine → has_kind ds nine ≡ is_count (counts_of ds) (live_neighbours nine)
+kinds-counted ds nine all are =
+    ap (list_any (part_has (live_neighbours nine) (letter_of nine))) (digit-parts ds (digits-only ds all))
+    ∙ digit-among (live_neighbours nine) (letter_of nine) ds ∙ sym (count-read ds (live_neighbours nine) (few-neighbours nine are))
+
+-- the next state by whether the centre is born or survives
+abbrev next_if : ℕ → Bool → Bool → ℕ
+next_if centre born survives = if centre == 0 then (if born then 1 else 0) else (if centre == 1 then (if survives then 1 else 0) else 0)
+
+pub digits-next : (birth survival nine : List ℕ) → are_digits_up_to 8 birth ≡ true → are_digits_up_to 8 survival ≡ true → AreNineCells nine → isotropic_next birth survival nine ≡ counted_next birth survival nine
+digits-next birth survival nine b s are =
+    ap (λ v. next_if (slice_index nine 4) v (has_kind survival nine)) (kinds-counted birth nine b are)
+    ∙ ap (next_if (slice_index nine 4) (is_count (counts_of birth) (live_neighbours nine))) (kinds-counted survival nine s are)

@@ -1,0 +1,18 @@
+use Rattle.std.proofs.Common.{◌≡◌, ℕ, ◌<◌, List, length, All, ◌++◌, refl, sym, ap, subst, ◌∙◌}
+use Rattle.ca_plane.specs.Bytes.{text_of}
+use Rattle.ca_isotropic.specs.inner.WrittenTables.{head_lines, transition_lines}
+use Rattle.ca_isotropic.proofs.WrittenFiles.{IsOfTwoStates, writes}
+use Rattle.ca_isotropic.proofs.writing.table_file.Goals as goal
+
+pub returns : goal.returns
+returns g c =
+    let rule = c.args.rule.now in
+    let next = g.A.Automaton.next_of rule in
+    let sound = c.states-states.ensures.sound in
+    let two : IsOfTwoStates next = record {
+      closed = λ nine long bits. subst (λ k. next nine < k) c.requires.two (g.met.A.Automaton.closed rule nine sound long (subst (λ k. All (λ s. s < k) nine) (sym c.requires.two) bits));
+      quiet = g.met.A.Automaton.quiet rule sound;
+    } in
+    let name = c.args.name.now in
+    writes next two name c.push_transitions.new.out.items c.requires.named
+    (c.in_ok-push_transitions.ensures.whole ∙ ap (λ l. l ++ text_of (transition_lines next 512)) (c.in_ok-push_head.ensures.whole ∙ ap (λ l. l ++ text_of (head_lines name)) c.new-out.ensures.items))
