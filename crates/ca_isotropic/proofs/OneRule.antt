@@ -43,8 +43,11 @@ lettered-no-map first second text list later characters hood u f m =
 abbrev begins : ℕ → List ℕ → Type 0
 begins b list = (bs : List ℕ) × (list ≡ b ∷ bs)
 
+slash-is-no-m : (n : ℕ) → n ≡ 47 → n ≡ 77 → ⊥
+slash-is-no-m n is other = omega arith
+
 unlettered-no-map : (text survival birth characters : List ℕ) (hood : Hood) → (begins 77 survival → ⊥) → IsUnlettered text survival birth hood → IsMap text characters → ⊥
-unlettered-no-map text [] birth characters hood never f m = let e : 47 ≡ 77 = ap first_of (sym f.2 ∙ m.form) in absurd (omega arith)
+unlettered-no-map text [] birth characters hood never f m = slash-is-no-m (first_of text) (ap first_of f.2) (ap first_of m.form)
 unlettered-no-map text (b ∷ bs) birth characters hood never f m = never (bs, ap (λ x. x ∷ bs) (ap first_of (sym f.2 ∙ m.form)))
 
 formed-no-map : (text birth survival characters : List ℕ) (hood : Hood) → (begins 77 survival → ⊥)
