@@ -70,16 +70,17 @@ const FAULTS: [(&[u8], RuleFault); 12] = [
 
 /// The neighbourhood with this number.
 fn neighbourhood(number: usize) -> Nine {
+    let cell = |weight: usize| (number / weight % 2) as u8;
     [
-        (number / 256 % 2) as u8,
-        (number / 128 % 2) as u8,
-        (number / 64 % 2) as u8,
-        (number / 32 % 2) as u8,
-        (number / 16 % 2) as u8,
-        (number / 8 % 2) as u8,
-        (number / 4 % 2) as u8,
-        (number / 2 % 2) as u8,
-        (number % 2) as u8,
+        cell(256),
+        cell(128),
+        cell(64),
+        cell(32),
+        cell(16),
+        cell(8),
+        cell(4),
+        cell(2),
+        cell(1),
     ]
 }
 
