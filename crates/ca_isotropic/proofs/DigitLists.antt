@@ -1,9 +1,9 @@
 -- A list of kinds without letters has the kinds whose numbers of live neighbours are its digits.
-use Rattle.std.proofs.Common.{◌≡◌, ℕ, zero, suc, ◌+◌, ◌≤◌, ◌<◌, List, [], ◌∷◌, map, length, Bool, true, false, ◌==◌, ◌&&◌, ◌||◌, nat_le, Option, refl, sym, ap, ◌∙◌, arith, All, slice_index, get_or, if◌then◌else◌}
+use Rattle.std.proofs.Common.{◌≡◌, ℕ, zero, suc, ◌+◌, ◌<◌, List, [], ◌∷◌, map, Bool, true, false, ◌==◌, ◌&&◌, ◌||◌, nat_le, Option, refl, sym, ap, ◌∙◌, arith, slice_index, if◌then◌else◌}
 use Rattle.std.specs.List.{list_all, list_any}
 use Rattle.std.proofs.lemmas.Bool.{and_parts}
 use Rattle.std.proofs.lemmas.Bool.Decides.{nat_tests}
-use Rattle.ca_plane.specs.Bytes.{Every, is_digit, is_end_or, with_front}
+use Rattle.ca_plane.specs.Bytes.{Every, is_digit, with_front}
 use Rattle.ca_plane.proofs.Fronts.{every_wider}
 use Rattle.ca_rule.specs.Counts.{is_count, has_digit, counts_of, are_digits_up_to}
 use Rattle.ca_isotropic.specs.Kinds.{live_neighbours, letter_of}

@@ -1,10 +1,10 @@
 -- What is read from the text of an isotropic rule is what it spells, and nothing else.
-use Rattle.std.proofs.Common.{◌≡◌, ℕ, ◌+◌, ◌≤◌, List, [], ◌∷◌, ◌++◌, Bool, true, false, not, ◌==◌, ◌&&◌, ◌||◌, Option, Some, None, if◌then◌else◌, refl, sym, ap, ◌∙◌, inl, inr, ◌⊎◌, arith}
+use Rattle.std.proofs.Common.{◌≡◌, ℕ, List, [], ◌∷◌, ◌++◌, Bool, true, false, not, ◌==◌, ◌||◌, Option, Some, None, if◌then◌else◌, refl, sym, ap, ◌∙◌, inl, inr, ◌⊎◌, arith}
 use Rattle.std.proofs.lemmas.List.{append-nil}
 use Rattle.std.specs.List.{list_all}
-use Rattle.std.proofs.lemmas.Bool.{cases_Bool, and_parts, and_from}
+use Rattle.std.proofs.lemmas.Bool.{cases_Bool, and_parts}
 use Rattle.std.proofs.lemmas.Bool.Decides.{nat_tests}
-use Rattle.ca_plane.specs.Bytes.{Every, front, rest, is_end_or}
+use Rattle.ca_plane.specs.Bytes.{Every, is_end_or}
 use Rattle.ca_plane.proofs.Fronts.{front_then_rest, front_append, rest_append}
 use Rattle.ca_rule.specs.Spelling.{IsLetter, IsOptionalSlash, IsLettered, IsUnlettered}
 use Rattle.ca_rule.specs.declared.hood.Hood.TheVariants.{Moore}
@@ -13,7 +13,7 @@ use Rattle.ca_rule.proofs.Ends.{IsLetter-from_test, is_rule_letter-from}
 use Rattle.ca_rule.proofs.SpelledDigits.{first_list, second_list}
 use Rattle.ca_isotropic.specs.Isotropic.{is_kind_list, SpellsIsotropicRule}
 use Rattle.ca_isotropic.specs.inner.KindTexts.{ends_list, list_front, list_rest, lists_around, lists_around_slash, lists_of}
-use Rattle.ca_isotropic.proofs.ListBytes.{is_list_byte, list-bytes, ends-none}
+use Rattle.ca_isotropic.proofs.ListBytes.{list-bytes, ends-none}
 
 -- B or S
 abbrev IsBOrS : ℕ → Type 0

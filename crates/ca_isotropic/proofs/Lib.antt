@@ -10,3 +10,4 @@ pub mod PutTexts
 pub mod Neighbourhoods
 pub mod DigitLists
 pub mod OneRule
+pub mod TextBytes

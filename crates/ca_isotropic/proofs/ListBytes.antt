@@ -1,5 +1,5 @@
 -- The bytes of lists of kinds: none of them ends a list, is a blank or a `#`, or ends a line.
-use Rattle.std.proofs.Common.{◌≡◌, ℕ, ◌+◌, ◌-◌, List, [], ◌∷◌, ◌++◌, length, map, Bool, true, false, not, ◌==◌, ◌&&◌, ◌||◌, nat_le, refl, sym, ap, ◌∙◌, inl, inr, ◌⊎◌, arith, if◌then◌else◌}
+use Rattle.std.proofs.Common.{◌≡◌, ℕ, ◌+◌, ◌-◌, List, [], ◌∷◌, length, Bool, true, false, not, ◌==◌, ◌&&◌, nat_le, refl, ap, ◌∙◌, inl, inr, arith, if◌then◌else◌}
 use Rattle.std.specs.List.{list_all, list_any}
 use Rattle.std.proofs.lemmas.Bool.{cases_Bool, and_parts, and_from, or_cases, false≢true}
 use Rattle.std.proofs.lemmas.Bool.Decides.{nat_tests}
@@ -9,11 +9,11 @@ use Rattle.ca_isotropic.specs.declared.kinds.Kind.{Kind}
 use Rattle.ca_isotropic.specs.Kinds.{kinds_of_one, kinds_of_two, kinds_of_three, kinds_of_four, kinds_with}
 use Rattle.ca_isotropic.specs.Isotropic.{is_letter, lettered_kinds, has_letter, are_letters, is_part, parts, is_kind_list}
 use Rattle.ca_isotropic.specs.inner.KindTexts.{ends_list}
-use Rattle.ca_isotropic.proofs.WrittenTables.{is_plain}
+use Rattle.ca_isotropic.proofs.TextBytes.{is_text_byte}
 
 -- a byte that may be in a list of kinds
 abbrev pub is_list_byte : ℕ → Bool
-is_list_byte b = not (ends_list b) && is_plain b
+is_list_byte b = not (ends_list b) && is_text_byte b
 
 -- ---- letters
 
@@ -103,7 +103,7 @@ pub list-bytes : (list : List ℕ) → is_kind_list list ≡ true → Every is_l
 list-bytes list is = parts-stand list (all-parts (parts list) is)
 
 pub ends-none : (list : List ℕ) → Every is_list_byte list → Every (λ b. not (ends_list b)) list
-ends-none list all = every_wider is_list_byte (λ b. not (ends_list b)) (λ b h. (and_parts (not (ends_list b)) (is_plain b) h).0) list all
+ends-none list all = every_wider is_list_byte (λ b. not (ends_list b)) (λ b h. (and_parts (not (ends_list b)) (is_text_byte b) h).0) list all
 
-pub plain-list : (list : List ℕ) → Every is_list_byte list → Every is_plain list
-plain-list list all = every_wider is_list_byte is_plain (λ b h. (and_parts (not (ends_list b)) (is_plain b) h).1) list all
+pub text-list : (list : List ℕ) → Every is_list_byte list → Every is_text_byte list
+text-list list all = every_wider is_list_byte is_text_byte (λ b h. (and_parts (not (ends_list b)) (is_text_byte b) h).1) list all

@@ -1,7 +1,7 @@
 -- What holds of each of the 512 neighbourhoods holds of any nine cells of two states.
-use Rattle.std.proofs.Common.{◌≡◌, ℕ, ◌+◌, ◌<◌, List, [], ◌∷◌, map, length, Bool, true, false, not, ◌==◌, ◌||◌, Option, Some, None, codes, refl, sym, ap, ◌∙◌, inl, inr, arith, All, if◌then◌else◌}
-use Rattle.std.specs.List.{list_all, range_with_len}
-use Rattle.std.proofs.lemmas.Bool.{and_parts, false≢true}
+use Rattle.std.proofs.Common.{◌≡◌, ℕ, List, [], ◌∷◌, length, Bool, true, false, not, ◌==◌, Option, Some, None, codes, refl, sym, ap, ◌∙◌, inl, inr, arith, if◌then◌else◌}
+use Rattle.std.specs.List.{list_all}
+use Rattle.std.proofs.lemmas.Bool.{and_parts}
 use Rattle.std.proofs.lemmas.Bool.Decides.{nat_tests}
 use Rattle.ca_isotropic.specs.Kinds.{turned, mirrored, letter_of, kinds_of, has_no_letter}
 use Rattle.ca_isotropic.specs.Isotropic.{has_kind}

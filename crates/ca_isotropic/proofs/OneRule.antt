@@ -1,22 +1,25 @@
 -- A text names one rule of two states at most, and no rule where it has a fault.
-use Rattle.std.proofs.Common.{◌≡◌, ℕ, ◌+◌, List, [], ◌∷◌, ◌++◌, Bool, true, false, not, ◌==◌, ◌&&◌, ◌||◌, nat_le, codes, refl, sym, ap, subst, ◌∙◌, inl, inr, ◌⊎◌, arith}
+use Rattle.std.proofs.Common.{◌≡◌, ℕ, List, [], ◌∷◌, true, false, not, refl, sym, ap, subst, ◌∙◌, inl, inr, ◌⊎◌, arith, replicate}
 use Rattle.std.specs.List.{list_all}
-use Rattle.std.proofs.lemmas.Bool.{cases_Bool, and_parts, false≢true}
-use Rattle.std.proofs.lemmas.Bool.Decides.{nat_tests}
+use Rattle.std.proofs.lemmas.Bool.{false≢true}
 use Rattle.ca_plane.specs.Bytes.{Every, is_digit, front, rest}
-use Rattle.ca_rule.specs.Spelling.{IsLetter, IsLettered, IsUnlettered, SpellsBsRule, NamesBsRule}
-use Rattle.ca_rule.specs.declared.bs_rule.BsRule.{BsRule}
+use Rattle.ca_rule.specs.Spelling.{IsLetter, IsLettered, IsUnlettered, SpellsBsRule}
 use Rattle.ca_rule.specs.declared.hood.Hood.{Hood}
 use Rattle.ca_rule.specs.declared.hood.Hood.TheVariants.{Moore}
-use Rattle.ca_rule.proofs.Meaning.{names-once}
+use Rattle.ca_rule.specs.Spelling.{has_colon}
+use Rattle.ca_rule.specs.declared.fault.RuleFault.{RuleFault}
+use Rattle.ca_rule.specs.declared.fault.RuleFault.TheVariants.{Bounded, Wakes, Unknown}
+use Rattle.ca_rule.proofs.Meaning.{names-once, names-faultless}
 use Rattle.ca_rule.proofs.Rules.{same-equal}
 use Rattle.ca_rule.proofs.ReadInwards.{digits-of}
-use Rattle.ca_isotropic.specs.Isotropic.{is_part, parts, is_kind_list, SpellsIsotropicRule}
-use Rattle.ca_isotropic.specs.Map.{IsMap}
-use Rattle.ca_isotropic.specs.TextRules.{TextRule, Bs, Isotropic, Map, NamesTextRule}
+use Rattle.ca_isotropic.specs.Isotropic.{is_part, is_kind_list, SpellsIsotropicRule, gives_birth_alone}
+use Rattle.ca_isotropic.specs.Map.{IsMap, map_next}
+use Rattle.ca_isotropic.specs.TextRules.{TextRule, Bs, Isotropic, Map, NamesTextRule, IsTextRuleFault}
 use Rattle.ca_isotropic.proofs.KindTexts.{spells-once}
 use Rattle.ca_isotropic.proofs.Parts.{first_part}
 use Rattle.ca_isotropic.proofs.Maps.{same_characters}
+use Rattle.ca_isotropic.proofs.TextBytes.{IsText, no-colon}
+use Rattle.ca_isotropic.proofs.Names.{bs-text, isotropic-text, map-text}
 
 -- ---- no MAP string spells another rule
 
@@ -82,3 +85,53 @@ one-text-rule text (Isotropic birth survival) (Map characters) h k = absurd (kin
 one-text-rule text (Map characters) (Bs s) h k = absurd (bs-no-map text k.birth k.survival characters s.hood k.spells h.spells)
 one-text-rule text (Map characters) (Isotropic birth survival) h k = absurd (kinds-no-map text birth survival characters k.1.spells h.spells)
 one-text-rule text (Map some) (Map others) h k = ap Map (same_characters text others some k.spells.form h.spells)
+
+-- ---- no fault beside a rule
+
+zero-is-no-one : (n : ℕ) → n ≡ 0 → n ≡ 1 → ⊥
+zero-is-no-one n is other = omega arith
+
+has-none : (text : List ℕ) → IsText text → has_colon text ≡ true → ⊥
+has-none text is k = false≢true (sym (no-colon text is) ∙ k)
+
+pub rule-alone : (text : List ℕ) (rule : TextRule) (fault : RuleFault) → NamesTextRule text rule → IsTextRuleFault text fault → ⊥
+rule-alone text (Bs r) Bounded h k = has-none text (bs-text text h.birth h.survival r.hood h.spells) k
+rule-alone text (Bs r) Wakes h (inl k) = names-faultless text r Wakes h k
+rule-alone text (Bs r) Wakes h (inr (inl k)) = k.0 h.birth h.survival r.hood h.spells
+rule-alone text (Bs r) Wakes h (inr (inr k)) = bs-no-map text h.birth h.survival k.1.0 r.hood h.spells k.1.1
+rule-alone text (Bs r) Unknown h k = names-faultless text r Unknown h k.0
+rule-alone text (Isotropic b s) Bounded h k = has-none text (isotropic-text text b s h.1.spells) k
+rule-alone text (Isotropic b s) Wakes h (inl k) = h.0 k.1.0 k.1.1 k.1.2 k.1.3
+rule-alone text (Isotropic b s) Wakes h (inr (inl k)) =
+    false≢true (sym h.1.stays_empty ∙ ap gives_birth_alone (spells-once text b s k.1.1.0 k.1.1.1 h.1.spells k.1.1.2).0 ∙ k.1.1.3)
+rule-alone text (Isotropic b s) Wakes h (inr (inr k)) = kinds-no-map text b s k.1.0 h.1.spells k.1.1
+rule-alone text (Isotropic b s) Unknown h k = k.1.1 b s h.1.spells
+rule-alone text (Map c) Bounded h k = has-none text (map-text text c h.spells) k
+rule-alone text (Map c) Wakes h (inl k) = bs-no-map text k.1.0 k.1.1 c k.1.2 k.1.3 h.spells
+rule-alone text (Map c) Wakes h (inr (inl k)) = kinds-no-map text k.1.1.0 k.1.1.1 c k.1.1.2 h.spells
+rule-alone text (Map c) Wakes h (inr (inr k)) =
+    zero-is-no-one (map_next c (replicate 9 0)) h.stays_empty (ap (λ d. map_next d (replicate 9 0)) (same_characters text k.1.0 c k.1.1.form h.spells) ∙ k.1.2)
+rule-alone text (Map c) Unknown h k = k.2.1 c h.spells
+
+-- ---- one fault
+
+waking-colon : (text : List ℕ) → IsTextRuleFault text Wakes → has_colon text ≡ false
+waking-colon text (inl k) = k.0
+waking-colon text (inr (inl k)) = k.1.0
+waking-colon text (inr (inr k)) = k.0
+
+waking-known : (text : List ℕ) → IsTextRuleFault text Wakes → IsTextRuleFault text Unknown → ⊥
+waking-known text (inl k) g = g.0.1 k.1.0 k.1.1 k.1.2 k.1.3
+waking-known text (inr (inl k)) g = g.1.1 k.1.1.0 k.1.1.1 k.1.1.2
+waking-known text (inr (inr k)) g = g.2.1 k.1.0 k.1.1
+
+pub one-text-fault : (text : List ℕ) (f g : RuleFault) → IsTextRuleFault text f → IsTextRuleFault text g → f ≡ g
+one-text-fault text Bounded Bounded h k = refl
+one-text-fault text Bounded Wakes h k = absurd (false≢true (sym (waking-colon text k) ∙ h))
+one-text-fault text Bounded Unknown h k = absurd (false≢true (sym k.0.0 ∙ h))
+one-text-fault text Wakes Bounded h k = absurd (false≢true (sym (waking-colon text h) ∙ k))
+one-text-fault text Wakes Wakes h k = refl
+one-text-fault text Wakes Unknown h k = absurd (waking-known text h k)
+one-text-fault text Unknown Bounded h k = absurd (false≢true (sym h.0.0 ∙ k))
+one-text-fault text Unknown Wakes h k = absurd (waking-known text k h)
+one-text-fault text Unknown Unknown h k = refl

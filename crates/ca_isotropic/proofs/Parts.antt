@@ -1,7 +1,7 @@
 -- The first part of a list of kinds, and the others.
-use Rattle.std.proofs.Common.{◌≡◌, ℕ, ◌+◌, ◌≤◌, length, arith, List, [], ◌∷◌, ◌++◌, Bool, true, false, not, refl, sym, ap, ◌∙◌, inl, inr, if◌then◌else◌}
+use Rattle.std.proofs.Common.{◌≡◌, ℕ, ◌≤◌, length, arith, List, [], ◌∷◌, not, refl, sym, ap, ◌∙◌, inl, inr, if◌then◌else◌}
 use Rattle.std.proofs.lemmas.Bool.{cases_Bool}
-use Rattle.ca_plane.specs.Bytes.{is_digit, is_end_or, front, rest, with_front}
+use Rattle.ca_plane.specs.Bytes.{is_digit, front, rest, with_front}
 use Rattle.ca_plane.proofs.Fronts.{front_length}
 use Rattle.ca_isotropic.specs.Isotropic.{parts}
 

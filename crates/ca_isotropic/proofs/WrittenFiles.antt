@@ -1,5 +1,5 @@
 -- A file that is written has the table's name and states, and the next cells of its rule.
-use Rattle.std.proofs.Common.{◌≡◌, ℕ, zero, suc, ◌+◌, ◌/◌, ◌%◌, ◌<◌, ◌≤◌, List, [], ◌∷◌, ◌++◌, length, map, filter, Bool, true, false, not, ◌==◌, replicate, refl, sym, ap, subst, ◌∙◌, inl, inr, arith, All, zero-add, append_assoc, lit<, lit≤, if◌then◌else◌, slice_index}
+use Rattle.std.proofs.Common.{◌≡◌, ℕ, zero, suc, ◌+◌, ◌/◌, ◌%◌, ◌<◌, List, [], ◌∷◌, ◌++◌, length, map, filter, Bool, true, false, not, ◌==◌, replicate, refl, sym, ap, subst, ◌∙◌, inl, inr, arith, All, zero-add, append_assoc, lit<, lit≤, if◌then◌else◌, slice_index}
 use Rattle.std.specs.List.{range_with_len, AllByRecursion}
 use Rattle.std.proofs.lemmas.Bool.{cases_Bool}
 use Rattle.std.proofs.lemmas.Grind.{flat_map-append}

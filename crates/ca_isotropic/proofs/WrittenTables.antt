@@ -1,20 +1,19 @@
 -- The text of a written table is that of the table.
-use Rattle.std.proofs.Common.{◌≡◌, ℕ, zero, suc, ◌+◌, ◌<◌, ◌≤◌, List, [], ◌∷◌, ◌++◌, length, map, filter, Bool, true, false, not, ◌==◌, ◌&&◌, ◌||◌, nat_le, Some, codes, refl, sym, ap, subst, ◌∙◌, inr, append_assoc, arith, if◌then◌else◌, slice_index}
-use Rattle.std.specs.List.{list_all, list_any, flat_map, enumerate_from, AllByRecursion, AllZip}
+use Rattle.std.proofs.Common.{◌≡◌, ℕ, zero, suc, ◌+◌, ◌<◌, List, [], ◌∷◌, ◌++◌, length, map, filter, Bool, true, false, not, ◌==◌, ◌&&◌, nat_le, codes, refl, sym, ap, subst, ◌∙◌, inr, append_assoc, arith, if◌then◌else◌}
+use Rattle.std.specs.List.{list_all, list_any, enumerate_from, AllByRecursion, AllZip}
 use Rattle.std.proofs.lemmas.Bool.{and_parts, and_from, not-true, false≢true}
 use Rattle.std.proofs.lemmas.Bool.Decides.{nat_tests}
 use Rattle.std.proofs.lemmas.List.Folds.{list_all-append}
 use Rattle.std.proofs.lemmas.List.{append-nil, length-map, length-append}
-use Rattle.ca_plane.specs.Bytes.{is_blank, is_line_end, Every, front, rest, without_last_blanks, trimmed, with_front, lines_of, text_of, words_of, IsWord, is_word_byte}
-use Rattle.ca_plane.proofs.Fronts.{every_append, every_left, every_right, every_wider, front_append}
+use Rattle.ca_plane.specs.Bytes.{is_blank, is_line_end, Every, front, rest, without_last_blanks, trimmed, lines_of, text_of, words_of, IsWord, is_word_byte}
+use Rattle.ca_plane.proofs.Fronts.{every_append, every_wider, front_append}
 use Rattle.ca_plane.proofs.Lines.{lines_ahead, words_ahead}
 use Rattle.ca_rule.specs.declared.table.neighbourhood.Neighbourhood.TheVariants.{Moore}
 use Rattle.ca_rule.specs.declared.table.neighbourhood.Symmetry.TheVariants.{Identity}
-use Rattle.ca_rule.specs.declared.table.slot.Slot.{Slot}
 use Rattle.ca_rule.specs.declared.table.slot.Slot.TheVariants.{Number}
-use Rattle.ca_rule.specs.TableNext.{Transition, TableRule}
-use Rattle.ca_rule.specs.TableLines.{NumberedLine, content_of, says_something, lines_said, rule_named, comma_parts, fields_between, fields_of, is_field, begins_variable, IsTransitionLine}
-use Rattle.ca_rule.specs.TableText.{HasTable, Settings, SettingsMean, SaidStatements, StandsFor, SaysTransition, LinesSay, IsTable, table_from}
+use Rattle.ca_rule.specs.TableNext.{Transition}
+use Rattle.ca_rule.specs.TableLines.{content_of, says_something, lines_said, rule_named, fields_between, is_field, begins_variable, IsTransitionLine}
+use Rattle.ca_rule.specs.TableText.{Settings, SaidStatements, StandsFor, SaysTransition, LinesSay, IsTable, table_from}
 use Rattle.ca_isotropic.specs.RuleFiles.{IsTableName}
 use Rattle.ca_isotropic.specs.inner.WrittenTables.{head_lines, digit_of, input_digits}
 

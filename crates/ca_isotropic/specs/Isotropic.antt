@@ -1,6 +1,6 @@
 -- Isotropic rules in Hensel's notation, as `B2-a/S12` (Golly Help, QuickLife: non-totalistic rules; LifeWiki, "Isotropic
 -- non-totalistic rule"; what is marked so is our own).
-use Rattle.std.specs.Prelude.{◌≡◌, ℕ, ◌+◌, ◌-◌, List, [], ◌∷◌, length, map, Bool, true, false, not, ◌==◌, ◌&&◌, ◌||◌, nat_le, IsTrue, ◌⊎◌, Option, Some, None, slice_index, replicate, if◌then◌else◌}
+use Rattle.std.specs.Prelude.{◌≡◌, ℕ, ◌+◌, ◌-◌, List, [], ◌∷◌, length, Bool, true, false, not, ◌==◌, ◌&&◌, ◌||◌, nat_le, IsTrue, ◌⊎◌, Option, Some, None, slice_index, replicate, if◌then◌else◌}
 use Rattle.std.specs.List.{list_all, list_any}
 use Rattle.ca_plane.specs.Bytes.{letter, is_digit, is_end_or, with_front}
 use Rattle.ca_rule.specs.Spelling.{IsLettered, IsUnlettered, has_colon}

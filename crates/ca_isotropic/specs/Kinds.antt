@@ -1,6 +1,6 @@
 -- The 51 kinds of neighbourhoods of Hensel's notation: a number of live neighbours, and where it is 1 to 7 a letter (Golly
 -- Help, QuickLife: non-totalistic rules; LifeWiki, "Isotropic non-totalistic rule").
-use Rattle.std.specs.Prelude.{ℕ, ◌-◌, List, [], ◌∷◌, ◌++◌, Bool, ◌==◌, nat_le, map, filter, length, ◌||◌, find, Option, option_map, slice_index, codes, if◌then◌else◌}
+use Rattle.std.specs.Prelude.{ℕ, ◌-◌, List, [], ◌∷◌, ◌++◌, Bool, ◌==◌, nat_le, map, filter, ◌||◌, find, Option, option_map, slice_index, codes, if◌then◌else◌}
 use Rattle.std.specs.List.{list_any}
 use Rattle.std.specs.Str.{bytes_eq}
 use Prim.Native.String.{String}

@@ -1,6 +1,6 @@
 -- Rules as MAP strings: the next state for each of the 512 neighbourhoods (Golly Help, QuickLife: MAP strings; LifeWiki, "MAP
 -- string"; what is marked so is our own).
-use Rattle.std.specs.Prelude.{◌≡◌, ℕ, ◌+◌, ◌-◌, ◌*◌, ◌/◌, ◌%◌, ◌^◌, List, ◌∷◌, ◌++◌, length, replicate, Bool, true, false, ◌==◌, ◌&&◌, ◌||◌, nat_le, IsTrue, codes, slice_index, if◌then◌else◌}
+use Rattle.std.specs.Prelude.{◌≡◌, ℕ, ◌+◌, ◌-◌, ◌*◌, ◌/◌, ◌%◌, ◌^◌, List, ◌++◌, length, replicate, Bool, true, false, ◌==◌, ◌&&◌, ◌||◌, nat_le, IsTrue, codes, slice_index, if◌then◌else◌}
 use Rattle.std.specs.List.{list_all}
 use Rattle.ca_plane.specs.Bytes.{letter}
 use Rattle.ca_rule.specs.Spelling.{has_colon}

@@ -7,7 +7,8 @@ ghost use Rattle.ca_rule.specs.Counts.{are_digits_up_to};
 ghost use Rattle.ca_isotropic.specs.Kinds.{cells, turned, mirrored, letter_of, kinds_of, has_no_letter};
 ghost use Rattle.ca_isotropic.specs.Isotropic.{has_kind, isotropic_next, SpellsIsotropicRule};
 ghost use Rattle.ca_rule.specs.OneMeaning.{HasAtMostOne};
-ghost use Rattle.ca_isotropic.specs.TextRules.{NamesTextRule};
+ghost use Rattle.ca_isotropic.specs.TextRules.{TextRule, NamesTextRule, IsTextRuleFault};
+ghost use Rattle.ca_rule.specs.declared.fault.RuleFault.{RuleFault};
 ghost use Rattle.ca_isotropic.specs.Map.{IsMap, map_next};
 ghost use Rattle.ca_isotropic.specs.Examples.{AreNineCells, isotropic_cell, counted_next, life_characters};
 
@@ -45,9 +46,13 @@ pub fn digits_alone()
         → isotropic_next birth survival nine ≡ counted_next birth survival nine }
 {}
 
-/// A text names one rule of two states at most.
+/// A text names one rule of two states at most, or has one fault, and not both.
 pub fn one_text_rule()
-    ensures { HasAtMostOne NamesTextRule }
+    ensures one_rule { HasAtMostOne NamesTextRule }
+    ensures rule_alone { (text : List ℕ) (rule : TextRule) (fault : RuleFault) → NamesTextRule text rule
+        → IsTextRuleFault text fault → ⊥ }
+    ensures one_fault { (text : List ℕ) (f g : RuleFault) → IsTextRuleFault text f → IsTextRuleFault text g
+        → f ≡ g }
 {}
 
 /// Some neighbourhoods and rules. Life's MAP string does what B3/S23 does.

@@ -1,7 +1,6 @@
 -- The rule files that are written: the head, and a transition for each neighbourhood whose centre changes.
 use Rattle.std.specs.Prelude.{ℕ, ◌/◌, ◌%◌, List, [], ◌∷◌, ◌++◌, map, filter, Bool, not, ◌==◌, slice_index, codes, if◌then◌else◌}
 use Rattle.std.specs.List.{flat_map, range_with_len}
-use Rattle.ca_plane.specs.Bytes.{text_of}
 
 -- the lines before the transitions
 abbrev pub head_lines : List ℕ → List (List ℕ)

@@ -1,4 +1,4 @@
-use Rattle.std.proofs.Common.{◌≡◌, ◌∙◌, sym, ap, true, false}
+use Rattle.std.proofs.Common.{◌∙◌, sym, ap}
 use Rattle.std.proofs.lemmas.Bool.{false≢true}
 use Rattle.ca_rule.proofs.SpelledDigits.{IfNone-from}
 use Rattle.ca_isotropic.specs.Isotropic.{is_kind_list}

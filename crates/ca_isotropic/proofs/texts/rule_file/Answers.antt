@@ -1,13 +1,13 @@
 use Rattle.std.proofs.Common.{subst}
 use Rattle.ca_rule.specs.Spelling.{IsBsRuleFault}
 use Rattle.ca_isotropic.specs.TextRules.{Bs, Isotropic, Map}
-use Rattle.ca_isotropic.proofs.Names.{bs-name, isotropic-name, map-name}
+use Rattle.ca_isotropic.proofs.Names.{table-name, bs-text, isotropic-text, map-text}
 use Rattle.ca_isotropic.proofs.texts.rule_file.Goals as goal
 
 pub table_file-requires-clause-named : goal.table_file-requires-clause-named
 table_file-requires-clause-named c =
     let names = c.in-Ok.ensures.found in
-    bs-name c.args.text.now names.birth names.survival c.in-Ok.rule.hood names.spells
+    table-name c.args.text.now (bs-text c.args.text.now names.birth names.survival c.in-Ok.rule.hood names.spells)
 
 pub returns-in-Ok-clause-found : goal.returns-in-Ok-clause-found
 returns-in-Ok-clause-found c = record { rule = Bs c.in-Ok.rule; names = c.in-Ok.ensures.found; writes = (c.in_ok-table_file-in-Ok).ensures }
@@ -15,7 +15,7 @@ returns-in-Ok-clause-found c = record { rule = Bs c.in-Ok.rule; names = c.in-Ok.
 pub table_file-requires-in-Ok-parse-clause-named : goal.table_file-requires-in-Ok-parse-clause-named
 table_file-requires-in-Ok-parse-clause-named c =
     let rule = c.in-Ok-parse.rule in
-    isotropic-name c.args.text.now rule.birth.now rule.survival.now c.in-Ok-parse.ensures.found.spells
+    table-name c.args.text.now (isotropic-text c.args.text.now rule.birth.now rule.survival.now c.in-Ok-parse.ensures.found.spells)
 
 pub returns-in-Ok-parse-clause-found : goal.returns-in-Ok-parse-clause-found
 returns-in-Ok-parse-clause-found c = record {
@@ -27,7 +27,7 @@ returns-in-Ok-parse-clause-found c = record {
 pub table_file-requires-in-Ok-parse-2-clause-named : goal.table_file-requires-in-Ok-parse-2-clause-named
 table_file-requires-in-Ok-parse-2-clause-named c =
     let rule = c.in-Ok-parse-2.rule in
-    map-name c.args.text.now rule.characters.now c.in-Ok-parse-2.ensures.found.spells
+    table-name c.args.text.now (map-text c.args.text.now rule.characters.now c.in-Ok-parse-2.ensures.found.spells)
 
 pub returns-in_ok-table_file-in-Ok-parse-2-clause-found : goal.returns-in_ok-table_file-in-Ok-parse-2-clause-found
 returns-in_ok-table_file-in-Ok-parse-2-clause-found c = record {

@@ -1,4 +1,4 @@
-use Rattle.std.proofs.Common.{ℕ, List, [], ◌∷◌, ◌++◌, ap, ◌∙◌}
+use Rattle.std.proofs.Common.{[], ◌∷◌, ◌++◌, ap, ◌∙◌}
 use Rattle.ca_isotropic.proofs.PutTexts.{then-puts}
 use Rattle.ca_isotropic.proofs.writing.push_transition.Goals as goal
 

@@ -1,4 +1,4 @@
-use Rattle.std.proofs.Common.{◌≡◌, ℕ, ◌<◌, List, length, All, ◌++◌, refl, sym, ap, subst, ◌∙◌}
+use Rattle.std.proofs.Common.{◌<◌, All, ◌++◌, sym, ap, subst, ◌∙◌}
 use Rattle.ca_plane.specs.Bytes.{text_of}
 use Rattle.ca_isotropic.specs.inner.WrittenTables.{head_lines, transition_lines}
 use Rattle.ca_isotropic.proofs.WrittenFiles.{IsOfTwoStates, writes}
