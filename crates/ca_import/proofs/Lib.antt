@@ -1,0 +1,12 @@
+pub mod LinesRead
+pub mod DrawnRows
+pub mod RowLines
+pub mod Points
+pub mod Life106Lines
+pub mod Life105Lines
+pub mod Faults
+pub mod Taken
+pub mod OneLine
+pub mod OneMeaning
+pub mod InRange
+pub mod WrittenCells

@@ -1,0 +1,9 @@
+pub mod CellLines
+pub mod Rows
+pub mod Life106
+pub mod Life105
+pub mod Plaintext
+pub mod Import
+pub mod inner
+pub mod Laws
+pub mod Written

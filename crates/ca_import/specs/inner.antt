@@ -1,0 +1,4 @@
+-- Definitions that private contracts alone cite: how a text is read, line by line. No public contract rests on them.
+pub mod Lines
+pub mod Reading
+pub mod Writing

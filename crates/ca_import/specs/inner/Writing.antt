@@ -1,0 +1,97 @@
+-- How a pattern is written: its rule text, and its cells.
+use Rattle.std.specs.Prelude.{◌≡◌, ℕ, ◌≤◌, ◌<◌, ℤ, List, [], Option, None, Some}
+use Rattle.ca_plane.specs.Bytes.{IsWord}
+use Rattle.ca_plane.specs.BitPlane.{bit_cell}
+use Rattle.ca_plane.specs.Plane.{Picture}
+use Rattle.ca_plane.specs.Plane as plane
+use Rattle.ca_plane.specs.Sparse.{IsSparse}
+use Rattle.ca_plane.specs.Population.{HasTooManyCells}
+use Rattle.ca_quad.specs.declared.node.Node.{Node}
+use Rattle.ca_quad.specs.declared.tree.Tree.{Tree}
+use Rattle.ca_quad.specs.Trees.{IsTree, cell}
+use Rattle.ca_macro.specs.Pattern.{AreInRange}
+use Rattle.ca_rule.specs.declared.bs_rule.BsRule.{BsRule}
+use Rattle.ca_rule.specs.Rule.{RuleValue, states_of, printed_form}
+use Rattle.ca_import.specs.declared.target.ImportTarget.{ImportTarget}
+use Rattle.ca_import.specs.declared.target.ImportTarget.TheVariants.{Rle}
+use Rattle.ca_import.specs.declared.text_fault.ImportTextFault.{ImportTextFault}
+use Rattle.ca_import.specs.declared.text_fault.ImportTextFault.TheVariants.{Text, Rule, TooManyCells, Memory}
+use Rattle.ca_import.specs.declared.import.ImportedPattern.{ImportedPattern}
+use Rattle.ca_import.specs.declared.rule_text.RuleText.{RuleText}
+use Rattle.ca_import.specs.Written.{IsAskedRule, IsAskedRuleFault, IsWrittenRule, IsTextFor}
+
+-- ---- rule texts
+
+-- the text is a word, and there are two states or more
+pub record IsWritableRule (rule : RuleText) : Type 0 where
+  pub is_word : IsWord rule.text.items
+  pub states : 2 ≤ rule.states
+
+-- the printed form of a rule, and its number of states
+pub record IsPrinted (value : RuleValue) (rule : RuleText) : Type 0 where
+  pub printed : rule.text.items ≡ printed_form value
+  pub states : rule.states ≡ states_of value
+  pub writable : IsWritableRule rule
+
+-- what is written of a text that is asked for
+pub record IsAskedText (asked : List ℕ) (rule : RuleText) : Type 0 where
+  pub asked_is : IsAskedRule asked rule.text.items rule.states
+  pub writable : IsWritableRule rule
+
+-- or of a rule that is named, where one is
+pub record IsWrittenText (named : Option BsRule) (asked : List ℕ) (rule : RuleText) : Type 0 where
+  pub written_is : IsWrittenRule named asked rule.text.items rule.states
+  pub writable : IsWritableRule rule
+
+-- why nothing is written of a text that is asked for
+abbrev pub IsAskedRefused : List ℕ → ImportTextFault → Type 0
+IsAskedRefused asked (Rule fault) = IsAskedRuleFault asked fault
+IsAskedRefused asked Memory = Unit {0}
+IsAskedRefused asked fault = ⊥
+
+-- the same where a rule may be named
+abbrev pub IsRuleRefused : Option BsRule → List ℕ → ImportTextFault → Type 0
+IsRuleRefused named asked (Rule fault) = (named ≡ None) × IsAskedRuleFault asked fault
+IsRuleRefused named asked Memory = Unit {0}
+IsRuleRefused named asked fault = ⊥
+
+-- ---- cells
+
+-- cells that may be written: in range, and of states 0 and 1
+pub record AreWritable (cells : ℤ → ℤ → ℕ) : Type 0 where
+  pub range : AreInRange cells
+  pub low : (x y : ℤ) → cells x y < 2
+
+pub record IsWritableTree (nodes : List Node) (tree : Tree) : Type 0 where
+  pub is_tree : IsTree nodes tree
+  pub writable : AreWritable (cell nodes tree)
+
+pub record IsWritablePlane (picture : Picture) : Type 0 where
+  pub sparse : IsSparse picture
+  pub writable : AreWritable (plane.cell picture)
+
+-- a sparse plane shows the tree's cells
+pub record IsPlaneOf (nodes : List Node) (tree : Tree) (picture : Picture) : Type 0 where
+  pub shows : (x y : ℤ) → cell nodes tree x y ≡ plane.cell picture x y
+  pub sparse : IsSparse picture
+
+-- why cells aren't written
+abbrev pub AreUnwritten : ImportTarget → (ℤ → ℤ → ℕ) → ImportTextFault → Type 0
+AreUnwritten target cells TooManyCells = (target ≡ Rle) × HasTooManyCells cells
+AreUnwritten target cells Memory = Unit {0}
+AreUnwritten target cells fault = ⊥
+
+-- ---- both
+
+-- the text is what is written of a pattern, where this rule text is asked for
+pub record IsPatternText (pattern : ImportedPattern) (asked : List ℕ) (target : ImportTarget) (text : List ℕ) : Type 0 where
+  pub rule : RuleText
+  pub rule_text : IsWrittenRule pattern.rule asked rule.text.items rule.states
+  pub written : IsTextFor target text (bit_cell pattern.cells) rule.text.items rule.states
+
+-- why nothing is written of it
+abbrev pub IsPatternTextFault : ImportedPattern → List ℕ → ImportTarget → ImportTextFault → Type 0
+IsPatternTextFault pattern asked target TooManyCells = (target ≡ Rle) × HasTooManyCells (bit_cell pattern.cells)
+IsPatternTextFault pattern asked target (Rule fault) = (pattern.rule ≡ None) × IsAskedRuleFault asked fault
+IsPatternTextFault pattern asked target Memory = Unit {0}
+IsPatternTextFault pattern asked target fault = ⊥

@@ -1,0 +1,27 @@
+//! Patterns in other formats than extended RLE and macrocell: Life 1.06, Life 1.05 and Plaintext, read and
+//! written as tidy RLE or macrocell.
+#![tactic(auto)]
+
+mod cell_line;
+pub mod examples;
+mod fault;
+mod format;
+mod import;
+pub mod laws;
+mod life105;
+mod life106;
+mod plaintext;
+mod point;
+mod reading;
+mod rows;
+mod rule_text;
+mod target;
+mod text_fault;
+mod writing;
+
+pub use fault::{ImportFault, LineFault};
+pub use format::ImportFormat;
+pub use import::{ImportedPattern, import_format, read_import};
+pub use target::ImportTarget;
+pub use text_fault::ImportTextFault;
+pub use writing::import_text;
