@@ -1,4 +1,4 @@
-"""Reads Life 1.06, Life 1.05, plaintext and apgcodes as docs/FORMATS.md says, apart from the program."""
+"""Reads Life 1.06, Life 1.05 and plaintext as docs/FORMATS.md says, apart from the program."""
 import re
 
 from lib.rle import tidy
@@ -8,8 +8,6 @@ EDGE, MOST_CELLS = 1 << 60, 1 << 24
 BLANKS = b" \t\r"
 INTEGER = re.compile(rb"-?[0-9]+")
 STAR_ROW, LETTER_ROW = re.compile(rb"([.*]*)[ \t\r]*"), re.compile(rb"([.*O]*)[ \t\r]*")
-CODE = re.compile(rb"x[spq][0-9]+_([0-9a-z]+)")
-DIGITS = b"0123456789abcdefghijklmnopqrstuvwxyz"
 
 
 def lines_of(text):
@@ -26,7 +24,7 @@ def format_of(text):
     start = text.lstrip(BLANKS + b"\n")[:1]
     if start and start in b"!.*O":
         return b"plaintext"
-    return b"apgcode" if code_cells(text) is not None else None
+    return None
 
 
 def integers(words):
@@ -37,8 +35,8 @@ def integers(words):
 class Reading:
     """The cells and the rule of the lines so far."""
 
-    def __init__(self):
-        self.cells, self.count, self.corner, self.rule = set(), 0, (0, 0), None
+    def __init__(self, corner):
+        self.cells, self.count, self.corner, self.rule = set(), 0, corner, None
 
     def name(self, places):
         """More live cells."""
@@ -49,6 +47,8 @@ class Reading:
 
     def row(self, cells):
         """A row of cells, below the last."""
+        if self.corner is None:
+            raise Fault("no corner")
         x, y = self.corner
         if y >= EDGE or x + len(cells) > EDGE:
             raise Fault("range")
@@ -82,10 +82,8 @@ def life_105(reading, line):
     """A line of Life 1.05."""
     words = words_of(line)
     first = words[0] if words else b"#"
-    if words == [b"#P"]:
-        return
     if first == b"#P":
-        place = integers(words[1:])
+        place = integers(words[1:] or [b"0", b"0"])
         if place is None:
             raise Fault("syntax")
         reading.corner = in_range(place)
@@ -115,54 +113,13 @@ def plaintext(reading, line):
         reading.row(row[1])
 
 
-def strip_columns(text):
-    """The columns of a strip of an apgcode, or None."""
-    columns, at = [], 0
-    while at < len(text):
-        byte = text[at:at + 1]
-        if byte in b"wx":
-            columns += [0] * (2 + b"wx".index(byte))
-        elif byte == b"y":
-            at += 1
-            if at == len(text):
-                return None
-            columns += [0] * (4 + DIGITS.index(text[at:at + 1]))
-        elif (value := DIGITS.index(byte)) < 32:
-            columns.append(value)
-        else:
-            return None
-        at += 1
-    return columns
-
-
-def code_cells(text):
-    """The cells of a text whose only word is an apgcode, or None."""
-    words = text.split()
-    code = CODE.fullmatch(words[0]) if len(words) == 1 else None
-    if not code:
-        return None
-    strips = [strip_columns(it) for it in code[1].split(b"z")]
-    if None in strips:
-        return None
-    cells = {(x, 5 * at + y) for at, columns in enumerate(strips) for x, column in enumerate(columns) for y in range(5) if column >> y & 1}
-    return cells if is_canonical(code[1].decode(), cells) else None
-
-
-def is_canonical(text, cells):
-    """Whether the text is what is written of these cells."""
-    from lib.apgcode import representation
-    return bool(cells) and representation(cells) == text and min(x for x, _ in cells) == 0 == min(y for _, y in cells)
-
-
 def read(text):
     """The live cells of a text, and the rule that it names, or None; or its fault is raised, with the number of its line."""
     kind = format_of(text)
     if kind is None:
         raise Fault("unknown format")
-    if kind == b"apgcode":
-        return code_cells(text), None
     line_of = {b"Life 1.06": life_106, b"Life 1.05": life_105, b"plaintext": plaintext}[kind]
-    reading = Reading()
+    reading = Reading((0, 0) if kind == b"plaintext" else None)
     for number, line in enumerate(lines_of(text), 1):
         try:
             line_of(reading, line)

@@ -15,7 +15,6 @@ const HELP: &str =
 same places, which all other commands read, and Golly too. The text says which format it is:
   Life 1.06, Life 1.05   the first line is `#Life 1.06` or `#Life 1.05`
   plaintext (.cells)     comments begin with `!`, and rows are made of `.` and `O`
-  an apgcode             the only word of the text, as xq4_153
 
 --rule TEXT is the rule of a text that names none: as 23/36, 345/2/4, or the name of a rule table. Unless it is
 given, that is B3/S23. Only Life 1.05 can name a rule of its own.
@@ -27,7 +26,7 @@ Examples:
   cafile import examples/other/glider.cells
   cafile import examples/other/glider.lif --to mc
   cafile import examples/other/glider.cells --rule B2-a/S12
-  echo xq4_153 | cafile import -";
+  cat examples/other/glider_106.lif | cafile import -";
 
 /// What is imported.
 #[derive(Drop)]
@@ -59,7 +58,7 @@ pub fn command<'a>(alloc: Global) -> Result<Command<'a>, AllocError> {
 
 fn source_word<'a>(alloc: Global) -> Arg<'a> {
     Arg::new(alloc, "FILE").required(true).help(
-        "The path of the file: Life 1.06, Life 1.05, plaintext, or an apgcode; - is standard input",
+        "The path of the file, Life 1.06, Life 1.05 or plaintext; - is standard input",
     )
 }
 
