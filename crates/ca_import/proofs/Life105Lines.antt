@@ -14,7 +14,7 @@ use Rattle.ca_import.specs.declared.fault.ImportFault.{ImportFault}
 use Rattle.ca_import.specs.declared.fault.ImportFault.TheVariants.{Syntax, Range}
 use Rattle.ca_import.specs.CellLines.{CellLine, Nothing, LiveCell, Row, Corner, Rule}
 use Rattle.ca_import.specs.Rows.{is_star_cell, IsRow}
-use Rattle.ca_import.specs.Life105.{Life105WordsSay, Life105Says}
+use Rattle.ca_import.specs.Life105.{corner_numbers, Life105WordsSay, Life105Says}
 use Rattle.ca_import.specs.inner.Lines.{WritePoint, HavePointFault, IsAloneFault}
 
 -- ---- words
@@ -49,14 +49,19 @@ corner_words ws none (Rule rule) h = elim h.1 [
 module _ (ws : List (List ℕ)) (x y : List ℕ) (two : ws ≡ x ∷ y ∷ []) where
   written : (at : Point) → Life105WordsSay (codes "#P" ∷ ws) (Corner at) → WritePoint x y at
   written at h =
-      let e = h.2 in
-      let x_is : h.0 ≡ x = cc in
-      let y_is : h.1 ≡ y = cc in
-      record { x_is = subst (λ l. IsInteger l at.x) x_is h.3; y_is = subst (λ l. IsInteger l at.y) y_is h.4 }
+      let e = h.3 in
+      let given_is : ws ≡ h.0 = cc in
+      let all : x ∷ y ∷ [] ≡ h.1 ∷ h.2 ∷ [] = subst (λ l. corner_numbers l ≡ h.1 ∷ h.2 ∷ []) (sym given_is ∙ two) h.4 in
+      let x_is : h.1 ≡ x = cc in
+      let y_is : h.2 ≡ y = cc in
+      record { x_is = subst (λ l. IsInteger l at.x) x_is h.5; y_is = subst (λ l. IsInteger l at.y) y_is h.6 }
+
+  pub corner_is : (at : Point) → WritePoint x y at → Life105WordsSay (codes "#P" ∷ ws) (Corner at)
+  corner_is at is = (ws, x, y, refl, subst (λ l. corner_numbers l ≡ x ∷ y ∷ []) (sym two) refl, is.x_is, is.y_is)
 
   pub corner_fault : (f : ImportFault) → HavePointFault x y f → IsAloneFault (Life105WordsSay (codes "#P" ∷ ws)) f
   corner_fault Syntax h = corner_words ws (λ at says. h at (written at says))
-  corner_fault Range h = (Corner h.0, (x, y, ap (λ l. codes "#P" ∷ l) two, h.1.x_is, h.1.y_is), λ place. (tt, h.2))
+  corner_fault Range h = (Corner h.0, corner_is h.0 h.1, λ place. (tt, h.2))
   corner_fault f h = absurd h
 
 r_not_p : codes "#R" ≡ codes "#P" → ⊥
@@ -70,7 +75,7 @@ pub unnamed_rule : (ws : List (List ℕ)) (text : List ℕ) → ws ≡ text ∷ 
 unnamed_rule ws text one none Nothing h = true≢false (sym h)
 unnamed_rule ws text one none (LiveCell at) h = h
 unnamed_rule ws text one none (Row cells) h = h
-unnamed_rule ws text one none (Corner at) h = let e = h.2 in let same : codes "#R" ≡ codes "#P" = cc in r_not_p same
+unnamed_rule ws text one none (Corner at) h = let e = h.3 in let same : codes "#R" ≡ codes "#P" = cc in r_not_p same
 unnamed_rule ws text one none (Rule rule) h = elim h.1 [
   | inl n ↦ let e = n.1 in let same : codes "#N" ≡ codes "#R" = cc in n_not_r same
   | inr e ↦ let same : h.0 ≡ text = cc in none rule (subst (λ t. NamesBsRule t rule) same h.2)
@@ -81,7 +86,7 @@ pub unnamed_life : (ws : List (List ℕ)) → ((rule : BsRule) → NamesBsRule d
 unnamed_life ws none Nothing h = true≢false (sym h)
 unnamed_life ws none (LiveCell at) h = h
 unnamed_life ws none (Row cells) h = h
-unnamed_life ws none (Corner at) h = let e = h.2 in let same : codes "#N" ≡ codes "#P" = cc in n_not_p same
+unnamed_life ws none (Corner at) h = let e = h.3 in let same : codes "#N" ≡ codes "#P" = cc in n_not_p same
 unnamed_life ws none (Rule rule) h = elim h.1 [
   | inl n ↦ none rule (subst (λ t. NamesBsRule t rule) n.2 h.2)
   | inr e ↦ let same : codes "#N" ≡ codes "#R" = cc in n_not_r same

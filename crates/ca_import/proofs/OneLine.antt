@@ -16,7 +16,7 @@ use Rattle.ca_import.specs.declared.format.ImportFormat.TheVariants.{Life106, Li
 use Rattle.ca_import.specs.CellLines.{CellLine, Nothing, LiveCell, Row, Corner, Rule}
 use Rattle.ca_import.specs.Rows.{is_letter_cell, IsRow}
 use Rattle.ca_import.specs.Life106.{is_remark, Life106WordsSay}
-use Rattle.ca_import.specs.Life105.{is_description, NameRuleText, Life105Says}
+use Rattle.ca_import.specs.Life105.{is_description, NameRuleText, corner_numbers, Life105Says}
 use Rattle.ca_import.specs.Plaintext.{PlaintextSays}
 use Rattle.ca_import.specs.Import.{LineSays}
 use Rattle.ca_import.proofs.Life105Lines.{row_word, p_not_n, p_not_r, n_not_r}
@@ -118,7 +118,7 @@ module _ (line : List ℕ) where
       true≢false (sym all ∙ none)
 
   description_or_corner : (at : Point) → Life105Says line Nothing → Life105Says line (Corner at) → ⊥
-  description_or_corner at h k = true≢false (sym (subst (λ l. is_description l ≡ true) k.2 h))
+  description_or_corner at h k = true≢false (sym (subst (λ l. is_description l ≡ true) k.3 h))
 
   description_or_rule : (rule : BsRule) → Life105Says line Nothing → Life105Says line (Rule rule) → ⊥
   description_or_rule rule h k = elim k.1 [
@@ -127,7 +127,7 @@ module _ (line : List ℕ) where
   ]
 
   row_or_corner : (cells : List ℕ) (at : Point) → Life105Says line (Row cells) → Life105Says line (Corner at) → ⊥
-  row_or_corner cells at h k = row_or_mark cells (codes "#P") (k.0 ∷ k.1 ∷ []) h k.2 refl
+  row_or_corner cells at h k = row_or_mark cells (codes "#P") k.0 h k.3 refl
 
   row_or_rule : (cells : List ℕ) (rule : BsRule) → Life105Says line (Row cells) → Life105Says line (Rule rule) → ⊥
   row_or_rule cells rule h k = elim k.1 [
@@ -137,7 +137,7 @@ module _ (line : List ℕ) where
 
   corner_or_rule : (at : Point) (rule : BsRule) → Life105Says line (Corner at) → Life105Says line (Rule rule) → ⊥
   corner_or_rule at rule h k =
-      let e = h.2 in
+      let e = h.3 in
       elim k.1 [
         | inl n ↦ let f = n.1 in let same : codes "#P" ≡ codes "#N" = cc in p_not_n same
         | inr f ↦ let same : codes "#P" ≡ codes "#R" = cc in p_not_r same
@@ -168,10 +168,10 @@ module _ (line : List ℕ) where
   life105_alike (Corner at) Nothing h k = description_or_corner at k h
   life105_alike (Corner at) (LiveCell other) h k = k
   life105_alike (Corner at) (Row cells) h k = row_or_corner cells at k h
-  life105_alike (Corner at) (Corner other) (x, y, e, x_is, y_is) (u, v, f, u_is, v_is) =
-      let words : List (List ℕ) = x ∷ y ∷ [] in
-      let same : words ≡ u ∷ v ∷ [] = cc in
-      one_point words x y u v at other refl same x_is y_is u_is v_is
+  life105_alike (Corner at) (Corner other) (given, x, y, e, n, x_is, y_is) (others, u, v, f, m, u_is, v_is) =
+      let all : given ≡ others = cc in
+      let same : corner_numbers given ≡ u ∷ v ∷ [] = subst (λ l. corner_numbers l ≡ u ∷ v ∷ []) (sym all) m in
+      one_point (corner_numbers given) x y u v at other n same x_is y_is u_is v_is
   life105_alike (Corner at) (Rule rule) h k = corner_or_rule at rule h k
   life105_alike (Rule rule) Nothing h k = description_or_rule rule k h
   life105_alike (Rule rule) (LiveCell at) h k = k

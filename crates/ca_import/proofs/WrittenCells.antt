@@ -1,22 +1,19 @@
 -- Cells that are written.
-use Rattle.std.proofs.Common.{◌≡◌, ◌≢◌, ℕ, ◌≤◌, ◌<◌, ◌^◌, ℤ, pos, negsuc, ◌+ℤ◌, List, [], ◌∷◌, get_or, length, Bool, Result, Ok, Err, IfErr, IfOk, IsTrue, Option, None, Some, ◌⊎◌, inl, inr, refl, sym, subst, ◌∙◌, arith}
+use Rattle.std.proofs.Common.{◌≡◌, ◌≢◌, ℕ, ◌≤◌, ◌<◌, ℤ, pos, negsuc, ◌+ℤ◌, List, [], ◌∷◌, get_or, Bool, Result, Ok, Err, IfErr, IfOk, IsTrue, sym, subst, ◌∙◌, arith}
 use Rattle.std.specs.List.{All, AllByRecursion, list_all}
 use Rattle.ca_plane.specs.Bytes.{is_word_byte, IsWord}
 use Rattle.ca_plane.specs.declared.point.Point.{Point}
 use Rattle.ca_plane.specs.declared.bit_plane.CellWord.{CellWord}
 use Rattle.ca_plane.specs.BitPlane.{bit_cell, state_from_corner}
 use Rattle.ca_plane.specs.Plane.{Picture}
-use Rattle.ca_plane.specs.Plane as plane
 use Rattle.ca_plane.specs.Limits.{reach, IsInRange}
-use Rattle.ca_plane.specs.Population.{AreLivePlaces, HasPopulation, HasTooManyCells}
-use Rattle.ca_plane.specs.Sparse.{IsSparse}
+use Rattle.ca_plane.specs.Population.{AreLivePlaces, HasTooManyCells}
 use Rattle.ca_plane.proofs.BitPlanes.{state_below_two}
 use Rattle.ca_plane.proofs.Pictures.{cell-listed}
-use Rattle.ca_macro.specs.Pattern.{AreInRange}
 use Rattle.ca_import.specs.declared.target.ImportTarget.{ImportTarget}
 use Rattle.ca_import.specs.declared.target.ImportTarget.TheVariants.{Rle, Macrocell}
 use Rattle.ca_import.specs.declared.text_fault.ImportTextFault.{ImportTextFault}
-use Rattle.ca_import.specs.declared.text_fault.ImportTextFault.TheVariants.{Text, Rule, TooManyCells, Memory}
+use Rattle.ca_import.specs.declared.text_fault.ImportTextFault.TheVariants.{TooManyCells, Memory}
 use Rattle.ca_import.specs.Written.{IsTextFor}
 use Rattle.ca_import.specs.inner.Writing.{AreWritable, IsWritablePlane, AreUnwritten}
 

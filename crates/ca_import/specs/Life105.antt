@@ -24,6 +24,11 @@ NameRuleText words text =
     ((ignored : List (List ℕ)) × (words ≡ codes "#N" ∷ ignored) × (text ≡ default_rule))
     ⊎ (words ≡ codes "#R" ∷ text ∷ [])
 
+-- the words for the corner after `#P`: where there are none, they are `0 0` (Golly's own files have such a line before their rows)
+abbrev pub corner_numbers : List (List ℕ) → List (List ℕ)
+corner_numbers [] = codes "0" ∷ codes "0" ∷ []
+corner_numbers (w ∷ ws) = w ∷ ws
+
 -- what a line that is no row says by its words: `#P` and two integers are the corner of a block, the x and the y of its first cell, and the
 -- block's rows follow. A rule is in B/S notation, as `23/3` is
 abbrev pub Life105WordsSay : List (List ℕ) → CellLine → Type 0
@@ -31,7 +36,8 @@ Life105WordsSay words Nothing = IsTrue (is_description words)
 Life105WordsSay words (LiveCell at) = ⊥
 Life105WordsSay words (Row cells) = ⊥
 Life105WordsSay words (Corner at) =
-    (x : List ℕ) × (y : List ℕ) × (words ≡ codes "#P" ∷ x ∷ y ∷ []) × IsInteger x at.x × IsInteger y at.y
+    (given : List (List ℕ)) × (x : List ℕ) × (y : List ℕ) × (words ≡ codes "#P" ∷ given) × (corner_numbers given ≡ x ∷ y ∷ [])
+    × IsInteger x at.x × IsInteger y at.y
 Life105WordsSay words (Rule rule) = (text : List ℕ) × NameRuleText words text × NamesBsRule text rule
 
 -- what a line says: a row, which has one cell or more (our own), or what its words say

@@ -13,17 +13,18 @@ use crate::cell_line::Line;
 use crate::fault::ImportFault;
 use crate::point::point;
 use crate::rows::star_row;
+use ca_plane::Point;
 use ca_plane::bytes::next_word;
 use ca_rule::BsRule;
 
-/// The corner that the words after `#P` write.
+/// The corner that the words after `#P` write: 0,0 where there are none.
 fn corner_line(line: &[u8]) -> Result<Line<'_>, ImportFault>
     requires { Every (λ b. not (is_line_end b)) line.now }
     ensures said { IfOk result (IsSaid (Life105WordsSay (codes "#P" ∷ words_of line.now))) }
     ensures fault { IfErr result (IsAloneFault (Life105WordsSay (codes "#P" ∷ words_of line.now))) }
 {
     let Some((x, rest)) = next_word(line) else {
-        return Err(ImportFault::Syntax);
+        return Ok(Line::Corner(Point { y: 0, x: 0 }));
     };
     let Some((y, rest)) = next_word(rest) else {
         return Err(ImportFault::Syntax);

@@ -1,5 +1,5 @@
 -- How a pattern is written: its rule text, and its cells.
-use Rattle.std.specs.Prelude.{◌≡◌, ℕ, ◌≤◌, ◌<◌, ℤ, List, [], Option, None, Some}
+use Rattle.std.specs.Prelude.{◌≡◌, ℕ, ◌≤◌, ◌<◌, ℤ, List, Option, None}
 use Rattle.ca_plane.specs.Bytes.{IsWord}
 use Rattle.ca_plane.specs.BitPlane.{bit_cell}
 use Rattle.ca_plane.specs.Plane.{Picture}
@@ -15,7 +15,7 @@ use Rattle.ca_rule.specs.Rule.{RuleValue, states_of, printed_form}
 use Rattle.ca_import.specs.declared.target.ImportTarget.{ImportTarget}
 use Rattle.ca_import.specs.declared.target.ImportTarget.TheVariants.{Rle}
 use Rattle.ca_import.specs.declared.text_fault.ImportTextFault.{ImportTextFault}
-use Rattle.ca_import.specs.declared.text_fault.ImportTextFault.TheVariants.{Text, Rule, TooManyCells, Memory}
+use Rattle.ca_import.specs.declared.text_fault.ImportTextFault.TheVariants.{Rule, TooManyCells, Memory}
 use Rattle.ca_import.specs.declared.import.ImportedPattern.{ImportedPattern}
 use Rattle.ca_import.specs.declared.rule_text.RuleText.{RuleText}
 use Rattle.ca_import.specs.Written.{IsAskedRule, IsAskedRuleFault, IsWrittenRule, IsTextFor}

@@ -1,4 +1,4 @@
-use Rattle.std.proofs.Common.{codes, inl, inr, refl, arith}
+use Rattle.std.proofs.Common.{[], ◌∷◌, codes, inl, inr, refl, arith}
 use Rattle.std.proofs.lemmas.Int.{ints}
 use Rattle.ca_import.proofs.examples.worked_lines.Goals as goal
 
@@ -37,7 +37,7 @@ returns-clause-life105 c = (
   refl,
   record { placed = tt; within = tt; few = omega arith },
   (
-    (codes "5", codes "-1", refl, inl (refl, refl), inr (codes "1", refl, refl, refl)),
+    (codes "5" ∷ codes "-1" ∷ [], codes "5", codes "-1", refl, refl, inl (refl, refl), inr (codes "1", refl, refl, refl)),
     record { placed = tt; within = (omega (arith, ints), omega (arith, ints), omega (arith, ints), omega (arith, ints)); few = omega arith },
     (
       (record { cells_are = refl; blanks = refl }, omega arith),

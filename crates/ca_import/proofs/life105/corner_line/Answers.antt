@@ -1,6 +1,7 @@
-use Rattle.std.proofs.Common.{◌≡◌, [], ◌∷◌, codes}
+use Rattle.std.proofs.Common.{◌≡◌, [], ◌∷◌, codes, inl, refl, sym, subst, arith}
+use Rattle.std.proofs.lemmas.Int.{ints}
 use Rattle.ca_plane.specs.Bytes.{words_of}
-use Rattle.ca_import.specs.Life105.{Life105WordsSay}
+use Rattle.ca_import.specs.Life105.{corner_numbers, Life105WordsSay}
 use Rattle.ca_import.specs.inner.Lines.{IsAloneFault}
 use Rattle.ca_import.proofs.Faults.{passed_on}
 use Rattle.ca_import.proofs.Life105Lines.{corner_fault}
@@ -22,3 +23,12 @@ returns-in_err-point-in-None-clause-fault c =
     let fault = c.in_err-point-in-None.field-0.0 in
     passed_on _ fault (IsAloneFault (Life105WordsSay (codes "#P" ∷ words_of line))) c.from_residual.ensures.1
     (corner_fault (words_of line) x y words fault c.in_err-point-in-None.ensures.fault)
+
+-- no words stand for `0 0`
+pub returns-in_default-clause-said : goal.returns-in_default-clause-said
+returns-in_default-clause-said c =
+    let numbers : corner_numbers (words_of c.args.line.now) ≡ codes "0" ∷ codes "0" ∷ [] = subst (λ l. corner_numbers l ≡ codes "0" ∷ codes "0" ∷ []) (sym c.in_default.ensures.words) refl in
+    record {
+      says = (words_of c.args.line.now, codes "0", codes "0", refl, numbers, inl (refl, refl), inl (refl, refl));
+      bounded = (omega (arith, ints), omega (arith, ints), omega (arith, ints), omega (arith, ints));
+    }

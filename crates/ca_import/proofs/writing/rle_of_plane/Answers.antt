@@ -1,6 +1,5 @@
-use Rattle.std.proofs.Common.{refl, sym, subst, arith}
+use Rattle.std.proofs.Common.{sym, subst, arith}
 use Rattle.ca_plane.specs.Bytes.{IsWord}
-use Rattle.ca_rle.specs.Pattern.{IsWrittenRle}
 use Rattle.ca_import.proofs.WrittenCells.{listed_in_range, listed_low}
 use Rattle.ca_import.proofs.writing.rle_of_plane.Goals as goal
 
