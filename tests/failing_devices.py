@@ -29,10 +29,10 @@ PIECE = 8192
 # Of texts with fewer bytes each byte in turn can't be written, of the others some.
 MOST_WHOLE = 3000
 
-# Golden runs of `show`, `convert` and `draw` that print or read some hundred bytes.
+# Golden runs of `show`, `convert`, `draw`, `import` and `rule` that print or read some hundred bytes.
 GOLDEN = ("show/full_square", "convert/gun_to_macrocell", "convert/gun_to_rle", "convert/full_square", "draw/full_square", "draw/pgm", "draw/window",
           "show/after",
-          "convert/after")
+          "convert/after", "import/plaintext", "import/to_macrocell", "rule/all_survive")
 
 # What the claim text prints, without notes and with them. Which of the two cells that differ the last note names is open; this is the program's choice.
 PLAIN = b"line 3: no, cells differ after 1\nline 4: yes\nline 5: no, cells differ after 0\n"

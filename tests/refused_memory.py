@@ -40,14 +40,15 @@ CLAIM_TEXTS = {"block": 1, "glider": 1, "several": 1, "bad_patterns": 1, "rules"
                "unknown_name": 1, "table_causes": 1, "bad_table": 1, "slide": 1, "tables": 5, "r_pentomino": 11, "soup": 11, "macrocells": 11,
                "bad_macrocells": 5, "generations": 11, "reactions": 11, "every_kind": 1, "three_planes": 1}
 
-# Golden runs of `show`, `convert` and `draw`, in both formats, with a rule file and without, and with a fault.
+# Golden runs of `show`, `convert` and `draw`, in both formats, with a rule file and without, and with a fault; and of `import` and `rule`.
 WORDS = ("show/rle", "show/macrocell", "show/table", "show/no_table", "show/bad_table", "show/timeline", "show/full_square", "show/generations",
          "convert/to_macrocell", "convert/to_rle", "convert/tidy_rle", "convert/both_leaves", "convert/table_to_macrocell", "convert/table_to_rle",
          "convert/empty_to_macrocell", "convert/too_many_cells", "convert/full_square", "convert/gun_to_macrocell", "convert/gun_to_rle",
          "convert/generations_to_macrocell", "identify/bad_table", "show/rules", "convert/rules", "show/rules_bad_table", "convert/explain_bad_table",
          "draw/glider", "draw/window", "draw/after", "draw/generations", "draw/table", "draw/full_square", "draw/empty", "draw/pgm", "draw/too_large",
          "draw/out_of_range", "draw/zoom",
-         "show/after", "show/after_long", "show/after_work", "convert/after", "convert/after_gen_too_large")
+         "show/after", "show/after_long", "show/after_work", "convert/after", "convert/after_gen_too_large",
+         "import/plaintext", "import/life_105", "import/to_macrocell", "import/faulty", "rule/all_survive")
 
 # The same with a note on the pattern's file, which may be without its faulty line or its rule.
 NOTED = ("show/explain_syntax", "show/explain_forward", "show/rules_unknown", "convert/explain_unknown", "convert/explain_too_many_cells",
