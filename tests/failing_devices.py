@@ -32,7 +32,7 @@ MOST_WHOLE = 3000
 # Golden runs of `show`, `convert`, `draw`, `import` and `rule` that print or read some hundred bytes.
 GOLDEN = ("show/full_square", "convert/gun_to_macrocell", "convert/gun_to_rle", "convert/full_square", "draw/full_square", "draw/pgm", "draw/window",
           "show/after",
-          "convert/after", "import/plaintext", "import/to_macrocell", "rule/all_survive")
+          "convert/after", "import/plaintext", "import/to_macrocell")
 
 # What the claim text prints, without notes and with them. Which of the two cells that differ the last note names is open; this is the program's choice.
 PLAIN = b"line 3: no, cells differ after 1\nline 4: yes\nline 5: no, cells differ after 0\n"
@@ -98,7 +98,7 @@ def printing_runs(files):
         (["show", state, "--rule", rule], SHOWN_TABLE), (["show", state, "--rules", files.folder], SHOWN_TABLE),
         (["draw", state, "--rule", rule], DRAWN_TABLE), (["draw", state, "--rules", files.folder], DRAWN_TABLE), (["convert", dot, "--to", "mc"], AS_MACROCELL),
         (["convert", macrocell, "--to", "rle"], AS_RLE),
-        *((golden.words(case), golden.outcome(case)) for case in GOLDEN),
+        *((golden.words(case), golden.outcome(case)) for case in (*GOLDEN, "rule/all_survive")),
         *((words, ample(run(words).printed)) for words in (["--version"], ["verify", "--help"])),
     )
 

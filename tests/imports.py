@@ -113,7 +113,7 @@ def check_refused(runs, tally):
 
 def check_rules(runs, tally):
     """The rule of texts that name none."""
-    path, own = runs.path("glider.cells", "!\n.O\n..O\nOOO\n"), runs.path("own.lif", "#Life 1.05\n#R 23/36\n.*\n..*\n***\n")
+    path, own = runs.path("glider.cells", "!\n.O\n..O\nOOO\n"), runs.path("own.lif", "#Life 1.05\n#R 23/36\n#P\n.*\n..*\n***\n")
     for word, rule, states in RULES:
         words = ["--rule", word] if word else []
         runs.expect("a rule", ["import", path, *words], ample(tidy(GLIDER, rule, 0, states)))

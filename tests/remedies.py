@@ -12,7 +12,7 @@ import subprocess
 
 from lib import remedies
 from lib.parts import try_all
-from lib.program import Outcome, escaped, fault, file_word, lines_outcome, run
+from lib.program import PROGRAM, Outcome, escaped, fault, file_word, lines_outcome, run
 from lib.terminal import on_terminal
 
 GOOD = b"x = 3, y = 3, rule = B3/S23\nbo$2bo$3o!\n"
@@ -22,9 +22,9 @@ MISTAKES = {
     "byte order mark": (b"\xef\xbb\xbf" + GOOD, "bad pattern: rle header", GOOD),
     "gzip": (gzip.compress(GOOD), "bad pattern: rle header", GOOD),
     "gzip of a macrocell": (gzip.compress(b"[M2]\n4 0 0 0 0\n"), "bad pattern: rle header", b"[M2]\n4 0 0 0 0\n"),
-    "plaintext": (b"!Name: Glider\n.O.\n..O\nOOO\n", "bad pattern: rle header", None),
-    "Life 1.05": (b"#Life 1.05\n#P -1 -1\n.*.\n..*\n***\n", "bad pattern: rle header", None),
-    "Life 1.06": (b"#Life 1.06\n0 -1\n1 0\n", "bad pattern: rle header", None),
+    "plaintext": (b"!Name: Glider\n.O.\n..O\nOOO\n", "bad pattern: rle header", b"#CXRLE Pos=0,0\n" + GOOD),
+    "Life 1.05": (b"#Life 1.05\n#P -1 -1\n.*.\n..*\n***\n", "bad pattern: rle header", b"#CXRLE Pos=-1,-1\n" + GOOD),
+    "Life 1.06": (b"#Life 1.06\n0 -1\n1 0\n", "bad pattern: rle header", b"#CXRLE Pos=0,-1\nx = 2, y = 2, rule = B3/S23\no$bo!\n"),
     "no commas": (b"x = 3 y = 3 rule = B3/S23\nbo$2bo$3o!\n", "bad pattern: rle header", GOOD),
     "CR alone": (GOOD.replace(b"\n", b"\r"), "bad pattern: rle no end", GOOD),
     "CR alone after a comment": (b"#N Glider\r" + GOOD.replace(b"\n", b"\r"), "bad pattern: rle header", b"#N Glider\n" + GOOD),
@@ -45,7 +45,7 @@ MISTAKES = {
 WORDS = {
     "byte order mark": rb"sed '1s/^\xef\xbb\xbf//' FILE", "gzip": b"gunzip -c FILE", "gzip of a macrocell": b"gunzip -c FILE",
     "plaintext": b"cafile import FILE",
-    "Life 1.05": b"cafile import FILE", "Life 1.06": b"open it in Golly and save it as RLE",
+    "Life 1.05": b"cafile import FILE", "Life 1.06": b"cafile import FILE",
     "no commas": b"write the header as x = 3, y = 3, rule = B3/S23",
     "CR alone": rb"tr '\r' '\n' < FILE", "CR alone after a comment": rb"tr '\r' '\n' < FILE", "cut off": b"get the file again, or put ! at its end",
     "another letter": b"look for bytes other than b o . $ !, A to X, p to y and digits", "a rule line of XLife": b"write the rule into the header",
@@ -181,6 +181,7 @@ def try_commands(tally, files):
             path = os.path.join(files.folder, "broken")
             write(path, data)
             command = run(["show", "--explain", path]).complaint.split(b"  try: ")[-1]
+            command = re.sub(rb"^cafile ", b"%s " % os.fsencode(PROGRAM), command)
             done = subprocess.run(["sh", "-c", os.fsdecode(command)], capture_output=True, check=False)
             tally.tell(f"{name}, mended by {command}", [] if done.stdout.strip() == mended.strip() else [str(done)])
 

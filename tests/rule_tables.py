@@ -1,10 +1,9 @@
 #!/usr/bin/env -S python3 -B
-"""`cafile rule`: isotropic rules in Hensel's notation, MAP strings, B/S and Generations rules, written as rule tables, and texts that are refused.
+"""`cafile rule`: isotropic rules in Hensel's notation, MAP strings and B/S rules, written as rule tables, and texts that are refused.
 
 What is written is read by the reader of tests/lib/rule_table.py, and its next states are compared with those of tests/lib/isotropic.py and of
 tests/lib/steps.py, which know nothing of tables; and soups that the program runs under the written table with naive steps.
 """
-import itertools
 import random
 import tempfile
 
@@ -24,12 +23,11 @@ ISOTROPIC = (
     "B/S", "/", *(f"B{count}{letter}/S{count}-{letter}" for count, letter in isotropic.kinds() if letter),
 )
 BS_RULES = ("B3/S23", "23/3", "s23b36", "B3678/S34678", "B2/S013V", "b13/s012v", "B2/S34H", "B24/S34h", "B/S012345678")
-GENERATIONS = ("345/2/4", "/2/3", "23/3/2", "12/34/256", "2/13/21")
 REFUSED = (
-    ("B0/S23", "wakes"), ("B03-k/S23", "wakes"), ("/0", "wakes"), ("23/0/4", "wakes"), ("MAP" + "/" * 86, "wakes"), ("B3/S23:T9,9", "bounded"),
+    ("B0/S23", "wakes"), ("B03-k/S23", "wakes"), ("/0", "wakes"), ("MAP" + "/" * 86, "wakes"), ("B3/S23:T9,9", "bounded"),
     ("B2-a/S12:P3,3", "bounded"), ("", "unknown"), ("Life", "unknown"), ("B3x/S23", "unknown"), ("B1a/S23", "unknown"), ("B3-/S23", "unknown"), ("B0c/S", "unknown"),
     ("B8e/S", "unknown"), ("B9/S", "unknown"), ("B2-a/S12V", "unknown"), ("B2-a/S12H", "unknown"), ("B2a-c/S", "unknown"), ("B2--a/S", "unknown"), ("B3/S23/", "unknown"),
-    (LIFE[:-1], "unknown"), (LIFE + "A", "unknown"), (LIFE[:-1] + "=", "unknown"), ("map" + LIFE[3:], "unknown"), ("B2-a /S12", "unknown"), ("2-a/12/4", "unknown"),
+    (LIFE[:-1], "unknown"), (LIFE + "A", "unknown"), (LIFE[:-1] + "=", "unknown"), ("map" + LIFE[3:], "unknown"), ("B2-a /S12", "unknown"), ("2-a/12/4", "unknown"), ("345/2/4", "unknown"), ("23/3/2", "unknown"), ("23/0/4", "unknown"),
     ("Ba2/S", "unknown"), ("B2w/S", "unknown"), ("B5t/S", "unknown"),
 )
 
@@ -110,21 +108,6 @@ def counted_bits(rule):
     return [rule.next(int(bool(number & 16)), tuple(int(bool(number & place[it])) for it in rule.ring)) for number in range(512)]
 
 
-def check_generations(runs, tally):
-    """Generations rules, at neighbourhoods of chosen and of random states."""
-    chance = random.Random(3)
-    for text in GENERATIONS:
-        table, _ = written(runs, text)
-        rule = steps.rule_of(text)
-        states = sorted({0, 1, rule.states - 1, min(2, rule.states - 1)})
-        rings = [tuple(chance.choice(states) for _ in range(8)) for _ in range(300)] + [(0,) * at + (1,) * (8 - at) for at in range(9)]
-        for centre, ring in itertools.product(sorted({*states, rule.states // 2}), rings):
-            if table and (table.states != rule.states or table.next(centre, ring) != rule.next(centre, ring)):
-                runs.complaints.append(f"{text}: {centre} among {ring}")
-                break
-    runs.tell(tally, "Generations rules")
-
-
 def main():
     tally = Tally()
     with tempfile.TemporaryDirectory() as folder:
@@ -138,7 +121,6 @@ def main():
         for text in BS_RULES:
             two_states(runs, text, counted_bits(steps.rule_of(rule_of(text.encode())[0])))
         runs.tell(tally, "B/S rules")
-        check_generations(runs, tally)
         for text, told in REFUSED:
             runs.expect("a refused text", ["rule", text], fault(f"bad rule: {told}"))
         runs.tell(tally, "texts that are refused")
