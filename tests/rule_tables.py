@@ -24,7 +24,7 @@ ISOTROPIC = (
 )
 BS_RULES = ("B3/S23", "23/3", "s23b36", "B3678/S34678", "B2/S013V", "b13/s012v", "B2/S34H", "B24/S34h", "B/S012345678")
 REFUSED = (
-    ("B0/S23", "wakes"), ("B03-k/S23", "wakes"), ("/0", "wakes"), ("MAP" + "/" * 86, "wakes"), ("B3/S23:T9,9", "bounded"),
+    ("B0/S23", "wakes"), ("B03-k/S23", "wakes"), ("/0", "wakes"), ("MAP" + "/" * 85 + "w", "wakes"), ("MAP" + "/" * 86, "unknown"), ("B3/S23:T9,9", "bounded"),
     ("B2-a/S12:P3,3", "bounded"), ("", "unknown"), ("Life", "unknown"), ("B3x/S23", "unknown"), ("B1a/S23", "unknown"), ("B3-/S23", "unknown"), ("B0c/S", "unknown"),
     ("B8e/S", "unknown"), ("B9/S", "unknown"), ("B2-a/S12V", "unknown"), ("B2-a/S12H", "unknown"), ("B2a-c/S", "unknown"), ("B2--a/S", "unknown"), ("B3/S23/", "unknown"),
     (LIFE[:-1], "unknown"), (LIFE + "A", "unknown"), (LIFE[:-1] + "=", "unknown"), ("map" + LIFE[3:], "unknown"), ("B2-a /S12", "unknown"), ("2-a/12/4", "unknown"), ("345/2/4", "unknown"), ("23/3/2", "unknown"), ("23/0/4", "unknown"),
