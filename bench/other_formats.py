@@ -52,7 +52,7 @@ def files_of(patterns):
 def compare_files(folder, tally, patterns):
     """Golly's files."""
     for path in files_of(patterns):
-        theirs, rule = golly(path, folder.path("theirs.rle"))
+        theirs, rule = golly(path, folder.path("theirs.rle"), "-m", "0")
         got = run(["import", path])
         ours, own = cells_and_rule(got.printed.decode("latin-1")) if got.status == 0 else ({}, got.complaint)
         tally.tell(os.path.basename(path), [] if (moved(ours), own) == (moved(theirs), rule) else [f"{got.complaint or own}, wanted {rule} and {len(theirs)} cells"])
