@@ -142,6 +142,23 @@ def check_large(runs, tally):
     runs.tell(tally, "many cells")
 
 
+def check_long(runs, tally):
+    """Texts of many lines, of which each may be read."""
+    places = [(at * 7919 % 101, at // 7 % 100) for at in range(1000000)]
+    square = {it: 1 for it in places}
+    tree = macrocell.tidy(macrocell.Pattern(macrocell.tree_of(square), "B3/S23", 0), 2)
+    corner = {(0, 300000): 1}
+    deep = macrocell.tidy(macrocell.Pattern(macrocell.tree_of(corner), "B3/S23", 0), 2)
+    texts = (("#Life 1.06\n" + "".join(f"{x} {y}\n" for x, y in places), square, tree),
+             ("#Life 1.05\n" + "".join(f"#P {x} {y}\n*\n" for x, y in places), square, tree),
+             ("!\n" * 300000 + ".\n" * 300000 + "O", corner, deep))
+    for at, (text, cells, macro) in enumerate(texts):
+        path = runs.path(f"long{at}.txt", text)
+        runs.expect("a long text", ["import", path], ample(tidy(cells, "B3/S23", 0, 2)))
+        runs.expect("a long text to mc", ["import", path, "--to", "mc"], ample(macro))
+    runs.tell(tally, "long texts")
+
+
 def check_mutated(runs, tally, count, seed):
     """Mutated texts."""
     chance = random.Random(seed)
@@ -165,6 +182,7 @@ def main():
         check_refused(runs, tally)
         check_rules(runs, tally)
         check_large(runs, tally)
+        check_long(runs, tally)
         check_mutated(runs, tally, asked.count, asked.seed)
     tally.finish()
 

@@ -20,7 +20,7 @@ ALPHABET = isotropic.ALPHABET
 ISOTROPIC = (
     "B2-a/S12", "B3/S2-i34q", "b3-ks23", "S12ae/B2ce3", "s2-k3b3-cnry4z", "23-q/2n3", "B34w/S23", "B3/S234y", "2-i34q/2i34cej5y", "B3aijn/S2-in3-ekq4j",
     "B2cek3i/S12cei", "B2c/S", "B3CE/S2-I", "B33a/S", "B3a3i/S", "/2a", "B1c/S", "B/S0", "B8/S8", "B2c/S2ceaikn", "B4-ceaiknjqrytw/S4-z",
-    "B/S", "/", *(f"B{count}{letter}/S{count}-{letter}" for count, letter in isotropic.kinds() if letter),
+    "B/S", "/", "B" + "2c3a4-q" * 500 + "/S" + "23-k" * 500, *(f"B{count}{letter}/S{count}-{letter}" for count, letter in isotropic.kinds() if letter),
 )
 BS_RULES = ("B3/S23", "23/3", "s23b36", "B3678/S34678", "B2/S013V", "b13/s012v", "B2/S34H", "B24/S34h", "B/S012345678")
 REFUSED = (
