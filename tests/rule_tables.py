@@ -2,7 +2,8 @@
 """`cafile rule`: isotropic rules in Hensel's notation, MAP strings and B/S rules, written as rule tables, and texts that are refused.
 
 What is written is read by the reader of tests/lib/rule_table.py, and its next states are compared with those of tests/lib/isotropic.py and of
-tests/lib/steps.py, which know nothing of tables; and soups that the program runs under the written table with naive steps.
+tests/lib/steps.py, which know nothing of tables; and soups that the program runs under the written table with naive steps: small ones, which are leapt, and dense
+ones, which are stepped by a diagram of the rule.
 """
 import random
 import tempfile
@@ -30,6 +31,10 @@ REFUSED = (
     (LIFE[:-1], "unknown"), (LIFE + "A", "unknown"), (LIFE[:-1] + "=", "unknown"), ("map" + LIFE[3:], "unknown"), ("B2-a /S12", "unknown"), ("2-a/12/4", "unknown"), ("345/2/4", "unknown"), ("23/3/2", "unknown"), ("23/0/4", "unknown"),
     ("Ba2/S", "unknown"), ("B2w/S", "unknown"), ("B5t/S", "unknown"),
 )
+
+# Soups under rules whose diagrams have few nodes and many: the side, and the generations. Random MAP strings give the largest diagrams.
+DENSE = (("B2-a/S12", 100, 65), ("B3/S2-i34q", 90, 33), ("B3-cnry4z/S2-k3", 80, 64), ("B34ceky/S23-a4cityz", 80, 33), ("B2kin3aj/S23-ik", 80, 32), ("B8/S8", 80, 40),
+         ("B3/S23", 90, 129), ("B2/S013V", 80, 33), ("B24/S34H", 80, 33))
 
 # The neighbours of a cell in the order of a table's ring, as the bits of a neighbourhood's number.
 RING_BITS = (128, 64, 8, 1, 2, 4, 32, 256)
@@ -93,6 +98,29 @@ def two_states(runs, text, bits):
         runs.complaints.append(f"{text}: after 5 generations {got}")
 
 
+def dense_soup(runs, text, bits, side, generations):
+    """A soup of so many cells a side after some generations, under the table of a rule, beside naive steps. The table goes by a name that is no rule's own."""
+    table, _ = written(runs, text)
+    if not table:
+        return
+    path = runs.path("named.rule", run(["rule", text]).printed.replace(f"@RULE {text}\n".encode(), b"@RULE Named\n", 1))
+    chance = random.Random(f"{text} {side}")
+    left, top = chance.randrange(-200, 200), chance.randrange(-200, 200)
+    live = {(left + x, top + y) for x in range(side) for y in range(side) if chance.random() < 0.4}
+    pattern = runs.path("soup.rle", tidy({it: 1 for it in live}, "Named", 0, 2))
+    for _ in range(generations):
+        live = isotropic.step(live, bits)
+    got = run(["convert", pattern, "--to", "rle", "--after", str(generations), "--rule", path])
+    runs.count += 1
+    if got.status or set(cells_and_rule(got.printed.decode())[0]) != live:
+        runs.complaints.append(f"{text}: a soup of {side} after {generations} generations {got.complaint}")
+
+
+def next_states(text):
+    """The next states of all 512 neighbourhoods."""
+    return counted_bits(steps.rule_of(rule_of(text.encode())[0])) if is_known(text) else isotropic.rule_bits(text)
+
+
 def is_known(text):
     """Whether the text names a rule of its own, without a table."""
     try:
@@ -121,6 +149,9 @@ def main():
         for text in BS_RULES:
             two_states(runs, text, counted_bits(steps.rule_of(rule_of(text.encode())[0])))
         runs.tell(tally, "B/S rules")
+        for text, side, generations in (*DENSE, *((text, 70, 32) for text in list(maps())[-3:])):
+            dense_soup(runs, text, next_states(text), side, generations)
+        runs.tell(tally, "dense soups")
         for text, told in REFUSED:
             runs.expect("a refused text", ["rule", text], fault(f"bad rule: {told}"))
         runs.tell(tally, "texts that are refused")

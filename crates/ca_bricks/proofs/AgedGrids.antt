@@ -11,7 +11,8 @@ use Rattle.ca_plane.specs.declared.counting.Ageing.{Ageing}
 use Rattle.ca_plane.specs.declared.counting.Counting.{Counting}
 use Rattle.ca_plane.specs.Shown.{row_cells}
 use Rattle.ca_plane.proofs.Numbers.{below_or_not}
-use Rattle.ca_bricks.specs.Counting.{GoesBy}
+use Rattle.ca_bricks.specs.CellRules.{GoesByCells}
+use Rattle.ca_bricks.specs.declared.cell_rule.CellRule.TheVariants.{ByCounting}
 use Rattle.ca_bricks.specs.declared.aged.AgedGrid.{AgedGrid}
 use Rattle.ca_bricks.specs.declared.grid.BrickGrid.{BrickGrid}
 use Rattle.ca_bricks.specs.Aged.{AgedGridShows, AreAlike, IsBeside, IsNextAged, HasBlankEdges, remaining, dying_digit, aged_digit, number_at, lives_at, begins_at}
@@ -54,8 +55,8 @@ grid_in_place live grid m q is beside bricks margin =
     })
 
 -- a rule that goes by the counting
-pub by_it : (counting : Counting) → GoesBy (counting_next counting) counting
-by_it counting = record { states = 2; by_counting = record { two_states = refl; goes_by = λ nine _ _. refl } }
+pub by_it : (counting : Counting) → GoesByCells (counting_next counting) (ByCounting counting)
+by_it counting = record { goes_by = λ nine _ _. refl }
 
 pub counting_low : (counting : Counting) (nine : List ℕ) → counting_next counting nine < 2
 counting_low counting nine = bit_at-lt (if slice_index nine 4 == 0 then counting.birth else counting.survival) (counted_sum counting.neighbourhood nine)
@@ -118,7 +119,7 @@ module _ (next : List ℕ → ℕ) (ageing : Ageing) (grid later : AgedGrid) (m 
   lives_shown : (t x y : ℕ) → HasNeighbours across count t → x < 64 → y < 16 → lives_at ageing grid t x y ≡ lives (x_of t x) (y_of t y)
   lives_shown t x y has i j =
       let old = grid.live.bricks.items in
-      next_shows (counting_next ageing.counting) ageing.counting (by_it ageing.counting) (λ x y. liveness (p x y)) (round_at across old t) (brick_x across grid.live.x t) (brick_y across grid.live.y t)
+      next_shows (counting_next ageing.counting) (ByCounting ageing.counting) (by_it ageing.counting) (λ x y. liveness (p x y)) (round_at across old t) (brick_x across grid.live.x t) (brick_y across grid.live.y t)
       (λ u v. wide_bit-lt (column_at across old (t - 1) v) (column_at across old t v) (column_at across old (t + 1) v) u)
       (round_shows across grid.live.down old (λ x y. liveness (p x y)) grid.live.x grid.live.y
       (margin_less (suc m) 0 across grid.live.down (λ x y. liveness (p x y)) grid.live.x grid.live.y (omega arith) shows.live.margin) shows.live.bricks t shows.live.is_grid.wide has.before has.behind) x y i j

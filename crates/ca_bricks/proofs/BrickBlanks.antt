@@ -2,10 +2,10 @@
 use Rattle.std.proofs.Common.{◌≡◌, ℕ, zero, suc, ◌+◌, ◌-◌, ◌<◌, inl, inr, ◌⊎◌, List, [], get_or, length, refl, sym, ap, ◌∙◌, arith, slice_index}
 use Rattle.std.specs.Prelude.{pos, ◌+ℤ◌, replicate}
 use Rattle.std.specs.Int.{bit_at}
-use Rattle.ca_plane.specs.declared.counting.Counting.{Counting}
 use Rattle.ca_plane.specs.Shown.{row_cells}
 use Rattle.ca_plane.proofs.Numbers.{below_or_not}
-use Rattle.ca_bricks.specs.Counting.{GoesBy}
+use Rattle.ca_bricks.specs.CellRules.{GoesByCells}
+use Rattle.ca_bricks.specs.declared.cell_rule.CellRule.{CellRule}
 use Rattle.ca_bricks.specs.Bricks.{round_at, column_at, next_cell_at, IsNextBrick, IsSameRound, IsUnseen, HasNeighbours, HasBlankEdge, IsBlank, IsBlankRound}
 use Rattle.ca_plane.proofs.After.{after_dead}
 use Rattle.ca_bricks.proofs.BrickEdges.{next_shows}
@@ -81,21 +81,21 @@ pub own_cells : (across : ℕ) (bricks : List (List ℕ)) (t x y : ℕ) → x < 
 own_cells across bricks t x y h k = round_at-middle across bricks t x (suc y) h ∙ ap (λ w. bit_at w x) (column_at-middle across bricks t y k)
 
 -- a brick round which no cell is live is blank next
-pub blank_next : (next : List ℕ → ℕ) (counting : Counting) → GoesBy next counting → next (replicate 9 0) ≡ 0 → (across : ℕ) (bricks : List (List ℕ)) (t : ℕ) → IsBlankRound across bricks t
-    → (x y : ℕ) → x < 64 → y < 16 → next_cell_at counting (round_at across bricks t) x y ≡ 0
-blank_next next counting goes_by quiet across bricks t blank x y h k =
-    next_shows next counting goes_by (λ _ _. 0) (round_at across bricks t) (pos 0) (pos 0)
+pub blank_next : (next : List ℕ → ℕ) (rule : CellRule) → GoesByCells next rule → next (replicate 9 0) ≡ 0 → (across : ℕ) (bricks : List (List ℕ)) (t : ℕ) → IsBlankRound across bricks t
+    → (x y : ℕ) → x < 64 → y < 16 → next_cell_at rule (round_at across bricks t) x y ≡ 0
+blank_next next rule goes_by quiet across bricks t blank x y h k =
+    next_shows next rule goes_by (λ _ _. 0) (round_at across bricks t) (pos 0) (pos 0)
     (λ u v. wide_bit-lt (column_at across bricks (t - 1) v) (column_at across bricks t v) (column_at across bricks (t + 1) v) u) blank x y h k
     ∙ after_dead next (λ _ _. 0) quiet 1 (pos 0 +ℤ pos x) (pos 0 +ℤ pos y) (λ _ _ _. refl)
 
 -- so it rests where it was blank before
-pub blank_rests : (next : List ℕ → ℕ) (counting : Counting) → GoesBy next counting → next (replicate 9 0) ≡ 0 → (across : ℕ) (now before : List (List ℕ)) (t : ℕ) → IsBlankRound across now t
-    → IsBlank (get_or before t []) → IsNextBrick counting across now before t
-blank_rests next counting goes_by quiet across now before t round blank = record { cells = λ x y h k. blank x y h k ∙ sym (blank_next next counting goes_by quiet across now t round x y h k) }
+pub blank_rests : (next : List ℕ → ℕ) (rule : CellRule) → GoesByCells next rule → next (replicate 9 0) ≡ 0 → (across : ℕ) (now before : List (List ℕ)) (t : ℕ) → IsBlankRound across now t
+    → IsBlank (get_or before t []) → IsNextBrick rule across now before t
+blank_rests next rule goes_by quiet across now before t round blank = record { cells = λ x y h k. blank x y h k ∙ sym (blank_next next rule goes_by quiet across now t round x y h k) }
 
 -- and so does a brick that sees nothing of two generations, the first after a blank one
-pub blank_again : (next : List ℕ → ℕ) (counting : Counting) → GoesBy next counting → next (replicate 9 0) ≡ 0 → (across : ℕ) (before now later : List (List ℕ)) (t : ℕ)
-    → ((s : ℕ) → IsBlank (get_or before s [])) → IsBlankRound across now t → IsSameRound across before later t → IsNextBrick counting across later now t
-blank_again next counting goes_by quiet across before now later t blank round same =
-    blank_rests next counting goes_by quiet across later now t (λ x y h k. same.cells x y h k ∙ all_blank_round across before blank t x y h k)
+pub blank_again : (next : List ℕ → ℕ) (rule : CellRule) → GoesByCells next rule → next (replicate 9 0) ≡ 0 → (across : ℕ) (before now later : List (List ℕ)) (t : ℕ)
+    → ((s : ℕ) → IsBlank (get_or before s [])) → IsBlankRound across now t → IsSameRound across before later t → IsNextBrick rule across later now t
+blank_again next rule goes_by quiet across before now later t blank round same =
+    blank_rests next rule goes_by quiet across later now t (λ x y h k. same.cells x y h k ∙ all_blank_round across before blank t x y h k)
     (λ x y h k. sym (own_cells across now t x y h k) ∙ round (suc x) (suc y) (omega arith) (omega arith))

@@ -6,21 +6,26 @@ use Rattle.std.proofs.lemmas.Int.{ints}
 use Rattle.std.proofs.lemmas.List.Elements.{All-from_recursion}
 use Rattle.std.proofs.lemmas.Nat.{div-add-mod', mod_below}
 use Rattle.ca_plane.specs.Generations.{around, cells_after}
-use Rattle.ca_plane.specs.Counting.{counted_sum}
-use Rattle.ca_plane.specs.declared.counting.Counting.{Counting}
 use Rattle.ca_plane.proofs.Numbers.{below_or_not}
-use Rattle.ca_bricks.specs.Counting.{GoesBy}
+use Rattle.ca_bricks.specs.CellRules.{GoesByCells, cell_next}
+use Rattle.ca_bricks.specs.declared.cell_rule.CellRule.{CellRule}
+use Rattle.ca_bricks.specs.declared.cell_rule.CellRule.TheVariants.{ByCounting, ByDiagram}
 use Rattle.ca_bricks.specs.Bricks.{round_at, next_cell_at, IsNextBrick, BrickShows, BricksShow, brick_x, brick_y, column_at, HasMargin, HasNeighbours, HasBlankEdge}
-use Rattle.ca_bricks.specs.Tiles.{next_by_count, sum_round}
-use Rattle.ca_bricks.proofs.NeighbourSums.{nine_at, sum_counted}
+use Rattle.ca_bricks.specs.Tiles.{next_by_count, nine_at}
+use Rattle.ca_bricks.proofs.NeighbourSums.{sum_counted}
 use Rattle.ca_bricks.proofs.BrickRows.{wide_bit-lt}
 use Rattle.ca_bricks.proofs.BrickRounds.{round_at-middle, round_at-east}
 use Rattle.ca_bricks.proofs.BrickPlaces.{column_shows, quotient, remainder, east_of, west_of}
 
-module _ (next : List ℕ → ℕ) (counting : Counting) (goes_by : GoesBy next counting) (p : ℤ → ℤ → ℕ) (at : ℕ → ℕ → ℕ) (a b : ℤ)
+-- the next state of a cell is that of the nine cells round it
+by_nine : (rule : CellRule) (at : ℕ → ℕ → ℕ) (x y : ℕ) → next_cell_at rule at x y ≡ cell_next rule (nine_at at x y)
+by_nine (ByCounting counting) at x y = ap (next_by_count counting.birth counting.survival (at (suc x) (suc y))) (sum_counted counting.neighbourhood at x y)
+by_nine (ByDiagram diagram) at x y = refl
+
+module _ (next : List ℕ → ℕ) (rule : CellRule) (goes_by : GoesByCells next rule) (p : ℤ → ℤ → ℕ) (at : ℕ → ℕ → ℕ) (a b : ℤ)
     (bits : (x y : ℕ) → at x y < 2) (shown : (x y : ℕ) → x < 66 → y < 18 → at x y ≡ p ((a -ℤ pos 1) +ℤ pos x) ((b -ℤ pos 1) +ℤ pos y)) where
   -- what comes next by the cells of a brick and those round it is the plane's next state
-  pub next_shows : (x y : ℕ) → x < 64 → y < 16 → next_cell_at counting at x y ≡ cells_after next p 1 (a +ℤ pos x) (b +ℤ pos y)
+  pub next_shows : (x y : ℕ) → x < 64 → y < 16 → next_cell_at rule at x y ≡ cells_after next p 1 (a +ℤ pos x) (b +ℤ pos y)
   next_shows x y h k =
       let u = a +ℤ pos x in
       let v = b +ℤ pos y in
@@ -61,9 +66,7 @@ module _ (next : List ℕ → ℕ) (counting : Counting) (goes_by : GoesBy next 
         ),
       ) in
       let same : nine_at at x y ≡ nine = cc in
-      let counted = counting.neighbourhood in
-      let sum : sum_round counted at x y ≡ counted_sum counted nine = sum_counted counted at x y ∙ ap (counted_sum counted) same in
-      ap₂ (next_by_count counting.birth counting.survival) here sum ∙ sym (goes_by.by_counting.goes_by nine refl all)
+      by_nine rule at x y ∙ ap (cell_next rule) same ∙ sym (goes_by.goes_by nine refl all)
 
 -- one row of bricks less
 one_less : (q d : ℕ) → 1 ≤ q → (q - 1) * d + d ≡ q * d
@@ -152,17 +155,17 @@ edge_dead across down count p a b wide high size margin t h not x y i j = elim (
         ]
 
 -- what comes next of bricks that show a plane shows its next generation, where that is dead at the edge too
-pub bricks_go_on : (next : List ℕ → ℕ) (counting : Counting) → GoesBy next counting → (across down : ℕ) (old new : List (List ℕ)) (p : ℤ → ℤ → ℕ) (a b : ℤ)
+pub bricks_go_on : (next : List ℕ → ℕ) (rule : CellRule) → GoesByCells next rule → (across down : ℕ) (old new : List (List ℕ)) (p : ℤ → ℤ → ℕ) (a b : ℤ)
     → 2 ≤ across → 2 ≤ down → length old ≡ down * across → length new ≡ length old → HasMargin 0 across down p a b → HasMargin 0 across down (cells_after next p 1) a b → BricksShow across old p a b
-    → ((t : ℕ) → HasNeighbours across (length old) t → IsNextBrick counting across old new t) → HasBlankEdge across new → BricksShow across new (cells_after next p 1) a b
-bricks_go_on next counting goes_by across down old new p a b wide high size same margin later shows is_next blank t h =
+    → ((t : ℕ) → HasNeighbours across (length old) t → IsNextBrick rule across old new t) → HasBlankEdge across new → BricksShow across new (cells_after next p 1) a b
+bricks_go_on next rule goes_by across down old new p a b wide high size same margin later shows is_next blank t h =
     elim (below_or_not across t) [
       | inr low ↦ edge (λ has. omega (arith, has.before, low))
       | inl before ↦ elim (below_or_not (t + across + 1) (length old)) [
         | inl behind ↦ record {
           looks = λ x y i j.
               (is_next t (record { before = before; behind = behind })).cells x y i j
-              ∙ next_shows next counting goes_by p (round_at across old t) (brick_x across a t) (brick_y across b t)
+              ∙ next_shows next rule goes_by p (round_at across old t) (brick_x across a t) (brick_y across b t)
               (λ u v. wide_bit-lt (column_at across old (t - 1) v) (column_at across old t v) (column_at across old (t + 1) v) u)
               (round_shows across down old p a b margin shows t wide before behind) x y i j;
         }

@@ -4,11 +4,13 @@ use Rattle.std.specs.Int.{bit_at}
 use Rattle.std.proofs.lemmas.Bool.{cases_eq, cond_below, cond_above}
 use Rattle.std.proofs.lemmas.List.{get_or-set_other}
 use Rattle.std.proofs.lemmas.Grind.{get_or-set_at}
-use Rattle.ca_plane.specs.declared.counting.Counting.{Counting}
 use Rattle.ca_plane.specs.Shown.{row_cells}
 use Rattle.ca_plane.proofs.Numbers.{below_or_not}
-use Rattle.ca_bricks.specs.Tiles.{next_by_count}
-use Rattle.ca_bricks.proofs.NeighbourSums.{nine_at, sum_round-same}
+use Rattle.ca_bricks.specs.Tiles.{next_by_count, nine_at}
+use Rattle.ca_bricks.specs.Diagrams.{diagram_next}
+use Rattle.ca_bricks.specs.declared.cell_rule.CellRule.{CellRule}
+use Rattle.ca_bricks.specs.declared.cell_rule.CellRule.TheVariants.{ByCounting, ByDiagram}
+use Rattle.ca_bricks.proofs.NeighbourSums.{sum_round-same}
 use Rattle.ca_bricks.specs.declared.round.Round.{Round}
 use Rattle.ca_bricks.specs.Bricks.{column_at, round_at, next_cell_at, IsNextBrick, IsSameRound, IsUnseen, HasNeighbours, IsNotAhead, round_cells}
 
@@ -29,8 +31,12 @@ round_at-east across bricks t x y h = let east = bit_at (column_at across bricks
 -- ---- bricks that rest
 
 -- the next state of a cell goes by the nine cells round it
-pub next_cell_at-same : (counting : Counting) (f g : ℕ → ℕ → ℕ) (x y : ℕ) → ((u v : ℕ) → x ≤ u → u ≤ suc (suc x) → y ≤ v → v ≤ suc (suc y) → f u v ≡ g u v) → next_cell_at counting f x y ≡ next_cell_at counting g x y
-next_cell_at-same counting f g x y same =
+next_by_nine : (rule : CellRule) (f g : ℕ → ℕ → ℕ) (x y : ℕ) → f (suc x) (suc y) ≡ g (suc x) (suc y) → nine_at f x y ≡ nine_at g x y → next_cell_at rule f x y ≡ next_cell_at rule g x y
+next_by_nine (ByCounting counting) f g x y here nine = ap₂ (next_by_count counting.birth counting.survival) here (sum_round-same counting.neighbourhood f g x y nine)
+next_by_nine (ByDiagram diagram) f g x y here nine = ap (diagram_next diagram.nodes.items) nine
+
+pub next_cell_at-same : (rule : CellRule) (f g : ℕ → ℕ → ℕ) (x y : ℕ) → ((u v : ℕ) → x ≤ u → u ≤ suc (suc x) → y ≤ v → v ≤ suc (suc y) → f u v ≡ g u v) → next_cell_at rule f x y ≡ next_cell_at rule g x y
+next_cell_at-same rule f g x y same =
     let nw = same x y (omega arith) (omega arith) (omega arith) (omega arith) in
     let n = same (suc x) y (omega arith) (omega arith) (omega arith) (omega arith) in
     let ne = same (suc (suc x)) y (omega arith) (omega arith) (omega arith) (omega arith) in
@@ -41,12 +47,12 @@ next_cell_at-same counting f g x y same =
     let s = same (suc x) (suc (suc y)) (omega arith) (omega arith) (omega arith) (omega arith) in
     let se = same (suc (suc x)) (suc (suc y)) (omega arith) (omega arith) (omega arith) (omega arith) in
     let nine : nine_at f x y ≡ nine_at g x y = cc in
-    ap₂ (next_by_count counting.birth counting.survival) here (sum_round-same counting.neighbourhood f g x y nine)
+    next_by_nine rule f g x y here nine
 
 -- where the brick and the cells round it are the same as before, what came next of them then comes next of them now
-pub next_again : (counting : Counting) (across : ℕ) (old new now : List (List ℕ)) (t : ℕ) → IsNextBrick counting across old now t → IsSameRound across old new t → IsNextBrick counting across new now t
-next_again counting across old new now t is_next same = record {
-  cells = λ x y h k. is_next.cells x y h k ∙ sym (next_cell_at-same counting (round_at across new t) (round_at across old t) x y (λ u v _ i _ j. same.cells u v (omega arith) (omega arith)));
+pub next_again : (rule : CellRule) (across : ℕ) (old new now : List (List ℕ)) (t : ℕ) → IsNextBrick rule across old now t → IsSameRound across old new t → IsNextBrick rule across new now t
+next_again rule across old new now t is_next same = record {
+  cells = λ x y h k. is_next.cells x y h k ∙ sym (next_cell_at-same rule (round_at across new t) (round_at across old t) x y (λ u v _ i _ j. same.cells u v (omega arith) (omega arith)));
 }
 
 -- ---- a brick that is written
@@ -95,18 +101,18 @@ same_again across a b c t h k = record { cells = λ x y i j. k.cells x y i j ∙
 -- ---- one brick more
 
 -- what comes next by the cells of a round comes next of the brick that they are
-pub next_of_round : (counting : Counting) (across : ℕ) (now : List (List ℕ)) (t : ℕ) (round : Round) (rows : List ℕ) → ((x y : ℕ) → y < 18 → round_cells round x y ≡ round_at across now t x y)
-    → ((x y : ℕ) → x < 64 → y < 16 → row_cells rows x y ≡ next_cell_at counting (round_cells round) x y) → (x y : ℕ) → x < 64 → y < 16 → row_cells rows x y ≡ next_cell_at counting (round_at across now t) x y
-next_of_round counting across now t round rows same made x y h k = made x y h k ∙ next_cell_at-same counting (round_cells round) (round_at across now t) x y (λ u v _ _ _ j. same u v (omega arith))
+pub next_of_round : (rule : CellRule) (across : ℕ) (now : List (List ℕ)) (t : ℕ) (round : Round) (rows : List ℕ) → ((x y : ℕ) → y < 18 → round_cells round x y ≡ round_at across now t x y)
+    → ((x y : ℕ) → x < 64 → y < 16 → row_cells rows x y ≡ next_cell_at rule (round_cells round) x y) → (x y : ℕ) → x < 64 → y < 16 → row_cells rows x y ≡ next_cell_at rule (round_at across now t) x y
+next_of_round rule across now t round rows same made x y h k = made x y h k ∙ next_cell_at-same rule (round_cells round) (round_at across now t) x y (λ u v _ _ _ j. same u v (omega arith))
 
 -- bricks that aren't ahead in the list are one generation on, where the brick at this place of it is written
-pub next_more : (counting : Counting) (across : ℕ) (now mid : List (List ℕ)) (awake : List ℕ) (k s count : ℕ) (rows : List ℕ) → s < length mid → slice_index awake k ≡ s
-    → ((x y : ℕ) → x < 64 → y < 16 → row_cells rows x y ≡ next_cell_at counting (round_at across now s) x y)
-    → ((t : ℕ) → HasNeighbours across count t → IsNotAhead awake k t → IsNextBrick counting across now mid t)
-    → (t : ℕ) → HasNeighbours across count t → IsNotAhead awake (k + 1) t → IsNextBrick counting across now (slice_set mid s rows) t
-next_more counting across now mid awake k s count rows long is made so_far t has done = elim (cases_eq t s) [
+pub next_more : (rule : CellRule) (across : ℕ) (now mid : List (List ℕ)) (awake : List ℕ) (k s count : ℕ) (rows : List ℕ) → s < length mid → slice_index awake k ≡ s
+    → ((x y : ℕ) → x < 64 → y < 16 → row_cells rows x y ≡ next_cell_at rule (round_at across now s) x y)
+    → ((t : ℕ) → HasNeighbours across count t → IsNotAhead awake k t → IsNextBrick rule across now mid t)
+    → (t : ℕ) → HasNeighbours across count t → IsNotAhead awake (k + 1) t → IsNextBrick rule across now (slice_set mid s rows) t
+next_more rule across now mid awake k s count rows long is made so_far t has done = elim (cases_eq t s) [
   | inl same ↦ record {
-    cells = λ x y i j. ap (λ l. row_cells l x y) (get_or-set_at mid s t rows [] same long) ∙ made x y i j ∙ ap (λ n. next_cell_at counting (round_at across now n) x y) (sym same);
+    cells = λ x y i j. ap (λ l. row_cells l x y) (get_or-set_at mid s t rows [] same long) ∙ made x y i j ∙ ap (λ n. next_cell_at rule (round_at across now n) x y) (sym same);
   }
   | inr other ↦
       let before : IsNotAhead awake k t = λ m low high e. elim (cases_eq m k) [

@@ -11,9 +11,10 @@ use Rattle.ca_plane.specs.Shown.{row_cells}
 use Rattle.ca_bricks.specs.declared.aged.AgedGrid.{AgedGrid}
 use Rattle.ca_bricks.specs.declared.grid.BrickGrid.{BrickGrid}
 use Rattle.ca_bricks.specs.Aged.{AgedGridShows, AreAlike, IsNextAged, IsSameAged, HasBlankEdges, IsBlankAged, IsBlankRoundAged, HaveAged, IsBeside, AreBeside, dying_digit, aged_digit, lives_at, number_at}
-use Rattle.ca_bricks.specs.Bricks.{HasNeighbours, IsBlank, round_at, next_cell_at}
+use Rattle.ca_bricks.specs.Bricks.{HasNeighbours, IsBlank, round_at, counted_cell_at}
 use Rattle.ca_plane.proofs.After.{after_again}
 use Rattle.ca_bricks.proofs.AgedNumbers.{in_place_again}
+use Rattle.ca_bricks.specs.declared.cell_rule.CellRule.TheVariants.{ByCounting}
 use Rattle.ca_bricks.proofs.AgedGrids.{aged_grid_later, by_it, counting_low}
 use Rattle.ca_bricks.proofs.BrickBlanks.{own_cells, blank_next, all_blank_round}
 use Rattle.ca_bricks.proofs.BrickRounds.{next_cell_at-same}
@@ -96,8 +97,8 @@ aged_again ageing old new now t across size was same =
     = λ x y h i. same_numbers old.dying.items new.dying.items t x y size (λ k d low. same.dying k d low x y h i) in
     let lives : (x y : ℕ) → x < 64 → y < 16 → lives_at ageing new t x y ≡ lives_at ageing old t x y
     = λ x y h i.
-    ap (λ n. next_cell_at ageing.counting (round_at n new.live.bricks.items t) x y) across
-    ∙ next_cell_at-same ageing.counting (round_at old.live.across new.live.bricks.items t) (round_at old.live.across old.live.bricks.items t) x y
+    ap (λ n. counted_cell_at ageing.counting (round_at n new.live.bricks.items t) x y) across
+    ∙ next_cell_at-same (ByCounting ageing.counting) (round_at old.live.across new.live.bricks.items t) (round_at old.live.across old.live.bricks.items t) x y
     (λ u v _ j _ l. same.live.cells u v (omega (arith, j, h)) (omega (arith, l, i))) in
     let own : (x y : ℕ) → x < 64 → y < 16 → row_cells (get_or new.live.bricks.items t []) x y ≡ row_cells (get_or old.live.bricks.items t []) x y
     = λ x y h i.
@@ -129,7 +130,7 @@ pub blank_ages : (next : List ℕ → ℕ) (ageing : Ageing) (now before : AgedG
     → length before.dying.items ≡ length now.dying.items → IsBlankRoundAged now t → IsBlankAged before t → IsNextAged ageing now before t
 blank_ages next ageing now before goes_by least quiet t size round blank =
     let lives : (x y : ℕ) → x < 64 → y < 16 → lives_at ageing now t x y ≡ 0
-    = blank_next (counting_next ageing.counting) ageing.counting (by_it ageing.counting) (quiet_counting next ageing now.states goes_by least quiet) now.live.across now.live.bricks.items t round.live in
+    = blank_next (counting_next ageing.counting) (ByCounting ageing.counting) (by_it ageing.counting) (quiet_counting next ageing now.states goes_by least quiet) now.live.across now.live.bricks.items t round.live in
     let numbers : (x y : ℕ) → x < 64 → y < 16 → number_at now.dying.items t x y ≡ 0 = λ x y h i. no_numbers now.dying.items t x y (λ k d low. round.dying k d low x y h i) in
     let own : (x y : ℕ) → x < 64 → y < 16 → row_cells (get_or now.live.bricks.items t []) x y ≡ 0
     = λ x y h i. sym (own_cells now.live.across now.live.bricks.items t x y h i) ∙ round.live (suc x) (suc y) (omega (arith, h)) (omega (arith, i)) in

@@ -3,11 +3,11 @@ use Rattle.std.proofs.Common.{◌≡◌, ℕ, suc, ◌+◌, ◌-◌, ◌<◌, in
 use Rattle.std.specs.Prelude.{ℤ, replicate}
 use Rattle.std.proofs.lemmas.List.{get_or_past}
 use Rattle.ca_plane.specs.Generations.{cells_after}
-use Rattle.ca_plane.specs.declared.counting.Counting.{Counting}
 use Rattle.ca_plane.specs.Shown.{row_cells}
 use Rattle.ca_plane.proofs.Numbers.{below_or_not}
 use Rattle.ca_bricks.specs.declared.grid.BrickGrid.{BrickGrid}
-use Rattle.ca_bricks.specs.Counting.{GoesBy}
+use Rattle.ca_bricks.specs.CellRules.{GoesByCells}
+use Rattle.ca_bricks.specs.declared.cell_rule.CellRule.{CellRule}
 use Rattle.ca_bricks.specs.Bricks.{GridShows, IsInPlace, HasNeighbours, AllHaveNeighbours, IsNextBrick, HasBlankEdge, QueueGrows}
 use Rattle.ca_plane.proofs.After.{after_again}
 use Rattle.ca_bricks.proofs.BrickEdges.{bricks_go_on, edge_dead}
@@ -25,11 +25,11 @@ edge_blank grid m p shows t not x y h k = elim (below_or_not t (length grid.bric
 ]
 
 -- the grid a generation on, of a run that has reached so many
-pub grid_later : (next : List ℕ → ℕ) (counting : Counting) → GoesBy next counting → next (replicate 9 0) ≡ 0 → (grid later : BrickGrid) (n k reached : ℕ) (first : ℤ → ℤ → ℕ) → k < n
+pub grid_later : (next : List ℕ → ℕ) (rule : CellRule) → GoesByCells next rule → next (replicate 9 0) ≡ 0 → (grid later : BrickGrid) (n k reached : ℕ) (first : ℤ → ℤ → ℕ) → k < n
     → GridShows grid (n - k) (cells_after next first (reached + k)) → IsInPlace grid later → length later.bricks.items ≡ length grid.bricks.items
-    → ((t : ℕ) → HasNeighbours grid.across (length grid.bricks.items) t → IsNextBrick counting grid.across grid.bricks.items later.bricks.items t) → HasBlankEdge grid.across later.bricks.items
+    → ((t : ℕ) → HasNeighbours grid.across (length grid.bricks.items) t → IsNextBrick rule grid.across grid.bricks.items later.bricks.items t) → HasBlankEdge grid.across later.bricks.items
     → GridShows later (n - (k + 1)) (cells_after next first (reached + (k + 1)))
-grid_later next counting goes_by quiet grid later n k reached first low shows place same came blank =
+grid_later next rule goes_by quiet grid later n k reached first low shows place same came blank =
     let p = cells_after next first (reached + k) in
     let m = n - (k + 1) in
     let more : n - k ≡ suc m = omega (arith, low) in
@@ -37,7 +37,7 @@ grid_later next counting goes_by quiet grid later n k reached first low shows pl
     let wide = shows.is_grid in
     let before = subst (λ r. GridShows grid r p) more shows in
     let after = margin_shrinks next quiet m grid.across grid.down p grid.x grid.y before.margin in
-    let made = bricks_go_on next counting goes_by grid.across grid.down grid.bricks.items later.bricks.items p grid.x grid.y wide.wide wide.high wide.size same
+    let made = bricks_go_on next rule goes_by grid.across grid.down grid.bricks.items later.bricks.items p grid.x grid.y wide.wide wide.high wide.size same
     (margin_less (suc m) 0 grid.across grid.down p grid.x grid.y (omega arith) before.margin) (margin_less m 0 grid.across grid.down (cells_after next p 1) grid.x grid.y (omega arith) after)
     shows.bricks came blank in
     grid_as later m (cells_after next p 1) (cells_after next first (reached + (k + 1)))
@@ -49,14 +49,14 @@ grid_later next counting goes_by quiet grid later n k reached first low shows pl
     }))
 
 -- the same, as it is reported
-pub grid_seen : (next : List ℕ → ℕ) (counting : Counting) → GoesBy next counting → next (replicate 9 0) ≡ 0 → (grid later : BrickGrid) (n k reached : ℕ) (first : ℤ → ℤ → ℕ) → k < n
+pub grid_seen : (next : List ℕ → ℕ) (rule : CellRule) → GoesByCells next rule → next (replicate 9 0) ≡ 0 → (grid later : BrickGrid) (n k reached : ℕ) (first : ℤ → ℤ → ℕ) → k < n
     → GridShows grid (n - k) (cells_after next first (reached + k)) → IsInPlace grid later → length later.bricks.items ≡ length grid.bricks.items
-    → ((t : ℕ) → HasNeighbours grid.across (length grid.bricks.items) t → IsNextBrick counting grid.across grid.bricks.items later.bricks.items t) → HasBlankEdge grid.across later.bricks.items
+    → ((t : ℕ) → HasNeighbours grid.across (length grid.bricks.items) t → IsNextBrick rule grid.across grid.bricks.items later.bricks.items t) → HasBlankEdge grid.across later.bricks.items
     → GridShows later 0 (cells_after next first ((reached + k) + 1))
-grid_seen next counting goes_by quiet grid later n k reached first low shows place same came blank =
+grid_seen next rule goes_by quiet grid later n k reached first low shows place same came blank =
     let time : reached + (k + 1) ≡ (reached + k) + 1 = omega arith in
     subst (λ r. GridShows later 0 (cells_after next first r)) time
-    (grid_less later (n - (k + 1)) 0 (cells_after next first (reached + (k + 1))) (omega arith) (grid_later next counting goes_by quiet grid later n k reached first low shows place same came blank))
+    (grid_less later (n - (k + 1)) 0 (cells_after next first (reached + (k + 1))) (omega arith) (grid_later next rule goes_by quiet grid later n k reached first low shows place same came blank))
 
 -- all that a queue has that began empty have others on all sides
 pub queue_inside : (across count : ℕ) (old new : List ℕ) → old ≡ [] → QueueGrows across count old new → AllHaveNeighbours across count new

@@ -18,6 +18,8 @@ pub mod BrickWords
 pub mod LaterAgedGrids
 pub mod LaterGrids
 pub mod NeighbourSums
+pub mod Neighbourhoods
+pub mod Planes
 pub mod NextStates
 pub mod TileCells
 pub mod Grids

@@ -1,16 +1,9 @@
 -- Sums of the counted neighbours of a cell.
-use Rattle.std.proofs.Common.{◌≡◌, ℕ, suc, ◌<◌, ◌≤◌, List, [], ◌∷◌, sym, ap, ◌∙◌, arith}
+use Rattle.std.proofs.Common.{◌≡◌, ℕ, suc, ◌<◌, ◌≤◌, sym, ap, ◌∙◌, arith}
 use Rattle.ca_plane.specs.Counting.{counted_sum}
 use Rattle.ca_plane.specs.declared.counting.Neighbourhood.{Neighbourhood}
 use Rattle.ca_plane.specs.declared.counting.Neighbourhood.TheVariants.{Moore, VonNeumann, Hexagonal}
-use Rattle.ca_bricks.specs.Tiles.{sum_round}
-
--- the nine cells round (x + 1, y + 1)
-abbrev pub nine_at : (ℕ → ℕ → ℕ) → ℕ → ℕ → List ℕ
-nine_at at x y =
-    at x y ∷ at (suc x) y ∷ at (suc (suc x)) y
-    ∷ at x (suc y) ∷ at (suc x) (suc y) ∷ at (suc (suc x)) (suc y)
-    ∷ at x (suc (suc y)) ∷ at (suc x) (suc (suc y)) ∷ at (suc (suc x)) (suc (suc y)) ∷ []
+use Rattle.ca_bricks.specs.Tiles.{nine_at, sum_round}
 
 -- the sum by rows is the sum among the nine
 pub sum_counted : (counted : Neighbourhood) (at : ℕ → ℕ → ℕ) (x y : ℕ) → sum_round counted at x y ≡ counted_sum counted (nine_at at x y)

@@ -9,7 +9,7 @@ use Rattle.ca_plane.specs.declared.counting.Ageing.{Ageing}
 use Rattle.ca_plane.specs.Shown.{row_cells}
 use Rattle.ca_bricks.specs.declared.aged.AgedGrid.{AgedGrid}
 use Rattle.ca_bricks.specs.declared.grid.BrickGrid.{BrickGrid}
-use Rattle.ca_bricks.specs.Bricks.{IsGrid, GridShows, IsInPlace, HasNeighbours, AllHaveNeighbours, IsNotIn, QueueGrows, IsSameRound, IsBlank, IsBlankRound, HasMargin, round_at, next_cell_at}
+use Rattle.ca_bricks.specs.Bricks.{IsGrid, GridShows, IsInPlace, HasNeighbours, AllHaveNeighbours, IsNotIn, QueueGrows, IsSameRound, IsBlank, IsBlankRound, HasMargin, round_at, counted_cell_at}
 
 -- ---- states as bits
 
@@ -67,7 +67,7 @@ number_at (digit ∷ more) t x y = row_cells (get_or digit.bricks.items t []) x 
 
 -- whether the counting says of the cell of a brick that it lives next
 abbrev pub lives_at : Ageing → AgedGrid → (t x y : ℕ) → ℕ
-lives_at ageing grid t x y = next_cell_at ageing.counting (round_at grid.live.across grid.live.bricks.items t) x y
+lives_at ageing grid t x y = counted_cell_at ageing.counting (round_at grid.live.across grid.live.bricks.items t) x y
 
 -- 1 where it is live and begins to die
 abbrev pub begins_at : Ageing → AgedGrid → (t x y : ℕ) → ℕ

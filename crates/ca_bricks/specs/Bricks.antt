@@ -12,8 +12,11 @@ use Rattle.ca_bricks.specs.declared.word.WordMasks.{WordMasks}
 use Rattle.ca_bricks.specs.declared.word.WordPair.{WordPair}
 use Rattle.ca_bricks.specs.declared.grid.WordPlace.{WordPlace}
 use Rattle.ca_bricks.specs.Words.{eight}
-use Rattle.ca_bricks.specs.Tiles.{next_by_count, sum_round}
-use Rattle.ca_bricks.specs.Counting.{GoesBy}
+use Rattle.ca_bricks.specs.Tiles.{next_by_count, sum_round, nine_at}
+use Rattle.ca_bricks.specs.Diagrams.{diagram_next}
+use Rattle.ca_bricks.specs.CellRules.{GoesByCells}
+use Rattle.ca_bricks.specs.declared.cell_rule.CellRule.{CellRule}
+use Rattle.ca_bricks.specs.declared.cell_rule.CellRule.TheVariants.{ByCounting, ByDiagram}
 
 -- ---- bricks on the plane
 
@@ -59,11 +62,11 @@ pub record IsInPlace (before later : BrickGrid) : Type 0 where
   pub across : later.across ≡ before.across
   pub down : later.down ≡ before.down
 
--- a grid shows what came of the first cells after so many generations, under a rule that goes by the counting, and has a
+-- a grid shows what came of the first cells after so many generations, under a rule that goes by the cells so, and has a
 -- margin for n more
-pub record CanStepFor (next : List ℕ → ℕ) (counting : Counting) (first : ℤ → ℤ → ℕ) (reached n : ℕ)
+pub record CanStepFor (next : List ℕ → ℕ) (rule : CellRule) (first : ℤ → ℤ → ℕ) (reached n : ℕ)
     (grid : BrickGrid) : Type 0 where
-  pub by_counting : GoesBy next counting
+  pub by_cells : GoesByCells next rule
   pub quiet : next (replicate 9 0) ≡ 0
   pub shows : GridShows grid n (cells_after next first reached)
   pub room : grid.across + length grid.bricks.items < 2 ^ 63
@@ -118,9 +121,13 @@ count_at n x = bit_at n.ones x + 2 * bit_at n.twos x + 4 * bit_at n.fours x + 8 
 abbrev pub round_cells : Round → ℕ → ℕ → ℕ
 round_cells round x y = wide_bit (slice_index round.west y) (slice_index round.here y) (slice_index round.east y) x
 
--- the next state of the cell at (x + 1, y + 1)
-abbrev pub next_cell_at : Counting → (ℕ → ℕ → ℕ) → ℕ → ℕ → ℕ
-next_cell_at counting at x y = next_by_count counting.birth counting.survival (at (suc x) (suc y)) (sum_round counting.neighbourhood at x y)
+-- the next state of the cell at (x + 1, y + 1): by a counting, and by a rule
+abbrev pub counted_cell_at : Counting → (ℕ → ℕ → ℕ) → ℕ → ℕ → ℕ
+counted_cell_at counting at x y = next_by_count counting.birth counting.survival (at (suc x) (suc y)) (sum_round counting.neighbourhood at x y)
+
+abbrev pub next_cell_at : CellRule → (ℕ → ℕ → ℕ) → ℕ → ℕ → ℕ
+next_cell_at (ByCounting counting) at x y = counted_cell_at counting at x y
+next_cell_at (ByDiagram diagram) at x y = diagram_next diagram.nodes.items (nine_at at x y)
 
 -- ---- masks as words
 
@@ -145,8 +152,8 @@ pub record HasNeighbours (across count t : ℕ) : Type 0 where
   pub behind : t + across + 1 < count
 
 -- the brick of the new ones is the next generation of the one there and of those round it
-pub record IsNextBrick (counting : Counting) (across : ℕ) (old new : List (List ℕ)) (t : ℕ) : Type 0 where
-  pub cells : (x y : ℕ) → x < 64 → y < 16 → row_cells (get_or new t []) x y ≡ next_cell_at counting (round_at across old t) x y
+pub record IsNextBrick (rule : CellRule) (across : ℕ) (old new : List (List ℕ)) (t : ℕ) : Type 0 where
+  pub cells : (x y : ℕ) → x < 64 → y < 16 → row_cells (get_or new t []) x y ≡ next_cell_at rule (round_at across old t) x y
 
 -- the brick and the cells round it are the same
 pub record IsSameRound (across : ℕ) (old new : List (List ℕ)) (t : ℕ) : Type 0 where
@@ -205,23 +212,23 @@ pub record HasMarks (marks : List ℕ) (mark : ℕ) (list : List ℕ) : Type 0 w
   pub most : (t : ℕ) → slice_index marks t ≤ mark
 
 -- the bricks that aren't in the list rest: what they were before is what they will be next
-abbrev pub BricksRest : Counting → ℕ → (now before : List (List ℕ)) → List ℕ → Type 0
-BricksRest counting across now before list = (t : ℕ) → HasNeighbours across (length now) t → IsNotIn list t → IsNextBrick counting across now before t
+abbrev pub BricksRest : CellRule → ℕ → (now before : List (List ℕ)) → List ℕ → Type 0
+BricksRest rule across now before list = (t : ℕ) → HasNeighbours across (length now) t → IsNotIn list t → IsNextBrick rule across now before t
 
 -- ---- a generation of bricks
 
 -- there are as many bricks before as now, those of the list have others on all sides, and those that aren't in it rest
-pub record CanStep (counting : Counting) (across : ℕ) (now before : List (List ℕ)) (awake : List ℕ) : Type 0 where
+pub record CanStep (rule : CellRule) (across : ℕ) (now before : List (List ℕ)) (awake : List ℕ) : Type 0 where
   pub room : across + length now < 2 ^ 63
   pub size : length before ≡ length now
   pub inside : AllHaveNeighbours across (length now) awake
-  pub rest : BricksRest counting across now before awake
+  pub rest : BricksRest rule across now before awake
 
 -- each brick with others on all sides is one generation on, the others are as before, and the queue has those that see other cells
 -- than two generations before
-pub record AreStepped (counting : Counting) (across : ℕ) (now before later : List (List ℕ))
+pub record AreStepped (rule : CellRule) (across : ℕ) (now before later : List (List ℕ))
     (old new : List ℕ) : Type 0 where
-  pub next : (t : ℕ) → HasNeighbours across (length now) t → IsNextBrick counting across now later t
+  pub next : (t : ℕ) → HasNeighbours across (length now) t → IsNextBrick rule across now later t
   pub same : (t : ℕ) → HasNeighbours across (length now) t → IsNotIn new t → IsSameRound across before later t
   pub grows : QueueGrows across (length now) old new
   pub others : (t : ℕ) → (HasNeighbours across (length now) t → ⊥) → get_or later t [] ≡ get_or before t []

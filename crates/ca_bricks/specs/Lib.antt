@@ -1,4 +1,6 @@
 pub mod Counting
+pub mod Diagrams
+pub mod CellRules
 pub mod Lanes
 pub mod Tiles
 pub mod Words
@@ -7,3 +9,4 @@ pub mod WordSquares
 pub mod Bricks
 pub mod Aged
 pub mod States
+pub mod inner

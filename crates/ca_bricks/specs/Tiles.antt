@@ -1,5 +1,5 @@
 -- Bits of the cells of a tile, and numbers of live cells in binary.
-use Rattle.std.specs.Prelude.{◌≡◌, ℕ, suc, ◌+◌, ◌*◌, ℤ, List, Bool, ◌==◌, if◌then◌else◌}
+use Rattle.std.specs.Prelude.{◌≡◌, ℕ, suc, ◌+◌, ◌*◌, ℤ, List, [], ◌∷◌, Bool, ◌==◌, if◌then◌else◌}
 use Rattle.std.specs.Int.{bit_at}
 use Rattle.ca_plane.specs.Counting.{counting_next}
 use Rattle.ca_plane.specs.Generations.{around}
@@ -41,6 +41,13 @@ sum_below Hexagonal row x = row (suc x) + row (suc (suc x))
 abbrev pub sum_round : Neighbourhood → (ℕ → ℕ → ℕ) → ℕ → ℕ → ℕ
 sum_round counted at x y =
     sum_above counted (λ u. at u y) x + sum_beside (λ u. at u (suc y)) x + sum_below counted (λ u. at u (suc (suc y))) x
+
+-- the nine cells round (x + 1, y + 1)
+abbrev pub nine_at : (ℕ → ℕ → ℕ) → ℕ → ℕ → List ℕ
+nine_at at x y =
+    at x y ∷ at (suc x) y ∷ at (suc (suc x)) y
+    ∷ at x (suc y) ∷ at (suc x) (suc y) ∷ at (suc (suc x)) (suc y)
+    ∷ at x (suc (suc y)) ∷ at (suc x) (suc (suc y)) ∷ at (suc (suc x)) (suc (suc y)) ∷ []
 
 -- but for its edge, the later tile is one generation on, under the rule with this counting
 abbrev pub IsCountedTile : Counting → (tile later : List ℕ) → Type 0

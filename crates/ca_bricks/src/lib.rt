@@ -5,8 +5,11 @@
 mod aged;
 mod aged_cells;
 mod aged_step;
+mod cell_rule;
 mod count;
 mod cut;
+mod diagram;
+mod diagram_rows;
 mod grid;
 mod kernel;
 mod neighbours;
@@ -23,8 +26,10 @@ mod word_square;
 
 pub use aged::{AgedGrid, digit_count};
 pub use aged_step::{aged_generation, has_digit};
+pub use cell_rule::CellRule;
 pub use count::Count;
 pub use cut::brick_of;
+pub use diagram::{Choice, Diagram, Node};
 pub use grid::{BrickGrid, WordPlace};
 pub use kernel::{Bits, CountInTile, kernel16, next_tile};
 pub use neighbours::{EightNeighbours, FourNeighbours, SixNeighbours};

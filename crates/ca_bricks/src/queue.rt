@@ -39,6 +39,11 @@ impl Queue {
         })
     }
 
+    // Where it has its memory from.
+    pub(crate) fn allocator(&self) -> Global {
+        *self.list.allocator()
+    }
+
     // Puts in the brick if the word has a bit, it isn't in, and it has others on all sides.
     #[inline(always)]
     pub(crate) fn wake_if(

@@ -3,7 +3,7 @@
 ghost use Rattle.std.specs.Prelude.{◌≡◌, ◌<◌, ℕ};
 ghost use Rattle.ca_plane.specs.declared.counting.Counting.{Counting};
 ghost use Rattle.ca_plane.specs.Shown.{row_cells};
-ghost use Rattle.ca_bricks.specs.Bricks.{round_cells, pair_at, next_cell_at};
+ghost use Rattle.ca_bricks.specs.Bricks.{round_cells, pair_at, counted_cell_at};
 ghost use Rattle.ca_bricks.specs.Tiles.{sum_above, sum_beside, sum_below};
 
 use crate::word::{CountInRow, NextCells, WordSums, neighbours};
@@ -23,7 +23,7 @@ impl Round {
     pub(crate) fn next<N: NextCells, C: CountInRow>(&self, cells: &N) -> [u64; 16]
         ensures { (counting : Counting) (x y : ℕ) → N.goes_by cells.now counting
             → C.counted ≡ counting.neighbourhood → x < 64 → y < 16
-            → row_cells result x y ≡ next_cell_at counting (round_cells self.now) x y }
+            → row_cells result x y ≡ counted_cell_at counting (round_cells self.now) x y }
     {
         let mut next = [0; 16];
         let mut north = self.sums::<C>(0);

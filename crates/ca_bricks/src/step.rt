@@ -2,10 +2,13 @@
 
 ghost use Rattle.std.specs.Prelude.{◌≡◌, ◌+◌, ◌-◌, ◌<◌, ◌≤◌, ◌^◌, ℕ, length, slice_index, OnOk};
 ghost use Rattle.std.specs.Int.{bit_at};
+ghost use Rattle.ca_bricks.specs.declared.cell_rule.CellRule.TheVariants.{ByCounting, ByDiagram};
 ghost use Rattle.ca_bricks.specs.Bricks.{CanStep, AreStepped, HasNeighbours, AllHaveNeighbours};
 ghost use Rattle.ca_bricks.specs.Bricks.{HasBlankEdge, IsNotIn, IsNextBrick, IsSameRound, IsUnseen};
 ghost use Rattle.ca_bricks.specs.Bricks.{QueueGrows, BricksRest, column_at, round_at, round_cells};
 
+use crate::cell_rule::CellRule;
+use crate::diagram::Diagram;
 use crate::neighbours::{EightNeighbours, FourNeighbours, SixNeighbours};
 use crate::queue::Queue;
 use crate::round::Round;
@@ -19,25 +22,25 @@ pub fn generation(
     before: &mut Vec<[u64; 16]>,
     awake: &[usize],
     queue: &mut Queue,
-    counting: Counting,
+    rule: &CellRule,
 ) -> Result<(), Memory>
     requires room { across + length now.old.items < 2 ^ 63 }
     requires size { length before.old.items ≡ length now.old.items }
     requires inside { AllHaveNeighbours across (length now.old.items) awake.now }
-    requires rest { BricksRest counting across now.old.items before.old.items awake.now }
+    requires rest { BricksRest rule.now across now.old.items before.old.items awake.now }
     ensures before { OnOk result (before.new.items ≡ now.old.items) }
     ensures size { OnOk result (length now.new.items ≡ length now.old.items) }
     ensures next { OnOk result ((t : ℕ) → HasNeighbours across (length now.old.items) t
-        → IsNextBrick counting across now.old.items now.new.items t) }
+        → IsNextBrick rule.now across now.old.items now.new.items t) }
     ensures same { OnOk result ((t : ℕ) → HasNeighbours across (length now.old.items) t → IsNotIn queue.new t
         → IsSameRound across before.old.items now.new.items t) }
     ensures rest { ((t : ℕ) → HasNeighbours across (length now.old.items) t
-        → IsNextBrick counting across before.old.items now.old.items t)
-        → OnOk result (BricksRest counting across now.new.items now.old.items queue.new) }
+        → IsNextBrick rule.now across before.old.items now.old.items t)
+        → OnOk result (BricksRest rule.now across now.new.items now.old.items queue.new) }
     ensures grows { OnOk result (QueueGrows across (length now.old.items) queue.old queue.new) }
     ensures edge { HasBlankEdge across before.old.items → OnOk result (HasBlankEdge across now.new.items) }
 {
-    step(across, now, before, awake, queue, counting)?;
+    step(across, now, before, awake, queue, rule)?;
     std::mem::swap(now, before);
     Ok(())
 }
@@ -49,10 +52,51 @@ fn step(
     old: &mut [[u64; 16]],
     awake: &[usize],
     queue: &mut Queue,
+    rule: &CellRule,
+) -> Result<(), Memory>
+    requires { CanStep rule.now across now.now old.old awake.now }
+    ensures { OnOk result (AreStepped rule.now across now.now old.old old.new queue.old queue.new) }
+{
+    match rule {
+        CellRule::ByCounting(counting) => {
+            step_by_counting(across, now, old, awake, queue, *counting)
+        }
+        CellRule::ByDiagram(diagram) => step_by_diagram(across, now, old, awake, queue, diagram),
+    }
+}
+
+// The same, by a decision diagram.
+fn step_by_diagram(
+    across: usize,
+    now: &[[u64; 16]],
+    old: &mut [[u64; 16]],
+    awake: &[usize],
+    queue: &mut Queue,
+    diagram: &Diagram,
+) -> Result<(), Memory>
+    requires { CanStep (ByDiagram diagram.now) across now.now old.old awake.now }
+    ensures { OnOk result (AreStepped (ByDiagram diagram.now) across now.now old.old old.new queue.old queue.new) }
+{
+    let mut states = Vec::new(queue.allocator());
+    'bricks: for &s in awake {
+        let next = diagram.next_rows(&round_of(now, across, s), &mut states)?;
+        wake_round(queue, s, across, now.len(), &next, &old[s])?;
+        old[s] = next;
+    }
+    Ok(())
+}
+
+// The same, by a counting.
+fn step_by_counting(
+    across: usize,
+    now: &[[u64; 16]],
+    old: &mut [[u64; 16]],
+    awake: &[usize],
+    queue: &mut Queue,
     counting: Counting,
 ) -> Result<(), Memory>
-    requires { CanStep counting across now.now old.old awake.now }
-    ensures { OnOk result (AreStepped counting across now.now old.old old.new queue.old queue.new) }
+    requires { CanStep (ByCounting counting) across now.now old.old awake.now }
+    ensures { OnOk result (AreStepped (ByCounting counting) across now.now old.old old.new queue.old queue.new) }
 {
     match counting.neighbourhood {
         Neighbourhood::Moore => {
@@ -76,9 +120,9 @@ fn step_counted<C: CountInRow>(
     queue: &mut Queue,
     counting: Counting,
 ) -> Result<(), Memory>
-    requires can_step { CanStep counting across now.now old.old awake.now }
+    requires can_step { CanStep (ByCounting counting) across now.now old.old awake.now }
     requires counted { C.counted ≡ counting.neighbourhood }
-    ensures { OnOk result (AreStepped counting across now.now old.old old.new queue.old queue.new) }
+    ensures { OnOk result (AreStepped (ByCounting counting) across now.now old.old old.new queue.old queue.new) }
 {
     if has_two_and_three_alone(counting) {
         return step_by::<ByTwoAndThree, C>(across, now, old, awake, queue, counting);
@@ -95,10 +139,10 @@ fn step_by<N: NextCells, C: CountInRow>(
     queue: &mut Queue,
     counting: Counting,
 ) -> Result<(), Memory>
-    requires can_step { CanStep counting across now.now old.old awake.now }
+    requires can_step { CanStep (ByCounting counting) across now.now old.old awake.now }
     requires counted { C.counted ≡ counting.neighbourhood }
     requires suits { N.suits counting }
-    ensures { OnOk result (AreStepped counting across now.now old.old old.new queue.old queue.new) }
+    ensures { OnOk result (AreStepped (ByCounting counting) across now.now old.old old.new queue.old queue.new) }
 {
     let cells = N::of(counting);
     'bricks: for &s in awake {

@@ -110,7 +110,7 @@ pub(crate) fn neighbours(above: WordPair, beside: WordPair, below: WordPair) -> 
 
 // At each place the bit in the west of it.
 #[inline(always)]
-fn west_bits(west: u64, row: u64) -> u64
+pub(crate) fn west_bits(west: u64, row: u64) -> u64
     ensures { (east x : ℕ) → x < 64 → bit_at result x ≡ wide_bit west row east x }
 {
     row << 1 | west >> 63
@@ -118,7 +118,7 @@ fn west_bits(west: u64, row: u64) -> u64
 
 // At each place the bit in the east of it.
 #[inline(always)]
-fn east_bits(row: u64, east: u64) -> u64
+pub(crate) fn east_bits(row: u64, east: u64) -> u64
     ensures { (west x : ℕ) → x < 64 → bit_at result x ≡ wide_bit west row east (suc (suc x)) }
 {
     row >> 1 | east << 63
@@ -165,7 +165,7 @@ pub(crate) fn all_bits(set: bool) -> u64
 
 // At each place the bit of `there` where `which` has one, else that of `elsewhere`.
 #[inline(always)]
-fn select_bits(which: u64, there: u64, elsewhere: u64) -> u64
+pub(crate) fn select_bits(which: u64, there: u64, elsewhere: u64) -> u64
     ensures { (x : ℕ) → bit_at result x
         ≡ (if bit_at which x == 0 then bit_at elsewhere x else bit_at there x) }
 {

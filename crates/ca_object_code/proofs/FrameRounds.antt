@@ -9,7 +9,8 @@ use Rattle.ca_plane.specs.Counting.{counting_next}
 use Rattle.ca_plane.specs.declared.counting.Counting.{Counting}
 use Rattle.ca_plane.specs.declared.counting.Neighbourhood.{Neighbourhood}
 use Rattle.ca_plane.specs.declared.counting.Neighbourhood.TheVariants.{Moore, VonNeumann, Hexagonal}
-use Rattle.ca_bricks.specs.Counting.{GoesBy}
+use Rattle.ca_bricks.specs.CellRules.{GoesByCells}
+use Rattle.ca_bricks.specs.declared.cell_rule.CellRule.TheVariants.{ByCounting}
 use Rattle.ca_bricks.specs.Bricks.{HasNeighbours, IsBlank, IsNextBrick, column_at}
 use Rattle.ca_bricks.proofs.BrickBlanks.{blank_rests}
 use Rattle.ca_bricks.proofs.BrickRounds.{round_at-middle, round_at-east, column_at-middle, column_at-south}
@@ -105,8 +106,8 @@ module _ (grid : GridCells) (bricks : List (List ℕ)) (is_grid : IsGrid grid) (
 -- ---- and rest
 
 -- a counting as a rule
-by_itself : (counting : Counting) → GoesBy (counting_next counting) counting
-by_itself counting = record { states = 2; by_counting = record { two_states = refl; goes_by = λ nine size two. refl } }
+by_itself : (counting : Counting) → GoesByCells (counting_next counting) (ByCounting counting)
+by_itself counting = record { goes_by = λ nine size two. refl }
 
 -- nothing is born of nothing where the mask of births is even
 quiet_next : (counting : Counting) → counting.birth % 2 ≡ 0 → counting_next counting (replicate 9 0) ≡ 0
@@ -117,5 +118,5 @@ quiet_next counting even = none counting.neighbourhood
     none VonNeumann = bit_at_lowest counting.birth ∙ even
     none Hexagonal = bit_at_lowest counting.birth ∙ even
 
-pub dark_rests : (counting : Counting) (now before : List (List ℕ)) (t : ℕ) → counting.birth % 2 ≡ 0 → IsDarkBeside now → IsBlank (get_or before t []) → HasNeighbours 3 15 t → (IsMiddle t → ⊥) → IsNextBrick counting 3 now before t
-dark_rests counting now before t even dark blank has other = blank_rests (counting_next counting) counting (by_itself counting) (quiet_next counting even) 3 now before t (dark t has other) blank
+pub dark_rests : (counting : Counting) (now before : List (List ℕ)) (t : ℕ) → counting.birth % 2 ≡ 0 → IsDarkBeside now → IsBlank (get_or before t []) → HasNeighbours 3 15 t → (IsMiddle t → ⊥) → IsNextBrick (ByCounting counting) 3 now before t
+dark_rests counting now before t even dark blank has other = blank_rests (counting_next counting) (ByCounting counting) (by_itself counting) (quiet_next counting even) 3 now before t (dark t has other) blank

@@ -17,6 +17,7 @@ use Rattle.ca_plane.specs.declared.counting.Neighbourhood.TheVariants.{Moore, Vo
 use Rattle.ca_bricks.specs.declared.grid.BrickGrid.{BrickGrid}
 use Rattle.ca_bricks.specs.Bricks.{BrickShows, GridShows, HasNeighbours, HasBlankEdge, IsNearEnd, IsNextBrick}
 use Rattle.ca_bricks.specs.Counting.{GoesBy}
+use Rattle.ca_bricks.specs.declared.cell_rule.CellRule.TheVariants.{ByCounting}
 use Rattle.ca_bricks.proofs.LaterGrids.{grid_later}
 use Rattle.ca_apgcode.specs.Grids.{GridCells, IsGrid, cell}
 use Rattle.ca_apgcode.specs.Objects.{live, IsBoxRound}
@@ -186,11 +187,11 @@ module _ (cells : ℤ → ℤ → ℕ) (grid : GridCells) (two : HasTwoStates ce
 
   -- and one generation on the next plane
   pub next_shows : (next : List ℕ → ℕ) (counting : Counting) → GoesBy next counting → next (replicate 9 0) ≡ 0 → (bricks later : Vec (List ℕ) Global) → IsFrameOf grid bricks.items → length later.items ≡ 15
-      → ((t : ℕ) → HasNeighbours 3 15 t → IsNextBrick counting 3 bricks.items later.items t) → HasBlankEdge 3 later.items → GridShows (frame_grid later frame_x frame_y) 0 (cells_after next (λ u v. cells v u) 1)
+      → ((t : ℕ) → HasNeighbours 3 15 t → IsNextBrick (ByCounting counting) 3 bricks.items later.items t) → HasBlankEdge 3 later.items → GridShows (frame_grid later frame_x frame_y) 0 (cells_after next (λ u v. cells v u) 1)
   next_shows next counting by quiet bricks later is size came blank =
       let old = frame_grid bricks frame_x frame_y in
       let new = frame_grid later frame_x frame_y in
-      grid_later next counting by quiet old new 1 0 0 (λ u v. cells v u) (omega arith) (frame_shows bricks is)
+      grid_later next (ByCounting counting) (record { goes_by = by.by_counting.goes_by }) quiet old new 1 0 0 (λ u v. cells v u) (omega arith) (frame_shows bricks is)
       (record { x = refl; y = refl; across = refl; down = refl }) (size ∙ sym is.size)
       (λ t has. came t (subst (λ n. HasNeighbours 3 n t) is.size has)) blank
 

@@ -2,10 +2,11 @@
 
 ghost use Rattle.std.specs.Prelude.{◌≡◌, ◌+◌, ◌*◌, ◌/◌, ◌%◌, ◌<◌, ◌≤◌, [], ℕ, length, slice_index, get_or, IfOk};
 ghost use Rattle.ca_bricks.specs.Bricks.{HasBlankEdge, HasNeighbours, IsNextBrick};
+ghost use Rattle.ca_bricks.specs.declared.cell_rule.CellRule.TheVariants.{ByCounting};
 ghost use Rattle.ca_object_code.specs.inner.Frames.{IsDarkBeside, IsFrameOf, frame_row};
 
 use ca_apgcode::Grid;
-use ca_bricks::{Queue, blank_bricks, generation};
+use ca_bricks::{CellRule, Queue, blank_bricks, generation};
 use ca_plane::{Counting, Memory};
 use std::alloc::Global;
 
@@ -70,7 +71,7 @@ pub(crate) fn next_frame(
     ensures size { IfOk result (λ later. length later.items ≡ 15) }
     ensures edge { IfOk result (λ later. HasBlankEdge 3 later.items) }
     ensures next { IfOk result (λ later. (t : ℕ) → HasNeighbours 3 15 t
-        → IsNextBrick counting 3 bricks.items later.items t) }
+        → IsNextBrick (ByCounting counting) 3 bricks.items later.items t) }
 {
     let mut queue = Queue::new(alloc, BRICKS)?;
     let mut before = blank_bricks(alloc, BRICKS)?;
@@ -80,7 +81,7 @@ pub(crate) fn next_frame(
         &mut before,
         &MIDDLE,
         &mut queue,
-        counting,
+        &CellRule::ByCounting(counting),
     )?;
     Ok(bricks)
 }

@@ -8,9 +8,9 @@ use Rattle.ca_quad.specs.Trees.{IsTree, cell, HoldsAll}
 use Rattle.ca_quad.specs.declared.tree.Tree.{Tree}
 use Rattle.ca_work.specs.declared.fault.LeapFault.{LeapFault}
 use Rattle.ca_run.specs.Leaping.{Costs, LeaperView}
-use Rattle.ca_bricks.specs.Counting.{GoesBy}
+use Rattle.ca_bricks.specs.CellRules.{GoesByCells}
 use Rattle.ca_run.specs.declared.leaper.dense.DenseRule.{DenseRule}
-use Rattle.ca_run.specs.declared.leaper.dense.DenseRule.TheVariants.{ByCounting, ByAgeing}
+use Rattle.ca_run.specs.declared.leaper.dense.DenseRule.TheVariants.{ByCells, ByAgeing}
 use Rattle.ca_run.specs.declared.leaper.dense.ReachedTree.{ReachedTree}
 
 -- the rule's cells age so, and have two states at least
@@ -21,7 +21,7 @@ pub record AgesBy (next : List ℕ → ℕ) (ageing : Ageing) : Type 0 where
 
 -- bricks can be stepped by the rule so
 abbrev pub GoesDensely : (List ℕ → ℕ) → DenseRule → Type 0
-GoesDensely next (ByCounting counting) = GoesBy next counting
+GoesDensely next (ByCells rule) = GoesByCells next rule
 GoesDensely next (ByAgeing ageing) = AgesBy next ageing
 
 -- the tree's level is at most any that holds all its live cells, from some level on

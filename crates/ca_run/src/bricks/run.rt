@@ -9,8 +9,8 @@ ghost use Rattle.ca_work.specs.Spending.{Spends, EndsAtLimit};
 
 use crate::leaper::{Leaper, Milestone};
 use crate::watch::Watch;
-use ca_bricks::{BrickGrid, Queue, blank_bricks, first_bricks, generation, wake_next};
-use ca_plane::{Automaton, Counting};
+use ca_bricks::{BrickGrid, CellRule, Queue, blank_bricks, first_bricks, generation, wake_next};
+use ca_plane::Automaton;
 use ca_quad::Tree;
 use ca_work::{LeapFault, Work};
 use std::alloc::Global;
@@ -34,7 +34,7 @@ pub(super) fn count_steps(work: &mut Work, awake: &[usize], count: usize) -> Res
 pub(crate) fn grid_after<A: Automaton, W: Watch>(
     mut grid: BrickGrid,
     alloc: Global,
-    counting: Counting,
+    rule: &CellRule,
     n: u64,
     leaper: &Leaper<A>,
     first: &Tree,
@@ -42,7 +42,7 @@ pub(crate) fn grid_after<A: Automaton, W: Watch>(
     work: &mut Work,
     watch: &mut W,
 ) -> Result<BrickGrid, LeapFault>
-    requires begins { CanStepFor (A.next_of leaper.now.rule) counting
+    requires begins { CanStepFor (A.next_of leaper.now.rule) rule.now
         (cell leaper.now.nodes first.now) reached n grid }
     requires time { reached + n ≤ most_generations }
     requires fresh { grid.work ≡ 0 }
@@ -67,7 +67,7 @@ pub(crate) fn grid_after<A: Automaton, W: Watch>(
             &mut before,
             &awake,
             &mut queue,
-            counting,
+            rule,
         )?;
         wake_next(k == 0, grid.across, count, &mut queue, &mut awake)?;
         watch.reached(Milestone::with_grid(leaper, first, &grid, reached + k + 1));

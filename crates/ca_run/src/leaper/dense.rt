@@ -7,7 +7,7 @@ ghost use Rattle.ca_quad.specs.Trees.{IsTree, cell};
 ghost use Rattle.ca_run.specs.Leaping.{LeaperGrows};
 ghost use Rattle.ca_work.specs.Spending.{EndsAtLimit};
 ghost use Rattle.ca_run.specs.inner.AtCost.{GoesOnAtCost};
-ghost use Rattle.ca_bricks.specs.Counting.{GoesBy};
+ghost use Rattle.ca_bricks.specs.CellRules.{GoesByCells};
 ghost use Rattle.ca_bricks.specs.Bricks.{GridShows, IsInPlace, LiesNearOrigin, IsAligned};
 ghost use Rattle.ca_run.specs.inner.Dense.{HasReached, IsIdle, IsDense, GoesDensely};
 ghost use Rattle.ca_run.specs.inner.Frames.{IsReadByBricks, IsGridFrame, IsFramed};
@@ -16,8 +16,8 @@ use super::Leaper;
 use super::aged_plane::TwoStates;
 use crate::bricks::{Frame, frame_of, grid_after};
 use crate::watch::Watch;
-use ca_bricks::BrickGrid;
-use ca_plane::{Ageing, Automaton, Counting, Memory};
+use ca_bricks::{BrickGrid, CellRule};
+use ca_plane::{Ageing, Automaton, Memory};
 use ca_quad::{Tree, WideBounds};
 use ca_work::LeapFault;
 use std::alloc::Global;
@@ -61,9 +61,9 @@ pub(super) struct Stretch {
 }
 
 // How a rule goes by which bricks are stepped.
-#[derive(Clone, Copy)]
+#[derive(Drop)]
 pub(super) enum DenseRule {
-    ByCounting(Counting),
+    ByCells(CellRule),
     ByAgeing(Ageing),
 }
 
@@ -92,22 +92,22 @@ impl<A: Automaton> Leaper<A> {
             tree: *tree,
             generations: 0,
         };
-        let Some(rule) = self.dense_rule() else {
-            return Ok(reached);
-        };
-        if n < FEWEST || tree.level < LEAST || !self.memo.is_empty() {
+        if n < FEWEST || tree.level < LEAST || !self.memo.is_empty() || !self.may_step() {
             return Ok(reached);
         }
         if !self.is_dense(tree)? {
             return Ok(reached);
         }
-        self.step_grids(rule, tree, reached, n, watch)
+        let Some(rule) = self.dense_rule()? else {
+            return Ok(reached);
+        };
+        self.step_grids(&rule, tree, reached, n, watch)
     }
 
     // What is reached by one grid after another, until few of the bricks of one are stepped.
     fn step_grids<W: Watch>(
         &mut self,
-        rule: DenseRule,
+        rule: &DenseRule,
         first: &Tree,
         mut reached: ReachedTree,
         n: u64,
@@ -117,7 +117,7 @@ impl<A: Automaton> Leaper<A> {
         requires least { 7 ≤ first.now.level }
         requires many { 32 ≤ n }
         requires time { n ≤ most_generations }
-        requires goes { GoesDensely (A.next_of self.old.rule) rule }
+        requires goes { GoesDensely (A.next_of self.old.rule) rule.now }
         requires reached { HasReached (A.next_of self.old.rule)
             self.old.nodes first.now n self.old.nodes reached }
         ensures reached { IfOk result (HasReached (A.next_of self.old.rule)
@@ -174,23 +174,31 @@ impl<A: Automaton> Leaper<A> {
         Ok(squares as i128 >= room.saturating_add(room / 5))
     }
 
+    // Whether there may be a way to step bricks by the rule.
+    fn may_step(&self) -> bool {
+        self.rule.states() == 2 || self.rule.ageing().is_some()
+    }
+
     // How the rule goes, where bricks can be stepped by it.
-    fn dense_rule(&self) -> Option<DenseRule>
-        ensures { IfSome result (GoesDensely (A.next_of self.now.rule)) }
+    fn dense_rule(&self) -> Result<Option<DenseRule>, Memory>
+        ensures { IfOk result (λ found. IfSome found (GoesDensely (A.next_of self.now.rule))) }
     {
-        if let Some(counting) = self.counting {
-            return Some(DenseRule::ByCounting(counting));
+        let alloc = self.recent_centres.allocator();
+        if let Some(rule) = CellRule::of(alloc, &self.rule)? {
+            return Ok(Some(DenseRule::ByCells(rule)));
         }
         // Says how many any rule has.
         let _states = self.rule.states();
-        let ageing = self.rule.ageing()?;
-        Some(DenseRule::ByAgeing(ageing))
+        let Some(ageing) = self.rule.ageing() else {
+            return Ok(None);
+        };
+        Ok(Some(DenseRule::ByAgeing(ageing)))
     }
 
     // What is reached by one grid more, where the plane is not too large.
     fn step_by_rule<W: Watch>(
         &mut self,
-        rule: DenseRule,
+        rule: &DenseRule,
         first: &Tree,
         reached: &ReachedTree,
         n: u64,
@@ -199,7 +207,7 @@ impl<A: Automaton> Leaper<A> {
         requires first { IsTree self.old.nodes first.now }
         requires least { 7 ≤ first.now.level }
         requires time { n ≤ most_generations }
-        requires goes { GoesDensely (A.next_of self.old.rule) rule }
+        requires goes { GoesDensely (A.next_of self.old.rule) rule.now }
         requires reached { HasReached (A.next_of self.old.rule)
             self.old.nodes first.now n self.old.nodes reached.now }
         ensures reached { IfOk result (λ found. IfSome found (λ stretch. HasReached (A.next_of self.old.rule)
@@ -209,15 +217,15 @@ impl<A: Automaton> Leaper<A> {
         ensures work { EndsAtLimit self.new.spent result }
     {
         match rule {
-            DenseRule::ByCounting(counting) => self.step_grid(counting, first, reached, n, watch),
-            DenseRule::ByAgeing(ageing) => self.step_aged_grid(ageing, first, reached, n, watch),
+            DenseRule::ByCells(rule) => self.step_grid(rule, first, reached, n, watch),
+            DenseRule::ByAgeing(ageing) => self.step_aged_grid(*ageing, first, reached, n, watch),
         }
     }
 
     // The same, by a rule of two states.
     fn step_grid<W: Watch>(
         &mut self,
-        counting: Counting,
+        rule: &CellRule,
         first: &Tree,
         reached: &ReachedTree,
         n: u64,
@@ -226,7 +234,7 @@ impl<A: Automaton> Leaper<A> {
         requires first { IsTree self.old.nodes first.now }
         requires least { 7 ≤ first.now.level }
         requires time { n ≤ most_generations }
-        requires counting { GoesBy (A.next_of self.old.rule) counting }
+        requires rule { GoesByCells (A.next_of self.old.rule) rule.now }
         requires reached { HasReached (A.next_of self.old.rule)
             self.old.nodes first.now n self.old.nodes reached.now }
         ensures reached { IfOk result (λ found. IfSome found (λ stretch. HasReached (A.next_of self.old.rule)
@@ -244,7 +252,7 @@ impl<A: Automaton> Leaper<A> {
         if reach > first.level + MOST_GROWTH {
             return Ok(None);
         }
-        let later = self.later_grid(grid, counting, left, first, reached.generations, watch)?;
+        let later = self.later_grid(grid, rule, left, first, reached.generations, watch)?;
         let tree = self.tree_of(&later, reach)?;
         let tree = self.trim(tree)?;
         Ok(Some(Stretch {
@@ -262,13 +270,13 @@ impl<A: Automaton> Leaper<A> {
     fn later_grid<W: Watch>(
         &mut self,
         grid: BrickGrid,
-        counting: Counting,
+        rule: &CellRule,
         generations: u64,
         first: &Tree,
         reached: u64,
         watch: &mut W,
     ) -> Result<BrickGrid, LeapFault>
-        requires counting { GoesBy (A.next_of self.old.rule) counting }
+        requires rule { GoesByCells (A.next_of self.old.rule) rule.now }
         requires shows { GridShows grid generations
             (cells_after (A.next_of self.old.rule) (cell self.old.nodes first.now) reached) }
         requires room { grid.across + length grid.bricks.items < 2 ^ 63 }
@@ -290,7 +298,7 @@ impl<A: Automaton> Leaper<A> {
         let later = grid_after(
             grid,
             alloc,
-            counting,
+            rule,
             generations,
             self,
             first,

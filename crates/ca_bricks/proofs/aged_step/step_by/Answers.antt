@@ -9,6 +9,7 @@ use Rattle.ca_bricks.specs.Aged.{IsNextAged, lives_at, begins_at, number_at, age
 use Rattle.ca_bricks.specs.Bricks.{HasNeighbours, IsNotIn, IsUnseen, IsSameRound, QueueGrows, round_at, round_cells}
 use Rattle.ca_bricks.proofs.AgedRounds.{AreSameBut, aged_more, same_aged_again}
 use Rattle.ca_bricks.proofs.BrickQueues.{grows_by_none, grows_again}
+use Rattle.ca_bricks.specs.declared.cell_rule.CellRule.TheVariants.{ByCounting}
 use Rattle.ca_bricks.proofs.BrickRounds.{next_of_round, same_where_unseen}
 use Rattle.ca_bricks.proofs.aged_step.step_by.Goals as goal
 
@@ -46,7 +47,7 @@ bricks-preserved g c =
     let digits : one.dying ≡ mid.dying = c.put_live.ensures.dying in
     let round = subst (λ l. (x y : ℕ) → y < 18 → round_cells c.round_of.result x y ≡ round_at across l s x y) c.deref.ensures.value c.round_of.ensures in
     let lives : (x y : ℕ) → x < 64 → y < 16 → row_cells c.next-lives.result x y ≡ lives_at ageing now s x y
-    = next_of_round ageing.counting across now.live.bricks.items s c.round_of.result c.next-lives.result round (λ x y. c.next-lives.ensures ageing.counting x y c.of-cells.ensures c.requires.counted) in
+    = next_of_round (ByCounting ageing.counting) across now.live.bricks.items s c.round_of.result c.next-lives.result round (λ x y. c.next-lives.ensures ageing.counting x y c.of-cells.ensures c.requires.counted) in
     let dying : (x y : ℕ) → x < 64 → y < 16 → row_cells c.dying_cells-dying.result x y ≡ min 1 (number_at now.dying.items s x y)
     = λ x y h i. c.dying_cells-dying.ensures x y h i ∙ ap (λ l. min 1 (number_at l s x y)) c.deref-in-bricks.ensures.value in
     let row : (x y : ℕ) → x < 64 → y < 16 → row_cells rows x y ≡ lives_at ageing now s x y - number_at now.dying.items s x y

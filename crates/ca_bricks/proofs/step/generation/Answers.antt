@@ -20,7 +20,7 @@ returns-clause-rest c = λ is_next t has not_in.
     let items = ap (λ v. v.items) c.swap.ensures.x_after ∙ with_items_is before c.step.new.old long in
     let size : length c.swap.new.x.items ≡ length c.args.now.now.items = omega (arith, ap length items, long, before.ok.0, c.requires.size) in
     let has_now = subst (λ n. HasNeighbours c.args.across n t) size has in
-    next_again c.args.counting c.args.across before.items c.swap.new.x.items c.args.now.now.items t (is_next t has_now) (returns-clause-same c t has_now not_in)
+    next_again c.args.rule.now c.args.across before.items c.swap.new.x.items c.args.now.now.items t (is_next t has_now) (returns-clause-same c t has_now not_in)
 
 pub returns-clause-edge : goal.returns-clause-edge
 returns-clause-edge c = λ blank t outer.

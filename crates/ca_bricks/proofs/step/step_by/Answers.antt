@@ -1,6 +1,7 @@
 use Rattle.std.proofs.Common.{◌<◌, refl, sym, subst, ◌∙◌, arith, length, slice_index, []}
 use Rattle.std.proofs.lemmas.List.{length-set, get_or-set_other}
 use Rattle.ca_bricks.specs.Bricks.{HasNeighbours}
+use Rattle.ca_bricks.specs.declared.cell_rule.CellRule.TheVariants.{ByCounting}
 use Rattle.ca_bricks.proofs.BrickQueues.{grows_by_none, grows_again}
 use Rattle.ca_bricks.proofs.BrickRounds.{next_of_round, next_more, same_where_unseen, same_again}
 use Rattle.ca_bricks.proofs.step.step_by.Goals as goal
@@ -25,8 +26,8 @@ bricks-preserved g c =
     let inside : HasNeighbours c.args.across (length now) s = c.requires.can_step.inside k c.bricks-test.true in
     let long : s < length mid = omega (arith, inside.behind, inv.size) in
     record {
-      next = next_more c.args.counting c.args.across now mid c.args.awake.now k s (length now) rows long refl
-          (next_of_round c.args.counting c.args.across now s c.round_of.result rows c.round_of.ensures (λ x y. c.next-next.ensures c.args.counting x y c.of-cells.ensures c.requires.counted)) inv.next;
+      next = next_more (ByCounting c.args.counting) c.args.across now mid c.args.awake.now k s (length now) rows long refl
+          (next_of_round (ByCounting c.args.counting) c.args.across now s c.round_of.result rows c.round_of.ensures (λ x y. c.next-next.ensures c.args.counting x y c.of-cells.ensures c.requires.counted)) inv.next;
       same = λ t has not_in.
           same_again c.args.across _ mid _ t (inv.same t has (c.in_ok-wake_round.ensures.grows.not_in t not_in))
           (same_where_unseen c.args.across s mid rows long t (c.in_ok-wake_round.ensures.unseen t has not_in));

@@ -1,6 +1,6 @@
 use Rattle.std.proofs.Common.{◌≡◌, ℕ, suc, ◌+◌, ◌<◌, sym, ap, ◌∙◌, arith, slice_index}
 use Rattle.std.proofs.lemmas.List.{length-set}
-use Rattle.ca_bricks.specs.Bricks.{round_cells, count_at, next_cell_at}
+use Rattle.ca_bricks.specs.Bricks.{round_cells, count_at, counted_cell_at}
 use Rattle.ca_bricks.specs.Tiles.{sum_round, sum_above, sum_beside, sum_below}
 use Rattle.ca_bricks.proofs.BrickRows.{rows_grow, row_made}
 use Rattle.ca_bricks.proofs.round.Round.next.Goals as goal
@@ -20,7 +20,7 @@ rows-preserved g c =
     omega (arith, c.neighbours-count.ensures x, inv.north_above x h, inv.here_beside x h, south) in
     record {
       made = λ counting x j by same.
-          let f = next_cell_at counting at in
+          let f = counted_cell_at counting at in
           let row = row_made counting.neighbourhood c.args.self.now counting.birth counting.survival y word (slice_index c.args.self.now.here (y + 1)) (count_at c.neighbours-count.result) f (ap (slice_index c.args.self.now.here) one)
           (λ x h. sums x h ∙ ap (λ n. sum_round n at x y) same) (λ x. c.next_word.ensures counting x by) in
           rows_grow f c.rows.next y word (omega (arith, inv.size, c.rows-test.true)) (λ x j. inv.made counting x j by same) row x j;

@@ -38,7 +38,7 @@ generations-init g c =
       size = c.in_ok-before.ensures.length ∙ count;
       inside = subst (λ l. AllHaveNeighbours across (length l) awake) c.deref.ensures.value made.inside;
       empty = made.empty;
-      rest = λ t has not_in. blank_rests (g.A.Automaton.next_of c.args.leaper.now.rule) c.args.counting begins.by_counting begins.quiet across bricks c.in_ok-before.before.items t
+      rest = λ t has not_in. blank_rests (g.A.Automaton.next_of c.args.leaper.now.rule) c.args.rule.now begins.by_cells begins.quiet across bricks c.in_ok-before.before.items t
           (others t has not_in) (c.in_ok-before.ensures.blank t);
       next = λ h t has. absurd (omega (arith, h));
       edge = edge_blank c.args.grid c.args.n (p c.args.reached) begins.shows;
@@ -66,21 +66,21 @@ generations-preserved g c =
     let has_old = λ (t : ℕ) (has : HasNeighbours across (length new) t). subst (λ n. HasNeighbours across n t) made.size has in
     let p = cell c.args.leaper.now.nodes c.args.first.now in
     record {
-      shows = grid_later (g.A.Automaton.next_of c.args.leaper.now.rule) c.args.counting begins.by_counting begins.quiet c.generations.grid _ c.args.n k c.args.reached p (omega (arith, c.generations-test.true))
+      shows = grid_later (g.A.Automaton.next_of c.args.leaper.now.rule) c.args.rule.now begins.by_cells begins.quiet c.generations.grid _ c.args.n k c.args.reached p (omega (arith, c.generations-test.true))
           inv.shows (record { x = refl; y = refl; across = refl; down = refl }) made.size made.next (made.edge inv.edge_before);
       place = record { x = inv.place.x; y = inv.place.y; across = inv.place.across; down = inv.place.down };
       count = made.size ∙ inv.count;
       size = ap length made.before ∙ sym made.size;
       inside = subst (λ n. AllHaveNeighbours across n c.wake_next.new.awake.items) (count_now ∙ sym made.size) woken.inside;
       empty = woken.empty;
-      rest = λ t has not_in. subst (λ l. IsNextBrick c.args.counting across new l t) (sym made.before) (elim (cases_eq k 0) [
+      rest = λ t has not_in. subst (λ l. IsNextBrick c.args.rule.now across new l t) (sym made.before) (elim (cases_eq k 0) [
         | inl begun ↦
-            blank_again next c.args.counting begins.by_counting begins.quiet across c.generations.before.items old new t (inv.blank begun)
+            blank_again next c.args.rule.now begins.by_cells begins.quiet across c.generations.before.items old new t (inv.blank begun)
             (inv.first begun t (has_old t has) (woken.again (grind (arith, nat_tests, begun)) t (subst (λ n. HasNeighbours across n t) (sym count_now) (has_old t has)) not_in))
             (made.same t (has_old t has) (woken.queue t not_in))
         | inr more ↦ made.rest (inv.next (omega (arith, more))) t has (woken.queue t not_in)
       ]);
-      next = λ _ t has. subst (λ l. IsNextBrick c.args.counting across l new t) (sym made.before) (made.next t (has_old t has));
+      next = λ _ t has. subst (λ l. IsNextBrick c.args.rule.now across l new t) (sym made.before) (made.next t (has_old t has));
       edge = made.edge inv.edge_before;
       edge_before = subst (λ l. HasBlankEdge across l) (sym made.before) inv.edge;
       first = λ e. absurd (omega (arith, e));
@@ -134,7 +134,7 @@ with_grid-requires g c =
     let begins = c.requires.begins in
     let inv = c.generations.invariant in
     let made = c.in_ok-generation.ensures in
-    grid_seen (g.A.Automaton.next_of c.args.leaper.now.rule) c.args.counting begins.by_counting begins.quiet c.generations.grid _ c.args.n c.generations.k c.args.reached
+    grid_seen (g.A.Automaton.next_of c.args.leaper.now.rule) c.args.rule.now begins.by_cells begins.quiet c.generations.grid _ c.args.n c.generations.k c.args.reached
     (cell c.args.leaper.now.nodes c.args.first.now) (omega (arith, c.generations-test.true)) inv.shows (record { x = refl; y = refl; across = refl; down = refl }) made.size made.next (made.edge inv.edge_before)
 
 pub returns-clause-shows : goal.returns-clause-shows
@@ -159,7 +159,7 @@ generation-requires-clause-inside g c =
 pub generation-requires-clause-rest : goal.generation-requires-clause-rest
 generation-requires-clause-rest g c =
     let grid = c.generations.grid in
-    subst (BricksRest c.args.counting grid.across grid.bricks.items c.generations.before.items) (sym c.deref-in-generations-2.ensures.value) c.generations.invariant.rest
+    subst (BricksRest c.args.rule.now grid.across grid.bricks.items c.generations.before.items) (sym c.deref-in-generations-2.ensures.value) c.generations.invariant.rest
 
 pub wake_next-requires-clause-inside : goal.wake_next-requires-clause-inside
 wake_next-requires-clause-inside g c =

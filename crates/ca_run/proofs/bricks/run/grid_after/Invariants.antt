@@ -14,8 +14,8 @@ invariant-generations g l = record {
   size : length l.before.items ≡ length l.grid.bricks.items;
   inside : AllHaveNeighbours l.grid.across (length l.grid.bricks.items) l.awake.items;
   empty : l.queue ≡ [];
-  rest : BricksRest l.fn.counting l.grid.across l.grid.bricks.items l.before.items l.awake.items;
-  next : 1 ≤ l.k → (t : ℕ) → HasNeighbours l.grid.across (length l.grid.bricks.items) t → IsNextBrick l.fn.counting l.grid.across l.before.items l.grid.bricks.items t;
+  rest : BricksRest l.fn.rule l.grid.across l.grid.bricks.items l.before.items l.awake.items;
+  next : 1 ≤ l.k → (t : ℕ) → HasNeighbours l.grid.across (length l.grid.bricks.items) t → IsNextBrick l.fn.rule l.grid.across l.before.items l.grid.bricks.items t;
   edge : HasBlankEdge l.grid.across l.grid.bricks.items;
   edge_before : HasBlankEdge l.grid.across l.before.items;
   first : l.k ≡ 0 → (t : ℕ) → HasNeighbours l.grid.across (length l.grid.bricks.items) t → IsNotIn l.awake.items t → IsBlankRound l.grid.across l.grid.bricks.items t;

@@ -7,7 +7,7 @@ use Rattle.ca_run.proofs.leaper.Leaper.later_grid.Goals as goal
 
 pub grid_after-later-requires-clause-begins : goal.grid_after-later-requires-clause-begins
 grid_after-later-requires-clause-begins g c = record {
-  by_counting = c.requires.counting;
+  by_cells = c.requires.rule;
   quiet = subst (λ l. g.A.Automaton.next_of l.rule (replicate 9 0) ≡ 0) c.self.view_is (g.met.A.Automaton.quiet c.self.inside.rule c.self.invariant.rule);
   shows = c.requires.shows;
   room = c.requires.room;

@@ -1,0 +1,16 @@
+-- How rules of two states tell next states, for many cells at once.
+use Rattle.std.specs.Prelude.{◌≡◌, ℕ, ◌<◌, List, length}
+use Rattle.std.specs.List.{All}
+use Rattle.ca_plane.specs.Counting.{counting_next}
+use Rattle.ca_bricks.specs.Diagrams.{diagram_next}
+use Rattle.ca_bricks.specs.declared.cell_rule.CellRule.{CellRule}
+use Rattle.ca_bricks.specs.declared.cell_rule.CellRule.TheVariants.{ByCounting, ByDiagram}
+
+-- the next state of the centre of nine cells
+abbrev pub cell_next : CellRule → List ℕ → ℕ
+cell_next (ByCounting counting) nine = counting_next counting nine
+cell_next (ByDiagram diagram) nine = diagram_next diagram.nodes.items nine
+
+-- a rule with this next state goes so where all nine cells are dead or live
+pub record GoesByCells (next : List ℕ → ℕ) (rule : CellRule) : Type 0 where
+  pub goes_by : (nine : List ℕ) → length nine ≡ 9 → All (λ s. s < 2) nine → next nine ≡ cell_next rule nine

@@ -1,0 +1,15 @@
+-- The neighbourhoods of nine cells, each of them dead or live, by number.
+use Rattle.std.specs.Prelude.{◌≡◌, ℕ, ◌<◌, ◌/◌, ◌%◌, List, [], ◌∷◌}
+use Rattle.ca_bricks.specs.Diagrams.{diagram_next}
+use Rattle.ca_bricks.specs.declared.diagram.Node.{Node}
+
+-- the one with this number: its binary digits, the lowest that of the centre, the highest those of the cells that share a side with it
+abbrev pub neighbourhood : ℕ → List ℕ
+neighbourhood n =
+    n / 16 % 2 ∷ n / 256 % 2 ∷ n / 8 % 2
+    ∷ n / 64 % 2 ∷ n / 1 % 2 ∷ n / 32 % 2
+    ∷ n / 4 % 2 ∷ n / 128 % 2 ∷ n / 2 % 2 ∷ []
+
+-- the diagram gives the next state of each
+abbrev pub TellsNext : (List ℕ → ℕ) → List Node → Type 0
+TellsNext next nodes = (n : ℕ) → n < 512 → diagram_next nodes (neighbourhood n) ≡ next (neighbourhood n)

@@ -1,0 +1,15 @@
+-- Several states for each cell of a brick, each as sixteen rows of bits.
+use Rattle.std.specs.Prelude.{ℕ, List, map}
+use Rattle.ca_plane.specs.Shown.{row_cells}
+use Rattle.ca_bricks.specs.declared.diagram_rows.Column.{Column}
+use Rattle.ca_bricks.specs.declared.diagram_rows.Column.TheVariants.{West, Here, East}
+
+-- those of the cell at (x, y)
+abbrev pub cells_at : List (List ℕ) → ℕ → ℕ → List ℕ
+cells_at planes x y = map (λ rows. row_cells rows x y) planes
+
+-- which of the three cells from the western one on
+abbrev pub column_place : Column → ℕ
+column_place West = 0
+column_place Here = 1
+column_place East = 2

@@ -1,0 +1,196 @@
+//! Decision diagrams of rules of two states.
+
+ghost use Rattle.std.specs.Prelude.{◌≡◌, ◌<◌, ◌/◌, ◌%◌, true, slice_index, IfOk, IfSome};
+ghost use Rattle.ca_bricks.specs.Diagrams.{node_state, diagram_next};
+ghost use Rattle.ca_bricks.specs.inner.Neighbourhoods.{neighbourhood, TellsNext};
+
+use ca_plane::{Automaton, Memory, Nine};
+use std::alloc::Global;
+
+/// How many neighbourhoods of nine cells there are, each of them dead or live.
+const NEIGHBOURHOODS: u16 = 512;
+
+/// The places of the bits of a neighbourhood's number among its nine cells, row by row from the north-west, the lowest bit first. So
+/// the cells that share a side with the centre are looked at first, and the centre last: of the orders that were tried
+/// this one gives the fewest nodes under rules that turns and reflections keep.
+const PLACES: [usize; 9] = [4, 8, 6, 2, 0, 5, 3, 7, 1];
+
+/// A node of a diagram.
+#[derive(Clone, Copy, Debug, PartialEq, Eq)]
+pub enum Node {
+    /// Dead or live.
+    State(bool),
+    /// One of two earlier nodes.
+    Choice(Choice),
+}
+
+/// Which of two earlier nodes goes on, as one of nine cells is dead or live.
+#[derive(Clone, Copy, Debug, PartialEq, Eq)]
+pub struct Choice {
+    /// The place of the cell, 0 to 8, row by row from the north-west.
+    pub place: usize,
+    /// The index of the node where it is dead.
+    pub dead: usize,
+    /// The index of the node where it is live.
+    pub live: usize,
+}
+
+/// A decision diagram: the last node stands for the next state of a cell, by the nine cells round it.
+#[derive(Drop)]
+pub struct Diagram {
+    pub nodes: Vec<Node>,
+}
+
+impl Node {
+    // The state that it stands for, where those of the earlier nodes are known.
+    fn state(&self, nine: &Nine, earlier: &[u8]) -> u8
+        ensures { result ≡ node_state nine.now earlier.now self.now }
+    {
+        match self {
+            Node::State(live) => u8::from(*live),
+            Node::Choice(choice) => {
+                let chosen = if state_at(nine, choice.place) == 0 {
+                    choice.dead
+                } else {
+                    choice.live
+                };
+                state_at(earlier, chosen)
+            }
+        }
+    }
+}
+
+impl Diagram {
+    // The diagram of a rule, which is right if the rule has two states.
+    fn built<A: Automaton>(alloc: Global, rule: &A) -> Result<Diagram, Memory> {
+        let mut nodes = Vec::new(alloc);
+        nodes.push(Node::State(false))?;
+        nodes.push(Node::State(true))?;
+        let mut ids = next_states(alloc, rule)?;
+        'places: for place in PLACES {
+            ids = joined(alloc, &mut nodes, place, &ids)?;
+        }
+        let root = ids.first().copied().unwrap_or(0);
+        nodes.truncate(root.saturating_add(1));
+        Ok(Diagram { nodes })
+    }
+
+    /// The diagram of a rule, where it is one of two states.
+    ///
+    /// # Errors
+    ///
+    /// Fails where there is no memory for it.
+    pub(crate) fn of<A: Automaton>(alloc: Global, rule: &A) -> Result<Option<Diagram>, Memory>
+        ensures { IfOk result (λ found. IfSome found (λ diagram. TellsNext (A.next_of rule.now) diagram.nodes.items)) }
+    {
+        if rule.states() != 2 {
+            return Ok(None);
+        }
+        let diagram = Diagram::built(alloc, rule)?;
+        if diagram.tells_next(alloc, rule)? {
+            return Ok(Some(diagram));
+        }
+        Ok(None)
+    }
+
+    // Whether it has the rule's next state of each neighbourhood.
+    fn tells_next<A: Automaton>(&self, alloc: Global, rule: &A) -> Result<bool, Memory>
+        ensures { IfOk result (λ tells. tells ≡ true → TellsNext (A.next_of rule.now) self.now.nodes.items) }
+    {
+        let mut states = Vec::new(alloc);
+        'numbers: for number in 0..NEIGHBOURHOODS {
+            let nine = neighbourhood(number);
+            if self.next(&nine, &mut states)? != rule.next(&nine) {
+                return Ok(false);
+            }
+        }
+        Ok(true)
+    }
+
+    // The next state of the centre of nine cells.
+    fn next(&self, nine: &Nine, states: &mut Vec<u8>) -> Result<u8, Memory>
+        ensures { IfOk result (λ state. state ≡ diagram_next self.now.nodes.items nine.now) }
+    {
+        states.clear();
+        'nodes: for node in &self.nodes {
+            let state = node.state(nine, states);
+            states.push(state)?;
+        }
+        Ok(state_at(states, states.len().saturating_sub(1)))
+    }
+}
+
+// The state at a place, dead where there is none.
+fn state_at(states: &[u8], place: usize) -> u8
+    ensures { result ≡ slice_index states.now place }
+{
+    states.get(place).copied().unwrap_or(0)
+}
+
+// The neighbourhood with this number.
+fn neighbourhood(number: u16) -> Nine
+    ensures { result ≡ neighbourhood number }
+{
+    [
+        cell(number, 16),
+        cell(number, 256),
+        cell(number, 8),
+        cell(number, 64),
+        cell(number, 1),
+        cell(number, 32),
+        cell(number, 4),
+        cell(number, 128),
+        cell(number, 2),
+    ]
+}
+
+// The binary digit of this weight.
+fn cell(number: u16, weight: u16) -> u8
+    requires { 0 < weight }
+    ensures { result ≡ number / weight % 2 }
+{
+    (number / weight % 2) as u8
+}
+
+// For each neighbourhood the node of the rule's next state.
+fn next_states<A: Automaton>(alloc: Global, rule: &A) -> Result<Vec<usize>, Memory> {
+    let mut ids = Vec::new(alloc);
+    'numbers: for number in 0..NEIGHBOURHOODS {
+        let state = rule.next(&neighbourhood(number));
+        ids.push(usize::from(state != 0))?;
+    }
+    Ok(ids)
+}
+
+// The nodes that choose between the first and the second of each two by the cell at this place.
+fn joined(
+    alloc: Global,
+    nodes: &mut Vec<Node>,
+    place: usize,
+    ids: &[usize],
+) -> Result<Vec<usize>, Memory> {
+    let mut joined = Vec::new(alloc);
+    'pairs: for i in 0..ids.len() / 2 {
+        let choice = Choice {
+            place,
+            dead: ids[2 * i],
+            live: ids[2 * i + 1],
+        };
+        joined.push(node_of(nodes, choice)?)?;
+    }
+    Ok(joined)
+}
+
+// The node of a choice: one that is there already, or a new one.
+fn node_of(nodes: &mut Vec<Node>, choice: Choice) -> Result<usize, Memory> {
+    if choice.dead == choice.live {
+        return Ok(choice.dead);
+    }
+    let node = Node::Choice(choice);
+    if let Some(known) = nodes.iter().position(|it| *it == node) {
+        return Ok(known);
+    }
+    let id = nodes.len();
+    nodes.push(node)?;
+    Ok(id)
+}
