@@ -5,6 +5,9 @@ pub mod KindTexts
 pub mod Parts
 pub mod Names
 pub mod WrittenFiles
+pub mod GenerationsLines
+pub mod GenerationsNext
+pub mod GenerationsFiles
 pub mod Maps
 pub mod PutTexts
 pub mod Neighbourhoods

@@ -1,13 +1,16 @@
 -- A text that names a rule is a name that a rule file can give, and has no `:`.
-use Rattle.std.proofs.Common.{◌≡◌, ℕ, List, [], ◌∷◌, ◌++◌, length, true, not, ◌==◌, ◌&&◌, ◌%◌, slice_index, codes, refl, sym, subst, inl, inr, ◌⊎◌, arith}
+use Rattle.std.proofs.Common.{◌≡◌, ℕ, List, [], ◌∷◌, ◌++◌, length, true, not, ◌==◌, ◌&&◌, ◌%◌, nat_le, Some, slice_index, codes, refl, sym, subst, inl, inr, ◌⊎◌, arith}
 use Rattle.std.specs.List.{list_all}
 use Rattle.std.proofs.lemmas.Bool.{and_parts, and_from}
 use Rattle.std.proofs.lemmas.Bool.Decides.{nat_tests}
-use Rattle.ca_plane.specs.Bytes.{Every, is_word_byte, is_blank, is_line_end, is_digit}
+use Rattle.ca_plane.specs.Bytes.{Every, is_word_byte, is_blank, is_line_end, is_digit, value}
 use Rattle.ca_plane.proofs.Fronts.{every_append, every_wider}
 use Rattle.ca_rule.specs.Spelling.{IsLetter, IsSuffix, IsOptionalSlash, IsLettered, IsUnlettered, SpellsBsRule}
 use Rattle.ca_rule.specs.declared.hood.Hood.{Hood}
 use Rattle.ca_rule.specs.declared.hood.Hood.TheVariants.{Moore, VonNeumann, Hex}
+use Rattle.ca_rule.specs.Digits.{are_digits, state_count}
+use Rattle.ca_rule.specs.GenerationsText.{SpellsGenerationsRule}
+use Rattle.ca_rule.proofs.OneSpelling.{if-some}
 use Rattle.ca_rule.proofs.ReadInwards.{digits-of}
 use Rattle.ca_isotropic.specs.Isotropic.{SpellsIsotropicRule}
 use Rattle.ca_isotropic.specs.Map.{is_base64, sextet, are_characters, IsMap}
@@ -86,3 +89,13 @@ pub map-text : (text characters : List ℕ) → IsMap text characters → IsText
 map-text text characters is =
     from-text text 77 (codes "AP" ++ characters) is.form
     (every_append is_text_byte (codes "MAP") characters refl (every_wider is_base64 is_text_byte (λ b h. grind (arith, nat_tests)) characters (base64-all characters is.good)))
+
+number-digits : (number : List ℕ) (n : ℕ) → state_count number ≡ Some n → Every is_digit number
+number-digits number n e =
+    let good = if-some (are_digits number && (nat_le 2 (value number) && nat_le (value number) 256)) (Some (value number)) n e in
+    (and_parts (nat_le 1 (length number)) (list_all is_digit number) (and_parts (are_digits number) _ good.0).0).1
+
+pub generations-text : (text survival birth : List ℕ) (states : ℕ) → SpellsGenerationsRule text survival birth states → IsText text
+generations-text text survival birth states is =
+    let later = every_append is_text_byte birth (47 ∷ is.number) (plain-digits birth (digits-of Moore birth is.birth_digits)) (plain-digits is.number (number-digits is.number states is.number_is)) in
+    subst IsText (sym is.form) (slashed-text survival (birth ++ (47 ∷ is.number)) (plain-digits survival (digits-of Moore survival is.survival_digits)) later)

@@ -11,7 +11,7 @@ use Rattle.ca_plane.specs.Puts.{Puts}
 use Rattle.ca_rule.specs.TableNext.{TableRule, table_next}
 use Rattle.ca_rule.specs.TableText.{IsTable, table_from}
 use Rattle.ca_isotropic.specs.RuleFiles.{IsTableName, WritesRule}
-use Rattle.ca_isotropic.specs.inner.WrittenTables.{head_lines, inputs_of, transition_line, transition_lines, neighbourhood, neighbourhoods, changes}
+use Rattle.ca_isotropic.specs.inner.WrittenTables.{head_lines, inputs_of, transition_lines, lines_by, neighbourhood, neighbourhoods, changes}
 use Rattle.ca_isotropic.proofs.WrittenTables.{AreBits, IsInput, transition, written_settings, said_of, is-table}
 use Rattle.ca_isotropic.proofs.WrittenNext.{next-written, all-held, all-nine}
 
@@ -23,10 +23,10 @@ digit-low n weight = omega arith
 bits-of : (n : ℕ) → AreBits (neighbourhood n)
 bits-of n = (digit-low n 256, (digit-low n 128, (digit-low n 64, (digit-low n 32, (digit-low n 16, (digit-low n 8, (digit-low n 4, (digit-low n 2, (digit-low n 1, tt)))))))))
 
-inputs-bits : (n : ℕ) → AreBits (inputs_of (neighbourhood n))
+pub inputs-bits : (n : ℕ) → AreBits (inputs_of (neighbourhood n))
 inputs-bits n = (digit-low n 16, (digit-low n 128, (digit-low n 64, (digit-low n 8, (digit-low n 1, (digit-low n 2, (digit-low n 4, (digit-low n 32, (digit-low n 256, tt)))))))))
 
-kept : {X : Type 0} (P : X → Type 0) (test : X → Bool) (xs : List X) → AllByRecursion P xs → AllByRecursion P (filter test xs)
+pub kept : {X : Type 0} (P : X → Type 0) (test : X → Bool) (xs : List X) → AllByRecursion P xs → AllByRecursion P (filter test xs)
 kept P test [] all = tt
 kept P test (x ∷ xs) all = elim (cases_Bool (test x)) [
   | inl t ↦ subst (λ v. AllByRecursion P (if v then x ∷ filter test xs else filter test xs)) (sym t) (all.0, kept P test xs all.1)
@@ -84,37 +84,37 @@ module _ (next : List ℕ → ℕ) (two : IsOfTwoStates next) where
 
 -- ---- one neighbourhood more
 
--- the line of a neighbourhood
-abbrev line_for : (List ℕ → ℕ) → List ℕ → List ℕ
-line_for next nine = transition_line nine (next nine)
-
-pub no-lines : (next : List ℕ → ℕ) → transition_lines next 0 ≡ []
+-- the lines of no neighbourhoods
+pub no-lines : (line : List ℕ → ℕ → List ℕ) (next : List ℕ → ℕ) → lines_by line next 0 ≡ []
 unfolding neighbourhoods
-no-lines next = refl
+no-lines line next = refl
 
 -- its line is put, or it is left out
-module _ (next : List ℕ → ℕ) (count : ℕ) (old now : List ℕ) (before : Puts old now (text_of (transition_lines next count))) where
-  more : (changed : Bool) → changes next (neighbourhood count) ≡ changed → transition_lines next (count + 1) ≡ transition_lines next count ++ map (line_for next) (if changed then neighbourhood count ∷ [] else [])
+module _ (line : List ℕ → ℕ → List ℕ) (next : List ℕ → ℕ) (count : ℕ) (old now : List ℕ) (before : Puts old now (text_of (lines_by line next count))) where
+  abbrev line_for : List ℕ → List ℕ
+  line_for nine = line nine (next nine)
+
+  more : (changed : Bool) → changes next (neighbourhood count) ≡ changed → lines_by line next (count + 1) ≡ lines_by line next count ++ map line_for (if changed then neighbourhood count ∷ [] else [])
   unfolding neighbourhoods
   more changed e =
-      ap (map (line_for next)) (filter_of_map_range_with_len_more (changes next) neighbourhood 0 count count (zero-add count))
-      ∙ map-append (line_for next) (filter (changes next) (neighbourhoods count)) (if changes next (neighbourhood count) then neighbourhood count ∷ [] else [])
-      ∙ ap (λ v. transition_lines next count ++ map (line_for next) (if v then neighbourhood count ∷ [] else [])) e
+      ap (map line_for) (filter_of_map_range_with_len_more (changes next) neighbourhood 0 count count (zero-add count))
+      ∙ map-append line_for (filter (changes next) (neighbourhoods count)) (if changes next (neighbourhood count) then neighbourhood count ∷ [] else [])
+      ∙ ap (λ v. lines_by line next count ++ map line_for (if v then neighbourhood count ∷ [] else [])) e
 
-  text-more : (changed : Bool) → changes next (neighbourhood count) ≡ changed → text_of (transition_lines next (count + 1)) ≡ text_of (transition_lines next count) ++ text_of (map (line_for next) (if changed then neighbourhood count ∷ [] else []))
-  text-more changed e = ap text_of (more changed e) ∙ flat_map-append (λ line. line ++ 10 ∷ []) (transition_lines next count) (map (line_for next) (if changed then neighbourhood count ∷ [] else []))
+  text-more : (changed : Bool) → changes next (neighbourhood count) ≡ changed → text_of (lines_by line next (count + 1)) ≡ text_of (lines_by line next count) ++ text_of (map line_for (if changed then neighbourhood count ∷ [] else []))
+  text-more changed e = ap text_of (more changed e) ∙ flat_map-append (λ line. line ++ 10 ∷ []) (lines_by line next count) (map line_for (if changed then neighbourhood count ∷ [] else []))
 
-  pub one-more : (new nine : List ℕ) (result : ℕ) → nine ≡ neighbourhood count → result ≡ next nine → (result == slice_index nine 4) ≡ false → Puts now new (text_of (transition_line nine result ∷ [])) → Puts old new (text_of (transition_lines next (count + 1)))
+  pub one-more : (new nine : List ℕ) (result : ℕ) → nine ≡ neighbourhood count → result ≡ next nine → (result == slice_index nine 4) ≡ false → Puts now new (text_of (line nine result ∷ [])) → Puts old new (text_of (lines_by line next (count + 1)))
   one-more new nine result is becomes differs put =
-      let same : transition_line nine result ≡ line_for next (neighbourhood count) = ap (transition_line nine) becomes ∙ ap (line_for next) is in
+      let same : line nine result ≡ line_for (neighbourhood count) = ap (line nine) becomes ∙ ap line_for is in
       let t : changes next (neighbourhood count) ≡ true = ap (changes next) (sym is) ∙ ap (λ r. not (r == slice_index nine 4)) (sym becomes) ∙ ap not differs in
       record {
-        whole = put.whole ∙ ap (λ l. now ++ text_of (l ∷ [])) same ∙ ap (λ l. l ++ text_of (line_for next (neighbourhood count) ∷ [])) before.whole
-            ∙ append_assoc old (text_of (transition_lines next count)) (text_of (line_for next (neighbourhood count) ∷ []))
+        whole = put.whole ∙ ap (λ l. now ++ text_of (l ∷ [])) same ∙ ap (λ l. l ++ text_of (line_for (neighbourhood count) ∷ [])) before.whole
+            ∙ append_assoc old (text_of (lines_by line next count)) (text_of (line_for (neighbourhood count) ∷ []))
             ∙ ap (λ l. old ++ l) (sym (text-more true t));
       }
 
-  pub none-more : (nine : List ℕ) (result : ℕ) → nine ≡ neighbourhood count → result ≡ next nine → (result == slice_index nine 4) ≡ true → Puts old now (text_of (transition_lines next (count + 1)))
+  pub none-more : (nine : List ℕ) (result : ℕ) → nine ≡ neighbourhood count → result ≡ next nine → (result == slice_index nine 4) ≡ true → Puts old now (text_of (lines_by line next (count + 1)))
   none-more nine result is becomes stays =
       let t : changes next (neighbourhood count) ≡ false = ap (changes next) (sym is) ∙ ap (λ r. not (r == slice_index nine 4)) (sym becomes) ∙ ap not stays in
-      record { whole = before.whole ∙ ap (λ l. old ++ l) (sym (text-more false t ∙ append-nil (text_of (transition_lines next count)))) }
+      record { whole = before.whole ∙ ap (λ l. old ++ l) (sym (text-more false t ∙ append-nil (text_of (lines_by line next count)))) }

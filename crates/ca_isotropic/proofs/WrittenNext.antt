@@ -40,7 +40,7 @@ fits-only all (c ∷ cs) (o ∷ os) same fit =
 -- ---- nine cells by their inputs
 
 -- nine cells as their list
-spread : (nine : List ℕ) → length nine ≡ 9 → nine ≡ map (slice_index nine) (0 ∷ 1 ∷ 2 ∷ 3 ∷ 4 ∷ 5 ∷ 6 ∷ 7 ∷ 8 ∷ [])
+pub spread : (nine : List ℕ) → length nine ≡ 9 → nine ≡ map (slice_index nine) (0 ∷ 1 ∷ 2 ∷ 3 ∷ 4 ∷ 5 ∷ 6 ∷ 7 ∷ 8 ∷ [])
 spread nine long = fill_by_all (slice_index nine) nine 9 0 long (λ k h. refl)
 
 pub inputs-tell : (m n : List ℕ) → length m ≡ 9 → length n ≡ 9 → inputs_of m ≡ inputs_of n → m ≡ n
@@ -54,6 +54,35 @@ inputs-tell m n lm ln e =
 abbrev pub Holds : List ℕ → List (List ℕ) → Type 0
 Holds nine [] = ⊥
 Holds nine (m ∷ ms) = (m ≡ nine) ⊎ Holds nine ms
+
+-- neighbourhoods give the next state of one where each gives its own to itself and is passed by the others, and none of them give the
+-- centre
+module _ (next : List ℕ → ℕ) (nine : List ℕ) (P : List ℕ → Type 0) (given : List (List ℕ) → ℕ) (none : given [] ≡ slice_index nine 4)
+    (first : (m : List ℕ) (ms : List (List ℕ)) → P m → ((m ≡ nine) × (given (m ∷ ms) ≡ next nine)) ⊎ ((m ≡ nine → ⊥) × (given (m ∷ ms) ≡ given ms))) where
+  -- where the first is another neighbourhood, the others have it if all have it
+  left-out : (m : List ℕ) (ms : List (List ℕ)) → (m ≡ nine → ⊥) → (next nine ≡ slice_index nine 4) ⊎ Holds nine (m ∷ ms) → (next nine ≡ slice_index nine 4) ⊎ Holds nine ms
+  left-out m ms other (inl stays) = inl stays
+  left-out m ms other (inr (inl same)) = absurd (other same)
+  left-out m ms other (inr (inr more)) = inr more
+
+  -- where the first doesn't change, it is left out
+  passed : (m : List ℕ) (ms : List (List ℕ)) → changes next m ≡ false → (next nine ≡ slice_index nine 4) ⊎ Holds nine (m ∷ ms) → (next nine ≡ slice_index nine 4) ⊎ Holds nine ms
+  passed m ms t (inl stays) = inl stays
+  passed m ms t (inr (inl same)) =
+      let u : changes next nine ≡ false = ap (changes next) (sym same) ∙ t in
+      let equal : next nine ≡ slice_index nine 4 = grind (arith, nat_tests) in inl equal
+  passed m ms t (inr (inr more)) = inr more
+
+  pub next-given : (ms : List (List ℕ)) → AllByRecursion P ms → (next nine ≡ slice_index nine 4) ⊎ Holds nine ms → given (filter (changes next) ms) ≡ next nine
+  next-given [] all (inl stays) = none ∙ sym stays
+  next-given [] all (inr h) = absurd h
+  next-given (m ∷ ms) all h = elim (cases_Bool (changes next m)) [
+    | inl t ↦ ap (λ v. given (if v then m ∷ filter (changes next) ms else filter (changes next) ms)) t ∙ elim (first m (filter (changes next) ms) all.0) [
+      | inl here ↦ here.1
+      | inr other ↦ other.1 ∙ next-given ms all.1 (left-out m ms other.0 h)
+    ]
+    | inr t ↦ ap (λ v. given (if v then m ∷ filter (changes next) ms else filter (changes next) ms)) t ∙ next-given ms all.1 (passed m ms t h)
+  ]
 
 module _ (next : List ℕ → ℕ) (nine : List ℕ) (long : length nine ≡ 9) where
   -- what the transitions of these neighbourhoods give
@@ -74,31 +103,9 @@ module _ (next : List ℕ → ℕ) (nine : List ℕ) (long : length nine ≡ 9) 
         )
       ]
 
-  -- where the first is another neighbourhood, the others have it if all have it
-  left-out : (m : List ℕ) (ms : List (List ℕ)) → (m ≡ nine → ⊥) → (next nine ≡ slice_index nine 4) ⊎ Holds nine (m ∷ ms) → (next nine ≡ slice_index nine 4) ⊎ Holds nine ms
-  left-out m ms other (inl stays) = inl stays
-  left-out m ms other (inr (inl same)) = absurd (other same)
-  left-out m ms other (inr (inr more)) = inr more
-
-  -- where the first doesn't change, it is left out
-  passed : (m : List ℕ) (ms : List (List ℕ)) → changes next m ≡ false → (next nine ≡ slice_index nine 4) ⊎ Holds nine (m ∷ ms) → (next nine ≡ slice_index nine 4) ⊎ Holds nine ms
-  passed m ms t (inl stays) = inl stays
-  passed m ms t (inr (inl same)) =
-      let u : changes next nine ≡ false = ap (changes next) (sym same) ∙ t in
-      let equal : next nine ≡ slice_index nine 4 = grind (arith, nat_tests) in inl equal
-  passed m ms t (inr (inr more)) = inr more
-
   pub next-written : (ms : List (List ℕ)) → AllByRecursion (λ m. length m ≡ 9) ms → (next nine ≡ slice_index nine 4) ⊎ Holds nine ms
       → given (filter (changes next) ms) ≡ next nine
-  next-written [] all (inl stays) = sym stays
-  next-written [] all (inr h) = absurd h
-  next-written (m ∷ ms) all h = elim (cases_Bool (changes next m)) [
-    | inl t ↦ ap (λ v. given (if v then m ∷ filter (changes next) ms else filter (changes next) ms)) t ∙ elim (first m (filter (changes next) ms) all.0) [
-      | inl here ↦ here.1
-      | inr other ↦ other.1 ∙ next-written ms all.1 (left-out m ms other.0 h)
-    ]
-    | inr t ↦ ap (λ v. given (if v then m ∷ filter (changes next) ms else filter (changes next) ms)) t ∙ next-written ms all.1 (passed m ms t h)
-  ]
+  next-written = next-given next nine (λ m. length m ≡ 9) given refl first
 
 -- ---- all neighbourhoods
 

@@ -48,30 +48,30 @@ lines-said lines all = ap (λ ls. filter says_something (enumerate_from 1 (map c
 
 -- ---- plain bytes at the end of a line
 
-no-comment : (bytes : List ℕ) → Every is_plain bytes → Every (λ b. not (b == 35)) bytes
+pub no-comment : (bytes : List ℕ) → Every is_plain bytes → Every (λ b. not (b == 35)) bytes
 no-comment bytes all = every_wider is_plain (λ b. not (b == 35)) (λ b h. (and_parts (not (is_line_end b)) _ (and_parts (not (is_blank b)) _ h).1).1) bytes all
 
 pub one-line : (bytes : List ℕ) → Every is_plain bytes → Every (λ b. not (is_line_end b)) bytes
 one-line bytes all = every_wider is_plain (λ b. not (is_line_end b)) (λ b h. (and_parts (not (is_line_end b)) _ (and_parts (not (is_blank b)) _ h).1).0) bytes all
 
-no-blanks : (bytes : List ℕ) → Every is_plain bytes → Every (λ b. not (is_blank b)) bytes
+pub no-blanks : (bytes : List ℕ) → Every is_plain bytes → Every (λ b. not (is_blank b)) bytes
 no-blanks bytes all = every_wider is_plain (λ b. not (is_blank b)) (λ b h. (and_parts (not (is_blank b)) _ h).0) bytes all
 
 and-false : (b : Bool) → (b && false) ≡ false
 and-false true = refl
 and-false false = refl
 
-front-all : (test : ℕ → Bool) (bytes : List ℕ) → Every test bytes → front test bytes ≡ bytes
+pub front-all : (test : ℕ → Bool) (bytes : List ℕ) → Every test bytes → front test bytes ≡ bytes
 front-all test bytes all = ap (front test) (sym (append-nil bytes)) ∙ front_append test bytes [] all refl
 
-keeps-last : (bytes : List ℕ) → Every (λ b. not (is_blank b)) bytes → without_last_blanks bytes ≡ bytes
+pub keeps-last : (bytes : List ℕ) → Every (λ b. not (is_blank b)) bytes → without_last_blanks bytes ≡ bytes
 keeps-last [] all = refl
 keeps-last (b ∷ bs) all =
     let parts = and_parts (not (is_blank b)) (list_all (λ b. not (is_blank b)) bs) all in
     ap (λ v. if v && list_all is_blank bs then [] else b ∷ without_last_blanks bs) (not-true (is_blank b) parts.0)
     ∙ ap (λ l. b ∷ l) (keeps-last bs parts.1)
 
-keeps-end : (before : List ℕ) (b : ℕ) (bs : List ℕ) → Every (λ b. not (is_blank b)) (b ∷ bs) → without_last_blanks (before ++ b ∷ bs) ≡ before ++ b ∷ bs
+pub keeps-end : (before : List ℕ) (b : ℕ) (bs : List ℕ) → Every (λ b. not (is_blank b)) (b ∷ bs) → without_last_blanks (before ++ b ∷ bs) ≡ before ++ b ∷ bs
 keeps-end [] b bs all = keeps-last (b ∷ bs) all
 keeps-end (x ∷ xs) b bs all =
     let parts = and_parts (not (is_blank b)) (list_all (λ b. not (is_blank b)) bs) all in
@@ -79,7 +79,7 @@ keeps-end (x ∷ xs) b bs all =
     list_all-append is_blank (x ∷ xs) (b ∷ bs) ∙ ap (λ v. list_all is_blank (x ∷ xs) && (v && list_all is_blank bs)) (not-true (is_blank b) parts.0) ∙ and-false (list_all is_blank (x ∷ xs)) in
     ap (λ v. if v then [] else x ∷ without_last_blanks (xs ++ b ∷ bs)) ends ∙ ap (λ l. x ∷ l) (keeps-end xs b bs all)
 
-something-said : (b : ℕ) (bs : List ℕ) → nat_le 1 (length (b ∷ bs)) ≡ true
+pub something-said : (b : ℕ) (bs : List ℕ) → nat_le 1 (length (b ∷ bs)) ≡ true
 something-said b bs = grind (arith, nat_tests)
 
 pub plain-said : (b : ℕ) (bs : List ℕ) → Every is_plain (b ∷ bs) → IsSaid (b ∷ bs)
@@ -101,7 +101,7 @@ plain-name (b ∷ bs) word all =
     let v = and_parts (not (is_blank b)) (not (is_line_end b)) w.0 in
     and_from (is_plain b) (list_all is_plain bs) (and_from (not (is_blank b)) _ v.0 (and_from (not (is_line_end b)) _ v.1 n.0)) (plain-name bs w.1 n.1)
 
-rule-line-said : (name : List ℕ) → IsWord name → Every (λ b. not (b == 35)) name → IsSaid (codes "@RULE " ++ name)
+pub rule-line-said : (name : List ℕ) → IsWord name → Every (λ b. not (b == 35)) name → IsSaid (codes "@RULE " ++ name)
 rule-line-said [] word all = absurd (false≢true word)
 rule-line-said (b ∷ bs) word all =
     let plain = plain-name (b ∷ bs) word all in
@@ -112,7 +112,7 @@ rule-line-said (b ∷ bs) word all =
       something = something-said 64 (codes "RULE " ++ b ∷ bs);
     }
 
-name-said : (name : List ℕ) → IsWord name → words_of (codes "@RULE " ++ name) ≡ codes "@RULE" ∷ name ∷ []
+pub name-said : (name : List ℕ) → IsWord name → words_of (codes "@RULE " ++ name) ≡ codes "@RULE" ∷ name ∷ []
 name-said name word = ap (λ ws. codes "@RULE" ∷ ws) (ap words_of (sym (append-nil name)) ∙ words_ahead name [] word refl)
 
 -- ---- transitions

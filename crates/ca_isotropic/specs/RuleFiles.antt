@@ -3,7 +3,7 @@ use Rattle.std.specs.Prelude.{◌≡◌, ℕ, ◌<◌, List, length, All, not, �
 use Rattle.ca_plane.specs.Bytes.{IsWord, Every}
 use Rattle.ca_rule.specs.TableNext.{TableRule, IsSoundTable, table_next}
 use Rattle.ca_rule.specs.TableText.{IsTable}
-use Rattle.ca_isotropic.specs.TextRules.{TextRule, text_rule_next, NamesTextRule, IsTextRuleFault}
+use Rattle.ca_isotropic.specs.TextRules.{TextRule, text_rule_states, text_rule_next, NamesTextRule, IsTextRuleFault}
 use Rattle.ca_isotropic.specs.declared.fault.RuleFileFault.{RuleFileFault}
 use Rattle.ca_isotropic.specs.declared.fault.RuleFileFault.TheVariants.{Rule, Memory}
 
@@ -26,7 +26,7 @@ pub record WritesRule (name : List ℕ) (states : ℕ) (next : List ℕ → ℕ)
 pub record WritesTextRule (text file : List ℕ) : Type 0 where
   pub rule : TextRule
   pub names : NamesTextRule text rule
-  pub writes : WritesRule text 2 (text_rule_next rule) file
+  pub writes : WritesRule text (text_rule_states rule) (text_rule_next rule) file
 
 -- why no file is written: the text names no rule, for this reason, or there is no memory
 abbrev pub IsRuleFileFault : List ℕ → RuleFileFault → Type 0

@@ -1,7 +1,8 @@
-//! Rule files for texts that name a rule of two states: tables that Golly and `ca_rule` read.
+//! Rule files for texts that name a rule of two states or a Generations rule: tables that Golly and `ca_rule` read.
 #![tactic(auto)]
 
 mod fault;
+mod generations;
 mod isotropic;
 mod kind_list;
 mod kinds;
@@ -11,6 +12,7 @@ mod texts;
 mod writing;
 
 pub use fault::RuleFileFault;
+pub use generations::generations_file;
 pub use isotropic::IsotropicRule;
 pub use laws::{all_letters, digits_alone, one_kind, one_text_rule, worked_rules};
 pub use map::MapRule;

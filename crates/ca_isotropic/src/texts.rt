@@ -4,15 +4,16 @@ ghost use Rattle.std.specs.Prelude.{IfOk, IfErr};
 ghost use Rattle.ca_isotropic.specs.RuleFiles.{WritesTextRule, IsRuleFileFault};
 
 use crate::fault::RuleFileFault;
+use crate::generations::generations_file;
 use crate::isotropic::IsotropicRule;
 use crate::map::MapRule;
 use crate::writing::table_file;
-use ca_rule::{BsRule, RuleFault};
+use ca_rule::{BsRule, GenRule, RuleFault};
 use std::alloc::Global;
 
-/// The rule file of the rule of two states that the text names: one in B/S notation, as `B3/S23`, an
-/// isotropic one in Hensel's notation, as `B2-a/S12`, or a MAP string. The file is a rule table whose name is
-/// the text, for programs that read tables.
+/// The rule file of the rule that the text names: one in B/S notation, as `B3/S23`, an isotropic one in
+/// Hensel's notation, as `B2-a/S12`, a MAP string, or a Generations rule, as `345/2/4`. The file is a rule table
+/// whose name is the text, for programs that read tables.
 ///
 /// # Errors
 ///
@@ -32,7 +33,12 @@ pub fn rule_file(alloc: Global, text: &[u8]) -> Result<Vec<u8>, RuleFileFault>
         Err(fault) => return Err(RuleFileFault::Rule(fault)),
     }
     match MapRule::parse(text) {
-        Ok(rule) => Ok(table_file(alloc, text, &rule)?),
+        Ok(rule) => return Ok(table_file(alloc, text, &rule)?),
+        Err(RuleFault::Unknown) => {}
+        Err(fault) => return Err(RuleFileFault::Rule(fault)),
+    }
+    match GenRule::parse(text) {
+        Ok(rule) => Ok(generations_file(alloc, text, &rule)?),
         Err(fault) => Err(RuleFileFault::Rule(fault)),
     }
 }

@@ -63,7 +63,7 @@ fn push_transitions<A: Automaton>(out: &mut Vec<u8>, rule: &A) -> Result<(), Mem
 }
 
 /// The neighbourhood with this number: its binary digits.
-fn neighbourhood(number: u16) -> Nine
+pub(crate) fn neighbourhood(number: u16) -> Nine
     ensures { result ≡ neighbourhood number }
 {
     [

@@ -34,6 +34,10 @@ neighbourhoods count = map neighbourhood (range_with_len 0 count)
 abbrev pub changes : (List ℕ → ℕ) → List ℕ → Bool
 changes next nine = not (next nine == slice_index nine 4)
 
+-- the lines of the first neighbourhoods whose centres change, each with its centre's next state
+abbrev pub lines_by : (List ℕ → ℕ → List ℕ) → (List ℕ → ℕ) → ℕ → List (List ℕ)
+lines_by line next count = map (λ nine. line nine (next nine)) (filter (changes next) (neighbourhoods count))
+
 -- the lines of the transitions of the first neighbourhoods
 abbrev pub transition_lines : (List ℕ → ℕ) → ℕ → List (List ℕ)
-transition_lines next count = map (λ nine. transition_line nine (next nine)) (filter (changes next) (neighbourhoods count))
+transition_lines next count = lines_by transition_line next count

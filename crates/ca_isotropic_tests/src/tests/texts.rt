@@ -46,8 +46,104 @@ const EXPECTED: [Expected; 8] = [
     },
 ];
 
+/// A Generations rule, its states, nine cells in rows from the north-west, and the next state of the centre.
+struct Cell {
+    text: &'static [u8],
+    states: u16,
+    nine: Nine,
+    next: u8,
+}
+
+/// Cells whose next states follow from Golly Help, Algorithms: Generations.
+const CELLS: [Cell; 14] = [
+    Cell {
+        text: b"/2/3",
+        states: 3,
+        nine: [1, 0, 0, 0, 0, 0, 0, 0, 1],
+        next: 1,
+    },
+    Cell {
+        text: b"/2/3",
+        states: 3,
+        nine: [1, 0, 0, 2, 0, 2, 0, 0, 1],
+        next: 1,
+    },
+    Cell {
+        text: b"/2/3",
+        states: 3,
+        nine: [2, 0, 0, 0, 0, 0, 0, 0, 2],
+        next: 0,
+    },
+    Cell {
+        text: b"/2/3",
+        states: 3,
+        nine: [1, 0, 0, 0, 1, 0, 0, 0, 1],
+        next: 2,
+    },
+    Cell {
+        text: b"/2/3",
+        states: 3,
+        nine: [1, 0, 0, 0, 2, 0, 0, 0, 1],
+        next: 0,
+    },
+    Cell {
+        text: b"345/2/4",
+        states: 4,
+        nine: [1, 1, 1, 0, 1, 0, 0, 2, 3],
+        next: 1,
+    },
+    Cell {
+        text: b"345/2/4",
+        states: 4,
+        nine: [1, 1, 2, 0, 1, 0, 0, 2, 3],
+        next: 2,
+    },
+    Cell {
+        text: b"345/2/4",
+        states: 4,
+        nine: [1, 1, 1, 0, 2, 0, 0, 0, 0],
+        next: 3,
+    },
+    Cell {
+        text: b"345/2/4",
+        states: 4,
+        nine: [1, 1, 1, 0, 3, 0, 0, 0, 0],
+        next: 0,
+    },
+    Cell {
+        text: b"332/33/03",
+        states: 3,
+        nine: [0, 0, 1, 0, 0, 1, 2, 2, 1],
+        next: 1,
+    },
+    Cell {
+        text: b"23/3/2",
+        states: 2,
+        nine: [0, 1, 0, 0, 1, 0, 0, 0, 0],
+        next: 0,
+    },
+    Cell {
+        text: b"23/3/2",
+        states: 2,
+        nine: [1, 1, 1, 0, 0, 0, 0, 0, 0],
+        next: 1,
+    },
+    Cell {
+        text: b"//256",
+        states: 256,
+        nine: [255, 0, 0, 0, 254, 0, 1, 0, 0],
+        next: 255,
+    },
+    Cell {
+        text: b"//256",
+        states: 256,
+        nine: [1, 1, 1, 1, 255, 1, 1, 1, 1],
+        next: 0,
+    },
+];
+
 /// Texts that name no rule, with the reason.
-const FAULTS: [(&[u8], RuleFault); 12] = [
+const FAULTS: [(&[u8], RuleFault); 17] = [
     (b"B2-a/S12:T9,9", RuleFault::Bounded),
     (b"B0c/S", RuleFault::Unknown),
     (b"B02-a/S12", RuleFault::Wakes),
@@ -56,7 +152,12 @@ const FAULTS: [(&[u8], RuleFault); 12] = [
     (b"B2-/S", RuleFault::Unknown),
     (b"B2ac-a/S", RuleFault::Unknown),
     (b"B2a/S12V", RuleFault::Unknown),
-    (b"23/3/4", RuleFault::Unknown),
+    (b"23/0/4", RuleFault::Wakes),
+    (b"23/3/4:T9,9", RuleFault::Bounded),
+    (b"23/3/1", RuleFault::Unknown),
+    (b"23/3/257", RuleFault::Unknown),
+    (b"2-a/3/4", RuleFault::Unknown),
+    (b"23/3/4V", RuleFault::Unknown),
     (b"", RuleFault::Unknown),
     (
         b"MAPgRYXfhZofugWaH7oaIDogBZofuhogOiAaIDogIAAgAAWaH7oaIDogGiA6ICAAIAAaIDogIAAgACAAIAAAAAAAA",
@@ -120,6 +221,26 @@ fn is_written(alloc: Global, expected: &Expected) -> bool {
 fn files_are_written(rt: HostRuntime) {
     for expected in &EXPECTED {
         assert!(rt; is_written(rt.alloc(), expected));
+    }
+}
+
+/// Whether the file of the cell's rule is that of a table of its name and states, under which the cell goes on so.
+fn goes_on(alloc: Global, cell: &Cell) -> bool {
+    let Ok(file) = rule_file(alloc, cell.text) else {
+        return false;
+    };
+    let Ok(table) = Table::parse(alloc, &file) else {
+        return false;
+    };
+    table.name() == cell.text
+        && table.states() == cell.states
+        && table.next(&cell.nine) == cell.next
+}
+
+#[test]
+fn generations_rules_are_written(rt: HostRuntime) {
+    for cell in &CELLS {
+        assert!(rt; goes_on(rt.alloc(), cell));
     }
 }
 

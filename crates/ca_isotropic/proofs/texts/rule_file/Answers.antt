@@ -1,7 +1,7 @@
 use Rattle.std.proofs.Common.{subst}
 use Rattle.ca_rule.specs.Spelling.{IsBsRuleFault}
-use Rattle.ca_isotropic.specs.TextRules.{Bs, Isotropic, Map}
-use Rattle.ca_isotropic.proofs.Names.{table-name, bs-text, isotropic-text, map-text}
+use Rattle.ca_isotropic.specs.TextRules.{Bs, Isotropic, Map, Generations}
+use Rattle.ca_isotropic.proofs.Names.{table-name, bs-text, isotropic-text, map-text, generations-text}
 use Rattle.ca_isotropic.proofs.texts.rule_file.Goals as goal
 
 pub table_file-requires-clause-named : goal.table_file-requires-clause-named
@@ -29,9 +29,21 @@ table_file-requires-in-Ok-parse-2-clause-named c =
     let rule = c.in-Ok-parse-2.rule in
     table-name c.args.text.now (map-text c.args.text.now rule.characters.now c.in-Ok-parse-2.ensures.found.spells)
 
-pub returns-in_ok-table_file-in-Ok-parse-2-clause-found : goal.returns-in_ok-table_file-in-Ok-parse-2-clause-found
-returns-in_ok-table_file-in-Ok-parse-2-clause-found c = record {
+pub returns-in-Ok-parse-2-clause-found : goal.returns-in-Ok-parse-2-clause-found
+returns-in-Ok-parse-2-clause-found c = record {
   rule = Map c.in-Ok-parse-2.rule.characters.now;
   names = c.in-Ok-parse-2.ensures.found;
   writes = (c.in_ok-table_file-in-Ok-parse-2).ensures;
+}
+
+pub generations_file-requires : goal.generations_file-requires
+generations_file-requires c =
+    let names = c.in-Ok-parse-3.ensures.found in
+    table-name c.args.text.now (generations-text c.args.text.now names.survival names.birth c.in-Ok-parse-3.rule.states names.spells)
+
+pub returns-in_ok-generations_file-in-Ok-parse-3-clause-found : goal.returns-in_ok-generations_file-in-Ok-parse-3-clause-found
+returns-in_ok-generations_file-in-Ok-parse-3-clause-found c = record {
+  rule = Generations c.in-Ok-parse-3.rule;
+  names = c.in-Ok-parse-3.ensures.found;
+  writes = (c.in_ok-generations_file-in-Ok-parse-3).ensures;
 }

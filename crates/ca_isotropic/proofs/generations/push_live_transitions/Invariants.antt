@@ -1,0 +1,9 @@
+use Rattle.ca_plane.specs.Bytes.{text_of}
+use Rattle.ca_plane.specs.Puts.{Puts}
+use Rattle.ca_rule.specs.Generations.{generations_next}
+use Rattle.ca_isotropic.specs.inner.GenerationsTables.{live_lines}
+use Rattle.ca_isotropic.proofs.generations.push_live_transitions.Given as goal
+
+-- the transitions of the numbers before are put
+abbrev pub invariant-numbers : goal.invariant-numbers
+invariant-numbers l = Puts l.initial.out.items l.out.items (text_of (live_lines (generations_next l.rule.survival l.rule.birth l.rule.states) l.number))

@@ -1,0 +1,8 @@
+use Rattle.ca_plane.specs.Bytes.{text_of}
+use Rattle.ca_plane.specs.Puts.{Puts}
+use Rattle.ca_isotropic.specs.inner.GenerationsTables.{variable_lines}
+use Rattle.ca_isotropic.proofs.generations.push_variables.Given as goal
+
+-- the lines of the variables before are put
+abbrev pub invariant-variables : goal.invariant-variables
+invariant-variables l = Puts l.initial.out.items l.out.items (text_of (variable_lines l.states l.variable))
