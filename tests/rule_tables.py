@@ -1,5 +1,5 @@
 #!/usr/bin/env -S python3 -B
-"""`cafile rule`: isotropic rules in Hensel's notation, MAP strings and B/S rules, written as rule tables, and texts that are refused.
+"""`cafile rule`: isotropic rules in Hensel's notation, MAP strings, B/S and Generations rules, written as rule tables, and texts that are refused.
 
 What is written is read by the reader of tests/lib/rule_table.py, and its next states are compared with those of tests/lib/isotropic.py and of
 tests/lib/steps.py, which know nothing of tables; and soups that the program runs under the written table with naive steps: small ones, which are leapt, and dense
@@ -24,11 +24,16 @@ ISOTROPIC = (
     "B/S", "/", "B" + "2c3a4-q" * 500 + "/S" + "23-k" * 500, *(f"B{count}{letter}/S{count}-{letter}" for count, letter in isotropic.kinds() if letter),
 )
 BS_RULES = ("B3/S23", "23/3", "s23b36", "B3678/S34678", "B2/S013V", "b13/s012v", "B2/S34H", "B24/S34h", "B/S012345678")
+GENERATIONS = (
+    "/2/3", "345/2/4", "23/3/8", "23/3/2", "332/33/03", "012345678/12345678/3", "//2", "//256", "2/2/5", "1/1/0007", "3467/25/6", "23/3/256", "8/8/3", "0/1/17",
+)
 REFUSED = (
     ("B0/S23", "wakes"), ("B03-k/S23", "wakes"), ("/0", "wakes"), ("MAP" + "/" * 85 + "w", "wakes"), ("MAP" + "/" * 86, "unknown"), ("B3/S23:T9,9", "bounded"),
     ("B2-a/S12:P3,3", "bounded"), ("", "unknown"), ("Life", "unknown"), ("B3x/S23", "unknown"), ("B1a/S23", "unknown"), ("B3-/S23", "unknown"), ("B0c/S", "unknown"),
     ("B8e/S", "unknown"), ("B9/S", "unknown"), ("B2-a/S12V", "unknown"), ("B2-a/S12H", "unknown"), ("B2a-c/S", "unknown"), ("B2--a/S", "unknown"), ("B3/S23/", "unknown"),
-    (LIFE[:-1], "unknown"), (LIFE + "A", "unknown"), (LIFE[:-1] + "=", "unknown"), ("map" + LIFE[3:], "unknown"), ("B2-a /S12", "unknown"), ("2-a/12/4", "unknown"), ("345/2/4", "unknown"), ("23/3/2", "unknown"), ("23/0/4", "unknown"),
+    (LIFE[:-1], "unknown"), (LIFE + "A", "unknown"), (LIFE[:-1] + "=", "unknown"), ("map" + LIFE[3:], "unknown"), ("B2-a /S12", "unknown"),
+    ("2-a/12/4", "unknown"), ("345/2/4V", "unknown"), ("345/2/4:T9,9", "bounded"), ("23/3/1", "unknown"), ("23/3/257", "unknown"), ("23/0/4", "wakes"), ("9/0/3", "unknown"),
+    ("23/3/", "unknown"), ("23//", "unknown"), ("/2/3/", "unknown"), ("S23/B3/8", "unknown"),
     ("Ba2/S", "unknown"), ("B2w/S", "unknown"), ("B5t/S", "unknown"),
 )
 
@@ -121,6 +126,32 @@ def next_states(text):
     return counted_bits(steps.rule_of(rule_of(text.encode())[0])) if is_known(text) else isotropic.rule_bits(text)
 
 
+def generations(runs, text):
+    """A Generations rule: each live or other ring round a cell of each state, random rings, and a soup."""
+    table, path = written(runs, text)
+    if not table:
+        return
+    rule, chance = steps.rule_of(text), random.Random(text)
+    others = [0, *range(2, rule.states)]
+    rings = [tuple(1 if number >> bit & 1 else chance.choice(others) for bit in range(8)) for number in range(256)]
+    rings += [tuple(chance.randrange(rule.states) for _ in range(8)) for _ in range(40)]
+    centres = range(rule.states) if rule.states < 20 else [0, 1, 2, 3, *chance.sample(range(4, rule.states - 2), 2), rule.states - 2, rule.states - 1]
+    if table.states != rule.states or table.ring != rule.ring:
+        runs.complaints.append(f"{text}: {table.states} states")
+    for centre in centres:
+        for ring in rings:
+            if table.next(centre, ring) != rule.next(centre, ring):
+                runs.complaints.append(f"{text}: {centre} in {ring}")
+                return
+    with open(path, encoding="ascii") as file:
+        renamed = runs.path("renamed.rule", file.read().replace(f"@RULE {text}", "@RULE Renamed", 1))
+    soup = {(x, y): chance.choice((1, 1, *range(1, rule.states))) for x in range(12) for y in range(12) if chance.random() < 0.4}
+    got = run(["convert", runs.path("soup.rle", tidy(soup, "Renamed", 0, rule.states)), "--to", "rle", "--after", "6", "--rule", renamed])
+    runs.count += 1
+    if got.status or cells_and_rule(got.printed.decode())[0] != steps.steps(soup, rule, 6):
+        runs.complaints.append(f"{text}: after 6 generations {got}")
+
+
 def is_known(text):
     """Whether the text names a rule of its own, without a table."""
     try:
@@ -152,6 +183,9 @@ def main():
         for text, side, generations in (*DENSE, *((text, 70, 32) for text in list(maps())[-3:])):
             dense_soup(runs, text, next_states(text), side, generations)
         runs.tell(tally, "dense soups")
+        for text in GENERATIONS:
+            generations(runs, text)
+        runs.tell(tally, "Generations rules")
         for text, told in REFUSED:
             runs.expect("a refused text", ["rule", text], fault(f"bad rule: {told}"))
         runs.tell(tally, "texts that are refused")
