@@ -1,16 +1,23 @@
--- The live cells of good lines are in range.
-use Rattle.std.proofs.Common.{◌≡◌, ◌≢◌, ℕ, ◌+◌, ℤ, pos, neg_ℤ, ◌+ℤ◌, ◌≤ℤ◌, ◌<ℤ◌, List, [], ◌∷◌, length, true, ◌&&◌, cond, Option, None, Some, inl, inr, sym, ap, subst, ◌∙◌, arith}
+-- The live cells of good lines are in range, and so are those of an apgcode.
+use Rattle.std.proofs.Common.{◌≡◌, ◌≢◌, ℕ, ◌+◌, ℤ, pos, negsuc, neg_ℤ, ◌+ℤ◌, ◌≤ℤ◌, ◌<ℤ◌, List, [], ◌∷◌, length, get_or, true, ◌&&◌, cond, Option, None, Some, inl, inr, refl, sym, ap, subst, ◌∙◌, arith}
 use Rattle.std.proofs.lemmas.Int.{ints}
-use Rattle.std.proofs.lemmas.Bool.{or_cases, and_parts, true≢false, cases_Bool}
+use Rattle.std.proofs.lemmas.Bool.{or_cases, and_parts, true≢false, cases_Bool, cases_eq}
+use Rattle.std.proofs.lemmas.Nat.Bits.{bit_at-lt}
 use Rattle.ca_plane.specs.declared.point.Point.{Point}
 use Rattle.ca_plane.specs.Bytes.{lines_of}
 use Rattle.ca_plane.specs.Limits.{range, IsInRange}
+use Rattle.ca_plane.specs.Shown.{from_corner}
 use Rattle.ca_plane.proofs.Pictures.{place-from_true}
+use Rattle.ca_apgcode.specs.Grids.{GridCells, cell}
+use Rattle.ca_apgcode.specs.Representation.{IsCode}
+use Rattle.ca_apgcode.proofs.Codes.{live_column, live_row}
 use Rattle.ca_rule.specs.declared.bs_rule.BsRule.{BsRule}
 use Rattle.ca_import.specs.declared.format.ImportFormat.{ImportFormat}
-use Rattle.ca_import.specs.declared.format.ImportFormat.TheVariants.{Life106, Life105, Plaintext}
+use Rattle.ca_import.specs.declared.format.ImportFormat.TheVariants.{Lines, Apgcode}
+use Rattle.ca_import.specs.declared.format.LineFormat.{LineFormat}
+use Rattle.ca_import.specs.declared.format.LineFormat.TheVariants.{Life106, Life105, Plaintext}
 use Rattle.ca_import.specs.CellLines.{CellLine, Nothing, LiveCell, Row, Corner, Rule, is_live_byte, is_at, east, is_live_in_row, is_live_in_line, is_live_in, next_row, live_count, IsRowInRange, IsLineInRange}
-use Rattle.ca_import.specs.Import.{first_row, LinesSay, IsImport}
+use Rattle.ca_import.specs.Import.{first_row, LinesSay, LinesHold, HoldsIn, IsImport}
 use Rattle.ca_import.specs.inner.Reading.{IsRowPlace, IsPlace}
 
 -- a cell of a row lies in the row
@@ -69,7 +76,7 @@ place_after_line (Corner at) place ready within =
     record { west = within.0; east = within.1; north = within.2; south = omega (arith, ints, south) }
 place_after_line (Rule rule) place ready within = ready
 
-lines_in_range : (format : ImportFormat) (place : Option Point) (count : ℕ) (lines : List (List ℕ)) (said : List CellLine) (x y : ℤ) → IsPlace place → LinesSay format place count lines said → is_live_in place said x y ≡ true → IsInRange (record { y = y; x = x })
+lines_in_range : (format : LineFormat) (place : Option Point) (count : ℕ) (lines : List (List ℕ)) (said : List CellLine) (x y : ℤ) → IsPlace place → LinesSay format place count lines said → is_live_in place said x y ≡ true → IsInRange (record { y = y; x = x })
 lines_in_range format place count [] [] x y ready h e = absurd (true≢false (sym e))
 lines_in_range format place count [] (s ∷ said) x y ready h e = absurd h
 lines_in_range format place count (l ∷ ls) [] x y ready h e = absurd h
@@ -80,14 +87,36 @@ lines_in_range format place count (l ∷ ls) (s ∷ said) x y ready h e =
       | inr later ↦ lines_in_range format (next_row s place) (count + live_count s) ls said x y (place_after_line s place ready good.within) h.2 later
     ]
 
-first_place : (format : ImportFormat) → IsPlace (first_row format)
+first_place : (format : LineFormat) → IsPlace (first_row format)
 first_place Life106 = tt
 first_place Life105 = tt
 first_place Plaintext = record { west = omega (arith, ints); east = omega (arith, ints); north = omega (arith, ints); south = omega (arith, ints) }
 
--- of an import every live cell is in range
-pub import_in_range : (bytes : List ℕ) (cells : ℤ → ℤ → ℕ) (rule : Option BsRule) → IsImport bytes cells rule → (x y : ℤ) → cells x y ≢ 0 → IsInRange (record { y = y; x = x })
-import_in_range bytes cells rule h x y live = elim (cases_Bool (is_live_in (first_row h.format) h.said x y)) [
-  | inl e ↦ lines_in_range h.format (first_row h.format) 0 (lines_of bytes) h.said x y (first_place h.format) h.say e
+good_in_range : (format : LineFormat) (bytes : List ℕ) (cells : ℤ → ℤ → ℕ) (rule : Option BsRule) → LinesHold format bytes cells rule → (x y : ℤ) → cells x y ≢ 0 → IsInRange (record { y = y; x = x })
+good_in_range format bytes cells rule h x y live = elim (cases_Bool (is_live_in (first_row format) h.said x y)) [
+  | inl e ↦ lines_in_range format (first_row format) 0 (lines_of bytes) h.said x y (first_place format) h.say e
   | inr e ↦ absurd (live (h.cells_are x y ∙ ap (λ b. cond b 1 0) e))
 ]
+
+-- a box is at most 40 by 40
+code_in_range : (box : GridCells) (text : List ℕ) → IsCode box text → (x y : ℤ) → from_corner (cell box) x y ≢ 0 → IsInRange (record { y = y; x = x })
+code_in_range box text code (pos x) (pos y) live = elim (cases_eq (cell box x y) 0) [
+  | inl none ↦ absurd (live none)
+  | inr some ↦
+      let one : cell box x y ≡ 1 = omega (arith, bit_at-lt (get_or box.columns x 0) y, some) in
+      let east = live_column box x y one in
+      let south = live_row box x y code.is_grid one in
+      let wide = code.is_grid.width in
+      let high = code.is_grid.height in
+      (omega (arith, ints), omega (arith, ints, east, wide), omega (arith, ints), omega (arith, ints, south, high))
+]
+code_in_range box text code (pos x) (negsuc y) live = absurd (live refl)
+code_in_range box text code (negsuc x) y live = absurd (live refl)
+
+held_in_range : (format : ImportFormat) (bytes : List ℕ) (cells : ℤ → ℤ → ℕ) (rule : Option BsRule) → HoldsIn format bytes cells rule → (x y : ℤ) → cells x y ≢ 0 → IsInRange (record { y = y; x = x })
+held_in_range (Lines format) bytes cells rule h x y live = good_in_range format bytes cells rule h x y live
+held_in_range Apgcode bytes cells rule h x y live = code_in_range h.box h.text h.is_code x y (λ e. live (h.cells_are x y ∙ e))
+
+-- of an import every live cell is in range
+pub import_in_range : (bytes : List ℕ) (cells : ℤ → ℤ → ℕ) (rule : Option BsRule) → IsImport bytes cells rule → (x y : ℤ) → cells x y ≢ 0 → IsInRange (record { y = y; x = x })
+import_in_range bytes cells rule h x y live = held_in_range h.format bytes cells rule h.holds x y live

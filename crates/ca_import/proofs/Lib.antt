@@ -10,3 +10,5 @@ pub mod OneLine
 pub mod OneMeaning
 pub mod InRange
 pub mod WrittenCells
+pub mod DrawnColumns
+pub mod ObjectCodes

@@ -7,11 +7,12 @@ use Rattle.ca_plane.specs.declared.point.Point.{Point}
 use Rattle.ca_plane.specs.BitPlane.{bit_cell}
 use Rattle.ca_plane.specs.Bytes.{lines_of}
 use Rattle.ca_rule.specs.declared.bs_rule.BsRule.{BsRule}
-use Rattle.ca_import.specs.declared.format.ImportFormat.{ImportFormat}
+use Rattle.ca_import.specs.declared.format.ImportFormat.TheVariants.{Lines}
+use Rattle.ca_import.specs.declared.format.LineFormat.{LineFormat}
 use Rattle.ca_import.specs.declared.fault.ImportFault.{ImportFault}
 use Rattle.ca_import.specs.declared.reading.Reading.{Reading}
 use Rattle.ca_import.specs.CellLines.{CellLine, next_row, row_after, is_live_in_line, is_live_in, next_rule, last_said_rule, live_count, said_count}
-use Rattle.ca_import.specs.Import.{import_format, LineSays, first_row, IsGoodLine, LinesSay, IsLineFault, HasFaultyLine}
+use Rattle.ca_import.specs.Import.{import_format, LineSays, first_row, IsGoodLine, LinesSay, IsLineFault, HasFaultOn}
 use Rattle.ca_import.specs.inner.Reading.{Takes, IsReading}
 
 -- ---- one more line
@@ -46,7 +47,7 @@ counted_on count t said = let e = sum_by-cons live_count t said in omega (arith,
 pub counted_none : (count : ℕ) → count + said_count [] ≡ count
 counted_none count = omega arith
 
-LinesSay-push : (format : ImportFormat) (place : Option Point) (count : ℕ) (lines : List (List ℕ)) (said : List CellLine) (l : List ℕ) (s : CellLine) → LinesSay format place count lines said
+LinesSay-push : (format : LineFormat) (place : Option Point) (count : ℕ) (lines : List (List ℕ)) (said : List CellLine) (l : List ℕ) (s : CellLine) → LinesSay format place count lines said
     → LineSays format l s → IsGoodLine s (row_after place said) (count + said_count said) → LinesSay format place count (lines ++ l ∷ []) (said ++ s ∷ [])
 LinesSay-push format place count [] [] l s h says good = (says, subst (IsGoodLine s place) (counted_none count) good, tt)
 LinesSay-push format place count [] (t ∷ said) l s h says good = absurd h
@@ -77,7 +78,7 @@ IsReading-push first said s old new h t = record {
 -- ---- line by line
 
 -- so many lines of the text are read, and these bytes are left
-pub record AreRead (format : ImportFormat) (bytes rest : List ℕ) (number : ℕ) (reading : Reading) : Type 0 where
+pub record AreRead (format : LineFormat) (bytes rest : List ℕ) (number : ℕ) (reading : Reading) : Type 0 where
   pub good : List (List ℕ)
   pub said : List CellLine
   pub lines : lines_of bytes ≡ good ++ lines_of rest
@@ -87,11 +88,11 @@ pub record AreRead (format : ImportFormat) (bytes rest : List ℕ) (number : ℕ
   pub few : number + length rest ≤ length bytes
 
 -- before the first line
-pub none_read : (format : ImportFormat) (bytes : List ℕ) (reading : Reading) → IsReading (first_row format) [] reading → AreRead format bytes bytes 0 reading
+pub none_read : (format : LineFormat) (bytes : List ℕ) (reading : Reading) → IsReading (first_row format) [] reading → AreRead format bytes bytes 0 reading
 none_read format bytes reading read =
     record { good = []; said = []; lines = refl; say = tt; read = read; counted = refl; few = omega arith }
 
-module _ (format : ImportFormat) (bytes rest : List ℕ) (number : ℕ) (reading : Reading) (front : AreRead format bytes rest number reading) where
+module _ (format : LineFormat) (bytes rest : List ℕ) (number : ℕ) (reading : Reading) (front : AreRead format bytes rest number reading) where
   -- the line that follows is good after the others where it is good as it is read
   good_after : (s : CellLine) → IsGoodLine s reading.place reading.count → IsGoodLine s (row_after (first_row format) front.said) (0 + said_count front.said)
   good_after s good =
@@ -114,17 +115,19 @@ module _ (format : ImportFormat) (bytes rest : List ℕ) (number : ℕ) (reading
       }
 
   -- the line that follows has the fault
-  pub fault_next : (line later : List ℕ) (fault : ImportFault) → import_format bytes ≡ Some format → lines_of rest ≡ line ∷ lines_of later
-      → IsLineFault fault format reading.place reading.count line → HasFaultyLine bytes fault (number + 1)
+  pub fault_next : (line later : List ℕ) (fault : ImportFault) → import_format bytes ≡ Some (Lines format) → lines_of rest ≡ line ∷ lines_of later
+      → IsLineFault fault format reading.place reading.count line → HasFaultOn bytes fault (number + 1)
   fault_next line later fault begins next faulty = record {
-    format = format;
-    good = front.good;
-    line = line;
-    later = lines_of later;
-    said = front.said;
+    format = Lines format;
     begins = begins;
-    lines_are = front.lines ∙ ap (λ l. front.good ++ l) next;
-    say = front.say;
-    faulty = subst (λ n. IsLineFault fault format (row_after (first_row format) front.said) n line) front.read.count (subst (λ p. IsLineFault fault format p reading.count line) front.read.place faulty);
-    number_is = ap (λ n. n + 1) front.counted;
+    faulty = record {
+      good = front.good;
+      line = line;
+      later = lines_of later;
+      said = front.said;
+      lines_are = front.lines ∙ ap (λ l. front.good ++ l) next;
+      say = front.say;
+      faulty = subst (λ n. IsLineFault fault format (row_after (first_row format) front.said) n line) front.read.count (subst (λ p. IsLineFault fault format p reading.count line) front.read.place faulty);
+      number_is = ap (λ n. n + 1) front.counted;
+    };
   }

@@ -11,8 +11,8 @@ use Rattle.ca_rule.specs.declared.bs_rule.BsRule.{BsRule}
 use Rattle.ca_rule.specs.Rule.{Bs, IsSameRule}
 use Rattle.ca_rule.specs.Spelling.{NamesBsRule}
 use Rattle.ca_rule.proofs.Meaning.{names-once}
-use Rattle.ca_import.specs.declared.format.ImportFormat.{ImportFormat}
-use Rattle.ca_import.specs.declared.format.ImportFormat.TheVariants.{Life106, Life105, Plaintext}
+use Rattle.ca_import.specs.declared.format.LineFormat.{LineFormat}
+use Rattle.ca_import.specs.declared.format.LineFormat.TheVariants.{Life106, Life105, Plaintext}
 use Rattle.ca_import.specs.CellLines.{CellLine, Nothing, LiveCell, Row, Corner, Rule}
 use Rattle.ca_import.specs.Rows.{is_letter_cell, IsRow}
 use Rattle.ca_import.specs.Life106.{is_remark, Life106WordsSay}
@@ -181,7 +181,7 @@ module _ (line : List ℕ) where
 
 -- ---- every format
 
-pub says_alike : (format : ImportFormat) (line : List ℕ) (s t : CellLine) → LineSays format line s → LineSays format line t → AreAlike s t
+pub says_alike : (format : LineFormat) (line : List ℕ) (s t : CellLine) → LineSays format line s → LineSays format line t → AreAlike s t
 says_alike Life106 line s t h k = life106_alike (words_of line) s t h k
 says_alike Life105 line s t h k = life105_alike line s t h k
 says_alike Plaintext line s t h k = plaintext_alike line s t h k

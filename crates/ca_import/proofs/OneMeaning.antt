@@ -2,12 +2,18 @@
 use Rattle.std.proofs.Common.{◌≡◌, ◌≢◌, ℕ, ◌+◌, ℤ, List, [], ◌∷◌, ◌++◌, ◌||◌, cond, Option, None, Some, refl, sym, ap, ap₂, subst, ◌∙◌, arith}
 use Rattle.ca_plane.specs.declared.point.Point.{Point}
 use Rattle.ca_plane.specs.Bytes.{lines_of}
+use Rattle.ca_plane.specs.Shown.{from_corner}
+use Rattle.ca_apgcode.specs.Grids.{GridCells, cell}
+use Rattle.ca_apgcode.specs.Representation.{IsCode}
+use Rattle.ca_apgcode.proofs.Codes.{one_picture}
 use Rattle.ca_rule.specs.declared.bs_rule.BsRule.{BsRule}
 use Rattle.ca_import.specs.declared.format.ImportFormat.{ImportFormat}
+use Rattle.ca_import.specs.declared.format.ImportFormat.TheVariants.{Lines, Apgcode}
+use Rattle.ca_import.specs.declared.format.LineFormat.{LineFormat}
 use Rattle.ca_import.specs.declared.fault.ImportFault.{ImportFault}
 use Rattle.ca_import.specs.declared.fault.ImportFault.TheVariants.{UnknownFormat, Syntax, NoCorner, Range, TooManyCells, Memory}
 use Rattle.ca_import.specs.CellLines.{CellLine, Nothing, LiveCell, Row, Corner, Rule, next_row, row_after, is_live_in_line, is_live_in, next_rule, last_said_rule, live_count, said_count, HasPlace, IsLineInRange}
-use Rattle.ca_import.specs.Import.{import_format, LineSays, first_row, IsGoodLine, LinesSay, IsImport, IsLineFault, HasFaultyLine, IsImportFaultOn}
+use Rattle.ca_import.specs.Import.{import_format, LineSays, first_row, IsGoodLine, LinesSay, LinesHold, CodeHolds, HoldsIn, IsImport, IsLineFault, HasFaultyLine, IsCodeFault, HasFaultyCode, HasFaultIn, HasFaultOn, IsImportFaultOn}
 use Rattle.ca_import.specs.Laws.{NameSameRule}
 use Rattle.ca_import.proofs.LinesRead.{counted_on, counted_none}
 use Rattle.ca_import.proofs.OneLine.{AreAlike, says_alike}
@@ -71,7 +77,7 @@ AllAlike [] (t ∷ told) = ⊥
 AllAlike (s ∷ said) [] = ⊥
 AllAlike (s ∷ said) (t ∷ told) = AreAlike s t × AllAlike said told
 
-all_alike : (format : ImportFormat) (place other : Option Point) (count more : ℕ) (lines : List (List ℕ)) (said told : List CellLine) → LinesSay format place count lines said → LinesSay format other more lines told → AllAlike said told
+all_alike : (format : LineFormat) (place other : Option Point) (count more : ℕ) (lines : List (List ℕ)) (said told : List CellLine) → LinesSay format place count lines said → LinesSay format other more lines told → AllAlike said told
 all_alike format place other count more [] [] [] h k = tt
 all_alike format place other count more [] [] (t ∷ told) h k = k
 all_alike format place other count more [] (s ∷ said) told h k = absurd h
@@ -95,24 +101,53 @@ all_rules rule other (s ∷ said) (t ∷ told) same h = all_rules (next_rule s r
 
 -- ---- one pattern
 
+module _ (format : LineFormat) (bytes : List ℕ) (cells others : ℤ → ℤ → ℕ) (rule other : Option BsRule) (h : LinesHold format bytes cells rule) (k : LinesHold format bytes others other) where
+  said_alike : AllAlike h.said k.said
+  said_alike = all_alike format (first_row format) (first_row format) 0 0 (lines_of bytes) h.said k.said h.say k.say
+
+  lines_cell : (x y : ℤ) → cells x y ≡ others x y
+  lines_cell x y = h.cells_are x y ∙ ap (λ b. cond b 1 0) (all_live (first_row format) h.said k.said x y said_alike) ∙ sym (k.cells_are x y)
+
+  lines_rule : NameSameRule rule other
+  lines_rule = subst (λ r. NameSameRule r other) (sym h.rule_is) (subst (NameSameRule (last_said_rule None h.said)) (sym k.rule_is) (all_rules None None h.said k.said tt said_alike))
+
+module _ (bytes : List ℕ) (cells others : ℤ → ℤ → ℕ) (rule other : Option BsRule) (h : CodeHolds bytes cells rule) (k : CodeHolds bytes others other) where
+  same_text : h.text ≡ k.text
+  same_text = let both : Some h.text ≡ Some k.text = sym h.text_is ∙ k.text_is in cc
+
+  same_box : h.box ≡ k.box
+  same_box = one_picture h.box k.box k.text (subst (IsCode h.box) same_text h.is_code) k.is_code
+
+  code_cell : (x y : ℤ) → cells x y ≡ others x y
+  code_cell x y = h.cells_are x y ∙ ap (λ b. from_corner (cell b) x y) same_box ∙ sym (k.cells_are x y)
+
+  code_rule : NameSameRule rule other
+  code_rule = subst (λ r. NameSameRule r other) (sym h.rule_is) (subst (NameSameRule None) (sym k.rule_is) tt)
+
+cell_in : (format : ImportFormat) (bytes : List ℕ) (cells others : ℤ → ℤ → ℕ) (rule other : Option BsRule) → HoldsIn format bytes cells rule → HoldsIn format bytes others other → (x y : ℤ) → cells x y ≡ others x y
+cell_in (Lines format) bytes cells others rule other h k = lines_cell format bytes cells others rule other h k
+cell_in Apgcode bytes cells others rule other h k = code_cell bytes cells others rule other h k
+
+rule_in : (format : ImportFormat) (bytes : List ℕ) (cells others : ℤ → ℤ → ℕ) (rule other : Option BsRule) → HoldsIn format bytes cells rule → HoldsIn format bytes others other → NameSameRule rule other
+rule_in (Lines format) bytes cells others rule other h k = lines_rule format bytes cells others rule other h k
+rule_in Apgcode bytes cells others rule other h k = code_rule bytes cells others rule other h k
+
 module _ (bytes : List ℕ) (cells others : ℤ → ℤ → ℕ) (rule other : Option BsRule) (h : IsImport bytes cells rule) (k : IsImport bytes others other) where
   same_format : h.format ≡ k.format
   same_format = let both : Some h.format ≡ Some k.format = sym h.begins ∙ k.begins in cc
 
-  said_alike : AllAlike h.said k.said
-  said_alike = all_alike h.format (first_row h.format) (first_row k.format) 0 0 (lines_of bytes) h.said k.said h.say (subst (λ f. LinesSay f (first_row k.format) 0 (lines_of bytes) k.said) (sym same_format) k.say)
+  also_holds : HoldsIn h.format bytes others other
+  also_holds = subst (λ f. HoldsIn f bytes others other) (sym same_format) k.holds
 
   pub one_cell_state : (x y : ℤ) → cells x y ≡ others x y
-  one_cell_state x y =
-      let live = all_live (first_row h.format) h.said k.said x y said_alike ∙ ap (λ f. is_live_in (first_row f) k.said x y) same_format in
-      h.cells_are x y ∙ ap (λ b. cond b 1 0) live ∙ sym (k.cells_are x y)
+  one_cell_state = cell_in h.format bytes cells others rule other h.holds also_holds
 
   pub one_named_rule : NameSameRule rule other
-  one_named_rule = subst (λ r. NameSameRule r other) (sym h.rule_is) (subst (NameSameRule (last_said_rule None h.said)) (sym k.rule_is) (all_rules None None h.said k.said tt said_alike))
+  one_named_rule = rule_in h.format bytes cells others rule other h.holds also_holds
 
 -- ---- no fault
 
-module _ (format : ImportFormat) (line : List ℕ) (place : Option Point) (count : ℕ) (s : CellLine) (says : LineSays format line s) (good : IsGoodLine s place count) where
+module _ (format : LineFormat) (line : List ℕ) (place : Option Point) (count : ℕ) (s : CellLine) (says : LineSays format line s) (good : IsGoodLine s place count) where
   good_line : (f : ImportFault) → f ≢ Memory → IsLineFault f format place count line → ⊥
   good_line UnknownFormat other h = h
   good_line Syntax other h = h s says
@@ -125,7 +160,7 @@ module _ (format : ImportFormat) (line : List ℕ) (place : Option Point) (count
       omega (arith, same, few, many)
   good_line Memory other h = other refl
 
-good_lines : (format : ImportFormat) (place : Option Point) (count : ℕ) (good : List (List ℕ)) (line : List ℕ) (later : List (List ℕ)) (said told : List CellLine) → LinesSay format place count (good ++ line ∷ later) said
+good_lines : (format : LineFormat) (place : Option Point) (count : ℕ) (good : List (List ℕ)) (line : List ℕ) (later : List (List ℕ)) (said told : List CellLine) → LinesSay format place count (good ++ line ∷ later) said
     → LinesSay format place count good told → (f : ImportFault) → f ≢ Memory → IsLineFault f format (row_after place told) (count + said_count told) line → ⊥
 good_lines format place count [] line later [] told h k f other faulty = h
 good_lines format place count [] line later (s ∷ said) [] h k f other faulty =
@@ -140,15 +175,33 @@ good_lines format place count (g ∷ gs) line later (s ∷ said) (t ∷ told) h 
     good_lines format (next_row t place) (count + live_count t) gs line later said told rest_says k.2 f other
     (subst (λ n. IsLineFault f format (row_after (next_row t place) told) n line) (counted_on count t told) faulty)
 
-faulty_line : (bytes : List ℕ) (cells : ℤ → ℤ → ℕ) (rule : Option BsRule) (f : ImportFault) (n : ℕ) → f ≢ Memory → IsImport bytes cells rule → HasFaultyLine bytes f n → ⊥
-faulty_line bytes cells rule f n other h k =
+faulty_line : (format : LineFormat) (bytes : List ℕ) (cells : ℤ → ℤ → ℕ) (rule : Option BsRule) (f : ImportFault) (n : ℕ) → f ≢ Memory → LinesHold format bytes cells rule → HasFaultyLine format bytes f n → ⊥
+faulty_line format bytes cells rule f n other h k =
+    let say : LinesSay format (first_row format) 0 (k.good ++ k.line ∷ k.later) h.said = subst (λ ls. LinesSay format (first_row format) 0 ls h.said) k.lines_are h.say in
+    let counted : said_count k.said ≡ 0 + said_count k.said = omega arith in
+    good_lines format (first_row format) 0 k.good k.line k.later h.said k.said say k.say f other
+    (subst (λ n. IsLineFault f format (row_after (first_row format) k.said) n k.line) counted k.faulty)
+
+code_fault : (f : ImportFault) (text : List ℕ) (box : GridCells) → f ≢ Memory → IsCode box text → IsCodeFault f text → ⊥
+code_fault Syntax text box other is h = h box is
+code_fault Memory text box other is h = other refl
+code_fault f text box other is h = h
+
+faulty_code : (bytes : List ℕ) (cells : ℤ → ℤ → ℕ) (rule : Option BsRule) (f : ImportFault) (n : ℕ) → f ≢ Memory → CodeHolds bytes cells rule → HasFaultyCode bytes f n → ⊥
+faulty_code bytes cells rule f n other h k =
+    let both : Some h.text ≡ Some k.text = sym h.text_is ∙ k.text_is in
+    let same : h.text ≡ k.text = cc in
+    code_fault f k.text h.box other (subst (IsCode h.box) same h.is_code) k.faulty
+
+faulty_in : (format : ImportFormat) (bytes : List ℕ) (cells : ℤ → ℤ → ℕ) (rule : Option BsRule) (f : ImportFault) (n : ℕ) → f ≢ Memory → HoldsIn format bytes cells rule → HasFaultIn format bytes f n → ⊥
+faulty_in (Lines format) bytes cells rule f n other h k = faulty_line format bytes cells rule f n other h k
+faulty_in Apgcode bytes cells rule f n other h k = faulty_code bytes cells rule f n other h k
+
+faulty_on : (bytes : List ℕ) (cells : ℤ → ℤ → ℕ) (rule : Option BsRule) (f : ImportFault) (n : ℕ) → f ≢ Memory → IsImport bytes cells rule → HasFaultOn bytes f n → ⊥
+faulty_on bytes cells rule f n other h k =
     let both : Some h.format ≡ Some k.format = sym h.begins ∙ k.begins in
     let same : h.format ≡ k.format = cc in
-    let say : LinesSay k.format (first_row k.format) 0 (k.good ++ k.line ∷ k.later) h.said =
-    subst (λ ls. LinesSay k.format (first_row k.format) 0 ls h.said) k.lines_are (subst (λ g. LinesSay g (first_row g) 0 (lines_of bytes) h.said) same h.say) in
-    let counted : said_count k.said ≡ 0 + said_count k.said = omega arith in
-    good_lines k.format (first_row k.format) 0 k.good k.line k.later h.said k.said say k.say f other
-    (subst (λ n. IsLineFault f k.format (row_after (first_row k.format) k.said) n k.line) counted k.faulty)
+    faulty_in k.format bytes cells rule f n other (subst (λ g. HoldsIn g bytes cells rule) same h.holds) k.faulty
 
 no_format : (bytes : List ℕ) (cells : ℤ → ℤ → ℕ) (rule : Option BsRule) → IsImport bytes cells rule → import_format bytes ≡ None → ⊥
 no_format bytes cells rule h e = let begins = h.begins in absurd cc
@@ -156,7 +209,7 @@ no_format bytes cells rule h e = let begins = h.begins in absurd cc
 pub no_fault : (bytes : List ℕ) (cells : ℤ → ℤ → ℕ) (rule : Option BsRule) (f : ImportFault) (line : Option ℕ) → f ≢ Memory → IsImport bytes cells rule → IsImportFaultOn bytes f line → ⊥
 no_fault bytes cells rule UnknownFormat line other h k = no_format bytes cells rule h k.1
 no_fault bytes cells rule Memory line other h k = other refl
-no_fault bytes cells rule Syntax line other h k = faulty_line bytes cells rule Syntax k.0 other h k.2
-no_fault bytes cells rule NoCorner line other h k = faulty_line bytes cells rule NoCorner k.0 other h k.2
-no_fault bytes cells rule Range line other h k = faulty_line bytes cells rule Range k.0 other h k.2
-no_fault bytes cells rule TooManyCells line other h k = faulty_line bytes cells rule TooManyCells k.0 other h k.2
+no_fault bytes cells rule Syntax line other h k = faulty_on bytes cells rule Syntax k.0 other h k.2
+no_fault bytes cells rule NoCorner line other h k = faulty_on bytes cells rule NoCorner k.0 other h k.2
+no_fault bytes cells rule Range line other h k = faulty_on bytes cells rule Range k.0 other h k.2
+no_fault bytes cells rule TooManyCells line other h k = faulty_on bytes cells rule TooManyCells k.0 other h k.2

@@ -3,6 +3,7 @@ pub mod Rows
 pub mod Life106
 pub mod Life105
 pub mod Plaintext
+pub mod Apgcode
 pub mod Import
 pub mod inner
 pub mod Laws

@@ -3,18 +3,30 @@
 ghost use Rattle.std.specs.Prelude.{◌≡◌, pos, negsuc, [], ◌∷◌, true, false, codes, None, Some};
 ghost use Rattle.ca_plane.specs.Bytes.{lines_of};
 ghost use Rattle.ca_import.specs.declared.fault.ImportFault.TheVariants.{NoCorner};
-ghost use Rattle.ca_import.specs.declared.format.ImportFormat.TheVariants.{Life106, Life105, Plaintext};
+ghost use Rattle.ca_import.specs.declared.format.ImportFormat.TheVariants.{Lines, Apgcode};
+ghost use Rattle.ca_import.specs.declared.format.LineFormat.TheVariants.{Life106, Life105, Plaintext};
 ghost use Rattle.ca_import.specs.CellLines.{Nothing, LiveCell, Row, Corner, is_live_in};
-ghost use Rattle.ca_import.specs.Import.{import_format, first_row, LinesSay, HasFaultyLine};
+ghost use Rattle.ca_import.specs.Import.{import_format, first_row, LinesSay, HasFaultOn, representation_text};
 
 /// The formats of small texts.
 pub fn worked_formats()
-    ensures life106 { import_format (codes "#Life 1.06\r\n1 1\n") ≡ Some Life106 }
-    ensures life105 { import_format (codes "#Life 1.05\n#P 0 0\n*\n") ≡ Some Life105 }
-    ensures comment { import_format (codes "!Name: Block\nOO\nOO\n") ≡ Some Plaintext }
-    ensures row { import_format (codes "\n.O\n") ≡ Some Plaintext }
+    ensures life106 { import_format (codes "#Life 1.06\r\n1 1\n") ≡ Some (Lines Life106) }
+    ensures life105 { import_format (codes "#Life 1.05\n#P 0 0\n*\n") ≡ Some (Lines Life105) }
+    ensures comment { import_format (codes "!Name: Block\nOO\nOO\n") ≡ Some (Lines Plaintext) }
+    ensures row { import_format (codes "\n.O\n") ≡ Some (Lines Plaintext) }
+    ensures apgcode { import_format (codes "\r\n xq4_153\n") ≡ Some Apgcode }
+    ensures two_words { import_format (codes "xq4_153 xp2_7") ≡ None }
+    ensures too_large { import_format (codes "ov_p57960") ≡ None }
     ensures rle { import_format (codes "x = 1, y = 1\no!\n") ≡ None }
     ensures no_text { import_format [] ≡ None }
+{}
+
+/// What follows the head of an apgcode.
+pub fn worked_codes()
+    ensures glider { representation_text (codes "xq4_153\n") ≡ Some (codes "153") }
+    ensures empty { representation_text (codes "xs4_") ≡ Some [] }
+    ensures no_number { representation_text (codes "xs_33") ≡ None }
+    ensures no_kind { representation_text (codes "yl1_33") ≡ None }
 {}
 
 /// What the lines of small texts say, and which cells are live.
@@ -36,5 +48,5 @@ pub fn worked_lines()
 
 /// The fault of a small text.
 pub fn worked_faults()
-    ensures no_corner { HasFaultyLine (codes "#Life 1.05\n*\n") NoCorner 2 }
+    ensures no_corner { HasFaultOn (codes "#Life 1.05\n*\n") NoCorner 2 }
 {}

@@ -2,7 +2,7 @@
 
 ghost use Rattle.std.specs.Prelude.{◌≡◌, ℕ, List};
 ghost use Rattle.ca_import.specs.declared.fault.ImportFault.TheVariants.{Memory};
-ghost use Rattle.ca_import.specs.Import.{IsImportFaultOn, HasFaultyLine};
+ghost use Rattle.ca_import.specs.Import.{IsImportFaultOn, HasFaultOn};
 
 use thiserror::Error;
 
@@ -12,7 +12,7 @@ pub enum ImportFault {
     /// The text is in none of the formats.
     #[error("an unknown format")]
     UnknownFormat,
-    /// A line is misspelled.
+    /// A line is misspelled, or an apgcode's representation is that of no cells.
     #[error("syntax")]
     Syntax,
     /// A row stands before any `#P` line.
@@ -48,7 +48,7 @@ pub struct LineFault {
 impl LineFault {
     /// What was met at the line with this number.
     pub(crate) fn at_line(fault: ImportFault, number: u64) -> LineFault
-        ensures { (bytes : List ℕ) → HasFaultyLine bytes fault number
+        ensures { (bytes : List ℕ) → HasFaultOn bytes fault number
             → IsImportFaultOn bytes result.fault result.line }
     {
         let line = match fault {

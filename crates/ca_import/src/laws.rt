@@ -1,6 +1,11 @@
-//! Laws of the formats: a text holds one pattern or has a fault.
+//! Laws of the formats: a text holds one pattern or has a fault, and codes of objects hold their cells.
 
-ghost use Rattle.std.specs.Prelude.{◌≡◌, ◌≢◌, ℕ, ℤ, List, Option};
+ghost use Rattle.std.specs.Prelude.{◌≡◌, ◌≢◌, ℕ, ◌<◌, ◌^◌, ℤ, List, Option, None, Some};
+ghost use Rattle.ca_plane.specs.Shown.{from_corner};
+ghost use Rattle.ca_apgcode.specs.Grids.{GridCells, cell};
+ghost use Rattle.ca_apgcode.specs.Objects.{code_text};
+ghost use Rattle.ca_apgcode.specs.Representation.{IsCode};
+ghost use Rattle.ca_apgcode.specs.declared.object.Kind.{Kind};
 ghost use Rattle.ca_rule.specs.declared.bs_rule.BsRule.{BsRule};
 ghost use Rattle.ca_import.specs.declared.fault.ImportFault.{ImportFault};
 ghost use Rattle.ca_import.specs.declared.fault.ImportFault.TheVariants.{Memory};
@@ -20,4 +25,11 @@ pub fn no_fault_in_a_pattern()
     ensures { (bytes : List ℕ) (cells : ℤ → ℤ → ℕ) (rule : Option BsRule) (fault : ImportFault)
         (line : Option ℕ) → fault ≢ Memory → IsImport bytes cells rule
         → IsImportFaultOn bytes fault line → ⊥ }
+{}
+
+/// A code that `ca_apgcode::object_code` writes with the representation of some cells, and a number of 64 bits, holds
+/// these cells. So do all that `identify` writes but those without a representation.
+pub fn codes_hold_their_cells()
+    ensures { (kind : Kind) (number : ℕ) (box : GridCells) (text : List ℕ) → number < 2 ^ 64
+        → IsCode box text → IsImport (code_text kind number (Some text)) (from_corner (cell box)) None }
 {}

@@ -1,8 +1,10 @@
-//! Patterns in other formats than extended RLE and macrocell: Life 1.06, Life 1.05 and Plaintext, read and
-//! written as tidy RLE or macrocell.
+//! Patterns in other formats than extended RLE and macrocell: Life 1.06, Life 1.05, Plaintext and apgcodes, read
+//! and written as tidy RLE or macrocell.
 #![tactic(auto)]
 
+mod apgcode;
 mod cell_line;
+mod code_cells;
 pub mod examples;
 mod fault;
 mod format;
@@ -17,10 +19,11 @@ mod rows;
 mod rule_text;
 mod target;
 mod text_fault;
+mod white;
 mod writing;
 
 pub use fault::{ImportFault, LineFault};
-pub use format::ImportFormat;
+pub use format::{ImportFormat, LineFormat};
 pub use import::{ImportedPattern, import_format, read_import};
 pub use target::ImportTarget;
 pub use text_fault::ImportTextFault;

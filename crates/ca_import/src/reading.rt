@@ -13,7 +13,7 @@ ghost use Rattle.ca_import.specs.inner.Reading.{IsPlace, IsRowPlace, IsReady, Ta
 
 use crate::cell_line::Line;
 use crate::fault::ImportFault;
-use crate::format::ImportFormat;
+use crate::format::LineFormat;
 use crate::life105::life105_line;
 use crate::life106::life106_line;
 use crate::plaintext::plaintext_line;
@@ -29,15 +29,15 @@ use std::alloc::Global;
 ///
 /// `Syntax` where the line says nothing that the format knows; else `Range` where its cell or its corner is
 /// out of range.
-fn read_line(format: ImportFormat, line: &[u8]) -> Result<Line<'_>, ImportFault>
+fn read_line(format: LineFormat, line: &[u8]) -> Result<Line<'_>, ImportFault>
     requires { Every (λ b. not (is_line_end b)) line.now }
     ensures said { IfOk result (IsSaid (LineSays format line.now)) }
     ensures fault { IfErr result (IsAloneFault (LineSays format line.now)) }
 {
     match format {
-        ImportFormat::Life106 => life106_line(line),
-        ImportFormat::Life105 => life105_line(line),
-        ImportFormat::Plaintext => plaintext_line(line),
+        LineFormat::Life106 => life106_line(line),
+        LineFormat::Life105 => life105_line(line),
+        LineFormat::Plaintext => plaintext_line(line),
     }
 }
 
@@ -188,7 +188,7 @@ impl Reading {
     /// # Errors
     ///
     /// The line's fault; and `Memory` where there is no memory for the cells of a good line.
-    pub(crate) fn read(&mut self, format: ImportFormat, line: &[u8]) -> Result<(), ImportFault>
+    pub(crate) fn read(&mut self, format: LineFormat, line: &[u8]) -> Result<(), ImportFault>
         requires ready { IsReady self.old }
         requires line { Every (λ b. not (is_line_end b)) line.now }
         ensures takes { OnOk result ((s : CellLine) × LineSays format line.now s × Takes s self.old self.new) }

@@ -8,7 +8,7 @@ use Rattle.ca_import.specs.declared.fault.ImportFault.TheVariants.{UnknownFormat
 use Rattle.ca_import.specs.declared.reading.Reading.{Reading}
 use Rattle.ca_import.specs.CellLines.{CellLine, next_row, row_after, said_state, next_rule, last_said_rule, is_live_in_line, live_count, said_count, HasPlace, IsLineInRange}
 use Rattle.ca_plane.specs.Bytes.{lines_of}
-use Rattle.ca_import.specs.declared.format.ImportFormat.{ImportFormat}
+use Rattle.ca_import.specs.declared.format.LineFormat.{LineFormat}
 use Rattle.ca_import.specs.Import.{IsGoodLine, LinesSay, first_row}
 
 -- a row may begin here: in the range of a file, or just south of it
@@ -54,6 +54,6 @@ pub record IsReading (first : Option Point) (said : List CellLine) (reading : Re
   pub cells : (x y : ℤ) → bit_cell reading.cells x y ≡ said_state first said x y
 
 -- the lines of the bytes say this in the format, and it is what is kept
-abbrev pub HoldsReading : ImportFormat → List ℕ → Reading → Type 0
+abbrev pub HoldsReading : LineFormat → List ℕ → Reading → Type 0
 HoldsReading format bytes reading =
     (said : List CellLine) × LinesSay format (first_row format) 0 (lines_of bytes) said × IsReading (first_row format) said reading
