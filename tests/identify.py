@@ -24,14 +24,6 @@ KNOWN = {
     "examples/reactions/eater.rle": "still", "tests/files/generations/brians_brain_oscillator.rle": "oscillator 3",
 }
 
-# Patterns whose codes are known from LifeWiki's pages on them.
-CODES = {
-    "examples/block.rle": "xs4_33", "tests/files/beehive.rle": "xs6_696", "tests/files/loaf.rle": "xs7_2596", "examples/reactions/eater.rle": "xs7_178c",
-    "examples/blinker.rle": "xp2_7", "tests/files/toad.rle": "xp2_7e", "examples/pulsar.rle": "xp3_co9nas0san9oczgoldlo0oldlogz1047210127401",
-    "tests/files/pentadecathlon.rle": "xp15_4r4z4r4", "tests/files/queen_bee_shuttle.rle": "xp30_w33z8kqrqk8zzzx33", "examples/glider.rle": "xq4_153",
-    "tests/files/lwss.rle": "xq4_6frc", "tests/files/mwss.rle": "xq4_27dee6", "tests/files/hwss.rle": "xq4_27deee6",
-}
-
 # Texts of patterns that have no code: none of the three kinds, or under a rule under which nothing has one.
 CODELESS = {
     "empty": "x = 0, y = 0\n!\n", "dies": "x = 1, y = 1\no!\n", "grows": "x = 3, y = 3\nb2o$2o$bo!\n", "hexagonal": "x = 2, y = 2, rule = B/S23H\n2o$2o!\n",
@@ -594,11 +586,11 @@ def code_of(path, *words):
 def try_codes(tally, files):
     """Codes that are known, and no others; and without the words for them not a byte more."""
     lines = []
-    for path, code in CODES.items():
+    for path, code in apgcode.KNOWN.items():
         told = run(["identify", path])
         lines.append(told.printed.decode().removeprefix("claims 2\n") + f"# {base_name(path)}: {code}\n")
         tally.expect(f"{path}: {code}", run(["identify", "--apgcode", path]), whole(lines[-1]))
-    tally.expect("all codes that are known", run(["identify", "--apgcode", *CODES]), whole("".join(lines)))
+    tally.expect("all codes that are known", run(["identify", "--apgcode", *apgcode.KNOWN]), whole("".join(lines)))
     tally.expect("a code some generations on", run(["identify", "--apgcode", "--after", "5", "examples/glider.rle"]),
                  whole(later_entry("glider", "examples/glider.rle", 5, "spaceship 4 1 1") + "# glider after 5 generations: xq4_153\n"))
     for name, text in CODELESS.items():
@@ -612,11 +604,11 @@ def try_copies(tally, files):
     """Phases of objects, turned, reflected and moved, have one code; so have random pictures of three still lifes and oscillators."""
     generator = random.Random(7)
     soups = {f"three objects, {k}": place_all(generator) for k in range(12)}
-    known = {path: rle.cells_and_rule(open(os.path.join(ROOT, path), encoding="utf-8").read())[0] for path in CODES}
+    known = {path: rle.cells_and_rule(open(os.path.join(ROOT, path), encoding="utf-8").read())[0] for path in apgcode.KNOWN}
     for name, cells in {**known, **soups}.items():
         path = files.path("first.rle", text_of(cells))
         code = code_of(path)
-        complaints = [] if code and (name not in CODES or code == CODES[name]) else [f"{code}"]
+        complaints = [] if code and (name not in apgcode.KNOWN or code == apgcode.KNOWN[name]) else [f"{code}"]
         for turn in apgcode.ORIENTATIONS:
             dx, dy = generator.randrange(-10 ** 9, 10 ** 9), generator.randrange(-10 ** 9, 10 ** 9)
             moved = files.path("moved.rle", text_of({turn(x, y): state for (x, y), state in cells.items()}, dx, dy))
@@ -629,7 +621,7 @@ def try_copies(tally, files):
 def try_large_codes(tally, files):
     """Codes of many objects side by side, also where they fill 40 by 40 cells and a little more, as they are computed here."""
     generator = random.Random(11)
-    smallest = [it for it in CODES if CODES[it][1] in "sp" and len(CODES[it]) < 9]
+    smallest = [it for it in apgcode.KNOWN if apgcode.KNOWN[it][1] in "sp" and len(apgcode.KNOWN[it]) < 9]
     own = [frozenset(rle.cells_and_rule(open(os.path.join(ROOT, it), encoding="utf-8").read())[0]) for it in smallest]
     for columns, rows in [(1, 1), (2, 1), (3, 3), (5, 5), (5, 2), (6, 5), (5, 5), (5, 5), (4, 5), (6, 6)]:
         cells = set()
@@ -649,7 +641,7 @@ def try_large_codes(tally, files):
 def place_all(generator):
     """Some of the smallest known patterns beside each other, which don't meet."""
     cells = {}
-    for column, path in enumerate(generator.sample([it for it in CODES if CODES[it][1] in "sp" and len(CODES[it]) < 9], 3)):
+    for column, path in enumerate(generator.sample([it for it in apgcode.KNOWN if apgcode.KNOWN[it][1] in "sp" and len(apgcode.KNOWN[it]) < 9], 3)):
         own, down = rle.cells_and_rule(open(os.path.join(ROOT, path), encoding="utf-8").read())[0], generator.randrange(20)
         cells |= {(x + 12 * column, y + down): state for (x, y), state in own.items()}
     return cells

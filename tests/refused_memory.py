@@ -48,7 +48,7 @@ WORDS = ("show/rle", "show/macrocell", "show/table", "show/no_table", "show/bad_
          "draw/glider", "draw/window", "draw/after", "draw/generations", "draw/table", "draw/full_square", "draw/empty", "draw/pgm", "draw/too_large",
          "draw/out_of_range", "draw/zoom",
          "show/after", "show/after_long", "show/after_work", "convert/after", "convert/after_gen_too_large",
-         "import/plaintext", "import/life_105", "import/to_macrocell", "import/faulty", "rule/all_survive")
+         "import/plaintext", "import/life_105", "import/to_macrocell", "import/faulty", "import/apgcode", "import/faulty_apgcode", "rule/all_survive")
 
 # The same with a note on the pattern's file, which may be without its faulty line or its rule.
 NOTED = ("show/explain_syntax", "show/explain_forward", "show/rules_unknown", "convert/explain_unknown", "convert/explain_too_many_cells",

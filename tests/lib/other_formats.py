@@ -1,12 +1,13 @@
-"""Reads Life 1.06, Life 1.05 and plaintext as docs/FORMATS.md says, apart from the program."""
+"""Reads Life 1.06, Life 1.05, plaintext and apgcodes as docs/FORMATS.md says, apart from the program."""
 import re
 
+from lib.apgcode import read_representation
 from lib.rle import tidy
 from lib.rle_reader import Fault, rule_of
 
 EDGE, MOST_CELLS = 1 << 60, 1 << 24
 BLANKS = b" \t\r"
-INTEGER = re.compile(rb"-?[0-9]+")
+INTEGER, CODE = re.compile(rb"-?[0-9]+"), re.compile(rb"x[spq][0-9]+_([^ \t\r\n]*)")
 STAR_ROW, LETTER_ROW = re.compile(rb"([.*]*)[ \t\r]*"), re.compile(rb"([.*O]*)[ \t\r]*")
 
 
@@ -24,7 +25,7 @@ def format_of(text):
     start = text.lstrip(BLANKS + b"\n")[:1]
     if start and start in b"!.*O":
         return b"plaintext"
-    return None
+    return b"apgcode" if CODE.fullmatch(text.strip(BLANKS + b"\n")) else None
 
 
 def integers(words):
@@ -113,11 +114,21 @@ def plaintext(reading, line):
         reading.row(row[1])
 
 
+def apgcode(text):
+    """The live cells of an apgcode."""
+    cells = read_representation(CODE.search(text)[1].decode("latin-1"))
+    if cells is None:
+        raise Fault("syntax", text[:text.index(b"x")].count(b"\n") + 1)
+    return cells
+
+
 def read(text):
     """The live cells of a text, and the rule that it names, or None; or its fault is raised, with the number of its line."""
     kind = format_of(text)
     if kind is None:
         raise Fault("unknown format")
+    if kind == b"apgcode":
+        return apgcode(text), None
     line_of = {b"Life 1.06": life_106, b"Life 1.05": life_105, b"plaintext": plaintext}[kind]
     reading = Reading((0, 0) if kind == b"plaintext" else None)
     for number, line in enumerate(lines_of(text), 1):
