@@ -15,6 +15,7 @@ const HELP: &str =
 same places, which all other commands read, and Golly too. The text says which format it is:
   Life 1.06, Life 1.05   the first line is `#Life 1.06` or `#Life 1.05`
   plaintext (.cells)     comments begin with `!`, and rows are made of `.` and `O`
+  apgcode                the only word, as xq4_153: its cells, with their corner at 0,0
 
 --rule TEXT is the rule of a text that names none: as 23/36, 345/2/4, or the name of a rule table. Unless it is
 given, that is B3/S23. Only Life 1.05 can name a rule of its own.
@@ -26,7 +27,8 @@ Examples:
   cafile import examples/other/glider.cells
   cafile import examples/other/glider.lif --to mc
   cafile import examples/other/glider.cells --rule B2-a/S12
-  cat examples/other/glider_106.lif | cafile import -";
+  cat examples/other/glider_106.lif | cafile import -
+  echo xq4_153 | cafile import -";
 
 /// What is imported.
 #[derive(Drop)]

@@ -10,6 +10,7 @@ const HELP: &str =
   an isotropic rule      in Hensel's notation, as B2-a/S12
   a MAP string           MAP and 86 characters
   a B/S rule             as B3/S23, for programs that read tables alone
+  a Generations rule     as 345/2/4, for those programs too
 
 A pattern under an isotropic rule is then run with that file: by --rule, by the line `rule PATH` of a claim text,
 or in Golly.
@@ -23,7 +24,7 @@ Examples:
 /// The command with its words.
 pub fn command<'a>(alloc: Global) -> Result<Command<'a>, AllocError> {
     Command::new(alloc, "rule")
-        .about("Writes an isotropic rule, a MAP string or a B/S rule as a rule file")
+        .about("Writes an isotropic rule, or another, as a rule file")
         .after_help(HELP)
         .arg(
             Arg::new(alloc, "TEXT")
