@@ -20,10 +20,10 @@ use Rattle.ca_text.specs.Firsts.{FirstBad}
 use Rattle.ca_text.specs.declared.asks.Asks.{Asks}
 use Rattle.ca_answers.specs.Work.{MayBeUsedUp}
 use Rattle.ca_text.specs.SomeOf.{SomeOf}
-use Rattle.ca_text.specs.Text.{Claim, patterns_of}
+use Rattle.ca_text.specs.Text.{Claim}
 use Rattle.ca_answers.specs.Files.{bytes_at}
 use Rattle.ca_pattern.specs.Means.{IsReadable, HoldsRuleText, HoldsRuledPattern, HasRuleFault, MayWantMemory}
-use Rattle.ca_text.specs.Asks.{asks_of}
+use Rattle.ca_text.specs.Kinds.{asks_of}
 use Rattle.ca_text.specs.Truth.{expected_cells, IsTrueClaim}
 use Rattle.ca_answers.specs.Refutations.{IsReason}
 use Rattle.ca_pattern.specs.NamedTables.{IsQuietTable, IsTableFault}
@@ -212,11 +212,11 @@ IsOfRuleFile files rules patterns cause path = ⊥
 
 -- the cause is that of the claim
 abbrev pub IsCauseFor : List (List ℕ × List ℕ) → List (List ℕ) → Claim → Cause → Type 0
-IsCauseFor files rules claim cause = HasCause files rules (asks_of claim.kind) (patterns_of claim) cause
+IsCauseFor files rules claim cause = HasCause files rules (asks_of claim.kind) claim.patterns cause
 
 -- no cause but out of work or memory is that of the claim: its patterns agree, and the cells that are counted aren't too many
 abbrev pub IsJudged : List (List ℕ × List ℕ) → List (List ℕ) → Claim → Picture → Picture → RuleValue → Type 0
-IsJudged files rules claim cells other rule = AgreeOn files rules (patterns_of claim) cells other rule × HasFewCounted (asks_of claim.kind) cells other
+IsJudged files rules claim cells other rule = AgreeOn files rules claim.patterns cells other rule × HasFewCounted (asks_of claim.kind) cells other
 
 -- the work that a claim may take is no more than it may need: its patterns agree, and mean cells for which so much may be used up
 abbrev pub MayUseUp : List (List ℕ × List ℕ) → List (List ℕ) → (work : ℕ) → Claim → Type 0

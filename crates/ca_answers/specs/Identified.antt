@@ -7,8 +7,10 @@ use Rattle.ca_plane.specs.Population.{HasPopulation}
 use Rattle.ca_quad.specs.Trees.{HoldsAll}
 use Rattle.ca_rule.specs.TableNext.{TableRule}
 use Rattle.ca_rule.specs.Rule.{RuleValue, next_of}
-use Rattle.ca_text.specs.declared.line.Kind.{Kind}
-use Rattle.ca_text.specs.declared.line.Kind.TheVariants as kind
+use Rattle.ca_text.specs.declared.asks.Expected.{Expected}
+use Rattle.ca_text.specs.declared.asks.Expected.TheVariants.{Own, Other, NoCells}
+use Rattle.ca_text.specs.declared.kind.Kind.{Kind}
+use Rattle.ca_text.specs.declared.kind.Kind.TheVariants as kind
 use Rattle.ca_answers.specs.declared.identity.Identity.{Identity}
 use Rattle.ca_answers.specs.declared.identity.Identity.TheVariants.{Empty, StillLife, Oscillator, Spaceship, Dies, Unknown}
 use Rattle.ca_answers.specs.declared.identity.Growth.{Growth}
@@ -16,20 +18,16 @@ use Rattle.ca_answers.specs.declared.scope.Scope.{Scope}
 use Rattle.ca_answers.specs.declared.scope.Look.{Look}
 use Rattle.ca_pattern.specs.declared.located_fault.LocatedFault.{LocatedFault}
 use Rattle.ca_pattern.specs.declared.located_fault.LocatedFault.TheVariants.{Work}
-use Rattle.ca_text.specs.Text.{HasGoodNumbers}
-use Rattle.ca_text.specs.Asks.{asks_of}
+use Rattle.ca_text.specs.Kinds.{HasGoodNumbers, asks_of}
 use Rattle.ca_text.specs.Truth.{IsTrueClaim}
 use Rattle.ca_pattern.specs.Evolved.{HoldsSmallRuledPattern, run_work}
 use Rattle.ca_pattern.specs.LocatedFaults.{IsOpeningFault}
 
--- a claim of this kind is about one pattern alone
-abbrev pub IsOfOnePattern : Kind → Type 0
-IsOfOnePattern kind.Still = Unit {0}
-IsOfOnePattern (kind.Oscillator period) = Unit {0}
-IsOfOnePattern (kind.Spaceship period dx dy) = Unit {0}
-IsOfOnePattern (kind.Becomes generations) = ⊥
-IsOfOnePattern (kind.BecomesShifted generations dx dy) = ⊥
-IsOfOnePattern (kind.Dies generations) = Unit {0}
+-- these expected cells are of no other pattern
+abbrev pub AreOfNoOther : Expected → Type 0
+AreOfNoOther Own = Unit {0}
+AreOfNoOther Other = ⊥
+AreOfNoOther NoCells = Unit {0}
 
 -- a claim of this kind, which has good numbers and a time of at most the limit, is true of the cells
 pub record IsTrueWithin (next : List ℕ → ℕ) (cells : Picture) (limit : ℕ) (kind : Kind) : Type 0 where
@@ -39,7 +37,7 @@ pub record IsTrueWithin (next : List ℕ → ℕ) (cells : Picture) (limit : ℕ
 
 -- no claim about the one pattern whose time is at least 1, and at most the limit, is true of the cells
 abbrev pub HasNoTrueClaim : (List ℕ → ℕ) → Picture → ℕ → Type 0
-HasNoTrueClaim next cells limit = (kind : Kind) → IsOfOnePattern kind → 1 ≤ (asks_of kind).generations → (asks_of kind).generations ≤ limit
+HasNoTrueClaim next cells limit = (kind : Kind) → AreOfNoOther (asks_of kind).expected → 1 ≤ (asks_of kind).generations → (asks_of kind).generations ≤ limit
     → IsTrueClaim next cells cells (asks_of kind) → ⊥
 
 -- so many cells of the plane are live, and this is the least box round them

@@ -14,7 +14,7 @@ use Rattle.ca_plane.proofs.Decimals.{decimal_writes, signed_writes}
 use Rattle.ca_plane.proofs.Fronts.{every_append}
 use Rattle.ca_rule.specs.Rule.{next_of}
 use Rattle.ca_rule.specs.TableNext.{TableRule}
-use Rattle.ca_text.specs.declared.line.Kind.TheVariants as kind
+use Rattle.ca_text.specs.declared.kind.Kind.TheVariants as kind
 use Rattle.ca_answers.specs.declared.identity.Identity.{Identity}
 use Rattle.ca_answers.specs.declared.identity.Growth.{Growth}
 use Rattle.ca_pattern.specs.declared.cause.Cause.{Cause}
@@ -82,12 +82,12 @@ identity_said : (next : List ℕ → ℕ) (cells : Picture) (limit : ℕ) (earli
 identity_said next cells limit earlier name Empty is word loaded second =
     says_comment earlier _ (line_more (escaped name) _ (escaped_inner name) (line_more (codes ": no cell is live") _ refl line_end))
 identity_said next cells limit earlier name StillLife is word loaded second =
-    says_words earlier (codes "still" ∷ name ∷ []) (claim_line name kind.Still) (refl, (word, tt)) refl ((refl, refl), tt) (tt, (loaded, tt))
+    says_words earlier (codes "still" ∷ name ∷ []) (claim_line name kind.Still) (refl, (word, tt)) refl (([], refl, (refl, refl)), λ _. second) (tt, (loaded, loaded))
 identity_said next cells limit earlier name (Oscillator period) is word loaded second =
     let good = is.numbers in
     let writes = decimal_writes period (omega (arith, good.1)) in
     says_words earlier (codes "oscillator" ∷ name ∷ decimal period ∷ []) (claim_line name (kind.Oscillator period)) (refl, (word, (digits_word (decimal period) writes.0, tt))) refl
-    ((decimal period, refl, writes.0, writes.1, refl), tt) (good, (loaded, tt))
+    ((decimal period ∷ [], refl, (decimal period, refl, writes.0, writes.1, refl)), λ _. second) (good, (loaded, loaded))
 identity_said next cells limit earlier name (Spaceship period dx dy) is word loaded second =
     let good = is.numbers in
     let writes = decimal_writes period (omega (arith, good.1)) in
@@ -95,12 +95,12 @@ identity_said next cells limit earlier name (Spaceship period dx dy) is word loa
     let y = signed_writes greatest_shift dy (omega arith) good.3 in
     says_words earlier (codes "spaceship" ∷ name ∷ decimal period ∷ signed_decimal dx ∷ signed_decimal dy ∷ []) (claim_line name (kind.Spaceship period dx dy))
     (refl, (word, (digits_word (decimal period) writes.0, (integer_word (signed_decimal dx) dx x, (integer_word (signed_decimal dy) dy y, tt))))) refl
-    ((decimal period, signed_decimal dx, signed_decimal dy, refl, writes.0, writes.1, x, y, refl), tt) (good, (loaded, tt))
+    ((decimal period ∷ signed_decimal dx ∷ signed_decimal dy ∷ [], refl, (decimal period, signed_decimal dx, signed_decimal dy, refl, writes.0, writes.1, x, y, refl)), λ _. second) (good, (loaded, loaded))
 identity_said next cells limit earlier name (Dies generations) is word loaded second =
     let good = is.numbers in
     let writes = decimal_writes generations (omega (arith, good.1)) in
     says_words earlier (codes "dies" ∷ name ∷ decimal generations ∷ []) (claim_line name (kind.Dies generations)) (refl, (word, (digits_word (decimal generations) writes.0, tt))) refl
-    ((decimal generations, refl, writes.0, writes.1, refl), second) (good, (loaded, tt))
+    ((decimal generations ∷ [], refl, (decimal generations, refl, writes.0, writes.1, refl)), λ _. second) (good, (loaded, loaded))
 identity_said next cells limit earlier name (Unknown growth) is word loaded second =
     says_comment earlier _ (line_more (escaped name) _ (escaped_inner name) (line_more (codes ": ") _ refl (line_more (none_text limit limit growth) _ (none_inner limit limit growth) line_end)))
 

@@ -2,10 +2,11 @@
 use Rattle.std.specs.Prelude.{◌≡◌, ℕ, List, [], ◌∷◌, ◌++◌, map, true, Option, None, Vec, nat_eq, if◌then◌else◌}
 use Rattle.std.specs.declared.alloc.Global.{Global}
 use Rattle.std.specs.List.{flat_map, AllByRecursion}
-use Rattle.ca_text.specs.declared.line.Kind.{Kind}
-use Rattle.ca_text.specs.declared.line.Kind.TheVariants as kind
+use Rattle.ca_text.specs.declared.kind.Kind.{Kind}
+use Rattle.ca_text.specs.declared.kind.Kind.TheVariants as kind
 use Rattle.ca_answers.specs.declared.identity.Identity.{Identity}
 use Rattle.ca_answers.specs.declared.identity.Identity.TheVariants.{Empty, StillLife, Oscillator, Spaceship, Dies, Unknown}
+use Rattle.ca_text.specs.Both.{twice}
 use Rattle.ca_text.specs.Text.{ClaimTextLine, Version, Rule, Load, Claims, IsClaimText, said_lines}
 use Rattle.ca_catalog.specs.declared.entry.Outcome.{Outcome}
 use Rattle.ca_catalog.specs.declared.entry.Outcome.TheVariants.{Identified}
@@ -18,7 +19,7 @@ use Rattle.ca_catalog.specs.Catalog.{IsCatalog}
 
 -- a claim of this kind about the pattern of a name
 abbrev pub claim_line : List ℕ → Kind → ClaimTextLine
-claim_line name kind = Claims (record { pattern = name; other = None; kind = kind })
+claim_line name kind = Claims (record { patterns = twice name; kind = kind })
 
 -- the claim that says what a pattern is; none where none of them is true of it
 abbrev pub identity_says : List ℕ → Identity → List ClaimTextLine

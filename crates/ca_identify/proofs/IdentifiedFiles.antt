@@ -14,7 +14,7 @@ use Rattle.ca_text.specs.declared.asks.Expected.{Expected}
 use Rattle.ca_text.specs.declared.asks.Expected.TheVariants.{Own, Other, NoCells}
 use Rattle.ca_text.specs.declared.asks.Forbidden.{Forbidden}
 use Rattle.ca_text.specs.declared.asks.Forbidden.TheVariants.{Nothing, InPlace, Anywhere, EmptyPlane}
-use Rattle.ca_text.specs.declared.line.Kind.{Kind}
+use Rattle.ca_text.specs.declared.kind.Kind.{Kind}
 use Rattle.ca_answers.specs.declared.identity.Identity.{Identity}
 use Rattle.ca_answers.specs.declared.identity.Identity.TheVariants.{Empty, StillLife, Oscillator, Spaceship, Dies, Unknown}
 use Rattle.ca_answers.specs.declared.scope.Scope.{Scope}
@@ -22,7 +22,7 @@ use Rattle.ca_answers.specs.declared.scope.Look.{Look}
 use Rattle.ca_pattern.specs.declared.pattern.Pattern.{Pattern}
 use Rattle.ca_pattern.specs.declared.pattern.StoredTree.{StoredTree}
 use Rattle.ca_answers.specs.Identified.{IsTrueWithin, IsIdentity, IsLookAt, MayNeedWorkAfter}
-use Rattle.ca_text.specs.Asks.{asks_of}
+use Rattle.ca_text.specs.Kinds.{asks_of}
 use Rattle.ca_text.specs.Truth.{expected_cells, IsTrueClaim, ShowsNothingForbidden}
 use Rattle.ca_pattern.specs.Evolved.{IsPatternAfter}
 use Rattle.ca_pattern.specs.Means.{MayWantMemory}

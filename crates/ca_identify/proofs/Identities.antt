@@ -12,7 +12,7 @@ use Rattle.ca_quad.specs.Boxes.{IsDead}
 use Rattle.ca_quad.specs.Trees as trees
 use Rattle.ca_work.specs.declared.fault.LeapFault.{LeapFault}
 use Rattle.ca_plane.proofs.After.{after_same}
-use Rattle.ca_text.specs.declared.line.Kind.TheVariants as kind
+use Rattle.ca_text.specs.declared.kind.Kind.TheVariants as kind
 use Rattle.ca_identify.specs.declared.identification.ending.Ending.TheVariants.{Death}
 use Rattle.ca_identify.specs.declared.identification.stage.First.{First}
 use Rattle.ca_identify.specs.declared.identification.stage.Stage.TheVariants.{Other}
@@ -63,11 +63,10 @@ module _ (next : List ℕ → ℕ) (p : ℤ → ℤ → ℕ) (cells : Picture) (
   none_true limit others kind.Still one some within true = picture_nowhere 1 (others 1 some within).1 (pos 0) (pos 0) true.stands
   none_true limit others (kind.Oscillator n) one some within true = picture_nowhere n (others n some within).1 (pos 0) (pos 0) true.stands
   none_true limit others (kind.Spaceship n dx dy) one some within true = picture_nowhere n (others n some within).1 dx dy true.stands
-  none_true limit others (kind.Becomes n) one some within true = absurd one
-  none_true limit others (kind.BecomesShifted n dx dy) one some within true = absurd one
   none_true limit others (kind.Dies n) one some within true =
       let live = picture_lives n (others n some within).0 in
       live.2 (true.stands live.0 live.1)
+  none_true limit others kind one some within true = absurd one
 
   -- a plane that is live and no other one till then is live at each time before
   lives_before : (n : ℕ) → HasLive p → ((m : ℕ) → 1 ≤ m → m < n → IsStage p (cells_after next p m) Other) → (k : ℕ) → k < n → IsLiveAfter next cells k
@@ -95,11 +94,10 @@ none_back : (next : List ℕ → ℕ) → next (replicate 9 0) ≡ 0 → (cells 
 none_back next quiet cells limit without alive kind.Still one some within true = without 1 some within (pos 0) (pos 0) true.stands
 none_back next quiet cells limit without alive (kind.Oscillator n) one some within true = without n some within (pos 0) (pos 0) true.stands
 none_back next quiet cells limit without alive (kind.Spaceship n dx dy) one some within true = without n some within dx dy true.stands
-none_back next quiet cells limit without alive (kind.Becomes n) one some within true = absurd one
-none_back next quiet cells limit without alive (kind.BecomesShifted n dx dy) one some within true = absurd one
 none_back next quiet cells limit without alive (kind.Dies n) one some within true =
     let live = live_at_all next cells quiet n limit within alive in
     live.2 (true.stands live.0 live.1)
+none_back next quiet cells limit without alive kind one some within true = absurd one
 
 -- ---- a pattern that is back for the first time
 

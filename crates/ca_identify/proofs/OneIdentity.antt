@@ -15,7 +15,7 @@ use Rattle.ca_plane.proofs.After.{after_same, after_seen}
 use Rattle.ca_steps.proofs.Returns.{after_stands, back_times, vector_times}
 use Rattle.ca_steps.proofs.Vectors.{no_vector, live-moved}
 use Rattle.ca_text.specs.declared.asks.Forbidden.TheVariants.{InPlace, Anywhere, EmptyPlane}
-use Rattle.ca_text.specs.declared.line.Kind.TheVariants as kind
+use Rattle.ca_text.specs.declared.kind.Kind.TheVariants as kind
 use Rattle.ca_answers.specs.declared.identity.Growth.{Growth}
 use Rattle.ca_answers.specs.declared.identity.Identity.{Identity}
 use Rattle.ca_answers.specs.declared.identity.Identity.TheVariants.{Empty, StillLife, Oscillator, Spaceship, Dies, Unknown}

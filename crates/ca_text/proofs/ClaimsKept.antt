@@ -2,21 +2,13 @@
 use Rattle.std.proofs.Common.{◌≡◌, ℕ, ◌<◌, List, map, length, get_or, option_map, slice_get, Some, sym, ap, subst, ◌∙◌}
 use Rattle.std.proofs.lemmas.List.{length-map}
 use Rattle.std.proofs.lemmas.Option.{same_Some, slice_get-map, slice_get_read}
-use Rattle.ca_text.specs.declared.both.Both.{Both}
 use Rattle.ca_text.specs.declared.line.Claim.{Claim as ClaimOf}
 use Rattle.ca_text.specs.declared.line.ClaimLine.{ClaimLine}
 use Rattle.ca_text.specs.declared.line.NamePlace.{NamePlace}
 use Rattle.ca_text.specs.declared.line.NamedPath.{NamedPath}
 use Rattle.ca_text.specs.Both.{map_both}
-use Rattle.ca_text.specs.Text.{Claim, patterns_of, map_patterns, by_path, named_patterns}
+use Rattle.ca_text.specs.Text.{Claim, map_patterns, by_path, named_patterns}
 use Rattle.ca_text.specs.Places.{path_at, claim_with_paths, named_at, claim_with_names, named_path}
-use Rattle.ca_text.proofs.ClaimPatterns.{paths_of, about_twice}
-
--- the claim about the paths alone
-by_place : (names paths : List (List ℕ)) (l : ClaimLine NamePlace) → by_path (claim_with_names names paths l) ≡ claim_with_paths paths (record { line = l.line; claim = map_patterns (λ p. p.path) l.claim })
-by_place names paths l =
-    let same = about_twice (named_at names paths) (λ p. p.1) l.claim ∙ sym (about_twice (λ p. p.path) (path_at paths) l.claim) in
-    λ i. (l.line, same i)
 
 module _ (names paths : List (List ℕ)) (claims : List (ClaimLine NamePlace)) where
   -- there are as many
@@ -33,22 +25,17 @@ module _ (names paths : List (List ℕ)) (claims : List (ClaimLine NamePlace)) w
   -- and about the paths alone
   pub claim_at : (i : ℕ) (l : ClaimLine NamePlace) (claim : ClaimOf ℕ) → i < length (map by_path (map (claim_with_names names paths) claims)) → l ≡ get_or claims i l → claim ≡ map_patterns (λ p. p.path) l.claim
       → slice_get (map by_path (map (claim_with_names names paths) claims)) i ≡ Some (claim_with_paths paths (record { line = l.line; claim = claim }))
-  claim_at i l claim within at same = stands_for by_path i l within at ∙ ap Some (by_place names paths l) ∙ ap (λ k. Some (claim_with_paths paths (record { line = l.line; claim = k }))) (sym same)
+  claim_at i l claim within at same = stands_for by_path i l within at ∙ ap (λ k. Some (claim_with_paths paths (record { line = l.line; claim = k }))) (sym same)
 
   -- and the names and paths of its patterns
-  pub patterns_at : (i : ℕ) (l : ClaimLine NamePlace) (places : Both NamePlace) → i < length (map by_path (map (claim_with_names names paths) claims)) → l ≡ get_or claims i l → places ≡ patterns_of l.claim
-      → slice_get (map named_patterns (map (claim_with_names names paths) claims)) i ≡ Some (map_both (named_at names paths) places)
-  patterns_at i l places within at same =
-      let inside = subst (λ n. i < n) (as_many by_path ∙ sym (as_many named_patterns)) within in
-      stands_for named_patterns i l inside at ∙ ap Some (paths_of (named_at names paths) l.claim ∙ ap (map_both (named_at names paths)) (sym same))
+  pub patterns_at : (i : ℕ) (l : ClaimLine NamePlace) → i < length (map by_path (map (claim_with_names names paths) claims)) → l ≡ get_or claims i l
+      → slice_get (map named_patterns (map (claim_with_names names paths) claims)) i ≡ Some (map_both (named_at names paths) l.claim.patterns)
+  patterns_at i l within at = stands_for named_patterns i l (subst (λ n. i < n) (as_many by_path ∙ sym (as_many named_patterns)) within) at
 
   -- its patterns are at these places
-  pub patterns_claimed : (i : ℕ) (l : ClaimLine NamePlace) (places : Both NamePlace) → i < length (map by_path (map (claim_with_names names paths) claims)) → l ≡ get_or claims i l → places ≡ patterns_of l.claim
-      → (claim : ℕ × Claim) → slice_get (map by_path (map (claim_with_names names paths) claims)) i ≡ Some claim → patterns_of claim.1 ≡ map_both (λ p. path_at paths p.path) places
-  patterns_claimed i l places within at same claim is =
-      let one = same_Some claim (by_path (claim_with_names names paths l)) (sym is ∙ stands_for by_path i l within at) in
-      ap (λ c. patterns_of c.1) one ∙ ap patterns_of (about_twice (named_at names paths) (λ p. p.1) l.claim) ∙ paths_of (λ p. path_at paths p.path) l.claim
-      ∙ ap (map_both (λ p. path_at paths p.path)) (sym same)
+  pub patterns_claimed : (i : ℕ) (l : ClaimLine NamePlace) → i < length (map by_path (map (claim_with_names names paths) claims)) → l ≡ get_or claims i l
+      → (claim : ℕ × Claim) → slice_get (map by_path (map (claim_with_names names paths) claims)) i ≡ Some claim → claim.1.patterns ≡ map_both (λ p. path_at paths p.path) l.claim.patterns
+  patterns_claimed i l within at claim is = ap (λ c. c.1.patterns) (same_Some claim (by_path (claim_with_names names paths l)) (sym is ∙ stands_for by_path i l within at))
 
 -- a name that was looked up, and its path
 pub looked_up : (names paths : List (List ℕ)) (place : NamePlace) (n : NamedPath) → n.name.now ≡ path_at names place.name → n.path ≡ place.path → named_at names paths place ≡ named_path paths n

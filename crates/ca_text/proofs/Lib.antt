@@ -1,7 +1,7 @@
-pub mod ClaimPatterns
 pub mod DistinctItems
 pub mod PathLists
 pub mod HeldNumbers
+pub mod KindWords
 pub mod LinesSaid
 pub mod ClaimsKept
 pub mod PathMarks

@@ -1,6 +1,5 @@
 -- What is kept of the lines so far, after one more line.
 use Rattle.std.proofs.Common.{◌≡◌, ℕ, ◌+◌, ◌<◌, true, false, List, [], ◌∷◌, ◌++◌, map, slice_get, length, All, ◌≤◌, Option, Some, None, Result, Ok, Err, is_ok, IfErr, OnOk, unwrap_or, is_some, IsSome, refl, sym, ap, subst, ◌∙◌, inl, inr, arith}
-use Rattle.std.specs.List.{AllByRecursion}
 use Rattle.std.specs.Map.{update}
 use Rattle.std.specs.Option.{option_or}
 use Rattle.std.specs.Str.{bytes_eq}
@@ -9,17 +8,18 @@ use Rattle.std.proofs.lemmas.List.{append-nil, map-append, length_push}
 use Rattle.std.proofs.lemmas.List.Elements.{All-head, All-tail, All-weaker, All-push}
 use Rattle.std.proofs.lemmas.Option.{slice_get_within}
 use Rattle.std.proofs.lemmas.Slice.Eq.{bytes_eq-Decides}
+use Rattle.ca_text.specs.declared.both.Both.{Both}
 use Rattle.ca_text.specs.declared.line.Claim.{Claim as ClaimOf}
 use Rattle.ca_text.specs.declared.line.ClaimLine.{ClaimLine}
 use Rattle.ca_text.specs.declared.line.NamePlace.{NamePlace}
 use Rattle.ca_text.specs.Both.{HoldsOfBoth}
 use Rattle.ca_text.specs.Places.{path_at, named_at, claim_with_names, IsNamed}
-use Rattle.ca_text.specs.Text.{Claim, names_of, patterns_of, map_patterns, HasGoodNumbers, ClaimTextLine, Version, Rule, Load, Claims, path_of, AreLoaded, IsAllowedLine, is_second, said_lines, rule_paths, file_paths, paths_once, claims_from}
+use Rattle.ca_text.specs.Kinds.{HasGoodNumbers}
+use Rattle.ca_text.specs.Text.{Claim, map_patterns, ClaimTextLine, Version, Rule, Load, Claims, path_of, AreLoaded, IsAllowedLine, is_second, said_lines, rule_paths, file_paths, paths_once, claims_from}
 use Rattle.ca_text.specs.declared.version.TextVersion.{TextVersion}
 use Rattle.ca_text.specs.declared.version.TextVersion.TheVariants.{Open, First, Second}
 use Rattle.ca_text.specs.Words.{with_word}
 use Rattle.ca_text.specs.inner.Reading.{IsVersionAfter, KeepsClaimLines, StandsAt, AreKnownNames, known_place, at_places}
-use Rattle.ca_text.proofs.ClaimPatterns.{paths_of, about_same, about_twice, named_both}
 use Rattle.ca_text.proofs.PathLists.{paths_once-push, stays_before, stands_last, kept_place, no_fewer}
 use Rattle.ca_text.proofs.LinesSaid.{spoken-append, rule_paths-append, file_paths-append, path_of-append, claims_from-append}
 
@@ -38,10 +38,16 @@ option_or_none : (o : Option (List ℕ)) → option_or o None ≡ o
 option_or_none None = refl
 option_or_none (Some p) = refl
 
--- what holds of each element holds where something weaker does
-AllByRecursion-weaker : {X : Type 0} (P Q : X → Type 0) → ((x : X) → P x → Q x) → (xs : List X) → AllByRecursion P xs → AllByRecursion Q xs
-AllByRecursion-weaker P Q f [] h = tt
-AllByRecursion-weaker P Q f (x ∷ xs) h = (f x h.0, AllByRecursion-weaker P Q f xs h.1)
+-- what holds of both holds where something weaker does
+both_weaker : {X : Type 0} (P Q : X → Type 0) → ((x : X) → P x → Q x) → (both : Both X) → HoldsOfBoth P both → HoldsOfBoth Q both
+both_weaker P Q f both h = (f both.first h.0, f both.second h.1)
+
+-- patterns that are given the same make the same claim
+about_same : {P Q : Type 0} (f g : P → Q) (claim : ClaimOf P) → HoldsOfBoth (λ p. f p ≡ g p) claim.patterns → map_patterns f claim ≡ map_patterns g claim
+about_same f g claim h =
+    let first = h.0 in
+    let second = h.1 in
+    λ i. record { patterns = record { first = first i; second = second i }; kind = claim.kind }
 
 -- the texts of a list keep their places in another, which is no shorter
 pub record Grown (old new : List (List ℕ)) : Type 0 where
@@ -88,12 +94,12 @@ module _ (names after paths more : List (List ℕ)) (grown : Grown names after) 
   claim_kept : (l : ClaimLine NamePlace) → IsNamed names paths l.claim → claim_with_names after more l ≡ claim_with_names names paths l
   claim_kept l h =
       let same = about_same (named_at after more) (named_at names paths) l.claim
-      (named_kept (patterns_of l.claim).first h.within.0, named_kept (patterns_of l.claim).second h.within.1) in
+      (named_kept l.claim.patterns.first h.within.0, named_kept l.claim.patterns.second h.within.1) in
       λ i. (l.line, same i)
 
   -- which are there
   named_there : (claim : ClaimOf NamePlace) → IsNamed names paths claim → IsNamed after more claim
-  named_there claim h = record { within = (still_there (patterns_of claim).first h.within.0, still_there (patterns_of claim).second h.within.1); numbers = h.numbers }
+  named_there claim h = record { within = (still_there claim.patterns.first h.within.0, still_there claim.patterns.second h.within.1); numbers = h.numbers }
     where
       still_there : (p : NamePlace) → (p.name < length names) × (p.path < length paths) → (p.name < length after) × (p.path < length more)
       still_there p lt = (omega (arith, lt.0, grown.no_shorter), omega (arith, lt.1, longer.no_shorter))
@@ -275,12 +281,12 @@ module _ (said : List (Option ClaimTextLine)) (names paths : List (List ℕ)) (r
   loaded_known name None found at loaded = absurd (false≢true (sym (ap is_some at) ∙ loaded))
   loaded_known name (Some p) found at loaded = refl
 
-  -- so are all names of a claim
-  pub names_loaded : (claim : Claim) → AreKnownNames places claim → AreLoaded (said_lines said) (names_of claim)
-  names_loaded claim = AllByRecursion-weaker (λ n. IsSome (places n)) (λ n. IsSome (path_of (said_lines said) n)) (λ n. known_loaded n (places n) (path_of (said_lines said) n) (read.known n)) (names_of claim)
+  -- so are both names of a claim
+  pub names_loaded : (claim : Claim) → AreKnownNames places claim → AreLoaded (said_lines said) claim.patterns
+  names_loaded claim = both_weaker (λ n. IsSome (places n)) (λ n. IsSome (path_of (said_lines said) n)) (λ n. known_loaded n (places n) (path_of (said_lines said) n) (read.known n)) claim.patterns
 
-  pub names_known : (claim : Claim) → AreLoaded (said_lines said) (names_of claim) → AreKnownNames places claim
-  names_known claim = AllByRecursion-weaker (λ n. IsSome (path_of (said_lines said) n)) (λ n. IsSome (places n)) (λ n. loaded_known n (places n) (path_of (said_lines said) n) (read.known n)) (names_of claim)
+  pub names_known : (claim : Claim) → AreLoaded (said_lines said) claim.patterns → AreKnownNames places claim
+  names_known claim = both_weaker (λ n. IsSome (path_of (said_lines said) n)) (λ n. IsSome (places n)) (λ n. loaded_known n (places n) (path_of (said_lines said) n) (read.known n)) claim.patterns
 
   -- a known name and its path stand at its place
   place_named : (name : List ℕ) (o : Option NamePlace) (found : Option (List ℕ)) → StandsAt names paths name o found → IsSome o → named_at names paths (known_place o) ≡ (name, unwrap_or found [])
@@ -298,21 +304,17 @@ module _ (said : List (Option ClaimTextLine)) (names paths : List (List ℕ)) (r
   -- so a claim at its names' places is about the names, and the paths that are loaded
   places_named : (claim : Claim) → AreKnownNames places claim → map_patterns (named_at names paths) (at_places places claim) ≡ map_patterns (λ name. (name, unwrap_or (path_of (said_lines said) name) [])) claim
   places_named claim known =
-      about_twice (λ name. known_place (places name)) (named_at names paths) claim
-      ∙ about_same (λ name. named_at names paths (known_place (places name))) (λ name. (name, unwrap_or (path_of (said_lines said) name) [])) claim
-      (named_both (λ n. named_at names paths (known_place (places n)) ≡ (n, unwrap_or (path_of (said_lines said) n) [])) claim
-      (AllByRecursion-weaker (λ n. IsSome (places n)) (λ n. named_at names paths (known_place (places n)) ≡ (n, unwrap_or (path_of (said_lines said) n) []))
-      (λ n. place_named n (places n) (path_of (said_lines said) n) (read.known n)) (names_of claim) known))
+      about_same (λ name. named_at names paths (known_place (places name))) (λ name. (name, unwrap_or (path_of (said_lines said) name) [])) claim
+      (both_weaker (λ n. IsSome (places n)) (λ n. named_at names paths (known_place (places n)) ≡ (n, unwrap_or (path_of (said_lines said) n) []))
+      (λ n. place_named n (places n) (path_of (said_lines said) n) (read.known n)) claim.patterns known)
 
   -- and these are kept
   places_there : (claim : Claim) → AreKnownNames places claim → HasGoodNumbers claim.kind → IsNamed names paths (at_places places claim)
-  places_there claim known good =
-      let is_within : NamePlace → Type 0 = λ p. (p.name < length names) × (p.path < length paths) in
-      record {
-        within = subst (HoldsOfBoth is_within) (sym (paths_of (λ name. known_place (places name)) claim)) (named_both (λ n. is_within (known_place (places n))) claim
-            (AllByRecursion-weaker (λ n. IsSome (places n)) (λ n. is_within (known_place (places n))) (λ n. place_within n (places n) (path_of (said_lines said) n) (read.known n)) (names_of claim) known));
-        numbers = good;
-      }
+  places_there claim known good = record {
+    within = both_weaker (λ n. IsSome (places n)) (λ n. ((known_place (places n)).name < length names) × ((known_place (places n)).path < length paths))
+        (λ n. place_within n (places n) (path_of (said_lines said) n) (read.known n)) claim.patterns known;
+    numbers = good;
+  }
 
   -- a line that makes a claim
   pub read_claim : (claim : Claim) (line : ℕ) → AreKnownNames places claim → HasGoodNumbers claim.kind → line ≡ length said + 1

@@ -1,97 +1,37 @@
 -- A text's lines say one thing, or one of them is the first that is faulty.
-use Rattle.std.proofs.Common.{◌≡◌, ◌≢◌, ℕ, ℤ, suc, ◌+◌, List, [], ◌∷◌, ◌++◌, length, get_or, Bool, true, Option, Some, None, is_some, codes, ◌⊎◌, inl, inr, refl, sym, ap, subst, ◌∙◌, arith}
-use Rattle.std.specs.List.{list_any}
+use Rattle.std.proofs.Common.{◌≡◌, ◌≢◌, ℕ, suc, ◌+◌, List, [], ◌∷◌, ◌++◌, length, get_or, Option, Some, None, is_some, codes, ◌⊎◌, inl, inr, refl, sym, ap, subst, ◌∙◌, arith}
 use Rattle.std.specs.Str.{bytes_eq}
 use Rattle.std.proofs.lemmas.Bool.{false≢true}
 use Rattle.std.proofs.lemmas.List.{append-nil}
-use Rattle.ca_plane.specs.Bytes.{IsInteger, lines_of, words_of, value}
-use Rattle.ca_plane.proofs.Integers.{one_integer}
+use Rattle.ca_plane.specs.Bytes.{lines_of, words_of}
 use Rattle.ca_text.specs.declared.fault.ClaimFault.{ClaimFault}
 use Rattle.ca_text.specs.declared.fault.ClaimFault.TheVariants.{Syntax, Number, UnknownName, NameTaken, Memory}
-use Rattle.ca_text.specs.declared.line.Kind.{Kind}
-use Rattle.ca_text.specs.declared.line.Kind.TheVariants.{Still, Oscillator, Spaceship, Becomes, BecomesShifted, Dies}
-use Rattle.ca_text.specs.Text.{Claim, ClaimTextLine, Version, Rule, Load, Claims, WordsClaim, ClaimWordsSay, HasGoodNumbers, IsAllowedLine, ClaimLinesSay, IsClaimText, said_lines}
+use Rattle.ca_text.specs.Kinds.{HasGoodNumbers}
+use Rattle.ca_text.specs.Text.{Claim, ClaimTextLine, Version, Rule, Load, Claims, ClaimWordsSay, IsAllowedLine, ClaimLinesSay, IsClaimText, said_lines}
 use Rattle.ca_text.specs.TextFaults.{IsFirstClaimFault}
 use Rattle.ca_text.specs.inner.Reading.{SaysNext, HasClaimFault}
+use Rattle.ca_text.proofs.KindWords.{same_words, begins_claim, claim_begins}
 use Rattle.ca_text.proofs.LinesSaid.{one_before}
 
--- equal words are one number
-one_number : (p q : List ℕ) (v w : ℕ) → p ≡ q → v ≡ value p → w ≡ value q → v ≡ w
-one_number p q v w e h k = h ∙ ap value e ∙ sym k
-
--- and one integer
-same_integer : (a b : List ℕ) (d x : ℤ) → a ≡ b → IsInteger a d → IsInteger b x → d ≡ x
-same_integer a b d x e h k = one_integer b d x (subst (λ l. IsInteger l d) e h) k
-
--- words make a claim of one kind, about the same patterns
-pub same_words : (words : List (List ℕ)) (n m : List ℕ) (o p : Option (List ℕ)) (a b : Kind) → WordsClaim words n o a → WordsClaim words m p b → (n ≡ m) × (o ≡ p) × (a ≡ b)
-same_words words n m o p Still Still h k =
-    let same = sym h.0 ∙ k.0 in
-    (cc, h.1 ∙ sym k.1, refl)
-same_words words n m o p (Oscillator v) (Oscillator w) h k =
-    let same = sym h.1 ∙ k.1 in
-    (cc, h.4 ∙ sym k.4, ap Oscillator (one_number h.0 k.0 v w (cc) h.3 k.3))
-same_words words n m o p (Spaceship v dx dy) (Spaceship w x y) h k =
-    let same = sym h.3 ∙ k.3 in
-    let period = one_number h.0 k.0 v w (cc) h.5 k.5 in
-    let right = same_integer h.1 k.1 dx x (cc) h.6 k.6 in
-    let down = same_integer h.2 k.2 dy y (cc) h.7 k.7 in
-    (cc, h.8 ∙ sym k.8, λ i. Spaceship (period i) (right i) (down i))
-same_words words n m o p (Becomes v) (Becomes w) h k =
-    let same = sym h.2 ∙ k.2 in
-    let second : h.1 ≡ k.1 = cc in
-    (cc, h.5 ∙ ap Some second ∙ sym k.5, ap Becomes (one_number h.0 k.0 v w (cc) h.4 k.4))
-same_words words n m o p (BecomesShifted v dx dy) (BecomesShifted w x y) h k =
-    let same = sym h.4 ∙ k.4 in
-    let second : h.1 ≡ k.1 = cc in
-    let generations = one_number h.0 k.0 v w (cc) h.6 k.6 in
-    let right = same_integer h.2 k.2 dx x (cc) h.7 k.7 in
-    let down = same_integer h.3 k.3 dy y (cc) h.8 k.8 in
-    (cc, h.9 ∙ ap Some second ∙ sym k.9, λ i. BecomesShifted (generations i) (right i) (down i))
-same_words words n m o p (Dies v) (Dies w) h k =
-    let same = sym h.1 ∙ k.1 in
-    (cc, h.4 ∙ sym k.4, ap Dies (one_number h.0 k.0 v w (cc) h.3 k.3))
-same_words words n m o p Still b h k = cc
-same_words words n m o p (Oscillator v) b h k = cc
-same_words words n m o p (Spaceship v dx dy) b h k = cc
-same_words words n m o p (Becomes v) b h k = cc
-same_words words n m o p (BecomesShifted v dx dy) b h k = cc
-same_words words n m o p (Dies v) b h k = cc
-
+-- words make one claim
 same_claim : (earlier : List ClaimTextLine) (words : List (List ℕ)) (a b : Claim) → ClaimWordsSay earlier words (Claims a) → ClaimWordsSay earlier words (Claims b) → a ≡ b
 same_claim earlier words a b h k =
-    let same = same_words words a.pattern b.pattern a.other b.other a.kind b.kind h.0 k.0 in
-    let pattern = same.0 in
-    let other = same.1 in
-    let kind = same.2 in
-    λ i. record { pattern = pattern i; other = other i; kind = kind i }
+    let same = same_words words a.patterns b.patterns a.kind b.kind h.0 k.0 in
+    let patterns = same.0 in
+    let kind = same.1 in
+    λ i. record { patterns = patterns i; kind = kind i }
 
--- words begin as a claim's do
-abbrev pub begins_claim : List (List ℕ) → Bool
-begins_claim words = list_any (bytes_eq (get_or words 0 [])) (codes "still" ∷ codes "oscillator" ∷ codes "spaceship" ∷ codes "becomes" ∷ codes "dies" ∷ [])
-
-pub claim_begins : (words : List (List ℕ)) (claim : Claim) → WordsClaim words claim.pattern claim.other claim.kind → begins_claim words ≡ true
-claim_begins words claim h = begins claim.pattern claim.other claim.kind h
-  where
-    begins : (n : List ℕ) (o : Option (List ℕ)) (kind : Kind) → WordsClaim words n o kind → begins_claim words ≡ true
-    begins n o Still w = ap begins_claim w.0
-    begins n o (Oscillator v) w = ap begins_claim w.1
-    begins n o (Spaceship v dx dy) w = ap begins_claim w.3
-    begins n o (Becomes v) w = ap begins_claim w.2
-    begins n o (BecomesShifted v dx dy) w = ap begins_claim w.4
-    begins n o (Dies v) w = ap begins_claim w.1
-
--- and no name is loaded by words that make a claim
+-- no name is loaded by words that make a claim
 load_or_claim : (earlier : List ClaimTextLine) (words : List (List ℕ)) (name path : List ℕ) (claim : Claim) → ClaimWordsSay earlier words (Load name path) → ClaimWordsSay earlier words (Claims claim) → ⊥
-load_or_claim earlier words name path claim h k = false≢true (sym (ap begins_claim h) ∙ claim_begins words claim k.0)
+load_or_claim earlier words name path claim h k = false≢true (sym (ap begins_claim h) ∙ claim_begins words claim.patterns claim.kind k.0)
 
 -- nor is a table
 rule_or_claim : (earlier : List ClaimTextLine) (words : List (List ℕ)) (path : List ℕ) (claim : Claim) → ClaimWordsSay earlier words (Rule path) → ClaimWordsSay earlier words (Claims claim) → ⊥
-rule_or_claim earlier words path claim h k = false≢true (sym (ap begins_claim h) ∙ claim_begins words claim k.0)
+rule_or_claim earlier words path claim h k = false≢true (sym (ap begins_claim h) ∙ claim_begins words claim.patterns claim.kind k.0)
 
 -- nor do they tell the version
 version_or_claim : (earlier : List ClaimTextLine) (words : List (List ℕ)) (claim : Claim) → ClaimWordsSay earlier words Version → ClaimWordsSay earlier words (Claims claim) → ⊥
-version_or_claim earlier words claim h k = false≢true (sym (ap begins_claim h.0) ∙ claim_begins words claim k.0)
+version_or_claim earlier words claim h k = false≢true (sym (ap begins_claim h.0) ∙ claim_begins words claim.patterns claim.kind k.0)
 
 -- equal lists of words have the same words after the first
 behind_keyword : (w : List ℕ) (vs ws : List (List ℕ)) → w ∷ vs ≡ w ∷ ws → vs ≡ ws
@@ -102,7 +42,7 @@ pub not_version : (earlier : List ClaimTextLine) (ws : List (List ℕ)) → (ws 
 not_version earlier ws none Version h = none (behind_keyword (codes "claims") ws (codes "2" ∷ []) h.0) h.1
 not_version earlier ws none (Rule path) h = false≢true (sym (ap (λ words. bytes_eq (get_or words 0 []) (codes "claims")) h) ∙ refl)
 not_version earlier ws none (Load name path) h = false≢true (sym (ap (λ words. bytes_eq (get_or words 0 []) (codes "claims")) h) ∙ refl)
-not_version earlier ws none (Claims claim) h = false≢true (claim_begins (codes "claims" ∷ ws) claim h.0)
+not_version earlier ws none (Claims claim) h = false≢true (claim_begins (codes "claims" ∷ ws) claim.patterns claim.kind h.0)
 
 -- words say one thing
 pub same_line : (earlier : List ClaimTextLine) (words : List (List ℕ)) (a b : ClaimTextLine) → ClaimWordsSay earlier words a → ClaimWordsSay earlier words b → a ≡ b

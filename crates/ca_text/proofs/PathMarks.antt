@@ -10,12 +10,11 @@ use Rattle.std.proofs.lemmas.Slice.Eq.{bytes_eq-Decides}
 use Rattle.ca_text.specs.declared.line.ClaimLine.{ClaimLine}
 use Rattle.ca_text.specs.declared.line.NamePlace.{NamePlace}
 use Rattle.ca_text.specs.Both.{HoldsOfEither}
-use Rattle.ca_text.specs.Text.{ClaimText, patterns_of, named_patterns}
-use Rattle.ca_text.specs.Places.{path_at, named_at, claim_with_names, IsNamed}
+use Rattle.ca_text.specs.Text.{ClaimText, named_patterns}
+use Rattle.ca_text.specs.Places.{path_at, claim_with_names, IsNamed}
 use Rattle.ca_text.specs.SomeOf.{SomeOf}
 use Rattle.ca_text.specs.NeededFiles.{IsNeeded}
 use Rattle.ca_text.specs.inner.Marks.{with_marks, claims_marked}
-use Rattle.ca_text.proofs.ClaimPatterns.{paths_of}
 
 -- ---- lists
 
@@ -37,7 +36,7 @@ length-marked marks (i ∷ is) = length-marked (set marks i true) is ∙ length-
 
 pub length-claims_marked : (marks : List Bool) (claims : List (ClaimLine NamePlace)) → length (claims_marked marks claims) ≡ length marks
 length-claims_marked marks [] = refl
-length-claims_marked marks (l ∷ ls) = length-claims_marked _ ls ∙ length-marked marks ((patterns_of l.claim).first.path ∷ (patterns_of l.claim).second.path ∷ [])
+length-claims_marked marks (l ∷ ls) = length-claims_marked _ ls ∙ length-marked marks (l.claim.patterns.first.path ∷ l.claim.patterns.second.path ∷ [])
 
 -- a list written over one that is as long
 pub written_over : {X : Type 0} (n : ℕ) (old new : List X) → length new ≡ n → take n (new ++ drop (length new) old) ≡ new
@@ -107,13 +106,12 @@ path_there paths i within = slice_get-get_or paths i [] within ∙ ap Some (sym 
 
 -- one of a claim's patterns has the path exactly where one of its places has
 pattern_paths : (names paths : List (List ℕ)) (l : ClaimLine NamePlace) (q : List ℕ)
-    → SomeOf (λ p. p ≡ q) (path_at paths (patterns_of l.claim).first.path ∷ path_at paths (patterns_of l.claim).second.path ∷ [])
+    → SomeOf (λ p. p ≡ q) (path_at paths l.claim.patterns.first.path ∷ path_at paths l.claim.patterns.second.path ∷ [])
     ↔ HoldsOfEither (λ n. n.1 ≡ q) (named_patterns (claim_with_names names paths l))
-pattern_paths names paths l q =
-    let same = paths_of (named_at names paths) l.claim in (
-      λ h. subst (HoldsOfEither (λ n. n.1 ≡ q)) (sym same) (elim h [ inl a ↦ inl a | inr k ↦ elim k [ inl b ↦ inr b | inr none ↦ absurd none ] ]),
-      λ h. elim (subst (HoldsOfEither (λ n. n.1 ≡ q)) same h) [ inl a ↦ inl a | inr b ↦ inr (inl b) ],
-    )
+pattern_paths names paths l q = (
+  λ h. elim h [ inl a ↦ inl a | inr k ↦ elim k [ inl b ↦ inr b | inr none ↦ absurd none ] ],
+  λ h. elim h [ inl a ↦ inl a | inr b ↦ inr (inl b) ],
+)
 
 -- the paths of these claims' patterns
 abbrev pub IsClaimed : List (List ℕ) → List (List ℕ) → List (ClaimLine NamePlace) → List ℕ → Type 0
@@ -136,7 +134,7 @@ module _ (names paths : List (List ℕ)) (distinct : IsDistinct bytes_eq paths) 
       → Marks (λ q. IsClaimed names paths claims q ⊎ P q) paths (claims_marked marks claims)
   marks_claimed P [] marks good h = marks_same P (λ q. ⊥ ⊎ P q) (λ q. (λ holds. inr holds, λ some. elim some [ inl none ↦ absurd none | inr holds ↦ holds ])) paths marks h
   marks_claimed P (l ∷ ls) marks good h =
-      let is = (patterns_of l.claim).first.path ∷ (patterns_of l.claim).second.path ∷ [] in
+      let is = l.claim.patterns.first.path ∷ l.claim.patterns.second.path ∷ [] in
       let asked : IsNamed names paths l.claim = All-head (λ k. IsNamed names paths k.claim) l ls good in
       let First : List ℕ → Type 0 = λ q. HoldsOfEither (λ n. n.1 ≡ q) (named_patterns (claim_with_names names paths l)) in
       let one = marks_set P is marks (asked.within.0.1, (asked.within.1.1, tt)) h in

@@ -2,6 +2,10 @@
 use Rattle.std.specs.Prelude.{◌⊎◌}
 use Rattle.ca_text.specs.declared.both.Both.{Both}
 
+-- one thing for both
+abbrev pub twice : {X : Type 0} → X → Both X
+twice x = record { first = x; second = x }
+
 -- f of both
 abbrev pub map_both : {X Y : Type 0} → (X → Y) → Both X → Both Y
 map_both f both = record { first = f both.first; second = f both.second }

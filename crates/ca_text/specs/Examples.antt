@@ -1,20 +1,16 @@
 -- Small claim texts, for which the definitions are worked out.
 use Rattle.std.specs.Prelude.{ℕ, pos, neg_ℤ, List, [], ◌∷◌, Option, None, Some, codes}
 use Rattle.ca_plane.specs.Bytes.{text_of}
-use Rattle.ca_text.specs.declared.both.Both.{Both}
-use Rattle.ca_text.specs.declared.line.Kind.{Kind}
-use Rattle.ca_text.specs.declared.line.Kind.TheVariants.{Still, Oscillator, Spaceship, Becomes, BecomesShifted, Dies}
+use Rattle.ca_text.specs.declared.kind.Kind.{Kind}
+use Rattle.ca_text.specs.declared.kind.Kind.TheVariants.{Still, Oscillator, Spaceship, Becomes, BecomesShifted, Dies}
 use Rattle.ca_text.specs.declared.fault.ClaimFault.{ClaimFault}
+use Rattle.ca_text.specs.Both.{twice}
 use Rattle.ca_text.specs.Text.{Claim, ClaimTextLine, Version, Rule, Load, Claims, ClaimText}
 use Rattle.ca_text.specs.TextFaults.{IsFirstClaimFault}
 
 -- a claim about one pattern
 abbrev pub of_one : List ℕ → Kind → Claim
-of_one pattern kind = record { pattern = pattern; other = None; kind = kind }
-
--- its patterns: that of this name and path, twice
-abbrev pub twice : List ℕ × List ℕ → Both (List ℕ × List ℕ)
-twice named = record { first = named; second = named }
+of_one pattern kind = record { patterns = twice pattern; kind = kind }
 
 -- that it is a still life
 abbrev pub still_of : List ℕ → Claim
@@ -22,7 +18,7 @@ still_of pattern = of_one pattern Still
 
 -- that one pattern becomes another
 abbrev pub becomes_of : List ℕ → ℕ → List ℕ → Claim
-becomes_of pattern generations other = record { pattern = pattern; other = Some other; kind = Becomes generations }
+becomes_of pattern generations other = record { patterns = record { first = pattern; second = other }; kind = Becomes generations }
 
 -- the text of these lines has this first fault
 abbrev pub HaveFault : List (List ℕ) → ClaimFault → Type 0
@@ -110,5 +106,5 @@ second_text = text_of (codes "# a comment" ∷ codes "claims 2" ∷ codes "load 
 abbrev pub second_said : List (Option ClaimTextLine)
 second_said =
     None ∷ Some Version ∷ Some (Load (codes "a") (codes "p"))
-    ∷ Some (Claims (record { pattern = codes "a"; other = Some (codes "a"); kind = BecomesShifted 0 (neg_ℤ (pos 1)) (pos 2) }))
+    ∷ Some (Claims (of_one (codes "a") (BecomesShifted 0 (neg_ℤ (pos 1)) (pos 2))))
     ∷ Some (Claims (of_one (codes "a") (Dies 3))) ∷ []

@@ -1,7 +1,7 @@
 pub mod Words
 pub mod Text
 pub mod TextFaults
-pub mod Asks
+pub mod Kinds
 pub mod Both
 pub mod SomeOf
 pub mod Places

@@ -5,7 +5,8 @@ use Rattle.ca_text.specs.declared.line.Claim.{Claim as ClaimOf}
 use Rattle.ca_text.specs.declared.line.ClaimLine.{ClaimLine}
 use Rattle.ca_text.specs.declared.line.NamePlace.{NamePlace}
 use Rattle.ca_text.specs.declared.line.NamedPath.{NamedPath}
-use Rattle.ca_text.specs.Text.{Claim, patterns_of, map_patterns, HasGoodNumbers}
+use Rattle.ca_text.specs.Kinds.{HasGoodNumbers}
+use Rattle.ca_text.specs.Text.{Claim, map_patterns}
 
 -- the path, or the name, at an index
 abbrev pub path_at : List (List ℕ) → ℕ → List ℕ
@@ -13,7 +14,7 @@ path_at paths index = unwrap_or (slice_get paths index) []
 
 -- the claim's patterns have paths among these, and its numbers are good
 pub record IsAsked (paths : List (List ℕ)) (claim : ClaimOf ℕ) : Type 0 where
-  pub within : HoldsOfBoth (λ i. i < length paths) (patterns_of claim)
+  pub within : HoldsOfBoth (λ i. i < length paths) claim.patterns
   pub numbers : HasGoodNumbers claim.kind
 
 -- the claim about the paths at its indices, with the number of its line
@@ -35,5 +36,5 @@ claim_with_names names paths l = (l.line, map_patterns (named_at names paths) l.
 
 -- the claim's patterns have names and paths among these, and its numbers are good
 pub record IsNamed (names paths : List (List ℕ)) (claim : ClaimOf NamePlace) : Type 0 where
-  pub within : HoldsOfBoth (λ p. (p.name < length names) × (p.path < length paths)) (patterns_of claim)
+  pub within : HoldsOfBoth (λ p. (p.name < length names) × (p.path < length paths)) claim.patterns
   pub numbers : HasGoodNumbers claim.kind

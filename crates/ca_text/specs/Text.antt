@@ -1,46 +1,22 @@
 -- Claim texts: which lines say what (our own format; docs/CLAIMS.md).
-use Rattle.std.specs.Prelude.{◌≡◌, ℕ, ◌+◌, ◌≤◌, ℤ, pos, neg_ℤ, ◌≤ℤ◌, List, [], ◌∷◌, ◌++◌, map, Bool, true, false, not, Option, Some, None, IsSome, unwrap_or, option_map, codes, filter, if◌then◌else◌}
+use Rattle.std.specs.Prelude.{◌≡◌, ℕ, ◌+◌, List, [], ◌∷◌, ◌++◌, map, Bool, true, false, not, Option, Some, None, IsSome, unwrap_or, codes, filter, if◌then◌else◌}
 use Rattle.std.specs.Str.{bytes_eq}
 use Rattle.std.specs.Bool.{nat_eq}
-use Rattle.std.specs.List.{AllByRecursion, starts_with}
-use Rattle.std.specs.Option.{option_to_list}
+use Rattle.std.specs.List.{starts_with}
+use Rattle.ca_plane.specs.Bytes.{lines_of, words_of}
 use Rattle.ca_text.specs.declared.both.Both.{Both}
+use Rattle.ca_text.specs.declared.kind.Kind.{Kind}
 use Rattle.ca_text.specs.declared.line.Claim.{Claim as ClaimOf}
-use Rattle.ca_text.specs.declared.line.Kind.{Kind}
-use Rattle.ca_text.specs.declared.line.Kind.TheVariants.{Still, Oscillator, Spaceship, Becomes, BecomesShifted, Dies}
-use Rattle.ca_plane.specs.Bytes.{lines_of, words_of, AreDigits, IsInteger, value}
-use Rattle.ca_plane.specs.Limits.{greatest_shift, most_generations, longest_period}
+use Rattle.ca_text.specs.Both.{map_both, HoldsOfBoth}
+use Rattle.ca_text.specs.Kinds.{WordsClaim, is_of_second_version, HasGoodNumbers}
 
 -- a claim about patterns, which are given by their names in a text, and by the paths of their files once names are resolved
 abbrev pub Claim : Type 0
 Claim = ClaimOf (List ℕ)
 
--- the names of the patterns that a claim is about, one or two
-abbrev pub names_of : Claim → List (List ℕ)
-names_of claim = claim.pattern ∷ option_to_list claim.other
-
--- a claim has two patterns always: where it names one, that is the second too
-abbrev pub patterns_of : {P : Type 0} → ClaimOf P → Both P
-patterns_of claim = record { first = claim.pattern; second = unwrap_or claim.other claim.pattern }
-
 -- the same claim, with f of what gives each pattern
 abbrev pub map_patterns : {P Q : Type 0} → (P → Q) → ClaimOf P → ClaimOf Q
-map_patterns f claim = record { pattern = f claim.pattern; other = option_map f claim.other; kind = claim.kind }
-
--- at most the greatest, to either side
-abbrev pub IsShift : ℤ → Type 0
-IsShift d = (neg_ℤ (pos greatest_shift) ≤ℤ d) × (d ≤ℤ pos greatest_shift)
-
--- the numbers of a kind of claim are within their limits: a period is at most the longest, an oscillator's at least 2 and a spaceship's
--- at least 1; a spaceship is shifted; no shift is more than the greatest to either side, but that of a pattern that another becomes may be
--- none; generations are no more than the most generations, and those after which a pattern dies at least 1
-abbrev pub HasGoodNumbers : Kind → Type 0
-HasGoodNumbers Still = Unit {0}
-HasGoodNumbers (Oscillator period) = (2 ≤ period) × (period ≤ longest_period)
-HasGoodNumbers (Spaceship period dx dy) = (1 ≤ period) × (period ≤ longest_period) × IsShift dx × IsShift dy × ((dx ≡ pos 0) → (dy ≡ pos 0) → ⊥)
-HasGoodNumbers (Becomes generations) = generations ≤ most_generations
-HasGoodNumbers (BecomesShifted generations dx dy) = (generations ≤ most_generations) × IsShift dx × IsShift dy
-HasGoodNumbers (Dies generations) = (1 ≤ generations) × (generations ≤ most_generations)
+map_patterns f claim = record { patterns = map_both f claim.patterns; kind = claim.kind }
 
 -- what a line says: that the text is of the second version of the language, that a rule table is at a path, that a name is loaded from a
 -- path, or a claim
@@ -55,41 +31,22 @@ abbrev pub is_skipped : List (List ℕ) → Bool
 is_skipped [] = true
 is_skipped (w ∷ ws) = starts_with nat_eq w (codes "#")
 
--- the words of a claim of this kind, about the pattern of a name and, if it is about two, of another: `still NAME`,
--- `oscillator NAME P`, `spaceship NAME P DX DY`, `becomes NAME N NAME`, `becomes NAME N NAME shift DX DY`, or `dies NAME N`
-abbrev pub WordsClaim : List (List ℕ) → (name : List ℕ) (other : Option (List ℕ)) → Kind → Type 0
-WordsClaim words name other Still = (words ≡ codes "still" ∷ name ∷ []) × (other ≡ None)
-WordsClaim words name other (Oscillator period) = (p : List ℕ) ×
-    (words ≡ codes "oscillator" ∷ name ∷ p ∷ []) × AreDigits p × (period ≡ value p) × (other ≡ None)
-WordsClaim words name other (Spaceship period dx dy) = (p : List ℕ) × (x : List ℕ) × (y : List ℕ) ×
-    (words ≡ codes "spaceship" ∷ name ∷ p ∷ x ∷ y ∷ []) × AreDigits p × (period ≡ value p) × IsInteger x dx × IsInteger y dy × (other ≡ None)
-WordsClaim words name other (Becomes generations) = (n : List ℕ) × (second : List ℕ) ×
-    (words ≡ codes "becomes" ∷ name ∷ n ∷ second ∷ []) × AreDigits n × (generations ≡ value n) × (other ≡ Some second)
-WordsClaim words name other (BecomesShifted generations dx dy) = (n : List ℕ) × (second : List ℕ) × (x : List ℕ) × (y : List ℕ) ×
-    (words ≡ codes "becomes" ∷ name ∷ n ∷ second ∷ codes "shift" ∷ x ∷ y ∷ []) × AreDigits n × (generations ≡ value n)
-    × IsInteger x dx × IsInteger y dy × (other ≡ Some second)
-WordsClaim words name other (Dies generations) = (n : List ℕ) ×
-    (words ≡ codes "dies" ∷ name ∷ n ∷ []) × AreDigits n × (generations ≡ value n) × (other ≡ None)
-
 -- lines that say this begin a text of the second version
 abbrev pub is_second : List ClaimTextLine → Bool
 is_second [] = false
 is_second (Version ∷ ls) = true
 is_second (l ∷ ls) = false
 
--- after lines that say this a claim of this kind may stand: those that move another pattern's cells and those of dying patterns came with
--- the second version
+-- after lines that say this a claim of this kind may stand: one that came with the second version stands in a text of that version
 abbrev pub IsKindAfter : List ClaimTextLine → Kind → Type 0
-IsKindAfter earlier (BecomesShifted generations dx dy) = is_second earlier ≡ true
-IsKindAfter earlier (Dies generations) = is_second earlier ≡ true
-IsKindAfter earlier kind = Unit {0}
+IsKindAfter earlier kind = is_of_second_version kind ≡ true → is_second earlier ≡ true
 
 -- what a line says by its words, after what earlier lines say: `claims 2`, before all others; `rule PATH`; `load NAME PATH`; or a claim
 abbrev pub ClaimWordsSay : List ClaimTextLine → List (List ℕ) → ClaimTextLine → Type 0
 ClaimWordsSay earlier words Version = (words ≡ codes "claims" ∷ codes "2" ∷ []) × (earlier ≡ [])
 ClaimWordsSay earlier words (Rule path) = words ≡ codes "rule" ∷ path ∷ []
 ClaimWordsSay earlier words (Load name path) = words ≡ codes "load" ∷ name ∷ path ∷ []
-ClaimWordsSay earlier words (Claims claim) = WordsClaim words claim.pattern claim.other claim.kind × IsKindAfter earlier claim.kind
+ClaimWordsSay earlier words (Claims claim) = WordsClaim words claim.patterns claim.kind × IsKindAfter earlier claim.kind
 
 -- the path that a name is loaded from
 abbrev pub path_of : List ClaimTextLine → List ℕ → Option (List ℕ)
@@ -99,16 +56,16 @@ path_of (Rule path ∷ ls) name = path_of ls name
 path_of (Load loaded path ∷ ls) name = if bytes_eq loaded name then Some path else path_of ls name
 path_of (Claims claim ∷ ls) name = path_of ls name
 
--- each of the names is loaded on one of the lines
-abbrev pub AreLoaded : List ClaimTextLine → List (List ℕ) → Type 0
-AreLoaded earlier names = AllByRecursion (λ n. IsSome (path_of earlier n)) names
+-- both names are loaded on one of the lines each
+abbrev pub AreLoaded : List ClaimTextLine → Both (List ℕ) → Type 0
+AreLoaded earlier names = HoldsOfBoth (λ n. IsSome (path_of earlier n)) names
 
 -- a rule table may be anywhere; a name is loaded once; and a claim has good numbers, and its names are loaded on earlier lines
 abbrev pub IsAllowedLine : List ClaimTextLine → ClaimTextLine → Type 0
 IsAllowedLine earlier Version = Unit {0}
 IsAllowedLine earlier (Rule path) = Unit {0}
 IsAllowedLine earlier (Load name path) = path_of earlier name ≡ None
-IsAllowedLine earlier (Claims claim) = HasGoodNumbers claim.kind × AreLoaded earlier (names_of claim)
+IsAllowedLine earlier (Claims claim) = HasGoodNumbers claim.kind × AreLoaded earlier claim.patterns
 
 -- lines that follow what earlier ones say, and what each of them says
 abbrev pub ClaimLinesSay : List ClaimTextLine → List (List ℕ) → List (Option ClaimTextLine) → Type 0
@@ -170,7 +127,7 @@ by_path c = (c.0, map_patterns (λ p. p.1) c.1)
 
 -- the names and paths of its patterns
 abbrev pub named_patterns : ℕ × ClaimOf (List ℕ × List ℕ) → Both (List ℕ × List ℕ)
-named_patterns c = patterns_of c.1
+named_patterns c = c.1.patterns
 
 -- what a claim text asks: the paths of its files, each once; those of the rule tables, one for each of their lines; its claims
 -- with the numbers of their lines; and for each claim the names and paths of its patterns

@@ -3,7 +3,8 @@ use Rattle.std.specs.Prelude.{◌≡◌, ◌≢◌, ℕ, ◌+◌, List, [], ◌�
 use Rattle.ca_plane.specs.Bytes.{lines_of, words_of}
 use Rattle.ca_text.specs.declared.fault.ClaimFault.{ClaimFault}
 use Rattle.ca_text.specs.declared.fault.ClaimFault.TheVariants.{Syntax, Number, UnknownName, NameTaken, Memory}
-use Rattle.ca_text.specs.Text.{Claim, names_of, HasGoodNumbers, ClaimTextLine, Version, Load, Claims, is_skipped, ClaimWordsSay, path_of, AreLoaded, IsAllowedLine, ClaimLinesSay, said_lines}
+use Rattle.ca_text.specs.Kinds.{HasGoodNumbers}
+use Rattle.ca_text.specs.Text.{Claim, ClaimTextLine, Version, Load, Claims, is_skipped, ClaimWordsSay, path_of, AreLoaded, IsAllowedLine, ClaimLinesSay, said_lines}
 
 -- good lines are followed by a line, the n-th of the text; this holds of what the good lines say, and of its words
 pub record HasClaimLine (bytes : List ℕ) (n : ℕ)
@@ -29,7 +30,7 @@ HaveBadNumber earlier words = (is_skipped words ≡ false) × (claim : Claim) ×
 -- a claim with good numbers, about a name that no earlier line loads
 abbrev pub AskUnknown : List ClaimTextLine → List (List ℕ) → Type 0
 AskUnknown earlier words =
-    (is_skipped words ≡ false) × (claim : Claim) × ClaimWordsSay earlier words (Claims claim) × HasGoodNumbers claim.kind × (AreLoaded earlier (names_of claim) → ⊥)
+    (is_skipped words ≡ false) × (claim : Claim) × ClaimWordsSay earlier words (Claims claim) × HasGoodNumbers claim.kind × (AreLoaded earlier claim.patterns → ⊥)
 
 -- a name that an earlier line loads is loaded again
 abbrev pub LoadTaken : List ClaimTextLine → List (List ℕ) → Type 0

@@ -1,11 +1,5 @@
 //! What a claim asks, in one shape for all kinds of claims.
 
-ghost use Rattle.std.specs.Prelude.{◌≡◌};
-ghost use Rattle.ca_text.specs.declared.line.Kind.TheVariants.{Becomes};
-ghost use Rattle.ca_text.specs.Asks.{asks_of};
-
-use crate::line::Kind;
-
 /// Whose cells the claim expects to see.
 #[derive(Clone, Copy)]
 pub enum Expected {
@@ -47,68 +41,4 @@ pub struct Asks {
     pub moved: bool,
     /// What no earlier time, starting at 1, may show.
     pub forbidden: Forbidden,
-}
-
-// What a claim of a still life asks.
-const STILL: Asks = Asks {
-    live: true,
-    generations: 1,
-    expected: Expected::Own,
-    dx: 0,
-    dy: 0,
-    moved: false,
-    forbidden: Forbidden::Nothing,
-};
-
-impl Kind {
-    /// What a claim of this kind asks.
-    pub fn asks(self) -> Asks
-        ensures { result ≡ asks_of self }
-    {
-        match self {
-            Kind::Still => STILL,
-            Kind::Oscillator { period } => Asks {
-                generations: period,
-                forbidden: Forbidden::InPlace,
-                ..STILL
-            },
-            Kind::Spaceship { period, dx, dy } => Asks {
-                generations: period,
-                dx,
-                dy,
-                moved: true,
-                forbidden: Forbidden::Anywhere,
-                ..STILL
-            },
-            Kind::Becomes { generations } => becomes(generations),
-            Kind::BecomesShifted {
-                generations,
-                dx,
-                dy,
-            } => Asks {
-                dx,
-                dy,
-                moved: true,
-                ..becomes(generations)
-            },
-            Kind::Dies { generations } => Asks {
-                generations,
-                expected: Expected::NoCells,
-                forbidden: Forbidden::EmptyPlane,
-                ..STILL
-            },
-        }
-    }
-}
-
-// What a claim asks of a pattern that becomes another.
-fn becomes(generations: u64) -> Asks
-    ensures { result ≡ asks_of (Becomes generations) }
-{
-    Asks {
-        live: false,
-        generations,
-        expected: Expected::Other,
-        ..STILL
-    }
 }

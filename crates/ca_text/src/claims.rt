@@ -7,7 +7,7 @@ ghost use Rattle.std.specs.Str.{bytes_eq};
 ghost use Rattle.ca_text.specs.Places.{path_at, claim_with_paths, named_path, IsAsked};
 ghost use Rattle.ca_text.specs.Both.{map_both, HoldsOfBoth};
 ghost use Rattle.ca_text.specs.NeededFiles.{IsNeeded};
-ghost use Rattle.ca_text.specs.Text.{Claim as TextClaim, patterns_of, with_rule_line};
+ghost use Rattle.ca_text.specs.Text.{Claim as TextClaim, with_rule_line};
 
 use crate::both::Both;
 use crate::line::{ClaimLine, NamePlace, NamedPath};
@@ -158,9 +158,9 @@ impl Claims {
             ≡ Some (map_both (named_path self.now.paths) result) }
         ensures within { HoldsOfBoth (λ p. p.path < length self.now.paths) result }
         ensures claim { (claim : ℕ × TextClaim) → slice_get self.now.claims index ≡ Some claim
-            → patterns_of claim.1 ≡ map_both (λ p. path_at self.now.paths p.path) result }
+            → claim.1.patterns ≡ map_both (λ p. path_at self.now.paths p.path) result }
     {
-        let places = self.claims[index].claim.patterns();
+        let places = self.claims[index].claim.patterns;
         Both {
             first: name_and_path(&self.names, places.first),
             second: name_and_path(&self.names, places.second),

@@ -2,10 +2,10 @@
 
 ghost use Rattle.std.specs.Prelude.{◌≡◌, ◌<◌, length, All};
 ghost use Rattle.ca_text.specs.Both.{HoldsOfBoth};
-ghost use Rattle.ca_text.specs.Text.{patterns_of};
 ghost use Rattle.ca_text.specs.inner.Marks.{with_marks, both_marked, claims_marked};
 
-use crate::line::{Claim, ClaimLine, NamePlace};
+use crate::both::Both;
+use crate::line::{ClaimLine, NamePlace};
 
 /// Sets the marks at these indices.
 pub(crate) fn mark_each(marks: &mut [bool], indices: &[usize])
@@ -19,20 +19,19 @@ pub(crate) fn mark_each(marks: &mut [bool], indices: &[usize])
 
 /// Sets the marks of the paths of the claims' patterns.
 pub(crate) fn mark_claims(marks: &mut [bool], claims: &[ClaimLine<NamePlace>])
-    requires { All (λ l. HoldsOfBoth (λ p. p.path < length marks.old) (patterns_of l.claim)) claims.now }
+    requires { All (λ l. HoldsOfBoth (λ p. p.path < length marks.old) l.claim.patterns) claims.now }
     ensures { marks.new ≡ claims_marked marks.old claims.now }
 {
     'claims: for kept in claims {
-        mark_patterns(marks, &kept.claim);
+        mark_both(marks, &kept.claim.patterns);
     }
 }
 
-/// Sets the marks of the paths of the claim's patterns.
-fn mark_patterns(marks: &mut [bool], claim: &Claim<NamePlace>)
-    requires { HoldsOfBoth (λ p. p.path < length marks.old) (patterns_of claim.now) }
-    ensures { marks.new ≡ both_marked marks.old (patterns_of claim.now) }
+/// Sets the marks of the paths of both patterns.
+fn mark_both(marks: &mut [bool], patterns: &Both<NamePlace>)
+    requires { HoldsOfBoth (λ p. p.path < length marks.old) patterns.now }
+    ensures { marks.new ≡ both_marked marks.old patterns.now }
 {
-    let patterns = claim.patterns();
     marks[patterns.first.path] = true;
     marks[patterns.second.path] = true;
 }

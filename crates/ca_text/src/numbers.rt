@@ -1,10 +1,13 @@
-//! The shifts of a claim text.
+//! The numbers of claims: how shifts are read, and limits.
 
-ghost use Rattle.std.specs.Prelude.{ℤ, MatchOption};
+ghost use Rattle.std.specs.Prelude.{◌≡◌, ◌≤◌, ℤ, pos, IsTrue, ◌↔◌, MatchOption};
 ghost use Rattle.ca_plane.specs.Bytes.{IsInteger};
+ghost use Rattle.ca_plane.specs.Limits.{longest_period};
+ghost use Rattle.ca_text.specs.Kinds.{IsShift};
 ghost use Rattle.ca_text.specs.inner.Reading.{IsHeldShift};
 
 use ca_plane::bytes::integer;
+use ca_plane::limits::{GREATEST_SHIFT, LONGEST_PERIOD};
 
 /// The integer that a word writes, as a shift is held: one that doesn't fit an `i64` is held as the nearest,
 /// which is no shift either.
@@ -24,4 +27,28 @@ pub(crate) fn shift_of(right: &[u8], down: &[u8]) -> Option<(i64, i64)>
     let dx = integer_of(right)?;
     let dy = integer_of(down)?;
     Some((dx, dy))
+}
+
+/// Whether a period is this at least, and not too long.
+pub(crate) fn is_period(least: u64, period: u64) -> bool
+    ensures { IsTrue result ↔ ((least ≤ period) × (period ≤ longest_period)) }
+{
+    least <= period && period <= LONGEST_PERIOD
+}
+
+/// Whether a pattern may be shifted so far in one direction.
+pub(crate) fn is_shift(distance: i64) -> bool
+    ensures { IsTrue result ↔ IsShift distance }
+{
+    -GREATEST_SHIFT <= distance && distance <= GREATEST_SHIFT
+}
+
+/// Whether a spaceship may be shifted so far, and is.
+pub(crate) fn is_move(dx: i64, dy: i64) -> bool
+    ensures { IsTrue result ↔ (IsShift dx × IsShift dy × ((dx ≡ pos 0) → (dy ≡ pos 0) → ⊥)) }
+{
+    if dx == 0 && dy == 0 {
+        return false;
+    }
+    is_shift(dx) && is_shift(dy)
 }

@@ -3,21 +3,22 @@
 ghost use Rattle.std.specs.Prelude.{◌≡◌, ℕ, ◌+◌, ◌∷◌, [], ◌++◌, List, Option, Some, None, not, codes, length};
 ghost use Rattle.std.specs.Prelude.{is_some, OnOk, IfOk, IfErr, MatchOption};
 ghost use Rattle.ca_plane.specs.Bytes.{Every, is_line_end, words_of};
-ghost use Rattle.ca_text.specs.Text.{ClaimTextLine, Rule, Load};
-ghost use Rattle.ca_text.specs.Text.{Claims as Claiming, HasGoodNumbers, IsAllowedLine};
+ghost use Rattle.ca_text.specs.Kinds.{HasGoodNumbers};
+ghost use Rattle.ca_text.specs.Text.{ClaimTextLine, Rule, Load, Claims as Claiming, IsAllowedLine};
 ghost use Rattle.ca_text.specs.Text.{IsClaimText, said_lines, asked_by};
 ghost use Rattle.ca_text.specs.TextFaults.{IsFirstClaimFault};
-ghost use Rattle.ca_text.specs.declared.words.LineKind.TheVariants as kind;
+ghost use Rattle.ca_text.specs.declared.line_kind.LineKind.TheVariants as kind;
 ghost use Rattle.ca_text.specs.inner.Reading.{IsKind, IsClaimReading, SaysNext};
 ghost use Rattle.ca_text.specs.inner.Reading.{HasClaimFault, place_of, claim_of};
 ghost use Rattle.ca_text.specs.inner.Reading.{AreKnownNames, at_places};
 
+use crate::both::Both;
 use crate::claims::Claims;
 use crate::fault::ClaimFault;
 use crate::line::{Claim, ClaimLine, NamePlace};
+use crate::line_kind::{LineKind, line_kind};
 use crate::version::TextVersion;
 use crate::word_set::WordSet;
-use crate::words::{LineKind, line_kind};
 use ca_plane::Memory;
 use ca_plane::bytes::next_line;
 use std::alloc::Global;
@@ -127,14 +128,10 @@ impl<'a> Reading<'a> {
             (λ c. AreKnownNames (place_of self.now.places) (claim_of claim.now)
             × (c ≡ at_places (place_of self.now.places) (claim_of claim.now))) }
     {
-        let pattern = self.place(claim.pattern)?;
-        let other = match claim.other {
-            None => None,
-            Some(other) => Some(self.place(other)?),
-        };
+        let first = self.place(claim.patterns.first)?;
+        let second = self.place(claim.patterns.second)?;
         Some(Claim {
-            pattern,
-            other,
+            patterns: Both { first, second },
             kind: claim.kind,
         })
     }

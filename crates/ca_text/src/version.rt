@@ -4,7 +4,7 @@ ghost use Rattle.std.specs.Prelude.{◌≡◌, ◌∷◌, [], ◌++◌, List, fa
 ghost use Rattle.ca_text.specs.Text.{ClaimTextLine, is_second, IsKindAfter};
 ghost use Rattle.ca_text.specs.inner.Reading.{IsVersionAfter};
 
-use crate::line::Kind;
+use crate::kind::Kind;
 
 /// What the lines of a text so far say of its version.
 #[derive(Clone, Copy)]
@@ -45,11 +45,7 @@ impl TextVersion {
         ensures { (earlier : List ClaimTextLine) → IsVersionAfter earlier self
             → (IsTrue result ↔ IsKindAfter earlier kind) }
     {
-        match kind {
-            Kind::Still | Kind::Oscillator { .. } | Kind::Spaceship { .. } | Kind::Becomes { .. } =>
-                true,
-            Kind::BecomesShifted { .. } | Kind::Dies { .. } => self.is_second(),
-        }
+        !kind.is_of_second_version() || self.is_second()
     }
 
     /// What is known after one more line, which isn't skipped and doesn't tell the version.

@@ -14,8 +14,8 @@ use Rattle.ca_answers.specs.declared.verdict.Verdict.{Verdict}
 use Rattle.ca_answers.specs.declared.verdict.Verdict.TheVariants.{Yes, No, Refused}
 use Rattle.ca_pattern.specs.declared.cause.Cause.{Cause}
 use Rattle.ca_pattern.specs.declared.cause.Cause.TheVariants.{NoFile, BadTable, BadPattern, BadRule, StateTooLarge, MixedRules, TooManyCells, Work, Memory}
-use Rattle.ca_text.specs.Text.{Claim, patterns_of}
-use Rattle.ca_text.specs.Asks.{asks_of}
+use Rattle.ca_text.specs.Text.{Claim}
+use Rattle.ca_text.specs.Kinds.{asks_of}
 use Rattle.ca_text.specs.declared.both.Both.{Both}
 use Rattle.ca_text.specs.Both.{HoldsOfBoth, HoldsOfEither, FirstBadOfBoth}
 use Rattle.ca_text.specs.SomeOf.{SomeOf}
@@ -122,7 +122,7 @@ module _ (files : List (List ℕ × List ℕ)) where
         (tables ++ both.0, both.1, both_good_stay tables both.0 files paths cells other rule good)
 
     judged_stays : (claim : Claim) (cells other : Picture) (rule : RuleValue) → IsJudged files rules claim cells other rule → IsJudged files (rules ++ more) claim cells other rule
-    judged_stays claim cells other rule h = (agree_stays (patterns_of claim) cells other rule h.0, h.1)
+    judged_stays claim cells other rule h = (agree_stays claim.patterns cells other rule h.0, h.1)
 
     there_stay : (paths : Both (List ℕ)) → FilesAreThere files rules paths → FilesAreThere files (rules ++ more) paths
     there_stay paths h = (h.0, all_both (IsThere files) rules more h.1 (all_as (HoldsTable files) (IsThere files) (λ p t. (t.1.0, t.1.1)) more all))
@@ -164,4 +164,4 @@ module _ (files : List (List ℕ × List ℕ)) where
     pub verdict_stays : (claim : Claim) (verdict : Verdict) → verdict ≢ Refused (BadRule Unknown) → IsTrueVerdict files rules claim verdict → IsTrueVerdict files (rules ++ more) claim verdict
     verdict_stays claim Yes other (cells, others, rule, judged, true_claim) = (cells, others, rule, judged_stays claim cells others rule judged, true_claim)
     verdict_stays claim (No refutation) other (cells, others, rule, judged, reason) = (cells, others, rule, judged_stays claim cells others rule judged, reason)
-    verdict_stays claim (Refused cause) other h = cause_stays (asks_of claim.kind) (patterns_of claim) cause (λ same. other (ap Refused same)) h
+    verdict_stays claim (Refused cause) other h = cause_stays (asks_of claim.kind) claim.patterns cause (λ same. other (ap Refused same)) h

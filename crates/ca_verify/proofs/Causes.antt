@@ -13,7 +13,7 @@ use Rattle.ca_quad.specs.Trees as trees
 use Rattle.ca_rule.specs.TableNext.{TableRule}
 use Rattle.ca_rule.specs.Rule.{RuleValue, rule_value, next_of, IsSameRule}
 use Rattle.ca_pattern.specs.declared.pattern.Loaded.{Loaded}
-use Rattle.ca_text.specs.declared.line.Kind.{Kind}
+use Rattle.ca_text.specs.declared.kind.Kind.{Kind}
 use Rattle.ca_text.specs.declared.asks.Asks.{Asks}
 use Rattle.ca_text.specs.declared.asks.Expected.{Expected}
 use Rattle.ca_text.specs.declared.asks.Expected.TheVariants.{Own, Other, NoCells}
@@ -35,11 +35,11 @@ use Rattle.ca_verify.specs.declared.decide.ClaimTrees.{ClaimTrees}
 use Rattle.ca_pattern.specs.declared.limits.Limits.{Limits}
 use Rattle.ca_pattern.specs.declared.ruled.RuledPattern.{RuledPattern}
 use Rattle.ca_pattern.specs.declared.ruled.UnnamedRule.{UnnamedRule}
-use Rattle.ca_text.specs.Text.{Claim, patterns_of, HasGoodNumbers}
+use Rattle.ca_text.specs.Kinds.{HasGoodNumbers, asks_of}
+use Rattle.ca_text.specs.Text.{Claim}
 use Rattle.ca_text.specs.Places.{path_at}
 use Rattle.ca_answers.specs.Files.{bytes_at}
 use Rattle.ca_pattern.specs.Means.{IsReadable, MayWantMemory}
-use Rattle.ca_text.specs.Asks.{asks_of}
 use Rattle.ca_text.specs.Truth.{expected_cells}
 use Rattle.ca_verify.specs.inner.Decided.{IsBounded, IsDecided}
 use Rattle.ca_answers.specs.Work.{IsNoMoreThan}
@@ -340,10 +340,10 @@ decided_true : (files : List (List ℕ × List ℕ)) (rules : List (List ℕ)) (
 decided_true files rules claim cells other rule Yes judged decided = (cells, other, rule, judged, decided)
 decided_true files rules claim cells other rule (No refutation) judged decided = (cells, other, rule, judged, decided)
 decided_true files rules claim cells other rule (Refused cause) judged (inl work) =
-    subst (HasCause files rules (asks_of claim.kind) (patterns_of claim)) (sym work) (cells, other, rule, judged.0, judged.1)
+    subst (HasCause files rules (asks_of claim.kind) claim.patterns) (sym work) (cells, other, rule, judged.0, judged.1)
 decided_true files rules claim cells other rule (Refused cause) judged (inr decided) =
     let (tables, are, good) = judged.0 in
-    subst (HasCause files rules (asks_of claim.kind) (patterns_of claim)) (sym decided) (memory_wanted files rules rules (asks_of claim.kind) tables are (patterns_of claim) cells other rule good)
+    subst (HasCause files rules (asks_of claim.kind) claim.patterns) (sym decided) (memory_wanted files rules rules (asks_of claim.kind) tables are claim.patterns cells other rule good)
 
 -- where there is no work or memory to decide, that is about the claim
 decided_on : (files : List (List ℕ × List ℕ)) (paths rules : List (List ℕ)) (patterns : Both (List ℕ)) (next : List ℕ → ℕ) (cells other : Picture) (asks : Asks) (verdict : Verdict)
@@ -354,7 +354,7 @@ decided_on files paths rules patterns next cells other asks (Refused cause) deci
 
 -- so it is one of a claim about these paths
 pub true_verdict : (files : List (List ℕ × List ℕ)) (rules at : List (List ℕ)) (limits : Limits) (claim : Claim) (prepared : PreparedClaim) (verdict : Verdict)
-    → (is : IsPrepared files rules (asks_of claim.kind) (patterns_of claim) prepared) → IsFit limits prepared
+    → (is : IsPrepared files rules (asks_of claim.kind) claim.patterns prepared) → IsFit limits prepared
     → (verdict ≡ Refused Work → IsNoMoreThan limits.work (asks_of claim.kind) prepared.subject.pattern.level)
     → IsDecided (next_of (rule_value prepared.leaper.rule)) is.cells is.other (asks_of claim.kind) verdict → IsJudgedOn files at rules limits.work claim verdict about.Claim
 true_verdict files rules at limits claim prepared verdict is fit spent decided =
@@ -363,7 +363,7 @@ true_verdict files rules at limits claim prepared verdict is fit spent decided =
     record {
       holds = decided_true files rules claim is.cells is.other rule verdict judged decided;
       within = λ out. (is.cells, is.other, rule, judged, used_up prepared.leaper.nodes prepared.subject.pattern is.cells limits.work (asks_of claim.kind) fit.pattern.trimmed is.shown.one (spent out));
-      on = decided_on files at rules (patterns_of claim) (next_of rule) is.cells is.other (asks_of claim.kind) verdict decided;
+      on = decided_on files at rules claim.patterns (next_of rule) is.cells is.other (asks_of claim.kind) verdict decided;
     }
 
 -- ---- what is judged is fit for it

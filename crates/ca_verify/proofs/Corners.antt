@@ -8,7 +8,7 @@ use Rattle.ca_quad.specs.Expanded.{HasCellOutsidePlane}
 use Rattle.ca_quad.specs.Shifted.{shifted_cells}
 use Rattle.ca_macro.specs.Pattern.{AreInRange}
 use Rattle.ca_plane.specs.Limits.{IsInRange}
-use Rattle.ca_text.specs.Text.{IsShift}
+use Rattle.ca_text.specs.Kinds.{IsShift}
 
 -- no cell in range leaves the square of a plane by a shift
 pub leaves_none : (p : ℤ → ℤ → ℕ) (dx dy : ℤ) → AreInRange p → IsShift dx → IsShift dy → HasCellOutsidePlane (shifted_cells p dx dy) → ⊥

@@ -4,7 +4,7 @@ use Rattle.std.specs.Int.{w128}
 use Rattle.std.specs.Prelude.{ℤ, pos}
 use Rattle.std.proofs.lemmas.Int.{ints}
 use Rattle.ca_plane.specs.Plane.{Picture, cell, shifted}
-use Rattle.ca_text.specs.Text.{IsShift}
+use Rattle.ca_text.specs.Kinds.{IsShift}
 use Rattle.ca_pattern.specs.PatternTrees.{IsBroad, IsWide}
 use Rattle.ca_text.proofs.Shifts.{unmoved, shift_reads}
 use Rattle.ca_pattern.proofs.Times.{wide_reads, broad_wide}

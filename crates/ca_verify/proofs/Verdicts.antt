@@ -20,8 +20,8 @@ use Rattle.ca_text.specs.declared.asks.Asks.{Asks}
 use Rattle.ca_text.specs.declared.asks.Forbidden.{Forbidden}
 use Rattle.ca_text.specs.declared.asks.Forbidden.TheVariants.{EmptyPlane}
 use Rattle.ca_pattern.specs.Means.{IsReadable, HoldsRuledPattern, HasRuleFault}
-use Rattle.ca_text.specs.Text.{Claim, patterns_of}
-use Rattle.ca_text.specs.Asks.{asks_of}
+use Rattle.ca_text.specs.Text.{Claim}
+use Rattle.ca_text.specs.Kinds.{asks_of}
 use Rattle.ca_text.specs.Truth.{expected_cells, ShowsNothingForbidden, IsTrueClaim}
 use Rattle.ca_answers.specs.Refutations.{IsReason}
 use Rattle.ca_text.specs.declared.both.Both.{Both}
@@ -356,13 +356,13 @@ module _ (files : List (List ℕ × List ℕ)) (rules : List (List ℕ)) (asks :
 module _ (files : List (List ℕ × List ℕ)) (rules : List (List ℕ)) (claim : Claim) where
   -- a claim is judged or refused for a cause, not both, out of work and memory apart
   pub judged_or_cause : (cells other : Picture) (rule : RuleValue) (cause : Cause) → cause ≢ Memory → cause ≢ Work → IsJudged files rules claim cells other rule → IsCauseFor files rules claim cause → ⊥
-  judged_or_cause cells other rule cause m w judged h = agreed_or_cause files rules (asks_of claim.kind) (patterns_of claim) cells other rule cause m w judged.0 judged.1 h
+  judged_or_cause cells other rule cause m w judged h = agreed_or_cause files rules (asks_of claim.kind) claim.patterns cells other rule cause m w judged.0 judged.1 h
 
   -- a claim that is judged is true or false, not both
   pub yes_or_no : (asks : Asks) (refutation : Refutation) (p q o v : Picture) (r s : RuleValue) → IsJudged files rules claim p o r → IsJudged files rules claim q v s
       → IsTrueClaim (next_of r) p o asks → IsReason (next_of s) q v asks refutation → ⊥
   yes_or_no asks refutation p q o v r s a b true reason =
-      let one = one_agreed files rules (asks_of claim.kind) (patterns_of claim) p q o v r s a.0 b.0 in
+      let one = one_agreed files rules (asks_of claim.kind) claim.patterns p q o v r s a.0 b.0 in
       let by_rule = subst (λ u. IsTrueClaim (next_of u) p o asks) one.2 true in
       let by_cells = subst (λ c. IsTrueClaim (next_of s) c o asks) one.0 by_rule in
       false_from_reason (next_of s) q v asks refutation reason (subst (λ c. IsTrueClaim (next_of s) q c asks) one.1 by_cells)

@@ -10,7 +10,7 @@ ghost use Rattle.ca_run.specs.Leaping.{LeaperGrows};
 ghost use Rattle.ca_work.specs.Spending.{EndsAtLimit};
 ghost use Rattle.ca_work.specs.declared.fault.LeapFault.TheVariants as leap_fault;
 ghost use Rattle.ca_answers.specs.Work.{most_runs, IsNoMoreThan};
-ghost use Rattle.ca_text.specs.Text.{IsShift};
+ghost use Rattle.ca_text.specs.Kinds.{IsShift};
 ghost use Rattle.ca_text.specs.Truth.{claimed_cells, IsTrueClaim};
 ghost use Rattle.ca_answers.specs.Refutations.{IsReason};
 ghost use Rattle.ca_pattern.specs.declared.cause.Cause.TheVariants.{Work, Memory as NoMemory};

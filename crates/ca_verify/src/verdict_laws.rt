@@ -7,12 +7,12 @@ ghost use Rattle.std.specs.Prelude.{◌≡◌, ◌≢◌, ℕ, suc, ◌≤◌, �
 ghost use Rattle.std.specs.List.{AllByRecursion};
 ghost use Rattle.ca_plane.specs.Plane.{Picture, cell, shifted, IsLive};
 ghost use Rattle.ca_plane.specs.Generations.{after, IsAfter, IsLiveAfter};
-ghost use Rattle.ca_text.specs.declared.line.Kind.{Kind};
-ghost use Rattle.ca_text.specs.declared.line.Kind.TheVariants.{Still, Oscillator, Spaceship};
-ghost use Rattle.ca_text.specs.declared.line.Kind.TheVariants.{Becomes, BecomesShifted, Dies};
+ghost use Rattle.ca_text.specs.declared.kind.Kind.{Kind};
+ghost use Rattle.ca_text.specs.declared.kind.Kind.TheVariants.{Still, Oscillator, Spaceship};
+ghost use Rattle.ca_text.specs.declared.kind.Kind.TheVariants.{Becomes, BecomesShifted, Dies};
 ghost use Rattle.ca_text.specs.Text.{Claim};
 ghost use Rattle.ca_pattern.specs.Means.{Means};
-ghost use Rattle.ca_text.specs.Asks.{asks_of};
+ghost use Rattle.ca_text.specs.Kinds.{asks_of};
 ghost use Rattle.ca_text.specs.Truth.{IsChanged, IsNowhere, IsTrueClaim};
 ghost use Rattle.ca_answers.specs.Refutations.{IsReason, IsSameReason};
 ghost use Rattle.ca_answers.specs.Answers.{IsTrueVerdict, HoldsTable};

@@ -157,11 +157,10 @@ fn judge<'a, O: Observer>(
         (map_patterns (path_at paths) task.now.claim.now) (Refused r.cause) r.about) }
 {
     let asks = task.claim.kind.asks();
-    let places = task.claim.patterns();
     let prepared = prepare(
         alloc,
         cache,
-        &places,
+        &task.claim.patterns,
         asks,
         &task.needed.found,
         &task.needed.tables,

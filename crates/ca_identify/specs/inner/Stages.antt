@@ -21,7 +21,7 @@ use Rattle.ca_identify.specs.declared.identification.walk.Walk.{Walk}
 use Rattle.ca_answers.specs.declared.identity.Growth.{Growth}
 use Rattle.ca_answers.specs.Identified.{IsGrowth}
 use Rattle.ca_evolution.specs.Steps.{step_work}
-use Rattle.ca_text.specs.Text.{IsShift}
+use Rattle.ca_text.specs.Kinds.{IsShift}
 use Rattle.ca_text.specs.Truth.{IsChanged, IsNowhere}
 use Rattle.ca_pattern.specs.PatternTrees.{IsBroad, IsWide, ShowsTree, HasLive}
 use Rattle.ca_pattern.specs.inner.LifeSpans.{IsLifeSpan}

@@ -3,7 +3,6 @@ use Rattle.std.specs.Prelude.{ℕ, List, [], ◌∷◌, set, Bool, true}
 use Rattle.ca_text.specs.declared.both.Both.{Both}
 use Rattle.ca_text.specs.declared.line.ClaimLine.{ClaimLine}
 use Rattle.ca_text.specs.declared.line.NamePlace.{NamePlace}
-use Rattle.ca_text.specs.Text.{patterns_of}
 
 -- the marks, with those at these indices set
 abbrev pub with_marks : List Bool → List ℕ → List Bool
@@ -17,4 +16,4 @@ both_marked marks places = with_marks marks (places.first.path ∷ places.second
 -- and with those of all patterns of these claims
 abbrev pub claims_marked : List Bool → List (ClaimLine NamePlace) → List Bool
 claims_marked marks [] = marks
-claims_marked marks (l ∷ ls) = claims_marked (both_marked marks (patterns_of l.claim)) ls
+claims_marked marks (l ∷ ls) = claims_marked (both_marked marks l.claim.patterns) ls

@@ -1,20 +1,21 @@
 -- How a claim text is read, a line at a time.
-use Rattle.std.specs.Prelude.{◌≡◌, ℕ, ◌<◌, ◌^◌, ℤ, pos, neg_ℤ, ◌≤ℤ◌, ◌<ℤ◌, ◌↔◌, ◌≢◌, List, [], map, slice_get, length, All, MatchOption, true, false, Option, None, Some, IsSome, unwrap_or}
+use Rattle.std.specs.Prelude.{◌≡◌, ℕ, ◌<◌, ◌^◌, ℤ, pos, neg_ℤ, ◌≤ℤ◌, ◌<ℤ◌, ◌≢◌, List, [], map, slice_get, length, All, MatchOption, true, false, Option, None, Some, IsSome, unwrap_or}
 use Rattle.std.specs.Borrow.{Bor}
 use Rattle.std.specs.HashMap.{HashMap, get_by}
-use Rattle.std.specs.List.{AllByRecursion}
 use Rattle.std.specs.Str.{bytes_eq}
 use Rattle.ca_text.specs.declared.line.Claim.{Claim as ClaimOf}
 use Rattle.ca_text.specs.declared.line.ClaimLine.{ClaimLine}
-use Rattle.ca_text.specs.declared.line.Kind.{Kind}
+use Rattle.ca_text.specs.declared.kind.Kind.{Kind}
 use Rattle.ca_text.specs.declared.line.NamePlace.{NamePlace}
 use Rattle.ca_text.specs.declared.reading.Reading.{Reading}
-use Rattle.ca_text.specs.declared.words.LineKind.{LineKind}
-use Rattle.ca_text.specs.declared.words.LineKind.TheVariants.{Skipped, Version, Rule, Load, Claim, OutsideLimits, Misspelled}
+use Rattle.ca_text.specs.declared.line_kind.LineKind.{LineKind}
+use Rattle.ca_text.specs.declared.line_kind.LineKind.TheVariants.{Skipped, Version, Rule, Load, Claim, OutsideLimits, Misspelled}
 use Rattle.ca_text.specs.declared.version.TextVersion.{TextVersion}
 use Rattle.ca_text.specs.declared.version.TextVersion.TheVariants.{Open, First, Second}
 use Rattle.ca_text.specs.declared.fault.ClaimFault.{ClaimFault}
 use Rattle.ca_text.specs.declared.fault.ClaimFault.TheVariants.{Syntax, Number, UnknownName, NameTaken, Memory}
+use Rattle.ca_text.specs.Both.{HoldsOfBoth}
+use Rattle.ca_text.specs.Kinds.{WordsClaim, is_of_second_version, IsShift, HasGoodNumbers}
 use Rattle.ca_text.specs.Places.{path_at, claim_with_names, IsNamed}
 use Rattle.ca_text.specs.Text as text
 use Rattle.ca_text.specs.TextFaults.{AreMisspelledClaimWords, HaveBadNumber, AskUnknown, LoadTaken, NeedMemory}
@@ -25,8 +26,8 @@ claim_of claim = text.map_patterns (λ name. name.now) claim
 
 -- a number is held as an i64: as itself where either of them is a shift
 pub record IsHeldShift (n held : ℤ) : Type 0 where
-  pub exact : text.IsShift n → n ≡ held
-  pub sound : text.IsShift held → n ≡ held
+  pub exact : IsShift n → n ≡ held
+  pub sound : IsShift held → n ≡ held
   pub least : neg_ℤ (pos (2 ^ 63)) ≤ℤ held
   pub greatest : held <ℤ pos (2 ^ 63)
 
@@ -38,17 +39,17 @@ IsVersionAfter earlier Second = text.is_second earlier ≡ true
 
 -- a kind of claim is held with numbers of 64 bits: as itself where either of them has good numbers; and it came with the same version
 pub record IsHeldKind (kind held : Kind) : Type 0 where
-  pub exact : text.HasGoodNumbers kind → kind ≡ held
-  pub sound : text.HasGoodNumbers held → kind ≡ held
-  pub after : (earlier : List text.ClaimTextLine) → text.IsKindAfter earlier kind ↔ text.IsKindAfter earlier held
+  pub exact : HasGoodNumbers kind → kind ≡ held
+  pub sound : HasGoodNumbers held → kind ≡ held
+  pub version : is_of_second_version kind ≡ is_of_second_version held
 
 -- no claim has these words
 abbrev pub MakeNoClaim : List (List ℕ) → Type 0
-MakeNoClaim words = (claim : text.Claim) → text.WordsClaim words claim.pattern claim.other claim.kind → ⊥
+MakeNoClaim words = (claim : text.Claim) → WordsClaim words claim.patterns claim.kind → ⊥
 
 -- the words make a claim, which is held so
 abbrev pub MakesClaim : List (List ℕ) → ClaimOf (Bor (List ℕ)) → Type 0
-MakesClaim words held = (kind : Kind) × text.WordsClaim words (claim_of held).pattern (claim_of held).other kind × IsHeldKind kind held.kind
+MakesClaim words held = (kind : Kind) × WordsClaim words (claim_of held).patterns kind × IsHeldKind kind held.kind
 
 -- the claim that the words make, or that they make none
 abbrev pub IsClaimOfWords : List (List ℕ) → Option (ClaimOf (Bor (List ℕ))) → Type 0
@@ -61,18 +62,18 @@ IsKind earlier words Version = (text.is_skipped words ≡ false) × text.ClaimWo
 IsKind earlier words (Rule path) = (text.is_skipped words ≡ false) × text.ClaimWordsSay earlier words (text.Rule path.now)
 IsKind earlier words (Load name path) = (text.is_skipped words ≡ false) × text.ClaimWordsSay earlier words (text.Load name.now path.now)
 IsKind earlier words (Claim held) =
-    (text.is_skipped words ≡ false) × text.ClaimWordsSay earlier words (text.Claims (claim_of held)) × text.HasGoodNumbers held.kind
+    (text.is_skipped words ≡ false) × text.ClaimWordsSay earlier words (text.Claims (claim_of held)) × HasGoodNumbers held.kind
 IsKind earlier words OutsideLimits =
-    (text.is_skipped words ≡ false) × (claim : text.Claim) × text.ClaimWordsSay earlier words (text.Claims claim) × (text.HasGoodNumbers claim.kind → ⊥)
+    (text.is_skipped words ≡ false) × (claim : text.Claim) × text.ClaimWordsSay earlier words (text.Claims claim) × (HasGoodNumbers claim.kind → ⊥)
 IsKind earlier words Misspelled = AreMisspelledClaimWords earlier words
 
 -- the indices of a name and of its path
 abbrev pub place_of : {S : Type 0} → HashMap (Bor (List ℕ)) NamePlace S → List ℕ → Option NamePlace
 place_of names name = get_by (λ n. bytes_eq name n.now) names
 
--- each of a claim's names is known
+-- both of a claim's names are known
 abbrev pub AreKnownNames : (List ℕ → Option NamePlace) → text.Claim → Type 0
-AreKnownNames places claim = AllByRecursion (λ n. IsSome (places n)) (text.names_of claim)
+AreKnownNames places claim = HoldsOfBoth (λ n. IsSome (places n)) claim.patterns
 
 -- the place of a name that is known
 abbrev pub known_place : Option NamePlace → NamePlace

@@ -9,7 +9,7 @@ use Rattle.ca_text.specs.declared.asks.Forbidden.{Forbidden}
 use Rattle.ca_text.specs.declared.asks.Forbidden.TheVariants.{Nothing, InPlace, Anywhere, EmptyPlane}
 use Rattle.ca_text.specs.declared.asks.Expected.TheVariants.{Own, NoCells}
 use Rattle.ca_plane.specs.Limits.{most_generations, longest_period}
-use Rattle.ca_text.specs.Text.{IsShift}
+use Rattle.ca_text.specs.Kinds.{IsShift}
 use Rattle.ca_text.specs.Truth.{MayReturnBy, IsTrueClaim}
 use Rattle.ca_answers.specs.Refutations.{IsReason}
 

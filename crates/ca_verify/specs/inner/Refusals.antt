@@ -9,7 +9,7 @@ use Rattle.ca_pattern.specs.declared.cause.Cause.{Cause}
 use Rattle.ca_pattern.specs.declared.cause.Cause.TheVariants.{Work}
 use Rattle.ca_answers.specs.declared.verdict.Verdict.{Verdict}
 use Rattle.ca_answers.specs.declared.verdict.Verdict.TheVariants.{Yes, No, Refused}
-use Rattle.ca_text.specs.Text.{Claim, patterns_of}
+use Rattle.ca_text.specs.Text.{Claim}
 use Rattle.ca_text.specs.Places.{path_at}
 use Rattle.ca_answers.specs.Answers.{HasCause, IsOfClaim, IsOfPattern, IsOfRuleFile, IsTrueVerdict, IsWithinWork}
 use Rattle.ca_verify.specs.inner.Patterns.{FirstBadAt}
@@ -41,4 +41,4 @@ pub record IsJudgedOn (files : List (List ℕ × List ℕ)) (paths rules : List 
     (claim : Claim) (verdict : Verdict) (about : About) : Type 0 where
   pub holds : IsTrueVerdict files rules claim verdict
   pub within : IsWithinWork files rules work claim verdict
-  pub on : IsOnVerdict files paths rules (patterns_of claim) verdict about
+  pub on : IsOnVerdict files paths rules claim.patterns verdict about

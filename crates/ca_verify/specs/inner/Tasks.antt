@@ -3,7 +3,7 @@ use Rattle.std.specs.Prelude.{◌≡◌, ℕ, ◌<◌, List, map, length}
 use Rattle.std.specs.Option.{option_copied}
 use Rattle.ca_verify.specs.declared.verifier.task.Task.{Task}
 use Rattle.ca_text.specs.Both.{HoldsOfBoth}
-use Rattle.ca_text.specs.Text.{patterns_of, HasGoodNumbers}
+use Rattle.ca_text.specs.Kinds.{HasGoodNumbers}
 use Rattle.ca_answers.specs.Files.{bytes_at}
 use Rattle.ca_pattern.specs.Limited.{AreGoodLimits}
 use Rattle.ca_verify.specs.NeededFiles.{AreRead}
@@ -11,7 +11,7 @@ use Rattle.ca_verify.specs.NeededFiles.{AreRead}
 -- a claim of a text that was read, whose paths all have a place, within good limits
 pub record CanBeJudged (task : Task) : Type 0 where
   pub limits : AreGoodLimits task.limits
-  pub within : HoldsOfBoth (λ i. i < length task.needed.now.found.items) (patterns_of task.claim.now)
+  pub within : HoldsOfBoth (λ i. i < length task.needed.now.found.items) task.claim.now.patterns
   pub numbers : HasGoodNumbers task.claim.now.kind
 
 -- it is judged on these files of a text with these paths, of which those of rule lines are given too

@@ -1,6 +1,6 @@
 use Rattle.std.proofs.Common.{◌<◌, refl, sym, subst}
 use Rattle.ca_text.specs.Both.{map_both, HoldsOfBoth}
-use Rattle.ca_text.specs.Text.{patterns_of, map_patterns}
+use Rattle.ca_text.specs.Text.{map_patterns}
 use Rattle.ca_text.specs.Places.{path_at, named_path}
 use Rattle.ca_verify.specs.inner.Refusals.{IsOnVerdict}
 use Rattle.ca_verify.proofs.judge.answer_to.Goals as goal
@@ -8,7 +8,7 @@ use Rattle.ca_verify.proofs.judge.answer_to.Goals as goal
 pub verdict_on-judged-requires : goal.verdict_on-judged-requires
 verdict_on-judged-requires g c = record {
   limits = c.requires.limits;
-  within = subst (λ n. HoldsOfBoth (λ i. i < n) (patterns_of c.claim-asked.result.claim)) (sym c.requires.found) c.claim-asked.ensures.asked.within;
+  within = subst (λ n. HoldsOfBoth (λ i. i < n) c.claim-asked.result.claim.patterns) (sym c.requires.found) c.claim-asked.ensures.asked.within;
   numbers = c.claim-asked.ensures.asked.numbers;
 }
 

@@ -2,10 +2,10 @@ use Rattle.std.proofs.Common.{◌≡◌, ◌≢◌, ℕ, List, refl, sym, ap, �
 use Rattle.std.specs.Prelude.{ℤ, pos, ◌↔◌}
 use Rattle.ca_plane.specs.Plane.{Picture, cell, shifted}
 use Rattle.ca_plane.specs.Generations.{after, IsAfter}
-use Rattle.ca_text.specs.declared.line.Kind.{Kind}
-use Rattle.ca_text.specs.declared.line.Kind.TheVariants.{Still, Oscillator, Spaceship, Becomes, BecomesShifted, Dies}
+use Rattle.ca_text.specs.declared.kind.Kind.{Kind}
+use Rattle.ca_text.specs.declared.kind.Kind.TheVariants.{Still, Dies}
 use Rattle.ca_text.specs.declared.asks.Forbidden.TheVariants.{EmptyPlane}
-use Rattle.ca_text.specs.Asks.{asks_of}
+use Rattle.ca_text.specs.Kinds.{asks_of}
 use Rattle.ca_verify.proofs.Times.{cell_shifted_0}
 use Rattle.ca_text.proofs.Shifts.{unmoved}
 use Rattle.ca_verify.proofs.verdict_laws.false_claims.Goals as goal
@@ -109,12 +109,9 @@ returns-clause-dies_died c = λ next cells other generations m. (
 
 -- only where an empty plane is forbidden an early death is a reason
 death_forbidden : (kind : Kind) → (asks_of kind).forbidden ≡ EmptyPlane → (n : ℕ) × (kind ≡ Dies n)
-death_forbidden Still is = cc
-death_forbidden (Oscillator period) is = cc
-death_forbidden (Spaceship period dx dy) is = cc
-death_forbidden (Becomes generations) is = cc
-death_forbidden (BecomesShifted generations dx dy) is = cc
 death_forbidden (Dies generations) is = (generations, refl)
+death_forbidden Still is = cc
+death_forbidden kind is = cc
 
 pub returns-clause-only_dies_died : goal.returns-clause-only_dies_died
 returns-clause-only_dies_died c = λ next cells other kind m h. death_forbidden kind h.4

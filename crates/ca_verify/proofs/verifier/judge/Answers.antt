@@ -1,11 +1,10 @@
 use Rattle.std.proofs.Common.{◌≡◌, ◌<◌, length, map, sym, ap, subst, ◌∙◌}
 use Rattle.std.specs.Option.{option_copied}
 use Rattle.ca_rule.specs.Rule.{rule_value, next_of}
-use Rattle.ca_text.specs.Asks.{asks_of}
-use Rattle.ca_text.specs.Both.{map_both, HoldsOfBoth}
-use Rattle.ca_text.specs.Text.{patterns_of, map_patterns}
+use Rattle.ca_text.specs.Kinds.{asks_of}
+use Rattle.ca_text.specs.Both.{HoldsOfBoth}
+use Rattle.ca_text.specs.Text.{map_patterns}
 use Rattle.ca_text.specs.Places.{path_at}
-use Rattle.ca_text.proofs.ClaimPatterns.{paths_of}
 use Rattle.ca_answers.specs.Files.{bytes_at}
 use Rattle.ca_verify.specs.declared.refusal.About.TheVariants.{Claim}
 use Rattle.ca_answers.specs.declared.verdict.Verdict.TheVariants.{Refused}
@@ -19,20 +18,17 @@ use Rattle.ca_verify.proofs.Causes.{passed_on, is_subject, true_verdict}
 use Rattle.ca_verify.proofs.verifier.judge.Goals as goal
 
 pub prepare-requires-clause-within : goal.prepare-requires-clause-within
-prepare-requires-clause-within g c =
-    subst (λ l. HoldsOfBoth (λ i. i < length l) c.patterns-places.result) (sym c.deref.ensures.value)
-    (subst (HoldsOfBoth (λ i. i < length c.args.task.now.needed.now.found.items)) (sym c.patterns-places.ensures) c.requires.within)
+prepare-requires-clause-within g c = subst (λ l. HoldsOfBoth (λ i. i < length l) c.args.task.now.claim.now.patterns) (sym c.deref.ensures.value) c.requires.within
 
 pub returns-in_err-prepared : goal.returns-in_err-prepared
 returns-in_err-prepared g c = λ files paths rules on.
     let claim = map_patterns (path_at paths) c.args.task.now.claim.now in
-    let same : map_both (path_at paths) c.patterns-places.result ≡ patterns_of claim = ap (map_both (path_at paths)) c.patterns-places.ensures ∙ sym (paths_of (path_at paths) c.args.task.now.claim.now) in
     let refusal = c.in_err-prepared.field-0.0 in
-    let refused = subst (λ ps. IsRefusal files paths rules c.asks-asks.result ps refusal) same
-    (c.in_err-prepared.ensures.prepared files paths rules (subst (λ l. map option_copied l ≡ map (bytes_at files) paths) (sym c.deref.ensures.value) on.found) on.read) in
+    let refused : IsRefusal files paths rules c.asks-asks.result claim.patterns refusal =
+    c.in_err-prepared.ensures.prepared files paths rules (subst (λ l. map option_copied l ≡ map (bytes_at files) paths) (sym c.deref.ensures.value) on.found) on.read in
     passed_on (λ verdict. IsJudgedOn files paths rules c.args.task.now.limits.work claim verdict Claim) (λ r. IsJudgedOn files paths rules c.args.task.now.limits.work claim (Refused r.cause) r.about) c.from_residual.result refusal c.from_residual.ensures.1
     (record {
-      holds = subst (λ asks. HasCause files rules asks (patterns_of claim) refusal.cause) c.asks-asks.ensures refused.holds;
+      holds = subst (λ asks. HasCause files rules asks claim.patterns refusal.cause) c.asks-asks.ensures refused.holds;
       within = λ out. let is : refusal.cause ≡ Work = cc in absurd (refused.idle is);
       on = refused.on;
     })
@@ -44,11 +40,9 @@ decide_on-requires-clause-subject g c =
 pub returns : goal.returns
 returns g c = λ files paths rules on.
     let claim = map_patterns (path_at paths) c.args.task.now.claim.now in
-    let same : map_both (path_at paths) c.patterns-places.result ≡ patterns_of claim = ap (map_both (path_at paths)) c.patterns-places.ensures ∙ sym (paths_of (path_at paths) c.args.task.now.claim.now) in
     let prepared = c.in_ok-prepared.prepared in
     let found = subst (λ l. map option_copied l ≡ map (bytes_at files) paths) (sym c.deref.ensures.value) on.found in
-    let is = subst (λ ps. IsPrepared files rules (asks_of claim.kind) ps prepared) same
-    (subst (λ asks. IsPrepared files rules asks (map_both (path_at paths) c.patterns-places.result) prepared) c.asks-asks.ensures (c.in_ok-prepared.ensures.prepared files paths rules found on.read)) in
+    let is = subst (λ asks. IsPrepared files rules asks claim.patterns prepared) c.asks-asks.ensures (c.in_ok-prepared.ensures.prepared files paths rules found on.read) in
     let fit = c.in_ok-prepared.ensures.fit in
     true_verdict files rules paths c.args.task.now.limits claim prepared c.decide_on.result is fit
     (λ out. subst (λ asks. IsNoMoreThan c.args.task.now.limits.work asks prepared.subject.pattern.level) c.asks-asks.ensures

@@ -3,10 +3,11 @@ use Rattle.std.specs.Str.{bytes_eq}
 use Rattle.std.proofs.lemmas.Bool.{true≢false}
 use Rattle.std.proofs.lemmas.Slice.Eq.{bytes_eq-Decides}
 use Rattle.ca_plane.specs.Bytes.{words_of}
-use Rattle.ca_text.specs.Text.{Claim, ClaimTextLine, Version, Rule, Load, Claims, WordsClaim, IsKindAfter, ClaimWordsSay, HasGoodNumbers}
+use Rattle.ca_text.specs.Kinds.{WordsClaim, HasGoodNumbers}
+use Rattle.ca_text.specs.Text.{Claim, ClaimTextLine, Version, Rule, Load, Claims, IsKindAfter, ClaimWordsSay}
 use Rattle.ca_text.specs.inner.Reading.{claim_of}
-use Rattle.ca_text.proofs.OneMeaning.{same_words}
-use Rattle.ca_text.proofs.words.line_kind.Goals as goal
+use Rattle.ca_text.proofs.KindWords.{same_words}
+use Rattle.ca_text.proofs.line_kind.line_kind.Goals as goal
 
 -- a keyword that fails the test for another
 other_keyword : (keyword spelled slice : List ℕ) → slice ≡ spelled → false ≡ bytes_eq keyword slice → keyword ≡ spelled → ⊥
@@ -63,8 +64,8 @@ returns-then-not-allows c = λ earlier known.
       sym c.begins_comment.ensures ∙ c.if-begins_comment.false,
       says_none earlier c.in-Some.keyword.now (words_of c.in-Some.rest.now) _ _ _ c.as_slice.ensures c.as_slice-2.ensures c.as_slice-3.ensures c.if-eq.ensures c.if-eq-2.ensures c.if-eq-3.ensures
           (λ claim h.
-          let same = (same_words all claim.pattern held.pattern claim.other held.other claim.kind made.0 h.0 made.1).2 in
-          let stands = (made.2.after earlier).0 (subst (IsKindAfter earlier) same h.1) in
+          let same = (same_words all claim.patterns held.patterns claim.kind made.0 h.0 made.1).1 in
+          let stands : IsKindAfter earlier c.in-Some-claim.claim.kind = λ second. subst (IsKindAfter earlier) same h.1 (made.2.version ∙ second) in
           true≢false (sym ((c.allows.ensures earlier known).1 stands) ∙ c.if-not-allows.true)),
     )
 
@@ -72,10 +73,10 @@ pub returns-then-not-has_good_numbers : goal.returns-then-not-has_good_numbers
 returns-then-not-has_good_numbers c = λ earlier known.
     let made = c.in-Some-claim.ensures in
     let held = claim_of c.in-Some-claim.claim in
-    let stands = (made.2.after earlier).1 ((c.allows.ensures earlier known).0 c.if-not-allows.false) in
+    let stands : IsKindAfter earlier made.0 = λ second. (c.allows.ensures earlier known).0 c.if-not-allows.false (sym made.2.version ∙ second) in
     rw c.in-Some.ensures.words (
       sym c.begins_comment.ensures ∙ c.if-begins_comment.false,
-      record { pattern = held.pattern; other = held.other; kind = made.0 },
+      record { patterns = held.patterns; kind = made.0 },
       (made.1, stands),
       λ good. true≢false (sym (c.has_good_numbers.ensures.1 (subst HasGoodNumbers (made.2.exact good) good)) ∙ c.if-not-has_good_numbers.true),
     )
@@ -88,6 +89,6 @@ returns c = λ earlier known.
     let all = c.in-Some.keyword.now ∷ words_of c.in-Some.rest.now in
     rw c.in-Some.ensures.words (
       sym c.begins_comment.ensures ∙ c.if-begins_comment.false,
-      (subst (WordsClaim all held.pattern held.other) (made.2.sound good) made.1, (c.allows.ensures earlier known).0 c.if-not-allows.false),
+      (subst (WordsClaim all held.patterns) (made.2.sound good) made.1, (c.allows.ensures earlier known).0 c.if-not-allows.false),
       good,
     )

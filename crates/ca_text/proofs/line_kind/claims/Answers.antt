@@ -4,7 +4,7 @@ use Rattle.std.proofs.lemmas.Bool.{true≢false}
 use Rattle.std.proofs.lemmas.Slice.Eq.{bytes_eq-Decides}
 use Rattle.ca_plane.specs.Bytes.{words_of}
 use Rattle.ca_text.proofs.OneMeaning.{not_version}
-use Rattle.ca_text.proofs.words.claims.Goals as goal
+use Rattle.ca_text.proofs.line_kind.claims.Goals as goal
 
 -- the same only word
 same_word : (a b : List ℕ) → a ∷ [] ≡ b ∷ [] → a ≡ b

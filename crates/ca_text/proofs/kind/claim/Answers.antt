@@ -4,7 +4,7 @@ use Rattle.std.specs.Str.{bytes_eq}
 use Rattle.std.proofs.lemmas.Slice.Eq.{bytes_eq-Decides}
 use Rattle.ca_plane.specs.Bytes.{words_of}
 use Rattle.ca_text.specs.inner.Reading.{IsClaimOfWords}
-use Rattle.ca_text.proofs.words.claim.Goals as goal
+use Rattle.ca_text.proofs.kind.claim.Goals as goal
 
 -- the claim of a keyword
 of_keyword : (keyword spelled slice words : List ℕ) (result : Option (ClaimOf (Bor (List ℕ)))) → slice ≡ spelled → true ≡ bytes_eq keyword slice
