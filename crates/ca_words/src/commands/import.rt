@@ -60,7 +60,7 @@ pub fn command<'a>(alloc: Global) -> Result<Command<'a>, AllocError> {
 
 fn source_word<'a>(alloc: Global) -> Arg<'a> {
     Arg::new(alloc, "FILE").required(true).help(
-        "The path of the file, Life 1.06, Life 1.05 or plaintext; - is standard input",
+        "The path of the file, Life 1.06, Life 1.05, plaintext or an apgcode; - is standard input",
     )
 }
 
