@@ -13,19 +13,20 @@ use std::alloc::Global;
 use std::process::Abort;
 use std::test::*;
 
-/// Conway's game of life: of a cell and its eight neighbours three are live, or four with the cell itself.
+/// Conway's game of life: of a cell and its eight neighbours three are live, or four with the cell itself. It has a
+/// third state, which no cell comes to, so that dense planes are leapt too.
 #[derive(Drop)]
 struct Life;
 
 impl Automaton for Life {
-    ghost state_count = { λ _. 2 };
+    ghost state_count = { λ _. 3 };
 
     ghost next_of = { λ _ nine. let count = slice_index nine 0 + slice_index nine 1 + slice_index nine 2 + slice_index nine 3 + slice_index nine 4 + slice_index nine 5 + slice_index nine 6 + slice_index nine 7 + slice_index nine 8 in if (count == 3) || ((count == 4) && (slice_index nine 4 == 1)) then 1 else 0 };
 
     ghost sound = { λ _. Unit {0} };
 
     fn states(&self) -> u16 {
-        2
+        3
     }
 
     fn next(&self, nine: &Nine) -> u8 {
@@ -231,7 +232,7 @@ fn spent_by(alloc: Global, plane: &Plane, n: u64, work: u64) -> Result<(u64, usi
 }
 
 /// Generations of a soup of 100 by 100 cells, how much work may be done, and how much is used up at least,
-/// where that is enough. It is leapt over, since `Life` tells no masks: `tests/limits.py` has one that is
+/// where that is enough. It is leapt over, since `Life` has three states: `tests/limits.py` has one that is
 /// stepped brick by brick.
 const SOUPS: &[(u64, u64, Result<u64, LeapFault>)] = &[
     (40, u64::MAX, Ok(800)),
