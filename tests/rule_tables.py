@@ -103,7 +103,7 @@ def two_states(runs, text, bits):
         runs.complaints.append(f"{text}: after 5 generations {got}")
 
 
-def dense_soup(runs, text, bits, side, generations):
+def dense_soup(runs, text, bits, side, count):
     """A soup of so many cells a side after some generations, under the table of a rule, beside naive steps. The table goes by a name that is no rule's own."""
     table, _ = written(runs, text)
     if not table:
@@ -113,12 +113,12 @@ def dense_soup(runs, text, bits, side, generations):
     left, top = chance.randrange(-200, 200), chance.randrange(-200, 200)
     live = {(left + x, top + y) for x in range(side) for y in range(side) if chance.random() < 0.4}
     pattern = runs.path("soup.rle", tidy({it: 1 for it in live}, "Named", 0, 2))
-    for _ in range(generations):
+    for _ in range(count):
         live = isotropic.step(live, bits)
-    got = run(["convert", pattern, "--to", "rle", "--after", str(generations), "--rule", path])
+    got = run(["convert", pattern, "--to", "rle", "--after", str(count), "--rule", path])
     runs.count += 1
     if got.status or set(cells_and_rule(got.printed.decode())[0]) != live:
-        runs.complaints.append(f"{text}: a soup of {side} after {generations} generations {got.complaint}")
+        runs.complaints.append(f"{text}: a soup of {side} after {count} generations {got.complaint}")
 
 
 def next_states(text):
@@ -180,8 +180,8 @@ def main():
         for text in BS_RULES:
             two_states(runs, text, counted_bits(steps.rule_of(rule_of(text.encode())[0])))
         runs.tell(tally, "B/S rules")
-        for text, side, generations in (*DENSE, *((text, 70, 32) for text in list(maps())[-3:])):
-            dense_soup(runs, text, next_states(text), side, generations)
+        for text, side, count in (*DENSE, *((text, 70, 32) for text in list(maps())[-3:])):
+            dense_soup(runs, text, next_states(text), side, count)
         runs.tell(tally, "dense soups")
         for text in GENERATIONS:
             generations(runs, text)
