@@ -212,6 +212,20 @@ def check_known(runs, tally):
     runs.tell(tally, "codes of known objects")
 
 
+def check_largest(runs, tally):
+    """Codes of the largest boxes, 40 by 40 cells and such rows and columns: full, at random, and with cells in the corners alone."""
+    chance = random.Random(40)
+    for wide, high in ((40, 40), (40, 1), (1, 40), (40, 39), (39, 40)):
+        places = [(x, y) for x in range(wide) for y in range(high)]
+        corners = {(x, y) for x in (0, wide - 1) for y in (0, high - 1)}
+        for cells in (set(places), corners, corners | {it for it in places if chance.random() < 0.5}):
+            text = f"xs0_{apgcode.representation(cells)}"
+            runs.expect("a code of a large box", ["import", "-"], ample(tidy({it: 1 for it in cells}, "B3/S23", 0, 2)), input=text.encode())
+    for text in ("xs0_y" + "z" * 2 + "1", "xs0_" + "z" * 8 + "1", "xs0_" + "1" * 41):
+        runs.expect("a code of a box that is too large", ["import", "-"], fault("import line 1: syntax"), input=text.encode())
+    runs.tell(tally, "codes of the largest boxes")
+
+
 def check_mutated(runs, tally, count, seed):
     """Mutated texts."""
     chance = random.Random(seed)
@@ -233,6 +247,7 @@ def main():
         runs = Runs(folder)
         check_examples(runs, tally)
         check_known(runs, tally)
+        check_largest(runs, tally)
         check_refused(runs, tally)
         check_rules(runs, tally)
         check_large(runs, tally)

@@ -121,6 +121,19 @@ def dense_soup(runs, text, bits, side, count):
         runs.complaints.append(f"{text}: a soup of {side} after {count} generations {got.complaint}")
 
 
+def large_soup(runs, text, side, count):
+    """A soup of many bricks under a B/S rule's own table, beside the same soup under the rule itself, which is stepped in another way."""
+    written_table = run(["rule", text]).printed.replace(f"@RULE {text}\n".encode(), b"@RULE Named\n", 1)
+    chance = random.Random(f"{text} {side}")
+    live = {(x, y): 1 for x in range(side) for y in range(side) if chance.random() < 0.4}
+    table = runs.path("named.rule", written_table)
+    ours, plain = (run(["convert", runs.path(f"{name}.rle", tidy(live, rule, 0, 2)), "--to", "rle", "--after", str(count), *words])
+                   for name, rule, words in (("named", "Named", ["--rule", table]), ("plain", text, [])))
+    runs.count += 1
+    if ours.status or plain.status or cells_and_rule(ours.printed.decode())[0] != cells_and_rule(plain.printed.decode())[0]:
+        runs.complaints.append(f"{text}: a soup of {side} after {count} generations {ours.complaint or plain.complaint}")
+
+
 def next_states(text):
     """The next states of all 512 neighbourhoods."""
     return counted_bits(steps.rule_of(rule_of(text.encode())[0])) if is_known(text) else isotropic.rule_bits(text)
@@ -182,6 +195,8 @@ def main():
         runs.tell(tally, "B/S rules")
         for text, side, count in (*DENSE, *((text, 70, 32) for text in list(maps())[-3:])):
             dense_soup(runs, text, next_states(text), side, count)
+        for text, side in (("B3/S23", 1000), ("B34/S456", 700), ("B2/S2H", 600)):
+            large_soup(runs, text, side, 64)
         runs.tell(tally, "dense soups")
         for text in GENERATIONS:
             generations(runs, text)
