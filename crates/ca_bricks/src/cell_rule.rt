@@ -17,7 +17,7 @@ pub enum CellRule {
 }
 
 impl CellRule {
-    /// That of a rule of two states.
+    /// That of a rule of two states, and none of one of more.
     ///
     /// # Errors
     ///

@@ -46,7 +46,7 @@ pub fn digits_alone()
         → isotropic_next birth survival nine ≡ counted_next birth survival nine }
 {}
 
-/// A text names one rule of two states at most, or has one fault, and not both.
+/// A text names one rule at most, or has one fault, and not both.
 pub fn one_text_rule()
     ensures one_rule { HasAtMostOne NamesTextRule }
     ensures rule_alone { (text : List ℕ) (rule : TextRule) (fault : RuleFault) → NamesTextRule text rule

@@ -183,16 +183,16 @@ impl<A: Automaton> Leaper<A> {
     fn dense_rule(&self) -> Result<Option<DenseRule>, Memory>
         ensures { IfOk result (λ found. IfSome found (GoesDensely (A.next_of self.now.rule))) }
     {
-        let alloc = self.recent_centres.allocator();
-        if let Some(rule) = CellRule::of(alloc, &self.rule)? {
-            return Ok(Some(DenseRule::ByCells(rule)));
-        }
         // Says how many any rule has.
         let _states = self.rule.states();
-        let Some(ageing) = self.rule.ageing() else {
+        if let Some(ageing) = self.rule.ageing() {
+            return Ok(Some(DenseRule::ByAgeing(ageing)));
+        }
+        let alloc = self.recent_centres.allocator();
+        let Some(rule) = CellRule::of(alloc, &self.rule)? else {
             return Ok(None);
         };
-        Ok(Some(DenseRule::ByAgeing(ageing)))
+        Ok(Some(DenseRule::ByCells(rule)))
     }
 
     // What is reached by one grid more, where the plane is not too large.
