@@ -2,8 +2,8 @@
 """`cafile rule`: isotropic rules in Hensel's notation, MAP strings, B/S and Generations rules, written as rule tables, and texts that are refused.
 
 What is written is read by the reader of tests/lib/rule_table.py, and its next states are compared with those of tests/lib/isotropic.py and of
-tests/lib/steps.py, which know nothing of tables; and soups that the program runs under the written table with naive steps: small ones, which are leapt, and dense
-ones, which are stepped by a diagram of the rule.
+tests/lib/steps.py, which know nothing of tables; and soups that the program runs under the written table with naive steps: small ones, which are leapt, cell by
+cell or by a diagram of the rule, and dense ones, which are stepped by one.
 """
 import random
 import tempfile
@@ -40,6 +40,13 @@ REFUSED = (
 # Soups under rules whose diagrams have few nodes and many: the side, and the generations. Random MAP strings give the largest diagrams.
 DENSE = (("B2-a/S12", 100, 65), ("B3/S2-i34q", 90, 33), ("B3-cnry4z/S2-k3", 80, 64), ("B34ceky/S23-a4cityz", 80, 33), ("B2kin3aj/S23-ik", 80, 32), ("B8/S8", 80, 40),
          ("B3/S23", 90, 129), ("B2/S013V", 80, 33), ("B24/S34H", 80, 33))
+
+# Soups that are leapt over by a diagram, since they are small: the side, and the generations.
+LEAPT = (("B2-a/S12", 20, 64), ("B3/S2-i34q", 24, 127), ("B3-cnry4z/S2-k3", 30, 96), ("B34ceky/S23-a4cityz", 16, 65), ("B2kin3aj/S23-ik", 24, 100), ("B3/S23", 24, 200),
+         ("B2/S013V", 10, 64), ("B24/S34H", 16, 70))
+
+# Rules under which small soups settle to oscillators.
+SETTLING = ("B3-cnry4z/S2-k3", "B2kin3aj/S23-ik", "B3-k/S23", "B3/S2-i34q")
 
 # The neighbours of a cell in the order of a table's ring, as the bits of a neighbourhood's number.
 RING_BITS = (128, 64, 8, 1, 2, 4, 32, 256)
@@ -103,7 +110,7 @@ def two_states(runs, text, bits):
         runs.complaints.append(f"{text}: after 5 generations {got}")
 
 
-def dense_soup(runs, text, bits, side, count):
+def soup(runs, text, bits, side, count):
     """A soup of so many cells a side after some generations, under the table of a rule, beside naive steps. The table goes by a name that is no rule's own."""
     table, _ = written(runs, text)
     if not table:
@@ -132,6 +139,29 @@ def large_soup(runs, text, side, count):
     runs.count += 1
     if ours.status or plain.status or cells_and_rule(ours.printed.decode())[0] != cells_and_rule(plain.printed.decode())[0]:
         runs.complaints.append(f"{text}: a soup of {side} after {count} generations {ours.complaint or plain.complaint}")
+
+
+def long_run(runs, text, bits):
+    """A small soup that naive steps show to settle, after so many generations that it is only leapt over."""
+    table, path = written(runs, text)
+    for seed in range(40 if table else 0):
+        chance = random.Random(f"{text} {seed}")
+        live = frozenset((x, y) for x in range(8) for y in range(8) if chance.random() < 0.4)
+        seen, planes = {}, []
+        while live not in seen and len(planes) < 150:
+            seen[live] = len(planes)
+            planes.append(live)
+            live = frozenset(isotropic.step(live, bits))
+        if live and live in seen:
+            count = (1 << 41) + seed
+            want = planes[seen[live] + (count - seen[live]) % (len(planes) - seen[live])]
+            pattern = runs.path("soup.rle", tidy({it: 1 for it in planes[0]}, text, 0, 2))
+            got = run(["convert", pattern, "--to", "rle", "--after", str(count), "--rule", path])
+            runs.count += 1
+            if got.status or set(cells_and_rule(got.printed.decode())[0]) != want:
+                runs.complaints.append(f"{text}: a small soup after {count} generations {got.complaint}")
+            return
+    runs.complaints.append(f"{text}: no small soup settles")
 
 
 def next_states(text):
@@ -194,10 +224,15 @@ def main():
             two_states(runs, text, counted_bits(steps.rule_of(rule_of(text.encode())[0])))
         runs.tell(tally, "B/S rules")
         for text, side, count in (*DENSE, *((text, 70, 32) for text in list(maps())[-3:])):
-            dense_soup(runs, text, next_states(text), side, count)
+            soup(runs, text, next_states(text), side, count)
         for text, side in (("B3/S23", 1000), ("B34/S456", 700), ("B2/S2H", 600)):
             large_soup(runs, text, side, 64)
         runs.tell(tally, "dense soups")
+        for text, side, count in (*LEAPT, *((text, 12, 64) for text in list(maps())[-3:])):
+            soup(runs, text, next_states(text), side, count)
+        for text in SETTLING:
+            long_run(runs, text, next_states(text))
+        runs.tell(tally, "soups that are leapt over")
         for text in GENERATIONS:
             generations(runs, text)
         runs.tell(tally, "Generations rules")

@@ -1,5 +1,5 @@
 -- The bits of words that are moved by one, and sums of bits.
-use Rattle.std.proofs.Common.{◌≡◌, ℕ, zero, suc, ◌+◌, ◌-◌, ◌*◌, ◌/◌, ◌%◌, ◌^◌, ◌<◌, max, inl, inr, refl, sym, ap, ap₂, ◌∙◌, arith, if◌then◌else◌, nat_lt, Bool, true, false, ◌≤◌, ◌==◌, slice_index}
+use Rattle.std.proofs.Common.{◌≡◌, ℕ, zero, suc, ◌+◌, ◌-◌, ◌*◌, ◌/◌, ◌%◌, ◌^◌, ◌<◌, min, max, inl, inr, refl, sym, ap, ap₂, ◌∙◌, arith, if◌then◌else◌, nat_lt, Bool, true, false, ◌≤◌, ◌==◌, slice_index}
 use Rattle.std.specs.Prelude.{bit_and, bit_or, bit_xor}
 use Rattle.std.specs.Int.{bit_at}
 use Rattle.std.proofs.lemmas.Bool.{cond_below, cond_above}
@@ -69,15 +69,17 @@ pick zero there elsewhere bit low none one = none refl
 pick (suc zero) there elsewhere bit low none one = one refl
 pick (suc (suc which)) there elsewhere bit low none one = absurd (omega arith)
 
+-- what differs of two bits, where a third is 1, added to the second of them
+pub selected : (which there elsewhere inner middle outer : ℕ) → which < 2 → there < 2 → elsewhere < 2
+    → inner ≡ (there + elsewhere) % 2 → middle ≡ min which inner → outer ≡ (elsewhere + middle) % 2 → outer ≡ (if which == 0 then elsewhere else there)
+selected which there elsewhere inner middle outer low t e is_inner is_middle is_outer =
+    pick which there elsewhere outer low (λ none. omega (arith, none, is_inner, is_middle, is_outer, t, e)) (λ one. omega (arith, one, is_inner, is_middle, is_outer, t, e))
+
 pub chosen_bit : (which there elsewhere x : ℕ)
     → bit_at (bit_xor elsewhere (bit_and which (bit_xor there elsewhere))) x ≡ (if bit_at which x == 0 then bit_at elsewhere x else bit_at there x)
 chosen_bit which there elsewhere x =
-    let outer = bit_at_xor elsewhere (bit_and which (bit_xor there elsewhere)) x in
-    let middle = bit_at_and which (bit_xor there elsewhere) x in
-    let inner = bit_at_xor there elsewhere x in
-    pick (bit_at which x) (bit_at there x) (bit_at elsewhere x) _ (bit_at-lt which x)
-    (λ none. omega (arith, none, outer, middle, inner, bit_at-lt there x, bit_at-lt elsewhere x))
-    (λ one. omega (arith, one, outer, middle, inner, bit_at-lt there x, bit_at-lt elsewhere x))
+    selected (bit_at which x) (bit_at there x) (bit_at elsewhere x) _ _ _ (bit_at-lt which x) (bit_at-lt there x) (bit_at-lt elsewhere x)
+    (bit_at_xor there elsewhere x) (bit_at_and which (bit_xor there elsewhere) x) (bit_at_xor elsewhere (bit_and which (bit_xor there elsewhere)) x)
 
 -- where the bit of a number tells which of two others it is, what is chosen by the bit is told by the number
 pub told_by_bit : (told : ℕ → ℕ) (which low high n there elsewhere bit : ℕ) → which < 2 → bit ≡ (if which == 0 then elsewhere else there)

@@ -6,7 +6,8 @@ use Rattle.ca_plane.specs.Shown.{row_cells}
 use Rattle.ca_bricks.specs.Diagrams.{states_of, node_state}
 use Rattle.ca_bricks.specs.declared.diagram.Node.{Node}
 use Rattle.ca_bricks.specs.declared.diagram.Node.TheVariants.{State}
-use Rattle.ca_bricks.specs.inner.Planes.{cells_at}
+use Rattle.ca_bricks.specs.declared.kernel.bits.Bits.{Bits}
+use Rattle.ca_bricks.specs.inner.Planes.{cells_at, tile_planes}
 
 -- one of them is that of its rows
 pub read : (planes : List (List ℕ)) (i x y : ℕ) → slice_index (cells_at planes x y) i ≡ row_cells (get_or planes i []) x y
@@ -44,3 +45,7 @@ states_more nodes nine states n state is next =
 -- and the states of each cell with the rows of one node more
 pub cells_more : (planes : List (List ℕ)) (rows : List ℕ) (x y : ℕ) → cells_at (planes ++ (rows ∷ [])) x y ≡ cells_at planes x y ++ (row_cells rows x y ∷ [])
 cells_more planes rows x y = map-append (λ rows. row_cells rows x y) planes (rows ∷ [])
+
+-- the same for a tile
+pub tile_more : (planes : List Bits) (bits : Bits) (x y : ℕ) → cells_at (tile_planes (planes ++ (bits ∷ []))) x y ≡ cells_at (tile_planes planes) x y ++ (row_cells bits.rows x y ∷ [])
+tile_more planes bits x y = ap (λ l. cells_at l x y) (map-append (λ bits. bits.rows) planes (bits ∷ [])) ∙ cells_more (tile_planes planes) bits.rows x y

@@ -12,7 +12,7 @@ use Rattle.ca_plane.specs.declared.counting.Counting.{Counting}
 use Rattle.ca_plane.specs.Shown.{row_cells}
 use Rattle.ca_plane.proofs.Numbers.{below_or_not}
 use Rattle.ca_bricks.specs.Lanes.{tile_cell, IsWithinEdge}
-use Rattle.ca_bricks.specs.Tiles.{next_by_count, sum_round}
+use Rattle.ca_bricks.specs.Tiles.{next_by_count, sum_round, nine_at}
 use Rattle.ca_bricks.proofs.NeighbourSums.{sum_counted, sum_round-le}
 
 -- the nine cells round a place that isn't in the first row or column
@@ -62,25 +62,29 @@ inner_edge x (suc y) out = elim (below_or_not y 14) [
   | inr b ↦ ap (λ r. bit_at r x) (later_row y b) ∙ bit_at-zero x
 ]
 
--- what is counted and decided at each place is the next generation within the edge
+-- what is told of the nine cells round each place is told within the edge
+pub told_within : (told : List ℕ → ℕ) (rows next : List ℕ)
+    → ((x y : ℕ) → x < 14 → y < 14 → row_cells next (suc x) (suc y) ≡ told (nine_at (row_cells rows) x y))
+    → (x y : ℤ) → IsWithinEdge x y → tile_cell next x y ≡ told (around (tile_cell rows) x y)
+told_within told rows next is (negsuc x) y within = absurd (omega (arith, ints, within.0))
+told_within told rows next is (pos x) (negsuc y) within = absurd (omega (arith, ints, within.2))
+told_within told rows next is (pos zero) (pos y) within = absurd (omega (arith, ints, within.0))
+told_within told rows next is (pos (suc x)) (pos zero) within = absurd (omega (arith, ints, within.2))
+told_within told rows next is (pos (suc x)) (pos (suc y)) within =
+    is x y (omega (arith, ints, within.1)) (omega (arith, ints, within.3)) ∙ sym (ap told (around-suc (tile_cell rows) x y))
+
+-- so is what is counted and decided at each place
 pub next_within : (counting : Counting) (rows next : List ℕ) (count : ℕ → ℕ → ℕ)
     → ((x y : ℕ) → x < 14 → y < 14 → count (suc x) (suc y) ≡ sum_round counting.neighbourhood (row_cells rows) x y)
     → ((x y : ℕ) → x < 16 → y < 16 → count x y ≤ 8 → row_cells next x y ≡ next_by_count counting.birth counting.survival (row_cells rows x y) (count x y))
     → (x y : ℤ) → IsWithinEdge x y → tile_cell next x y ≡ counting_next counting (around (tile_cell rows) x y)
-next_within counting rows next count counted lives_next (negsuc x) y within = absurd (omega (arith, ints, within.0))
-next_within counting rows next count counted lives_next (pos x) (negsuc y) within = absurd (omega (arith, ints, within.2))
-next_within counting rows next count counted lives_next (pos zero) (pos y) within = absurd (omega (arith, ints, within.0))
-next_within counting rows next count counted lives_next (pos (suc x)) (pos zero) within = absurd (omega (arith, ints, within.2))
-next_within counting rows next count counted lives_next (pos (suc x)) (pos (suc y)) within =
-    let h : x < 14 = omega (arith, ints, within.1) in
-    let k : y < 14 = omega (arith, ints, within.3) in
+next_within counting rows next count counted lives_next = told_within (counting_next counting) rows next (λ x y h k.
     let cells = row_cells rows in
     let n : count (suc x) (suc y) ≡ sum_round counting.neighbourhood cells x y = counted x y h k in
     let low = sum_round-le counting.neighbourhood cells x y (λ u v. bit_at-lt (slice_index rows v) u) in
     let most : count (suc x) (suc y) ≤ 8 = omega (arith, n, low) in
     lives_next (suc x) (suc y) (omega arith) (omega arith) most
-    ∙ ap (next_by_count counting.birth counting.survival (cells (suc x) (suc y))) (n ∙ sum_counted counting.neighbourhood cells x y)
-    ∙ sym (ap (counting_next counting) (around-suc (tile_cell rows) x y))
+    ∙ ap (next_by_count counting.birth counting.survival (cells (suc x) (suc y))) (n ∙ sum_counted counting.neighbourhood cells x y))
 
 -- what is cut at the edge stays within it
 pub cut_within : (next result : List ℕ) → ((x y : ℕ) → row_cells result x y ≡ min (row_cells next x y) (row_cells inner x y))

@@ -14,15 +14,14 @@ use Rattle.std.proofs.lemmas.Simd.{length-zip2, get_or-zip2, get_or_narrower}
 use Rattle.std.specs.Simd.Lanes.{zip2, digits_l, number_l}
 use Rattle.std.proofs.lemmas.List.Elements.{All-from_recursion}
 use Rattle.ca_plane.specs.Generations.{around, cells_after}
-use Rattle.ca_plane.specs.Counting.{counting_next}
-use Rattle.ca_plane.specs.declared.counting.Counting.{Counting}
 use Rattle.ca_plane.specs.Shown.{row_cells, word_cells}
 use Rattle.ca_plane.proofs.Numbers.{below_or_not}
 use Rattle.ca_bricks.specs.declared.word_square.WordSquare.{WordSquare}
-use Rattle.ca_bricks.specs.Lanes.{tile_cell, IsWithinEdge}
+use Rattle.ca_bricks.specs.Lanes.{tile_cell}
 use Rattle.ca_bricks.specs.WordSquares.{WordSquareShows, TileShows, word_bytes_at, inner_byte}
 use Rattle.ca_bricks.specs.Words.{WordShows, byte_of}
-use Rattle.ca_bricks.specs.Counting.{GoesBy}
+use Rattle.ca_bricks.specs.CellRules.{GoesByCells, IsTileNext}
+use Rattle.ca_bricks.specs.declared.cell_rule.CellRule.{CellRule}
 use Rattle.ca_plane.specs.Box.{IsWithin}
 use Rattle.ca_plane.proofs.After.{around-same, around-nine_states}
 use Rattle.ca_bricks.proofs.BitRows.{bit_low}
@@ -182,13 +181,12 @@ pub tile_less : (rows : List ℕ) (m n : ℕ) (p : ℤ → ℤ → ℕ) (a b : �
 tile_less rows m n p a b few shows = record { looks = λ x y i j k l. shows.looks x y (omega arith) (omega arith) (omega arith) (omega arith) }
 
 -- a generation of the tile is one of the plane, but for one more row and column at each side
-module _ (next : List ℕ → ℕ) (counting : Counting) (goes_by : GoesBy next counting) (old new : List ℕ)
-    (made : (x y : ℤ) → IsWithinEdge x y → tile_cell new x y ≡ counting_next counting (around (tile_cell old) x y)) where
+module _ (next : List ℕ → ℕ) (rule : CellRule) (goes_by : GoesByCells next rule) (old new : List ℕ) (made : IsTileNext rule old new) where
   pub tile_goes_on : (m : ℕ) (p : ℤ → ℤ → ℕ) (a b : ℤ) → TileShows old m (cells_after next p m) a b → TileShows new (suc m) (cells_after next p (suc m)) a b
   tile_goes_on m p a b shows = record {
     looks = λ x y i j k l.
         made (pos x) (pos y) (omega (arith, ints), omega (arith, ints), omega (arith, ints), omega (arith, ints))
-        ∙ sym (goes_by.by_counting.goes_by (around (tile_cell old) (pos x) (pos y)) refl (around_bits old (pos x) (pos y)))
+        ∙ sym (goes_by.goes_by (around (tile_cell old) (pos x) (pos y)) refl (around_bits old (pos x) (pos y)))
         ∙ ap next (around-same (tile_cell old) (λ u v. cells_after next p m (a +ℤ u) (b +ℤ v)) (pos x) (pos y) (λ u v round. inside x y i j k l u v round)
         ∙ around-nine_states (cells_after next p m) a b (pos x) (pos y));
   }

@@ -1,13 +1,9 @@
 -- Bits of the cells of a tile, and numbers of live cells in binary.
-use Rattle.std.specs.Prelude.{◌≡◌, ℕ, suc, ◌+◌, ◌*◌, ℤ, List, [], ◌∷◌, Bool, ◌==◌, if◌then◌else◌}
+use Rattle.std.specs.Prelude.{ℕ, suc, ◌+◌, ◌*◌, List, [], ◌∷◌, Bool, ◌==◌, if◌then◌else◌}
 use Rattle.std.specs.Int.{bit_at}
-use Rattle.ca_plane.specs.Counting.{counting_next}
-use Rattle.ca_plane.specs.Generations.{around}
-use Rattle.ca_plane.specs.declared.counting.Counting.{Counting}
 use Rattle.ca_plane.specs.declared.counting.Neighbourhood.{Neighbourhood}
 use Rattle.ca_plane.specs.declared.counting.Neighbourhood.TheVariants.{Moore, VonNeumann, Hexagonal}
 use Rattle.ca_plane.specs.Shown.{row_cells}
-use Rattle.ca_bricks.specs.Lanes.{tile_cell, IsWithinEdge}
 use Rattle.ca_bricks.specs.declared.count.Count.{Count}
 use Rattle.ca_bricks.specs.declared.kernel.bits.Bits.{Bits}
 
@@ -48,8 +44,3 @@ nine_at at x y =
     at x y ∷ at (suc x) y ∷ at (suc (suc x)) y
     ∷ at x (suc y) ∷ at (suc x) (suc y) ∷ at (suc (suc x)) (suc y)
     ∷ at x (suc (suc y)) ∷ at (suc x) (suc (suc y)) ∷ at (suc (suc x)) (suc (suc y)) ∷ []
-
--- but for its edge, the later tile is one generation on, under the rule with this counting
-abbrev pub IsCountedTile : Counting → (tile later : List ℕ) → Type 0
-IsCountedTile counting tile later = (x y : ℤ) → IsWithinEdge x y
-    → tile_cell later x y ≡ counting_next counting (around (tile_cell tile) x y)

@@ -2,7 +2,7 @@
 
 ghost use Rattle.std.specs.Prelude.{◌≡◌, ◌<◌, ◌/◌, ◌%◌, true, slice_index, IfOk, IfSome};
 ghost use Rattle.ca_bricks.specs.Diagrams.{node_state, diagram_next};
-ghost use Rattle.ca_bricks.specs.inner.Neighbourhoods.{neighbourhood, TellsNext};
+ghost use Rattle.ca_bricks.specs.inner.Neighbourhoods.{neighbourhood, AreNextStates, TellsNext};
 
 use ca_plane::{Automaton, Memory, Nine};
 use std::alloc::Global;
@@ -61,12 +61,12 @@ impl Node {
 }
 
 impl Diagram {
-    // The diagram of a rule, which is right if the rule has two states.
-    fn built<A: Automaton>(alloc: Global, rule: &A) -> Result<Diagram, Memory> {
+    // The diagram of a rule with these next states, which is right if they are dead or live.
+    fn built(alloc: Global, states: &[u8]) -> Result<Diagram, Memory> {
         let mut nodes = Vec::new(alloc);
         nodes.push(Node::State(false))?;
         nodes.push(Node::State(true))?;
-        let mut ids = next_states(alloc, rule)?;
+        let mut ids = state_ids(alloc, states)?;
         'places: for place in PLACES {
             ids = joined(alloc, &mut nodes, place, &ids)?;
         }
@@ -86,21 +86,22 @@ impl Diagram {
         if rule.states() != 2 {
             return Ok(None);
         }
-        let diagram = Diagram::built(alloc, rule)?;
-        if diagram.tells_next(alloc, rule)? {
+        let states = next_states(alloc, rule)?;
+        let diagram = Diagram::built(alloc, &states)?;
+        if diagram.gives(alloc, &states)? {
             return Ok(Some(diagram));
         }
         Ok(None)
     }
 
-    // Whether it has the rule's next state of each neighbourhood.
-    fn tells_next<A: Automaton>(&self, alloc: Global, rule: &A) -> Result<bool, Memory>
-        ensures { IfOk result (λ tells. tells ≡ true → TellsNext (A.next_of rule.now) self.now.nodes.items) }
+    // Whether it gives the state with the same number for each neighbourhood.
+    fn gives(&self, alloc: Global, next_states: &[u8]) -> Result<bool, Memory>
+        ensures { IfOk result (λ gives. gives ≡ true → AreNextStates (diagram_next self.now.nodes.items) next_states.now) }
     {
         let mut states = Vec::new(alloc);
         'numbers: for number in 0..NEIGHBOURHOODS {
             let nine = neighbourhood(number);
-            if self.next(&nine, &mut states)? != rule.next(&nine) {
+            if self.next(&nine, &mut states)? != state_at(next_states, usize::from(number)) {
                 return Ok(false);
             }
         }
@@ -152,12 +153,22 @@ fn cell(number: u16, weight: u16) -> u8
     (number / weight % 2) as u8
 }
 
-// For each neighbourhood the node of the rule's next state.
-fn next_states<A: Automaton>(alloc: Global, rule: &A) -> Result<Vec<usize>, Memory> {
-    let mut ids = Vec::new(alloc);
+// The rule's next state of each neighbourhood.
+fn next_states<A: Automaton>(alloc: Global, rule: &A) -> Result<Vec<u8>, Memory>
+    ensures { IfOk result (λ states. AreNextStates (A.next_of rule.now) states.items) }
+{
+    let mut states = Vec::new(alloc);
     'numbers: for number in 0..NEIGHBOURHOODS {
-        let state = rule.next(&neighbourhood(number));
-        ids.push(usize::from(state != 0))?;
+        states.push(rule.next(&neighbourhood(number)))?;
+    }
+    Ok(states)
+}
+
+// The nodes of these states.
+fn state_ids(alloc: Global, states: &[u8]) -> Result<Vec<usize>, Memory> {
+    let mut ids = Vec::new(alloc);
+    'states: for state in states {
+        ids.push(usize::from(*state != 0))?;
     }
     Ok(ids)
 }

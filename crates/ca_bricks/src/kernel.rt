@@ -8,7 +8,9 @@ ghost use Rattle.std.specs.List.{All};
 ghost use Rattle.std.specs.Int.{bit_at};
 ghost use Rattle.ca_plane.specs.Shown.{row_cells};
 ghost use Rattle.ca_bricks.specs.Lanes.{tile_cell, IsWithinEdge, IsNextTile};
-ghost use Rattle.ca_bricks.specs.Tiles.{lives_next, next_by_count, number, IsCountedTile};
+ghost use Rattle.ca_bricks.specs.CellRules.{IsTileNext};
+ghost use Rattle.ca_bricks.specs.declared.cell_rule.CellRule.TheVariants.{ByCounting};
+ghost use Rattle.ca_bricks.specs.Tiles.{lives_next, next_by_count, number};
 
 use crate::count::Count;
 use crate::neighbours::EightNeighbours;
@@ -47,7 +49,7 @@ pub fn kernel16(rows: &[u16; 16], birth: u16, survive: u16) -> [u16; 16]
 #[inline(always)]
 pub fn next_tile<C: CountInTile>(alive: Bits, counting: Counting) -> Bits
     requires { C.counted ≡ counting.neighbourhood }
-    ensures { IsCountedTile counting alive.rows result.rows }
+    ensures { IsTileNext (ByCounting counting) alive.rows result.rows }
 {
     next_bits::<C>(alive, C::count(alive), counting.birth, counting.survival)
 }

@@ -10,6 +10,7 @@ mod count;
 mod cut;
 mod diagram;
 mod diagram_rows;
+mod diagram_tile;
 mod grid;
 mod kernel;
 mod neighbours;

@@ -1,15 +1,18 @@
 //! Squares of 16 by 16 cells of two states, row by row.
 
-ghost use Rattle.std.specs.Prelude.{◌≡◌, ℕ, ◌/◌, ◌%◌, ◌<◌, ℤ, pos, ◌+ℤ◌, List, length, slice_index};
+ghost use Rattle.std.specs.Prelude.{◌≡◌, ℕ, ◌/◌, ◌%◌, ◌<◌, ℤ, pos, ◌+ℤ◌, List, length, slice_index, IfOk};
 ghost use Rattle.ca_plane.specs.Generations.{cells_after};
 ghost use Rattle.ca_bricks.specs.WordSquares.{WordSquareShows, TileShows, word_bytes_at};
 ghost use Rattle.ca_bricks.specs.Words.{WordShows};
-ghost use Rattle.ca_bricks.specs.Counting.{GoesBy};
+ghost use Rattle.ca_bricks.specs.CellRules.{GoesByCells};
+ghost use Rattle.ca_bricks.specs.declared.cell_rule.CellRule.TheVariants.{ByCounting, ByDiagram};
 
+use crate::cell_rule::CellRule;
+use crate::diagram::Diagram;
 use crate::kernel::{Bits, CountInTile, next_tile};
 use crate::neighbours::{EightNeighbours, FourNeighbours, SixNeighbours};
 use crate::word_square::WordSquare;
-use ca_plane::{Counting, Neighbourhood};
+use ca_plane::{Counting, Memory, Neighbourhood};
 use std::simd::prelude::*;
 
 /// The tile of a square.
@@ -33,10 +36,46 @@ fn bytes_of(north: u64, south: u64) -> u16x16
     u64x2::from_array([north, south]).to_le_bytes().cast()
 }
 
-/// The tile so many generations on, as far from its edge as they reach. The rule goes by this counting.
+/// The tile so many generations on, as far from its edge as they reach. What `scratch` holds is lost.
 #[inline(always)]
-pub(crate) fn later_tile(tile: Bits, counting: Counting, n: u8) -> Bits
-    ensures { (next : List ℕ → ℕ) (p : ℤ → ℤ → ℕ) (a b : ℤ) → GoesBy next counting
+pub(crate) fn later_tile(
+    tile: Bits,
+    rule: &CellRule,
+    n: u8,
+    scratch: &mut Vec<Bits>,
+) -> Result<Bits, Memory>
+    ensures { (next : List ℕ → ℕ) (p : ℤ → ℤ → ℕ) (a b : ℤ) → GoesByCells next rule.now
+        → TileShows tile.rows 0 p a b
+        → IfOk result (λ later. TileShows later.rows n (cells_after next p n) a b) }
+{
+    match rule {
+        CellRule::ByCounting(counting) => Ok(later_by_counting(tile, *counting, n)),
+        CellRule::ByDiagram(diagram) => later_by_diagram(tile, diagram, n, scratch),
+    }
+}
+
+// The same, by a decision diagram.
+fn later_by_diagram(
+    tile: Bits,
+    diagram: &Diagram,
+    n: u8,
+    scratch: &mut Vec<Bits>,
+) -> Result<Bits, Memory>
+    ensures { (next : List ℕ → ℕ) (p : ℤ → ℤ → ℕ) (a b : ℤ) → GoesByCells next (ByDiagram diagram.now)
+        → TileShows tile.rows 0 p a b
+        → IfOk result (λ later. TileShows later.rows n (cells_after next p n) a b) }
+{
+    let mut now = tile;
+    'generations: for _ in 0..n {
+        now = diagram.next_tile(now, scratch)?;
+    }
+    Ok(now)
+}
+
+// The same, by a counting.
+#[inline(always)]
+fn later_by_counting(tile: Bits, counting: Counting, n: u8) -> Bits
+    ensures { (next : List ℕ → ℕ) (p : ℤ → ℤ → ℕ) (a b : ℤ) → GoesByCells next (ByCounting counting)
         → TileShows tile.rows 0 p a b → TileShows result.rows n (cells_after next p n) a b }
 {
     match counting.neighbourhood {
@@ -50,7 +89,7 @@ pub(crate) fn later_tile(tile: Bits, counting: Counting, n: u8) -> Bits
 #[inline(always)]
 fn later_counted<C: CountInTile>(tile: Bits, counting: Counting, n: u8) -> Bits
     requires { C.counted ≡ counting.neighbourhood }
-    ensures { (next : List ℕ → ℕ) (p : ℤ → ℤ → ℕ) (a b : ℤ) → GoesBy next counting
+    ensures { (next : List ℕ → ℕ) (p : ℤ → ℤ → ℕ) (a b : ℤ) → GoesByCells next (ByCounting counting)
         → TileShows tile.rows 0 p a b → TileShows result.rows n (cells_after next p n) a b }
 {
     let mut now = tile;

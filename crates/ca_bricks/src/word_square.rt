@@ -1,13 +1,15 @@
 //! Squares of 16 by 16 cells of two states, as four words of 64 bits.
 
-ghost use Rattle.std.specs.Prelude.{ℕ, ◌≤◌, ℤ, pos, ◌+ℤ◌, List};
+ghost use Rattle.std.specs.Prelude.{ℕ, ◌≤◌, ℤ, pos, ◌+ℤ◌, List, IfOk};
 ghost use Rattle.ca_plane.specs.Generations.{cells_after};
 ghost use Rattle.ca_bricks.specs.WordSquares.{WordSquareShows};
 ghost use Rattle.ca_bricks.specs.Words.{WordShows};
-ghost use Rattle.ca_bricks.specs.Counting.{GoesBy};
+ghost use Rattle.ca_bricks.specs.CellRules.{GoesByCells};
 
+use crate::cell_rule::CellRule;
+use crate::kernel::Bits;
 use crate::tile::{later_tile, middle, tile_of};
-use ca_plane::Counting;
+use ca_plane::Memory;
 
 /// The four quarters of a square of 16 by 16 cells: bit `8 * y + x` of each is its cell at (x, y).
 #[derive(Clone, Copy, Drop)]
@@ -19,13 +21,19 @@ pub struct WordSquare {
 }
 
 impl WordSquare {
-    /// The 8 by 8 cells in the middle after n generations, at most 4, under a rule that goes by this counting.
-    pub fn centre(&self, counting: Counting, n: u8) -> u64
+    /// The 8 by 8 cells in the middle after n generations, at most 4. What `scratch` holds is lost.
+    ///
+    /// # Errors
+    ///
+    /// Fails where there is no memory for what a diagram's nodes stand for.
+    pub fn centre(&self, rule: &CellRule, n: u8, scratch: &mut Vec<Bits>) -> Result<u64, Memory>
         requires { n ≤ 4 }
-        ensures { (next : List ℕ → ℕ) (p : ℤ → ℤ → ℕ) (a b : ℤ) → GoesBy next counting → WordSquareShows self.now p a b
-            → WordShows result (cells_after next p n) (a +ℤ pos 4) (b +ℤ pos 4) }
+        ensures { (next : List ℕ → ℕ) (p : ℤ → ℤ → ℕ) (a b : ℤ) → GoesByCells next rule.now
+            → WordSquareShows self.now p a b
+            → IfOk result (λ word. WordShows word (cells_after next p n) (a +ℤ pos 4) (b +ℤ pos 4)) }
     {
-        middle(&later_tile(tile_of(self), counting, n).rows.to_array())
+        let later = later_tile(tile_of(self), rule, n, scratch)?;
+        Ok(middle(&later.rows.to_array()))
     }
 
     /// The square in the middle between two that lie side by side.

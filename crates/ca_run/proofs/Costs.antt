@@ -1,6 +1,6 @@
 -- How the costs of calls add up.
 use Rattle.std.proofs.Common.{◌≡◌, ℕ, suc, ◌+◌, ◌-◌, ◌*◌, ◌/◌, ◌%◌, ◌^◌, ◌<◌, ◌≤◌, inl, inr, min, max, length, sym, ap, subst, arith}
-use Rattle.std.proofs.Math.Nat.{pow-succ', one-le-pow, pow-le-pow_right, div-eq_of_lt, mod-le, mod-lt, mul-le-mul, mul-le-mul_right}
+use Rattle.std.proofs.Math.Nat.{one-le-pow, div-eq_of_lt, mod-le, mod-lt, mul-le-mul, mul-le-mul_right}
 use Rattle.std.proofs.Math.Pow.{pow_mono}
 use Rattle.ca_plane.proofs.Numbers.{below_or_not}
 use Rattle.ca_quad.specs.Sound.{IsSoundStore}

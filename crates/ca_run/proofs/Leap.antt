@@ -1,5 +1,5 @@
 -- The steps of a leap by nine squares: which squares show which places.
-use Rattle.std.proofs.Common.{◌≡◌, ℕ, suc, ◌+◌, ◌≤◌, ◌^◌, Result, Ok, Err, IfOk, List, refl, sym, ap, subst, ◌∙◌}
+use Rattle.std.proofs.Common.{◌≡◌, ℕ, suc, ◌+◌, ◌≤◌, ◌^◌, Result, Ok, Err, IfOk, List, sym, ap, subst, ◌∙◌}
 use Rattle.std.specs.Prelude.{ℤ, pos, ◌+ℤ◌}
 use Rattle.ca_plane.specs.Generations.{cells_after}
 use Rattle.ca_quad.specs.declared.node.Node.{Node}
@@ -7,7 +7,7 @@ use Rattle.ca_quad.specs.Squares.{IsOf, cell_of}
 use Rattle.ca_quad.specs.Sound.{IsSoundStore, Grows}
 use Rattle.ca_quad.specs.Trees.{AreFour}
 use Rattle.ca_plane.specs.Shown.{from_corner}
-use Rattle.ca_quad.proofs.Growth.{grows_same, grows_on}
+use Rattle.ca_quad.proofs.Growth.{grows_on}
 use Rattle.ca_quad.proofs.Cells.{of_stays}
 use Rattle.ca_bricks.specs.declared.trio.Trio.{Trio}
 use Rattle.ca_bricks.specs.declared.trio.Rows.{Rows}
@@ -17,7 +17,6 @@ use Rattle.ca_run.specs.inner.Shown.{ShowsAt, FourShow, AreThree, ThreeShow, Two
 use Rattle.ca_bricks.specs.Overlaps.{side}
 use Rattle.ca_bricks.proofs.Overlaps.{pair_lies, trio_lies, rows_lie, four_lie}
 use Rattle.ca_run.proofs.ShownPlanes.{two_stay, at_stays, three_stay, three_are, four_was, four_stay, four_go, centre_at, is_centre_at, at_corner}
-use Rattle.ca_work.proofs.Spent.{spends_same}
 
 -- the centre that a call gives shows the plane later
 pub centre_ok : {E : Type 0} (next : List ℕ → ℕ) (old new : List Node) → IsSoundStore old → Grows old new → (r : Result ℕ E) (id k j : ℕ) (p : ℤ → ℤ → ℕ) (a b : ℤ) → ShowsAt old id (suc (suc k)) p a b

@@ -4,7 +4,7 @@ use Rattle.std.specs.List.{cons_option}
 use Rattle.std.proofs.lemmas.List.{length-append}
 use Rattle.std.proofs.lemmas.List.Elements.{Contains-append_left, Contains-append_right, Contains-append_cases}
 use Rattle.lru.proofs.Splits.{Contains-head, Contains-tail, Contains-cons, Contains-nil}
-use Rattle.ca_plane.specs.declared.counting.Counting.{Counting}
+use Rattle.ca_bricks.specs.declared.cell_rule.CellRule.{CellRule}
 use Rattle.ca_quad.specs.declared.node.Node.{Node}
 use Rattle.ca_memo.specs.declared.key.Key.{Key}
 use Rattle.ca_memo.specs.declared.key.Key.TheVariants.{Page as OfPage, Single}
@@ -315,14 +315,14 @@ module _ (next : List ℕ → ℕ) (nodes : List Node) where
         (Contains-append_right in_centres in_leaps result (filter_map-there leap_result leaps.slots (Some ((nw, ne, sw, se), result_id)) result c refl))))
 
 -- a leaper with other tables, where these are true and no more than may be
-pub leaper_with : {next : List ℕ → ℕ} {S : Type 0} {nodes : List Node} {memo : MemoView} {centres : SlotsView (ℕ × ℕ)} {leaps : SlotsView (ℕ × ℕ × ℕ × ℕ)} {capacity : ℕ} {counting : Option Counting}
-    → IsLeaper next S nodes memo centres leaps capacity counting → (memo' : MemoView) (centres' : SlotsView (ℕ × ℕ)) (leaps' : SlotsView (ℕ × ℕ × ℕ × ℕ))
+pub leaper_with : {next : List ℕ → ℕ} {S : Type 0} {nodes : List Node} {memo : MemoView} {centres : SlotsView (ℕ × ℕ)} {leaps : SlotsView (ℕ × ℕ × ℕ × ℕ)} {capacity : ℕ} {cell_rule : Option CellRule}
+    → IsLeaper next S nodes memo centres leaps capacity cell_rule → (memo' : MemoView) (centres' : SlotsView (ℕ × ℕ)) (leaps' : SlotsView (ℕ × ℕ × ℕ × ℕ))
     → AreFullLeaps next nodes memo' → AreSingles next nodes memo' → AreRecentCentres next nodes centres'.slots → AreRecentLeaps next nodes leaps'.slots → AreBounded memo' centres' leaps' capacity
-    → IsLeaper next S nodes memo' centres' leaps' capacity counting
+    → IsLeaper next S nodes memo' centres' leaps' capacity cell_rule
 leaper_with h memo' centres' leaps' full singles some others bounded = record {
   rule = h.rule;
   squares = h.squares;
   remembers = record { true_results = are_true _ _ memo' centres' leaps' full singles some others; most = results_most memo' centres' leaps' _ bounded };
   bounded = bounded;
-  by_counting = h.by_counting;
+  by_cells = h.by_cells;
 }

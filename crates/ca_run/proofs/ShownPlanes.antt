@@ -1,12 +1,12 @@
 -- Squares that show a plane: they go on to do so, and so do their parts, joins and centres.
-use Rattle.std.proofs.Common.{◌≡◌, ℕ, ◌⊎◌, inl, inr, suc, ◌+◌, ◌<◌, ◌≤◌, ◌^◌, Option, Some, None, Result, Ok, Err, IfOk, IfSome, List, length, get_or, slice_index, refl, sym, ap, ap₂, subst, ◌∙◌, arith}
+use Rattle.std.proofs.Common.{◌≡◌, ℕ, ◌⊎◌, inl, inr, suc, ◌+◌, ◌<◌, ◌≤◌, ◌^◌, Option, Some, None, Result, Ok, Err, IfOk, IfSome, List, length, get_or, slice_index, sym, ap, ap₂, subst, ◌∙◌, arith}
 use Rattle.std.specs.Prelude.{ℤ, pos, ◌+ℤ◌}
 use Rattle.std.proofs.lemmas.Int.{ints}
 use Rattle.std.proofs.lemmas.List.{get_or_default}
 use Rattle.std.proofs.Math.Nat.{two-pow-succ}
 use Rattle.std.proofs.Math.Pow.{pow_mono}
 use Rattle.ca_plane.specs.Generations.{cells_after}
-use Rattle.ca_plane.specs.declared.counting.Counting.{Counting}
+use Rattle.ca_bricks.specs.declared.cell_rule.CellRule.{CellRule}
 use Rattle.ca_quad.specs.declared.node.Node.{Node}
 use Rattle.ca_quad.specs.Squares.{IsOf, joined_cells, cell_of}
 use Rattle.ca_quad.specs.Sound.{IsSoundStore, Grows}
@@ -16,8 +16,6 @@ use Rattle.ca_quad.proofs.Growth.{grows_on}
 use Rattle.ca_quad.proofs.Cells.{cells_stay, of_stays}
 use Rattle.ca_bricks.specs.declared.trio.Trio.{Trio}
 use Rattle.ca_run.specs.Centre.{centre, IsCentre, IsLeap}
-use Rattle.ca_work.specs.Spending.{Spent, Spends}
-use Rattle.ca_run.specs.Leaping.{LeaperView, LeaperGrows}
 use Rattle.ca_run.specs.inner.Shown.{ShowsAt, FourShow, ThreeShow, TwoShow, AreThree}
 use Rattle.ca_bricks.specs.Overlaps.{side}
 use Rattle.ca_memo.specs.Pages.{MemoView, HasFullLeap, HasSingle, RemembersNoMore, IsBoundedMemo}
@@ -113,14 +111,14 @@ module _ (old new : List Node) (sound : IsSoundStore old) (grows : Grows old new
   result_stays next (LeapOfFour nw ne sw se middle) h = (h.0, leap_stays next h.0 nw ne sw se middle h.1)
 
 -- a leaper stays one as its store grows
-pub leaper_stays : {old new : List Node} {next : List ℕ → ℕ} {S : Type 0} {memo : MemoView} {slots : SlotsView (ℕ × ℕ)} {leaps : SlotsView (ℕ × ℕ × ℕ × ℕ)} {capacity : ℕ} {counting : Option Counting}
-    → IsLeaper next S old memo slots leaps capacity counting → Grows old new → IsLeaper next S new memo slots leaps capacity counting
+pub leaper_stays : {old new : List Node} {next : List ℕ → ℕ} {S : Type 0} {memo : MemoView} {slots : SlotsView (ℕ × ℕ)} {leaps : SlotsView (ℕ × ℕ × ℕ × ℕ)} {capacity : ℕ} {cell_rule : Option CellRule}
+    → IsLeaper next S old memo slots leaps capacity cell_rule → Grows old new → IsLeaper next S new memo slots leaps capacity cell_rule
 leaper_stays h grows = record {
   rule = h.rule;
   squares = grows.sound;
   remembers = record { true_results = λ result c. result_stays _ _ h.squares grows _ result (h.remembers.true_results result c); most = h.remembers.most };
   bounded = h.bounded;
-  by_counting = h.by_counting;
+  by_cells = h.by_cells;
 }
 
 -- four squares that were made one after another
@@ -322,8 +320,8 @@ pub singles_more : (next : List ℕ → ℕ) (nodes : List Node) (old new : Memo
 singles_more next nodes old new id k j result_id all this more = centres_more next nodes (HasSingle old) (HasSingle new) id k j result_id all this more
 
 -- what a look-up leaves
-pub leaper_looked : {next : List ℕ → ℕ} {S : Type 0} {nodes : List Node} {old new : MemoView} {slots : SlotsView (ℕ × ℕ)} {leaps : SlotsView (ℕ × ℕ × ℕ × ℕ)} {capacity : ℕ} {counting : Option Counting}
-    → RemembersNoMore old new → IsBoundedMemo new.pages new.order → IsLeaper next S nodes old slots leaps capacity counting → IsLeaper next S nodes new slots leaps capacity counting
+pub leaper_looked : {next : List ℕ → ℕ} {S : Type 0} {nodes : List Node} {old new : MemoView} {slots : SlotsView (ℕ × ℕ)} {leaps : SlotsView (ℕ × ℕ × ℕ × ℕ)} {capacity : ℕ} {cell_rule : Option CellRule}
+    → RemembersNoMore old new → IsBoundedMemo new.pages new.order → IsLeaper next S nodes old slots leaps capacity cell_rule → IsLeaper next S nodes new slots leaps capacity cell_rule
 leaper_looked {next} {nodes} {old} {new} {slots} {leaps} f bounded h =
     let all = h.remembers.true_results in
     leaper_with h new slots leaps (λ id result_id e. full_leaps_of next nodes old slots leaps all id result_id (f.full_leaps id result_id e)) (λ id j result_id e. singles_of next nodes old slots leaps all id j result_id (f.singles id j result_id e))

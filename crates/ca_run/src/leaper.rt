@@ -1,6 +1,6 @@
 //! Leaps by powers of two over shared squares (Gosper, "Exploiting regularities in large cellular spaces").
 
-ghost use Rattle.std.specs.Prelude.{◌≡◌, ℕ, suc, ◌+◌, ◌≤◌, ◌/◌, ℤ, max, OnOk, IfOk, IfErr, IfSome};
+ghost use Rattle.std.specs.Prelude.{◌≡◌, ℕ, suc, ◌+◌, ◌≤◌, ◌/◌, ℤ, max, OnOk, IsOk, IfOk, IfErr, IfSome};
 ghost use Rattle.ca_quad.specs.Squares.{IsOf, one_cell, joined_cells};
 ghost use Rattle.ca_quad.specs.Sound.{IsSoundStore};
 ghost use Rattle.ca_quad.specs.Trees.{AreFour, ShowsSquare};
@@ -8,7 +8,7 @@ ghost use Rattle.ca_run.specs.Centre.{IsCentre, IsLeap};
 ghost use Rattle.ca_run.specs.Leaping.{LeaperGrows};
 ghost use Rattle.ca_work.specs.Spending.{EndsAtLimit};
 ghost use Rattle.ca_run.specs.inner.AtCost.{GoesOnAtCost};
-ghost use Rattle.ca_bricks.specs.Counting.{GoesBy};
+ghost use Rattle.ca_bricks.specs.CellRules.{GoesByCells};
 ghost use Rattle.ca_run.specs.inner.Shown.{ShowsAt, FourShow};
 ghost use Rattle.ca_plane.specs.Limits.{most_memo};
 
@@ -32,8 +32,9 @@ mod to_aged_grid;
 mod to_grid;
 
 use crate::watch::Watch;
+use ca_bricks::CellRule;
 use ca_memo::{Memo, Slots, slot_count};
-use ca_plane::{Automaton, Counting, Memory};
+use ca_plane::{Automaton, Memory};
 use ca_quad::{Id, Store};
 use ca_work::{LeapFault, Work};
 pub use milestone::Milestone;
@@ -44,12 +45,16 @@ use std::num::NonZeroUsize;
 // After how many units of work one who watches hears of it.
 const TOLD: u64 = 65536;
 
+// From how many generations on a diagram is worth being made, under a rule that tells no counting.
+const LONG: u64 = 64;
+
 /// A store of squares, a rule, and the centres of squares that were worked out so far.
 #[derive(Drop)]
 pub struct Leaper<A: Automaton> {
     store: Store,
     rule: A,
-    counting: Option<Counting>,
+    // How cells go on, many at once, as far as it is known: a counting from the first, a diagram where a run is long.
+    cell_rule: Option<CellRule>,
     memo: Memo,
     // Centres of squares after 2^j generations, by the square and the j.
     recent_centres: Slots<(Id, u8)>,
@@ -71,7 +76,7 @@ impl<A: Automaton> Model for Leaper<A> {
     ghost view = { λ l. record { rule = l.rule; nodes = l.store; memo = l.capacity; spent = l.work } };
 
     ghost invariant = { λ l. IsLeaper (A.next_of l.rule) (A.sound l.rule) l.store l.memo l.recent_centres
-        l.recent_leaps l.capacity l.counting };
+        l.recent_leaps l.capacity l.cell_rule };
 }
 
 impl<A: Automaton> Leaper<A> {
@@ -96,13 +101,13 @@ impl<A: Automaton> Leaper<A> {
     {
         let _states = rule.states();
         let _squares = store.count();
-        let counting = rule.counting();
-        let (centres, leaps) = table_slots(memo, counting.is_some());
+        let cell_rule = by_counting(&rule);
+        let (centres, leaps) = table_slots(memo, cell_rule.is_some());
         let entries = NonZeroUsize::new(memo - (centres + leaps)).unwrap_or(NonZeroUsize::MIN);
         Ok(Leaper {
             store,
             rule,
-            counting,
+            cell_rule,
             memo: Memo::new(alloc, entries)?,
             recent_centres: Slots::new(alloc, centres),
             recent_leaps: Slots::new(alloc, leaps),
@@ -215,11 +220,25 @@ impl<A: Automaton> Leaper<A> {
         &self.store
     }
 
-    // The counting by which the rule goes, where there is one.
-    fn counting(&self) -> Option<Counting>
-        ensures { IfSome result (GoesBy (A.next_of self.now.rule)) }
+    // How cells go on, many at once, where it is known.
+    fn cell_rule(&self) -> Option<&CellRule>
+        ensures { IfSome result (λ rule. GoesByCells (A.next_of self.now.rule) rule.now) }
     {
-        self.counting
+        self.cell_rule.as_ref()
+    }
+
+    // Finds out how cells go on, many at once, if it isn't known and so many generations are worth it.
+    fn learn_cell_rule(&mut self, n: u64) -> Result<(), LeapFault>
+        ensures same { self.new ≡ self.old }
+        ensures calm { n ≡ 0 → IsOk result }
+        ensures at_cost { GoesOnAtCost A self.old self.new 0 0 }
+        ensures work { EndsAtLimit self.new.spent result }
+    {
+        if n < LONG || self.cell_rule.is_some() {
+            return Ok(());
+        }
+        self.cell_rule = CellRule::of(self.recent_centres.allocator(), &self.rule)?;
+        Ok(())
     }
 
     // What is remembered for a square.
@@ -276,12 +295,12 @@ impl<A: Automaton> Leaper<A> {
 
     // Whether a square is a tile, whose centre costs less to work out again than to remember.
     fn is_tile(&self, part_level: u8) -> bool {
-        part_level == 2 && self.counting.is_some()
+        part_level == 2 && self.cell_rule.is_some()
     }
 
-    // Whether the centre of a square is worked out on words, which costs little.
+    // Whether the centre of a square is worked out on words by a counting, which costs little.
     fn is_cheap(&self, part_level: u8) -> bool {
-        part_level == 3 && self.counting.is_some()
+        part_level == 3 && matches!(self.cell_rule, Some(CellRule::ByCounting(_)))
     }
 
     // The 2 by 2 square of these cells.
@@ -304,6 +323,13 @@ impl<A: Automaton> Leaper<A> {
         let _ = part_level;
         self.store.join(nw, ne, sw, se)
     }
+}
+
+// How cells go on by a counting, where the rule tells one.
+fn by_counting<A: Automaton>(rule: &A) -> Option<CellRule>
+    ensures { IfSome result (GoesByCells (A.next_of rule.now)) }
+{
+    Some(CellRule::ByCounting(rule.counting()?))
 }
 
 // How many of a memo's entries are slots for results that cost little, which only rules that go by a counting

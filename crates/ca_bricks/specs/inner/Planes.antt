@@ -1,6 +1,7 @@
--- Several states for each cell of a brick, each as sixteen rows of bits.
+-- Several states for each cell of a brick or of a tile, each as sixteen rows of bits.
 use Rattle.std.specs.Prelude.{ℕ, List, map}
 use Rattle.ca_plane.specs.Shown.{row_cells}
+use Rattle.ca_bricks.specs.declared.kernel.bits.Bits.{Bits}
 use Rattle.ca_bricks.specs.declared.diagram_rows.Column.{Column}
 use Rattle.ca_bricks.specs.declared.diagram_rows.Column.TheVariants.{West, Here, East}
 
@@ -13,3 +14,7 @@ abbrev pub column_place : Column → ℕ
 column_place West = 0
 column_place Here = 1
 column_place East = 2
+
+-- those of a tile's cells, as rows
+abbrev pub tile_planes : List Bits → List (List ℕ)
+tile_planes planes = map (λ bits. bits.rows) planes

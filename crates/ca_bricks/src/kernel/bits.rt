@@ -1,6 +1,6 @@
 //! A bit for each cell of a tile.
 
-ghost use Rattle.std.specs.Prelude.{◌≡◌, ◌+◌, ◌-◌, ◌%◌, ◌<◌, ℕ, suc, min, max, length, if◌then◌else◌};
+ghost use Rattle.std.specs.Prelude.{◌≡◌, ◌+◌, ◌-◌, ◌%◌, ◌<◌, ℕ, suc, min, max, length, ◌==◌, if◌then◌else◌};
 ghost use Rattle.ca_plane.specs.Shown.{row_cells};
 
 use std::simd::prelude::*;
@@ -72,6 +72,15 @@ impl Bits {
         ensures { (x y : ℕ) → row_cells result.rows x y ≡ row_cells self.rows x y - row_cells other.rows x y }
     {
         self.xor(self.and(other))
+    }
+
+    // At each place the bit of `live` where this one is 1, else that of `dead`.
+    #[inline(always)]
+    pub(crate) fn select(self, live: Bits, dead: Bits) -> Bits
+        ensures { (x y : ℕ) → row_cells result.rows x y
+            ≡ (if row_cells self.rows x y == 0 then row_cells dead.rows x y else row_cells live.rows x y) }
+    {
+        dead.xor(self.and(live.xor(dead)))
     }
 
     // At each place the bit in the west of it.

@@ -1,13 +1,13 @@
 -- The tables of a leaper, and what they remember as one list (our own).
 use Rattle.std.specs.Prelude.{ℕ, zero, suc, ◌+◌, ◌*◌, ◌≤◌, List, [], ◌∷◌, ◌++◌, length, Option, Some, None, IfSome}
 use Rattle.std.specs.List.{filter_map}
-use Rattle.ca_plane.specs.declared.counting.Counting.{Counting}
 use Rattle.ca_quad.specs.declared.node.Node.{Node}
 use Rattle.ca_quad.specs.Sound.{IsSoundStore}
 use Rattle.ca_memo.specs.declared.key.Key.{Key}
 use Rattle.ca_memo.specs.declared.key.Key.TheVariants.{Page as OfPage, Single}
 use Rattle.ca_memo.specs.declared.page.Page.{Page}
-use Rattle.ca_bricks.specs.Counting.{GoesBy}
+use Rattle.ca_bricks.specs.CellRules.{GoesByCells}
+use Rattle.ca_bricks.specs.declared.cell_rule.CellRule.{CellRule}
 use Rattle.ca_run.specs.Memo.{LeapResult, FullLeap, Centre, LeapOfFour, Remembers}
 use Rattle.ca_memo.specs.Pages.{MemoView, IsBoundedMemo}
 use Rattle.ca_memo.specs.SlotResults.{SlotsView}
@@ -56,13 +56,13 @@ pub record AreBounded (memo : MemoView) (centres : SlotsView (ℕ × ℕ)) (leap
   pub few_centres : length centres.slots ≤ centres.most
   pub few_leaps : length leaps.slots ≤ leaps.most
 
--- the rule and the squares are sound, the results that are remembered are true and no more than may be, and the rule
--- goes by the counting, if there is one
+-- the rule and the squares are sound, the results that are remembered are true and no more than may be, and cells
+-- go on so, many at once, if that is known
 pub record IsLeaper (next : List ℕ → ℕ) (RuleIsSound : Type 0) (nodes : List Node) (memo : MemoView)
     (centres : SlotsView (ℕ × ℕ)) (leaps : SlotsView (ℕ × ℕ × ℕ × ℕ)) (capacity : ℕ)
-    (counting : Option Counting) : Type 0 where
+    (cell_rule : Option CellRule) : Type 0 where
   pub rule : RuleIsSound
   pub squares : IsSoundStore nodes
   pub remembers : Remembers next nodes (results_of memo centres leaps) capacity
   pub bounded : AreBounded memo centres leaps capacity
-  pub by_counting : IfSome counting (GoesBy next)
+  pub by_cells : IfSome cell_rule (GoesByCells next)

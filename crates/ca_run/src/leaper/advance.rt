@@ -47,6 +47,20 @@ impl<A: Automaton> Leaper<A> {
         requires { CanAdvance self.old.nodes tree n }
         ensures { Advances A (A.next_of self.old.rule) self.old tree n self.new result }
     {
+        self.learn_cell_rule(n)?;
+        self.advance_known(tree, n, watch)
+    }
+
+    // The same, with what is known of the rule.
+    fn advance_known<W: Watch>(
+        &mut self,
+        tree: Tree,
+        n: u64,
+        watch: &mut W,
+    ) -> Result<Tree, LeapFault>
+        requires { CanAdvance self.old.nodes tree n }
+        ensures { Advances A (A.next_of self.old.rule) self.old tree n self.new result }
+    {
         let _ = &self.store;
         let reached = self.step_dense(&tree, n, watch)?;
         self.go_on(&tree, reached, n, watch)

@@ -82,7 +82,7 @@ impl<A: Automaton> Leaper<A> {
         if part_level == 0 {
             return Ok(self.next_four(id)?);
         }
-        if let Some(words) = self.centre_words(id, part_level, j) {
+        if let Some(words) = self.centre_words(id, part_level, j)? {
             return Ok(self.from_centre_words(words)?);
         }
         if j == part_level {

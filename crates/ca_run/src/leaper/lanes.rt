@@ -4,9 +4,10 @@ ghost use Rattle.std.specs.Prelude.{◌≡◌, ℕ, ◌+◌, ◌≤◌, ◌^◌,
 ghost use Rattle.ca_run.specs.Centre.{IsCentre};
 ghost use Rattle.ca_run.specs.inner.AtCost.{GoesOnAtCost};
 ghost use Rattle.ca_run.specs.inner.Centres.{HasCentre, ShowsCentre};
+ghost use Rattle.ca_bricks.specs.CellRules.{GoesByCells};
 
 use super::Leaper;
-use ca_bricks::WordSquare;
+use ca_bricks::{CellRule, WordSquare};
 use ca_plane::{Automaton, Memory};
 use ca_quad::Id;
 
@@ -20,24 +21,54 @@ pub(super) enum CentreWords {
 // `part_level` is the level of a square's sixteen parts: its own level is that and 2.
 impl<A: Automaton> Leaper<A> {
     // The words of a square's centre after 2^j generations: of 16 by 16 or of 32 by 32 cells, none of them
-    // above 1, where the rule goes by a counting.
-    pub(super) fn centre_words(&self, id: Id, part_level: u8, j: u8) -> Option<CentreWords>
+    // above 1, where it is known how cells go on, many at once.
+    pub(super) fn centre_words(
+        &self,
+        id: Id,
+        part_level: u8,
+        j: u8,
+    ) -> Result<Option<CentreWords>, Memory>
         requires { HasCentre self.now.nodes id part_level j }
-        ensures { IfSome result (ShowsCentre (A.next_of self.now.rule) self.now.nodes id part_level j) }
+        ensures { IfOk result (λ found. IfSome found
+            (ShowsCentre (A.next_of self.now.rule) self.now.nodes id part_level j)) }
     {
-        let counting = self.counting()?;
+        let Some(rule) = self.cell_rule() else {
+            return Ok(None);
+        };
         match part_level {
-            2 => {
-                let words = self.words(id)?;
-                Some(CentreWords::One(words.centre(counting, leap_length(j))))
-            }
-            3 => {
-                let wide = self.wide_square(id)?;
-                let (first, more) = split_leap(j);
-                Some(CentreWords::Four(wide.centre(counting, first, more)))
-            }
-            _ => None,
+            2 => self.centre_word(id, j, rule),
+            3 => self.centre_of_words(id, j, rule),
+            _ => Ok(None),
         }
+    }
+
+    // The word of the centre of a square of 16 by 16 cells.
+    fn centre_word(&self, id: Id, j: u8, rule: &CellRule) -> Result<Option<CentreWords>, Memory>
+        requires square { HasCentre self.now.nodes id 2 j }
+        requires rule { GoesByCells (A.next_of self.now.rule) rule.now }
+        ensures { IfOk result (λ found. IfSome found (ShowsCentre (A.next_of self.now.rule) self.now.nodes id 2 j)) }
+    {
+        let Some(words) = self.words(id) else {
+            return Ok(None);
+        };
+        let mut scratch = Vec::new(self.recent_centres.allocator());
+        let word = words.centre(rule, leap_length(j), &mut scratch)?;
+        Ok(Some(CentreWords::One(word)))
+    }
+
+    // The four words of the centre of a square of 32 by 32 cells.
+    fn centre_of_words(&self, id: Id, j: u8, rule: &CellRule) -> Result<Option<CentreWords>, Memory>
+        requires square { HasCentre self.now.nodes id 3 j }
+        requires rule { GoesByCells (A.next_of self.now.rule) rule.now }
+        ensures { IfOk result (λ found. IfSome found (ShowsCentre (A.next_of self.now.rule) self.now.nodes id 3 j)) }
+    {
+        let Some(wide) = self.wide_square(id) else {
+            return Ok(None);
+        };
+        let mut scratch = Vec::new(self.recent_centres.allocator());
+        let (first, more) = split_leap(j);
+        let words = wide.centre(rule, first, more, &mut scratch)?;
+        Ok(Some(CentreWords::Four(words)))
     }
 
     // The centre of each square whose centre these words show.

@@ -2,9 +2,10 @@ use Rattle.std.proofs.Common.{ℕ, List}
 use Rattle.std.specs.Prelude.{ℤ}
 use Rattle.ca_plane.specs.Generations.{cells_after}
 use Rattle.ca_bricks.specs.WordSquares.{TileShows}
-use Rattle.ca_bricks.specs.Counting.{GoesBy}
+use Rattle.ca_bricks.specs.CellRules.{GoesByCells}
+use Rattle.ca_bricks.specs.declared.cell_rule.CellRule.TheVariants.{ByCounting}
 use Rattle.ca_bricks.proofs.tile.later_counted.Given as goal
 
 -- as many generations on as were counted
 abbrev pub invariant-generations : goal.invariant-generations
-invariant-generations g l = (next : List ℕ → ℕ) (p : ℤ → ℤ → ℕ) (a b : ℤ) → GoesBy next l.fn.counting → TileShows l.fn.tile.rows 0 p a b → TileShows l.now.rows l.counter (cells_after next p l.counter) a b
+invariant-generations g l = (next : List ℕ → ℕ) (p : ℤ → ℤ → ℕ) (a b : ℤ) → GoesByCells next (ByCounting l.fn.counting) → TileShows l.fn.tile.rows 0 p a b → TileShows l.now.rows l.counter (cells_after next p l.counter) a b

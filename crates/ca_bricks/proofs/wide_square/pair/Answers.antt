@@ -6,6 +6,6 @@ use Rattle.ca_bricks.proofs.wide_square.pair.Goals as goal
 
 pub returns : goal.returns
 returns c = λ next p a b goes_by north south.
-    pair_lies WordShows 2 c.centre.result c.centre-2.result (cells_after next p c.args.n) a (b +ℤ pos 4)
-    (c.centre.ensures next p a b goes_by (west_four north south))
-    (c.centre-2.ensures next p (a +ℤ pos 8) b goes_by (east_four north south))
+    pair_lies WordShows 2 c.in_ok-west.west c.in_ok-east.east (cells_after next p c.args.n) a (b +ℤ pos 4)
+    (c.in_ok-west.ensures next p a b goes_by (west_four north south))
+    (c.in_ok-east.ensures next p (a +ℤ pos 8) b goes_by (east_four north south))

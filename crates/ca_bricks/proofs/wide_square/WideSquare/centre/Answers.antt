@@ -10,8 +10,8 @@ use Rattle.ca_bricks.proofs.wide_square.WideSquare.centre.Goals as goal
 pub returns : goal.returns
 returns c = λ next p a b goes_by shows.
     let q = cells_after next p c.args.first in
-    let nine = c.nine-nine.ensures next p a b goes_by shows in
+    let nine = c.in_ok-nine.ensures next p a b goes_by shows in
     words_of_same _ (cells_after next q c.args.more) (cells_after next p (c.args.first + c.args.more)) (a +ℤ pos 8) (b +ℤ pos 8) (after_again next p c.args.first c.args.more)
-    (four_lie WordShows 2 c.pair-nw.result.0 c.pair-nw.result.1 c.pair-sw.result.0 c.pair-sw.result.1 (cells_after next q c.args.more) a b
-    (c.pair-nw.ensures next q (a +ℤ pos 4) (b +ℤ pos 4) goes_by nine.at_north nine.at_middle)
-    (c.pair-sw.ensures next q (a +ℤ pos 4) ((b +ℤ pos 4) +ℤ pos 8) goes_by nine.at_middle nine.at_south))
+    (four_lie WordShows 2 c.in_ok-nw.nw c.in_ok-nw.ne c.in_ok-sw.sw c.in_ok-sw.se (cells_after next q c.args.more) a b
+    (c.in_ok-nw.ensures next q (a +ℤ pos 4) (b +ℤ pos 4) goes_by nine.at_north nine.at_middle)
+    (c.in_ok-sw.ensures next q (a +ℤ pos 4) ((b +ℤ pos 4) +ℤ pos 8) goes_by nine.at_middle nine.at_south))

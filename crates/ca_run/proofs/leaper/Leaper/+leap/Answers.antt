@@ -1,4 +1,4 @@
-use Rattle.std.proofs.Common.{rules, ◌≡◌, suc, ◌+◌, ◌-◌, ◌≤◌, ◌^◌, IfOk, refl, sym, ap, subst, ◌∙◌, arith}
+use Rattle.std.proofs.Common.{rules, ◌≡◌, suc, ◌+◌, ◌-◌, ◌≤◌, ◌^◌, IfOk, IfSome, refl, sym, ap, subst, ◌∙◌, arith}
 use Rattle.std.specs.Prelude.{◌+ℤ◌}
 use Rattle.std.proofs.lemmas.Bool.Decides.{nat_tests}
 use Rattle.std.proofs.Math.Nat.{two-pow-succ}
@@ -9,6 +9,7 @@ use Rattle.ca_quad.specs.Trees.{AreFour}
 use Rattle.ca_quad.proofs.Growth.{grows_on}
 use Rattle.ca_quad.proofs.Cells.{of_stays}
 use Rattle.ca_run.specs.Centre.{IsCentre, IsLeap}
+use Rattle.ca_run.specs.inner.Centres.{ShowsCentre}
 use Rattle.ca_run.specs.inner.Shown.{ShowsAt, FourShow, generations}
 use Rattle.ca_bricks.specs.Overlaps.{side}
 use Rattle.ca_run.proofs.ShownPlanes.{at_stays, three_stay, three_are, four_of, four_go, four_there, four_stay}
@@ -365,4 +366,6 @@ pub centre_of_nine-returns-in_err-sw-clause-at_cost : goal.centre_of_nine-return
 centre_of_nine-returns-in_err-sw-clause-at_cost g t c = at_cost_more (at_both_costs (at_both_costs c.in_ok-rows.ensures.at_cost c.in_ok-nw.ensures.at_cost) c.in_err-sw.ensures.at_cost) (omega arith) (omega arith)
 
 pub new_centre-returns-in-Some-clause-centre : goal.new_centre-returns-in-Some-clause-centre
-new_centre-returns-in-Some-clause-centre g t c = c.in_ok-from_centre_words.ensures.centre c.args.id c.args.part_level c.args.j c.requires.centre c.in-Some.ensures
+new_centre-returns-in-Some-clause-centre g t c =
+    let shown = subst (λ found. IfSome found (ShowsCentre (g.A.Automaton.next_of c.args.self.now.rule) c.args.self.now.nodes c.args.id c.args.part_level c.args.j)) c.in-Some.is c.in_ok-words.ensures in
+    c.in_ok-from_centre_words.ensures.centre c.args.id c.args.part_level c.args.j c.requires.centre shown
