@@ -1,10 +1,10 @@
 #!/usr/bin/env -S python3 -B
-"""Times soups under isotropic rules beside bgolly's QuickLife, and under B/S rules by their own table and without.
+"""Times soups under isotropic rules beside bgolly's QuickLife and HashLife, and under B/S rules by their own table and without.
 
     bench/isotropic.py [--side N] [--generations N] [--runs N]
 
 A soup of side by side cells, two of five live, goes so many generations: here by `cafile convert`, under the table that `cafile rule` writes, there by bgolly under
-the rule's own notation. Seconds of a processor in user and system mode together, the best of so many runs by turns. Where bgolly isn't on the path, its
+the rule's own notation. The same of soups of 20 by 20 cells that lie scattered, which are leapt, beside HashLife. Seconds of a processor in user and system mode together, the best of so many runs by turns. Where bgolly isn't on the path, its
 column is empty.
 """
 import argparse
@@ -43,6 +43,13 @@ def soup(folder, rule, side):
     return folder.path("soup.rle", tidy(live, rule, 0, 2))
 
 
+def scattered(folder, rule, count):
+    """So many small soups under a rule, in rows of ten, far from each other."""
+    chance = random.Random(count)
+    live = {(400 * (at % 10) + x, 400 * (at // 10) + y): 1 for at in range(count) for x in range(20) for y in range(20) if chance.random() < 0.4}
+    return folder.path("scattered.rle", tidy(live, rule, 0, 2))
+
+
 def row(name, times):
     """A line of the table."""
     ours, other = times
@@ -64,6 +71,11 @@ def main():
         for text in ISOTROPIC:
             pattern, table = soup(folder, text, asked.side), folder.path("rule.rule", run_program(["rule", text]).printed)
             theirs = beside_golly.golly_words(golly, pattern, count, ["-a", "QuickLife"]) if golly else None
+            row(text, best([PROGRAM, "show", pattern, "--after", count, "--rule", table], theirs, asked.runs))
+        print("| rule | scattered soups | HashLife | ratio |\n|---|---|---|---|")
+        for text in ISOTROPIC:
+            pattern, table = scattered(folder, text, 100), folder.path("rule.rule", run_program(["rule", text]).printed)
+            theirs = beside_golly.golly_words(golly, pattern, count, ["-a", "HashLife"]) if golly else None
             row(text, best([PROGRAM, "show", pattern, "--after", count, "--rule", table], theirs, asked.runs))
         print("| rule | by its table | without | ratio |\n|---|---|---|---|")
         for text in COUNTING:

@@ -164,6 +164,18 @@ def long_run(runs, text, bits):
     runs.complaints.append(f"{text}: no small soup settles")
 
 
+def small_tree(runs):
+    """A blinker and a block under Life's own table, after so many generations that a diagram is made, and one by itself of a tree of the lowest levels."""
+    path = runs.path("named.rule", run(["rule", "B3/S23"]).printed.replace(b"@RULE B3/S23\n", b"@RULE Named\n", 1))
+    column, row, block = ({(0, -1), (0, 0), (0, 1)}, {(-1, 0), (0, 0), (1, 0)}, {(-1, -1), (-1, 0), (0, -1), (0, 0)})
+    for live, count, want in ((column, 65, row), (column, 64, column), (row, 1001, column), (block, 65, block), (block, 67, block)):
+        pattern = runs.path("small.rle", tidy({it: 1 for it in live}, "Named", 0, 2))
+        got = run(["convert", pattern, "--to", "rle", "--after", str(count), "--rule", path])
+        runs.count += 1
+        if got.status or set(cells_and_rule(got.printed.decode())[0]) != want:
+            runs.complaints.append(f"{sorted(live)} after {count} generations: {got}")
+
+
 def next_states(text):
     """The next states of all 512 neighbourhoods."""
     return counted_bits(steps.rule_of(rule_of(text.encode())[0])) if is_known(text) else isotropic.rule_bits(text)
@@ -228,10 +240,11 @@ def main():
         for text, side in (("B3/S23", 1000), ("B34/S456", 700), ("B2/S2H", 600)):
             large_soup(runs, text, side, 64)
         runs.tell(tally, "dense soups")
-        for text, side, count in (*LEAPT, *((text, 12, 64) for text in list(maps())[-3:])):
+        for text, side, count in (*LEAPT, *zip(list(maps())[-3:], (12, 12, 12), (64, 100, 130))):
             soup(runs, text, next_states(text), side, count)
         for text in SETTLING:
             long_run(runs, text, next_states(text))
+        small_tree(runs)
         runs.tell(tally, "soups that are leapt over")
         for text in GENERATIONS:
             generations(runs, text)
