@@ -91,7 +91,7 @@ UNITS_OF_PATTERNS = (
     ("wires", USUAL, 3782),
     ("wires", SMALLEST, 5374),
     ("langtons_loop", USUAL, 71305),
-    ("rule_110", USUAL, 9558),
+    ("rule_110", USUAL, 4483),
 )
 
 # The rules of soups of 200 by 200 cells, the generations, the entries of a memo, and the units of work.
