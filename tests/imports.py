@@ -160,7 +160,15 @@ def check_large(runs, tally):
         runs.complaints.append(f"16777216 cells: {Outcome(got.printed[:100], got.complaint, got.status)}")
     over = runs.path("over.cells", "O" * 4096 + ("\n" + "O" * 4096) * 4095 + "\nO")
     runs.expect("one cell more", ["import", over], fault("import line 4097: too many cells"))
-    runs.tell(tally, "many cells")
+    chance = random.Random(2)
+    soup = {(x, y): 1 for y in range(1000) for x in range(1700) if chance.random() < 0.5}
+    path = runs.path("soup.cells", "\n".join("".join(".O"[(x, y) in soup] for x in range(1700)) for y in range(1000)))
+    texts = tidy(soup, "B3/S23", 0, 2), macrocell.tidy(macrocell.Pattern(macrocell.tree_of(soup), "B3/S23", 0), 2)
+    runs.expect("much that is written", ["import", path], ample(texts[0]))
+    runs.expect("much that is written to mc", ["import", path, "--to", "mc"], ample(texts[1]))
+    if min(map(len, texts)) < 1 << 20:
+        runs.complaints.append(f"only {[len(it) for it in texts]} bytes are written")
+    runs.tell(tally, "many cells, and much that is written")
 
 
 def check_long(runs, tally):
