@@ -128,17 +128,18 @@ def soup(runs, text, bits, side, count):
         runs.complaints.append(f"{text}: a soup of {side} after {count} generations {got.complaint}")
 
 
-def large_soup(runs, text, side, count):
-    """A soup of many bricks under a B/S rule's own table, beside the same soup under the rule itself, which is stepped in another way."""
+def large_soup(runs, text, corners, side, count):
+    """Soups of so many cells a side, one from each of these corners, under a B/S rule's own table, beside the same soups under the rule itself, which go another way.
+    One large soup is stepped in many bricks; many small ones are leapt over, in many squares."""
     written_table = run(["rule", text]).printed.replace(f"@RULE {text}\n".encode(), b"@RULE Named\n", 1)
     chance = random.Random(f"{text} {side}")
-    live = {(x, y): 1 for x in range(side) for y in range(side) if chance.random() < 0.4}
+    live = {(left + x, top + y): 1 for left, top in corners for x in range(side) for y in range(side) if chance.random() < 0.4}
     table = runs.path("named.rule", written_table)
     ours, plain = (run(["convert", runs.path(f"{name}.rle", tidy(live, rule, 0, 2)), "--to", "rle", "--after", str(count), *words])
                    for name, rule, words in (("named", "Named", ["--rule", table]), ("plain", text, [])))
     runs.count += 1
     if ours.status or plain.status or cells_and_rule(ours.printed.decode())[0] != cells_and_rule(plain.printed.decode())[0]:
-        runs.complaints.append(f"{text}: a soup of {side} after {count} generations {ours.complaint or plain.complaint}")
+        runs.complaints.append(f"{text}: {len(corners)} soups of {side} after {count} generations {ours.complaint or plain.complaint}")
 
 
 def long_run(runs, text, bits):
@@ -238,12 +239,13 @@ def main():
         for text, side, count in (*DENSE, *((text, 70, 32) for text in list(maps())[-3:])):
             soup(runs, text, next_states(text), side, count)
         for text, side in (("B3/S23", 1000), ("B34/S456", 700), ("B2/S2H", 600)):
-            large_soup(runs, text, side, 64)
+            large_soup(runs, text, [(0, 0)], side, 64)
         runs.tell(tally, "dense soups")
         for text, side, count in (*LEAPT, *zip(list(maps())[-3:], (12, 12, 12), (64, 100, 130))):
             soup(runs, text, next_states(text), side, count)
         for text in SETTLING:
             long_run(runs, text, next_states(text))
+        large_soup(runs, "B3/S23", [(400 * x, 400 * y) for x in range(10) for y in range(10)], 20, 256)
         small_tree(runs)
         runs.tell(tally, "soups that are leapt over")
         for text in GENERATIONS:
