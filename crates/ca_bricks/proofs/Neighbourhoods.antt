@@ -1,11 +1,13 @@
 -- Each nine cells, dead or live, are a neighbourhood with a number.
 use Rattle.std.proofs.Common.{◌≡◌, ℕ, ◌+◌, ◌*◌, ◌/◌, ◌%◌, ◌<◌, List, [], ◌∷◌, length, map, refl, sym, ap, ◌∙◌, arith, slice_index, All, lit<}
 use Rattle.std.proofs.lemmas.List.FromFn.{fill_by_all}
+use Rattle.ca_plane.specs.Counting.{counting_next}
+use Rattle.ca_plane.specs.declared.counting.Counting.{Counting}
 use Rattle.ca_bricks.specs.Diagrams.{diagram_next}
 use Rattle.ca_bricks.specs.CellRules.{GoesByCells}
 use Rattle.ca_bricks.specs.declared.diagram.Diagram.{Diagram}
-use Rattle.ca_bricks.specs.declared.cell_rule.CellRule.TheVariants.{ByDiagram}
-use Rattle.ca_bricks.specs.inner.Neighbourhoods.{neighbourhood, TellsNext}
+use Rattle.ca_bricks.specs.declared.cell_rule.CellRule.TheVariants.{ByCounting, ByDiagram}
+use Rattle.ca_bricks.specs.inner.Neighbourhoods.{neighbourhood, AreNextStates}
 
 -- nine cells as their list
 spread : (nine : List ℕ) → length nine ≡ 9 → nine ≡ map (slice_index nine) (0 ∷ 1 ∷ 2 ∷ 3 ∷ 4 ∷ 5 ∷ 6 ∷ 7 ∷ 8 ∷ [])
@@ -32,12 +34,12 @@ module _ (a b c d e f g h i : ℕ) (ha : a < 2) (hb : b < 2) (hc : c < 2) (hd : 
       let di : number / 2 % 2 ≡ i = omega arith in
       λ t. da t ∷ db t ∷ dc t ∷ dd t ∷ de t ∷ df t ∷ dg t ∷ dh t ∷ di t ∷ []
 
--- what a diagram gives for each number it gives for all nine cells
-module _ (next : List ℕ → ℕ) (diagram : Diagram) (tells : TellsNext next diagram.nodes.items) (nine : List ℕ) (long : length nine ≡ 9) (bits : All (λ s. s < 2) nine) where
+-- what gives the states of all numbers gives those of all nine cells
+module _ (next told : List ℕ → ℕ) (states : List ℕ) (are : AreNextStates next states) (gives : AreNextStates told states) (nine : List ℕ) (long : length nine ≡ 9) (bits : All (λ s. s < 2) nine) where
   bit : (k : ℕ) → k < 9 → slice_index nine k < 2
   bit k low = bits k 0 (omega arith)
 
-  of_nine : next nine ≡ diagram_next diagram.nodes.items nine
+  of_nine : next nine ≡ told nine
   of_nine =
       let c = slice_index nine in
       let n = number (c 0) (c 1) (c 2) (c 3) (c 4) (c 5) (c 6) (c 7) (c 8) (bit 0 (lit< tt)) (bit 1 (lit< tt)) (bit 2 (lit< tt)) (bit 3 (lit< tt)) (bit 4 (lit< tt)) (bit 5 (lit< tt)) (bit 6 (lit< tt)) (bit 7 (lit< tt)) (bit 8 (lit< tt)) in
@@ -45,7 +47,12 @@ module _ (next : List ℕ → ℕ) (diagram : Diagram) (tells : TellsNext next d
       let is : neighbourhood n ≡ nine =
       digits-back (c 0) (c 1) (c 2) (c 3) (c 4) (c 5) (c 6) (c 7) (c 8) (bit 0 (lit< tt)) (bit 1 (lit< tt)) (bit 2 (lit< tt)) (bit 3 (lit< tt)) (bit 4 (lit< tt)) (bit 5 (lit< tt)) (bit 6 (lit< tt)) (bit 7 (lit< tt)) (bit 8 (lit< tt))
       ∙ sym (spread nine long) in
-      ap next (sym is) ∙ sym (tells n low) ∙ ap (diagram_next diagram.nodes.items) is
+      ap next (sym is) ∙ sym (are n low) ∙ gives n low ∙ ap told is
 
-pub goes_by_diagram : (next : List ℕ → ℕ) (diagram : Diagram) → TellsNext next diagram.nodes.items → GoesByCells next (ByDiagram diagram)
-goes_by_diagram next diagram tells = record { goes_by = λ nine long bits. of_nine next diagram tells nine long bits }
+pub goes_by_diagram : (next : List ℕ → ℕ) (diagram : Diagram) (states : List ℕ) → AreNextStates next states → AreNextStates (diagram_next diagram.nodes.items) states
+    → GoesByCells next (ByDiagram diagram)
+goes_by_diagram next diagram states are gives = record { goes_by = λ nine long bits. of_nine next (diagram_next diagram.nodes.items) states are gives nine long bits }
+
+pub goes_by_counting : (next : List ℕ → ℕ) (counting : Counting) (states : List ℕ) → AreNextStates next states → AreNextStates (counting_next counting) states
+    → GoesByCells next (ByCounting counting)
+goes_by_counting next counting states are gives = record { goes_by = λ nine long bits. of_nine next (counting_next counting) states are gives nine long bits }

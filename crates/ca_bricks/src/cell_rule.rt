@@ -4,6 +4,8 @@ ghost use Rattle.std.specs.Prelude.{IfOk, IfSome};
 ghost use Rattle.ca_bricks.specs.CellRules.{GoesByCells};
 
 use crate::diagram::Diagram;
+use crate::found_counting::counting_of;
+use crate::next_states::next_states;
 use ca_plane::{Automaton, Counting, Memory};
 use std::alloc::Global;
 
@@ -22,14 +24,20 @@ impl CellRule {
     /// # Errors
     ///
     /// Fails where there is no memory for it.
-    #[tactic(auto, using(crate::proofs::Neighbourhoods::goes_by_diagram))]
     pub fn of<A: Automaton>(alloc: Global, rule: &A) -> Result<Option<CellRule>, Memory>
         ensures { IfOk result (λ found. IfSome found (GoesByCells (A.next_of rule.now))) }
     {
         if let Some(counting) = rule.counting() {
             return Ok(Some(CellRule::ByCounting(counting)));
         }
-        let Some(diagram) = Diagram::of(alloc, rule)? else {
+        if rule.states() != 2 {
+            return Ok(None);
+        }
+        let states = next_states(alloc, rule)?;
+        if let Some(counting) = counting_of(&states) {
+            return Ok(Some(CellRule::ByCounting(counting)));
+        }
+        let Some(diagram) = Diagram::of(alloc, &states)? else {
             return Ok(None);
         };
         Ok(Some(CellRule::ByDiagram(diagram)))

@@ -1,19 +1,12 @@
 //! Decision diagrams of rules of two states.
 
-ghost use Rattle.std.specs.Prelude.{◌≡◌, ◌<◌, ◌/◌, ◌%◌, true, slice_index, IfOk, IfSome};
+ghost use Rattle.std.specs.Prelude.{◌≡◌, true, IfOk, IfSome};
 ghost use Rattle.ca_bricks.specs.Diagrams.{node_state, diagram_next};
-ghost use Rattle.ca_bricks.specs.inner.Neighbourhoods.{neighbourhood, AreNextStates, TellsNext};
+ghost use Rattle.ca_bricks.specs.inner.Neighbourhoods.{AreNextStates};
 
-use ca_plane::{Automaton, Memory, Nine};
+use crate::next_states::{NEIGHBOURHOODS, PLACES, neighbourhood, state_at};
+use ca_plane::{Memory, Nine};
 use std::alloc::Global;
-
-/// How many neighbourhoods of nine cells there are, each of them dead or live.
-const NEIGHBOURHOODS: u16 = 512;
-
-/// The places of the bits of a neighbourhood's number among its nine cells, row by row from the north-west, the lowest bit first. So
-/// the cells that share a side with the centre are looked at first, and the centre last: of the orders that were tried
-/// this one gives the fewest nodes under rules that turns and reflections keep.
-const PLACES: [usize; 9] = [4, 8, 6, 2, 0, 5, 3, 7, 1];
 
 /// A node of a diagram.
 #[derive(Clone, Copy, Debug, PartialEq, Eq)]
@@ -75,20 +68,12 @@ impl Diagram {
         Ok(Diagram { nodes })
     }
 
-    /// The diagram of a rule, where it is one of two states.
-    ///
-    /// # Errors
-    ///
-    /// Fails where there is no memory for it.
-    pub(crate) fn of<A: Automaton>(alloc: Global, rule: &A) -> Result<Option<Diagram>, Memory>
-        ensures { IfOk result (λ found. IfSome found (λ diagram. TellsNext (A.next_of rule.now) diagram.nodes.items)) }
+    // The diagram of a rule with these next states of all neighbourhoods, if they are dead or live.
+    pub(crate) fn of(alloc: Global, next_states: &[u8]) -> Result<Option<Diagram>, Memory>
+        ensures { IfOk result (λ found. IfSome found (λ diagram. AreNextStates (diagram_next diagram.nodes.items) next_states.now)) }
     {
-        if rule.states() != 2 {
-            return Ok(None);
-        }
-        let states = next_states(alloc, rule)?;
-        let diagram = Diagram::built(alloc, &states)?;
-        if diagram.gives(alloc, &states)? {
+        let diagram = Diagram::built(alloc, next_states)?;
+        if diagram.gives(alloc, next_states)? {
             return Ok(Some(diagram));
         }
         Ok(None)
@@ -119,49 +104,6 @@ impl Diagram {
         }
         Ok(state_at(states, states.len().saturating_sub(1)))
     }
-}
-
-// The state at a place, dead where there is none.
-fn state_at(states: &[u8], place: usize) -> u8
-    ensures { result ≡ slice_index states.now place }
-{
-    states.get(place).copied().unwrap_or(0)
-}
-
-// The neighbourhood with this number.
-fn neighbourhood(number: u16) -> Nine
-    ensures { result ≡ neighbourhood number }
-{
-    [
-        cell(number, 16),
-        cell(number, 256),
-        cell(number, 8),
-        cell(number, 64),
-        cell(number, 1),
-        cell(number, 32),
-        cell(number, 4),
-        cell(number, 128),
-        cell(number, 2),
-    ]
-}
-
-// The binary digit of this weight.
-fn cell(number: u16, weight: u16) -> u8
-    requires { 0 < weight }
-    ensures { result ≡ number / weight % 2 }
-{
-    (number / weight % 2) as u8
-}
-
-// The rule's next state of each neighbourhood.
-fn next_states<A: Automaton>(alloc: Global, rule: &A) -> Result<Vec<u8>, Memory>
-    ensures { IfOk result (λ states. AreNextStates (A.next_of rule.now) states.items) }
-{
-    let mut states = Vec::new(alloc);
-    'numbers: for number in 0..NEIGHBOURHOODS {
-        states.push(rule.next(&neighbourhood(number)))?;
-    }
-    Ok(states)
 }
 
 // The nodes of these states.

@@ -45,6 +45,7 @@ impl Diagram {
 }
 
 // What a node stands for at each cell of a brick, where it is known for the earlier nodes.
+#[inline(always)]
 fn node_rows(node: &Node, nine: &[[u64; 16]; 9], earlier: &[[u64; 16]]) -> [u64; 16]
     ensures { (x y : ℕ) → x < 64 → y < 16
         → row_cells result x y ≡ node_state (cells_at nine.now x y) (cells_at earlier.now x y) node.now }

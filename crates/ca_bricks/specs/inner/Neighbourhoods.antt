@@ -1,7 +1,5 @@
 -- The neighbourhoods of nine cells, each of them dead or live, by number.
 use Rattle.std.specs.Prelude.{◌≡◌, ℕ, ◌<◌, ◌/◌, ◌%◌, List, [], ◌∷◌, slice_index}
-use Rattle.ca_bricks.specs.Diagrams.{diagram_next}
-use Rattle.ca_bricks.specs.declared.diagram.Node.{Node}
 
 -- the one with this number: its binary digits, the lowest that of the centre, the highest those of the cells that share a side with it
 abbrev pub neighbourhood : ℕ → List ℕ
@@ -13,7 +11,3 @@ neighbourhood n =
 -- the states are the next ones of each, by number
 abbrev pub AreNextStates : (List ℕ → ℕ) → List ℕ → Type 0
 AreNextStates next states = (n : ℕ) → n < 512 → slice_index states n ≡ next (neighbourhood n)
-
--- the diagram gives the next state of each
-abbrev pub TellsNext : (List ℕ → ℕ) → List Node → Type 0
-TellsNext next nodes = (n : ℕ) → n < 512 → diagram_next nodes (neighbourhood n) ≡ next (neighbourhood n)

@@ -4,7 +4,7 @@ use Rattle.std.proofs.Math.Seq.{get_or-append_seam}
 use Rattle.std.proofs.lemmas.List.{length-append}
 use Rattle.std.proofs.lemmas.Bool.{cases_eq}
 use Rattle.ca_bricks.specs.inner.Neighbourhoods.{neighbourhood}
-use Rattle.ca_bricks.proofs.diagram.next_states.Goals as goal
+use Rattle.ca_bricks.proofs.next_states.next_states.Goals as goal
 
 pub numbers-preserved : goal.numbers-preserved
 numbers-preserved g c =

@@ -1,6 +1,6 @@
 use Rattle.std.proofs.Common.{◌≡◌, ℕ, ◌<◌, length, slice_index}
 use Rattle.ca_bricks.specs.inner.Neighbourhoods.{neighbourhood}
-use Rattle.ca_bricks.proofs.diagram.next_states.Given as goal
+use Rattle.ca_bricks.proofs.next_states.next_states.Given as goal
 
 -- the next states of the neighbourhoods so far
 abbrev pub invariant-numbers : goal.invariant-numbers

@@ -1,0 +1,16 @@
+use Rattle.std.proofs.Common.{◌≡◌, inl, inr, sym, ap, ◌∙◌, arith, slice_index}
+use Rattle.std.proofs.lemmas.Bool.{cases_eq}
+use Rattle.std.proofs.lemmas.Bool.Decides.{nat_tests}
+use Rattle.ca_plane.specs.Counting.{counting_next}
+use Rattle.ca_bricks.specs.inner.Neighbourhoods.{neighbourhood}
+use Rattle.ca_bricks.proofs.found_counting.gives.Goals as goal
+
+pub numbers-preserved : goal.numbers-preserved
+numbers-preserved c = λ n low.
+    let same : c.next_state.result ≡ c.state_at.result = grind (arith, nat_tests) in
+    elim (cases_eq n c.numbers.number) [
+      | inl here ↦
+          ap (slice_index c.args.next_states.now) (here ∙ sym c.from.ensures) ∙ sym c.state_at.ensures ∙ sym same ∙ c.next_state.ensures
+          ∙ ap (λ m. counting_next c.args.counting (neighbourhood m)) (sym here)
+      | inr other ↦ c.numbers.invariant n (omega (arith, low, other))
+    ]
