@@ -1,7 +1,8 @@
 -- Which claims are true of pictures, by what their planes show after one generation after the other.
-use Rattle.std.proofs.Common.{◌≡◌, ◌≢◌, ℕ, zero, suc, ◌+◌, ◌-◌, ◌≤◌, ◌<◌, List, [], Result, sym, subst, ◌∙◌, arith}
+use Rattle.std.proofs.Common.{◌≡◌, ◌≢◌, ℕ, zero, suc, ◌+◌, ◌-◌, ◌≤◌, ◌<◌, List, [], Result, Some, None, refl, sym, ap, subst, ◌∙◌, arith}
 use Rattle.std.specs.Prelude.{ℤ, pos, ◌-ℤ◌, replicate, IfOk}
 use Rattle.std.proofs.lemmas.Int.{ints}
+use Rattle.std.proofs.lemmas.Option.{none-some, same_Some}
 use Rattle.ca_plane.specs.Plane.{Picture, shifted, IsLive}
 use Rattle.ca_plane.specs.Plane as plane
 use Rattle.ca_plane.specs.Generations.{after, cells_after, IsAfter, IsLiveAfter}
@@ -13,9 +14,12 @@ use Rattle.ca_quad.specs.Trees as trees
 use Rattle.ca_work.specs.declared.fault.LeapFault.{LeapFault}
 use Rattle.ca_plane.proofs.After.{after_same}
 use Rattle.ca_text.specs.declared.kind.Kind.TheVariants as kind
-use Rattle.ca_identify.specs.declared.identification.ending.Ending.TheVariants.{Death}
+use Rattle.ca_identify.specs.declared.identification.ending.Ending.{Ending}
+use Rattle.ca_identify.specs.declared.identification.ending.Ending.TheVariants.{Death, Return}
+use Rattle.ca_identify.specs.declared.identification.ending.Recurrence.{Recurrence}
 use Rattle.ca_identify.specs.declared.identification.stage.First.{First}
-use Rattle.ca_identify.specs.declared.identification.stage.Stage.TheVariants.{Other}
+use Rattle.ca_identify.specs.declared.identification.stage.Stage.{Stage}
+use Rattle.ca_identify.specs.declared.identification.stage.Stage.TheVariants.{Empty, Back, Other}
 use Rattle.ca_answers.specs.declared.identity.Growth.{Growth}
 use Rattle.ca_answers.specs.declared.identity.Identity.{Identity}
 use Rattle.ca_answers.specs.declared.identity.Identity.TheVariants.{Unknown}
@@ -23,7 +27,7 @@ use Rattle.ca_answers.specs.declared.scope.Scope.{Scope}
 use Rattle.ca_answers.specs.Identified.{IsIdentity, IsTrueWithin, HasNoTrueClaim, IsLook, MayNeedWork}
 use Rattle.ca_plane.specs.Limits.{longest_period}
 use Rattle.ca_text.specs.Truth.{IsChanged, IsNowhere}
-use Rattle.ca_identify.specs.inner.Stages.{IsFirst, IsStage, IsReturn, IsGrowthOf, AreMoved, AreMovedNowhere, AreOtherUpTo, IsFirstAgain, IsEnding, HasNoReturn, TakesSearch}
+use Rattle.ca_identify.specs.inner.Stages.{IsFirst, IsStage, IsReturn, IsGrowthOf, AreMoved, AreMovedNowhere, AreOtherUpTo, IsFirstAgain, IsEnding, ending_of, generations_of, HasNoReturn, TakesSearch}
 use Rattle.ca_pattern.specs.LaterTrees.{IsLaterTree}
 use Rattle.ca_pattern.specs.PatternTrees.{ShowsTree, HasLive}
 use Rattle.ca_pattern.proofs.Deaths.{live_at_all}
@@ -101,12 +105,15 @@ none_back next quiet cells limit without alive kind one some within true = absur
 
 -- ---- a pattern that is back for the first time
 
-module _ (next : List ℕ → ℕ) (cells : Picture) (limit n : ℕ) (dx dy : ℤ) (within : n ≤ limit) (short : limit ≤ longest_period) (is : IsReturn next cells n dx dy) where
-  -- in its place
-  in_place : dx ≡ pos 0 → dy ≡ pos 0 → IsAfter next cells n (shifted cells (pos 0) (pos 0))
-  in_place right down = subst (λ d. IsAfter next cells n (shifted cells (pos 0) d)) down (subst (λ d. IsAfter next cells n (shifted cells d dy)) right is.stands)
+module _ (next : List ℕ → ℕ) (cells : Picture) (limit : ℕ) (again : Recurrence) (within : again.generations ≤ limit) (short : limit ≤ longest_period) (is : IsReturn next cells again) where
+  abbrev n : ℕ
+  n = again.generations
 
-  pub oscillator_true : dx ≡ pos 0 → dy ≡ pos 0 → n ≢ 1 → IsTrueWithin next cells limit (kind.Oscillator n)
+  -- in its place
+  in_place : again.dx ≡ pos 0 → again.dy ≡ pos 0 → IsAfter next cells n (shifted cells (pos 0) (pos 0))
+  in_place right down = subst (λ d. IsAfter next cells n (shifted cells (pos 0) d)) down (subst (λ d. IsAfter next cells n (shifted cells d again.dy)) right is.stands)
+
+  pub oscillator_true : again.dx ≡ pos 0 → again.dy ≡ pos 0 → n ≢ 1 → IsTrueWithin next cells limit (kind.Oscillator n)
   oscillator_true right down more = record {
     numbers = let some = is.some in (omega (arith, some, more), omega (arith, within, short));
     within = within;
@@ -156,7 +163,7 @@ module _ (next : List ℕ → ℕ) (quiet : next (replicate 9 0) ≡ 0) (nodes :
     found_death dead = death_ends next p cells shows (n + 1) first_live (omega arith) (λ m some before. others m some (omega (arith, before))) dead
 
     -- where the next one is the pattern, moved, it is back for the first time
-    pub found_return : (dx dy : ℤ) → AreMoved p (cells_after next p (n + 1)) dx dy → IsReturn next cells (n + 1) dx dy
+    pub found_return : (dx dy : ℤ) → AreMoved p (cells_after next p (n + 1)) dx dy → IsReturn next cells (record { generations = n + 1; dx = dx; dy = dy })
     found_return dx dy moved =
         let left = least_right next quiet p first.bounds is.box (n + 1) dx dy moved in
         let right = most_right next quiet p first.bounds is.box (n + 1) dx dy moved in
@@ -174,13 +181,42 @@ module _ (next : List ℕ → ℕ) (quiet : next (replicate 9 0) ≡ 0) (nodes :
           nowhere = λ m some before. picture_nowhere next p cells shows m (others m some (omega (arith, before))).1;
         }
 
+    -- so it ends as the next one shows it
+    pub found_ending : (stage : Stage) (ending : Ending) → ending_of stage (n + 1) ≡ Some ending → IsStage p (cells_after next p (n + 1)) stage → IsEnding next cells ending
+    found_ending Empty ending is dead = subst (IsEnding next cells) (same_Some _ _ is) (found_death dead)
+    found_ending (Back dx dy) ending is moved = subst (IsEnding next cells) (same_Some _ _ is) (found_return dx dy moved)
+    found_ending Other ending is other = absurd (none-some _ is)
+
   -- where it is the pattern, moved, after some generations for the first time, it is back then for the first time
-  pub found_again : (n limit : ℕ) (dx dy : ℤ) → n ≤ limit → limit ≤ longest_period → IsFirstAgain next p n dx dy → IsReturn next cells n dx dy
-  found_again n limit dx dy within short again =
-      let some = again.some in
+  pub found_again : (limit : ℕ) (again : Recurrence) → again.generations ≤ limit → limit ≤ longest_period → IsFirstAgain next p again → IsReturn next cells again
+  found_again limit again within short is_again =
+      let n = again.generations in
+      let some = is_again.some in
       let last : n - 1 + 1 ≡ n = omega (arith, some) in
-      subst (λ k. IsReturn next cells k dx dy) last
-      (found_return (n - 1) again.before limit (omega (arith, some, within)) short dx dy (subst (λ k. AreMoved p (cells_after next p k) dx dy) (sym last) again.moved))
+      subst (λ k. IsReturn next cells (record { generations = k; dx = again.dx; dy = again.dy })) last
+      (found_return (n - 1) is_again.before limit (omega (arith, some, within)) short again.dx again.dy (subst (λ k. AreMoved p (cells_after next p k) again.dx again.dy) (sym last) is_again.moved))
+
+-- an ending is after so many generations
+pub ending_time : (stage : Stage) (n : ℕ) (ending : Ending) → ending_of stage n ≡ Some ending → generations_of ending ≡ n
+ending_time Empty n ending is = ap generations_of (sym (same_Some _ _ is))
+ending_time (Back dx dy) n ending is = ap generations_of (sym (same_Some _ _ is))
+ending_time Other n ending is = absurd (none-some _ is)
+
+-- and the plane is as it says
+abbrev pub IsShown : (List ℕ → ℕ) → (ℤ → ℤ → ℕ) → Ending → Type 0
+IsShown next p (Death n) = IsDead (cells_after next p n)
+IsShown next p (Return again) = AreMoved p (cells_after next p again.generations) again.dx again.dy
+
+pub ending_shown : (next : List ℕ → ℕ) (p : ℤ → ℤ → ℕ) (stage : Stage) (n : ℕ) (ending : Ending) → ending_of stage n ≡ Some ending → IsStage p (cells_after next p n) stage → IsShown next p ending
+ending_shown next p Empty n ending is dead = subst (IsShown next p) (same_Some _ _ is) dead
+ending_shown next p (Back dx dy) n ending is moved = subst (IsShown next p) (same_Some _ _ is) moved
+ending_shown next p Other n ending is other = absurd (none-some _ is)
+
+-- and where there is none, the plane is live, and another one
+pub no_ending : (stage : Stage) (n : ℕ) → ending_of stage n ≡ None → stage ≡ Other
+no_ending Empty n is = absurd (none-some _ (sym is))
+no_ending (Back dx dy) n is = absurd (none-some _ (sym is))
+no_ending Other n is = refl
 
 -- ---- a plane some generations on
 

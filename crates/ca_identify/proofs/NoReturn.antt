@@ -41,7 +41,7 @@ module _ (next : List ℕ → ℕ) (quiet : next (replicate 9 0) ≡ 0) (cells :
   ended_never : (later : Picture) (n : ℕ) → 1 ≤ seen → IsAfter next cells n later → (ending : Ending) → IsEnding next later ending → generations_of ending ≤ seen → HasNoReturn next cells limit
   ended_never later n some stands (Death g) is few =
       empty_never (n + g) some (λ x y. sym (after_stands next cells later n g stands x y) ∙ is.2.empty x y)
-  ended_never later n some stands (Return g dx dy) is few = settled_never later n g dx dy is.some few stands is.stands
+  ended_never later n some stands (Return again) is few = settled_never later n again.generations again.dx again.dy is.some few stands is.stands
 
   pub ending_never : (later : Picture) (n : ℕ) → 1 ≤ seen → IsAfter next cells n later → EndsWithin next later seen → HasNoReturn next cells limit
   ending_never later n some stands ends = ended_never later n some stands ends.0 ends.1 ends.2

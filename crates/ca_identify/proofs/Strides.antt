@@ -170,12 +170,12 @@ stride_as next p q n nodes same (On tree) told = (
   later_as next p q n nodes tree same told.0,
   λ m some within. stage_as p (cells_after next p m) q (cells_after next q m) same (λ x y. after_same next p q m same x y) Other (told.1 m some within),
 )
-stride_as next p q n nodes same (Again m dx dy) told = (
+stride_as next p q n nodes same (Again again) told = (
   told.0,
   record {
     some = told.1.some;
     before = λ k some within. stage_as p (cells_after next p k) q (cells_after next q k) same (λ x y. after_same next p q k same x y) Other (told.1.before k some within);
-    moved = moved_as p (cells_after next p m) q (cells_after next q m) same (λ x y. after_same next p q m same x y) dx dy told.1.moved;
+    moved = moved_as p (cells_after next p again.generations) q (cells_after next q again.generations) same (λ x y. after_same next p q again.generations same x y) again.dx again.dy told.1.moved;
   },
 )
 stride_as next p q n nodes same Never told = λ m some. nowhere_as p (cells_after next p m) q (cells_after next q m) same (λ x y. after_same next p q m same x y) (told m some)

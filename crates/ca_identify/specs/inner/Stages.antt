@@ -1,17 +1,17 @@
 -- What a live pattern's plane shows some generations on, and what work it takes to see it.
-use Rattle.std.specs.Prelude.{◌≡◌, ℕ, ◌+◌, ◌-◌, ◌*◌, ◌^◌, ◌≤◌, ◌<◌, ℤ, List, Some, slice_get}
+use Rattle.std.specs.Prelude.{◌≡◌, ℕ, ◌+◌, ◌-◌, ◌*◌, ◌^◌, ◌≤◌, ◌<◌, ℤ, List, Option, Some, None, slice_get}
 use Rattle.ca_plane.specs.declared.point.Bounds.{Bounds}
 use Rattle.ca_plane.specs.Plane.{Picture, IsLive, shifted}
 use Rattle.ca_plane.specs.Generations.{cells_after, IsAfter}
-use Rattle.ca_plane.specs.Limits.{most_generations}
 use Rattle.ca_quad.specs.declared.node.Node.{Node}
 use Rattle.ca_quad.specs.declared.tree.Tree.{Tree}
 use Rattle.ca_quad.specs.declared.tree.WideBounds.{WideBounds}
 use Rattle.ca_quad.specs.Boxes.{IsDead, IsLeastWideBox, AreSquareBoxes}
 use Rattle.ca_quad.specs.Shifted.{shifted_cells}
-use Rattle.ca_quad.specs.Trees.{IsTree, cell, IsTrimmed, HoldsAll}
+use Rattle.ca_quad.specs.Trees.{cell, HoldsAll}
 use Rattle.ca_identify.specs.declared.identification.ending.Ending.{Ending}
 use Rattle.ca_identify.specs.declared.identification.ending.Ending.TheVariants.{Death, Return}
+use Rattle.ca_identify.specs.declared.identification.ending.Recurrence.{Recurrence}
 use Rattle.ca_identify.specs.declared.identification.stage.First.{First}
 use Rattle.ca_identify.specs.declared.identification.stage.Stage.{Stage}
 use Rattle.ca_identify.specs.declared.identification.stage.Stage.TheVariants.{Empty, Back, Other}
@@ -25,7 +25,7 @@ use Rattle.ca_text.specs.Kinds.{IsShift}
 use Rattle.ca_text.specs.Truth.{IsChanged, IsNowhere}
 use Rattle.ca_pattern.specs.PatternTrees.{IsBroad, IsWide, ShowsTree, HasLive}
 use Rattle.ca_pattern.specs.inner.LifeSpans.{IsLifeSpan}
-use Rattle.ca_pattern.specs.LaterTrees.{IsStart, IsLaterTree, IsWithinPlane}
+use Rattle.ca_pattern.specs.LaterTrees.{IsStart, IsLaterTree}
 
 -- the tree of a live plane that is looked at, and the least box round its cells
 pub record IsFirst (nodes : List Node) (first : First) : Type 0 where
@@ -94,25 +94,31 @@ abbrev pub TakesEarly : (old new : ℕ) → (stages : ℕ → ℤ → ℤ → �
 TakesEarly old new stages begun sure limit =
     (level : ℕ) → 1 ≤ level → ((m : ℕ) → m < limit → HoldsAll level (stages m)) → new ≤ old + (sure - begun) * step_work level + early_work limit
 
--- a live pattern is back for the first time after so many generations, by this vector
-pub record IsReturn (next : List ℕ → ℕ) (cells : Picture) (generations : ℕ) (dx dy : ℤ) : Type 0 where
+-- a live pattern is back so for the first time
+pub record IsReturn (next : List ℕ → ℕ) (cells : Picture) (again : Recurrence) : Type 0 where
   pub live : IsLive cells
-  pub some : 1 ≤ generations
-  pub right : IsShift dx
-  pub down : IsShift dy
-  pub stands : IsAfter next cells generations (shifted cells dx dy)
-  pub changed : (m : ℕ) → 1 ≤ m → m < generations → IsChanged next cells m
-  pub nowhere : (m : ℕ) → 1 ≤ m → m < generations → IsNowhere next cells m
+  pub some : 1 ≤ again.generations
+  pub right : IsShift again.dx
+  pub down : IsShift again.dy
+  pub stands : IsAfter next cells again.generations (shifted cells again.dx again.dy)
+  pub changed : (m : ℕ) → 1 ≤ m → m < again.generations → IsChanged next cells m
+  pub nowhere : (m : ℕ) → 1 ≤ m → m < again.generations → IsNowhere next cells m
 
--- the pattern is live, and after these generations, for the first time, its plane is dead, or the pattern is back, moved by this vector
+-- the pattern is live, and after these generations, for the first time, its plane is dead, or the pattern is back
 abbrev pub IsEnding : (List ℕ → ℕ) → Picture → Ending → Type 0
 IsEnding next cells (Death generations) = (1 ≤ generations) × IsLive cells × IsLifeSpan next cells generations
-IsEnding next cells (Return generations dx dy) = IsReturn next cells generations dx dy
+IsEnding next cells (Return again) = IsReturn next cells again
 
 -- after how many generations it ends so
 abbrev pub generations_of : Ending → ℕ
 generations_of (Death generations) = generations
-generations_of (Return generations dx dy) = generations
+generations_of (Return again) = again.generations
+
+-- how it ends, where its plane shows this after so many generations and no ending before
+abbrev pub ending_of : Stage → ℕ → Option Ending
+ending_of Empty n = Some (Death n)
+ending_of (Back dx dy) n = Some (Return (record { generations = n; dx = dx; dy = dy }))
+ending_of Other n = None
 
 -- it is dead or back within n generations
 abbrev pub EndsWithin : (List ℕ → ℕ) → Picture → ℕ → Type 0
@@ -159,16 +165,16 @@ abbrev pub IsLastMovedFrom : List Node → List First → (ℤ → ℤ → ℕ) 
 IsLastMovedFrom nodes planes later k = IsMovedFromPlane nodes planes later k
     × ((j : ℕ) (plane : First) → k < j → slice_get planes j ≡ Some plane → AreMovedNowhere (cell nodes plane.tree) later)
 
--- after these generations, for the first time, the first cells are there again, moved by this vector, and they weren't dead before
-pub record IsFirstAgain (next : List ℕ → ℕ) (first : ℤ → ℤ → ℕ) (n : ℕ) (dx dy : ℤ) : Type 0 where
-  pub some : 1 ≤ n
-  pub before : AreOtherUpTo next first (n - 1)
-  pub moved : AreMoved first (cells_after next first n) dx dy
+-- the first cells are there again so for the first time, and they weren't dead before
+pub record IsFirstAgain (next : List ℕ → ℕ) (first : ℤ → ℤ → ℕ) (again : Recurrence) : Type 0 where
+  pub some : 1 ≤ again.generations
+  pub before : AreOtherUpTo next first (again.generations - 1)
+  pub moved : AreMoved first (cells_after next first again.generations) again.dx again.dy
 
 -- what a stride up to n generations shows: after none of these the plane is dead, or the first cells are there again, moved, and the tree is that of
 -- the last one; or they are there again, after one of them for the first time; or they are at no time; or the plane is dead at last
 abbrev pub IsStride : (List ℕ → ℕ) → (ℤ → ℤ → ℕ) → (n : ℕ) → List Node → Stride → Type 0
 IsStride next first n nodes (On tree) = IsLaterTree next first n nodes tree × AreOtherUpTo next first n
-IsStride next first n nodes (Again m dx dy) = (m ≤ n) × IsFirstAgain next first m dx dy
+IsStride next first n nodes (Again again) = (again.generations ≤ n) × IsFirstAgain next first again
 IsStride next first n nodes Never = (m : ℕ) → 1 ≤ m → AreMovedNowhere first (cells_after next first m)
 IsStride next first n nodes Dead = IsDead (cells_after next first n)

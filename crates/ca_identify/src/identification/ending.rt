@@ -13,8 +13,16 @@ use ca_answers::Identity;
 pub(super) enum Ending {
     /// No cell is live.
     Death { generations: u64 },
-    /// The pattern is there again, moved by this vector.
-    Return { generations: u64, dx: i64, dy: i64 },
+    /// The pattern is there again.
+    Return(Recurrence),
+}
+
+/// After how many generations a pattern is there again, and the vector by which it is moved then.
+#[derive(Clone, Copy)]
+pub(super) struct Recurrence {
+    pub(super) generations: u64,
+    pub(super) dx: i64,
+    pub(super) dy: i64,
 }
 
 /// What a pattern is that ends so.
@@ -24,19 +32,20 @@ pub(super) fn identity_of(ending: Ending) -> Identity
 {
     match ending {
         Ending::Death { generations } => Identity::Dies { generations },
-        Ending::Return {
-            generations,
-            dx,
-            dy,
-        } => identity_of_return(generations, dx, dy),
+        Ending::Return(again) => identity_of_return(again),
     }
 }
 
-// What a pattern is that is back for the first time after so many generations, by this vector.
-fn identity_of_return(generations: u64, dx: i64, dy: i64) -> Identity
-    ensures { (next : List ℕ → ℕ) (cells : Picture) (limit : ℕ) → generations ≤ limit → limit ≤ longest_period
-        → IsReturn next cells generations dx dy → IsIdentity next cells limit result }
+/// What a pattern is that is back so for the first time.
+pub(super) fn identity_of_return(again: Recurrence) -> Identity
+    ensures { (next : List ℕ → ℕ) (cells : Picture) (limit : ℕ) → again.generations ≤ limit
+        → limit ≤ longest_period → IsReturn next cells again → IsIdentity next cells limit result }
 {
+    let Recurrence {
+        generations,
+        dx,
+        dy,
+    } = again;
     if dx != 0 || dy != 0 {
         return Identity::Spaceship {
             period: generations,

@@ -6,10 +6,11 @@ ghost use Rattle.ca_quad.specs.Trees.{IsTree, cell};
 ghost use Rattle.ca_run.specs.Leaping.{LeaperGrows};
 ghost use Rattle.ca_work.specs.Spending.{EndsAtLimit};
 ghost use Rattle.ca_pattern.specs.PatternTrees.{IsNearTree};
-ghost use Rattle.ca_identify.specs.inner.Stages.{IsFirst, IsFirstBox, IsStage};
+ghost use Rattle.ca_identify.specs.inner.Stages.{IsFirst, IsFirstBox, IsStage, ending_of};
 ghost use Rattle.ca_pattern.specs.PatternTrees.{IsWideBox};
 ghost use Rattle.ca_identify.specs.inner.Stages.{AreMovedNowhere, AreMovedOnlyBy};
 
+use super::ending::{Ending, Recurrence};
 use ca_evolution::{distance, vector_if_back};
 use ca_plane::{Automaton, Memory};
 use ca_quad::{SquareBoxes, Store, Tree, WideBounds};
@@ -32,6 +33,23 @@ pub(super) enum Stage {
     Back { dx: i64, dy: i64 },
     /// Some cell is live, and the pattern is there under no vector.
     Other,
+}
+
+impl Stage {
+    /// How a pattern ends that shows this after so many generations, and at no earlier time that it is dead or back.
+    pub(super) fn ending(self, generations: u64) -> Option<Ending>
+        ensures { result ≡ ending_of self generations }
+    {
+        match self {
+            Stage::Empty => Some(Ending::Death { generations }),
+            Stage::Back { dx, dy } => Some(Ending::Return(Recurrence {
+                generations,
+                dx,
+                dy,
+            })),
+            Stage::Other => None,
+        }
+    }
 }
 
 /// What a tree shows of a live pattern. Nothing is moved or compared where the boxes have different sizes.

@@ -89,16 +89,8 @@ pub(super) fn look_on<A: Automaton, O: Observer>(
             walk.generations,
             &mut walk.boxes,
         )?;
-        match later.stage {
-            Stage::Empty => return Ok(Some(Ending::Death { generations })),
-            Stage::Back { dx, dy } => {
-                return Ok(Some(Ending::Return {
-                    generations,
-                    dx,
-                    dy,
-                }));
-            }
-            Stage::Other => {}
+        if let Some(ending) = later.stage.ending(generations) {
+            return Ok(Some(ending));
         }
         walk.tree = later.tree;
         walk.generations = generations;

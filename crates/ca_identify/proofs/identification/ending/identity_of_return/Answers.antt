@@ -4,5 +4,5 @@ use Rattle.ca_identify.proofs.identification.ending.identity_of_return.Goals as 
 
 pub returns : goal.returns
 returns c = λ next cells limit within short is.
-    oscillator_true next cells limit c.args.generations c.args.dx c.args.dy within short is
-    (no_shift_reads c.args.dx is.right c.if-dx-ne0.false) (no_shift_reads c.args.dy is.down c.if-dy-ne0.false) c.if-generations-eq1.false
+    oscillator_true next cells limit c.args.again within short is
+    (no_shift_reads c.args.again.dx is.right c.if-dx-ne0.false) (no_shift_reads c.args.again.dy is.down c.if-dy-ne0.false) c.if-generations-eq1.false

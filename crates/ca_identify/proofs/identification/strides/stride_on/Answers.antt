@@ -1,6 +1,5 @@
-use Rattle.std.proofs.Common.{rules, ℕ, ◌≤◌, List, sym, subst, arith, w64, SFits, to_z, of_z}
+use Rattle.std.proofs.Common.{ℕ, ◌≤◌, List, sym, subst, arith}
 use Rattle.std.specs.Prelude.{ℤ, IfOk, IfSome}
-use Rattle.std.proofs.lemmas.Int.{to_z-of_z}
 use Rattle.ca_quad.specs.Trees.{cell}
 use Rattle.ca_quad.proofs.Measures.{boxes_stay}
 use Rattle.ca_quad.proofs.Trims.{trees_stay}
@@ -8,7 +7,7 @@ use Rattle.ca_run.specs.Leaping.{LeaperGrows}
 use Rattle.ca_run.proofs.LeaperGrowth.{goes_on_same}
 use Rattle.ca_run.proofs.LeaperGrowth.{goes_on_again}
 use Rattle.ca_answers.specs.Identified.{IsIdentity}
-use Rattle.ca_identify.specs.inner.Stages.{IsWalk, IsReturn, AreEarly, IsStride, HasNoReturn}
+use Rattle.ca_identify.specs.inner.Stages.{IsWalk, AreEarly, IsStride, HasNoReturn}
 use Rattle.ca_identify.proofs.Identities.{picture_nowhere, found_again}
 use Rattle.ca_pattern.proofs.LeaptTrees.{shows_stays}
 use Rattle.ca_identify.proofs.Stages.{first_stays, walk_stays, walk_as}
@@ -101,17 +100,12 @@ strides-preserved g c =
 pub returns-in-Again-clause-identity : goal.returns-in-Again-clause-identity
 returns-in-Again-clause-identity g c = λ cells shows.
     let a = (goal.at.returns-in-Again-clause-identity g c).In_ok-tree in
-    let n = c.in-Again.generations in
-    let dx = c.in-Again.dx in
-    let dy = c.in-Again.dy in
-    let fits_x : SFits w64 dx = search rules in
-    let fits_y : SFits w64 dy = search rules in
+    let again = c.in-Again.again in
     let limit = c.args.limit in
-    let (within, again) = subst (IsStride (next g a) (first g a) c.min-end.result c.stride_to.new.leaper.nodes) c.in-Again.is (told g a) in
-    let short : n ≤ limit = omega (arith, within, c.min-end.ensures) in
-    let back = found_again (next g a) (g.met.A.Automaton.quiet c.args.leaper.now.rule c.store.ensures.rule) c.args.leaper.now.nodes c.args.first.now c.requires.first cells shows n limit dx dy short c.requires.most again in
-    c.identity_of.ensures (next g a) cells limit short c.requires.most
-    (subst (λ d. IsReturn (next g a) cells n d (to_z w64 (of_z w64 dy))) (sym (to_z-of_z w64 dx fits_x)) (subst (λ d. IsReturn (next g a) cells n dx d) (sym (to_z-of_z w64 dy fits_y)) back))
+    let (within, is) = subst (IsStride (next g a) (first g a) c.min-end.result c.stride_to.new.leaper.nodes) c.in-Again.is (told g a) in
+    let short : again.generations ≤ limit = omega (arith, within, c.min-end.ensures) in
+    c.identity_of_return.ensures (next g a) cells limit short c.requires.most
+    (found_again (next g a) (g.met.A.Automaton.quiet c.args.leaper.now.rule c.store.ensures.rule) c.args.leaper.now.nodes c.args.first.now c.requires.first cells shows limit again short c.requires.most is)
 
 pub returns-in-Again-clause-walk : goal.returns-in-Again-clause-walk
 returns-in-Again-clause-walk g c =

@@ -1,5 +1,4 @@
-use Rattle.std.proofs.Common.{rules, ◌≡◌, ℕ, ◌+◌, ◌-◌, ◌≤◌, ◌<◌, List, take, refl, sym, subst, ◌∙◌, arith, w64, SFits, to_z, of_z}
-use Rattle.std.proofs.lemmas.Int.{to_z-of_z}
+use Rattle.std.proofs.Common.{◌≡◌, ℕ, ◌+◌, ◌-◌, ◌≤◌, ◌<◌, List, take, refl, sym, ap, subst, ◌∙◌, arith}
 use Rattle.std.specs.Prelude.{ℤ, replicate, slice_get, Some}
 use Rattle.ca_plane.specs.Generations.{cells_after}
 use Rattle.ca_quad.specs.Boxes.{IsDead}
@@ -8,10 +7,12 @@ use Rattle.ca_quad.proofs.Measures.{boxes_stay}
 use Rattle.ca_quad.proofs.Trims.{trees_stay}
 use Rattle.ca_run.specs.Leaping.{LeaperGrows}
 use Rattle.ca_run.proofs.LeaperGrowth.{goes_on_again}
+use Rattle.ca_identify.specs.declared.identification.ending.Ending.TheVariants.{Death, Return}
 use Rattle.ca_identify.specs.declared.identification.stage.First.{First}
 use Rattle.ca_pattern.specs.LaterTrees.{IsLaterTree}
-use Rattle.ca_identify.specs.inner.Stages.{IsStage, IsWalk, IsFirstAgain, IsLastMovedFrom, AreMoved, AreMovedNowhere}
+use Rattle.ca_identify.specs.inner.Stages.{IsStage, IsWalk, AreOtherUpTo, IsLastMovedFrom, AreMoved, AreMovedNowhere}
 use Rattle.ca_pattern.specs.PatternTrees.{HasLive}
+use Rattle.ca_identify.proofs.Identities.{ending_time, ending_shown, no_ending}
 use Rattle.ca_identify.proofs.LaterPlanes.{tree_picture}
 use Rattle.ca_identify.proofs.Stages.{first_stays, later_stays, stage_to, walk_as, walk_stays}
 use Rattle.ca_identify.proofs.Strides.{element_at, part_at, at_part, nowhere_as, moved_as, live_as, stride_can_go, stride_tree, lived, stride_others, never_again}
@@ -139,41 +140,40 @@ pub returns-in_err-stage-clause-goes_on : goal.returns-in_err-stage-clause-goes_
 returns-in_err-stage-clause-goes_on g c =
     goes_on_again _ c.args.leaper.now c.plane_before.new.leaper c.stage_after.new.leaper (on_before g (goal.at.returns-in_err-stage-clause-goes_on g c).In_ok-before) c.stage_after.ensures.goes_on
 
-pub returns-in-Back-clause-goes_on : goal.returns-in-Back-clause-goes_on
-returns-in-Back-clause-goes_on g c = on_stage g (goal.at.returns-in-Back-clause-goes_on g c).In_ok-stage
+pub returns-in-Some-Return-clause-goes_on : goal.returns-in-Some-Return-clause-goes_on
+returns-in-Some-Return-clause-goes_on g c = on_stage g (goal.at.returns-in-Some-Return-clause-goes_on g c).In_ok-stage
 
-pub returns-in-Other-clause-goes_on : goal.returns-in-Other-clause-goes_on
-returns-in-Other-clause-goes_on g c = on_stage g (goal.at.returns-in-Other-clause-goes_on g c).In_ok-stage
+pub returns-in-None-clause-goes_on : goal.returns-in-None-clause-goes_on
+returns-in-None-clause-goes_on g c = on_stage g (goal.at.returns-in-None-clause-goes_on g c).In_ok-stage
 
-pub returns-in-Back-clause-stride : goal.returns-in-Back-clause-stride
-returns-in-Back-clause-stride g c =
-    let at = goal.at.returns-in-Back-clause-stride g c in
+pub returns-in-Some-Return-clause-stride : goal.returns-in-Some-Return-clause-stride
+returns-in-Some-Return-clause-stride g c =
+    let at = goal.at.returns-in-Some-Return-clause-stride g c in
     let a = at.In_ok-later in
     let s1 = c.later_tree.new.leaper.nodes in
     let later = c.in_ok-later.later in
     let n = c.args.walk.now.generations in
     let end = c.args.end in
     let q = end - c.in-Some.before in
-    let dx = c.in-Back.dx in
-    let dy = c.in-Back.dy in
-    let fits_x : SFits w64 dx = search rules in
-    let fits_y : SFits w64 dy = search rules in
+    let again = c.in-Some-Return.again in
+    let time = ending_time c.in_ok-stage.stage q (Return again) (sym c.ending.ensures ∙ c.in-Some-Return.is ∙ ap Some c.in-Some-Return.field-0-is) in
     let last = found g at.In-Some in
     let less = (there g at.In-Some).1 in
     let is = end_tree g a in
     let live = subst (λ s. HasLive (cell s later)) c.store-2.ensures.nodes (c.if-is_dead.ensures.live refl) in
-    let back : AreMoved (first g a) (stages g a q) dx dy = subst (IsStage (first g a) (stages g a q)) c.in-Back.is (told g at.In_ok-stage (on_before g at.In_ok-before)) in
+    let back : AreMoved (first g a) (stages g a again.generations) again.dx again.dy
+    = ending_shown (next g a) (first g a) c.in_ok-stage.stage q (Return again) (sym c.ending.ensures ∙ c.in-Some-Return.is ∙ ap Some c.in-Some-Return.field-0-is) (told g at.In_ok-stage (on_before g at.In_ok-before)) in
     let nowhere : (k : ℕ) → k < end - n → end - (q - 1) ≤ k → AreMovedNowhere (stages g a k) (stages g a end) = λ k under above.
     let plane = element_at c.args.early.now k (omega (arith, under, c.requires.near, c.requires.more)) in
     nowhere_as (cell s1 plane.0.tree) (cell s1 later) (stages g a k) (stages g a end) (early_shows g a k plane.0 plane.1) is.shows
-    (last.1 k plane.0 (omega (arith, above, less)) (at_part c.args.early.now (end - n) k plane.0 under plane.1)) in
-    let again : IsFirstAgain (next g a) (first g a) q dx dy = record {
-      some = omega (arith, less);
-      before = stride_others (next g a) (first g a) (quiet g a) n end (q - 1) (omega arith) c.requires.walk.others (live_as (cell s1 later) (stages g a end) is.shows live) nowhere;
-      moved = back;
-    } in (
-      omega arith,
-      subst (λ d. IsFirstAgain (next g a) (first g a) q d (to_z w64 (of_z w64 dy))) (sym (to_z-of_z w64 dx fits_x)) (subst (λ d. IsFirstAgain (next g a) (first g a) q dx d) (sym (to_z-of_z w64 dy fits_y)) again),
+    (last.1 k plane.0 (omega (arith, above, less)) (at_part c.args.early.now (end - n) k plane.0 under plane.1)) in (
+      omega (arith, time),
+      record {
+        some = omega (arith, less, time);
+        before = subst (λ k. AreOtherUpTo (next g a) (first g a) (k - 1)) (sym time)
+            (stride_others (next g a) (first g a) (quiet g a) n end (q - 1) (omega arith) c.requires.walk.others (live_as (cell s1 later) (stages g a end) is.shows live) nowhere);
+        moved = back;
+      },
     )
 
 pub unreachable-requires : goal.unreachable-requires
@@ -187,12 +187,14 @@ unreachable-requires g c =
     let sum : c.args.end ≡ q + c.in-Some.before = omega (arith, less) in
     let live = live_as (cell s1 later) (stages g a c.args.end) (end_tree g a).shows (subst (λ s. HasLive (cell s later)) c.store-2.ensures.nodes (c.if-is_dead.ensures.live refl)) in
     let lives = lived (next g a) (first g a) (quiet g a) q c.in-Some.before (subst (λ k. HasLive (stages g a k)) sum live) in
-    let dead = subst (IsStage (first g a) (stages g a q)) c.in-Empty.is (told g at.In_ok-stage (on_before g at.In_ok-before)) in
-    lives.2 (dead lives.0 lives.1)
+    let is = sym c.ending.ensures ∙ c.in-Some-Death.is ∙ ap Some c.in-Some-Death.field-0-is in
+    let time = ending_time c.in_ok-stage.stage q (Death c.in-Some-Death.field-0-0) is in
+    let dead = ending_shown (next g a) (first g a) c.in_ok-stage.stage q (Death c.in-Some-Death.field-0-0) is (told g at.In_ok-stage (on_before g at.In_ok-before)) in
+    lives.2 (ap (λ k. stages g a k lives.0 lives.1) (sym time) ∙ dead lives.0 lives.1)
 
-pub returns-in-Other-clause-stride : goal.returns-in-Other-clause-stride
-returns-in-Other-clause-stride g c =
-    let at = goal.at.returns-in-Other-clause-stride g c in
+pub returns-in-None-clause-stride : goal.returns-in-None-clause-stride
+returns-in-None-clause-stride g c =
+    let at = goal.at.returns-in-None-clause-stride g c in
     let a = at.In_ok-later in
     let s0 = c.args.leaper.now.nodes in
     let s1 = c.later_tree.new.leaper.nodes in
@@ -206,5 +208,5 @@ returns-in-Other-clause-stride g c =
     let (cells, same) = tree_picture s0 c.args.first.now.tree in
     let (settled, shown) = tree_picture s1 plane.tree in
     let moved = moved_as (cell s1 plane.tree) (cell s1 later) (stages g a j) (stages g a c.args.end) (early_shows g a j plane held.0) (end_tree g a).shows last.2 last.3 last.4 in
-    let other = subst (IsStage (first g a) (stages g a q)) c.in-Other.is (told g at.In_ok-stage (on_before g at.In_ok-before)) in
+    let other = subst (IsStage (first g a) (stages g a q)) (no_ending c.in_ok-stage.stage q (sym c.ending.ensures ∙ c.in-None.is)) (told g at.In_ok-stage (on_before g at.In_ok-before)) in
     never_again (next g a) (first g a) cells settled (λ x y. sym (same x y)) j c.args.end (omega (arith, less)) (λ x y. sym (shown x y) ∙ early_shows g a j plane held.0 x y) last.2 last.3 moved other.1

@@ -1,13 +1,12 @@
-use Rattle.std.proofs.Common.{rules, ◌≡◌, ℕ, ◌+◌, ◌-◌, refl, sym, subst, arith, w64, SFits, to_z, of_z}
+use Rattle.std.proofs.Common.{◌≡◌, ℕ, ◌+◌, ◌-◌, refl, sym, subst, ◌∙◌, arith}
 use Rattle.std.specs.Prelude.{ℤ}
-use Rattle.std.proofs.lemmas.Int.{to_z-of_z}
 use Rattle.ca_plane.specs.Generations.{cells_after}
 use Rattle.ca_quad.specs.Trees.{cell}
 use Rattle.ca_run.proofs.LeaperGrowth.{goes_on_same}
 use Rattle.ca_run.proofs.LeaperGrowth.{goes_on_again}
-use Rattle.ca_identify.specs.inner.Stages.{IsStage, IsReturn, IsHalted}
+use Rattle.ca_identify.specs.inner.Stages.{IsStage, IsHalted}
 use Rattle.ca_evolution.specs.Steps.{TakesSteps}
-use Rattle.ca_identify.proofs.Identities.{found_death, found_return}
+use Rattle.ca_identify.proofs.Identities.{found_ending, ending_time, no_ending}
 use Rattle.ca_identify.proofs.LaterPlanes.{on_err}
 use Rattle.ca_identify.proofs.Stages.{first_stays, one_more_other, later_stays, step_from, step_to, stage_to}
 use Rattle.ca_evolution.proofs.Steps.{no_step, one_more_step, fewer_steps}
@@ -86,41 +85,24 @@ returns-in_err-later-clause-takes g c =
     (one_more_step _ _ _ stages c.args.end (c.generations.walk.generations - c.args.walk.now.generations) c.generations.walk.generations c.generations.leaper.nodes c.generations.walk.tree
     inv.walk.now.trimmed inv.walk.now.shows (omega (arith, c.generations-test.true)) inv.takes c.step.ensures.takes)
 
-pub returns-in-Empty-clause-ending : goal.returns-in-Empty-clause-ending
-returns-in-Empty-clause-ending g c =
-    let a = (goal.at.returns-in-Empty-clause-ending g c).In_ok-later in
+pub returns-in-Some-clause-ending : goal.returns-in-Some-clause-ending
+returns-in-Some-clause-ending g c =
+    let a = (goal.at.returns-in-Some-clause-ending g c).In_ok-later in
     let n = c.generations.walk.generations in
     λ cells shows.
-    found_death (g.A.Automaton.next_of c.args.leaper.now.rule) (g.met.A.Automaton.quiet c.args.leaper.now.rule c.store.ensures.rule) c.args.leaper.now.nodes c.args.first.now c.requires.first
-    cells shows n c.generations.invariant.walk.others c.args.end (omega (arith, c.generations-test.true)) c.requires.most (subst (IsStage (first g a) (stages g a (n + 1))) c.in-Empty.is (told g a))
+    found_ending (g.A.Automaton.next_of c.args.leaper.now.rule) (g.met.A.Automaton.quiet c.args.leaper.now.rule c.store.ensures.rule) c.args.leaper.now.nodes c.args.first.now c.requires.first
+    cells shows n c.generations.invariant.walk.others c.args.end (omega (arith, c.generations-test.true)) c.requires.most c.in_ok-later.later.stage c.in-Some.ending (sym c.ending.ensures ∙ c.in-Some.is) (told g a)
 
-pub returns-in-Empty-clause-goes_on : goal.returns-in-Empty-clause-goes_on
-returns-in-Empty-clause-goes_on g c = goes_on_again _ c.args.leaper.now c.generations.leaper c.step.new.leaper c.generations.invariant.goes_on c.in_ok-later.ensures.goes_on
+pub returns-in-Some-clause-time : goal.returns-in-Some-clause-time
+returns-in-Some-clause-time g c =
+    let time = ending_time c.in_ok-later.later.stage (c.generations.walk.generations + 1) c.in-Some.ending (sym c.ending.ensures ∙ c.in-Some.is) in
+    omega (arith, time, c.generations-test.true)
 
-pub returns-in-Empty-clause-takes : goal.returns-in-Empty-clause-takes
-returns-in-Empty-clause-takes g c = takes g (goal.at.returns-in-Empty-clause-takes g c).In_ok-later
+pub returns-in-Some-clause-goes_on : goal.returns-in-Some-clause-goes_on
+returns-in-Some-clause-goes_on g c = goes_on_again _ c.args.leaper.now c.generations.leaper c.step.new.leaper c.generations.invariant.goes_on c.in_ok-later.ensures.goes_on
 
-pub returns-in-Back-clause-ending : goal.returns-in-Back-clause-ending
-returns-in-Back-clause-ending g c =
-    let a = (goal.at.returns-in-Back-clause-ending g c).In_ok-later in
-    let n = c.generations.walk.generations in
-    let next = g.A.Automaton.next_of c.args.leaper.now.rule in
-    let dx = c.in-Back.dx in
-    let dy = c.in-Back.dy in
-    let fits_x : SFits w64 dx = search rules in
-    let fits_y : SFits w64 dy = search rules in
-    λ cells shows.
-    let back = found_return next (g.met.A.Automaton.quiet c.args.leaper.now.rule c.store.ensures.rule) c.args.leaper.now.nodes c.args.first.now c.requires.first
-    cells shows n c.generations.invariant.walk.others c.args.end (omega (arith, c.generations-test.true)) c.requires.most dx dy
-    (subst (IsStage (first g a) (stages g a (n + 1))) c.in-Back.is (told g a)) in
-    subst (λ a. IsReturn next cells (n + 1) a (to_z w64 (of_z w64 dy))) (sym (to_z-of_z w64 dx fits_x))
-    (subst (λ b. IsReturn next cells (n + 1) dx b) (sym (to_z-of_z w64 dy fits_y)) back)
-
-pub returns-in-Back-clause-goes_on : goal.returns-in-Back-clause-goes_on
-returns-in-Back-clause-goes_on g c = goes_on_again _ c.args.leaper.now c.generations.leaper c.step.new.leaper c.generations.invariant.goes_on c.in_ok-later.ensures.goes_on
-
-pub returns-in-Back-clause-takes : goal.returns-in-Back-clause-takes
-returns-in-Back-clause-takes g c = takes g (goal.at.returns-in-Back-clause-takes g c).In_ok-later
+pub returns-in-Some-clause-takes : goal.returns-in-Some-clause-takes
+returns-in-Some-clause-takes g c = takes g (goal.at.returns-in-Some-clause-takes g c).In_ok-later
 
 pub generations-preserved : goal.generations-preserved
 generations-preserved g c =
@@ -133,7 +115,7 @@ generations-preserved g c =
       goes_on = goes_on_again _ c.args.leaper.now c.generations.leaper c.step.new.leaper inv.goes_on c.in_ok-later.ensures.goes_on;
       walk = record {
         now = step_to g.A.Automaton.next_of inv.goes_on.rule c.store.ensures.sound inv.goes_on.grows c.requires.first (n + 1) c.step.new.leaper.nodes c.in_ok-later.later.tree c.in_ok-later.ensures.tree;
-        others = one_more_other (g.A.Automaton.next_of c.args.leaper.now.rule) (first g a) n inv.walk.others (subst (IsStage (first g a) (stages g a (n + 1))) c.in-Other.is (told g a));
+        others = one_more_other (g.A.Automaton.next_of c.args.leaper.now.rule) (first g a) n inv.walk.others (subst (IsStage (first g a) (stages g a (n + 1))) (no_ending c.in_ok-later.later.stage (n + 1) (sym c.ending.ensures ∙ c.in_default.is)) (told g a));
         boxes = c.in_ok-later.ensures.boxes;
       };
       begun = omega (arith, begun);
