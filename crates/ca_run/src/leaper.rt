@@ -99,10 +99,10 @@ impl<A: Automaton> Leaper<A> {
         ensures used { IfOk result (λ l. l.spent.used ≡ 0) }
         ensures limit { IfOk result (λ l. l.spent.limit ≡ work) }
     {
-        let _states = rule.states();
+        let has_two_states = rule.states() == 2;
         let _squares = store.count();
         let cell_rule = by_counting(&rule);
-        let (centres, leaps) = table_slots(memo, cell_rule.is_some());
+        let (centres, leaps) = table_slots(memo, has_two_states);
         let entries = NonZeroUsize::new(memo - (centres + leaps)).unwrap_or(NonZeroUsize::MIN);
         Ok(Leaper {
             store,
@@ -332,11 +332,11 @@ fn by_counting<A: Automaton>(rule: &A) -> Option<CellRule>
     Some(CellRule::ByCounting(rule.counting()?))
 }
 
-// How many of a memo's entries are slots for results that cost little, which only rules that go by a counting
-// have, and how many for those by the parts of squares, which spare most looks into the store.
-fn table_slots(memo: usize, by_counting: bool) -> (usize, usize)
+// How many of a memo's entries are slots for results that cost little, which only rules of two states may have, and
+// how many for those by the parts of squares, which spare most looks into the store.
+fn table_slots(memo: usize, has_two_states: bool) -> (usize, usize)
     ensures { result.0 + result.1 ≤ memo / 2 }
 {
-    let centres = if by_counting { memo / 16 } else { 0 };
+    let centres = if has_two_states { memo / 16 } else { 0 };
     (slot_count(centres), slot_count(memo / 4))
 }
