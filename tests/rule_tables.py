@@ -3,7 +3,7 @@
 
 What is written is read by the reader of tests/lib/rule_table.py, and its next states are compared with those of tests/lib/isotropic.py and of
 tests/lib/steps.py, which know nothing of tables; and soups that the program runs under the written table with naive steps: small ones, which are leapt, cell by
-cell or by a diagram of the rule, and dense ones, which are stepped by one.
+cell, by a counting that is found for the rule or by a diagram of it, and dense ones, which are stepped by one of these.
 """
 import random
 import tempfile
@@ -37,11 +37,11 @@ REFUSED = (
     ("Ba2/S", "unknown"), ("B2w/S", "unknown"), ("B5t/S", "unknown"),
 )
 
-# Soups under rules whose diagrams have few nodes and many: the side, and the generations. Random MAP strings give the largest diagrams.
+# Soups under rules whose diagrams have few nodes and many, and three that go by a counting that is found: the side, and the generations. Random MAP strings give the largest diagrams.
 DENSE = (("B2-a/S12", 100, 65), ("B3/S2-i34q", 90, 33), ("B3-cnry4z/S2-k3", 80, 64), ("B34ceky/S23-a4cityz", 80, 33), ("B2kin3aj/S23-ik", 80, 32), ("B8/S8", 80, 40),
          ("B3/S23", 90, 129), ("B2/S013V", 80, 33), ("B24/S34H", 80, 33))
 
-# Soups that are leapt over by a diagram, since they are small: the side, and the generations.
+# Soups that are leapt over by a diagram or a counting that is found, since they are small: the side, and the generations.
 LEAPT = (("B2-a/S12", 20, 64), ("B3/S2-i34q", 24, 127), ("B3-cnry4z/S2-k3", 30, 96), ("B34ceky/S23-a4cityz", 16, 65), ("B2kin3aj/S23-ik", 24, 100), ("B3/S23", 24, 200),
          ("B2/S013V", 10, 64), ("B24/S34H", 16, 70))
 
@@ -129,14 +129,14 @@ def soup(runs, text, bits, side, count):
 
 
 def large_soup(runs, text, corners, side, count):
-    """Soups of so many cells a side, one from each of these corners, under a B/S rule's own table, beside the same soups under the rule itself, which go another way.
-    One large soup is stepped in many bricks; many small ones are leapt over, in many squares."""
+    """Soups of so many cells a side, one from each of these corners, under a rule's own table, beside the same soups under that table with a state more, which go
+    cell by cell. One large soup is stepped in many bricks; many small ones are leapt over, in many squares."""
     written_table = run(["rule", text]).printed.replace(f"@RULE {text}\n".encode(), b"@RULE Named\n", 1)
     chance = random.Random(f"{text} {side}")
     live = {(left + x, top + y): 1 for left, top in corners for x in range(side) for y in range(side) if chance.random() < 0.4}
-    table = runs.path("named.rule", written_table)
-    ours, plain = (run(["convert", runs.path(f"{name}.rle", tidy(live, rule, 0, 2)), "--to", "rle", "--after", str(count), *words])
-                   for name, rule, words in (("named", "Named", ["--rule", table]), ("plain", text, [])))
+    pattern = runs.path("named.rle", tidy(live, "Named", 0, 2))
+    tables = (written_table, written_table.replace(b"n_states:2", b"n_states:3", 1))
+    ours, plain = (run(["convert", pattern, "--to", "rle", "--after", str(count), "--rule", runs.path("named.rule", it)]) for it in tables)
     runs.count += 1
     if ours.status or plain.status or cells_and_rule(ours.printed.decode())[0] != cells_and_rule(plain.printed.decode())[0]:
         runs.complaints.append(f"{text}: {len(corners)} soups of {side} after {count} generations {ours.complaint or plain.complaint}")
@@ -166,8 +166,9 @@ def long_run(runs, text, bits):
 
 
 def small_tree(runs):
-    """A blinker and a block under Life's own table, after so many generations that a diagram is made, and one by itself of a tree of the lowest levels."""
-    path = runs.path("named.rule", run(["rule", "B3/S23"]).printed.replace(b"@RULE B3/S23\n", b"@RULE Named\n", 1))
+    """A blinker and a block under the table of a rule by whose diagram they go as in Life, after so many generations that it is made, and one by itself of a tree
+    of the lowest levels."""
+    path = runs.path("named.rule", run(["rule", "B3-k/S23"]).printed.replace(b"@RULE B3-k/S23\n", b"@RULE Named\n", 1))
     column, row, block = ({(0, -1), (0, 0), (0, 1)}, {(-1, 0), (0, 0), (1, 0)}, {(-1, -1), (-1, 0), (0, -1), (0, 0)})
     for live, count, want in ((column, 65, row), (column, 64, column), (row, 1001, column), (block, 65, block), (block, 67, block)):
         pattern = runs.path("small.rle", tidy({it: 1 for it in live}, "Named", 0, 2))
@@ -238,14 +239,15 @@ def main():
         runs.tell(tally, "B/S rules")
         for text, side, count in (*DENSE, *((text, 70, 32) for text in list(maps())[-3:])):
             soup(runs, text, next_states(text), side, count)
-        for text, side in (("B3/S23", 1000), ("B34/S456", 700), ("B2/S2H", 600)):
+        for text, side in (("B3/S23", 600), ("B34/S456", 500), ("B3-k/S23", 600), ("B34w/S23", 400)):
             large_soup(runs, text, [(0, 0)], side, 64)
         runs.tell(tally, "dense soups")
         for text, side, count in (*LEAPT, *zip(list(maps())[-3:], (12, 12, 12), (64, 100, 130))):
             soup(runs, text, next_states(text), side, count)
         for text in SETTLING:
             long_run(runs, text, next_states(text))
-        large_soup(runs, "B3/S23", [(400 * x, 400 * y) for x in range(10) for y in range(10)], 20, 256)
+        for text in ("B3/S23", "B3-k/S23"):
+            large_soup(runs, text, [(400 * x, 400 * y) for x in range(10) for y in range(10)], 20, 256)
         small_tree(runs)
         runs.tell(tally, "soups that are leapt over")
         for text in GENERATIONS:

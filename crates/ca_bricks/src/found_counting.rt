@@ -11,13 +11,13 @@ use ca_plane::{Counting, Neighbourhood};
 pub(crate) fn counting_of(next_states: &[u8]) -> Option<Counting>
     ensures { IfSome result (λ counting. AreNextStates (counting_next counting) next_states.now) }
 {
-    let counted = [
+    let all = [
         Neighbourhood::Moore,
         Neighbourhood::VonNeumann,
         Neighbourhood::Hexagonal,
     ];
-    'counted: for neighbourhood in counted {
-        let counting = read_counting(neighbourhood, next_states);
+    'all: for counted in all {
+        let counting = read_counting(counted, next_states);
         if gives(counting, next_states) {
             return Some(counting);
         }
@@ -26,15 +26,15 @@ pub(crate) fn counting_of(next_states: &[u8]) -> Option<Counting>
 }
 
 // By how many live cells among the counted ones a cell is live in these next states, if it goes by that.
-fn read_counting(neighbourhood: Neighbourhood, next_states: &[u8]) -> Counting {
+fn read_counting(counted: Neighbourhood, next_states: &[u8]) -> Counting {
     let mut counting = Counting {
-        neighbourhood,
+        neighbourhood: counted,
         birth: 0,
         survival: 0,
     };
     'numbers: for number in 0..NEIGHBOURHOODS {
         if state_at(next_states, usize::from(number)) != 0 {
-            let mask = 1 << live_count(neighbourhood, number);
+            let mask = 1 << live_count(counted, number);
             if cell(number, 1) == 0 {
                 counting.birth |= mask;
             } else {
@@ -69,7 +69,7 @@ fn next_state(counting: Counting, number: u16) -> u8
     (mask >> live_count(counting.neighbourhood, number) & 1) as u8
 }
 
-// How many of its counted cells are live.
+// How many of the counted neighbours are live in the neighbourhood with this number.
 fn live_count(counted: Neighbourhood, number: u16) -> u8
     ensures sum { result ≡ counted_sum counted (neighbourhood number) }
     ensures most { result ≤ 8 }

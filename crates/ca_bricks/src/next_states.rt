@@ -9,11 +9,6 @@ use std::alloc::Global;
 /// How many neighbourhoods there are.
 pub(crate) const NEIGHBOURHOODS: u16 = 512;
 
-/// The places of the bits of a neighbourhood's number among its nine cells, row by row from the north-west, the lowest bit first. So
-/// a diagram looks at the cells that share a side with the centre first, and at the centre last: of the orders that were tried
-/// this one gives the fewest nodes under rules that turns and reflections keep.
-pub(crate) const PLACES: [usize; 9] = [4, 8, 6, 2, 0, 5, 3, 7, 1];
-
 // The state at a place, dead where there is none.
 pub(crate) fn state_at(states: &[u8], place: usize) -> u8
     ensures { result ≡ slice_index states.now place }

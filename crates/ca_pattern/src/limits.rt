@@ -10,9 +10,9 @@ pub const USUAL_MEMO: usize = 262144;
 #[derive(Clone, Copy, Debug, PartialEq, Eq)]
 pub struct Limits {
     /// How many entries the memo may have: 1 to 16777216. An entry is one result, or up to 64 results at full
-    /// leap of squares with neighbouring numbers; a quarter of the entries, and a sixteenth more under a B/S
-    /// rule, is kept for results that are found quickly and may be dropped. With fewer entries a claim may take
-    /// longer, and more work.
+    /// leap of squares with neighbouring numbers; a quarter of the entries, and a sixteenth more under a rule
+    /// of two states, is kept for results that are found quickly and may be dropped. With fewer entries a claim
+    /// may take longer, and more work.
     pub memo: usize,
     /// How many units of work may be done. A unit is the centre of one square, not empty, after some
     /// generations, that wasn't remembered; one brick of 64 by 16 cells of a dense plane, one generation on;

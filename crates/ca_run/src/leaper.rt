@@ -45,7 +45,7 @@ use std::num::NonZeroUsize;
 // After how many units of work one who watches hears of it.
 const TOLD: u64 = 65536;
 
-// From how many generations on a diagram is worth being made, under a rule that tells no counting.
+// From how many generations on it is worth finding a counting or making a diagram, under a rule that tells no counting.
 const LONG: u64 = 64;
 
 /// A store of squares, a rule, and the centres of squares that were worked out so far.
@@ -53,7 +53,8 @@ const LONG: u64 = 64;
 pub struct Leaper<A: Automaton> {
     store: Store,
     rule: A,
-    // How cells go on, many at once, as far as it is known: a counting from the first, a diagram where a run is long.
+    // How cells go on, many at once, as far as it is known: by a counting that the rule tells from the first, by one that
+    // is found or a diagram once a run is long.
     cell_rule: Option<CellRule>,
     memo: Memo,
     // Centres of squares after 2^j generations, by the square and the j.
@@ -332,8 +333,8 @@ fn by_counting<A: Automaton>(rule: &A) -> Option<CellRule>
     Some(CellRule::ByCounting(rule.counting()?))
 }
 
-// How many of a memo's entries are slots for results that cost little, which only rules of two states may have, and
-// how many for those by the parts of squares, which spare most looks into the store.
+// How many of a memo's entries are slots for results that cost little, which any rule of two states gets, since a counting
+// may be found later, and how many for those by the parts of squares, which spare most looks into the store.
 fn table_slots(memo: usize, has_two_states: bool) -> (usize, usize)
     ensures { result.0 + result.1 ≤ memo / 2 }
 {

@@ -36,7 +36,7 @@ pub(super) enum Stage {
 }
 
 impl Stage {
-    /// How a pattern ends that shows this after so many generations, and at no earlier time that it is dead or back.
+    /// How a pattern ends whose plane shows this after so many generations, where it was neither dead nor back before.
     pub(super) fn ending(self, generations: u64) -> Option<Ending>
         ensures { result ≡ ending_of self generations }
     {

@@ -55,8 +55,9 @@ million squares`. It is wiped before the verdict's line is printed. --progress s
 is no terminal.
 
 --memo N gives each claim's memo N entries. An entry is one result, or up to 64 results at full leap of squares
-with neighbouring numbers; a quarter of the entries, and a sixteenth more under B/S rules, is kept for results that
-are found quickly and may be dropped. A smaller memo takes less memory, and a claim may take longer, and more work.
+with neighbouring numbers; a quarter of the entries, and a sixteenth more under rules of two states, is kept for
+results that are found quickly and may be dropped. A smaller memo takes less memory, and a claim may take longer,
+and more work.
 
 --max-memory MB is for long runs of planes that never repeat or are large, and says as Golly's maximum memory how
 much is kept: 16384 squares for each megabyte, with what is remembered of them, or as many as the plane itself and one
