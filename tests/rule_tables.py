@@ -246,7 +246,7 @@ def main():
             soup(runs, text, next_states(text), side, count)
         for text in SETTLING:
             long_run(runs, text, next_states(text))
-        for text in ("B3/S23", "B3-k/S23"):
+        for text in ("B3/S23", "B34w/S23"):
             large_soup(runs, text, [(400 * x, 400 * y) for x in range(10) for y in range(10)], 20, 256)
         small_tree(runs)
         runs.tell(tally, "soups that are leapt over")
