@@ -239,7 +239,7 @@ def main():
         runs.tell(tally, "B/S rules")
         for text, side, count in (*DENSE, *((text, 70, 32) for text in list(maps())[-3:])):
             soup(runs, text, next_states(text), side, count)
-        for text, side in (("B3/S23", 600), ("B34/S456", 500), ("B3-k/S23", 600), ("B34w/S23", 400)):
+        for text, side in (("B3/S23", 600), ("B34/S456", 500), ("B3-k/S23", 1000), ("B34w/S23", 400)):
             large_soup(runs, text, [(0, 0)], side, 64)
         runs.tell(tally, "dense soups")
         for text, side, count in (*LEAPT, *zip(list(maps())[-3:], (12, 12, 12), (64, 100, 130))):
