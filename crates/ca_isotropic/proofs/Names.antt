@@ -9,7 +9,7 @@ use Rattle.ca_rule.specs.Spelling.{IsLetter, IsSuffix, IsOptionalSlash, IsLetter
 use Rattle.ca_rule.specs.declared.hood.Hood.{Hood}
 use Rattle.ca_rule.specs.declared.hood.Hood.TheVariants.{Moore, VonNeumann, Hex}
 use Rattle.ca_rule.specs.Digits.{are_digits, state_count}
-use Rattle.ca_rule.specs.GenerationsText.{SpellsGenerationsRule}
+use Rattle.ca_rule.specs.Generations.{SpellsGenerationsRule}
 use Rattle.ca_rule.proofs.OneSpelling.{if-some}
 use Rattle.ca_rule.proofs.ReadInwards.{digits-of}
 use Rattle.ca_isotropic.specs.Isotropic.{SpellsIsotropicRule}

@@ -12,7 +12,7 @@ use Rattle.ca_rule.specs.declared.hood.Hood.TheVariants.{Moore}
 use Rattle.ca_rule.specs.Spelling.{has_colon}
 use Rattle.ca_rule.specs.declared.fault.RuleFault.{RuleFault}
 use Rattle.ca_rule.specs.declared.fault.RuleFault.TheVariants.{Bounded, Wakes, Unknown}
-use Rattle.ca_rule.specs.GenerationsText.{SpellsGenerationsRule}
+use Rattle.ca_rule.specs.Generations.{SpellsGenerationsRule}
 use Rattle.ca_rule.proofs.GenerationsRead as generations
 use Rattle.ca_rule.proofs.Meaning.{names-once, names-faultless}
 use Rattle.ca_rule.proofs.Rules.{same-equal, equal-generations}

@@ -3,8 +3,7 @@
 use Rattle.std.specs.Prelude.{◌≡◌, ℕ, List, true, ◌⊎◌}
 use Rattle.ca_rule.specs.Next as bs
 use Rattle.ca_rule.specs.Spelling.{NamesBsRule, SpellsNoBsRule, IsBsRuleFault, has_colon}
-use Rattle.ca_rule.specs.Generations.{generations_next}
-use Rattle.ca_rule.specs.GenerationsText.{NamesGenerationsRule, IsGenerationsRuleFault}
+use Rattle.ca_rule.specs.Generations.{generations_next, NamesGenerationsRule, IsGenerationsRuleFault}
 use Rattle.ca_rule.specs.declared.bs_rule.BsRule.{BsRule}
 use Rattle.ca_rule.specs.declared.gen_rule.GenRule.{GenRule}
 use Rattle.ca_rule.specs.declared.fault.RuleFault.{RuleFault}

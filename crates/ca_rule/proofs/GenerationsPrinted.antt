@@ -8,7 +8,7 @@ use Rattle.ca_plane.proofs.Decimals.{decimal_writes}
 use Rattle.ca_plane.proofs.Fronts.{every_append, every_digit, every_wider}
 use Rattle.ca_rule.specs.Counts.{is_count}
 use Rattle.ca_rule.specs.Digits.{are_digits, state_count}
-use Rattle.ca_rule.specs.GenerationsText.{NamesGenerationsRule, printed_generations_rule}
+use Rattle.ca_rule.specs.Generations.{NamesGenerationsRule, printed_generations_rule}
 use Rattle.ca_rule.specs.Spelling.{digits_of}
 use Rattle.ca_rule.specs.declared.counts.Counts.{Counts}
 use Rattle.ca_rule.specs.declared.gen_rule.GenRule.{GenRule}

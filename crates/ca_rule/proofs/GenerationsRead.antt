@@ -8,10 +8,9 @@ use Rattle.ca_plane.specs.Bytes.{Every, is_digit, value}
 use Rattle.ca_plane.proofs.Fronts.{every_append, every_right}
 use Rattle.ca_rule.specs.Counts.{has_digit, counts_of, are_digits_up_to}
 use Rattle.ca_rule.specs.Digits.{are_digits, state_count}
-use Rattle.ca_rule.specs.GenerationsText.{SpellsGenerationsRule, SpellsNoGenerationsRule, NamesGenerationsRule, IsGenerationsRuleFault}
+use Rattle.ca_rule.specs.Generations.{SpellsGenerationsRule, SpellsNoGenerationsRule, NamesGenerationsRule, IsGenerationsRuleFault}
 use Rattle.ca_rule.specs.Spelling as bs
-use Rattle.ca_rule.specs.inner.GenerationsParts.{Parts, parts_after, parts_around, parts_in}
-use Rattle.ca_rule.specs.inner.TextParts.{lists_around_slash, lists_of, swapped_lists}
+use Rattle.ca_rule.specs.inner.TextParts.{lists_around_slash, lists_of, swapped_lists, Parts, parts_after, parts_around, parts_in}
 use Rattle.ca_rule.specs.declared.fault.RuleFault.{RuleFault}
 use Rattle.ca_rule.specs.declared.fault.RuleFault.TheVariants.{Unknown}
 use Rattle.ca_rule.specs.declared.gen_rule.GenRule.{GenRule}

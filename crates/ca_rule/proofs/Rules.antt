@@ -9,7 +9,6 @@ use Rattle.std.proofs.lemmas.Slice.Eq.{bytes_eq-Decides}
 use Rattle.ca_rule.specs.Rule.{RuleValue, Bs, Gen, Tab, next_of, IsSameRule, first_named, NamesRule, IsRuleFault, printed_form}
 use Rattle.ca_rule.specs.Counts.{is_count, FitsHood}
 use Rattle.ca_rule.specs.Generations as generations
-use Rattle.ca_rule.specs.GenerationsText as generations_text
 use Rattle.ca_rule.specs.Next as bs
 use Rattle.ca_rule.specs.Spelling.{has_colon, NamesBsRule, printed_bs_rule}
 use Rattle.ca_rule.specs.TableNext.{TableRule}
@@ -87,7 +86,7 @@ first-named name (t ∷ ts) table found =
     ]
 
 -- no text names rules of both notations
-bs-or-generations : (text : List ℕ) (r : BsRule) (s : GenRule) → NamesBsRule text r → generations_text.NamesGenerationsRule text s → ⊥
+bs-or-generations : (text : List ℕ) (r : BsRule) (s : GenRule) → NamesBsRule text r → generations.NamesGenerationsRule text s → ⊥
 bs-or-generations text r s a b = generations_read.other-notation text b.survival b.birth s.states b.spells a.birth a.survival r.hood a.spells
 
 -- a text names one rule
@@ -137,7 +136,7 @@ printed_bs_rule-names text tables (Bs r) named =
     (names-no_colon (printed_bs_rule r.hood r.birth r.survival) r again, again)
 printed_bs_rule-names text tables (Gen r) named =
     let again = generations_printed.names_itself r (ap (λ c. length c.holds) named.1.survival_is) (ap (λ c. length c.holds) named.1.birth_is) r.stays_empty r.low r.high in
-    (generations_read.names-no_colon (generations_text.printed_generations_rule r.survival r.birth r.states) r again, again)
+    (generations_read.names-no_colon (generations.printed_generations_rule r.survival r.birth r.states) r again, again)
 printed_bs_rule-names text tables (Tab t) named = subst (λ name. NamesRule name tables (Tab t)) (sym (first-named text tables t named.3)) named
 
 -- rules that are named among the same tables are the same only where they are equal

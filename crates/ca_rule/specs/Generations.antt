@@ -1,11 +1,17 @@
--- The next state of a cell under a rule of the family Generations (Golly Help, Algorithms: Generations). State 0 is a dead
--- cell, state 1 a live one, and a cell of state 2 or more is dying.
-use Rattle.std.specs.Prelude.{◌≡◌, ℕ, ◌≤◌, List, map, false, ◌==◌, ◌&&◌, slice_index, if◌then◌else◌}
+-- Rules of the family Generations (Golly Help, Algorithms: Generations): what a cell is next, and how a rule is spelled and
+-- printed. State 0 is a dead cell, state 1 a live one, and a cell of state 2 or more is dying.
+use Rattle.std.specs.Prelude.{◌≡◌, ℕ, ◌≤◌, List, ◌++◌, map, false, ◌==◌, ◌&&◌, IsTrue, Some, codes, decimal, slice_index, if◌then◌else◌}
 use Rattle.ca_plane.specs.Ageing.{liveness, older}
-use Rattle.ca_rule.specs.declared.counts.Counts.{Counts}
-use Rattle.ca_rule.specs.declared.hood.Hood.TheVariants.{Moore}
-use Rattle.ca_rule.specs.Counts.{is_count}
+use Rattle.ca_rule.specs.Counts.{is_count, are_digits_up_to}
+use Rattle.ca_rule.specs.Digits.{state_count}
 use Rattle.ca_rule.specs.Next.{neighbour_count}
+use Rattle.ca_rule.specs.Spelling.{NamesCounts, SpellsNone, IsSpellingFault, digits_of}
+use Rattle.ca_rule.specs.declared.counts.Counts.{Counts}
+use Rattle.ca_rule.specs.declared.fault.RuleFault.{RuleFault}
+use Rattle.ca_rule.specs.declared.gen_rule.GenRule.{GenRule}
+use Rattle.ca_rule.specs.declared.hood.Hood.TheVariants.{Moore}
+
+-- ---- cells
 
 -- how many live cells are among the eight round the centre of nine
 abbrev pub live_count : List ℕ → ℕ
@@ -26,3 +32,29 @@ generations_next survival birth states nine = generations_next_state survival bi
 pub record IsSoundGenerations (birth : Counts) (states : ℕ) : Type 0 where
   pub low : 2 ≤ states
   pub quiet : is_count birth 0 ≡ false
+
+-- ---- texts: `S/B/C` (that digits may stand in any order and repeated, the limits of C, and what is printed are our own)
+
+-- the text spells a rule: survival digits, `/`, birth digits, `/`, and the number of states, as `345/2/4`
+pub record SpellsGenerationsRule (text survival birth : List ℕ) (states : ℕ) : Type 0 where
+  pub survival_digits : IsTrue (are_digits_up_to 8 survival)
+  pub birth_digits : IsTrue (are_digits_up_to 8 birth)
+  pub number : List ℕ
+  pub number_is : state_count number ≡ Some states
+  pub form : text ≡ survival ++ (codes "/" ++ (birth ++ (codes "/" ++ number)))
+
+-- the text names the rule
+abbrev pub NamesGenerationsRule : List ℕ → GenRule → Type 0
+NamesGenerationsRule text rule = NamesCounts (λ birth survival. SpellsGenerationsRule text survival birth rule.states) rule.birth rule.survival
+
+-- the text spells no rule, with birth on 0 or without
+abbrev pub SpellsNoGenerationsRule : List ℕ → Type 0
+SpellsNoGenerationsRule text = SpellsNone (λ birth survival. SpellsGenerationsRule text survival birth)
+
+-- the fault of a text that names no rule
+abbrev pub IsGenerationsRuleFault : List ℕ → RuleFault → Type 0
+IsGenerationsRuleFault text = IsSpellingFault (λ birth survival. SpellsGenerationsRule text survival birth) text
+
+-- the printed form: the survival digits, `/`, the birth digits, `/`, and the number of states
+abbrev pub printed_generations_rule : Counts → Counts → ℕ → List ℕ
+printed_generations_rule survival birth states = digits_of survival ++ (codes "/" ++ (digits_of birth ++ (codes "/" ++ decimal states)))

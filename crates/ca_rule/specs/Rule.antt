@@ -6,7 +6,6 @@ use Rattle.ca_plane.specs.declared.counting.Ageing.{Ageing}
 use Rattle.ca_plane.specs.declared.counting.Counting.{Counting}
 use Rattle.ca_rule.specs.Counts.{is_count}
 use Rattle.ca_rule.specs.Generations as generations
-use Rattle.ca_rule.specs.GenerationsText as generations_text
 use Rattle.ca_rule.specs.Next as bs
 use Rattle.ca_rule.specs.Masks as bs_masks
 use Rattle.ca_rule.specs.Spelling as bs_text
@@ -82,18 +81,18 @@ first_named name tables = find (λ (t : TableRule). bytes_eq t.name name) tables
 -- birth at a count of 0, or spells neither kind, and that is the first table of this name
 abbrev pub NamesRule : List ℕ → List TableRule → RuleValue → Type 0
 NamesRule text tables (Bs rule) = (bs_text.has_colon text ≡ false) × bs_text.NamesBsRule text rule
-NamesRule text tables (Gen rule) = (bs_text.has_colon text ≡ false) × generations_text.NamesGenerationsRule text rule
-NamesRule text tables (Tab table) = (bs_text.has_colon text ≡ false) × bs_text.SpellsNoBsRule text × generations_text.SpellsNoGenerationsRule text × (first_named text tables ≡ Some table)
+NamesRule text tables (Gen rule) = (bs_text.has_colon text ≡ false) × generations.NamesGenerationsRule text rule
+NamesRule text tables (Tab table) = (bs_text.has_colon text ≡ false) × bs_text.SpellsNoBsRule text × generations.SpellsNoGenerationsRule text × (first_named text tables ≡ Some table)
 
 -- the fault of a text that names no rule: a bounded grid, else a B/S or Generations rule that wakes the empty plane, else
 -- neither such a rule nor the name of a table
 abbrev pub IsRuleFault : List ℕ → List TableRule → RuleFault → Type 0
 IsRuleFault text tables Bounded = bs_text.IsBsRuleFault text Bounded
-IsRuleFault text tables Wakes = bs_text.IsBsRuleFault text Wakes ⊎ generations_text.IsGenerationsRuleFault text Wakes
-IsRuleFault text tables Unknown = bs_text.IsBsRuleFault text Unknown × generations_text.IsGenerationsRuleFault text Unknown × (first_named text tables ≡ None)
+IsRuleFault text tables Wakes = bs_text.IsBsRuleFault text Wakes ⊎ generations.IsGenerationsRuleFault text Wakes
+IsRuleFault text tables Unknown = bs_text.IsBsRuleFault text Unknown × generations.IsGenerationsRuleFault text Unknown × (first_named text tables ≡ None)
 
 -- the one printed form: that of a B/S or Generations rule, or the table's name
 abbrev pub printed_form : RuleValue → List ℕ
 printed_form (Bs rule) = bs_text.printed_bs_rule rule.hood rule.birth rule.survival
-printed_form (Gen rule) = generations_text.printed_generations_rule rule.survival rule.birth rule.states
+printed_form (Gen rule) = generations.printed_generations_rule rule.survival rule.birth rule.states
 printed_form (Tab table) = table.name

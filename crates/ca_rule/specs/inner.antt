@@ -1,6 +1,5 @@
 -- Definitions that private contracts alone cite. No public contract rests on them.
 pub mod TextParts
-pub mod GenerationsParts
 pub mod TablePlaces
 pub mod TableSearch
 pub mod TableChoice

@@ -39,9 +39,9 @@ pub struct GenRule {
 
 impl GenRule {
     ghost use Rattle.ca_plane.specs.Ageing.{older};
+    ghost use Rattle.ca_rule.specs.Generations.{NamesGenerationsRule, IsGenerationsRuleFault};
+    ghost use Rattle.ca_rule.specs.Generations.{printed_generations_rule};
     ghost use Rattle.ca_rule.specs.Rule.{Gen, IsSameRule};
-    ghost use Rattle.ca_rule.specs.GenerationsText.{NamesGenerationsRule};
-    ghost use Rattle.ca_rule.specs.GenerationsText.{IsGenerationsRuleFault, printed_generations_rule};
 
     /// The rule that the text names, as `/2/3` names Brian's Brain. Nothing here takes memory.
     ///

@@ -4,9 +4,9 @@
 ghost use Rattle.std.specs.Prelude.{◌≡◌, ◌↔◌, ◌<◌, ℕ, List, [], ◌∷◌, length, codes};
 ghost use Rattle.std.specs.List.{All};
 ghost use Rattle.ca_rule.specs.Counts.{counts_of};
+ghost use Rattle.ca_rule.specs.Generations.{SpellsGenerationsRule, NamesGenerationsRule};
+ghost use Rattle.ca_rule.specs.Generations.{IsGenerationsRuleFault, printed_generations_rule};
 ghost use Rattle.ca_rule.specs.Generations.{generations_next};
-ghost use Rattle.ca_rule.specs.GenerationsText.{SpellsGenerationsRule, NamesGenerationsRule};
-ghost use Rattle.ca_rule.specs.GenerationsText.{IsGenerationsRuleFault, printed_generations_rule};
 ghost use Rattle.ca_rule.specs.Next as bs;
 ghost use Rattle.ca_rule.specs.OneMeaning.{HasAtMostOne, NeverHasBoth};
 ghost use Rattle.ca_rule.specs.Rule.{Gen, IsSameRule, next_of, printed_form};

@@ -1,8 +1,8 @@
 //! How a rule of the family Generations is spelled.
 
 ghost use Rattle.std.specs.Prelude.{◌≡◌, None, Some, MatchOption};
-ghost use Rattle.ca_rule.specs.GenerationsText.{SpellsGenerationsRule};
-ghost use Rattle.ca_rule.specs.inner.GenerationsParts.{parts_in};
+ghost use Rattle.ca_rule.specs.Generations.{SpellsGenerationsRule};
+ghost use Rattle.ca_rule.specs.inner.TextParts.{parts_in};
 
 use crate::digits::state_count;
 use crate::gen_rule::GenRule;
