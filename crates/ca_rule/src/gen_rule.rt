@@ -1,26 +1,22 @@
 //! Rules of the family Generations.
 
-ghost use Rattle.std.specs.Prelude.{◌≡◌, ◌↔◌, ◌≤◌, false, IsTrue, IfOk, IfErr, IfSome};
+ghost use Rattle.std.specs.Prelude.{◌≡◌, ◌↔◌, ◌≤◌, false, Some, None, IsTrue, IfOk, IfErr, IfSome};
+ghost use Rattle.std.specs.Prelude.{MatchOption};
 ghost use Rattle.ca_plane.specs.Bytes.{IsWord};
+ghost use Rattle.ca_plane.specs.Ageing.{liveness, older, GoesByAgeing};
 ghost use Rattle.ca_rule.specs.Counts.{is_count};
-ghost use Rattle.ca_plane.specs.Ageing.{liveness, GoesByAgeing};
+ghost use Rattle.ca_rule.specs.inner.TextParts.{parts_in};
 ghost use Rattle.std.proofs.Common.{arith};
 ghost use Rattle.std.proofs.lemmas.Bool.Decides.{nat_tests};
 
-mod laws;
-mod spelling;
-
 use crate::counts::Counts;
+use crate::digits::state_count;
 use crate::fault::RuleFault;
 use crate::hood::Hood;
-use crate::notation::counts_named;
+use crate::notation::{Notation, counts_named};
+use crate::spelling::{are_digits_up_to, lists_around_slash};
 use ca_plane::text::push_number;
 use ca_plane::{Ageing, Automaton, Counting, Memory, Neighbourhood, Nine};
-pub use laws::{
-    generations_alike, generations_do_alike, generations_names_itself, generations_rule_or_fault,
-    one_generations_rule, two_states_do_as_bs, worked_generations, worked_generations_cells,
-    worked_generations_faults,
-};
 use std::alloc::Global;
 
 /// A rule of the family Generations (Golly Help, Algorithms: Generations): a dead cell with a birth count of
@@ -38,7 +34,6 @@ pub struct GenRule {
 }
 
 impl GenRule {
-    ghost use Rattle.ca_plane.specs.Ageing.{older};
     ghost use Rattle.ca_rule.specs.Generations.{NamesGenerationsRule, IsGenerationsRuleFault};
     ghost use Rattle.ca_rule.specs.Generations.{printed_generations_rule};
     ghost use Rattle.ca_rule.specs.Rule.{Gen, IsSameRule};
@@ -99,9 +94,8 @@ impl GenRule {
 }
 
 impl Automaton for GenRule {
-    ghost use Rattle.std.specs.Prelude.{Some, None};
-    ghost use Rattle.ca_rule.specs.Masks.{ageing_by_counts};
     ghost use Rattle.ca_rule.specs.Generations.{IsSoundGenerations, generations_next};
+    ghost use Rattle.ca_rule.specs.Masks.{ageing_by_counts};
 
     ghost state_count = { λ rule. rule.states };
 
@@ -160,4 +154,31 @@ fn live(state: u8) -> u8
     ensures { result ≡ liveness state }
 {
     u8::from(state == 1)
+}
+
+impl Notation for GenRule {
+    ghost use Rattle.ca_rule.specs.Generations.{SpellsGenerationsRule};
+
+    type More = u16;
+
+    ghost spells = { λ text birth survival. SpellsGenerationsRule text survival birth };
+
+    fn spelling_of(text: &[u8]) -> Option<(&[u8], &[u8], u16)> {
+        let (survival, birth, states) = parts_in(text)?;
+        Some((birth, survival, states))
+    }
+}
+
+/// The survival digits, the birth digits and the number of states that the text spells.
+fn parts_in(text: &[u8]) -> Option<(&[u8], &[u8], u16)>
+    ensures { MatchOption result (parts_in text.now ≡ None)
+        (λ p. parts_in text.now ≡ Some (p.0.now, p.1.now, p.2)) }
+{
+    let (survival, later) = lists_around_slash(text)?;
+    let (birth, number) = lists_around_slash(later)?;
+    let most = Hood::Moore.most();
+    if !are_digits_up_to(most, survival) || !are_digits_up_to(most, birth) {
+        return None;
+    }
+    Some((survival, birth, state_count(number)?))
 }

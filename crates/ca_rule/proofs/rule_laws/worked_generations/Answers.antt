@@ -1,7 +1,7 @@
 use Rattle.std.proofs.Common.{◌++◌, [], codes, refl, ap, ◌∙◌, arith}
 use Rattle.std.proofs.lemmas.Fmt.{decimal_digit, decimal_step}
 use Rattle.ca_rule.proofs.GenerationsRead.{read-named}
-use Rattle.ca_rule.proofs.gen_rule.laws.worked_generations.Goals as goal
+use Rattle.ca_rule.proofs.rule_laws.worked_generations.Goals as goal
 
 pub returns-clause-brians_brain_is_named : goal.returns-clause-brians_brain_is_named
 returns-clause-brians_brain_is_named c = λ rule. read-named (codes "/2/3") ([], codes "2", 3) rule refl refl

@@ -1,6 +1,6 @@
 use Rattle.std.proofs.Common.{◌∙◌}
 use Rattle.ca_rule.proofs.GenerationsPrinted.{names_itself}
-use Rattle.ca_rule.proofs.gen_rule.laws.generations_names_itself.Goals as goal
+use Rattle.ca_rule.proofs.rule_laws.generations_names_itself.Goals as goal
 
 pub returns : goal.returns
 returns c = let rule = c.args.rule.now in

@@ -1,5 +1,5 @@
 use Rattle.ca_rule.proofs.GenerationsRead.{names-once}
-use Rattle.ca_rule.proofs.gen_rule.laws.one_generations_rule.Goals as goal
+use Rattle.ca_rule.proofs.rule_laws.one_generations_rule.Goals as goal
 
 pub returns : goal.returns
 returns c = names-once

@@ -1,7 +1,7 @@
 use Rattle.std.proofs.Common.{subst}
 use Rattle.ca_rule.specs.Generations.{NamesGenerationsRule, printed_generations_rule}
 use Rattle.ca_rule.proofs.GenerationsRead.{names-once}
-use Rattle.ca_rule.proofs.gen_rule.laws.generations_alike.Goals as goal
+use Rattle.ca_rule.proofs.rule_laws.generations_alike.Goals as goal
 
 pub returns : goal.returns
 returns c =

@@ -1,7 +1,7 @@
 use Rattle.ca_rule.proofs.GenerationsRead.{names-faultless, other-notation}
 use Rattle.ca_rule.specs.Generations.{SpellsGenerationsRule}
 use Rattle.ca_rule.proofs.Meaning.{one-fault}
-use Rattle.ca_rule.proofs.gen_rule.laws.generations_rule_or_fault.Goals as goal
+use Rattle.ca_rule.proofs.rule_laws.generations_rule_or_fault.Goals as goal
 
 pub returns-clause-rule_alone : goal.returns-clause-rule_alone
 returns-clause-rule_alone c = names-faultless

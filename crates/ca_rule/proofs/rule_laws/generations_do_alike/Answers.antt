@@ -1,6 +1,6 @@
 use Rattle.std.proofs.Common.{◌∙◌}
 use Rattle.ca_rule.proofs.GenerationsAlike.{do-alike}
-use Rattle.ca_rule.proofs.gen_rule.laws.generations_do_alike.Goals as goal
+use Rattle.ca_rule.proofs.rule_laws.generations_do_alike.Goals as goal
 
 pub returns : goal.returns
 returns c =
