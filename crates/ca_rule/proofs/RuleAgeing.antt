@@ -1,17 +1,13 @@
 -- A Generations rule ages by the masks of its counts.
-use Rattle.std.proofs.Common.{◌≡◌, ℕ, zero, suc, ◌<◌, List, [], ◌∷◌, map, slice_index, Bool, true, false, refl, sym, ap, ◌∙◌, arith, ◌==◌, if◌then◌else◌}
+use Rattle.std.proofs.Common.{◌≡◌, ℕ, zero, suc, slice_index, Bool, true, false, refl, sym, ap, ◌∙◌, arith, ◌==◌, if◌then◌else◌}
 use Rattle.std.specs.Int.{bit_at}
-use Rattle.std.proofs.lemmas.Bool.{cases_Bool}
 use Rattle.std.proofs.Math.ListN.{get_or-map}
 use Rattle.std.proofs.lemmas.Bool.Decides.{nat_tests}
 use Rattle.ca_plane.specs.Ageing.{liveness, older, aged, GoesByAgeing}
-use Rattle.ca_plane.specs.Counting.{counting_next}
-use Rattle.ca_plane.specs.Moore.{eight_sum}
 use Rattle.ca_rule.specs.Counts.{is_count}
-use Rattle.ca_rule.specs.Masks.{mask_of, counting_by_hood, ageing_by_counts}
+use Rattle.ca_rule.specs.Masks.{mask_of, ageing_by_counts}
 use Rattle.ca_rule.specs.Generations.{live_count, generations_next_state, generations_next}
 use Rattle.ca_rule.specs.declared.counts.Counts.{Counts}
-use Rattle.ca_rule.specs.declared.hood.Hood.TheVariants.{Moore}
 use Rattle.ca_rule.proofs.RuleMasks.{mask_bit}
 
 -- whether the bit of a mask is 1
