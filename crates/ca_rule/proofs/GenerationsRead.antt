@@ -10,7 +10,7 @@ use Rattle.ca_rule.specs.Counts.{has_digit, counts_of, are_digits_up_to}
 use Rattle.ca_rule.specs.Digits.{are_digits, state_count}
 use Rattle.ca_rule.specs.Generations.{SpellsGenerationsRule, SpellsNoGenerationsRule, NamesGenerationsRule, IsGenerationsRuleFault}
 use Rattle.ca_rule.specs.Spelling as bs
-use Rattle.ca_rule.specs.inner.TextParts.{lists_around_slash, lists_of, swapped_lists, Parts, parts_after, parts_around, parts_in}
+use Rattle.ca_rule.specs.inner.TextParts.{lists_around_slash, lists_of, swapped_lists}
 use Rattle.ca_rule.specs.declared.fault.RuleFault.{RuleFault}
 use Rattle.ca_rule.specs.declared.fault.RuleFault.TheVariants.{Unknown}
 use Rattle.ca_rule.specs.declared.gen_rule.GenRule.{GenRule}
@@ -20,6 +20,29 @@ use Rattle.ca_rule.proofs.SpelledDigits.{around_slash-from, first_list}
 use Rattle.ca_rule.proofs.Meaning.{counts-once, counts-faultless}
 use Rattle.ca_rule.proofs.OneSpelling.{then-some, map-some, if-some}
 use Rattle.ca_rule.proofs.ReadInwards.{digits-of, plain-digits, around_slash, lists-no_letter, read}
+
+-- ---- what a text spells, read from its left
+
+-- survival digits, birth digits, and the number of states
+abbrev pub Parts : Type 0
+Parts = List ℕ × List ℕ × ℕ
+
+-- the parts, where the bytes are such digits and such a number
+abbrev pub generations_parts : List ℕ → List ℕ → List ℕ → Option Parts
+generations_parts survival birth number =
+    if are_digits_up_to 8 survival && are_digits_up_to 8 birth then option_map (λ states. (survival, birth, states)) (state_count number) else None
+
+-- the parts of a text after its survival digits, by what stands round the second `/`
+abbrev pub parts_after : List ℕ → List ℕ × List ℕ → Option Parts
+parts_after survival lists = generations_parts survival lists.0 lists.1
+
+-- the parts of a text, by what stands round the first `/`
+abbrev pub parts_around : List ℕ × List ℕ → Option Parts
+parts_around lists = option_and_then (parts_after lists.0) (lists_around_slash lists.1)
+
+-- the parts that a text spells
+abbrev pub parts_in : List ℕ → Option Parts
+parts_in text = option_and_then parts_around (lists_around_slash text)
 
 -- a text that spells a rule is read as that rule
 pub spelled-read : (text survival birth : List ℕ) (states : ℕ) → SpellsGenerationsRule text survival birth states → parts_in text ≡ Some (survival, birth, states)

@@ -1,11 +1,9 @@
 //! Rules of the family Generations.
 
 ghost use Rattle.std.specs.Prelude.{◌≡◌, ◌↔◌, ◌≤◌, false, Some, None, IsTrue, IfOk, IfErr, IfSome};
-ghost use Rattle.std.specs.Prelude.{MatchOption};
 ghost use Rattle.ca_plane.specs.Bytes.{IsWord};
 ghost use Rattle.ca_plane.specs.Ageing.{liveness, older, GoesByAgeing};
 ghost use Rattle.ca_rule.specs.Counts.{is_count};
-ghost use Rattle.ca_rule.specs.inner.TextParts.{parts_in};
 ghost use Rattle.std.proofs.Common.{arith};
 ghost use Rattle.std.proofs.lemmas.Bool.Decides.{nat_tests};
 
@@ -163,22 +161,15 @@ impl Notation for GenRule {
 
     ghost spells = { λ text birth survival. SpellsGenerationsRule text survival birth };
 
+    /// The digits and the number of states that the text spells.
     fn spelling_of(text: &[u8]) -> Option<(&[u8], &[u8], u16)> {
-        let (survival, birth, states) = parts_in(text)?;
+        let (survival, later) = lists_around_slash(text)?;
+        let (birth, number) = lists_around_slash(later)?;
+        let states = state_count(number)?;
+        let most = Hood::Moore.most();
+        if !are_digits_up_to(most, survival) || !are_digits_up_to(most, birth) {
+            return None;
+        }
         Some((birth, survival, states))
     }
-}
-
-/// The survival digits, the birth digits and the number of states that the text spells.
-fn parts_in(text: &[u8]) -> Option<(&[u8], &[u8], u16)>
-    ensures { MatchOption result (parts_in text.now ≡ None)
-        (λ p. parts_in text.now ≡ Some (p.0.now, p.1.now, p.2)) }
-{
-    let (survival, later) = lists_around_slash(text)?;
-    let (birth, number) = lists_around_slash(later)?;
-    let most = Hood::Moore.most();
-    if !are_digits_up_to(most, survival) || !are_digits_up_to(most, birth) {
-        return None;
-    }
-    Some((survival, birth, state_count(number)?))
 }

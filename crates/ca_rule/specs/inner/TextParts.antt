@@ -1,8 +1,6 @@
 -- A rule text read from its ends inwards: each part is determined, so this is what a text spells if it spells a rule (our own).
-use Rattle.std.specs.Prelude.{ℕ, ◌+◌, List, [], ◌∷◌, Bool, ◌==◌, ◌&&◌, ◌||◌, Option, Some, None, if◌then◌else◌, option_map, option_and_then}
+use Rattle.std.specs.Prelude.{ℕ, ◌+◌, List, [], ◌∷◌, Bool, ◌==◌, ◌||◌, Option, Some, None, if◌then◌else◌}
 use Rattle.ca_plane.specs.Bytes.{is_digit, front, rest}
-use Rattle.ca_rule.specs.Counts.{are_digits_up_to}
-use Rattle.ca_rule.specs.Digits.{state_count}
 use Rattle.ca_rule.specs.declared.hood.Hood.{Hood}
 use Rattle.ca_rule.specs.declared.hood.Hood.TheVariants.{Moore, VonNeumann, Hex}
 
@@ -65,26 +63,3 @@ lists_of [] = None
 lists_of (b ∷ bs) =
     if is_rule_letter 66 b then lists_around 83 bs
     else (if is_rule_letter 83 b then swapped_lists (lists_around 66 bs) else swapped_lists (lists_around_slash (b ∷ bs)))
-
--- ---- a text of the family Generations
-
--- survival digits, birth digits, and the number of states
-abbrev pub Parts : Type 0
-Parts = List ℕ × List ℕ × ℕ
-
--- the parts, where the bytes are such digits and such a number
-abbrev pub generations_parts : List ℕ → List ℕ → List ℕ → Option Parts
-generations_parts survival birth number =
-    if are_digits_up_to 8 survival && are_digits_up_to 8 birth then option_map (λ states. (survival, birth, states)) (state_count number) else None
-
--- the parts of a text after its survival digits, by what stands round the second `/`
-abbrev pub parts_after : List ℕ → List ℕ × List ℕ → Option Parts
-parts_after survival lists = generations_parts survival lists.0 lists.1
-
--- the parts of a text, by what stands round the first `/`
-abbrev pub parts_around : List ℕ × List ℕ → Option Parts
-parts_around lists = option_and_then (parts_after lists.0) (lists_around_slash lists.1)
-
--- the parts that a text spells
-abbrev pub parts_in : List ℕ → Option Parts
-parts_in text = option_and_then parts_around (lists_around_slash text)
