@@ -2,8 +2,10 @@
 -- printed. State 0 is a dead cell, state 1 a live one, and a cell of state 2 or more is dying.
 use Rattle.std.specs.Prelude.{◌≡◌, ℕ, ◌≤◌, List, ◌++◌, map, false, ◌==◌, ◌&&◌, IsTrue, Some, codes, decimal, slice_index, if◌then◌else◌}
 use Rattle.ca_plane.specs.Ageing.{liveness, older}
+use Rattle.ca_plane.specs.declared.counting.Ageing.{Ageing}
 use Rattle.ca_rule.specs.Counts.{is_count, are_digits_up_to}
 use Rattle.ca_rule.specs.Digits.{state_count}
+use Rattle.ca_rule.specs.Masks.{counting_by_hood}
 use Rattle.ca_rule.specs.Next.{neighbour_count}
 use Rattle.ca_rule.specs.Spelling.{NamesCounts, SpellsNone, IsSpellingFault, digits_of}
 use Rattle.ca_rule.specs.declared.counts.Counts.{Counts}
@@ -32,6 +34,10 @@ generations_next survival birth states nine = generations_next_state survival bi
 pub record IsSoundGenerations (birth : Counts) (states : ℕ) : Type 0 where
   pub low : 2 ≤ states
   pub quiet : is_count birth 0 ≡ false
+
+-- how its live cells age: by the masks of its counts, of all eight neighbours, and its number of states
+abbrev pub ageing_by_counts : (birth survival : Counts) → ℕ → Ageing
+ageing_by_counts birth survival states = record { counting = counting_by_hood Moore birth survival; states = states }
 
 -- ---- texts: `S/B/C` (that digits may stand in any order and repeated, the limits of C, and what is printed are our own)
 

@@ -1,6 +1,5 @@
--- The counts of B/S and of Generations rules as masks, and which neighbours are counted (ca_plane's Moore rules, countings and ageings).
+-- The counts of B/S rules as masks, and which neighbours are counted (ca_plane's Moore rules and countings).
 use Rattle.std.specs.Prelude.{ℕ, ◌+◌, ◌*◌, List, [], ◌∷◌, Bool, Option, Some, None, if◌then◌else◌}
-use Rattle.ca_plane.specs.declared.counting.Ageing.{Ageing}
 use Rattle.ca_plane.specs.declared.counting.Counting.{Counting}
 use Rattle.ca_plane.specs.declared.counting.Neighbourhood.{Neighbourhood}
 use Rattle.ca_plane.specs.declared.counting.Neighbourhood.TheVariants as counted
@@ -29,7 +28,3 @@ neighbourhood_of Hex = counted.Hexagonal
 abbrev pub counting_by_hood : Hood → Counts → Counts → Counting
 counting_by_hood hood birth survival =
     record { neighbourhood = neighbourhood_of hood; birth = mask_of birth.holds; survival = mask_of survival.holds }
-
--- of a Generations rule, which counts all eight, these masks and its number of states
-abbrev pub ageing_by_counts : (birth survival : Counts) → ℕ → Ageing
-ageing_by_counts birth survival states = record { counting = counting_by_hood Moore birth survival; states = states }

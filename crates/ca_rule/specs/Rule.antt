@@ -56,7 +56,7 @@ counting_of (Tab table) = None
 -- how its live cells age: of a Generations rule by its counts, as masks, and its states
 abbrev pub ageing_of : RuleValue → Option Ageing
 ageing_of (Bs rule) = None
-ageing_of (Gen rule) = Some (bs_masks.ageing_by_counts rule.birth rule.survival rule.states)
+ageing_of (Gen rule) = Some (generations.ageing_by_counts rule.birth rule.survival rule.states)
 ageing_of (Tab table) = None
 
 -- states lead to states, and the empty plane stays empty: a B/S or Generations rule gives no birth at a count of 0

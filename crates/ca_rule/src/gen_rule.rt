@@ -92,8 +92,7 @@ impl GenRule {
 }
 
 impl Automaton for GenRule {
-    ghost use Rattle.ca_rule.specs.Generations.{IsSoundGenerations, generations_next};
-    ghost use Rattle.ca_rule.specs.Masks.{ageing_by_counts};
+    ghost use Rattle.ca_rule.specs.Generations.{IsSoundGenerations, generations_next, ageing_by_counts};
 
     ghost state_count = { λ rule. rule.states };
 
