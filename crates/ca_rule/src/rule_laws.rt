@@ -84,14 +84,14 @@ pub fn worked_names()
         (example_table (codes "Spread:T9") ∷ []) Bounded }
 {}
 
-/// A text names one rule at most.
+/// A text names one Generations rule at most.
 pub fn one_generations_rule()
     ensures { (text : List ℕ) (r s : GenRule) → NamesGenerationsRule text r → NamesGenerationsRule text s
         → IsSameRule (Gen r) (Gen s) }
 {}
 
-/// A text that names a rule has no fault, and another has one fault at most. A text that spells a rule spells
-/// none in B/S notation.
+/// A text that names a Generations rule has no fault, and another has one fault at most. A text that
+/// spells such a rule spells none in B/S notation.
 pub fn generations_rule_or_fault()
     ensures rule_alone { NeverHasBoth NamesGenerationsRule IsGenerationsRuleFault }
     ensures one_fault { HasAtMostOne IsGenerationsRuleFault }
@@ -100,14 +100,14 @@ pub fn generations_rule_or_fault()
         → SpellsNoBsRule text }
 {}
 
-/// Of two states, each cell is next what it is under the B/S rule of the same counts over all eight
-/// neighbours.
+/// Under a Generations rule of two states, each cell is next what it is under the B/S rule of the same counts
+/// over all eight neighbours.
 pub fn two_states_do_as_bs()
     ensures { (survival birth : Counts) (nine : List ℕ) → length nine ≡ 9 → All (λ s. s < 2) nine
         → generations_next survival birth 2 nine ≡ bs_next Moore birth survival nine }
 {}
 
-/// The printed form of a rule names that rule.
+/// The printed form of a Generations rule names that rule.
 pub fn generations_names_itself(rule: &GenRule)
     ensures { NamesGenerationsRule (printed_form (Gen rule.now)) rule.now }
 {
@@ -115,7 +115,7 @@ pub fn generations_names_itself(rule: &GenRule)
     let _ = rule.birth.places();
 }
 
-/// Two rules are printed alike exactly where they are equal.
+/// Two Generations rules are printed alike exactly where they are equal.
 pub fn generations_alike(a: &GenRule, b: &GenRule)
     ensures { (printed_form (Gen a.now) ≡ printed_form (Gen b.now)) ↔ IsSameRule (Gen a.now) (Gen b.now) }
 {
@@ -123,8 +123,8 @@ pub fn generations_alike(a: &GenRule, b: &GenRule)
     generations_names_itself(b);
 }
 
-/// Two rules have as many states, and every cell of such states is next the same under both, exactly where
-/// they are equal.
+/// Two Generations rules have as many states, and every cell of such states is next the same under both,
+/// exactly where they are equal.
 pub fn generations_do_alike(a: &GenRule, b: &GenRule)
     ensures { ((a.now.states ≡ b.now.states)
         × ((nine : List ℕ) → length nine ≡ 9 → All (λ s. s < a.now.states) nine
@@ -136,7 +136,7 @@ pub fn generations_do_alike(a: &GenRule, b: &GenRule)
     let _ = b.birth.places();
 }
 
-/// Some texts that name rules, and printed rules.
+/// Some texts that name Generations rules, and printed ones.
 pub fn worked_generations()
     ensures brians_brain_is_spelled { SpellsGenerationsRule (codes "/2/3") [] (codes "2") 3 }
     ensures star_wars_is_spelled { SpellsGenerationsRule (codes "345/2/4") (codes "345") (codes "2") 4 }
@@ -155,9 +155,9 @@ pub fn worked_generations()
         ≡ codes "23/3/256" }
 {}
 
-/// Some texts that name no rule: one wakes the empty plane, one is of a torus. Of the others some have too
-/// few or too many states, or no number of states; some have a count above 8, with birth on 0 or without; and
-/// some have a letter, a blank, or other slashes.
+/// Some texts that name no Generations rule: one wakes the empty plane, one is of a torus. Of the others some
+/// have too few or too many states, or no number of states; some have a count above 8, with birth on 0 or
+/// without; and some have a letter, a blank, or other slashes.
 pub fn worked_generations_faults()
     ensures wakes { IsGenerationsRuleFault (codes "2/0/3") Wakes }
     ensures bounded { IsGenerationsRuleFault (codes "/2/3:T30,20") Bounded }
