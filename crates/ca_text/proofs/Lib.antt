@@ -12,3 +12,4 @@ pub mod RuleLines
 pub mod Shifts
 pub mod Truths
 pub mod PairedLists
+pub mod WrittenWords

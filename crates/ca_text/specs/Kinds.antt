@@ -1,5 +1,7 @@
 -- The kinds of claims: the words of each, the limits of its numbers, and what it asks (our own; docs/CLAIMS.md).
-use Rattle.std.specs.Prelude.{◌≡◌, ℕ, ◌≤◌, ℤ, pos, neg_ℤ, ◌≤ℤ◌, List, [], ◌∷◌, Bool, true, false, codes}
+use Rattle.std.specs.Prelude.{◌≡◌, ℕ, ◌≤◌, ℤ, pos, neg_ℤ, ◌≤ℤ◌, List, [], ◌∷◌, Bool, true, false, codes, decimal}
+use Rattle.std.specs.Fmt.{signed_decimal}
+use Rattle.std.specs.List.{flat_map}
 use Rattle.ca_plane.specs.Bytes.{AreDigits, IsInteger, value}
 use Rattle.ca_plane.specs.Limits.{greatest_shift, most_generations, longest_period}
 use Rattle.ca_text.specs.declared.asks.Asks.{Asks}
@@ -36,6 +38,19 @@ FollowName words names (Dies generations) = (n : List ℕ) × (words ≡ n ∷ [
 -- the words of a claim of this kind about the patterns of these names: its keyword, the name of the first, and what follows that
 abbrev pub WordsClaim : List (List ℕ) → (names : Both (List ℕ)) → Kind → Type 0
 WordsClaim words names kind = (later : List (List ℕ)) × (words ≡ keyword_of kind ∷ names.first ∷ later) × FollowName later names kind
+
+-- how those after the first name are written, where the second name is this one
+abbrev pub words_after_name : (second : List ℕ) → Kind → List (List ℕ)
+words_after_name second Still = []
+words_after_name second (Oscillator period) = decimal period ∷ []
+words_after_name second (Spaceship period dx dy) = decimal period ∷ signed_decimal dx ∷ signed_decimal dy ∷ []
+words_after_name second (Becomes generations) = decimal generations ∷ second ∷ []
+words_after_name second (BecomesShifted generations dx dy) = decimal generations ∷ second ∷ codes "shift" ∷ signed_decimal dx ∷ signed_decimal dy ∷ []
+words_after_name second (Dies generations) = decimal generations ∷ []
+
+-- words on a line after others, with a blank before each
+abbrev pub spaced : List (List ℕ) → List ℕ
+spaced words = flat_map (λ word. 32 ∷ word) words
 
 -- claims that move another pattern's cells and those of dying patterns came with the second version of the language
 abbrev pub is_of_second_version : Kind → Bool

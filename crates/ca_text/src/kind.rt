@@ -1,22 +1,28 @@
 //! The kinds of claims: the words of each, the limits of its numbers, and what it asks.
 
-ghost use Rattle.std.specs.Prelude.{◌≡◌, ◌≢◌, List, ℕ, [], ◌∷◌, not, codes, IsTrue, ◌↔◌, MatchOption};
+ghost use Rattle.std.specs.Prelude.{◌≡◌, ◌≢◌, List, ℕ, [], ◌∷◌, not, codes, IsTrue, ◌↔◌, OnOk, MatchOption};
 ghost use Rattle.ca_plane.specs.Bytes.{Every, is_line_end, words_of};
+ghost use Rattle.ca_plane.specs.Puts.{Puts};
 ghost use Rattle.ca_text.specs.declared.kind.Kind.TheVariants as kinds;
 ghost use Rattle.ca_text.specs.Both.{twice};
 ghost use Rattle.ca_text.specs.Kinds.{is_of_second_version, HasGoodNumbers, asks_of};
+ghost use Rattle.ca_text.specs.Kinds.{keyword_of, words_after_name, spaced};
 ghost use Rattle.ca_text.specs.inner.Reading.{IsClaimOfWords};
 
 use crate::asks::{Asks, Expected, Forbidden};
 use crate::both::Both;
 use crate::line::Claim;
-use crate::numbers::{is_move, is_period, is_shift, shift_of};
+use crate::numbers::{
+    is_move, is_period, is_shift, push_count, push_count_and_name, push_vector, shift_of,
+};
 use crate::words::{four_words, name_and_number, one_word, three_words, three_words_and_shift};
+use ca_plane::Memory;
 use ca_plane::bytes::whole_number;
 use ca_plane::limits::MOST_GENERATIONS;
+use ca_plane::text::push_text;
 
 /// What is claimed, the patterns apart.
-#[derive(Clone, Copy)]
+#[derive(Clone, Copy, Debug, PartialEq, Eq)]
 pub enum Kind {
     /// The pattern is live, and one generation on it is what it was.
     Still,
@@ -45,6 +51,49 @@ const STILL: Asks = Asks {
 };
 
 impl Kind {
+    /// The keyword of claims of this kind.
+    pub fn keyword<'a>(self) -> &'a [u8]
+        ensures { result.now ≡ keyword_of self }
+    {
+        match self {
+            Kind::Still => b"still",
+            Kind::Oscillator { .. } => b"oscillator",
+            Kind::Spaceship { .. } => b"spaceship",
+            Kind::Becomes { .. } | Kind::BecomesShifted { .. } => b"becomes",
+            Kind::Dies { .. } => b"dies",
+        }
+    }
+
+    /// Puts the words of a claim of this kind that follow its first name, each after a blank, where this is its second name.
+    ///
+    /// # Errors
+    ///
+    /// Fails where there is no memory for them; what `out` holds then is open.
+    pub fn push_words_after_name(self, out: &mut Vec<u8>, second: &[u8]) -> Result<(), Memory>
+        ensures { OnOk result (Puts out.old.items out.new.items
+            (spaced (words_after_name second.now self))) }
+    {
+        match self {
+            Kind::Still => Ok(()),
+            Kind::Oscillator { period } => push_count(out, period),
+            Kind::Spaceship { period, dx, dy } => {
+                push_count(out, period)?;
+                push_vector(out, dx, dy)
+            }
+            Kind::Becomes { generations } => push_count_and_name(out, generations, second),
+            Kind::BecomesShifted {
+                generations,
+                dx,
+                dy,
+            } => {
+                push_count_and_name(out, generations, second)?;
+                push_text(out, b" shift")?;
+                push_vector(out, dx, dy)
+            }
+            Kind::Dies { generations } => push_count(out, generations),
+        }
+    }
+
     /// Whether claims of this kind came with the second version of the language.
     pub(crate) fn is_of_second_version(self) -> bool
         ensures { result ≡ is_of_second_version self }

@@ -1,13 +1,17 @@
-//! The numbers of claims: how shifts are read, and limits.
+//! The numbers of claims: how shifts are read, limits, and how they are written.
 
-ghost use Rattle.std.specs.Prelude.{◌≡◌, ◌≤◌, ℤ, pos, IsTrue, ◌↔◌, MatchOption};
+ghost use Rattle.std.specs.Prelude.{◌≡◌, ◌≤◌, ℤ, pos, [], ◌∷◌, IsTrue, ◌↔◌, decimal, OnOk, MatchOption};
+ghost use Rattle.std.specs.Fmt.{signed_decimal};
 ghost use Rattle.ca_plane.specs.Bytes.{IsInteger};
 ghost use Rattle.ca_plane.specs.Limits.{longest_period};
-ghost use Rattle.ca_text.specs.Kinds.{IsShift};
+ghost use Rattle.ca_plane.specs.Puts.{Puts};
+ghost use Rattle.ca_text.specs.Kinds.{IsShift, spaced};
 ghost use Rattle.ca_text.specs.inner.Reading.{IsHeldShift};
 
+use ca_plane::Memory;
 use ca_plane::bytes::integer;
 use ca_plane::limits::{GREATEST_SHIFT, LONGEST_PERIOD};
+use ca_plane::text::{push_integer, push_number, push_text};
 
 /// The integer that a word writes, as a shift is held: one that doesn't fit an `i64` is held as the nearest,
 /// which is no shift either.
@@ -51,4 +55,32 @@ pub(crate) fn is_move(dx: i64, dy: i64) -> bool
         return false;
     }
     is_shift(dx) && is_shift(dy)
+}
+
+/// Puts a number after a blank.
+pub(crate) fn push_count(out: &mut Vec<u8>, count: u64) -> Result<(), Memory>
+    ensures { OnOk result (Puts out.old.items out.new.items (spaced (decimal count ∷ []))) }
+{
+    push_text(out, b" ")?;
+    push_number(out, count)
+}
+
+/// Puts a number and a name, each after a blank.
+pub(crate) fn push_count_and_name(out: &mut Vec<u8>, count: u64, name: &[u8]) -> Result<(), Memory>
+    ensures { OnOk result (Puts out.old.items out.new.items (spaced (decimal count ∷ name.now ∷ []))) }
+{
+    push_count(out, count)?;
+    push_text(out, b" ")?;
+    push_text(out, name)
+}
+
+/// Puts the numbers of a shift, that to the right first, each after a blank.
+pub(crate) fn push_vector(out: &mut Vec<u8>, dx: i64, dy: i64) -> Result<(), Memory>
+    ensures { OnOk result (Puts out.old.items out.new.items
+        (spaced (signed_decimal dx ∷ signed_decimal dy ∷ []))) }
+{
+    push_text(out, b" ")?;
+    push_integer(out, dx)?;
+    push_text(out, b" ")?;
+    push_integer(out, dy)
 }
