@@ -10,14 +10,15 @@ use Rattle.ca_rule.specs.TableNext.{TableRule}
 use Rattle.ca_rule.specs.declared.hood.Hood.{Hood}
 use Rattle.ca_rule.specs.declared.hood.Hood.TheVariants.{Moore, VonNeumann, Hex}
 use Rattle.ca_apgcode.specs.Objects.{IsObjectCode}
-use Rattle.ca_apgcode.specs.declared.object.Kind.TheVariants as kind
+use Rattle.ca_apgcode.specs.declared.object.Kind.TheVariants as object
+use Rattle.ca_text.specs.declared.kind.Kind.TheVariants.{Still, Oscillator, Spaceship}
 use Rattle.ca_pattern.specs.declared.located_fault.LocatedFault.{LocatedFault}
 use Rattle.ca_pattern.specs.declared.located_fault.LocatedFault.TheVariants.{Work}
 use Rattle.ca_pattern.specs.LocatedFaults.{IsOpeningFault}
 use Rattle.ca_answers.specs.Identified.{HoldsSmallPattern}
 use Rattle.ca_pattern.specs.Evolved.{run_work}
 use Rattle.ca_answers.specs.declared.identity.Identity.{Identity}
-use Rattle.ca_answers.specs.declared.identity.Identity.TheVariants.{Empty, StillLife, Oscillator, Spaceship, Dies, Unknown}
+use Rattle.ca_answers.specs.declared.identity.Identity.TheVariants.{Claim}
 
 -- all eight neighbours are counted, or four
 abbrev pub CountsEightOrFour : Hood → Type 0
@@ -33,21 +34,17 @@ HasCodes (Tab table) = ⊥
 
 -- the code of cells that are this object under a rule; its phases are the planes after 0, 1, 2 .. generations, as many as its period
 abbrev pub IsCodeOf : (List ℕ → ℕ) → Picture → Identity → List ℕ → Type 0
-IsCodeOf next cells Empty code = ⊥
-IsCodeOf next cells StillLife code = (count : ℕ) × HasPopulation (cell cells) count × IsObjectCode kind.StillLife count (after next cells) 1 code
-IsCodeOf next cells (Oscillator period) code = IsObjectCode kind.Oscillator period (after next cells) period code
-IsCodeOf next cells (Spaceship period dx dy) code = IsObjectCode kind.Spaceship period (after next cells) period code
-IsCodeOf next cells (Dies generations) code = ⊥
-IsCodeOf next cells (Unknown growth) code = ⊥
+IsCodeOf next cells (Claim Still) code = (count : ℕ) × HasPopulation (cell cells) count × IsObjectCode object.StillLife count (after next cells) 1 code
+IsCodeOf next cells (Claim (Oscillator period)) code = IsObjectCode object.Oscillator period (after next cells) period code
+IsCodeOf next cells (Claim (Spaceship period dx dy)) code = IsObjectCode object.Spaceship period (after next cells) period code
+IsCodeOf next cells identity code = ⊥
 
 -- it is no object
 abbrev pub IsNoObject : Identity → Type 0
-IsNoObject Empty = Unit {0}
-IsNoObject StillLife = ⊥
-IsNoObject (Oscillator period) = ⊥
-IsNoObject (Spaceship period dx dy) = ⊥
-IsNoObject (Dies generations) = Unit {0}
-IsNoObject (Unknown growth) = Unit {0}
+IsNoObject (Claim Still) = ⊥
+IsNoObject (Claim (Oscillator period)) = ⊥
+IsNoObject (Claim (Spaceship period dx dy)) = ⊥
+IsNoObject identity = Unit {0}
 
 -- a period is at least 1 and no longer than one that is looked for
 abbrev pub IsPeriod : ℕ → Type 0
@@ -55,17 +52,14 @@ IsPeriod period = (1 ≤ period) × (period ≤ longest_period)
 
 -- the period is one that may be found
 abbrev pub HasGoodPeriod : Identity → Type 0
-HasGoodPeriod Empty = Unit {0}
-HasGoodPeriod StillLife = Unit {0}
-HasGoodPeriod (Oscillator period) = IsPeriod period
-HasGoodPeriod (Spaceship period dx dy) = IsPeriod period
-HasGoodPeriod (Dies generations) = Unit {0}
-HasGoodPeriod (Unknown growth) = Unit {0}
+HasGoodPeriod (Claim (Oscillator period)) = IsPeriod period
+HasGoodPeriod (Claim (Spaceship period dx dy)) = IsPeriod period
+HasGoodPeriod identity = Unit {0}
 
 -- how many steps lead through the phases of what is found, from the first one to the last
 abbrev pub steps_of : Identity → ℕ
-steps_of (Oscillator period) = period - 1
-steps_of (Spaceship period dx dy) = period - 1
+steps_of (Claim (Oscillator period)) = period - 1
+steps_of (Claim (Spaceship period dx dy)) = period - 1
 steps_of identity = 0
 
 -- nothing has a code that is no object, nor under a rule under which objects have none

@@ -1,5 +1,5 @@
 -- What a pattern is found to be, by the claims that are true of it, and why that isn't found out.
-use Rattle.std.specs.Prelude.{◌≡◌, ℕ, zero, suc, ◌+◌, ◌*◌, ◌^◌, ◌≤◌, ◌<◌, ℤ, List, Some}
+use Rattle.std.specs.Prelude.{◌≡◌, ℕ, ◌+◌, ◌*◌, ◌^◌, ◌≤◌, ◌<◌, ℤ, List, Some}
 use Rattle.ca_plane.specs.Plane.{Picture, cell, IsLive}
 use Rattle.ca_plane.specs.Box.{IsLeastBox}
 use Rattle.ca_plane.specs.Generations.{after, IsAfter}
@@ -10,9 +10,8 @@ use Rattle.ca_rule.specs.Rule.{RuleValue, next_of}
 use Rattle.ca_text.specs.declared.asks.Expected.{Expected}
 use Rattle.ca_text.specs.declared.asks.Expected.TheVariants.{Own, Other, NoCells}
 use Rattle.ca_text.specs.declared.kind.Kind.{Kind}
-use Rattle.ca_text.specs.declared.kind.Kind.TheVariants as kind
 use Rattle.ca_answers.specs.declared.identity.Identity.{Identity}
-use Rattle.ca_answers.specs.declared.identity.Identity.TheVariants.{Empty, StillLife, Oscillator, Spaceship, Dies, Unknown}
+use Rattle.ca_answers.specs.declared.identity.Identity.TheVariants.{Empty, Claim, Unknown}
 use Rattle.ca_answers.specs.declared.identity.Growth.{Growth}
 use Rattle.ca_answers.specs.declared.scope.Scope.{Scope}
 use Rattle.ca_answers.specs.declared.scope.Look.{Look}
@@ -45,14 +44,11 @@ pub record IsGrowth (cells : Picture) (growth : Growth) : Type 0 where
   pub population : HasPopulation (cell cells) growth.cells
   pub bounds : IsLeastBox cells growth.bounds
 
--- the cells are what is found of them: the claim that says it is true; or none is, since no cell is live or within the limit. Where none is within
--- the limit, the growth is that of the plane after as many generations
+-- the cells are what is found of them: a claim about them alone is true of them; or none is, since no cell is live or within the limit. Where none is
+-- within the limit, the growth is that of the plane after as many generations
 abbrev pub IsIdentity : (List ℕ → ℕ) → Picture → (limit : ℕ) → Identity → Type 0
 IsIdentity next cells limit Empty = IsLive cells → ⊥
-IsIdentity next cells limit StillLife = IsTrueWithin next cells limit kind.Still
-IsIdentity next cells limit (Oscillator period) = IsTrueWithin next cells limit (kind.Oscillator period)
-IsIdentity next cells limit (Spaceship period dx dy) = IsTrueWithin next cells limit (kind.Spaceship period dx dy)
-IsIdentity next cells limit (Dies generations) = IsTrueWithin next cells limit (kind.Dies generations)
+IsIdentity next cells limit (Claim kind) = AreOfNoOther (asks_of kind).expected × IsTrueWithin next cells limit kind
 IsIdentity next cells limit (Unknown growth) = IsLive cells × HasNoTrueClaim next cells limit
     × (later : Picture) × IsAfter next cells limit later × IsGrowth later growth
 

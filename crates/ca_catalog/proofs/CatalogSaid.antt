@@ -1,5 +1,5 @@
 -- What the text of entries says.
-use Rattle.std.proofs.Common.{◌≡◌, ℕ, ◌+◌, Bool, true, false, List, [], ◌∷◌, ◌++◌, map, Option, None, Some, Vec, Global, codes, decimal, nat_eq, refl, ap, sym, ◌∙◌, inl, inr, subst, arith}
+use Rattle.std.proofs.Common.{◌≡◌, ℕ, ◌+◌, Bool, true, false, List, [], ◌∷◌, ◌++◌, map, Option, None, Some, Vec, Global, codes, decimal, nat_eq, refl, ap, sym, ◌∙◌, inl, inr, subst}
 use Rattle.std.specs.Prelude.{IsSome, option_map}
 use Rattle.std.specs.Fmt.{signed_decimal}
 use Rattle.std.specs.List.{flat_map, list_any}
@@ -10,20 +10,19 @@ use Rattle.std.proofs.lemmas.List.{append-nil}
 use Rattle.std.proofs.lemmas.Slice.Eq.{bytes_eq-Decides}
 use Rattle.ca_plane.specs.Bytes.{Every, IsWord, lines_of}
 use Rattle.ca_plane.specs.Plane.{Picture}
-use Rattle.ca_plane.proofs.Decimals.{decimal_writes, signed_writes}
 use Rattle.ca_plane.proofs.Fronts.{every_append}
 use Rattle.ca_rule.specs.Rule.{next_of}
 use Rattle.ca_rule.specs.TableNext.{TableRule}
-use Rattle.ca_text.specs.declared.kind.Kind.TheVariants as kind
 use Rattle.ca_answers.specs.declared.identity.Identity.{Identity}
 use Rattle.ca_answers.specs.declared.identity.Growth.{Growth}
 use Rattle.ca_pattern.specs.declared.cause.Cause.{Cause}
 use Rattle.ca_pattern.specs.declared.cause.Cause.TheVariants as causes
-use Rattle.ca_answers.specs.declared.identity.Identity.TheVariants.{Empty, StillLife, Oscillator, Spaceship, Dies, Unknown}
-use Rattle.ca_plane.specs.Limits.{greatest_shift}
+use Rattle.ca_answers.specs.declared.identity.Identity.TheVariants.{Empty, Claim, Unknown}
+use Rattle.ca_text.specs.Kinds.{keyword_of, words_after_name, spaced}
 use Rattle.ca_text.specs.Text.{ClaimTextLine, Version, Rule, Load, Claims, is_second, path_of, ClaimLinesSay}
 use Rattle.ca_answers.specs.Identified.{IsIdentity}
 use Rattle.ca_text.proofs.LinesSaid.{path_of-append}
+use Rattle.ca_text.proofs.WrittenWords.{keyword_word, keyword_spoken, written_follow, written_words}
 use Rattle.ca_text.proofs.PathLists.{bytes_eq_self}
 use Rattle.ca_catalog.specs.declared.entry.Content.{Content}
 use Rattle.ca_catalog.specs.declared.entry.Content.TheVariants.{Bytes, Missing, FaultyRule}
@@ -40,8 +39,8 @@ use Rattle.ca_report.specs.Counts.{generations_word, side_length}
 use Rattle.ca_catalog.specs.Names.{is_claim_path, is_taken}
 use Rattle.ca_catalog.specs.Catalog.{cells_word, growth_text, none_text, later_text, later_head, later_line, found_line, code_line, code_lines, identified_lines, IsAskedCode, refused_line, identity_line, entry_lines, outcome_lines, rule_lines, version_line, catalog_head, catalog_text, IsContentOutcome, IsEntry, AreEntries}
 use Rattle.ca_catalog.specs.CatalogSays.{claim_line, identity_says, found_says, outcome_says, entry_says, AreRuleWords, SaysItsClaims}
-use Rattle.ca_catalog.proofs.Saying.{is_inner, TextSays, says_none, says_then, says_words, says_comment, line_end, line_more}
-use Rattle.ca_catalog.proofs.NameWords.{word_by_test, path_word, free_word, digits_word, integer_word, decimal_inner, signed_inner, escaped_inner}
+use Rattle.ca_catalog.proofs.Saying.{is_inner, TextSays, inner_word, says_none, says_then, spelled_spaced, spaced_inner, says_words, says_comment, line_end, line_more}
+use Rattle.ca_catalog.proofs.NameWords.{word_by_test, path_word, free_word, decimal_inner, signed_inner, escaped_inner}
 use Rattle.ca_catalog.proofs.CauseLines.{cause_inner, at_inner}
 use Rattle.ca_catalog.proofs.CodeLines.{code_inner}
 use Rattle.ca_report.proofs.OneMore.{any_more}
@@ -81,40 +80,23 @@ identity_said : (next : List ℕ → ℕ) (cells : Picture) (limit : ℕ) (earli
     → TextSays earlier (identity_line limit name identity) (identity_says name identity)
 identity_said next cells limit earlier name Empty is word loaded second =
     says_comment earlier _ (line_more (escaped name) _ (escaped_inner name) (line_more (codes ": no cell is live") _ refl line_end))
-identity_said next cells limit earlier name StillLife is word loaded second =
-    says_words earlier (codes "still" ∷ name ∷ []) (claim_line name kind.Still) (refl, (word, tt)) refl (([], refl, (refl, refl)), λ _. second) (tt, (loaded, loaded))
-identity_said next cells limit earlier name (Oscillator period) is word loaded second =
+identity_said next cells limit earlier name (Claim kind) (own, is) word loaded second =
     let good = is.numbers in
-    let writes = decimal_writes period (omega (arith, good.1)) in
-    says_words earlier (codes "oscillator" ∷ name ∷ decimal period ∷ []) (claim_line name (kind.Oscillator period)) (refl, (word, (digits_word (decimal period) writes.0, tt))) refl
-    ((decimal period ∷ [], refl, (decimal period, refl, writes.0, writes.1, refl)), λ _. second) (good, (loaded, loaded))
-identity_said next cells limit earlier name (Spaceship period dx dy) is word loaded second =
-    let good = is.numbers in
-    let writes = decimal_writes period (omega (arith, good.1)) in
-    let x = signed_writes greatest_shift dx (omega arith) good.2 in
-    let y = signed_writes greatest_shift dy (omega arith) good.3 in
-    says_words earlier (codes "spaceship" ∷ name ∷ decimal period ∷ signed_decimal dx ∷ signed_decimal dy ∷ []) (claim_line name (kind.Spaceship period dx dy))
-    (refl, (word, (digits_word (decimal period) writes.0, (integer_word (signed_decimal dx) dx x, (integer_word (signed_decimal dy) dy y, tt))))) refl
-    ((decimal period ∷ signed_decimal dx ∷ signed_decimal dy ∷ [], refl, (decimal period, signed_decimal dx, signed_decimal dy, refl, writes.0, writes.1, x, y, refl)), λ _. second) (good, (loaded, loaded))
-identity_said next cells limit earlier name (Dies generations) is word loaded second =
-    let good = is.numbers in
-    let writes = decimal_writes generations (omega (arith, good.1)) in
-    says_words earlier (codes "dies" ∷ name ∷ decimal generations ∷ []) (claim_line name (kind.Dies generations)) (refl, (word, (digits_word (decimal generations) writes.0, tt))) refl
-    ((decimal generations ∷ [], refl, (decimal generations, refl, writes.0, writes.1, refl)), λ _. second) (good, (loaded, loaded))
+    let later = words_after_name name kind in
+    subst (λ text. TextSays earlier (keyword_of kind ++ 32 ∷ text) (claim_line name kind ∷ [])) (spelled_spaced name later)
+    (says_words earlier (keyword_of kind ∷ name ∷ later) (claim_line name kind) (keyword_word kind, (word, written_words name kind word good)) (keyword_spoken kind (name ∷ later))
+    ((later, refl, written_follow name kind good), λ _. second) (good, (loaded, loaded)))
 identity_said next cells limit earlier name (Unknown growth) is word loaded second =
     says_comment earlier _ (line_more (escaped name) _ (escaped_inner name) (line_more (codes ": ") _ refl (line_more (none_text limit limit growth) _ (none_inner limit limit growth) line_end)))
 
 -- the words on what a plane is some generations on are on one line
-later_inner : (n limit : ℕ) (identity : Identity) → Every is_inner (later_text n limit identity)
-later_inner n limit Empty = refl
-later_inner n limit StillLife = refl
-later_inner n limit (Oscillator period) = inner_then (codes "oscillator ") (decimal period) refl (decimal_inner period)
-later_inner n limit (Spaceship period dx dy) =
-    let down = 32 ∷ signed_decimal dy in
-    let vector = 32 ∷ (signed_decimal dx ++ down) in
-    inner_then (codes "spaceship ") (decimal period ++ vector) refl (inner_then (decimal period) vector (decimal_inner period) (inner_then (signed_decimal dx) down (signed_inner dx) (signed_inner dy)))
-later_inner n limit (Dies generations) = inner_then (codes "dies ") (decimal generations) refl (decimal_inner generations)
-later_inner n limit (Unknown growth) = none_inner limit (n + limit) growth
+later_inner : (next : List ℕ → ℕ) (cells : Picture) (n limit : ℕ) (name : List ℕ) (identity : Identity) → IsIdentity next cells limit identity → IsWord name
+    → Every is_inner (later_text n limit name identity)
+later_inner next cells n limit name Empty is word = refl
+later_inner next cells n limit name (Claim kind) (own, is) word =
+    let later = words_after_name name kind in
+    inner_then (keyword_of kind) (spaced later) (inner_word (keyword_of kind) (keyword_word kind)) (spaced_inner later (written_words name kind word is.numbers))
+later_inner next cells n limit name (Unknown growth) is word = none_inner limit (n + limit) growth
 
 -- how a comment on it begins is on one line, and so the whole of it says nothing
 later_comment_said : (n : ℕ) (earlier : List ClaimTextLine) (name text : List ℕ) → Every is_inner text → TextSays earlier (later_head n name ++ (text ++ 10 ∷ [])) []
@@ -126,8 +108,9 @@ later_comment_said n earlier name text inner =
     (inner_then (codes " after " ++ decimal n) word (inner_then (codes " after ") (decimal n) refl (decimal_inner n)) (inner_then (generations_word n) (codes ": ") (generations_inner n) refl)))
     (line_more text _ inner line_end))
 
-later_said : (n limit : ℕ) (earlier : List ClaimTextLine) (name : List ℕ) (identity : Identity) → TextSays earlier (later_line n limit name identity) []
-later_said n limit earlier name identity = later_comment_said n earlier name (later_text n limit identity) (later_inner n limit identity)
+later_said : (next : List ℕ → ℕ) (cells : Picture) (n limit : ℕ) (earlier : List ClaimTextLine) (name : List ℕ) (identity : Identity) → IsIdentity next cells limit identity → IsWord name
+    → TextSays earlier (later_line n limit name identity) []
+later_said next cells n limit earlier name identity is word = later_comment_said n earlier name (later_text n limit name identity) (later_inner next cells n limit name identity is word)
 
 -- nor does the comment with a code
 code_said : (n : ℕ) (earlier : List ClaimTextLine) (name code : List ℕ) → Every is_inner code → TextSays earlier (code_line n name code) []
@@ -151,7 +134,7 @@ found_said : (next : List ℕ → ℕ) (cells : Picture) (n limit : ℕ) (earlie
     → TextSays earlier (found_line n limit name identity) (found_says n name identity)
 found_said next cells n limit earlier name identity is word loaded second = elim (cases_Bool (nat_eq n 0)) [
   | inl e ↦ rw e (identity_said next cells limit earlier name identity is word loaded second)
-  | inr e ↦ rw e (later_said n limit earlier name identity)
+  | inr e ↦ rw e (later_said next cells n limit earlier name identity is word)
 ]
 
 -- a name that is loaded
@@ -219,10 +202,7 @@ other_way a b h = elim (cases_Bool (bytes_eq b a)) [
 -- a claim loads no name
 claim_loads : (name other : List ℕ) (identity : Identity) → path_of (identity_says name identity) other ≡ None
 claim_loads name other Empty = refl
-claim_loads name other StillLife = refl
-claim_loads name other (Oscillator period) = refl
-claim_loads name other (Spaceship period dx dy) = refl
-claim_loads name other (Dies generations) = refl
+claim_loads name other (Claim kind) = refl
 claim_loads name other (Unknown growth) = refl
 
 found_loads : (n : ℕ) (name other : List ℕ) (identity : Identity) → path_of (found_says n name identity) other ≡ None

@@ -11,8 +11,9 @@ use Rattle.ca_apgcode.specs.Objects.{IsObjectCode, IsLeastOfPhases, code_text, k
 use Rattle.ca_apgcode.specs.Representation.{Step, digit, gap_text, step_text}
 use Rattle.ca_apgcode.specs.declared.object.Kind.{Kind}
 use Rattle.ca_apgcode.specs.declared.object.Kind.TheVariants as kind
+use Rattle.ca_text.specs.declared.kind.Kind.TheVariants.{Still, Oscillator, Spaceship}
 use Rattle.ca_answers.specs.declared.identity.Identity.{Identity}
-use Rattle.ca_answers.specs.declared.identity.Identity.TheVariants.{Empty, StillLife, Oscillator, Spaceship, Dies, Unknown}
+use Rattle.ca_answers.specs.declared.identity.Identity.TheVariants.{Claim}
 use Rattle.ca_answers.specs.Codes.{IsCodeOf}
 use Rattle.ca_catalog.proofs.Saying.{is_inner}
 use Rattle.ca_catalog.proofs.NameWords.{decimal_inner}
@@ -79,9 +80,7 @@ object_inner k number phases count code is = subst (Every is_inner) (sym is.whol
 
 -- the code of what is found of a plane is on one line
 pub code_inner : (next : List ℕ → ℕ) (cells : Picture) (identity : Identity) (code : List ℕ) → IsCodeOf next cells identity code → Every is_inner code
-code_inner next cells Empty code is = absurd is
-code_inner next cells StillLife code (count, population, is) = object_inner kind.StillLife count (after next cells) 1 code is
-code_inner next cells (Oscillator period) code is = object_inner kind.Oscillator period (after next cells) period code is
-code_inner next cells (Spaceship period dx dy) code is = object_inner kind.Spaceship period (after next cells) period code is
-code_inner next cells (Dies generations) code is = absurd is
-code_inner next cells (Unknown growth) code is = absurd is
+code_inner next cells (Claim Still) code (count, population, is) = object_inner kind.StillLife count (after next cells) 1 code is
+code_inner next cells (Claim (Oscillator period)) code is = object_inner kind.Oscillator period (after next cells) period code is
+code_inner next cells (Claim (Spaceship period dx dy)) code is = object_inner kind.Spaceship period (after next cells) period code is
+code_inner next cells identity code is = absurd is

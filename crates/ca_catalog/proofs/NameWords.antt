@@ -4,8 +4,8 @@ use Rattle.std.specs.Fmt.{digits, digits_onto, digit_glyph, signed_decimal}
 use Rattle.std.specs.List.{list_all}
 use Rattle.std.proofs.lemmas.Bool.{and_parts, and_from, cases_Bool, lt-ltb, false≢true}
 use Rattle.std.proofs.lemmas.Bool.Decides.{nat_tests}
-use Rattle.ca_plane.specs.Bytes.{Every, is_word_byte, is_digit, IsWord, AreDigits, IsInteger}
-use Rattle.ca_plane.proofs.Fronts.{every_append, every_wider}
+use Rattle.ca_plane.specs.Bytes.{Every, is_word_byte, IsWord}
+use Rattle.ca_plane.proofs.Fronts.{every_append}
 use Rattle.ca_catalog.specs.Names.{is_word, is_claim_path, name_byte, with_first_byte, without_ending, last_component, claim_name, numbered_name, IsFreeName}
 use Rattle.ca_report.specs.Escaped.{spelled_byte, is_control, is_control_pair, escaped_byte, escaped}
 use Rattle.ca_catalog.proofs.Saying.{is_inner}
@@ -86,20 +86,6 @@ numbered_word name place h = elim (cases_Bool (nat_eq place 0)) [
 -- so a name that is free is a word
 pub free_word : (taken : List (List ℕ)) (path name : List ℕ) → IsFreeName taken (claim_name path) name → IsWord name
 free_word taken path name free = subst IsWord (sym free.spelled) (numbered_word (claim_name path) free.place (claim_name_word path))
-
--- digits are a word
-pub digits_word : (digits : List ℕ) → AreDigits digits → IsWord digits
-digits_word [] h = h
-digits_word (d ∷ ds) h = every_wider is_digit is_word_byte (λ c t. grind (arith, nat_tests)) (d ∷ ds) h
-
--- and so is a number with its sign
-pub integer_word : (bytes : List ℕ) (n : ℤ) → IsInteger bytes n → IsWord bytes
-integer_word bytes n (inl h) = digits_word bytes h.0
-integer_word bytes n (inr (ds, whole, are, is)) = subst IsWord (sym whole) (minus ds are)
-  where
-    minus : (ds : List ℕ) → AreDigits ds → IsWord (codes "-" ++ ds)
-    minus [] are = absurd (false≢true are)
-    minus (d ∷ more) are = digits_word (d ∷ more) are
 
 -- a hexadecimal digit is no LF
 glyph_inner : (d : ℕ) → is_inner (digit_glyph false d) ≡ true

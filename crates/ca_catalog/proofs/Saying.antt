@@ -6,6 +6,7 @@ use Rattle.std.proofs.lemmas.List.{append-nil}
 use Rattle.ca_plane.specs.Bytes.{Every, is_line_end, is_word_byte, is_blank, IsWord, lines_of, words_of}
 use Rattle.ca_plane.proofs.Fronts.{every_append, every_wider}
 use Rattle.ca_plane.proofs.Lines.{lines_ahead, words_ahead}
+use Rattle.ca_text.specs.Kinds.{spaced}
 use Rattle.ca_text.specs.Text.{ClaimTextLine, is_skipped, ClaimWordsSay, IsAllowedLine, ClaimLinesSay, said_lines}
 use Rattle.ca_text.proofs.LinesSaid.{spoken-append}
 
@@ -88,6 +89,16 @@ spelled_line [] more = refl
 spelled_line (w ∷ []) more = append_assoc w (10 ∷ []) more
 spelled_line (w ∷ v ∷ ws) more =
     append_assoc w (32 ∷ spelled (v ∷ ws)) more ∙ ap (λ l. w ++ 32 ∷ l) (spelled_line (v ∷ ws) more) ∙ sym (append_assoc w (32 ∷ joined (v ∷ ws)) (10 ∷ more))
+
+-- words after a first one, each after a blank, are spelled so
+pub spelled_spaced : (first : List ℕ) (words : List (List ℕ)) → spelled (first ∷ words) ≡ first ++ (spaced words ++ 10 ∷ [])
+spelled_spaced first [] = refl
+spelled_spaced first (w ∷ ws) = ap (λ l. first ++ 32 ∷ l) (spelled_spaced w ws ∙ sym (append_assoc w (spaced ws) (10 ∷ [])))
+
+-- and stand on one line
+pub spaced_inner : (words : List (List ℕ)) → AllByRecursion IsWord words → Every is_inner (spaced words)
+spaced_inner [] h = refl
+spaced_inner (w ∷ ws) h = every_append is_inner (32 ∷ w) (spaced ws) (inner_word w h.0) (spaced_inner ws h.1)
 
 -- words say a line
 pub says_words : (earlier : List ClaimTextLine) (words : List (List ℕ)) (line : ClaimTextLine) → AllByRecursion IsWord words → is_skipped words ≡ false

@@ -14,8 +14,9 @@ use Rattle.ca_report.specs.Escaped.{escaped}
 use Rattle.ca_report.specs.Remedies.{cause_remedy, bytes_of, remedy_line}
 use Rattle.ca_plane.specs.Device.{Counted}
 use Rattle.ca_rule.specs.TableNext.{TableRule}
+use Rattle.ca_text.specs.Kinds.{keyword_of, words_after_name, spaced}
 use Rattle.ca_answers.specs.declared.identity.Identity.{Identity}
-use Rattle.ca_answers.specs.declared.identity.Identity.TheVariants.{Empty, StillLife, Oscillator, Spaceship, Dies, Unknown}
+use Rattle.ca_answers.specs.declared.identity.Identity.TheVariants.{Empty, Claim, Unknown}
 use Rattle.ca_answers.specs.declared.identity.Growth.{Growth}
 use Rattle.ca_answers.specs.Identified.{IsLookAt, IsUnidentifiedAfter}
 use Rattle.ca_answers.specs.declared.coded_look.CodedLook.{CodedLook}
@@ -58,28 +59,21 @@ none_text limit last growth =
 -- paths have their control characters spelled out
 abbrev pub identity_line : (limit : ℕ) → List ℕ → Identity → List ℕ
 identity_line limit name Empty = codes "# " ++ (escaped name ++ (codes ": no cell is live" ++ 10 ∷ []))
-identity_line limit name StillLife = codes "still " ++ (name ++ 10 ∷ [])
-identity_line limit name (Oscillator period) = codes "oscillator " ++ (name ++ (32 ∷ (decimal period ++ 10 ∷ [])))
-identity_line limit name (Spaceship period dx dy) =
-    codes "spaceship " ++ (name ++ (32 ∷ (decimal period ++ (32 ∷ (signed_decimal dx ++ (32 ∷ (signed_decimal dy ++ 10 ∷ [])))))))
-identity_line limit name (Dies generations) = codes "dies " ++ (name ++ (32 ∷ (decimal generations ++ 10 ∷ [])))
+identity_line limit name (Claim kind) = keyword_of kind ++ (32 ∷ (name ++ (spaced (words_after_name name kind) ++ 10 ∷ [])))
 identity_line limit name (Unknown growth) = codes "# " ++ (escaped name ++ (codes ": " ++ (none_text limit limit growth ++ 10 ∷ [])))
 
--- what the plane of a pattern is found to be n generations on, in the words of the claims: a comment, since no claim about the file says it
-abbrev pub later_text : (n limit : ℕ) → Identity → List ℕ
-later_text n limit Empty = codes "no cell is live"
-later_text n limit StillLife = codes "still"
-later_text n limit (Oscillator period) = codes "oscillator " ++ decimal period
-later_text n limit (Spaceship period dx dy) = codes "spaceship " ++ (decimal period ++ (32 ∷ (signed_decimal dx ++ (32 ∷ signed_decimal dy))))
-later_text n limit (Dies generations) = codes "dies " ++ decimal generations
-later_text n limit (Unknown growth) = none_text limit (n + limit) growth
+-- what the plane of a pattern with this name is found to be n generations on, in the words of the claims: a comment, since no claim about the file says it
+abbrev pub later_text : (n limit : ℕ) → List ℕ → Identity → List ℕ
+later_text n limit name Empty = codes "no cell is live"
+later_text n limit name (Claim kind) = keyword_of kind ++ spaced (words_after_name name kind)
+later_text n limit name (Unknown growth) = none_text limit (n + limit) growth
 
 -- how a comment on the plane n generations on from a pattern begins
 abbrev pub later_head : (n : ℕ) → List ℕ → List ℕ
 later_head n name = codes "# " ++ (escaped name ++ ((codes " after " ++ decimal n) ++ (generations_word n ++ codes ": ")))
 
 abbrev pub later_line : (n limit : ℕ) → List ℕ → Identity → List ℕ
-later_line n limit name identity = later_head n name ++ (later_text n limit identity ++ 10 ∷ [])
+later_line n limit name identity = later_head n name ++ (later_text n limit name identity ++ 10 ∷ [])
 
 -- the line of what is found: of the pattern, or of its plane n generations on
 abbrev pub found_line : (n limit : ℕ) → List ℕ → Identity → List ℕ

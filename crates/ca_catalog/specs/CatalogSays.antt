@@ -1,11 +1,10 @@
 -- What the text that `identify` prints says, read as a claim text.
-use Rattle.std.specs.Prelude.{◌≡◌, ℕ, List, [], ◌∷◌, ◌++◌, map, true, Option, None, Vec, nat_eq, if◌then◌else◌}
+use Rattle.std.specs.Prelude.{◌≡◌, ℕ, List, [], ◌∷◌, ◌++◌, map, true, Option, Vec, nat_eq, if◌then◌else◌}
 use Rattle.std.specs.declared.alloc.Global.{Global}
 use Rattle.std.specs.List.{flat_map, AllByRecursion}
 use Rattle.ca_text.specs.declared.kind.Kind.{Kind}
-use Rattle.ca_text.specs.declared.kind.Kind.TheVariants as kind
 use Rattle.ca_answers.specs.declared.identity.Identity.{Identity}
-use Rattle.ca_answers.specs.declared.identity.Identity.TheVariants.{Empty, StillLife, Oscillator, Spaceship, Dies, Unknown}
+use Rattle.ca_answers.specs.declared.identity.Identity.TheVariants.{Empty, Claim, Unknown}
 use Rattle.ca_text.specs.Both.{twice}
 use Rattle.ca_text.specs.Text.{ClaimTextLine, Version, Rule, Load, Claims, IsClaimText, said_lines}
 use Rattle.ca_catalog.specs.declared.entry.Outcome.{Outcome}
@@ -24,10 +23,7 @@ claim_line name kind = Claims (record { patterns = twice name; kind = kind })
 -- the claim that says what a pattern is; none where none of them is true of it
 abbrev pub identity_says : List ℕ → Identity → List ClaimTextLine
 identity_says name Empty = []
-identity_says name StillLife = claim_line name kind.Still ∷ []
-identity_says name (Oscillator period) = claim_line name (kind.Oscillator period) ∷ []
-identity_says name (Spaceship period dx dy) = claim_line name (kind.Spaceship period dx dy) ∷ []
-identity_says name (Dies generations) = claim_line name (kind.Dies generations) ∷ []
+identity_says name (Claim kind) = claim_line name kind ∷ []
 identity_says name (Unknown growth) = []
 
 -- the same where it is found of the pattern itself; of its plane some generations on no line is a claim

@@ -1,9 +1,9 @@
 //! The lines of a claim text on the files that were to be identified.
 
-ghost use Rattle.std.specs.Prelude.{◌≡◌, ◌+◌, ◌<◌, ◌^◌, ◌++◌, ◌∷◌, [], codes, decimal, OnOk};
-ghost use Rattle.std.specs.Fmt.{signed_decimal};
+ghost use Rattle.std.specs.Prelude.{◌≡◌, ◌+◌, ◌<◌, ◌^◌, ◌++◌, ◌∷◌, [], OnOk};
 ghost use Rattle.ca_answers.specs.declared.identity.Identity.TheVariants.{Unknown};
 ghost use Rattle.ca_plane.specs.Puts.{Puts};
+ghost use Rattle.ca_text.specs.Kinds.{keyword_of, words_after_name, spaced};
 ghost use Rattle.ca_catalog.specs.Catalog.{load_line, identity_line, refused_line, unnameable_line, later_text};
 ghost use Rattle.ca_catalog.specs.Catalog.{later_head, later_line, found_line, code_comment, code_line};
 ghost use Rattle.ca_catalog.specs.Catalog.{identified_lines, entry_lines, rule_line};
@@ -20,6 +20,7 @@ use ca_report::{
     Piece, at_pieces, cause_pieces, generations_word, in_pieces, push_counted, push_escaped,
     push_pieces,
 };
+use ca_text::Kind;
 
 fn load_pieces<'a>(name: &'a [u8], path: &'a [u8]) -> [Piece<'a>; 5]
     ensures { pieces_text result ≡ load_line name.now path.now }
@@ -27,21 +28,16 @@ fn load_pieces<'a>(name: &'a [u8], path: &'a [u8]) -> [Piece<'a>; 5]
     in_pieces![text b"load ", text name, text b" ", text path, text b"\n"]
 }
 
-// The line of a claim about one number of generations in pieces.
-fn number_pieces<'a>(word: &'a [u8], name: &'a [u8], number: u64) -> [Piece<'a>; 5]
-    ensures { pieces_text result ≡ word.now ++ (name.now ++ (32 ∷ (decimal number ++ 10 ∷ []))) }
+// Puts the line of a claim of this kind about the pattern of a name.
+fn push_claim(out: &mut Vec<u8>, name: &[u8], kind: Kind) -> Result<(), Memory>
+    ensures { OnOk result (Puts out.old.items out.new.items
+        (keyword_of kind ++ (32 ∷ (name.now ++ (spaced (words_after_name name.now kind) ++ 10 ∷ []))))) }
 {
-    in_pieces![text word, text name, text b" ", number number, text b"\n"]
-}
-
-fn spaceship_pieces<'a>(name: &'a [u8], period: u64, dx: i64, dy: i64) -> [Piece<'a>; 9]
-    ensures { pieces_text result ≡ codes "spaceship " ++ (name.now ++ (32 ∷ (decimal period
-        ++ (32 ∷ (signed_decimal dx ++ (32 ∷ (signed_decimal dy ++ 10 ∷ []))))))) }
-{
-    in_pieces![
-        text b"spaceship ", text name, text b" ", number period,
-        text b" ", integer dx, text b" ", integer dy, text b"\n",
-    ]
+    push_text(out, kind.keyword())?;
+    push_text(out, b" ")?;
+    push_text(out, name)?;
+    kind.push_words_after_name(out, name)?;
+    push_text(out, b"\n")
 }
 
 // Puts the comment on a pattern of which no claim is true within the limit.
@@ -69,41 +65,29 @@ fn push_identity(
             out,
             &in_pieces![text b"# ", escaped name, text b": no cell is live\n"],
         ),
-        Identity::StillLife => {
-            push_pieces(out, &in_pieces![text b"still ", text name, text b"\n"])
-        }
-        Identity::Oscillator { period } => {
-            push_pieces(out, &number_pieces(b"oscillator ", name, period))
-        }
-        Identity::Spaceship { period, dx, dy } => {
-            push_pieces(out, &spaceship_pieces(name, period, dx, dy))
-        }
-        Identity::Dies { generations } => {
-            push_pieces(out, &number_pieces(b"dies ", name, generations))
-        }
+        Identity::Claim(kind) => push_claim(out, name, kind),
         Identity::Unknown { growth } => push_unknown(out, limit, name, growth),
     }
 }
 
-// Puts what the plane of a pattern is found to be some generations on.
+// Puts what the plane of a pattern with this name is found to be some generations on.
 fn push_later_text(
     out: &mut Vec<u8>,
     generations: u64,
     limit: u64,
+    name: &[u8],
     identity: Identity,
 ) -> Result<(), Memory>
     requires { generations + limit < 2 ^ 64 }
-    ensures { OnOk result (Puts out.old.items out.new.items (later_text generations limit identity)) }
+    ensures { OnOk result (Puts out.old.items out.new.items
+        (later_text generations limit name.now identity)) }
 {
     match identity {
         Identity::Empty => push_text(out, b"no cell is live"),
-        Identity::StillLife => push_text(out, b"still"),
-        Identity::Oscillator { period } => push_counted(out, b"oscillator ", period),
-        Identity::Spaceship { period, dx, dy } => push_pieces(
-            out,
-            &in_pieces![text b"spaceship ", number period, text b" ", integer dx, text b" ", integer dy],
-        ),
-        Identity::Dies { generations } => push_counted(out, b"dies ", generations),
+        Identity::Claim(kind) => {
+            push_text(out, kind.keyword())?;
+            kind.push_words_after_name(out, name)
+        }
         Identity::Unknown { growth } => push_none(out, limit, generations + limit, growth),
     }
 }
@@ -132,7 +116,7 @@ fn push_later(
         (later_line generations limit name.now identity)) }
 {
     push_later_head(out, generations, name)?;
-    push_later_text(out, generations, limit, identity)?;
+    push_later_text(out, generations, limit, name, identity)?;
     push_text(out, b"\n")
 }
 

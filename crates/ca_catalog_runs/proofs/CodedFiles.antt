@@ -19,8 +19,9 @@ use Rattle.ca_pattern.proofs.CellsNearMiddle.{trimmed_low}
 use Rattle.ca_answers.specs.Identified.{IsIdentity}
 use Rattle.ca_identify.specs.TreeLooks.{IsTreeLook, TakesRunAndSearch}
 use Rattle.ca_evolution.specs.Steps.{TakesSteps}
+use Rattle.ca_text.specs.declared.kind.Kind.TheVariants.{Oscillator, Spaceship}
 use Rattle.ca_answers.specs.declared.identity.Identity.{Identity}
-use Rattle.ca_answers.specs.declared.identity.Identity.TheVariants.{Empty, StillLife, Oscillator, Spaceship, Dies, Unknown}
+use Rattle.ca_answers.specs.declared.identity.Identity.TheVariants.{Claim}
 use Rattle.ca_answers.specs.declared.scope.Scope.{Scope}
 use Rattle.ca_identify.specs.declared.tree_look.TreeLook.{TreeLook}
 use Rattle.ca_identify.proofs.LaterPlanes.{tree_picture}
@@ -33,21 +34,15 @@ use Rattle.ca_catalog_runs.specs.inner.Spent.{TakesRunAndTwice}
 
 -- a period that is found is a good one
 good_period : (next : List ℕ → ℕ) (cells : Picture) (limit : ℕ) (identity : Identity) → IsIdentity next cells limit identity → HasGoodPeriod identity
-good_period next cells limit Empty is = tt
-good_period next cells limit StillLife is = tt
-good_period next cells limit (Oscillator period) is = (let some = is.numbers.0 in omega (arith, some), is.numbers.1)
-good_period next cells limit (Spaceship period dx dy) is = (is.numbers.0, is.numbers.1)
-good_period next cells limit (Dies generations) is = tt
-good_period next cells limit (Unknown growth) is = tt
+good_period next cells limit (Claim (Oscillator period)) (own, is) = (let some = is.numbers.0 in omega (arith, some), is.numbers.1)
+good_period next cells limit (Claim (Spaceship period dx dy)) (own, is) = (is.numbers.0, is.numbers.1)
+good_period next cells limit identity is = tt
 
 -- and the steps through it are no more than the generations that were looked at
 few_steps : (next : List ℕ → ℕ) (cells : Picture) (limit : ℕ) (identity : Identity) → IsIdentity next cells limit identity → steps_of identity ≤ limit
-few_steps next cells limit Empty is = omega arith
-few_steps next cells limit StillLife is = omega arith
-few_steps next cells limit (Oscillator period) is = let within = is.within in omega (arith, within)
-few_steps next cells limit (Spaceship period dx dy) is = let within = is.within in omega (arith, within)
-few_steps next cells limit (Dies generations) is = omega arith
-few_steps next cells limit (Unknown growth) is = omega arith
+few_steps next cells limit (Claim (Oscillator period)) (own, is) = let within = is.within in omega (arith, within)
+few_steps next cells limit (Claim (Spaceship period dx dy)) (own, is) = let within = is.within in omega (arith, within)
+few_steps next cells limit identity is = omega arith
 
 -- what is found of the plane of a tree has both
 module _ (next : List ℕ → ℕ) (old new : List Node) (pattern : Tree) (n : ℕ) (scope : Scope) (found : TreeLook)

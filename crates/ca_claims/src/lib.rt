@@ -14,7 +14,7 @@ pub use ca_pattern::{
 };
 pub use ca_plane::limits::MOST_MEMO;
 pub use ca_text::{
-    ClaimFault, Claims, WordSet, no_fault_in_claim_text, one_fault, one_meaning, read_claims,
+    ClaimFault, Claims, Kind, WordSet, no_fault_in_claim_text, one_fault, one_meaning, read_claims,
     worked_examples,
 };
 pub use ca_verify::{Judge, verdict_laws, verify};

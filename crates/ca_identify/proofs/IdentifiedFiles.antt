@@ -16,7 +16,7 @@ use Rattle.ca_text.specs.declared.asks.Forbidden.{Forbidden}
 use Rattle.ca_text.specs.declared.asks.Forbidden.TheVariants.{Nothing, InPlace, Anywhere, EmptyPlane}
 use Rattle.ca_text.specs.declared.kind.Kind.{Kind}
 use Rattle.ca_answers.specs.declared.identity.Identity.{Identity}
-use Rattle.ca_answers.specs.declared.identity.Identity.TheVariants.{Empty, StillLife, Oscillator, Spaceship, Dies, Unknown}
+use Rattle.ca_answers.specs.declared.identity.Identity.TheVariants.{Empty, Claim, Unknown}
 use Rattle.ca_answers.specs.declared.scope.Scope.{Scope}
 use Rattle.ca_answers.specs.declared.scope.Look.{Look}
 use Rattle.ca_pattern.specs.declared.pattern.Pattern.{Pattern}
@@ -87,10 +87,7 @@ module _ (next : List ℕ → ℕ) (p q : Picture) (same : (x y : ℤ) → plane
 
   pub same_identity : (identity : Identity) → IsIdentity next p limit identity → IsIdentity next q limit identity
   same_identity Empty dead = λ live. dead (same_live next q p other_way live)
-  same_identity StillLife true = same_within next p q same limit _ true
-  same_identity (Oscillator period) true = same_within next p q same limit _ true
-  same_identity (Spaceship period dx dy) true = same_within next p q same limit _ true
-  same_identity (Dies generations) true = same_within next p q same limit _ true
+  same_identity (Claim kind) (own, true) = (own, same_within next p q same limit kind true)
   same_identity (Unknown growth) (live, none, later, stands, grown) = (
     same_live next p q same live,
     (λ kind one some within true. none kind one some within (same_claim next q p other_way (asks_of kind) true)),

@@ -15,14 +15,16 @@ use Rattle.ca_plane.proofs.After.{after_same, after_seen}
 use Rattle.ca_steps.proofs.Returns.{after_stands, back_times, vector_times}
 use Rattle.ca_steps.proofs.Vectors.{no_vector, live-moved}
 use Rattle.ca_text.specs.declared.asks.Forbidden.TheVariants.{InPlace, Anywhere, EmptyPlane}
-use Rattle.ca_text.specs.declared.kind.Kind.TheVariants as kind
+use Rattle.ca_text.specs.declared.kind.Kind.{Kind}
+use Rattle.ca_text.specs.declared.kind.Kind.TheVariants.{Still, Oscillator, Spaceship, Becomes, BecomesShifted, Dies}
 use Rattle.ca_answers.specs.declared.identity.Growth.{Growth}
 use Rattle.ca_answers.specs.declared.identity.Identity.{Identity}
-use Rattle.ca_answers.specs.declared.identity.Identity.TheVariants.{Empty, StillLife, Oscillator, Spaceship, Dies, Unknown}
+use Rattle.ca_answers.specs.declared.identity.Identity.TheVariants.{Empty, Claim, Unknown}
 use Rattle.ca_pattern.specs.declared.located_fault.LocatedFault.{LocatedFault}
 use Rattle.ca_pattern.specs.declared.located_fault.LocatedFault.TheVariants.{Work, Memory}
 use Rattle.ca_pattern.specs.LocatedFaults.{IsOpeningFault, IsSameFault}
-use Rattle.ca_answers.specs.Identified.{IsGrowth, IsIdentity, IsIdentityAfter, IsIdentifiedAfter, IsUnidentifiedAfter}
+use Rattle.ca_answers.specs.Identified.{AreOfNoOther, IsTrueWithin, IsGrowth, IsIdentity, IsIdentityAfter, IsIdentifiedAfter, IsUnidentifiedAfter}
+use Rattle.ca_text.specs.Kinds.{asks_of}
 use Rattle.ca_text.specs.Truth.{ShowsNothingForbidden}
 use Rattle.ca_identify.proofs.IdentifiedFiles.{same_identity}
 use Rattle.ca_pattern.proofs.OneConversion.{one_box}
@@ -97,54 +99,84 @@ one_first Shown Hidden not_both m n first other shows shows_too before before_to
       | inr (inr more) ↦ absurd (not_both n shows_too (before n other more))
     ]
 
--- ---- identities
+-- ---- claims
 
--- the place of an identity in an order
-abbrev place : Identity → ℕ
-place Empty = 0
-place (Dies generations) = 1
-place StillLife = 2
-place (Oscillator period) = 3
-place (Spaceship period dx dy) = 4
-place (Unknown growth) = 5
-
-last_place : (a : Identity) → place a ≤ 5
-last_place Empty = omega arith
-last_place (Dies generations) = omega arith
-last_place StillLife = omega arith
-last_place (Oscillator period) = omega arith
-last_place (Spaceship period dx dy) = omega arith
-last_place (Unknown growth) = omega arith
+-- the place of a kind in an order
+abbrev place : Kind → ℕ
+place (Dies generations) = 0
+place Still = 1
+place (Oscillator period) = 2
+place (Spaceship period dx dy) = 3
+place (Becomes generations) = 4
+place (BecomesShifted generations dx dy) = 5
 
 module _ (next : List ℕ → ℕ) (cells : Picture) (limit : ℕ) where
-  -- a pattern that isn't empty is live
-  live_of : (a : Identity) → 1 ≤ place a → IsIdentity next cells limit a → IsLive cells
-  live_of Empty some is = absurd (omega (arith, some))
-  live_of (Dies n) some is = is.holds.live refl
-  live_of StillLife some is = is.holds.live refl
-  live_of (Oscillator p) some is = is.holds.live refl
-  live_of (Spaceship p dx dy) some is = is.holds.live refl
-  live_of (Unknown growth) some is = is.0
+  -- a claim about the pattern alone is true of it
+  abbrev IsTrueAlone : Kind → Type 0
+  IsTrueAlone kind = AreOfNoOther (asks_of kind).expected × IsTrueWithin next cells limit kind
 
-  -- of two kinds of identity one alone is that of a pattern
-  one_kind : (a b : Identity) → place a < place b → IsIdentity next cells limit a → IsIdentity next cells limit b → ⊥
-  one_kind Empty b less dead is = dead (live_of b (omega (arith, less)) is)
-  one_kind (Dies n) StillLife less dies is = dead_or_back next cells (is.holds.live refl) n 1 (pos 0) (pos 0) (omega arith) dies.holds.stands is.holds.stands
-  one_kind (Dies n) (Oscillator p) less dies is = dead_or_back next cells (is.holds.live refl) n p (pos 0) (pos 0) (omega (arith, is.numbers.0)) dies.holds.stands is.holds.stands
-  one_kind (Dies n) (Spaceship p dx dy) less dies is = dead_or_back next cells (is.holds.live refl) n p dx dy is.numbers.0 dies.holds.stands is.holds.stands
-  one_kind (Dies n) (Unknown growth) less is unknown = unknown.1 (kind.Dies n) tt is.numbers.0 is.within is.holds
-  one_kind StillLife (Oscillator p) less still is = back next cells InPlace 1 (pos 0) (pos 0) (refl, refl) still.holds.stands (is.holds.least 1 (omega arith) (omega (arith, is.numbers.0)))
-  one_kind StillLife (Spaceship p dx dy) less still is =
+  -- which is live then,
+  claimed_live : (a : Kind) → IsTrueAlone a → IsLive cells
+  claimed_live (Becomes n) (own, is) = absurd own
+  claimed_live (BecomesShifted n dx dy) (own, is) = absurd own
+  claimed_live a (own, is) = is.holds.live refl
+
+  -- and the claim's time is some generations on
+  claimed_some : (a : Kind) → IsTrueAlone a → 1 ≤ (asks_of a).generations
+  claimed_some Still (own, is) = omega arith
+  claimed_some (Oscillator p) (own, is) = omega (arith, is.numbers.0)
+  claimed_some (Spaceship p dx dy) (own, is) = is.numbers.0
+  claimed_some (Dies n) (own, is) = is.numbers.0
+  claimed_some a (own, is) = absurd own
+
+  -- of two kinds one alone is that of a true claim
+  one_kind : (a b : Kind) → place a < place b → IsTrueAlone a → IsTrueAlone b → ⊥
+  one_kind a (Becomes n) less h (own, is) = own
+  one_kind a (BecomesShifted n dx dy) less h (own, is) = own
+  one_kind (Dies n) Still less (own, dies) (alone, is) = dead_or_back next cells (is.holds.live refl) n 1 (pos 0) (pos 0) (omega arith) dies.holds.stands is.holds.stands
+  one_kind (Dies n) (Oscillator p) less (own, dies) (alone, is) =
+      dead_or_back next cells (is.holds.live refl) n p (pos 0) (pos 0) (omega (arith, is.numbers.0)) dies.holds.stands is.holds.stands
+  one_kind (Dies n) (Spaceship p dx dy) less (own, dies) (alone, is) = dead_or_back next cells (is.holds.live refl) n p dx dy is.numbers.0 dies.holds.stands is.holds.stands
+  one_kind Still (Oscillator p) less (own, still) (alone, is) =
+      back next cells InPlace 1 (pos 0) (pos 0) (refl, refl) still.holds.stands (is.holds.least 1 (omega arith) (omega (arith, is.numbers.0)))
+  one_kind Still (Spaceship p dx dy) less (own, still) (alone, is) =
       let none = placed_or_moved next cells (is.holds.live refl) 1 p dx dy (omega arith) still.holds.stands is.holds.stands in
       is.numbers.4 none.0 none.1
-  one_kind StillLife (Unknown growth) less is unknown = unknown.1 kind.Still tt (omega arith) is.within is.holds
-  one_kind (Oscillator q) (Spaceship p dx dy) less back_there is =
+  one_kind (Oscillator q) (Spaceship p dx dy) less (own, back_there) (alone, is) =
       let none = placed_or_moved next cells (is.holds.live refl) q p dx dy (omega (arith, back_there.numbers.0)) back_there.holds.stands is.holds.stands in
       is.numbers.4 none.0 none.1
-  one_kind (Oscillator p) (Unknown growth) less is unknown = unknown.1 (kind.Oscillator p) tt (omega (arith, is.numbers.0)) is.within is.holds
-  one_kind (Spaceship p dx dy) (Unknown growth) less is unknown = unknown.1 (kind.Spaceship p dx dy) tt is.numbers.0 is.within is.holds
-  one_kind (Unknown growth) b less h k = absurd (omega (arith, less, last_place b))
   one_kind a b less h k = absurd (omega (arith, less))
+
+  -- and two of one kind are one
+  same_kind : (a b : Kind) → place a ≡ place b → IsTrueAlone a → IsTrueAlone b → a ≡ b
+  same_kind (Becomes n) b e (own, h) k = absurd own
+  same_kind (BecomesShifted n dx dy) b e (own, h) k = absurd own
+  same_kind (Dies m) (Dies n) e (own, h) (alone, k) =
+      ap Dies (one_first (λ t. IsAfter next cells t []) (ShowsNothingForbidden next cells EmptyPlane) (λ t empty live. live.2 (empty live.0 live.1)) m n
+      h.numbers.0 k.numbers.0 h.holds.stands k.holds.stands h.holds.least k.holds.least)
+  same_kind Still Still e h k = refl
+  same_kind (Oscillator p) (Oscillator q) e (own, h) (alone, k) =
+      ap Oscillator (one_first (λ t. IsAfter next cells t (shifted cells (pos 0) (pos 0))) (ShowsNothingForbidden next cells InPlace) (λ t. back next cells InPlace t (pos 0) (pos 0) (refl, refl)) p q
+      (omega (arith, h.numbers.0)) (omega (arith, k.numbers.0)) h.holds.stands k.holds.stands h.holds.least k.holds.least)
+  same_kind (Spaceship p dx dy) (Spaceship q u v) e (own, h) (alone, k) =
+      let time = one_first (λ t. (x : ℤ) × (y : ℤ) × IsAfter next cells t (shifted cells x y)) (ShowsNothingForbidden next cells Anywhere) (λ t there. back next cells Anywhere t there.0 there.1 tt there.2) p q
+      h.numbers.0 k.numbers.0 (dx, dy, h.holds.stands) (u, v, k.holds.stands) h.holds.least k.holds.least in
+      let vector = one_vector cells dx dy u v (h.holds.live refl) (λ x y. sym (h.holds.stands x y) ∙ ap (λ t. after next cells t x y) time ∙ k.holds.stands x y) in
+      let right = vector.0 in
+      let down = vector.1 in
+      λ i. Spaceship (time i) (right i) (down i)
+  same_kind a b e h k = let no : ⊥ = omega (arith, e) in absurd no
+
+  -- so one claim about a pattern is true
+  one_claim : (a b : Kind) → IsTrueAlone a → IsTrueAlone b → a ≡ b
+  one_claim a b h k =
+      elim (cases_order (place a) (place b)) [
+        | inl e ↦ same_kind a b e h k
+        | inr (inl less) ↦ absurd (one_kind a b less h k)
+        | inr (inr more) ↦ absurd (one_kind b a more k h)
+      ]
+
+  -- ---- identities
 
   -- a plane has grown so far in one way
   one_growth : (p q : Picture) (a b : Growth) → IsSame p q → IsGrowth p a → IsGrowth q b → a ≡ b
@@ -153,34 +185,22 @@ module _ (next : List ℕ → ℕ) (cells : Picture) (limit : ℕ) where
       let box = one_box q a.bounds b.bounds (box_shown p q same a.bounds one.bounds) two.bounds in
       λ i. record { cells = count i; bounds = box i }
 
-  -- and two of one kind are one
-  same_kind : (a b : Identity) → place a ≡ place b → IsIdentity next cells limit a → IsIdentity next cells limit b → a ≡ b
-  same_kind Empty Empty e h k = refl
-  same_kind (Dies m) (Dies n) e h k =
-      ap Dies (one_first (λ t. IsAfter next cells t []) (ShowsNothingForbidden next cells EmptyPlane) (λ t empty live. live.2 (empty live.0 live.1)) m n
-      h.numbers.0 k.numbers.0 h.holds.stands k.holds.stands h.holds.least k.holds.least)
-  same_kind StillLife StillLife e h k = refl
-  same_kind (Oscillator p) (Oscillator q) e h k =
-      ap Oscillator (one_first (λ t. IsAfter next cells t (shifted cells (pos 0) (pos 0))) (ShowsNothingForbidden next cells InPlace) (λ t. back next cells InPlace t (pos 0) (pos 0) (refl, refl)) p q
-      (omega (arith, h.numbers.0)) (omega (arith, k.numbers.0)) h.holds.stands k.holds.stands h.holds.least k.holds.least)
-  same_kind (Spaceship p dx dy) (Spaceship q u v) e h k =
-      let time = one_first (λ t. (x : ℤ) × (y : ℤ) × IsAfter next cells t (shifted cells x y)) (ShowsNothingForbidden next cells Anywhere) (λ t there. back next cells Anywhere t there.0 there.1 tt there.2) p q
-      h.numbers.0 k.numbers.0 (dx, dy, h.holds.stands) (u, v, k.holds.stands) h.holds.least k.holds.least in
-      let vector = one_vector cells dx dy u v (h.holds.live refl) (λ x y. sym (h.holds.stands x y) ∙ ap (λ t. after next cells t x y) time ∙ k.holds.stands x y) in
-      let right = vector.0 in
-      let down = vector.1 in
-      λ i. Spaceship (time i) (right i) (down i)
-  same_kind (Unknown a) (Unknown b) e (live, none, p, is, grown) (lives, nothing, q, is_too, grows) = ap Unknown (one_growth p q a b (λ x y. sym (is x y) ∙ is_too x y) grown grows)
-  same_kind a b e h k = let no : ⊥ = omega (arith, e) in absurd no
+  -- no claim is true of a pattern of which none is
+  none_claimed : (a : Kind) (growth : Growth) → IsTrueAlone a → IsIdentity next cells limit (Unknown growth) → ⊥
+  none_claimed a growth (own, is) unknown = unknown.1 a own (claimed_some a (own, is)) is.within is.holds
 
   -- so a pattern has one identity
   pub one_identity : (a b : Identity) → IsIdentity next cells limit a → IsIdentity next cells limit b → a ≡ b
-  one_identity a b h k =
-      elim (cases_order (place a) (place b)) [
-        | inl e ↦ same_kind a b e h k
-        | inr (inl less) ↦ absurd (one_kind a b less h k)
-        | inr (inr more) ↦ absurd (one_kind b a more k h)
-      ]
+  one_identity Empty Empty h k = refl
+  one_identity Empty (Claim b) dead k = absurd (dead (claimed_live b k))
+  one_identity Empty (Unknown b) dead k = absurd (dead k.0)
+  one_identity (Claim a) Empty h dead = absurd (dead (claimed_live a h))
+  one_identity (Claim a) (Claim b) h k = ap Claim (one_claim a b h k)
+  one_identity (Claim a) (Unknown b) h k = absurd (none_claimed a b h k)
+  one_identity (Unknown a) Empty h dead = absurd (dead h.0)
+  one_identity (Unknown a) (Claim b) h k = absurd (none_claimed b a k h)
+  one_identity (Unknown a) (Unknown b) (live, none, p, is, grown) (lives, nothing, q, is_too, grows) =
+      ap Unknown (one_growth p q a b (λ x y. sym (is x y) ∙ is_too x y) grown grows)
 
 -- and its plane has one some generations on
 pub one_identity_after : (next : List ℕ → ℕ) (cells : Picture) (n limit : ℕ) (a b : Identity) → IsIdentityAfter next cells n limit a → IsIdentityAfter next cells n limit b → a ≡ b

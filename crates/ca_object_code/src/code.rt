@@ -15,10 +15,11 @@ ghost use Rattle.ca_answers.specs.Codes.{IsCodeOf, IsNoObject, HasGoodPeriod, st
 
 use crate::phases::least_of_phases;
 use ca_answers::Identity;
-use ca_apgcode::{Kind, object_code};
+use ca_apgcode::{Kind as ObjectKind, object_code};
 use ca_plane::Automaton;
 use ca_quad::Tree;
 use ca_run::{LeapFault, Leaper};
+use ca_text::Kind;
 use std::alloc::Global;
 
 /// The code of a plane (LifeWiki, "Apgcode"), from its tree and what it was found to be, where that is a still life, an
@@ -47,28 +48,28 @@ pub fn code_of_tree<A: Automaton>(
     // Says what holds of every leaper.
     let _ = leaper.store();
     match identity {
-        Identity::StillLife => {
+        Identity::Claim(Kind::Still) => {
             let cells = leaper.store().population(alloc, *pattern)?;
-            let code = code_of_phases(alloc, leaper, pattern, Kind::StillLife, cells, 1)?;
+            let code = code_of_phases(alloc, leaper, pattern, ObjectKind::StillLife, cells, 1)?;
             Ok(Some(code))
         }
-        Identity::Oscillator { period } => {
+        Identity::Claim(Kind::Oscillator { period }) => {
             let code = code_of_phases(
                 alloc,
                 leaper,
                 pattern,
-                Kind::Oscillator,
+                ObjectKind::Oscillator,
                 u128::from(period),
                 period,
             )?;
             Ok(Some(code))
         }
-        Identity::Spaceship { period, .. } => {
+        Identity::Claim(Kind::Spaceship { period, .. }) => {
             let code = code_of_phases(
                 alloc,
                 leaper,
                 pattern,
-                Kind::Spaceship,
+                ObjectKind::Spaceship,
                 u128::from(period),
                 period,
             )?;
@@ -83,7 +84,7 @@ fn code_of_phases<A: Automaton>(
     alloc: Global,
     leaper: &mut Leaper<A>,
     pattern: &Tree,
-    kind: Kind,
+    kind: ObjectKind,
     number: u128,
     count: u64,
 ) -> Result<Vec<u8>, LeapFault>

@@ -17,10 +17,11 @@ ghost use Rattle.ca_object_code.specs.inner.Large.{IsBackBy};
 use crate::large::is_too_large;
 use crate::small::least_of_small;
 use ca_answers::Identity;
-use ca_apgcode::{Kind, object_code};
+use ca_apgcode::{Kind as ObjectKind, object_code};
 use ca_plane::{Automaton, Counting};
 use ca_quad::{SquareBoxes, Tree};
 use ca_run::{LeapFault, Leaper};
+use ca_text::Kind;
 use std::alloc::Global;
 
 /// The code of an oscillator or a spaceship that is so large that no phase fits into 40 by 40 cells, or whose phases all do, where
@@ -46,11 +47,18 @@ pub fn quick_code<A: Automaton>(
     // Says what holds of every leaper.
     let _ = leaper.store();
     match identity {
-        Identity::Oscillator { period } => {
-            code_of_phases(alloc, leaper, tree, Kind::Oscillator, period, counting)
+        Identity::Claim(Kind::Oscillator { period }) => {
+            code_of_phases(
+                alloc,
+                leaper,
+                tree,
+                ObjectKind::Oscillator,
+                period,
+                counting,
+            )
         }
-        Identity::Spaceship { period, .. } => {
-            code_of_phases(alloc, leaper, tree, Kind::Spaceship, period, counting)
+        Identity::Claim(Kind::Spaceship { period, .. }) => {
+            code_of_phases(alloc, leaper, tree, ObjectKind::Spaceship, period, counting)
         }
         _ => Ok(None),
     }
@@ -61,7 +69,7 @@ fn code_of_phases<A: Automaton>(
     alloc: Global,
     leaper: &mut Leaper<A>,
     tree: &Tree,
-    kind: Kind,
+    kind: ObjectKind,
     period: u64,
     counting: Option<Counting>,
 ) -> Result<Option<Vec<u8>>, LeapFault>

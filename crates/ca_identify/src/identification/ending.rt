@@ -7,6 +7,7 @@ ghost use Rattle.ca_answers.specs.Identified.{IsIdentity};
 ghost use Rattle.ca_identify.specs.inner.Stages.{IsReturn, IsEnding, generations_of};
 
 use ca_answers::Identity;
+use ca_text::Kind;
 
 /// What a live pattern's plane shows after these generations, and at no earlier time, starting at 1.
 #[derive(Clone, Copy)]
@@ -31,7 +32,7 @@ pub(super) fn identity_of(ending: Ending) -> Identity
         → limit ≤ longest_period → IsEnding next cells ending → IsIdentity next cells limit result }
 {
     match ending {
-        Ending::Death { generations } => Identity::Dies { generations },
+        Ending::Death { generations } => Identity::Claim(Kind::Dies { generations }),
         Ending::Return(again) => identity_of_return(again),
     }
 }
@@ -47,16 +48,16 @@ pub(super) fn identity_of_return(again: Recurrence) -> Identity
         dy,
     } = again;
     if dx != 0 || dy != 0 {
-        return Identity::Spaceship {
+        return Identity::Claim(Kind::Spaceship {
             period: generations,
             dx,
             dy,
-        };
+        });
     }
     if generations == 1 {
-        return Identity::StillLife;
+        return Identity::Claim(Kind::Still);
     }
-    Identity::Oscillator {
+    Identity::Claim(Kind::Oscillator {
         period: generations,
-    }
+    })
 }

@@ -6,6 +6,7 @@ use ca_identify::identify;
 use ca_pattern::{Limits, LocatedFault};
 use ca_plane::Bounds;
 use ca_run::Unwatched;
+use ca_text::Kind;
 use std::alloc::Global;
 use std::test::*;
 
@@ -28,32 +29,60 @@ const PERIOD_57960: &[u8] = b"x = 4000029, y = 4000011\n\
 /// Patterns, limits of generations, and what they are.
 const IDENTITIES: &[(&[u8], u64, Identity)] = &[
     (b"x = 0, y = 0\n!", 1, Identity::Empty),
-    (b"x = 2, y = 2\n2o$2o!", 1, Identity::StillLife),
-    (b"x = 2, y = 2\n2o$2o!", 4294967295, Identity::StillLife),
-    (b"x = 3, y = 1\n3o!", 2, Identity::Oscillator { period: 2 }),
-    (PENTADECATHLON, 15, Identity::Oscillator { period: 15 }),
-    (PENTADECATHLON, 65536, Identity::Oscillator { period: 15 }),
+    (b"x = 2, y = 2\n2o$2o!", 1, Identity::Claim(Kind::Still)),
+    (
+        b"x = 2, y = 2\n2o$2o!",
+        4294967295,
+        Identity::Claim(Kind::Still),
+    ),
+    (
+        b"x = 3, y = 1\n3o!",
+        2,
+        Identity::Claim(Kind::Oscillator { period: 2 }),
+    ),
+    (
+        PENTADECATHLON,
+        15,
+        Identity::Claim(Kind::Oscillator { period: 15 }),
+    ),
+    (
+        PENTADECATHLON,
+        65536,
+        Identity::Claim(Kind::Oscillator { period: 15 }),
+    ),
     (
         GLIDER,
         4,
-        Identity::Spaceship {
+        Identity::Claim(Kind::Spaceship {
             period: 4,
             dx: 1,
             dy: 1,
-        },
+        }),
     ),
     (
         b"x = 5, y = 4\nbo2bo$o$o3bo$4o!",
         65536,
-        Identity::Spaceship {
+        Identity::Claim(Kind::Spaceship {
             period: 4,
             dx: -2,
             dy: 0,
-        },
+        }),
     ),
-    (b"x = 1, y = 1\no!", 1, Identity::Dies { generations: 1 }),
-    (DIEHARD, 130, Identity::Dies { generations: 130 }),
-    (PERIOD_57960, 65536, Identity::Oscillator { period: 57960 }),
+    (
+        b"x = 1, y = 1\no!",
+        1,
+        Identity::Claim(Kind::Dies { generations: 1 }),
+    ),
+    (
+        DIEHARD,
+        130,
+        Identity::Claim(Kind::Dies { generations: 130 }),
+    ),
+    (
+        PERIOD_57960,
+        65536,
+        Identity::Claim(Kind::Oscillator { period: 57960 }),
+    ),
 ];
 
 /// Patterns of which no claim is true within a limit, the number of cells that are live then, and the smallest box round them.

@@ -5,7 +5,7 @@ use Rattle.ca_identify.proofs.identification.ending.identity_of.Goals as goal
 
 pub returns-in-Death : goal.returns-in-Death
 returns-in-Death c = λ next cells limit within short is.
-    death_true next cells limit c.in-Death.generations (subst (λ e. generations_of e ≤ limit) c.in-Death.is within) short (subst (IsEnding next cells) c.in-Death.is is)
+    (tt, death_true next cells limit c.in-Death.generations (subst (λ e. generations_of e ≤ limit) c.in-Death.is within) short (subst (IsEnding next cells) c.in-Death.is is))
 
 pub returns-in-Return : goal.returns-in-Return
 returns-in-Return c = λ next cells limit within short is.
