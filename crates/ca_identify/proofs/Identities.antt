@@ -1,5 +1,5 @@
 -- Which claims are true of pictures, by what their planes show after one generation after the other.
-use Rattle.std.proofs.Common.{◌≡◌, ◌≢◌, ℕ, zero, suc, ◌+◌, ◌-◌, ◌≤◌, ◌<◌, List, [], Result, Some, None, refl, sym, ap, subst, ◌∙◌, arith}
+use Rattle.std.proofs.Common.{◌≡◌, ◌≢◌, ℕ, zero, suc, ◌+◌, ◌≤◌, ◌<◌, List, [], Result, Some, None, refl, sym, ap, subst, ◌∙◌, arith}
 use Rattle.std.specs.Prelude.{ℤ, pos, ◌-ℤ◌, replicate, IfOk}
 use Rattle.std.proofs.lemmas.Int.{ints}
 use Rattle.std.proofs.lemmas.Option.{none-some, same_Some}
@@ -15,7 +15,7 @@ use Rattle.ca_work.specs.declared.fault.LeapFault.{LeapFault}
 use Rattle.ca_plane.proofs.After.{after_same}
 use Rattle.ca_text.specs.declared.kind.Kind.TheVariants as kind
 use Rattle.ca_identify.specs.declared.identification.ending.Ending.{Ending}
-use Rattle.ca_identify.specs.declared.identification.ending.Ending.TheVariants.{Death, Return}
+use Rattle.ca_identify.specs.declared.identification.ending.Ending.TheVariants.{Death}
 use Rattle.ca_identify.specs.declared.identification.ending.Recurrence.{Recurrence}
 use Rattle.ca_identify.specs.declared.identification.stage.First.{First}
 use Rattle.ca_identify.specs.declared.identification.stage.Stage.{Stage}
@@ -27,7 +27,7 @@ use Rattle.ca_answers.specs.declared.scope.Scope.{Scope}
 use Rattle.ca_answers.specs.Identified.{IsIdentity, IsTrueWithin, HasNoTrueClaim, IsLook, MayNeedWork}
 use Rattle.ca_plane.specs.Limits.{longest_period}
 use Rattle.ca_text.specs.Truth.{IsChanged, IsNowhere}
-use Rattle.ca_identify.specs.inner.Stages.{IsFirst, IsStage, IsReturn, IsGrowthOf, AreMoved, AreMovedNowhere, AreOtherUpTo, IsFirstAgain, IsEnding, ending_of, generations_of, HasNoReturn, TakesSearch}
+use Rattle.ca_identify.specs.inner.Stages.{IsFirst, IsStage, IsReturn, IsGrowthOf, AreMoved, AreMovedNowhere, AreOtherUpTo, IsEnding, ending_of, generations_of, HasNoReturn, TakesSearch}
 use Rattle.ca_pattern.specs.LaterTrees.{IsLaterTree}
 use Rattle.ca_pattern.specs.PatternTrees.{ShowsTree, HasLive}
 use Rattle.ca_pattern.proofs.Deaths.{live_at_all}
@@ -187,30 +187,11 @@ module _ (next : List ℕ → ℕ) (quiet : next (replicate 9 0) ≡ 0) (nodes :
     found_ending (Back dx dy) ending is moved = subst (IsEnding next cells) (same_Some _ _ is) (found_return dx dy moved)
     found_ending Other ending is other = absurd (none-some _ is)
 
-  -- where it is the pattern, moved, after some generations for the first time, it is back then for the first time
-  pub found_again : (limit : ℕ) (again : Recurrence) → again.generations ≤ limit → limit ≤ longest_period → IsFirstAgain next p again → IsReturn next cells again
-  found_again limit again within short is_again =
-      let n = again.generations in
-      let some = is_again.some in
-      let last : n - 1 + 1 ≡ n = omega (arith, some) in
-      subst (λ k. IsReturn next cells (record { generations = k; dx = again.dx; dy = again.dy })) last
-      (found_return (n - 1) is_again.before limit (omega (arith, some, within)) short again.dx again.dy (subst (λ k. AreMoved p (cells_after next p k) again.dx again.dy) (sym last) is_again.moved))
-
 -- an ending is after so many generations
 pub ending_time : (stage : Stage) (n : ℕ) (ending : Ending) → ending_of stage n ≡ Some ending → generations_of ending ≡ n
 ending_time Empty n ending is = ap generations_of (sym (same_Some _ _ is))
 ending_time (Back dx dy) n ending is = ap generations_of (sym (same_Some _ _ is))
 ending_time Other n ending is = absurd (none-some _ is)
-
--- and the plane is as it says
-abbrev pub IsShown : (List ℕ → ℕ) → (ℤ → ℤ → ℕ) → Ending → Type 0
-IsShown next p (Death n) = IsDead (cells_after next p n)
-IsShown next p (Return again) = AreMoved p (cells_after next p again.generations) again.dx again.dy
-
-pub ending_shown : (next : List ℕ → ℕ) (p : ℤ → ℤ → ℕ) (stage : Stage) (n : ℕ) (ending : Ending) → ending_of stage n ≡ Some ending → IsStage p (cells_after next p n) stage → IsShown next p ending
-ending_shown next p Empty n ending is dead = subst (IsShown next p) (same_Some _ _ is) dead
-ending_shown next p (Back dx dy) n ending is moved = subst (IsShown next p) (same_Some _ _ is) moved
-ending_shown next p Other n ending is other = absurd (none-some _ is)
 
 -- and where there is none, the plane is live, and another one
 pub no_ending : (stage : Stage) (n : ℕ) → ending_of stage n ≡ None → stage ≡ Other

@@ -1,5 +1,5 @@
 -- Strides: what the plane at the end of one shows of the generations within it.
-use Rattle.std.proofs.Common.{◌≡◌, ℕ, zero, suc, ◌+◌, ◌-◌, ◌≤◌, ◌<◌, List, [], ◌∷◌, ◌++◌, length, take, Some, slice_get, inl, inr, refl, sym, subst, ap, ap₂, ◌∙◌, arith}
+use Rattle.std.proofs.Common.{◌≡◌, ◌≢◌, ℕ, zero, suc, ◌+◌, ◌-◌, ◌≤◌, ◌<◌, List, [], ◌∷◌, ◌++◌, length, take, Some, slice_get, inl, inr, refl, sym, subst, ap, ap₂, ◌∙◌, arith}
 use Rattle.std.specs.Prelude.{ℤ, neg_ℤ, ◌+ℤ◌, ◌-ℤ◌, replicate}
 use Rattle.std.proofs.lemmas.Int.{ints}
 use Rattle.std.proofs.lemmas.Option.{none-some, same_Some}
@@ -18,10 +18,11 @@ use Rattle.ca_quad.proofs.Trims.{trees_stay}
 use Rattle.ca_plane.proofs.After.{after_same, after_seen, after_again, after_dead}
 use Rattle.ca_steps.proofs.Returning.{settles_alike}
 use Rattle.ca_identify.specs.declared.identification.stage.First.{First}
-use Rattle.ca_identify.specs.declared.identification.stage.Stage.TheVariants.{Other}
+use Rattle.ca_identify.specs.declared.identification.stage.Stage.{Stage}
+use Rattle.ca_identify.specs.declared.identification.stage.Stage.TheVariants.{Empty, Back, Other}
 use Rattle.ca_identify.specs.declared.identification.strides.Stride.{Stride}
-use Rattle.ca_identify.specs.declared.identification.strides.Stride.TheVariants.{On, Again, Never, Dead}
-use Rattle.ca_identify.specs.inner.Stages.{AreMoved, AreMovedNowhere, AreOtherUpTo, IsEarly, AreEarly, IsStride}
+use Rattle.ca_identify.specs.declared.identification.strides.Stride.TheVariants.{On, End, Never, Dead}
+use Rattle.ca_identify.specs.inner.Stages.{AreMoved, AreMovedNowhere, IsStage, AreOtherUpTo, IsEarly, AreEarly, IsStride}
 use Rattle.ca_evolution.specs.Steps.{CanGoOn}
 use Rattle.ca_pattern.specs.LaterTrees.{IsLaterTree}
 use Rattle.ca_pattern.specs.PatternTrees.{HasLive}
@@ -44,7 +45,7 @@ module _ (next : List ℕ → ℕ) (p : ℤ → ℤ → ℕ) where
 
   module _ (quiet : next (replicate 9 0) ≡ 0) where
     -- a plane that is live was live some generations before
-    pub lived : (m k : ℕ) → HasLive (cells_after next p (m + k)) → HasLive (cells_after next p m)
+    lived : (m k : ℕ) → HasLive (cells_after next p (m + k)) → HasLive (cells_after next p m)
     lived m k live =
         elim (search_within (cells_after next p m) (λ _ _. 0) k live.0 live.1) [
           | inl none ↦ absurd (live.2 (sym (after_again next p m k live.0 live.1) ∙ after_dead next (cells_after next p m) quiet k live.0 live.1 none))
@@ -164,19 +165,18 @@ module _ (next : List ℕ → ℕ) (p : ℤ → ℤ → ℕ) (n end : ℕ) (with
   pub stride_tree : (new : List Node) (tree : Tree) → IsLaterTree next (cell nodes now) (end - n) new tree → IsLaterTree next p end new tree
   stride_tree new tree later = record { near = later.near; low = later.low; trimmed = later.trimmed; shows = λ x y. later.shows x y ∙ on_to_end x y }
 
+-- live cells that show no return are the first ones moved nowhere
+pub not_back : (first later : ℤ → ℤ → ℕ) (stage : Stage) → IsStage first later stage → HasLive later → ((dx dy : ℤ) → stage ≢ Back dx dy) → AreMovedNowhere first later
+not_back first later Empty dead live none = absurd (live.2 (dead live.0 live.1))
+not_back first later (Back dx dy) moved live none = absurd (none dx dy refl)
+not_back first later Other other live none = other.1
+
 -- what a stride shows of the first cells is what it shows of those that are the same
 pub stride_as : (next : List ℕ → ℕ) (p q : ℤ → ℤ → ℕ) (n : ℕ) (nodes : List Node) → ((x y : ℤ) → p x y ≡ q x y) → (stride : Stride) → IsStride next p n nodes stride → IsStride next q n nodes stride
 stride_as next p q n nodes same (On tree) told = (
   later_as next p q n nodes tree same told.0,
   λ m some within. stage_as p (cells_after next p m) q (cells_after next q m) same (λ x y. after_same next p q m same x y) Other (told.1 m some within),
 )
-stride_as next p q n nodes same (Again again) told = (
-  told.0,
-  record {
-    some = told.1.some;
-    before = λ k some within. stage_as p (cells_after next p k) q (cells_after next q k) same (λ x y. after_same next p q k same x y) Other (told.1.before k some within);
-    moved = moved_as p (cells_after next p again.generations) q (cells_after next q again.generations) same (λ x y. after_same next p q again.generations same x y) again.dx again.dy told.1.moved;
-  },
-)
+stride_as next p q n nodes same (End ending) told = (told.0, λ cells shows. told.1 cells (λ x y. shows x y ∙ sym (same x y)))
 stride_as next p q n nodes same Never told = λ m some. nowhere_as p (cells_after next p m) q (cells_after next q m) same (λ x y. after_same next p q m same x y) (told m some)
 stride_as next p q n nodes same Dead told = λ x y. sym (after_same next p q n same x y) ∙ told x y

@@ -2,6 +2,7 @@
 use Rattle.std.specs.Prelude.{◌≡◌, ℕ, ◌+◌, ◌-◌, ◌*◌, ◌^◌, ◌≤◌, ◌<◌, ℤ, List, Option, Some, None, slice_get}
 use Rattle.ca_plane.specs.declared.point.Bounds.{Bounds}
 use Rattle.ca_plane.specs.Plane.{Picture, IsLive, shifted}
+use Rattle.ca_plane.specs.Plane as plane
 use Rattle.ca_plane.specs.Generations.{cells_after, IsAfter}
 use Rattle.ca_quad.specs.declared.node.Node.{Node}
 use Rattle.ca_quad.specs.declared.tree.Tree.{Tree}
@@ -16,7 +17,7 @@ use Rattle.ca_identify.specs.declared.identification.stage.First.{First}
 use Rattle.ca_identify.specs.declared.identification.stage.Stage.{Stage}
 use Rattle.ca_identify.specs.declared.identification.stage.Stage.TheVariants.{Empty, Back, Other}
 use Rattle.ca_identify.specs.declared.identification.strides.Stride.{Stride}
-use Rattle.ca_identify.specs.declared.identification.strides.Stride.TheVariants.{On, Again, Never, Dead}
+use Rattle.ca_identify.specs.declared.identification.strides.Stride.TheVariants.{On, End, Never, Dead}
 use Rattle.ca_identify.specs.declared.identification.walk.Walk.{Walk}
 use Rattle.ca_answers.specs.declared.identity.Growth.{Growth}
 use Rattle.ca_answers.specs.Identified.{IsGrowth}
@@ -165,16 +166,14 @@ abbrev pub IsLastMovedFrom : List Node → List First → (ℤ → ℤ → ℕ) 
 IsLastMovedFrom nodes planes later k = IsMovedFromPlane nodes planes later k
     × ((j : ℕ) (plane : First) → k < j → slice_get planes j ≡ Some plane → AreMovedNowhere (cell nodes plane.tree) later)
 
--- the first cells are there again so for the first time, and they weren't dead before
-pub record IsFirstAgain (next : List ℕ → ℕ) (first : ℤ → ℤ → ℕ) (again : Recurrence) : Type 0 where
-  pub some : 1 ≤ again.generations
-  pub before : AreOtherUpTo next first (again.generations - 1)
-  pub moved : AreMoved first (cells_after next first again.generations) again.dx again.dy
+-- every picture of the first cells ends so
+abbrev pub EndSo : (List ℕ → ℕ) → (ℤ → ℤ → ℕ) → Ending → Type 0
+EndSo next first ending = (cells : Picture) → ((x y : ℤ) → plane.cell cells x y ≡ first x y) → IsEnding next cells ending
 
 -- what a stride up to n generations shows: after none of these the plane is dead, or the first cells are there again, moved, and the tree is that of
--- the last one; or they are there again, after one of them for the first time; or they are at no time; or the plane is dead at last
+-- the last one; or the pattern ends so within them; or the first cells are there again at no time; or the plane is dead at last
 abbrev pub IsStride : (List ℕ → ℕ) → (ℤ → ℤ → ℕ) → (n : ℕ) → List Node → Stride → Type 0
 IsStride next first n nodes (On tree) = IsLaterTree next first n nodes tree × AreOtherUpTo next first n
-IsStride next first n nodes (Again again) = (again.generations ≤ n) × IsFirstAgain next first again
+IsStride next first n nodes (End ending) = (generations_of ending ≤ n) × EndSo next first ending
 IsStride next first n nodes Never = (m : ℕ) → 1 ≤ m → AreMovedNowhere first (cells_after next first m)
 IsStride next first n nodes Dead = IsDead (cells_after next first n)

@@ -37,8 +37,8 @@ pub(super) fn identity_of(ending: Ending) -> Identity
     }
 }
 
-/// What a pattern is that is back so for the first time.
-pub(super) fn identity_of_return(again: Recurrence) -> Identity
+// What a pattern is that is back so for the first time.
+fn identity_of_return(again: Recurrence) -> Identity
     ensures { (next : List ℕ → ℕ) (cells : Picture) (limit : ℕ) → again.generations ≤ limit
         → limit ≤ longest_period → IsReturn next cells again → IsIdentity next cells limit result }
 {

@@ -17,7 +17,7 @@ ghost use Rattle.ca_identify.specs.inner.Stages.{IsFirst, AreEarly, AreMovedNowh
 ghost use Rattle.ca_identify.specs.inner.Stages.{IsStride, IsWalk, HasNoReturn, leap_work};
 ghost use Rattle.ca_pattern.specs.PatternTrees.{IsNearTree, HasLive, ShowsTree};
 
-use super::ending::{Ending, Recurrence, identity_of_return};
+use super::ending::{Ending, identity_of};
 use super::leaps::growth_after;
 use super::stage::{First, Stage, stage_of};
 use super::walk::Walk;
@@ -36,8 +36,8 @@ const SHARE: u64 = 1024;
 pub(super) enum Stride {
     /// The tree at its end: after none of its generations the plane was dead, or the pattern there again.
     On(Tree),
-    /// The pattern is there again, for the first time.
-    Again(Recurrence),
+    /// The pattern ends so within it.
+    End(Ending),
     /// The pattern is there again at no time.
     Never,
     /// The plane is dead at its end.
@@ -126,7 +126,7 @@ fn stride_on<A: Automaton, O: Observer>(
                 walk.tree = tree;
                 walk.generations = end;
             }
-            Stride::Again(again) => return Ok(Some(identity_of_return(again))),
+            Stride::End(ending) => return Ok(Some(identity_of(ending))),
             Stride::Never => return unknown_after(alloc, leaper, first, limit),
             Stride::Dead => return Ok(None),
         }
@@ -192,9 +192,8 @@ fn stride_to<A: Automaton>(
     let generations = end - before as u64;
     let stage = stage_after(alloc, leaper, first, walk, generations, boxes)?;
     match stage.ending(generations) {
-        Some(Ending::Return(again)) => Ok(Stride::Again(again)),
+        Some(ending) => Ok(Stride::End(ending)),
         None => Ok(Stride::Never),
-        Some(Ending::Death { .. }) => unreachable!(),
     }
 }
 
@@ -224,9 +223,8 @@ fn plane_before<A: Automaton>(
     'planes: while left > 0 {
         let index = left - 1;
         match stage_of(alloc, leaper, &early[index], later, boxes)? {
-            Stage::Other => {}
             Stage::Back { .. } => return Ok(Some(index)),
-            Stage::Empty => unreachable!(),
+            _ => {}
         }
         left = index;
     }

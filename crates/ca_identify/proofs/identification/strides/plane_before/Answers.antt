@@ -8,7 +8,8 @@ use Rattle.ca_identify.specs.declared.identification.stage.First.{First}
 use Rattle.ca_identify.specs.inner.Stages.{IsStage, AreMovedNowhere}
 use Rattle.ca_pattern.proofs.LeaptTrees.{near_stays}
 use Rattle.ca_identify.proofs.Stages.{first_stays}
-use Rattle.ca_identify.proofs.Strides.{nowhere_as, moved_as}
+use Rattle.ca_pattern.specs.PatternTrees.{HasLive}
+use Rattle.ca_identify.proofs.Strides.{nowhere_as, moved_as, not_back}
 use Rattle.ca_identify.proofs.identification.strides.plane_before.Goals as goal
 
 pub stage_of-requires-clause-first : goal.stage_of-requires-clause-first
@@ -43,15 +44,6 @@ returns-in-Back-clause-before g c =
       λ j other above there. c.planes.invariant.nowhere j other (omega (arith, above)) there,
     )
 
-pub unreachable-requires : goal.unreachable-requires
-unreachable-requires g c =
-    let s0 = c.args.leaper.now.nodes in
-    let s = c.planes.leaper.nodes in
-    let later = c.args.later.now in
-    let live = c.requires.live in
-    let dead = subst (IsStage (cell s c.index-early-index.result.tree) (cell s later)) c.in-Empty.is c.in_ok-stage_of.ensures.stage in
-    live.2 (sym (trees_stay s0 s c.store.ensures.sound c.planes.invariant.goes_on.grows later c.requires.later.is_tree live.0 live.1) ∙ dead live.0 live.1)
-
 pub planes-preserved : goal.planes-preserved
 planes-preserved g c =
     let s0 = c.args.leaper.now.nodes in
@@ -61,9 +53,11 @@ planes-preserved g c =
     let later = c.args.later.now in
     let within = inv.within in
     let there = slice_get_read c.args.early.now _ (c.planes.left - 1) here refl (omega (arith, c.planes-test.true, within)) c.index-early-index.is in
-    let told = subst (IsStage (cell s here.tree) (cell s later)) c.in-Other.is c.in_ok-stage_of.ensures.stage in
+    let lives = c.requires.live in
+    let live : HasLive (cell s later) = (lives.0, lives.1, λ none. lives.2 (sym (trees_stay s0 s c.store.ensures.sound inv.goes_on.grows later c.requires.later.is_tree lives.0 lives.1) ∙ none)) in
+    let told = not_back (cell s here.tree) (cell s later) _ c.in_ok-stage_of.ensures.stage live c.in_default.not-Back in
     let nowhere = nowhere_as (cell s here.tree) (cell s later) (cell s0 here.tree) (cell s0 later)
-    (trees_stay s0 s c.store.ensures.sound inv.goes_on.grows here.tree (c.requires.early (c.planes.left - 1) here there).start.is_tree) (trees_stay s0 s c.store.ensures.sound inv.goes_on.grows later c.requires.later.is_tree) told.1 in
+    (trees_stay s0 s c.store.ensures.sound inv.goes_on.grows here.tree (c.requires.early (c.planes.left - 1) here there).start.is_tree) (trees_stay s0 s c.store.ensures.sound inv.goes_on.grows later c.requires.later.is_tree) told in
     record {
       goes_on = goes_on_again _ c.args.leaper.now c.planes.leaper c.stage_of.new.leaper inv.goes_on c.in_ok-stage_of.ensures.goes_on;
       boxes = c.in_ok-stage_of.ensures.boxes;

@@ -1,4 +1,4 @@
-use Rattle.std.proofs.Common.{ℕ, ◌≤◌, List, sym, subst, arith}
+use Rattle.std.proofs.Common.{ℕ, List, sym, subst, arith}
 use Rattle.std.specs.Prelude.{ℤ, IfOk, IfSome}
 use Rattle.ca_quad.specs.Trees.{cell}
 use Rattle.ca_quad.proofs.Measures.{boxes_stay}
@@ -8,7 +8,7 @@ use Rattle.ca_run.proofs.LeaperGrowth.{goes_on_same}
 use Rattle.ca_run.proofs.LeaperGrowth.{goes_on_again}
 use Rattle.ca_answers.specs.Identified.{IsIdentity}
 use Rattle.ca_identify.specs.inner.Stages.{IsWalk, AreEarly, IsStride, HasNoReturn}
-use Rattle.ca_identify.proofs.Identities.{picture_nowhere, found_again}
+use Rattle.ca_identify.proofs.Identities.{picture_nowhere}
 use Rattle.ca_pattern.proofs.LeaptTrees.{shows_stays}
 use Rattle.ca_identify.proofs.Stages.{first_stays, walk_stays, walk_as}
 use Rattle.ca_identify.proofs.Strides.{early_stays, early_as, stride_as}
@@ -95,26 +95,22 @@ strides-preserved g c =
       within = omega (arith, c.min-end.ensures);
     }
 
--- ---- where the pattern is back
+-- ---- where the pattern ends
 
-pub returns-in-Again-clause-identity : goal.returns-in-Again-clause-identity
-returns-in-Again-clause-identity g c = λ cells shows.
-    let a = (goal.at.returns-in-Again-clause-identity g c).In_ok-tree in
-    let again = c.in-Again.again in
-    let limit = c.args.limit in
-    let (within, is) = subst (IsStride (next g a) (first g a) c.min-end.result c.stride_to.new.leaper.nodes) c.in-Again.is (told g a) in
-    let short : again.generations ≤ limit = omega (arith, within, c.min-end.ensures) in
-    c.identity_of_return.ensures (next g a) cells limit short c.requires.most
-    (found_again (next g a) (g.met.A.Automaton.quiet c.args.leaper.now.rule c.store.ensures.rule) c.args.leaper.now.nodes c.args.first.now c.requires.first cells shows limit again short c.requires.most is)
+pub returns-in-End-clause-identity : goal.returns-in-End-clause-identity
+returns-in-End-clause-identity g c = λ cells shows.
+    let a = (goal.at.returns-in-End-clause-identity g c).In_ok-tree in
+    let (within, ends) = subst (IsStride (next g a) (first g a) c.min-end.result c.stride_to.new.leaper.nodes) c.in-End.is (told g a) in
+    c.identity_of.ensures (next g a) cells c.args.limit (omega (arith, within, c.min-end.ensures)) c.requires.most (ends cells shows)
 
-pub returns-in-Again-clause-walk : goal.returns-in-Again-clause-walk
-returns-in-Again-clause-walk g c =
+pub returns-in-End-clause-walk : goal.returns-in-End-clause-walk
+returns-in-End-clause-walk g c =
     let inv = c.strides.invariant in
     walk_stays (g.A.Automaton.next_of c.args.leaper.now.rule) (cell c.args.leaper.now.nodes c.args.first.now.tree) c.strides.leaper.nodes c.stride_to.new.leaper.nodes inv.goes_on.grows.sound c.in_ok-tree.ensures.goes_on.grows
     c.strides.walk inv.walk
 
-pub returns-in-Again-clause-goes_on : goal.returns-in-Again-clause-goes_on
-returns-in-Again-clause-goes_on g c = on_stride g (goal.at.returns-in-Again-clause-goes_on g c).In_ok-tree
+pub returns-in-End-clause-goes_on : goal.returns-in-End-clause-goes_on
+returns-in-End-clause-goes_on g c = on_stride g (goal.at.returns-in-End-clause-goes_on g c).In_ok-tree
 
 -- ---- where it never is
 

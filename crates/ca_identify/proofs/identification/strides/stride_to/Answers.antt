@@ -1,4 +1,4 @@
-use Rattle.std.proofs.Common.{◌≡◌, ℕ, ◌+◌, ◌-◌, ◌≤◌, ◌<◌, List, take, refl, sym, ap, subst, ◌∙◌, arith}
+use Rattle.std.proofs.Common.{◌≡◌, ℕ, ◌+◌, ◌-◌, ◌≤◌, ◌<◌, List, take, refl, sym, subst, ◌∙◌, arith}
 use Rattle.std.specs.Prelude.{ℤ, replicate, slice_get, Some}
 use Rattle.ca_plane.specs.Generations.{cells_after}
 use Rattle.ca_quad.specs.Boxes.{IsDead}
@@ -7,15 +7,14 @@ use Rattle.ca_quad.proofs.Measures.{boxes_stay}
 use Rattle.ca_quad.proofs.Trims.{trees_stay}
 use Rattle.ca_run.specs.Leaping.{LeaperGrows}
 use Rattle.ca_run.proofs.LeaperGrowth.{goes_on_again}
-use Rattle.ca_identify.specs.declared.identification.ending.Ending.TheVariants.{Death, Return}
 use Rattle.ca_identify.specs.declared.identification.stage.First.{First}
 use Rattle.ca_pattern.specs.LaterTrees.{IsLaterTree}
-use Rattle.ca_identify.specs.inner.Stages.{IsStage, IsWalk, AreOtherUpTo, IsLastMovedFrom, AreMoved, AreMovedNowhere}
+use Rattle.ca_identify.specs.inner.Stages.{IsStage, IsWalk, IsLastMovedFrom, AreMovedNowhere, ending_of}
 use Rattle.ca_pattern.specs.PatternTrees.{HasLive}
-use Rattle.ca_identify.proofs.Identities.{ending_time, ending_shown, no_ending}
+use Rattle.ca_identify.proofs.Identities.{found_ending, ending_time, no_ending}
 use Rattle.ca_identify.proofs.LaterPlanes.{tree_picture}
 use Rattle.ca_identify.proofs.Stages.{first_stays, later_stays, stage_to, walk_as, walk_stays}
-use Rattle.ca_identify.proofs.Strides.{element_at, part_at, at_part, nowhere_as, moved_as, live_as, stride_can_go, stride_tree, lived, stride_others, never_again}
+use Rattle.ca_identify.proofs.Strides.{element_at, part_at, at_part, nowhere_as, moved_as, live_as, stride_can_go, stride_tree, stride_others, never_again}
 use Rattle.ca_identify.proofs.identification.strides.stride_to.Goals as goal
 use Rattle.ca_identify.proofs.identification.strides.stride_to.Goals.{In_ok-later, In_ok-before, In-Some, In_ok-stage}
 
@@ -140,57 +139,40 @@ pub returns-in_err-stage-clause-goes_on : goal.returns-in_err-stage-clause-goes_
 returns-in_err-stage-clause-goes_on g c =
     goes_on_again _ c.args.leaper.now c.plane_before.new.leaper c.stage_after.new.leaper (on_before g (goal.at.returns-in_err-stage-clause-goes_on g c).In_ok-before) c.stage_after.ensures.goes_on
 
-pub returns-in-Some-Return-clause-goes_on : goal.returns-in-Some-Return-clause-goes_on
-returns-in-Some-Return-clause-goes_on g c = on_stage g (goal.at.returns-in-Some-Return-clause-goes_on g c).In_ok-stage
+pub returns-in-Some-ending-clause-goes_on : goal.returns-in-Some-ending-clause-goes_on
+returns-in-Some-ending-clause-goes_on g c = on_stage g (goal.at.returns-in-Some-ending-clause-goes_on g c).In_ok-stage
 
 pub returns-in-None-clause-goes_on : goal.returns-in-None-clause-goes_on
 returns-in-None-clause-goes_on g c = on_stage g (goal.at.returns-in-None-clause-goes_on g c).In_ok-stage
 
-pub returns-in-Some-Return-clause-stride : goal.returns-in-Some-Return-clause-stride
-returns-in-Some-Return-clause-stride g c =
-    let at = goal.at.returns-in-Some-Return-clause-stride g c in
+pub returns-in-Some-ending-clause-stride : goal.returns-in-Some-ending-clause-stride
+returns-in-Some-ending-clause-stride g c =
+    let at = goal.at.returns-in-Some-ending-clause-stride g c in
     let a = at.In_ok-later in
     let s1 = c.later_tree.new.leaper.nodes in
     let later = c.in_ok-later.later in
     let n = c.args.walk.now.generations in
     let end = c.args.end in
     let q = end - c.in-Some.before in
-    let again = c.in-Some-Return.again in
-    let time = ending_time c.in_ok-stage.stage q (Return again) (sym c.ending.ensures ∙ c.in-Some-Return.is ∙ ap Some c.in-Some-Return.field-0-is) in
+    let ending = c.in-Some-ending.ending in
+    let ends = sym c.ending.ensures ∙ c.in-Some-ending.is in
+    let time = ending_time c.in_ok-stage.stage q ending ends in
     let last = found g at.In-Some in
     let less = (there g at.In-Some).1 in
     let is = end_tree g a in
     let live = subst (λ s. HasLive (cell s later)) c.store-2.ensures.nodes (c.if-is_dead.ensures.live refl) in
-    let back : AreMoved (first g a) (stages g a again.generations) again.dx again.dy
-    = ending_shown (next g a) (first g a) c.in_ok-stage.stage q (Return again) (sym c.ending.ensures ∙ c.in-Some-Return.is ∙ ap Some c.in-Some-Return.field-0-is) (told g at.In_ok-stage (on_before g at.In_ok-before)) in
+    let same : q ≡ q - 1 + 1 = omega (arith, less) in
     let nowhere : (k : ℕ) → k < end - n → end - (q - 1) ≤ k → AreMovedNowhere (stages g a k) (stages g a end) = λ k under above.
     let plane = element_at c.args.early.now k (omega (arith, under, c.requires.near, c.requires.more)) in
     nowhere_as (cell s1 plane.0.tree) (cell s1 later) (stages g a k) (stages g a end) (early_shows g a k plane.0 plane.1) is.shows
-    (last.1 k plane.0 (omega (arith, above, less)) (at_part c.args.early.now (end - n) k plane.0 under plane.1)) in (
+    (last.1 k plane.0 (omega (arith, above, less)) (at_part c.args.early.now (end - n) k plane.0 under plane.1)) in
+    let others = stride_others (next g a) (first g a) (quiet g a) n end (q - 1) (omega arith) c.requires.walk.others (live_as (cell s1 later) (stages g a end) is.shows live) nowhere in (
       omega (arith, time),
-      record {
-        some = omega (arith, less, time);
-        before = subst (λ k. AreOtherUpTo (next g a) (first g a) (k - 1)) (sym time)
-            (stride_others (next g a) (first g a) (quiet g a) n end (q - 1) (omega arith) c.requires.walk.others (live_as (cell s1 later) (stages g a end) is.shows live) nowhere);
-        moved = back;
-      },
+      λ cells shows.
+          found_ending (next g a) (quiet g a) c.args.leaper.now.nodes c.args.first.now c.requires.first cells shows (q - 1) others end (omega (arith, less)) c.requires.most c.in_ok-stage.stage ending
+          (subst (λ k. ending_of c.in_ok-stage.stage k ≡ Some ending) same ends)
+          (subst (λ k. IsStage (first g a) (stages g a k) c.in_ok-stage.stage) same (told g at.In_ok-stage (on_before g at.In_ok-before))),
     )
-
-pub unreachable-requires : goal.unreachable-requires
-unreachable-requires g c =
-    let at = goal.at.unreachable-requires g c in
-    let a = at.In_ok-later in
-    let s1 = c.later_tree.new.leaper.nodes in
-    let later = c.in_ok-later.later in
-    let q = c.args.end - c.in-Some.before in
-    let less = (there g at.In-Some).1 in
-    let sum : c.args.end ≡ q + c.in-Some.before = omega (arith, less) in
-    let live = live_as (cell s1 later) (stages g a c.args.end) (end_tree g a).shows (subst (λ s. HasLive (cell s later)) c.store-2.ensures.nodes (c.if-is_dead.ensures.live refl)) in
-    let lives = lived (next g a) (first g a) (quiet g a) q c.in-Some.before (subst (λ k. HasLive (stages g a k)) sum live) in
-    let is = sym c.ending.ensures ∙ c.in-Some-Death.is ∙ ap Some c.in-Some-Death.field-0-is in
-    let time = ending_time c.in_ok-stage.stage q (Death c.in-Some-Death.field-0-0) is in
-    let dead = ending_shown (next g a) (first g a) c.in_ok-stage.stage q (Death c.in-Some-Death.field-0-0) is (told g at.In_ok-stage (on_before g at.In_ok-before)) in
-    lives.2 (ap (λ k. stages g a k lives.0 lives.1) (sym time) ∙ dead lives.0 lives.1)
 
 pub returns-in-None-clause-stride : goal.returns-in-None-clause-stride
 returns-in-None-clause-stride g c =
