@@ -1,4 +1,5 @@
-//! What patterns are, found out from their files. Periods and life spans are those of the field's collections.
+//! What patterns are, found out from their files, and how claims are written. Periods and life spans are those of the
+//! field's collections.
 
 use super::devices::expect;
 use ca_answers::{Growth, Identity, Look, Scope};
@@ -144,6 +145,29 @@ const GROWN: &[(&[u8], u64, u128, Bounds)] = &[
     ),
 ];
 
+/// Kinds of claims, and the words of each after a first name, where the second one is `b`.
+const WORDS: &[(Kind, &[u8])] = &[
+    (Kind::Still, b""),
+    (Kind::Dies { generations: 130 }, b" 130"),
+    (
+        Kind::Spaceship {
+            period: 4,
+            dx: -2,
+            dy: 0,
+        },
+        b" 4 -2 0",
+    ),
+    (Kind::Becomes { generations: 7 }, b" 7 b"),
+    (
+        Kind::BecomesShifted {
+            generations: 7,
+            dx: -1,
+            dy: 2,
+        },
+        b" 7 b shift -1 2",
+    ),
+];
+
 /// What comes of identifying a pattern.
 type Found = Result<Look, LocatedFault>;
 
@@ -213,4 +237,17 @@ fn a_refused_pattern_has_its_fault(rt: HostRuntime) {
     );
     let found = identity_of(rt.alloc(), b"x = 1, y = 1\no\nq!", Limits::default(), 1);
     expect(&rt, line_of(&found) == Some(3), "the line of a fault");
+}
+
+#[test]
+fn words_of_claims_are_written(rt: HostRuntime) {
+    'kinds: for &(kind, words) in WORDS {
+        let mut out = Vec::new(rt.alloc());
+        let is_done = kind.push_words_after_name(&mut out, b"b").is_ok();
+        expect(
+            &rt,
+            is_done && out.as_slice() == words,
+            "the words of a claim",
+        );
+    }
 }
