@@ -1,9 +1,9 @@
 -- Columns of cells the other way up.
-use Rattle.std.proofs.Common.{◌≡◌, ℕ, zero, suc, ◌+◌, ◌-◌, ◌*◌, ◌/◌, ◌%◌, ◌^◌, ◌<◌, ◌≤◌, max, List, [], ◌∷◌, ◌++◌, length, get_or, refl, sym, ap, subst, ◌∙◌, inl, inr, arith}
+use Rattle.std.proofs.Common.{◌≡◌, ℕ, zero, suc, ◌+◌, ◌-◌, ◌*◌, ◌/◌, ◌%◌, ◌^◌, ◌<◌, ◌≤◌, max, List, length, get_or, refl, sym, ap, subst, ◌∙◌, inl, inr, arith}
 use Rattle.std.specs.Int.{bit_at}
 use Rattle.std.specs.Int.{reverse_bits_onto}
-use Rattle.std.proofs.lemmas.Bool.{cases_lt, cases_eq}
-use Rattle.std.proofs.lemmas.List.{get_or_past, get_or_push, get_or_append_left, length_push}
+use Rattle.std.proofs.lemmas.Bool.{cases_lt}
+use Rattle.std.proofs.lemmas.List.{get_or_past}
 use Rattle.std.proofs.lemmas.Nat.{pow_pos, shr-shr, shr_below}
 use Rattle.std.proofs.lemmas.Nat.Bits.{bit_at_lowest, bit_at-suc, bit_at-zero}
 use Rattle.ca_apgcode.specs.Grids.{GridCells, IsGrid, cell}
@@ -63,29 +63,6 @@ pub record AreFlipped (grid : GridCells) (count : ℕ) (columns : List ℕ) : Ty
   pub size : length columns ≡ count
   pub cells : (k : ℕ) → k < count → (y : ℕ) → y < grid.height → bit_at (get_or columns k 0) y ≡ cell grid k (grid.height - 1 - y)
   pub low : (k : ℕ) → k < count → get_or columns k 0 < 2 ^ grid.height
-
-pub AreFlipped-none : (grid : GridCells) (columns : List ℕ) → columns ≡ [] → AreFlipped grid 0 columns
-AreFlipped-none grid columns none = record { size = ap length none; cells = λ k under. absurd (omega (arith, under)); low = λ k under. absurd (omega (arith, under)) }
-
-pub AreFlipped-more : (grid : GridCells) (count column : ℕ) (columns new : List ℕ) → new ≡ columns ++ column ∷ [] → ((y : ℕ) → y < grid.height → bit_at column y ≡ cell grid count (grid.height - 1 - y)) → column < 2 ^ grid.height
-    → AreFlipped grid count columns → AreFlipped grid (count + 1) new
-AreFlipped-more grid count column columns new is cells low so_far = subst (AreFlipped grid (count + 1)) (sym is) (record {
-  size = let size = so_far.size in omega (arith, length_push columns column, size);
-  cells = λ k under y within. elim (cases_eq k count) [
-    | inl same ↦ ap (λ n. bit_at n y) (at k same) ∙ (cells y within ∙ ap (λ x. cell grid x (grid.height - 1 - y)) (sym same))
-    | inr other ↦ ap (λ n. bit_at n y) (before k (omega (arith, under, other))) ∙ so_far.cells k (omega (arith, under, other)) y within
-  ];
-  low = λ k under. elim (cases_eq k count) [
-    | inl same ↦ subst (λ n. n < 2 ^ grid.height) (sym (at k same)) low
-    | inr other ↦ subst (λ n. n < 2 ^ grid.height) (sym (before k (omega (arith, under, other)))) (so_far.low k (omega (arith, under, other)))
-  ];
-})
-  where
-    at : (k : ℕ) → k ≡ count → get_or (columns ++ column ∷ []) k 0 ≡ column
-    at k same = get_or_push columns column 0 k (so_far.size ∙ sym same)
-
-    before : (k : ℕ) → k < count → get_or (columns ++ column ∷ []) k 0 ≡ get_or columns k 0
-    before k under = get_or_append_left columns (column ∷ []) 0 k (let size = so_far.size in omega (arith, size, under))
 
 pub IsFlipped-all : (grid : GridCells) (columns : List ℕ) → IsGrid grid → AreFlipped grid (length grid.columns) columns → IsFlipped grid (record { height = grid.height; columns = columns })
 IsFlipped-all grid columns is_grid all =

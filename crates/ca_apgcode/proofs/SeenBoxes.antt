@@ -3,7 +3,7 @@ use Rattle.std.proofs.Common.{◌≡◌, ℕ, ◌+◌, ◌-◌, ◌*◌, ◌^◌
 use Rattle.std.specs.Int.{bit_at}
 use Rattle.std.proofs.lemmas.Bool.{cases_lt}
 use Rattle.std.proofs.lemmas.Nat.Bits.{bit_at_above}
-use Rattle.ca_apgcode.specs.Grids.{GridCells, IsGrid, cell}
+use Rattle.ca_apgcode.specs.Grids.{GridCells, cell}
 use Rattle.ca_apgcode.specs.inner.Turned.{IsMirrored, IsFlipped, IsTransposed}
 use Rattle.ca_apgcode.specs.inner.Sides.{IsSeenFrom, seen_width, seen_height, AreLiveBefore, IsStripMask}
 use Rattle.ca_apgcode.specs.declared.sides.Side.{Side}
@@ -24,12 +24,6 @@ height_seen North grid seen is = ap (λ (g : GridCells). g.height) is
 height_seen South grid seen is = is.height
 height_seen West grid seen is = is.height
 height_seen East grid seen is = is.2.height ∙ is.1.width
-
-pub is_grid_seen : (side : Side) (grid seen : GridCells) → IsGrid grid → IsSeenFrom side grid seen → IsGrid seen
-is_grid_seen North grid seen is_grid is = subst IsGrid (sym is) is_grid
-is_grid_seen South grid seen is_grid is = is.is_grid
-is_grid_seen West grid seen is_grid is = is.is_grid
-is_grid_seen East grid seen is_grid is = is.2.is_grid
 
 -- ---- masks of their strips
 

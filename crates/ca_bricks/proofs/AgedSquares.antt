@@ -11,8 +11,8 @@ use Rattle.ca_plane.specs.Ageing.{liveness}
 use Rattle.ca_plane.specs.Shown.{word_cells}
 use Rattle.ca_bricks.specs.declared.aged.AgedGrid.{AgedGrid}
 use Rattle.ca_bricks.specs.declared.grid.BrickGrid.{BrickGrid}
-use Rattle.ca_bricks.specs.Aged.{AgedGridShows, IsAgedGrid, remaining, dying_digit}
-use Rattle.ca_bricks.specs.Bricks.{IsGrid, GridShows}
+use Rattle.ca_bricks.specs.Aged.{AgedGridShows, remaining, dying_digit}
+use Rattle.ca_bricks.specs.Bricks.{GridShows}
 use Rattle.ca_bricks.specs.States.{StatesShow, told_state}
 use Rattle.ca_bricks.specs.Words.{WordShows, eight}
 use Rattle.ca_bricks.proofs.Words.{word_from}
@@ -85,15 +85,6 @@ told_is states greatest (suc zero) low is = grind (arith, nat_tests)
 told_is states greatest (suc (suc s)) low is = grind (arith, nat_tests)
 
 -- ---- grids
-
-pub digit_is_grid : (grid : AgedGrid) (k : ℕ) (d : BrickGrid) → IsAgedGrid grid → k < length grid.dying.items → IsGrid (get_or grid.dying.items k d)
-digit_is_grid grid k d is low =
-    let beside = is.beside k d low in
-    record {
-      wide = omega (arith, beside.place.across, is.live.wide);
-      high = omega (arith, beside.place.down, is.live.high);
-      size = beside.size ∙ is.live.size ∙ ap₂ (λ a b. a * b) (sym beside.place.down) (sym beside.place.across);
-    }
 
 -- a word of a digit lies where that of the live cells lies
 pub digit_word : (grid : AgedGrid) (m : ℕ) (p : ℤ → ℤ → ℕ) (k word : ℕ) (d : BrickGrid) (i j : ℤ) → AgedGridShows grid m p → k < length grid.dying.items

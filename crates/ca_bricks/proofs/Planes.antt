@@ -1,7 +1,7 @@
 -- Several states for each cell of a brick, and those of the nodes of a diagram.
-use Rattle.std.proofs.Common.{◌≡◌, ℕ, zero, suc, ◌+◌, List, [], ◌∷◌, ◌++◌, length, get_or, Bool, true, false, ◌==◌, if◌then◌else◌, sym, ap, refl, ◌∙◌, arith, slice_index}
+use Rattle.std.proofs.Common.{◌≡◌, ℕ, zero, suc, ◌+◌, List, [], ◌∷◌, ◌++◌, get_or, Bool, true, false, ◌==◌, if◌then◌else◌, sym, ap, refl, ◌∙◌, arith, slice_index}
 use Rattle.std.proofs.lemmas.Nat.Bits.{bit_at-zero}
-use Rattle.std.proofs.lemmas.List.{length-append, map-append}
+use Rattle.std.proofs.lemmas.List.{map-append}
 use Rattle.ca_plane.specs.Shown.{row_cells}
 use Rattle.ca_bricks.specs.Diagrams.{states_of, node_state}
 use Rattle.ca_bricks.specs.declared.diagram.Node.{Node}
@@ -25,13 +25,6 @@ pub chosen : (cells states : List ℕ) (place dead live a b c : ℕ) → a ≡ s
 chosen cells states place dead live a b c is_a is_b is_c =
     ap (λ a. if a == 0 then b else c) is_a ∙ ap (λ b. if slice_index cells place == 0 then b else c) is_b
     ∙ ap (λ c. if slice_index cells place == 0 then slice_index states dead else c) is_c ∙ choice (slice_index cells place == 0) states dead live
-
--- the first n nodes have n states
-pub states_of-length : (nodes : List Node) (nine : List ℕ) (n : ℕ) → length (states_of nodes nine n) ≡ n
-states_of-length nodes nine zero = refl
-states_of-length nodes nine (suc n) =
-    let before = states_of-length nodes nine n in
-    length-append (states_of nodes nine n) (node_state nine (states_of nodes nine n) (get_or nodes n (State false)) ∷ []) ∙ omega (arith, before)
 
 -- one node more
 pub states_more : (nodes : List Node) (nine states : List ℕ) (n state : ℕ) → states ≡ states_of nodes nine n → state ≡ node_state nine states (get_or nodes n (State false))

@@ -66,22 +66,6 @@ module _ (cells : ℕ → ℕ → ℕ) (column row : ℕ) (old : List CellWord) 
     west = h.west;
   }
 
-no_words : (column row : ℤ) → state_from_corner [] column row ≡ 0
-no_words (pos column) (pos row) = refl
-no_words (pos column) (negsuc row) = refl
-no_words (negsuc column) row = refl
-
--- nothing is drawn
-pub draws_none : (cells : ℕ → ℕ → ℕ) → IsDrawnTo cells 0 0 []
-draws_none cells = record {
-  before = λ x y less. absurd (omega (arith, less));
-  above = λ y less. absurd (omega (arith, less));
-  below = λ y under. no_words (pos 0 +ℤ reach) (pos y +ℤ reach);
-  later = λ x y more. no_words (pos x +ℤ reach) (pos y +ℤ reach);
-  north = λ x y. no_words (pos x +ℤ reach) (negsuc y +ℤ reach);
-  west = λ x y. no_words (negsuc x +ℤ reach) (y +ℤ reach);
-}
-
 -- a cell that isn't live is dead
 pub dead_cell : (grid : GridCells) (x y : ℕ) (r : Bool) → (IsTrue r → cell grid x y ≡ 1) × (cell grid x y ≡ 1 → IsTrue r) → r ≡ false → cell grid x y ≡ 0
 dead_cell grid x y r told dead = elim (cases_eq (cell grid x y) 1) [

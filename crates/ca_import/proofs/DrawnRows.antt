@@ -54,9 +54,6 @@ here_dead : (live here later : Bool) (old : ℕ) → live ≡ false → cond ((l
 here_dead false here later old l = refl
 here_dead true here later old l = absurd (true≢false l)
 
-pub drawn_none : (first : Point) (cells : List ℕ) (old : List CellWord) → IsDrawn first cells old first cells old
-drawn_none first cells old = record { row = refl; west = omega (arith, ints); east = refl; whole = λ x y. refl }
-
 module _ (first : Point) (cells : List ℕ) (old : List CellWord) (at : Point) (left : List ℕ) (mid : List CellWord) (drawn : IsDrawn first cells old at left mid) where
   -- one more cell, whose state is seen in the plane
   drawn_next : (b : ℕ) (bs : List ℕ) (new : List CellWord) → left ≡ b ∷ bs → ((x y : ℤ) → cond (is_live_in_row at (b ∷ bs) x y) 1 (bit_cell mid x y) ≡ cond (is_live_in_row (east at) bs x y) 1 (bit_cell new x y))
@@ -81,7 +78,3 @@ module _ (first : Point) (cells : List ℕ) (old : List CellWord) (at : Point) (
   -- the whole row
   pub drawn_all : left ≡ [] → (x y : ℤ) → bit_cell mid x y ≡ cond (is_live_in_row first cells x y) 1 (bit_cell old x y)
   drawn_all is x y = sym (subst (λ l. cond (is_live_in_row first cells x y) 1 (bit_cell old x y) ≡ cond (is_live_in_row at l x y) 1 (bit_cell mid x y)) is (drawn.whole x y))
-
-  -- what is left has room
-  pub room_ahead : (b : ℕ) (bs : List ℕ) → left ≡ b ∷ bs → (at.x +ℤ pos 1) ≤ℤ (first.x +ℤ pos (length cells))
-  room_ahead b bs is = let long : (at.x +ℤ pos (length (b ∷ bs))) ≡ (first.x +ℤ pos (length cells)) = subst (λ l. (at.x +ℤ pos (length l)) ≡ (first.x +ℤ pos (length cells))) is drawn.east in omega (arith, ints, long)

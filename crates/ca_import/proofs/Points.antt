@@ -6,24 +6,12 @@ use Rattle.ca_plane.specs.Bytes.{IsInteger, nearest_i64}
 use Rattle.ca_plane.specs.Limits.{range, IsInRange}
 use Rattle.ca_import.specs.inner.Lines.{WritePoint}
 
--- an integer whose nearest number of 64 bits is in range is that number
-same_from_near : (n i : ℤ) → i ≡ nearest_i64 n → neg_ℤ (pos (2 ^ 60)) ≤ℤ i → i <ℤ pos (2 ^ 60) → i ≡ n
-same_from_near (pos v) i e low high = omega (arith, ints, e, low, high)
-same_from_near (negsuc v) i e low high = omega (arith, ints, e, low, high)
-
 -- and so is one that is in range itself
 same_from_number : (n i : ℤ) → i ≡ nearest_i64 n → neg_ℤ (pos (2 ^ 60)) ≤ℤ n → n <ℤ pos (2 ^ 60) → i ≡ n
 same_from_number (pos v) i e low high = omega (arith, ints, e, low, high)
 same_from_number (negsuc v) i e low high = omega (arith, ints, e, low, high)
 
 module _ (x y : List ℕ) (a b : ℤ) (at : Point) (x_is : IsInteger x a) (y_is : IsInteger y b) (near_x : at.x ≡ nearest_i64 a) (near_y : at.y ≡ nearest_i64 b) where
-  -- the point is written, if it is in range
-  pub writes_point : IsInRange at → WritePoint x y at
-  writes_point within = record {
-    x_is = subst (IsInteger x) (sym (same_from_near a at.x near_x within.0 within.1)) x_is;
-    y_is = subst (IsInteger y) (sym (same_from_near b at.y near_y within.2 within.3)) y_is;
-  }
-
   -- one that is out of range is written, if it is not
   pub writes_far_point : (IsInRange at → ⊥) → (p : Point) × WritePoint x y p × (IsInRange p → ⊥)
   writes_far_point out = (

@@ -3,7 +3,6 @@ use Rattle.std.proofs.Common.{◌≡◌, ℕ, List, [], ◌∷◌, Bool, false, 
 use Rattle.std.specs.List.{list_all, list_any}
 use Rattle.std.proofs.lemmas.Bool.{and_parts, not-true}
 use Rattle.ca_plane.specs.Bytes.{Every}
-use Rattle.ca_plane.proofs.Fronts.{every_wider}
 use Rattle.ca_rule.specs.Spelling.{has_colon}
 use Rattle.ca_isotropic.proofs.WrittenTables.{is_plain}
 
@@ -23,9 +22,6 @@ no-colons (b ∷ bs) all =
     let both = and_parts (is_text_byte b) (list_all is_text_byte bs) all in
     let one = and_parts (is_plain b) (not (b == 58)) both.0 in
     ap (λ v. v || list_any (λ b. b == 58) bs) (not-true (b == 58) one.1) ∙ no-colons bs both.1
-
-plain-bytes : (bytes : List ℕ) → Every is_text_byte bytes → Every is_plain bytes
-plain-bytes bytes all = every_wider is_text_byte is_plain (λ b h. (and_parts (is_plain b) (not (b == 58)) h).0) bytes all
 
 pub no-colon : (text : List ℕ) → IsText text → has_colon text ≡ false
 no-colon text is = ap has_colon is.form ∙ no-colons (is.first ∷ is.others) is.all

@@ -17,29 +17,6 @@ pub record AreMoved (rows : List ℕ) (first low count : ℕ) (columns : List �
   pub each : (k : ℕ) → k < count → get_or columns k 0 ≡ slice_index rows (first + k) / 2 ^ low
   pub fits : (k : ℕ) → k < count → get_or columns k 0 < 2 ^ 40
 
-pub AreMoved-none : (rows : List ℕ) (first low : ℕ) (columns : List ℕ) → columns ≡ [] → AreMoved rows first low 0 columns
-AreMoved-none rows first low columns none = record { size = ap length none; each = λ k below. absurd (omega (arith, below)); fits = λ k below. absurd (omega (arith, below)) }
-
-pub AreMoved-more : (rows : List ℕ) (first low count r column : ℕ) (columns new : List ℕ) → r ≡ first + count → column ≡ slice_index rows r / 2 ^ low → column < 2 ^ 40 → new ≡ columns ++ column ∷ []
-    → AreMoved rows first low count columns → AreMoved rows first low (count + 1) new
-AreMoved-more rows first low count r column columns new place is_column fits is so_far = subst (AreMoved rows first low (count + 1)) (sym is) (record {
-  size = let size = so_far.size in omega (arith, length_push columns column, size);
-  each = λ k under. elim (cases_eq k count) [
-    | inl same ↦ at k same ∙ (is_column ∙ ap (λ i. slice_index rows i / 2 ^ low) (let here : r ≡ first + k = omega (arith, place, same) in here))
-    | inr other ↦ before k (omega (arith, under, other)) ∙ so_far.each k (omega (arith, under, other))
-  ];
-  fits = λ k under. elim (cases_eq k count) [
-    | inl same ↦ subst (λ n. n < 2 ^ 40) (sym (at k same)) fits
-    | inr other ↦ subst (λ n. n < 2 ^ 40) (sym (before k (omega (arith, under, other)))) (so_far.fits k (omega (arith, under, other)))
-  ];
-})
-  where
-    at : (k : ℕ) → k ≡ count → get_or (columns ++ column ∷ []) k 0 ≡ column
-    at k same = get_or_push columns column 0 k (so_far.size ∙ sym same)
-
-    before : (k : ℕ) → k < count → get_or (columns ++ column ∷ []) k 0 ≡ get_or columns k 0
-    before k under = get_or_append_left columns (column ∷ []) 0 k (let size = so_far.size in omega (arith, size, under))
-
 -- all columns fit
 pub all_fit : (rows : List ℕ) (first low count : ℕ) (columns : List ℕ) → AreMoved rows first low count columns → (x : ℕ) → get_or columns x 0 < 2 ^ 40
 all_fit rows first low count columns are x = elim (cases_lt x count) [

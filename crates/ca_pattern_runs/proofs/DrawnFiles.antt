@@ -145,29 +145,6 @@ module _ (bytes : List ℕ) (tables : List TableRule) (n work : ℕ) where
   undrawn_told request Memory none = (located.Memory, none, refl)
   undrawn_told request told none = absurd none
 
-  -- and no more is known of it
-  pub undrawn_plainly : (request : DrawRequest) (fault : ToolFault) → IsUndrawnAfter bytes tables n request fault → IsRunDetailOf bytes fault None None
-  undrawn_plainly request (Convert fault) none = absurd none
-  undrawn_plainly request told none = (refl, refl)
-
-  -- why a plane isn't reached is why nothing of any form is written of it
-  reach_is_text : (form : TextForm) (refused : LocatedFault) → IsReachFault bytes tables n work refused → IsTextFault form bytes tables n work refused
-  reach_is_text forms.Summary refused is = is
-  reach_is_text (forms.File target) located.TooManyCells is = absurd is
-  reach_is_text (forms.File target) located.Range is = absurd is
-  reach_is_text (forms.File target) refused is = is
-
-  pub reach_reported : (form : Form) (refused : LocatedFault) → IsReachFault bytes tables n work refused → IsFormFaultAfter form bytes tables n work (reported refused).fault
-  reach_reported (Text form) refused is = (refused, reach_is_text form refused is, refl)
-  reach_reported (Picture request) (Unread bad) is = (Unread bad, is, refl)
-  reach_reported (Picture request) (UnnamedRule unnamed) is = (UnnamedRule unnamed, is, refl)
-  reach_reported (Picture request) located.StateTooLarge is = (located.StateTooLarge, is, refl)
-  reach_reported (Picture request) located.TooManyCells is = absurd is
-  reach_reported (Picture request) located.GenTooLarge is = (located.GenTooLarge, is, refl)
-  reach_reported (Picture request) located.Work is = (located.Work, is, refl)
-  reach_reported (Picture request) located.Range is = absurd is
-  reach_reported (Picture request) located.Memory is = (located.Memory, is, refl)
-
   -- with what is known of it
   pub reach_detail : (refused : LocatedFault) → IsReachFault bytes tables n work refused → HasRunDetail bytes (reported refused)
   reach_detail (Unread bad) is = (refl, is)
@@ -189,10 +166,3 @@ module _ (bytes : List ℕ) (tables : List TableRule) (n work : ℕ) where
   text_detail (forms.File target) located.Work is = (refl, refl)
   text_detail (forms.File target) located.Range is = (refl, refl)
   text_detail (forms.File target) located.Memory is = (refl, refl)
-
-  -- none of these is a failed write
-  pub form_not_write : (form : Form) (told : ToolFault) → IsFormFaultAfter form bytes tables n work told → told ≢ Write
-  form_not_write (Text form) told is = pattern_not_write (IsTextFault form bytes tables n work) told is
-  form_not_write (Picture request) (Window fault) is = λ e. cc
-  form_not_write (Picture request) Write is = pattern_not_write (IsReachFault bytes tables n work) Write is
-  form_not_write (Picture request) told is = λ e. cc

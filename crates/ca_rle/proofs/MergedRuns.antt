@@ -23,10 +23,6 @@ use Rattle.ca_rle.proofs.RunByRun.{run_same, run_shown}
 
 -- ---- items that are put
 
--- none
-lays_none : (states filled : ℕ) (old : List ℕ) → filled ≤ 70 → Lays states old filled [] old filled
-lays_none states filled old low = record { low = low; laid = λ start before laid. subst (λ b. IsLaid start old filled (map (item_text states) b)) (sym (append-nil before)) laid }
-
 -- one after others
 pub lays_more : (states f m n : ℕ) (old mid new : List ℕ) (a b : List Item) → Lays states old f a mid m → Lays states mid m b new n → Lays states old f (a ++ b) new n
 lays_more states f m n old mid new a b one two = record {
@@ -43,10 +39,6 @@ lays_item states filled now old new item placed short = record {
   low = placed_low old new (item_text states item) filled now placed short;
   laid = λ start before laid. subst (IsLaid start new now) (sym (map-append (item_text states) before (item ∷ []))) (laid_more start old new (item_text states item) filled now (map (item_text states) before) laid placed short);
 }
-
--- so many of a tag, where there are none
-pub lays_no : (states filled count : ℕ) (old : List ℕ) (tag : Tag) → count ≡ 0 → filled ≤ 70 → Lays states old filled (some_of tag count) old filled
-lays_no states filled count old tag none low = rw none (lays_none states filled old low)
 
 -- and where there are some
 pub lays_some : (states filled now count : ℕ) (old new : List ℕ) (tag : Tag) → count ≢ 0 → IsPlaced old filled (item_text states (item_of tag count)) new now → length (item_text states (item_of tag count)) ≤ 70

@@ -3,7 +3,6 @@ use Rattle.std.proofs.Common.{◌≡◌, ◌≢◌, ℕ, ◌-◌, ◌<◌, pos, 
 use Rattle.std.specs.List.{range_with_len}
 use Rattle.std.proofs.lemmas.Bool.{cases_eq}
 use Rattle.std.proofs.lemmas.Int.{ints}
-use Rattle.std.proofs.lemmas.List.{append-nil}
 use Rattle.ca_plane.specs.Puts.{Puts}
 use Rattle.ca_plane.specs.declared.point.Point.{Point}
 use Rattle.ca_plane.specs.Plane.{Picture}
@@ -40,20 +39,6 @@ pub record IsRewritten (old new : List ℕ) (states : ℕ) (corner : Point) (pen
   pub written : IsWrittenTo old new states corner pending (picture_of_items start items)
   -- the next item begins after the run
   pub late : 0 < pending.run.state → IsAhead (record { y = pending.run.from.y; x = pending.run.past }) (place_after start items)
-
--- none
-pub rewritten_none : (text : List ℕ) (states : ℕ) (corner : Point) (pending : Pending) (start : Point) (bytes : List ℕ) (at : Offset) → IsOffsetOf [] at → pending.filled ≡ 0 → pending.run.from ≡ corner → pending.run.past ≡ corner.x → pending.run.state ≡ 0
-    → IsRewritten text text states corner pending start bytes bytes at []
-rewritten_none text states corner pending start bytes at offset filled from past state = record {
-  run = refl;
-  offset = offset;
-  written = record {
-    items = [];
-    laid = record { closed = []; open_line = []; lines_are = inl (refl, refl); whole = refl; filled_is = filled; short = omega (arith, filled); spelled = sym (append-nil text) };
-    read = inl (record { none = refl; from = from; past = past; state = state; unseen = refl });
-  };
-  late = λ live. absurd (omega (arith, live, state));
-}
 
 -- the run that isn't written ends where it begins, or after that
 pub whole_run : (old new : List ℕ) (states : ℕ) (corner : Point) (pending : Pending) (seen : Picture) → IsWrittenTo old new states corner pending seen → pending.run.from.x ≤ℤ pending.run.past

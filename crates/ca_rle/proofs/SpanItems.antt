@@ -1,5 +1,5 @@
 -- The span of items, item by item, is the least box round their cells.
-use Rattle.std.proofs.Common.{◌≡◌, ◌≢◌, ℕ, ◌+◌, ◌-◌, ◌<◌, ◌≤◌, ◌^◌, ℤ, pos, ◌+ℤ◌, ne_eqb, List, [], ◌∷◌, ◌++◌, Option, Some, None, refl, sym, ap, subst, ◌∙◌, arith}
+use Rattle.std.proofs.Common.{◌≡◌, ◌≢◌, ℕ, ◌+◌, ◌-◌, ◌<◌, ◌≤◌, ◌^◌, ℤ, pos, ◌+ℤ◌, ne_eqb, List, [], ◌∷◌, ◌++◌, Option, Some, None, sym, ap, subst, ◌∙◌, arith}
 use Rattle.std.specs.List.{AllByRecursion}
 use Rattle.std.proofs.lemmas.Int.{ints, clamps}
 use Rattle.ca_plane.specs.declared.point.Point.{Point}
@@ -20,10 +20,6 @@ use Rattle.ca_rle.proofs.Ranges.{all_parts, run_has_room}
 use Rattle.ca_rle.proofs.ReadParts.{run_low}
 use Rattle.ca_rle.proofs.RisingItems.{picture_is}
 use Rattle.ca_rle.proofs.RunBoxes.{AreBoundsWith, IsBoxWithRun, cells_bounds}
-
--- no items have no box
-pub span_none : (span : Option Span) → span ≡ None → IsSpanOf [] span
-span_none span none = λ corner range. rw none (λ live. live.2 refl)
 
 -- a span with a run is a box with it
 box_with : (corner place : Point) (at : Offset) (last : ℕ) (end : ℤ) (old : Option Span) (new : Span) → place.x ≡ corner.x +ℤ pos at.columns → place.y ≡ corner.y +ℤ pos at.rows → end ≡ corner.x +ℤ pos last → IsSpanWith at last old new

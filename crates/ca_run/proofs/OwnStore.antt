@@ -38,20 +38,6 @@ module _ {Rule : Type 0} where
 pub firsts_again : (n : ℕ) (old new : List Node) → IsSoundStore old → new ≡ take n old → Grows (take n old) new
 firsts_again n old new sound e = subst (λ l. Grows (take n old) l) (sym e) (grows_same (take n old) (firsts_sound n old sound))
 
--- where nothing is copied, the tree is the same
-pub copy_of_itself : (nodes : List Node) (tree : Tree) → IsTree nodes tree → IsCopyOfTree nodes tree nodes tree
-copy_of_itself nodes tree is = record { is_tree = is; level = refl; cells = λ x y. refl }
-
--- a tree that is taken from another store shows the same plane
-pub advanced_moved : {E : Type 0} (next : List ℕ → ℕ) (s0 s1 s2 : List Node) (first : Tree) (n : ℕ) (tree : Tree) (r : Result Tree E) → IsAdvanced next s0 first n s1 tree
-    → IfOk r (IsCopyOfTree s1 tree s2) → IfOk r (IsAdvanced next s0 first n s2)
-advanced_moved next s0 s1 s2 first n tree (Err e) advanced moved = tt
-advanced_moved next s0 s1 s2 first n tree (Ok copy) advanced moved = record {
-  is_tree = moved.is_tree;
-  level = omega (arith, moved.level, advanced.level);
-  cells = λ x y. moved.cells x y ∙ advanced.cells x y;
-}
-
 -- a run that is nearer to its end has less to do
 pub less_to_do : (n : ℕ) (reached : ReachedTree) (pace : Pace) (later : ReachedTree) (after last : Pace) → IsNearer reached pace later after → later.generations ≤ n → tries last ≤ tries after
     → (n - later.generations) * most_tries + tries last < (n - reached.generations) * most_tries + tries pace
