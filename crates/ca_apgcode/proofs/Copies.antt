@@ -4,7 +4,7 @@ use Rattle.std.specs.Prelude.{neg_ℤ}
 use Rattle.std.proofs.lemmas.Int.{ints}
 use Rattle.ca_apgcode.specs.Objects.{IsTextOf, IsTurnedText, IsPhaseText, IsLeastOfPhases, IsObjectCode, code_text}
 use Rattle.ca_apgcode.specs.Orientations.{turned, IsCopy, AreAmong}
-use Rattle.ca_apgcode.specs.declared.object.Kind.{Kind}
+use Rattle.ca_apgcode.specs.declared.object.ObjectKind.{ObjectKind}
 use Rattle.ca_apgcode.specs.declared.orientation.Orientation.{Orientation}
 use Rattle.ca_apgcode.specs.declared.orientation.Orientation.TheVariants.{Upright, QuarterTurn, HalfTurn, ThreeQuarterTurn, EastWest, NorthSouth, Diagonal, Antidiagonal}
 use Rattle.ca_apgcode.proofs.Leasts.{firsts_same}
@@ -106,7 +106,7 @@ one_least_of_copies f g count None (Some t) forth back one other = absurd (one t
 one_least_of_copies f g count None None forth back one other = refl
 
 -- and so is the code
-pub one_code_of_copies : (kind : Kind) (number : ℕ) (f g : ℕ → ℤ → ℤ → ℕ) (count : ℕ) (s t : List ℕ) → AreAmong f g count → AreAmong g f count
+pub one_code_of_copies : (kind : ObjectKind) (number : ℕ) (f g : ℕ → ℤ → ℤ → ℕ) (count : ℕ) (s t : List ℕ) → AreAmong f g count → AreAmong g f count
     → IsObjectCode kind number f count s → IsObjectCode kind number g count t → s ≡ t
 one_code_of_copies kind number f g count s t forth back one other =
     one.whole ∙ (ap (code_text kind number) (one_least_of_copies f g count one.text other.text forth back one.is_least other.is_least) ∙ sym other.whole)
@@ -119,7 +119,7 @@ least_of_copies f g count (Some s) forth back is = record {
 }
 least_of_copies f g count None forth back is = λ text is_text. is text (phase_text_of_copy f g count text forth is_text)
 
-pub code_of_copies : (kind : Kind) (number : ℕ) (f g : ℕ → ℤ → ℤ → ℕ) (count : ℕ) (code : List ℕ) → AreAmong f g count → AreAmong g f count → IsObjectCode kind number f count code → IsObjectCode kind number g count code
+pub code_of_copies : (kind : ObjectKind) (number : ℕ) (f g : ℕ → ℤ → ℤ → ℕ) (count : ℕ) (code : List ℕ) → AreAmong f g count → AreAmong g f count → IsObjectCode kind number f count code → IsObjectCode kind number g count code
 code_of_copies kind number f g count code forth back is = record { text = is.text; is_least = least_of_copies f g count is.text forth back is.is_least; whole = is.whole }
 
 -- planes with the same cells are copies of each other
@@ -131,6 +131,6 @@ same_copy f p same = record {
   same = λ x y. sym (same x y) ∙ ap₂ f (let e : x ≡ x -ℤ pos 0 = omega (arith, ints) in e) (let e : y ≡ y -ℤ pos 0 = omega (arith, ints) in e);
 }
 
-pub code_of_same : (kind : Kind) (number : ℕ) (f g : ℕ → ℤ → ℤ → ℕ) (count : ℕ) (code : List ℕ) → ((n : ℕ) (x y : ℤ) → f n x y ≡ g n x y) → IsObjectCode kind number f count code → IsObjectCode kind number g count code
+pub code_of_same : (kind : ObjectKind) (number : ℕ) (f g : ℕ → ℤ → ℤ → ℕ) (count : ℕ) (code : List ℕ) → ((n : ℕ) (x y : ℤ) → f n x y ≡ g n x y) → IsObjectCode kind number f count code → IsObjectCode kind number g count code
 code_of_same kind number f g count code same is =
     code_of_copies kind number f g count code (λ n below. (n, below, same_copy (f n) (g n) (same n))) (λ n below. (n, below, same_copy (g n) (f n) (λ x y. sym (same n x y)))) is

@@ -7,8 +7,8 @@ use Rattle.ca_apgcode.specs.Representation.{IsRepresentation}
 use Rattle.ca_apgcode.specs.Order.{Precedes}
 use Rattle.ca_apgcode.specs.Orientations.{turned}
 use Rattle.ca_apgcode.specs.declared.orientation.Orientation.{Orientation}
-use Rattle.ca_apgcode.specs.declared.object.Kind.{Kind}
-use Rattle.ca_apgcode.specs.declared.object.Kind.TheVariants.{StillLife, Oscillator, Spaceship}
+use Rattle.ca_apgcode.specs.declared.object.ObjectKind.{ObjectKind}
+use Rattle.ca_apgcode.specs.declared.object.ObjectKind.TheVariants.{StillLife, Oscillator, Spaceship}
 
 -- 1 for a live cell, whatever its state, and 0 for a dead one
 abbrev pub live : ℕ → ℕ
@@ -50,18 +50,18 @@ IsLeastOfPhases phases count (Some least) = IsLeastAmong (IsPhaseText phases cou
 IsLeastOfPhases phases count None = (text : List ℕ) → IsPhaseText phases count text → ⊥
 
 -- the letter of a kind
-abbrev pub kind_letter : Kind → ℕ
+abbrev pub kind_letter : ObjectKind → ℕ
 kind_letter StillLife = letter "s"
 kind_letter Oscillator = letter "p"
 kind_letter Spaceship = letter "q"
 
 -- the code with a number and a text, as `xp2_7`; and without a text, as `ov_p2`
-abbrev pub code_text : Kind → ℕ → Option (List ℕ) → List ℕ
+abbrev pub code_text : ObjectKind → ℕ → Option (List ℕ) → List ℕ
 code_text kind number (Some text) = letter "x" ∷ kind_letter kind ∷ [] ++ decimal number ++ codes "_" ++ text
 code_text kind number None = codes "ov_" ++ kind_letter kind ∷ [] ++ decimal number
 
 -- the code of an object that has so many phases. Its number is that of the live cells of a still life, and else the least period
-pub record IsObjectCode (kind : Kind) (number : ℕ) (phases : ℕ → ℤ → ℤ → ℕ) (count : ℕ) (code : List ℕ) : Type 0 where
+pub record IsObjectCode (kind : ObjectKind) (number : ℕ) (phases : ℕ → ℤ → ℤ → ℕ) (count : ℕ) (code : List ℕ) : Type 0 where
   pub text : Option (List ℕ)
   pub is_least : IsLeastOfPhases phases count text
   pub whole : code ≡ code_text kind number text

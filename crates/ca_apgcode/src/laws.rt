@@ -6,7 +6,7 @@ ghost use Rattle.ca_apgcode.specs.Representation.{IsRepresentation, IsCode};
 ghost use Rattle.ca_apgcode.specs.Order.{IsLeastText};
 ghost use Rattle.ca_apgcode.specs.Orientations.{AreAmong};
 ghost use Rattle.ca_apgcode.specs.Objects.{IsObjectCode, IsTextOf, LiesWithin};
-ghost use Rattle.ca_apgcode.specs.declared.object.Kind.{Kind};
+ghost use Rattle.ca_apgcode.specs.declared.object.ObjectKind.{ObjectKind};
 
 /// Cells in a box of at most 40 by 40 have a representation.
 pub fn some_text()
@@ -41,7 +41,7 @@ pub fn one_least()
 /// other, and each of the other of some of the one: turned, reflected or moved in any way. So all phases of an object
 /// have one code, and so has each copy of it.
 pub fn one_code()
-    ensures { (kind : Kind) (number : ℕ) (phases others : ℕ → ℤ → ℤ → ℕ) (count : ℕ) (one other : List ℕ)
+    ensures { (kind : ObjectKind) (number : ℕ) (phases others : ℕ → ℤ → ℤ → ℕ) (count : ℕ) (one other : List ℕ)
         → AreAmong phases others count → AreAmong others phases count
         → IsObjectCode kind number phases count one → IsObjectCode kind number others count other
         → one ≡ other }

@@ -19,7 +19,7 @@ mod writing;
 
 pub use fault::ReadFault;
 pub use grid::{Grid, MOST_SIDE};
-pub use object::{Kind, object_code};
+pub use object::{ObjectKind, object_code};
 pub use order::{compare, least};
 pub use orientation::Orientation;
 pub use phases::least_with;

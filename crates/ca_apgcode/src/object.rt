@@ -11,7 +11,7 @@ use std::alloc::Global;
 
 /// What an object is, as its code begins.
 #[derive(Clone, Copy, Debug, PartialEq, Eq)]
-pub enum Kind {
+pub enum ObjectKind {
     /// A still life: one generation on it is what it was.
     StillLife,
     /// An oscillator: after its period it is what it was, in its place.
@@ -28,7 +28,7 @@ pub enum Kind {
 /// Fails where there is no memory for the code.
 pub fn object_code(
     alloc: Global,
-    kind: Kind,
+    kind: ObjectKind,
     number: u128,
     least: Option<Vec<u8>>,
 ) -> Result<Vec<u8>, Memory>
@@ -42,7 +42,7 @@ pub fn object_code(
 }
 
 // The code with a text.
-fn code_with(alloc: Global, kind: Kind, number: u128, text: &[u8]) -> Result<Vec<u8>, Memory>
+fn code_with(alloc: Global, kind: ObjectKind, number: u128, text: &[u8]) -> Result<Vec<u8>, Memory>
     ensures { IfOk result (λ code. code.items ≡ code_text kind number (Some text.now)) }
 {
     let mut code = Vec::from_slice(alloc, &[b'x', letter(kind)])?;
@@ -53,7 +53,7 @@ fn code_with(alloc: Global, kind: Kind, number: u128, text: &[u8]) -> Result<Vec
 }
 
 // The code without a text.
-fn code_without(alloc: Global, kind: Kind, number: u128) -> Result<Vec<u8>, Memory>
+fn code_without(alloc: Global, kind: ObjectKind, number: u128) -> Result<Vec<u8>, Memory>
     ensures { IfOk result (λ code. code.items ≡ code_text kind number None) }
 {
     let mut code = Vec::from_slice(alloc, b"ov_")?;
@@ -71,12 +71,12 @@ fn push_number(code: &mut Vec<u8>, number: u128) -> Result<(), Memory>
 }
 
 // The letter of a kind.
-fn letter(kind: Kind) -> u8
+fn letter(kind: ObjectKind) -> u8
     ensures { result ≡ kind_letter kind }
 {
     match kind {
-        Kind::StillLife => b's',
-        Kind::Oscillator => b'p',
-        Kind::Spaceship => b'q',
+        ObjectKind::StillLife => b's',
+        ObjectKind::Oscillator => b'p',
+        ObjectKind::Spaceship => b'q',
     }
 }

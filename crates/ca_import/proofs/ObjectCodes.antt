@@ -12,8 +12,8 @@ use Rattle.ca_plane.proofs.Fronts.{every_append, every_wider, front_append, rest
 use Rattle.ca_apgcode.specs.Objects.{code_text, kind_letter}
 use Rattle.ca_apgcode.specs.Grids.{GridCells, cell}
 use Rattle.ca_apgcode.specs.Representation.{Step, digit, gap_text, step_text, IsRepresentation, IsCode}
-use Rattle.ca_apgcode.specs.declared.object.Kind.{Kind}
-use Rattle.ca_apgcode.specs.declared.object.Kind.TheVariants.{StillLife, Oscillator, Spaceship}
+use Rattle.ca_apgcode.specs.declared.object.ObjectKind.{ObjectKind}
+use Rattle.ca_apgcode.specs.declared.object.ObjectKind.TheVariants.{StillLife, Oscillator, Spaceship}
 use Rattle.ca_import.specs.declared.format.ImportFormat.TheVariants.{Apgcode}
 use Rattle.ca_import.specs.Apgcode.{after_mark, after_number, after_head}
 use Rattle.ca_import.specs.Import.{word_alone, representation_text, line_format, format_of, IsImport}
@@ -101,23 +101,23 @@ every_digit : (ds : List ℕ) → AreDigits ds → Every is_digit ds
 every_digit [] h = refl
 every_digit (d ∷ ds) h = h
 
-kind_fits : (kind : Kind) → is_word_byte (kind_letter kind) ≡ true
+kind_fits : (kind : ObjectKind) → is_word_byte (kind_letter kind) ≡ true
 kind_fits StillLife = refl
 kind_fits Oscillator = refl
 kind_fits Spaceship = refl
 
-code_fits : (kind : Kind) (ds text : List ℕ) → AreDigits ds → Every is_word_byte text → Every is_word_byte (letter "x" ∷ kind_letter kind ∷ ((ds ++ codes "_") ++ text))
+code_fits : (kind : ObjectKind) (ds text : List ℕ) → AreDigits ds → Every is_word_byte text → Every is_word_byte (letter "x" ∷ kind_letter kind ∷ ((ds ++ codes "_") ++ text))
 code_fits kind ds text digits fits =
     and_from _ _ refl (and_from _ _ (kind_fits kind)
     (every_append is_word_byte (ds ++ codes "_") text (every_append is_word_byte ds (codes "_") (digits_fit ds (every_digit ds digits)) refl) fits))
 
-head_read : (kind : Kind) (ds text : List ℕ) → AreDigits ds → after_head (letter "x" ∷ kind_letter kind ∷ ((ds ++ codes "_") ++ text)) ≡ Some text
+head_read : (kind : ObjectKind) (ds text : List ℕ) → AreDigits ds → after_head (letter "x" ∷ kind_letter kind ∷ ((ds ++ codes "_") ++ text)) ≡ Some text
 head_read StillLife ds text h = number_read ds text h
 head_read Oscillator ds text h = number_read ds text h
 head_read Spaceship ds text h = number_read ds text h
 
 -- a code that is the whole text is read
-code_read : (kind : Kind) (number : ℕ) (text : List ℕ) → number < 2 ^ 64 → Every is_word_byte text → representation_text (code_text kind number (Some text)) ≡ Some text
+code_read : (kind : ObjectKind) (number : ℕ) (text : List ℕ) → number < 2 ^ 64 → Every is_word_byte text → representation_text (code_text kind number (Some text)) ≡ Some text
 code_read kind number text low fits =
     let digits = (decimal_writes number low).0 in
     let word = letter "x" ∷ kind_letter kind ∷ ((decimal number ++ codes "_") ++ text) in
@@ -125,13 +125,13 @@ code_read kind number text low fits =
 
 -- ---- the whole text
 
-no_lines : (kind : Kind) (more : List ℕ) → line_format (letter "x" ∷ kind_letter kind ∷ more) ≡ None
+no_lines : (kind : ObjectKind) (more : List ℕ) → line_format (letter "x" ∷ kind_letter kind ∷ more) ≡ None
 no_lines StillLife more = refl
 no_lines Oscillator more = refl
 no_lines Spaceship more = refl
 
 -- the code of cells is imported as these cells
-pub code_imported : (kind : Kind) (number : ℕ) (box : GridCells) (text : List ℕ) → number < 2 ^ 64 → IsCode box text → IsImport (code_text kind number (Some text)) (from_corner (cell box)) None
+pub code_imported : (kind : ObjectKind) (number : ℕ) (box : GridCells) (text : List ℕ) → number < 2 ^ 64 → IsCode box text → IsImport (code_text kind number (Some text)) (from_corner (cell box)) None
 code_imported kind number box text low code =
     let read = code_read kind number text low (representation_fits (cell box) box.height text code.is_representation) in
     record {

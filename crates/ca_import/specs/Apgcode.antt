@@ -2,7 +2,7 @@
 use Rattle.std.specs.Prelude.{ℕ, List, [], ◌∷◌, length, Bool, ◌||◌, ◌==◌, if◌then◌else◌, Option, None, Some}
 use Rattle.ca_plane.specs.Bytes.{letter, is_digit, front, rest}
 use Rattle.ca_apgcode.specs.Objects.{kind_letter}
-use Rattle.ca_apgcode.specs.declared.object.Kind.TheVariants.{StillLife, Oscillator, Spaceship}
+use Rattle.ca_apgcode.specs.declared.object.ObjectKind.TheVariants.{StillLife, Oscillator, Spaceship}
 
 -- the byte is the letter of a kind
 abbrev pub is_kind_letter : ℕ → Bool

@@ -5,7 +5,7 @@ ghost use Rattle.ca_plane.specs.Shown.{from_corner};
 ghost use Rattle.ca_apgcode.specs.Grids.{GridCells, cell};
 ghost use Rattle.ca_apgcode.specs.Objects.{code_text};
 ghost use Rattle.ca_apgcode.specs.Representation.{IsCode};
-ghost use Rattle.ca_apgcode.specs.declared.object.Kind.{Kind};
+ghost use Rattle.ca_apgcode.specs.declared.object.ObjectKind.{ObjectKind};
 ghost use Rattle.ca_rule.specs.declared.bs_rule.BsRule.{BsRule};
 ghost use Rattle.ca_import.specs.declared.fault.ImportFault.{ImportFault};
 ghost use Rattle.ca_import.specs.declared.fault.ImportFault.TheVariants.{Memory};
@@ -30,6 +30,6 @@ pub fn no_fault_in_a_pattern()
 /// A code that `ca_apgcode::object_code` writes with the representation of some cells, and a number of 64 bits, holds
 /// these cells. So do all that `identify` writes but those without a representation.
 pub fn codes_hold_their_cells()
-    ensures { (kind : Kind) (number : ℕ) (box : GridCells) (text : List ℕ) → number < 2 ^ 64
+    ensures { (kind : ObjectKind) (number : ℕ) (box : GridCells) (text : List ℕ) → number < 2 ^ 64
         → IsCode box text → IsImport (code_text kind number (Some text)) (from_corner (cell box)) None }
 {}

@@ -11,7 +11,7 @@ use Rattle.ca_plane.proofs.Shifts.{cell-shifted}
 use Rattle.ca_quad.specs.declared.tree.WideBounds.{WideBounds}
 use Rattle.ca_quad.specs.Boxes.{IsLeastWideBox}
 use Rattle.ca_apgcode.specs.Objects.{IsPhaseText, IsLeastOfPhases, IsObjectCode}
-use Rattle.ca_apgcode.specs.declared.object.Kind.{Kind}
+use Rattle.ca_apgcode.specs.declared.object.ObjectKind.{ObjectKind}
 use Rattle.ca_apgcode.proofs.Copies.{code_of_same}
 use Rattle.ca_apgcode.proofs.PhaseTexts.{near_each_other}
 use Rattle.ca_object_code.specs.inner.Large.{IsBackBy, IsTooLarge}
@@ -90,7 +90,7 @@ found_weaker (Ok None) P Q weaker is = tt
 found_weaker (Err e) P Q weaker is = tt
 
 -- the code of a plane is that of a picture that shows it
-pub shown_code : {E : Type 0} (r : Result (Option (Vec ℕ Global)) E) (kind : Kind) (next : List ℕ → ℕ) (cells : Picture) (p : ℤ → ℤ → ℕ) → ((x y : ℤ) → cell cells x y ≡ p x y) → (period : ℕ)
+pub shown_code : {E : Type 0} (r : Result (Option (Vec ℕ Global)) E) (kind : ObjectKind) (next : List ℕ → ℕ) (cells : Picture) (p : ℤ → ℤ → ℕ) → ((x y : ℤ) → cell cells x y ≡ p x y) → (period : ℕ)
     → IfOk r (λ found. IfSome found (λ code. IsObjectCode kind period (cells_after next p) period code.items)) → IfOk r (λ found. IfSome found (λ code. IsObjectCode kind period (after next cells) period code.items))
 shown_code r kind next cells p shows period =
     found_weaker r (λ code. IsObjectCode kind period (cells_after next p) period code.items) (λ code. IsObjectCode kind period (after next cells) period code.items)

@@ -15,7 +15,7 @@ ghost use Rattle.ca_answers.specs.Codes.{IsCodeOf, IsNoObject, HasGoodPeriod, st
 
 use crate::phases::least_of_phases;
 use ca_answers::Identity;
-use ca_apgcode::{Kind as ObjectKind, object_code};
+use ca_apgcode::{ObjectKind, object_code};
 use ca_plane::Automaton;
 use ca_quad::Tree;
 use ca_run::{LeapFault, Leaper};

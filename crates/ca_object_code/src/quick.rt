@@ -17,7 +17,7 @@ ghost use Rattle.ca_object_code.specs.inner.Large.{IsBackBy};
 use crate::large::is_too_large;
 use crate::small::least_of_small;
 use ca_answers::Identity;
-use ca_apgcode::{Kind as ObjectKind, object_code};
+use ca_apgcode::{ObjectKind, object_code};
 use ca_plane::{Automaton, Counting};
 use ca_quad::{SquareBoxes, Tree};
 use ca_run::{LeapFault, Leaper};

@@ -1,70 +1,70 @@
 //! Codes that Catagolue and LifeWiki have, in each orientation.
 
 use super::expected::expect;
-use ca_apgcode::{Kind, Orientation, ReadFault, least_with, object_code, read_representation};
+use ca_apgcode::{ObjectKind, Orientation, ReadFault, least_with, object_code, read_representation};
 use std::alloc::Global;
 use std::test::*;
 
 /// The kind of an object, its number, its text, and its code.
-pub(crate) type Object = (Kind, u128, &'static [u8], &'static [u8]);
+pub(crate) type Object = (ObjectKind, u128, &'static [u8], &'static [u8]);
 
 const STILL_LIFES: &[Object] = &[
-    (Kind::StillLife, 4, b"33", b"xs4_33"),
-    (Kind::StillLife, 4, b"252", b"xs4_252"),
-    (Kind::StillLife, 5, b"253", b"xs5_253"),
-    (Kind::StillLife, 6, b"696", b"xs6_696"),
-    (Kind::StillLife, 6, b"356", b"xs6_356"),
-    (Kind::StillLife, 6, b"bd", b"xs6_bd"),
-    (Kind::StillLife, 6, b"25a4", b"xs6_25a4"),
-    (Kind::StillLife, 6, b"39c", b"xs6_39c"),
-    (Kind::StillLife, 7, b"2596", b"xs7_2596"),
-    (Kind::StillLife, 7, b"178c", b"xs7_178c"),
-    (Kind::StillLife, 7, b"25ac", b"xs7_25ac"),
-    (Kind::StillLife, 7, b"3lo", b"xs7_3lo"),
-    (Kind::StillLife, 8, b"6996", b"xs8_6996"),
-    (Kind::StillLife, 8, b"69ic", b"xs8_69ic"),
-    (Kind::StillLife, 8, b"35ac", b"xs8_35ac"),
-    (Kind::StillLife, 8, b"178k8", b"xs8_178k8"),
-    (Kind::StillLife, 8, b"25ak8", b"xs8_25ak8"),
-    (Kind::StillLife, 8, b"312ko", b"xs8_312ko"),
-    (Kind::StillLife, 8, b"3pm", b"xs8_3pm"),
-    (Kind::StillLife, 9, b"4aar", b"xs9_4aar"),
-    (Kind::StillLife, 9, b"178ko", b"xs9_178ko"),
-    (Kind::StillLife, 9, b"25ako", b"xs9_25ako"),
-    (Kind::StillLife, 9, b"31ego", b"xs9_31ego"),
-    (Kind::StillLife, 10, b"g8o652z01", b"xs10_g8o652z01"),
-    (Kind::StillLife, 11, b"g8o652z11", b"xs11_g8o652z11"),
-    (Kind::StillLife, 12, b"g8o653z11", b"xs12_g8o653z11"),
-    (Kind::StillLife, 14, b"g88m952z121", b"xs14_g88m952z121"),
-    (Kind::StillLife, 16, b"g88m996z1221", b"xs16_g88m996z1221"),
+    (ObjectKind::StillLife, 4, b"33", b"xs4_33"),
+    (ObjectKind::StillLife, 4, b"252", b"xs4_252"),
+    (ObjectKind::StillLife, 5, b"253", b"xs5_253"),
+    (ObjectKind::StillLife, 6, b"696", b"xs6_696"),
+    (ObjectKind::StillLife, 6, b"356", b"xs6_356"),
+    (ObjectKind::StillLife, 6, b"bd", b"xs6_bd"),
+    (ObjectKind::StillLife, 6, b"25a4", b"xs6_25a4"),
+    (ObjectKind::StillLife, 6, b"39c", b"xs6_39c"),
+    (ObjectKind::StillLife, 7, b"2596", b"xs7_2596"),
+    (ObjectKind::StillLife, 7, b"178c", b"xs7_178c"),
+    (ObjectKind::StillLife, 7, b"25ac", b"xs7_25ac"),
+    (ObjectKind::StillLife, 7, b"3lo", b"xs7_3lo"),
+    (ObjectKind::StillLife, 8, b"6996", b"xs8_6996"),
+    (ObjectKind::StillLife, 8, b"69ic", b"xs8_69ic"),
+    (ObjectKind::StillLife, 8, b"35ac", b"xs8_35ac"),
+    (ObjectKind::StillLife, 8, b"178k8", b"xs8_178k8"),
+    (ObjectKind::StillLife, 8, b"25ak8", b"xs8_25ak8"),
+    (ObjectKind::StillLife, 8, b"312ko", b"xs8_312ko"),
+    (ObjectKind::StillLife, 8, b"3pm", b"xs8_3pm"),
+    (ObjectKind::StillLife, 9, b"4aar", b"xs9_4aar"),
+    (ObjectKind::StillLife, 9, b"178ko", b"xs9_178ko"),
+    (ObjectKind::StillLife, 9, b"25ako", b"xs9_25ako"),
+    (ObjectKind::StillLife, 9, b"31ego", b"xs9_31ego"),
+    (ObjectKind::StillLife, 10, b"g8o652z01", b"xs10_g8o652z01"),
+    (ObjectKind::StillLife, 11, b"g8o652z11", b"xs11_g8o652z11"),
+    (ObjectKind::StillLife, 12, b"g8o653z11", b"xs12_g8o653z11"),
+    (ObjectKind::StillLife, 14, b"g88m952z121", b"xs14_g88m952z121"),
+    (ObjectKind::StillLife, 16, b"g88m996z1221", b"xs16_g88m996z1221"),
 ];
 
 const OSCILLATORS: &[Object] = &[
-    (Kind::Oscillator, 2, b"7", b"xp2_7"),
-    (Kind::Oscillator, 2, b"7e", b"xp2_7e"),
-    (Kind::Oscillator, 2, b"318c", b"xp2_318c"),
-    (Kind::Oscillator, 2, b"2a54", b"xp2_2a54"),
-    (Kind::Oscillator, 3, b"695qc8zx33", b"xp3_695qc8zx33"),
+    (ObjectKind::Oscillator, 2, b"7", b"xp2_7"),
+    (ObjectKind::Oscillator, 2, b"7e", b"xp2_7e"),
+    (ObjectKind::Oscillator, 2, b"318c", b"xp2_318c"),
+    (ObjectKind::Oscillator, 2, b"2a54", b"xp2_2a54"),
+    (ObjectKind::Oscillator, 3, b"695qc8zx33", b"xp3_695qc8zx33"),
     (
-        Kind::Oscillator,
+        ObjectKind::Oscillator,
         3,
         b"co9nas0san9oczgoldlo0oldlogz1047210127401",
         b"xp3_co9nas0san9oczgoldlo0oldlogz1047210127401",
     ),
-    (Kind::Oscillator, 4, b"37bkic", b"xp4_37bkic"),
-    (Kind::Oscillator, 5, b"idiidiz01w1", b"xp5_idiidiz01w1"),
-    (Kind::Oscillator, 5, b"3pmwmp3zx11", b"xp5_3pmwmp3zx11"),
-    (Kind::Oscillator, 6, b"ccb7w66z066", b"xp6_ccb7w66z066"),
-    (Kind::Oscillator, 14, b"j9d0d9j", b"xp14_j9d0d9j"),
-    (Kind::Oscillator, 15, b"4r4z4r4", b"xp15_4r4z4r4"),
+    (ObjectKind::Oscillator, 4, b"37bkic", b"xp4_37bkic"),
+    (ObjectKind::Oscillator, 5, b"idiidiz01w1", b"xp5_idiidiz01w1"),
+    (ObjectKind::Oscillator, 5, b"3pmwmp3zx11", b"xp5_3pmwmp3zx11"),
+    (ObjectKind::Oscillator, 6, b"ccb7w66z066", b"xp6_ccb7w66z066"),
+    (ObjectKind::Oscillator, 14, b"j9d0d9j", b"xp14_j9d0d9j"),
+    (ObjectKind::Oscillator, 15, b"4r4z4r4", b"xp15_4r4z4r4"),
     (
-        Kind::Oscillator,
+        ObjectKind::Oscillator,
         30,
         b"w33z8kqrqk8zzzx33",
         b"xp30_w33z8kqrqk8zzzx33",
     ),
     (
-        Kind::Oscillator,
+        ObjectKind::Oscillator,
         46,
         b"330279cx1aad3y833zx4e93x855bc",
         b"xp46_330279cx1aad3y833zx4e93x855bc",
@@ -72,11 +72,11 @@ const OSCILLATORS: &[Object] = &[
 ];
 
 const SPACESHIPS: &[Object] = &[
-    (Kind::Spaceship, 4, b"153", b"xq4_153"),
-    (Kind::Spaceship, 4, b"6frc", b"xq4_6frc"),
-    (Kind::Spaceship, 4, b"27dee6", b"xq4_27dee6"),
-    (Kind::Spaceship, 4, b"27deee6", b"xq4_27deee6"),
-    (Kind::Spaceship, 7, b"3nw17862z6952", b"xq7_3nw17862z6952"),
+    (ObjectKind::Spaceship, 4, b"153", b"xq4_153"),
+    (ObjectKind::Spaceship, 4, b"6frc", b"xq4_6frc"),
+    (ObjectKind::Spaceship, 4, b"27dee6", b"xq4_27dee6"),
+    (ObjectKind::Spaceship, 4, b"27deee6", b"xq4_27deee6"),
+    (ObjectKind::Spaceship, 7, b"3nw17862z6952", b"xq7_3nw17862z6952"),
 ];
 
 pub(crate) const ORIENTATIONS: &[Orientation] = &[
@@ -157,19 +157,19 @@ fn the_least_text_of_phases_is_found(rt: HostRuntime) {
 }
 
 /// Codes of objects of which no phase fits into 40 by 40 cells.
-const OVERSIZED: &[(Kind, u128, &[u8])] = &[
-    (Kind::StillLife, 8, b"ov_s8"),
-    (Kind::Oscillator, 57960, b"ov_p57960"),
-    (Kind::Spaceship, 4, b"ov_q4"),
+const OVERSIZED: &[(ObjectKind, u128, &[u8])] = &[
+    (ObjectKind::StillLife, 8, b"ov_s8"),
+    (ObjectKind::Oscillator, 57960, b"ov_p57960"),
+    (ObjectKind::Spaceship, 4, b"ov_q4"),
     (
-        Kind::StillLife,
+        ObjectKind::StillLife,
         340282366920938463463374607431768211455,
         b"ov_s340282366920938463463374607431768211455",
     ),
 ];
 
 /// Whether this is the code without a text.
-fn is_oversized(alloc: Global, kind: Kind, number: u128, code: &[u8]) -> bool {
+fn is_oversized(alloc: Global, kind: ObjectKind, number: u128, code: &[u8]) -> bool {
     match object_code(alloc, kind, number, None) {
         Ok(found) => found.as_slice() == code,
         Err(_) => false,

@@ -5,7 +5,7 @@ use Rattle.ca_plane.specs.Population.{HasPopulation}
 use Rattle.ca_plane.proofs.After.{after_same}
 use Rattle.ca_quad.specs.Trees.{cell}
 use Rattle.ca_apgcode.specs.Objects.{IsObjectCode}
-use Rattle.ca_apgcode.specs.declared.object.Kind.TheVariants as kind
+use Rattle.ca_apgcode.specs.declared.object.ObjectKind.TheVariants as kind
 use Rattle.ca_apgcode.proofs.Copies.{code_of_same}
 use Rattle.ca_evolution.specs.Steps.{TakesSteps}
 use Rattle.ca_evolution.proofs.Steps.{no_step}

@@ -1,6 +1,6 @@
 use Rattle.std.proofs.Common.{IfOk, IfSome, pos, ◌≤◌, ◌+◌, ◌*◌, sym, subst, ap, ◌∙◌}
 use Rattle.ca_quad.specs.Trees.{cell}
-use Rattle.ca_apgcode.specs.declared.object.Kind.TheVariants as kind
+use Rattle.ca_apgcode.specs.declared.object.ObjectKind.TheVariants as kind
 use Rattle.ca_answers.specs.declared.identity.Identity.TheVariants.{Claim}
 use Rattle.ca_answers.specs.Identified.{IsIdentity}
 use Rattle.ca_answers.specs.Codes.{IsCodeOf, steps_of}
