@@ -1,5 +1,5 @@
--- True answers: what a yes, a no and a refusal say of the files that were handed in, and what a refusal is about.
-use Rattle.std.specs.Prelude.{◌≡◌, ℕ, IsTrue, List, Option, Some, None, Vec, ◌⊎◌}
+-- True answers: what a yes, a no and a refusal say of the files that were handed in, and what a refusal is about, with its words.
+use Rattle.std.specs.Prelude.{◌≡◌, ℕ, IsTrue, List, ◌++◌, Option, Some, None, Vec, ◌⊎◌, codes}
 use Rattle.std.specs.declared.alloc.Global.{Global}
 use Rattle.std.specs.List.{AllZip, AllByRecursion}
 use Rattle.ca_plane.specs.Plane.{Picture, cell}
@@ -12,8 +12,8 @@ use Rattle.ca_answers.specs.declared.verdict.Answer.{Answer}
 use Rattle.ca_answers.specs.declared.verdict.Verdict.{Verdict}
 use Rattle.ca_answers.specs.declared.verdict.Verdict.TheVariants.{Yes, No, Refused}
 use Rattle.ca_pattern.specs.declared.pattern_fault.PatternFault.{PatternFault}
-use Rattle.ca_pattern.specs.declared.cause.Cause.{Cause}
-use Rattle.ca_pattern.specs.declared.cause.Cause.TheVariants.{NoFile, BadTable, BadPattern, BadRule, StateTooLarge, MixedRules, TooManyCells, Work, Memory}
+use Rattle.ca_answers.specs.declared.cause.Cause.{Cause}
+use Rattle.ca_answers.specs.declared.cause.Cause.TheVariants.{NoFile, BadTable, BadPattern, BadRule, StateTooLarge, MixedRules, TooManyCells, Work, Memory}
 use Rattle.ca_text.specs.declared.both.Both.{Both}
 use Rattle.ca_text.specs.Both.{HoldsOfBoth, HoldsOfEither, FirstBadOfBoth}
 use Rattle.ca_text.specs.Firsts.{FirstBad}
@@ -28,7 +28,8 @@ use Rattle.ca_text.specs.Truth.{expected_cells, IsTrueClaim}
 use Rattle.ca_answers.specs.Refutations.{IsReason}
 use Rattle.ca_pattern.specs.NamedTables.{IsQuietTable, IsTableFault}
 use Rattle.ca_pattern.specs.States.{HasSmallStates, HasLargeState}
-use Rattle.ca_pattern.specs.Formats.{IsPatternFault, IsPatternFaultOn}
+use Rattle.ca_pattern.specs.FaultTexts.{rule_fault_text, table_fault_text}
+use Rattle.ca_pattern.specs.Formats.{IsPatternFault, IsPatternFaultOn, pattern_fault_text}
 
 -- the file of a path was handed in, and this holds of its bytes
 abbrev pub HoldsOfFile : List (List ℕ × List ℕ) → (List ℕ → Type 0) → List ℕ → Type 0
@@ -209,6 +210,18 @@ IsOfRuleFile files rules patterns NoFile path =
 IsOfRuleFile files rules patterns (BadTable fault) path =
     FirstBad (HoldsTable files) (λ r. (r ≡ path) × IsBadTable files fault r) rules
 IsOfRuleFile files rules patterns cause path = ⊥
+
+-- why a claim isn't judged, in words (our own; docs/CLAIMS.md)
+abbrev pub cause_text : Cause → List ℕ
+cause_text NoFile = codes "no file"
+cause_text (BadTable fault) = table_fault_text fault
+cause_text (BadPattern fault) = pattern_fault_text fault
+cause_text (BadRule fault) = codes "bad rule: " ++ rule_fault_text fault
+cause_text StateTooLarge = codes "state too large"
+cause_text MixedRules = codes "mixed rules"
+cause_text TooManyCells = codes "too many cells"
+cause_text Work = codes "work"
+cause_text Memory = codes "memory"
 
 -- the cause is that of the claim
 abbrev pub IsCauseFor : List (List ℕ × List ℕ) → List (List ℕ) → Claim → Cause → Type 0

@@ -10,7 +10,7 @@ use Rattle.ca_rule.specs.TableNext.{TableRule}
 use Rattle.ca_rule.specs.declared.hood.Hood.{Hood}
 use Rattle.ca_rule.specs.declared.hood.Hood.TheVariants.{Moore, VonNeumann, Hex}
 use Rattle.ca_apgcode.specs.Objects.{IsObjectCode}
-use Rattle.ca_apgcode.specs.declared.object.Kind.TheVariants as object
+use Rattle.ca_apgcode.specs.declared.object.ObjectKind.TheVariants as object
 use Rattle.ca_text.specs.declared.kind.Kind.TheVariants.{Still, Oscillator, Spaceship}
 use Rattle.ca_pattern.specs.declared.located_fault.LocatedFault.{LocatedFault}
 use Rattle.ca_pattern.specs.declared.located_fault.LocatedFault.TheVariants.{Work}

@@ -6,7 +6,7 @@ use Rattle.ca_answers.specs.declared.note.Note.TheVariants.{Nothing, Cell, Patte
 use Rattle.ca_answers.specs.declared.verdict.Verdict.{Verdict}
 use Rattle.ca_answers.specs.declared.verdict.Verdict.TheVariants.{Yes, No, Refused}
 use Rattle.ca_answers.specs.declared.verdict.Refutation.TheVariants.{Empty, Differs, Earlier, Died}
-use Rattle.ca_pattern.specs.declared.cause.Cause.{Cause}
+use Rattle.ca_answers.specs.declared.cause.Cause.{Cause}
 use Rattle.ca_answers.specs.Answers.{IsOfClaim, IsOfPattern, IsOfRuleFile}
 use Rattle.ca_text.specs.Both.{map_both, FirstBadOfBoth}
 

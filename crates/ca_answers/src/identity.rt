@@ -10,8 +10,8 @@ pub enum Identity {
     Empty,
     /// The pattern is live, and the claim of this kind is true of it: one that names no other pattern.
     Claim(Kind),
-    /// The pattern is live, and no such claim is true of it within the limit. The growth is that of its plane after as
-    /// many generations as the limit.
+    /// The pattern is live, and no such claim is true of it within the limit. The growth is that of its plane
+    /// after as many generations as the limit.
     Unknown { growth: Growth },
 }
 

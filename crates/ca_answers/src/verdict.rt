@@ -1,6 +1,6 @@
 //! Verdicts on claims.
 
-use ca_pattern::Cause;
+use crate::cause::Cause;
 
 /// Why a claim is false.
 #[derive(Clone, Copy, Debug, PartialEq, Eq)]

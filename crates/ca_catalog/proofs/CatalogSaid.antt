@@ -15,8 +15,8 @@ use Rattle.ca_rule.specs.Rule.{next_of}
 use Rattle.ca_rule.specs.TableNext.{TableRule}
 use Rattle.ca_answers.specs.declared.identity.Identity.{Identity}
 use Rattle.ca_answers.specs.declared.identity.Growth.{Growth}
-use Rattle.ca_pattern.specs.declared.cause.Cause.{Cause}
-use Rattle.ca_pattern.specs.declared.cause.Cause.TheVariants as causes
+use Rattle.ca_answers.specs.declared.cause.Cause.{Cause}
+use Rattle.ca_answers.specs.declared.cause.Cause.TheVariants as causes
 use Rattle.ca_answers.specs.declared.identity.Identity.TheVariants.{Empty, Claim, Unknown}
 use Rattle.ca_text.specs.Kinds.{keyword_of, words_after_name, spaced}
 use Rattle.ca_text.specs.Text.{ClaimTextLine, Version, Rule, Load, Claims, is_second, path_of, ClaimLinesSay}
@@ -33,7 +33,7 @@ use Rattle.ca_catalog.specs.declared.entry.Outcome.TheVariants.{Unnameable, Iden
 use Rattle.ca_catalog.specs.declared.entry.Entry.{Entry}
 use Rattle.ca_catalog.specs.declared.task.Task.{Task}
 use Rattle.ca_report.specs.Escaped.{escaped}
-use Rattle.ca_report.specs.FaultTexts.{cause_text}
+use Rattle.ca_answers.specs.Answers.{cause_text}
 use Rattle.ca_report.specs.FileLines.{at_line}
 use Rattle.ca_report.specs.Counts.{generations_word, side_length}
 use Rattle.ca_catalog.specs.Names.{is_claim_path, is_taken}

@@ -9,9 +9,11 @@ use Rattle.ca_rle.specs.declared.fault.RleFault.TheVariants as rle
 use Rattle.ca_macro.specs.declared.fault.MacroFault.TheVariants as macrocell
 use Rattle.ca_pattern.specs.declared.pattern_fault.PatternFault.{PatternFault}
 use Rattle.ca_pattern.specs.declared.pattern_fault.PatternFault.TheVariants as patterns
-use Rattle.ca_pattern.specs.declared.cause.Cause.{Cause}
-use Rattle.ca_pattern.specs.declared.cause.Cause.TheVariants as causes
-use Rattle.ca_report.specs.FaultTexts.{rule_fault_text, table_fault_text, pattern_fault_text, cause_text}
+use Rattle.ca_answers.specs.declared.cause.Cause.{Cause}
+use Rattle.ca_answers.specs.declared.cause.Cause.TheVariants as causes
+use Rattle.ca_pattern.specs.FaultTexts.{rule_fault_text, table_fault_text}
+use Rattle.ca_pattern.specs.Formats.{pattern_fault_text}
+use Rattle.ca_answers.specs.Answers.{cause_text}
 use Rattle.ca_report.specs.FileLines.{at_line}
 use Rattle.ca_catalog.proofs.Saying.{is_inner}
 use Rattle.ca_catalog.proofs.NameWords.{decimal_inner}

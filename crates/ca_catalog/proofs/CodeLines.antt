@@ -9,8 +9,8 @@ use Rattle.ca_plane.specs.Generations.{after}
 use Rattle.ca_plane.proofs.Fronts.{every_append}
 use Rattle.ca_apgcode.specs.Objects.{IsObjectCode, IsLeastOfPhases, code_text, kind_letter}
 use Rattle.ca_apgcode.specs.Representation.{Step, digit, gap_text, step_text}
-use Rattle.ca_apgcode.specs.declared.object.Kind.{Kind}
-use Rattle.ca_apgcode.specs.declared.object.Kind.TheVariants as kind
+use Rattle.ca_apgcode.specs.declared.object.ObjectKind.{ObjectKind}
+use Rattle.ca_apgcode.specs.declared.object.ObjectKind.TheVariants as kind
 use Rattle.ca_text.specs.declared.kind.Kind.TheVariants.{Still, Oscillator, Spaceship}
 use Rattle.ca_answers.specs.declared.identity.Identity.{Identity}
 use Rattle.ca_answers.specs.declared.identity.Identity.TheVariants.{Claim}
@@ -58,13 +58,13 @@ strips_inner [] = refl
 strips_inner (s ∷ []) = steps_inner s
 strips_inner (s ∷ t ∷ ts) = every_append is_inner (flat_map step_text s) (letter "z" ∷ join_with_byte (letter "z") (map (flat_map step_text) (t ∷ ts))) (steps_inner s) (strips_inner (t ∷ ts))
 
-kind_inner : (k : Kind) → Every is_inner (letter "x" ∷ kind_letter k ∷ [])
+kind_inner : (k : ObjectKind) → Every is_inner (letter "x" ∷ kind_letter k ∷ [])
 kind_inner kind.StillLife = refl
 kind_inner kind.Oscillator = refl
 kind_inner kind.Spaceship = refl
 
 -- nor does a code with such a text, or without one
-text_inner : (k : Kind) (number : ℕ) (phases : ℕ → ℤ → ℤ → ℕ) (count : ℕ) (text : Option (List ℕ)) → IsLeastOfPhases phases count text → Every is_inner (code_text k number text)
+text_inner : (k : ObjectKind) (number : ℕ) (phases : ℕ → ℤ → ℤ → ℕ) (count : ℕ) (text : Option (List ℕ)) → IsLeastOfPhases phases count text → Every is_inner (code_text k number text)
 text_inner k number phases count (Some text) is =
     let (n, less, (orientation, (box, round, written))) = is.is_one in
     let front = letter "x" ∷ kind_letter k ∷ [] in
@@ -75,7 +75,7 @@ text_inner kind.StillLife number phases count None is = decimal_inner number
 text_inner kind.Oscillator number phases count None is = decimal_inner number
 text_inner kind.Spaceship number phases count None is = decimal_inner number
 
-object_inner : (k : Kind) (number : ℕ) (phases : ℕ → ℤ → ℤ → ℕ) (count : ℕ) (code : List ℕ) → IsObjectCode k number phases count code → Every is_inner code
+object_inner : (k : ObjectKind) (number : ℕ) (phases : ℕ → ℤ → ℤ → ℕ) (count : ℕ) (code : List ℕ) → IsObjectCode k number phases count code → Every is_inner code
 object_inner k number phases count code is = subst (Every is_inner) (sym is.whole) (text_inner k number phases count is.text is.is_least)
 
 -- the code of what is found of a plane is on one line

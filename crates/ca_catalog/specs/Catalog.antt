@@ -3,8 +3,8 @@ use Rattle.std.specs.Prelude.{ℕ, List, [], ◌∷◌, ◌++◌, Bool, true, fa
 use Rattle.std.specs.declared.alloc.Global.{Global}
 use Rattle.std.specs.Fmt.{signed_decimal}
 use Rattle.std.specs.List.{flat_map, list_any, list_all}
-use Rattle.ca_pattern.specs.declared.cause.Cause.{Cause}
-use Rattle.ca_pattern.specs.declared.cause.Cause.TheVariants as causes
+use Rattle.ca_answers.specs.declared.cause.Cause.{Cause}
+use Rattle.ca_answers.specs.declared.cause.Cause.TheVariants as causes
 use Rattle.ca_pattern.specs.declared.file.File.{File}
 use Rattle.ca_pattern.specs.declared.located_fault.LocatedFault.{LocatedFault}
 use Rattle.ca_report.specs.declared.detailed_fault.DetailedFault.{DetailedFault}
@@ -30,7 +30,7 @@ use Rattle.ca_catalog.specs.declared.entry.Outcome.{Outcome}
 use Rattle.ca_catalog.specs.declared.entry.Outcome.TheVariants as outcomes
 use Rattle.ca_catalog.specs.declared.entry.Outcome.TheVariants.{Unnameable, Identified, Refused}
 use Rattle.ca_catalog.specs.declared.entry.Entry.{Entry}
-use Rattle.ca_report.specs.FaultTexts.{cause_text}
+use Rattle.ca_answers.specs.Answers.{cause_text}
 use Rattle.ca_report.specs.FileLines.{at_line, rule_file_line, pattern_line}
 use Rattle.ca_report.specs.Counts.{generations_word, side_length}
 use Rattle.ca_catalog.specs.Names.{is_claim_path, claim_name, IsFreeName}
@@ -62,7 +62,8 @@ identity_line limit name Empty = codes "# " ++ (escaped name ++ (codes ": no cel
 identity_line limit name (Claim kind) = keyword_of kind ++ (32 ∷ (name ++ (spaced (words_after_name name kind) ++ 10 ∷ [])))
 identity_line limit name (Unknown growth) = codes "# " ++ (escaped name ++ (codes ": " ++ (none_text limit limit growth ++ 10 ∷ [])))
 
--- what the plane of a pattern with this name is found to be n generations on, in the words of the claims: a comment, since no claim about the file says it
+-- what the plane of a pattern with this name is found to be n generations on, in the words of the claims: a comment, since no claim about the file says it;
+-- no claim that is found names the pattern a second time
 abbrev pub later_text : (n limit : ℕ) → List ℕ → Identity → List ℕ
 later_text n limit name Empty = codes "no cell is live"
 later_text n limit name (Claim kind) = keyword_of kind ++ spaced (words_after_name name kind)

@@ -1,7 +1,7 @@
 -- What is reported of a fault for which a file isn't identified.
 use Rattle.std.specs.Prelude.{◌≡◌, None, Some}
-use Rattle.ca_pattern.specs.declared.cause.Cause.{Cause}
-use Rattle.ca_pattern.specs.declared.cause.Cause.TheVariants as causes
+use Rattle.ca_answers.specs.declared.cause.Cause.{Cause}
+use Rattle.ca_answers.specs.declared.cause.Cause.TheVariants as causes
 use Rattle.ca_pattern.specs.declared.located_fault.LocatedFault.{LocatedFault}
 use Rattle.ca_pattern.specs.declared.located_fault.LocatedFault.TheVariants.{Unread, UnnamedRule, StateTooLarge, Work, Memory}
 use Rattle.ca_report.specs.declared.detailed_fault.DetailedFault.{DetailedFault}

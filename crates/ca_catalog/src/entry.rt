@@ -1,7 +1,6 @@
 //! Files that are to be identified, and what came of them.
 
-use ca_answers::CodedLook;
-use ca_pattern::Cause;
+use ca_answers::{Cause, CodedLook};
 use ca_report::{DetailedFault, FaultyRule};
 
 /// What a file that is to be identified gave.

@@ -12,13 +12,11 @@ ghost use Rattle.ca_catalog.specs.Catalog.{IsWithin};
 
 use crate::entry::{Entry, Outcome};
 use crate::growth::push_none;
-use ca_answers::{CodedLook, Growth, Identity, Look};
-use ca_pattern::Cause;
+use ca_answers::{Cause, CodedLook, Growth, Identity, Look};
 use ca_plane::Memory;
 use ca_plane::text::push_text;
 use ca_report::{
-    Piece, at_pieces, cause_pieces, generations_word, in_pieces, push_counted, push_escaped,
-    push_pieces,
+    Piece, at_pieces, generations_word, in_pieces, push_counted, push_escaped, push_pieces,
 };
 use ca_text::Kind;
 
@@ -166,11 +164,11 @@ fn refused_pieces<'a>(
 ) -> [Piece<'a>; 10]
     ensures { pieces_text result ≡ refused_line name.now path.now cause line }
 {
-    let [first, second] = cause_pieces(cause);
+    let (first, second) = cause.words();
     let [at, number] = at_pieces(line);
     in_pieces![
         text b"# ", escaped name, text b": ", escaped path, text b": ",
-        piece first, piece second, piece at, piece number, text b"\n",
+        text first, text second, piece at, piece number, text b"\n",
     ]
 }
 

@@ -1,10 +1,11 @@
 //! What is reported of a fault for which a file isn't identified.
 
-ghost use Rattle.ca_pattern.specs.declared.cause.Cause.{Cause};
+ghost use Rattle.ca_answers.specs.declared.cause.Cause.{Cause};
 ghost use Rattle.ca_report.specs.declared.detailed_fault.DetailedFault.{DetailedFault};
 ghost use Rattle.ca_catalog.specs.FaultReports.{IsReportOf};
 
-use ca_pattern::{Cause, LocatedFault};
+use ca_answers::Cause;
+use ca_pattern::LocatedFault;
 use ca_report::DetailedFault;
 
 /// The report of a fault: its cause, and what is known of it.

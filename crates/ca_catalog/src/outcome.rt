@@ -6,7 +6,8 @@ ghost use Rattle.ca_catalog.specs.Catalog.{outcome_has_explanation, outcome_reme
 ghost use Rattle.ca_report.specs.Pieces.{pieces_text};
 
 use crate::entry::Outcome;
-use ca_pattern::{Cause, File};
+use ca_answers::Cause;
+use ca_pattern::File;
 use ca_report::{
     DetailedFault, NOTHING, Piece, bytes_of, cause_remedy, pattern_pieces, remedy_line_pieces,
     rule_file_pieces,

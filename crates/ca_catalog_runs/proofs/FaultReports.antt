@@ -1,6 +1,6 @@
 -- Faults for which files aren't identified, and their reports.
 use Rattle.std.proofs.Common.{ℕ, List, Bool, true, false, refl}
-use Rattle.ca_pattern.specs.declared.cause.Cause.{Cause}
+use Rattle.ca_answers.specs.declared.cause.Cause.{Cause}
 use Rattle.ca_pattern.specs.declared.located_fault.LocatedFault.{LocatedFault}
 use Rattle.ca_pattern.specs.declared.located_fault.LocatedFault.TheVariants.{Unread, UnnamedRule, StateTooLarge, GenTooLarge, Work, Range, TooManyCells, Memory}
 use Rattle.ca_rule.specs.TableNext.{TableRule}

@@ -4,11 +4,11 @@
 
 mod unknown;
 
-pub use ca_answers::{Answer, Growth, Identity, Look, Note, Refutation, Scope, Verdict};
+pub use ca_answers::{Answer, Cause, Growth, Identity, Look, Note, Refutation, Scope, Verdict};
 pub use ca_evolution::{Observer, RunSubject, open_evolved};
 pub use ca_identify::{identify, identity_laws};
 pub use ca_pattern::{
-    Cause, Cells, ConvertFault, File, Format, Limits, Loaded, LocatedFault, Pattern, PatternFault,
+    Cells, ConvertFault, File, Format, Limits, Loaded, LocatedFault, Pattern, PatternFault,
     StoredTree, Summary, Target, USUAL_MEMO, conversion_laws, convert, evolution_laws,
     open_pattern, read_pattern, rule_text_of, summary,
 };

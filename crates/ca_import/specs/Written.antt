@@ -1,17 +1,14 @@
 -- What a text of another format is written as, and why nothing is written.
 use Rattle.std.specs.Prelude.{◌≡◌, ℕ, ℤ, List, [], Option, None, Some, ◌⊎◌}
 use Rattle.ca_plane.specs.Bytes.{IsWord}
-use Rattle.ca_plane.specs.Plane.{Picture, cell}
 use Rattle.ca_plane.specs.Population.{HasTooManyCells}
 use Rattle.ca_rule.specs.declared.bs_rule.BsRule.{BsRule}
 use Rattle.ca_rule.specs.declared.fault.RuleFault.{RuleFault}
 use Rattle.ca_rule.specs.declared.fault.RuleFault.TheVariants.{Bounded, Wakes, Unknown}
 use Rattle.ca_rule.specs.Rule.{RuleValue, Bs, states_of, NamesRule, IsRuleFault, printed_form}
-use Rattle.ca_rle.specs.Pattern.{IsWrittenRle}
-use Rattle.ca_macro.specs.Pattern.{IsFileOf}
-use Rattle.ca_macro.specs.Tidy.{IsTidyMacrocell}
-use Rattle.ca_import.specs.declared.target.ImportTarget.{ImportTarget}
-use Rattle.ca_import.specs.declared.target.ImportTarget.TheVariants.{Rle, Macrocell}
+use Rattle.ca_pattern.specs.declared.format.Format.{Format}
+use Rattle.ca_pattern.specs.declared.format.Format.TheVariants.{Rle}
+use Rattle.ca_pattern.specs.Written.{IsTidyTextOf}
 use Rattle.ca_import.specs.declared.text_fault.ImportTextFault.{ImportTextFault}
 use Rattle.ca_import.specs.declared.text_fault.ImportTextFault.TheVariants.{Text, Rule, TooManyCells, Memory}
 use Rattle.ca_import.specs.Import.{IsImport, IsImportFaultOn}
@@ -35,22 +32,16 @@ IsAskedRuleFault text Bounded = IsRuleFault text [] Bounded
 IsAskedRuleFault text Wakes = IsRuleFault text [] Wakes
 IsAskedRuleFault text Unknown = IsRuleFault text [] Unknown × (IsWord text → ⊥)
 
--- the text is a tidy one of the format, and means these cells at every x and y, the rule text, and generation 0
-abbrev pub IsTextFor : ImportTarget → List ℕ → (ℤ → ℤ → ℕ) → List ℕ → ℕ → Type 0
-IsTextFor Rle text cells printed states =
-    (shown : Picture) × ((x y : ℤ) → cells x y ≡ cell shown x y) × IsWrittenRle text shown printed 0 states
-IsTextFor Macrocell text cells printed states =
-    (shown : ℤ → ℤ → ℕ) × ((x y : ℤ) → cells x y ≡ shown x y) × IsTidyMacrocell text shown printed 0 states × IsFileOf text shown printed 0
-
--- the text is what is written of a text of another format, where this rule text is asked for
-pub record IsImportText (bytes asked : List ℕ) (target : ImportTarget) (text : List ℕ) : Type 0 where
+-- the text is what is written of a text of another format, where this rule text is asked for: a tidy one with the cells that it holds,
+-- the rule text, and generation 0
+pub record IsImportText (bytes asked : List ℕ) (target : Format) (text : List ℕ) : Type 0 where
   pub cells : ℤ → ℤ → ℕ
   pub rule : Option BsRule
   pub printed : List ℕ
   pub states : ℕ
   pub holds : IsImport bytes cells rule
   pub rule_text : IsWrittenRule rule asked printed states
-  pub written : IsTextFor target text cells printed states
+  pub written : IsTidyTextOf target cells printed 0 states text
 
 -- the text holds a pattern of which this is so
 abbrev pub HoldsSuch : List ℕ → ((ℤ → ℤ → ℕ) → Option BsRule → Type 0) → Type 0
@@ -58,7 +49,7 @@ HoldsSuch bytes P = (cells : ℤ → ℤ → ℕ) × (rule : Option BsRule) × I
 
 -- why nothing is written: the text has a fault; else it names no rule and the one that is asked for can't be written; else too many cells are
 -- live for an RLE. Memory may run out once the text is read
-abbrev pub IsImportTextFault : List ℕ → List ℕ → ImportTarget → ImportTextFault → Type 0
+abbrev pub IsImportTextFault : List ℕ → List ℕ → Format → ImportTextFault → Type 0
 IsImportTextFault bytes asked target (Text fault) = IsImportFaultOn bytes fault.fault fault.line
 IsImportTextFault bytes asked target (Rule fault) = HoldsSuch bytes (λ cells rule. (rule ≡ None) × IsAskedRuleFault asked fault)
 IsImportTextFault bytes asked target TooManyCells = (target ≡ Rle) × HoldsSuch bytes (λ cells rule. HasTooManyCells cells)

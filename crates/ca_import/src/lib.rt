@@ -1,5 +1,5 @@
-//! Patterns in other formats than extended RLE and macrocell: Life 1.06, Life 1.05, Plaintext and apgcodes, read
-//! and written as tidy RLE or macrocell.
+//! Patterns in other formats than extended RLE and macrocell: Life 1.06, Life 1.05, Plaintext and apgcodes, read,
+//! and written in a format of ca_pattern.
 #![tactic(auto)]
 
 mod apgcode;
@@ -17,7 +17,6 @@ mod point;
 mod reading;
 mod rows;
 mod rule_text;
-mod target;
 mod text_fault;
 mod white;
 mod writing;
@@ -25,6 +24,5 @@ mod writing;
 pub use fault::{ImportFault, LineFault};
 pub use format::{ImportFormat, LineFormat};
 pub use import::{ImportedPattern, import_format, read_import};
-pub use target::ImportTarget;
 pub use text_fault::ImportTextFault;
 pub use writing::import_text;

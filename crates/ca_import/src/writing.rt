@@ -1,93 +1,42 @@
-//! Patterns of other formats, written as tidy RLE or macrocell.
+//! Patterns of other formats, written in one of ca_pattern's.
 
 ghost use Rattle.std.specs.Prelude.{IfOk, IfErr};
 ghost use Rattle.ca_plane.specs.BitPlane.{bit_cell};
-ghost use Rattle.ca_plane.specs.Plane.{cell as plane_cell};
-ghost use Rattle.ca_quad.specs.Trees.{cell};
 ghost use Rattle.ca_macro.specs.Pattern.{AreInRange};
-ghost use Rattle.ca_import.specs.declared.target.ImportTarget.TheVariants.{Rle};
-ghost use Rattle.ca_import.specs.Written.{IsTextFor, IsImportText, IsImportTextFault};
-ghost use Rattle.ca_import.specs.inner.Writing.{IsWritableRule, IsWritableTree, IsWritablePlane};
-ghost use Rattle.ca_import.specs.inner.Writing.{IsPlaneOf, AreUnwritten, IsPatternText, IsPatternTextFault};
+ghost use Rattle.ca_pattern.specs.Written.{IsTidyTextOf};
+ghost use Rattle.ca_import.specs.Written.{IsImportText, IsImportTextFault};
+ghost use Rattle.ca_import.specs.inner.Writing.{IsWritableRule, AreUnwritten};
+ghost use Rattle.ca_import.specs.inner.Writing.{IsPatternText, IsPatternTextFault};
 
 use crate::import::{ImportedPattern, read_import};
 use crate::rule_text::{RuleText, rule_text_for};
-use crate::target::ImportTarget;
 use crate::text_fault::ImportTextFault;
-use ca_macro::write_macro;
-use ca_plane::{BitPlane, Plane};
-use ca_quad::{QuadFault, Store, Tree};
-use ca_rle::write_rle;
+use ca_pattern::{Format, LocatedFault, text_of_tree};
+use ca_plane::BitPlane;
+use ca_quad::Store;
 use std::alloc::Global;
-
-/// The sparse plane with the cells of a tree.
-///
-/// # Errors
-///
-/// `TooManyCells` where the tree has too many, and `Memory`.
-fn plane_of(alloc: Global, store: &Store, tree: Tree) -> Result<Plane, ImportTextFault>
-    requires { IsWritableTree store.now tree }
-    ensures plane { IfOk result (IsPlaneOf store.now tree) }
-    ensures fault { IfErr result (AreUnwritten Rle (cell store.now tree)) }
-{
-    match store.to_plane(alloc, tree) {
-        Ok(cells) => Ok(cells),
-        Err(QuadFault::Memory) => Err(ImportTextFault::Memory),
-        Err(QuadFault::TooManyCells) => Err(ImportTextFault::TooManyCells),
-        Err(QuadFault::Range) => unreachable!(),
-    }
-}
-
-/// The tidy RLE of the cells of a plane.
-fn rle_of_plane(alloc: Global, cells: &Plane, rule: &RuleText) -> Result<Vec<u8>, ImportTextFault>
-    requires cells { IsWritablePlane cells.now }
-    requires rule { IsWritableRule rule.now }
-    ensures written { IfOk result (λ text.
-        IsTextFor Rle text.items (plane_cell cells.now) rule.now.text.items rule.now.states) }
-    ensures fault { IfErr result (AreUnwritten Rle (plane_cell cells.now)) }
-{
-    Ok(write_rle(alloc, cells, &rule.text, 0, rule.states)?)
-}
-
-/// The tidy text of the target's format with the cells of a tree.
-fn text_of_tree(
-    alloc: Global,
-    store: &mut Store,
-    tree: Tree,
-    rule: &RuleText,
-    target: ImportTarget,
-) -> Result<Vec<u8>, ImportTextFault>
-    requires tree { IsWritableTree store.old tree }
-    requires rule { IsWritableRule rule.now }
-    ensures written { IfOk result (λ text.
-        IsTextFor target text.items (cell store.old tree) rule.now.text.items rule.now.states) }
-    ensures fault { IfErr result (AreUnwritten target (cell store.old tree)) }
-{
-    match target {
-        ImportTarget::Rle => {
-            let cells = plane_of(alloc, store, tree)?;
-            rle_of_plane(alloc, &cells, rule)
-        }
-        ImportTarget::Macrocell => Ok(write_macro(alloc, store, tree, &rule.text, 0, rule.states)?),
-    }
-}
 
 /// The tidy text of the target's format with these cells.
 fn text_of_cells(
     alloc: Global,
     cells: BitPlane,
     rule: &RuleText,
-    target: ImportTarget,
+    target: Format,
 ) -> Result<Vec<u8>, ImportTextFault>
     requires range { AreInRange (bit_cell cells) }
     requires rule { IsWritableRule rule.now }
     ensures written { IfOk result (λ text.
-        IsTextFor target text.items (bit_cell cells) rule.now.text.items rule.now.states) }
+        IsTidyTextOf target (bit_cell cells) rule.now.text.items 0 rule.now.states text.items) }
     ensures fault { IfErr result (AreUnwritten target (bit_cell cells)) }
 {
     let mut store = Store::new(alloc);
     let tree = store.from_bits(cells)?;
-    text_of_tree(alloc, &mut store, tree, rule, target)
+    match text_of_tree(alloc, &mut store, tree, &rule.text, 0, rule.states, target) {
+        Ok(text) => Ok(text),
+        Err(LocatedFault::TooManyCells) => Err(ImportTextFault::TooManyCells),
+        Err(LocatedFault::Memory) => Err(ImportTextFault::Memory),
+        Err(_) => unreachable!(),
+    }
 }
 
 /// What is written of a pattern, where this rule text is asked for.
@@ -95,7 +44,7 @@ fn text_of_pattern(
     alloc: Global,
     pattern: ImportedPattern,
     asked: &[u8],
-    target: ImportTarget,
+    target: Format,
 ) -> Result<Vec<u8>, ImportTextFault>
     requires { AreInRange (bit_cell pattern.cells) }
     ensures written { IfOk result (λ text.
@@ -121,7 +70,7 @@ pub fn import_text(
     alloc: Global,
     bytes: &[u8],
     asked: &[u8],
-    target: ImportTarget,
+    target: Format,
 ) -> Result<Vec<u8>, ImportTextFault>
     // What is written is what the text holds.
     ensures written { IfOk result (λ text. IsImportText bytes.now asked.now target text.items) }

@@ -1,5 +1,5 @@
 -- The live cells of a file that reads are in range.
-use Rattle.std.proofs.Common.{◌≡◌, ℕ, List, sym, ap, subst, ◌∙◌}
+use Rattle.std.proofs.Common.{ℕ, List, sym, ap, subst, ◌∙◌}
 use Rattle.ca_plane.specs.Plane.{Picture, cell}
 use Rattle.ca_rle.specs.Shown as rle_shown
 use Rattle.ca_rle.proofs.OneFile as rle_file

@@ -65,12 +65,6 @@ module _ (bytes : List ℕ) (tables : List TableRule) where
   pub alone_is : (o : Option ConvertFault) (f g : ConvertFault) → o ≡ Some f → o ≡ Some g → f ≡ g
   alone_is o f g a b = cc
 
-  -- so whichever it is without its place
-  pub opening_fault_alone : (refused : LocatedFault) (fault : ConvertFault) → convert_fault_of refused ≡ Some fault → IsOpeningFault bytes tables refused → IsSummaryFault bytes tables fault
-  opening_fault_alone refused fault is h =
-      let (found, found_is, holds) = opening_alone refused h in
-      subst (IsSummaryFault bytes tables) (alone_is (convert_fault_of refused) found fault found_is is) holds
-
   -- a file that holds a pattern of small states is opened without a fault
   pub opened_or_fault : (p : Picture) (r : RuleValue) (g : ℕ) (fault : LocatedFault) → fault ≢ Memory → HoldsRuledPattern bytes tables p r g → HasSmallStates r (cell p) → IsOpeningFault bytes tables fault → ⊥
   opened_or_fault p r g (Unread bad) m a small h = reads_without_fault bytes bad.fault a.holds.readable (fault_on bytes bad.fault bad.line h)

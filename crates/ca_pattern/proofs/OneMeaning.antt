@@ -1,5 +1,5 @@
 -- A file has one meaning and one fault at most, and not both.
-use Rattle.std.proofs.Common.{◌≡◌, ℕ, ◌-◌, ◌<◌, List, sym, ap, subst, ◌∙◌, arith}
+use Rattle.std.proofs.Common.{◌≡◌, ℕ, ◌<◌, List, sym, ap, subst, ◌∙◌, arith}
 use Rattle.ca_plane.specs.Plane.{Picture, cell}
 use Rattle.ca_rule.specs.TableNext.{TableRule}
 use Rattle.ca_rule.specs.declared.fault.RuleFault.{RuleFault}

@@ -13,7 +13,6 @@ use Rattle.ca_macro.proofs.Ranges.{range_as}
 use Rattle.ca_rule.specs.TableNext.{TableRule}
 use Rattle.ca_rule.specs.Rule.{RuleValue, rule_value, states_of, next_of, printed_form}
 use Rattle.ca_pattern.specs.declared.format.Format.{Format}
-use Rattle.ca_pattern.specs.declared.format.Format.TheVariants.{Rle, Mc}
 use Rattle.ca_pattern.specs.declared.pattern.Summary.{Summary}
 use Rattle.ca_pattern.specs.declared.pattern.Pattern.{Pattern}
 use Rattle.ca_pattern.specs.declared.located_fault.LocatedFault.{LocatedFault}

@@ -1,5 +1,5 @@
 -- A file is converted to one text.
-use Rattle.std.proofs.Common.{◌≡◌, ℕ, List, Option, None, Some, sym, ap, subst, ◌∙◌, inl, inr}
+use Rattle.std.proofs.Common.{◌≡◌, ℕ, List, Option, None, Some, sym, ◌∙◌, inl, inr}
 use Rattle.ca_plane.specs.declared.point.Point.{Point}
 use Rattle.ca_plane.specs.declared.point.Bounds.{Bounds}
 use Rattle.std.specs.Option.{MatchOption}

@@ -1,9 +1,8 @@
 -- Files that were opened, and what is reached, told and written of their patterns.
-use Rattle.std.proofs.Common.{◌≡◌, ℕ, ◌+◌, ◌<◌, ◌≤◌, List, Some, Result, Ok, Err, refl, sym, ap, subst, ◌∙◌, arith}
-use Rattle.std.specs.Prelude.{ℤ, IfOk, IfErr}
+use Rattle.std.proofs.Common.{◌≡◌, ℕ, ◌+◌, ◌<◌, List, Some, Result, Ok, Err, refl, sym, subst, ◌∙◌, arith}
+use Rattle.std.specs.Prelude.{ℤ, IfOk}
 use Rattle.ca_plane.specs.Plane.{Picture, cell}
-use Rattle.ca_plane.specs.Generations.{after, cells_after}
-use Rattle.ca_plane.proofs.After.{after_same}
+use Rattle.ca_plane.specs.Generations.{after}
 use Rattle.ca_plane.specs.Limits.{generation_limit}
 use Rattle.ca_quad.specs.declared.node.Node.{Node}
 use Rattle.ca_quad.specs.Trees as trees
@@ -27,7 +26,7 @@ use Rattle.ca_pattern.specs.declared.pattern.StoredTree.{StoredTree}
 use Rattle.ca_pattern.specs.declared.pattern.Summary.{Summary}
 use Rattle.ca_pattern.specs.declared.ruled.RuledPattern.{RuledPattern}
 use Rattle.ca_pattern.specs.Converted.{IsConvertFault}
-use Rattle.ca_pattern.specs.Evolved.{HoldsSmallRuledPattern, IsPatternAfter, IsReachFault, MayNeedRun, IsEvolved, IsSummaryAfter, IsConvertedAfter, IsConvertFaultAfter}
+use Rattle.ca_pattern.specs.Evolved.{IsPatternAfter, IsEvolved, IsSummaryAfter, IsConvertedAfter, IsConvertFaultAfter}
 use Rattle.ca_pattern.specs.LocatedFaults.{convert_fault_of}
 use Rattle.ca_pattern.specs.Formats.{format_of}
 use Rattle.ca_pattern.specs.PatternCells.{IsTreeOf, IsPatternOf}
@@ -169,13 +168,3 @@ module _ (bytes : List ℕ) (tables : List TableRule) (n : ℕ) (pattern : Patte
 
   low : is.begun + n < generation_limit
   low = let below = is.is_pattern.low in let added = is.added in omega (arith, below, added)
-
-  pub pattern_unwritten : (work : ℕ) (target : Format) (fault : LocatedFault) → AreUnwritten target (after (next_of (rule_value pattern.rule)) is.cells n) fault → IsConvertFaultAfter bytes tables n work target fault
-  pattern_unwritten work target TooManyCells h = (h.0, is.cells, rule, is.begun, is.begins, low, h.1, h.2)
-  pattern_unwritten work target Range h = (is.cells, rule, is.begun, is.begins, low, h)
-  pattern_unwritten work target Memory h = reads_may_want bytes is.begins.holds.holds.readable
-  pattern_unwritten work target (Unread bad) h = absurd h
-  pattern_unwritten work target (UnnamedRule unnamed) h = absurd h
-  pattern_unwritten work target StateTooLarge h = absurd h
-  pattern_unwritten work target GenTooLarge h = absurd h
-  pattern_unwritten work target Work h = absurd h

@@ -1,12 +1,11 @@
 -- Pattern files that read and that don't, and what is listed of a plane.
-use Rattle.std.proofs.Common.{◌≡◌, ℕ, ◌≤◌, ◌<◌, List, get_or, Option, inr, sym, subst, ◌∙◌, arith}
+use Rattle.std.proofs.Common.{◌≡◌, ℕ, ◌≤◌, ◌<◌, ℤ, List, get_or, Option, inr, sym, subst, ◌∙◌, arith}
 use Rattle.std.specs.List.{All}
 use Rattle.ca_plane.specs.declared.point.Point.{Point}
 use Rattle.ca_plane.specs.Plane.{Picture, cell}
 use Rattle.ca_plane.specs.Limits.{IsInRange}
 use Rattle.ca_plane.specs.Sparse.{IsSparse}
 use Rattle.ca_plane.proofs.Pictures.{cell-listed}
-use Rattle.ca_rule.specs.Rule.{RuleValue, states_of}
 use Rattle.ca_macro.specs.Pattern.{AreInRange}
 use Rattle.ca_pattern.specs.declared.format.Format.{Format}
 use Rattle.ca_pattern.specs.declared.format.Format.TheVariants.{Rle, Mc}
@@ -14,7 +13,6 @@ use Rattle.ca_pattern.specs.Formats.{format_of, IsReadableAs, MayWantMemoryAs, I
 use Rattle.ca_pattern.specs.Means.{IsReadable, MayWantMemory}
 use Rattle.ca_pattern.specs.declared.pattern_fault.PatternFault.{PatternFault}
 use Rattle.ca_pattern.specs.declared.pattern_fault.PatternFault.TheVariants as pattern_fault
-use Rattle.ca_pattern.specs.States.{HasSmallStates}
 
 -- ---- files that read
 
@@ -35,10 +33,10 @@ fault_on bytes (pattern_fault.Macro fault) line on = (on.0, on.1, on.2.0)
 fault_on bytes pattern_fault.Memory line on = on
 
 -- each listed state of a plane is small where all states are
-pub listed_small : (rule : RuleValue) (p : Picture) → IsSparse p → HasSmallStates rule (cell p) → All (λ e. e.1 < states_of rule) p
-listed_small rule p sparse small = λ k d l.
+pub listed_below : (states : ℕ) (p : Picture) → IsSparse p → ((x y : ℤ) → cell p x y < states) → All (λ e. e.1 < states) p
+listed_below states p sparse below = λ k d l.
     let at : Point = (get_or p k d).0 in
-    subst (λ s. s < states_of rule) (cell-listed p sparse k d l) (small at.x at.y)
+    subst (λ s. s < states) (cell-listed p sparse k d l) (below at.x at.y)
 
 -- and each listed cell is in range where all live cells are
 pub listed_in_range : (p : Picture) → IsSparse p → AreInRange (cell p) → All (λ e. IsInRange e.0) p

@@ -10,15 +10,13 @@ use Rattle.ca_rle.specs.File.{RleFile, IsRleFile}
 use Rattle.ca_rle.specs.Limits.{IsWithinLimits}
 use Rattle.ca_rle.specs.Pattern.{HasFileParts}
 use Rattle.ca_rle.specs.Shown.{picture_of_items}
-use Rattle.ca_rule.specs.TableNext.{TableRule}
-use Rattle.ca_rule.specs.Rule.{RuleValue, NamesRule, states_of}
+use Rattle.ca_rule.specs.Rule.{RuleValue, states_of}
 use Rattle.ca_macro.specs.Pattern.{AreInRange}
 use Rattle.ca_pattern.specs.declared.format.Format.TheVariants.{Rle}
 use Rattle.ca_pattern.specs.Formats.{format_of, MeansAs, IsReadableAs}
 use Rattle.ca_pattern.specs.Means.{HoldsPattern}
-use Rattle.ca_pattern.specs.States.{HasSmallStates, HasLargeState}
+use Rattle.ca_pattern.specs.States.{HasLargeState}
 use Rattle.ca_pattern.proofs.FilesRead.{in_format, shown_in_range}
-use Rattle.ca_pattern.proofs.EqualCells.{small_shown}
 
 module _ (bytes : List ℕ) (file : RleFile) (f : ℤ → ℤ → ℕ) (rule_text : List ℕ) (generation : ℕ) (rle : format_of bytes ≡ Rle) (is_file : IsRleFile bytes file) (within : IsWithinLimits file) (parts : HasFileParts file f rule_text generation) where
   -- the file's picture

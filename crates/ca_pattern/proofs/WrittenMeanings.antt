@@ -1,5 +1,5 @@
 -- What is written means what the pattern means.
-use Rattle.std.proofs.Common.{◌≡◌, ℕ, ◌≤◌, List, length, Option, Some, Result, Ok, Err, refl, sym, ap, subst, ◌∙◌}
+use Rattle.std.proofs.Common.{◌≡◌, ℕ, ◌≤◌, ◌<◌, List, length, Option, Some, Result, Ok, Err, refl, sym, ap, subst, ◌∙◌}
 use Rattle.std.specs.Prelude.{ℤ}
 use Rattle.std.specs.Option.{MatchOption}
 use Rattle.std.specs.Result.{IfOk, IfErr}
@@ -12,14 +12,11 @@ use Rattle.ca_quad.specs.declared.node.Node.{Node}
 use Rattle.ca_quad.specs.declared.tree.Tree.{Tree}
 use Rattle.ca_quad.specs.Trees.{cell}
 use Rattle.ca_rle.specs.Tidy as rle
-use Rattle.ca_rle.specs.File as rle_file
-use Rattle.ca_rle.specs.Limits.{IsWithinLimits}
-use Rattle.ca_rle.specs.Shown as rle_shown
+use Rattle.ca_rle.specs.Pattern.{IsWritableRle, IsWrittenRle}
 use Rattle.ca_macro.specs.Tidy as macrocell
 use Rattle.ca_macro.specs.File as macrocell_file
-use Rattle.ca_macro.specs.Limits.{IsMacrocellWithinRange}
 use Rattle.ca_macro.specs.Shown as macrocell_shown
-use Rattle.ca_macro.specs.Pattern.{Holds}
+use Rattle.ca_macro.specs.Pattern.{IsWritable, IsFileOf}
 use Rattle.ca_macro.proofs.TidyFiles.{tidy_nodes_as}
 use Rattle.ca_rule.specs.Rule.{RuleValue, states_of, printed_form}
 use Rattle.ca_pattern.specs.declared.format.Format.{Format}
@@ -29,10 +26,10 @@ use Rattle.ca_pattern.specs.inner.Cells.{IsPlaneOf}
 use Rattle.ca_macro.proofs.Ranges.{range_as}
 use Rattle.ca_pattern.specs.declared.located_fault.LocatedFault.{LocatedFault}
 use Rattle.ca_pattern.specs.declared.located_fault.LocatedFault.TheVariants.{Unread, UnnamedRule, StateTooLarge, GenTooLarge, Work, Range, TooManyCells, Memory}
-use Rattle.ca_pattern.specs.Written.{IsWrittenAs, AreUnwritten}
-use Rattle.ca_pattern.specs.inner.Ready.{AreWritable, IsWritablePlane}
+use Rattle.ca_pattern.specs.Written.{IsTidyTextOf, IsWrittenAs, AreUnwritten}
 use Rattle.ca_pattern.proofs.FilesRead.{in_format}
-use Rattle.ca_pattern.proofs.EqualCells.{small_shown, many_shown}
+use Rattle.ca_pattern.proofs.EqualCells.{many_shown}
+use Rattle.ca_pattern.proofs.PatternsRead.{listed_in_range, listed_below}
 
 -- ---- the format
 
@@ -58,37 +55,36 @@ plane_is_short nodes tree picture is =
     subst (λ n. n ≤ most_cells) (same_population (cell nodes tree) (plane.cell picture) (λ x y. sym (is.shows x y)) count (length picture) has (sparse_population picture is.sparse)) low
 
 -- and may be written where the tree's cells may
-pub plane_is_writable : (nodes : List Node) (tree : Tree) (picture : Picture) (rule : RuleValue) (generation : ℕ) → IsPlaneOf nodes tree picture → AreWritable (cell nodes tree) rule generation → IsWritablePlane picture rule generation
-plane_is_writable nodes tree picture rule generation is writable = record {
-  sparse = is.sparse;
-  writable = record {
-    range = λ x y live. writable.range x y (λ e. live (is.shows x y ∙ e));
-    small = small_shown (cell nodes tree) (plane.cell picture) (λ x y. sym (is.shows x y)) rule writable.small;
-    low = writable.low;
-  };
-  short = plane_is_short nodes tree picture is;
-}
+pub plane_is_writable : (nodes : List Node) (tree : Tree) (picture : Picture) (rule_text : List ℕ) (generation states : ℕ) → IsPlaneOf nodes tree picture → IsWritable nodes tree rule_text generation states → IsWritableRle picture rule_text generation states
+plane_is_writable nodes tree picture rule_text generation states is writable =
+    let shown : (x y : ℤ) → cell nodes tree x y ≡ plane.cell picture x y = λ x y. sym (is.shows x y) in
+    record {
+      range = listed_in_range picture is.sparse (range_as (cell nodes tree) (plane.cell picture) shown writable.in_range);
+      low_states = listed_below states picture is.sparse (λ x y. subst (λ s. s < states) (shown x y) (writable.low_states x y));
+      is_word = writable.is_word;
+      low_generation = writable.low_generation;
+    }
 
-pub written_rle : (cells : Picture) (rule : RuleValue) (generation : ℕ) (rule_text text : List ℕ) (file : rle_file.RleFile) → rule_text ≡ printed_form rule → rle.IsTidyRle text cells rule_text generation (states_of rule)
-    → rle_file.IsRleFile text file → IsWithinLimits file → rle_shown.picture_of_items file.corner file.items ≡ cells → file.rule_text ≡ rule_text → file.generation ≡ generation → IsWrittenAs Rle (plane.cell cells) rule generation text
-written_rle cells rule generation rule_text text file printed tidy is_file within shown names at =
-    let format = tidy_is_rle text cells rule_text generation (states_of rule) tidy in
+pub written_rle : (cells : Picture) (rule_text : List ℕ) (generation states : ℕ) (text : List ℕ) → length cells ≤ most_cells → IsWrittenRle text cells rule_text generation states → IsTidyTextOf Rle (plane.cell cells) rule_text generation states text
+written_rle cells rule_text generation states text short written =
+    let (file, is_file, within, shown, names, at) = written.means in
+    let format = tidy_is_rle text cells rule_text generation states written.tidy in
     record {
       shown = cells;
       same = λ x y. refl;
       format = format;
       holds = record {
-        readable = in_format (λ t. IsReadableAs t text) text Rle format (file, is_file, within);
-        means = in_format (λ t. MeansAs t text cells (printed_form rule) generation) text Rle format (file, is_file, sym shown, sym (names ∙ printed), sym at);
+        readable = in_format (λ t. IsReadableAs t text) text Rle format (file, is_file, written.limits short file is_file);
+        means = in_format (λ t. MeansAs t text cells rule_text generation) text Rle format (file, is_file, sym shown, sym names, sym at);
       };
-      tidy = subst (λ t. rle.IsTidyRle text cells t generation (states_of rule)) printed tidy;
+      tidy = written.tidy;
     }
 
 -- what is written of cells is written of the same cells, and why they aren't is why those aren't
 module _ (f g : ℤ → ℤ → ℕ) (same : (x y : ℤ) → f x y ≡ g x y) where
-  pub written_ok : (rule : RuleValue) (generation : ℕ) {A E : Type 0} (items : A → List ℕ) (r : Result A E) → IfOk r (λ a. IsWrittenAs Rle f rule generation (items a)) → IfOk r (λ a. IsWrittenAs Rle g rule generation (items a))
-  written_ok rule generation items (Ok a) written = record { shown = written.shown; same = λ x y. sym (same x y) ∙ written.same x y; format = written.format; holds = written.holds; tidy = written.tidy }
-  written_ok rule generation items (Err e) written = written
+  pub written_ok : (target : Format) (rule_text : List ℕ) (generation states : ℕ) {A E : Type 0} (items : A → List ℕ) (r : Result A E) → IfOk r (λ a. IsTidyTextOf target f rule_text generation states (items a)) → IfOk r (λ a. IsTidyTextOf target g rule_text generation states (items a))
+  written_ok target rule_text generation states items (Ok a) written = record { shown = written.shown; same = λ x y. sym (same x y) ∙ written.same x y; format = written.format; holds = written.holds; tidy = written.tidy }
+  written_ok target rule_text generation states items (Err e) written = written
 
   unwritten : (target : Format) (fault : LocatedFault) → AreUnwritten target f fault → AreUnwritten target g fault
   unwritten target TooManyCells h = (h.0, range_as f g same h.1, many_shown f g same h.2)
@@ -111,9 +107,8 @@ module _ (f g : ℤ → ℤ → ℕ) (same : (x y : ℤ) → f x y ≡ g x y) wh
   pub tidy_shown : (text rule_text : List ℕ) (generation states : ℕ) → macrocell.IsTidyMacrocell text f rule_text generation states → macrocell.IsTidyMacrocell text g rule_text generation states
   tidy_shown text rule_text generation states tidy = record { nodes = tidy.nodes; tidy = tidy_nodes_as states f g tidy.nodes same tidy.tidy; spelled = tidy.spelled }
 
-pub written_macro : (f : ℤ → ℤ → ℕ) (rule : RuleValue) (generation : ℕ) (rule_text text : List ℕ) (file : macrocell_file.MacrocellFile) → rule_text ≡ printed_form rule → macrocell.IsTidyMacrocell text f rule_text generation (states_of rule)
-    → macrocell_file.IsMacrocellFile text file → IsMacrocellWithinRange file → Holds file f rule_text generation → IsWrittenAs Mc f rule generation text
-written_macro f rule generation rule_text text file printed tidy is_file within holds =
+pub written_macro : (f : ℤ → ℤ → ℕ) (rule_text : List ℕ) (generation states : ℕ) (text : List ℕ) → macrocell.IsTidyMacrocell text f rule_text generation states → IsFileOf text f rule_text generation → IsTidyTextOf Mc f rule_text generation states text
+written_macro f rule_text generation states text tidy (file, is_file, within, holds) =
     let format = file_is_macro text file is_file in
     let cells = macrocell_shown.picture_of_nodes file.nodes in
     let same : (x y : ℤ) → f x y ≡ plane.cell cells x y = λ x y. sym (holds.shown x y) in
@@ -123,7 +118,18 @@ written_macro f rule generation rule_text text file printed tidy is_file within 
       format = format;
       holds = record {
         readable = in_format (λ t. IsReadableAs t text) text Mc format (file, is_file, within);
-        means = in_format (λ t. MeansAs t text cells (printed_form rule) generation) text Mc format (file, is_file, refl, sym (holds.rule_is ∙ printed), sym holds.generation_is);
+        means = in_format (λ t. MeansAs t text cells rule_text generation) text Mc format (file, is_file, refl, sym holds.rule_is, sym holds.generation_is);
       };
-      tidy = tidy_shown f (plane.cell cells) same text (printed_form rule) generation (states_of rule) (subst (λ t. macrocell.IsTidyMacrocell text f t generation (states_of rule)) printed tidy);
+      tidy = tidy_shown f (plane.cell cells) same text rule_text generation states tidy;
     }
+
+-- ---- rules
+
+-- a text with the printed form of a rule, and as many states as it has
+module _ (target : Format) (f : ℤ → ℤ → ℕ) (rule : RuleValue) (rule_text : List ℕ) (generation states : ℕ) (printed : rule_text ≡ printed_form rule) (count : states ≡ states_of rule) where
+  pub printed_text : (text : List ℕ) → IsTidyTextOf target f rule_text generation states text → IsWrittenAs target f rule generation text
+  printed_text text is = subst (λ t. IsTidyTextOf target f t generation (states_of rule) text) printed (subst (λ n. IsTidyTextOf target f rule_text generation n text) count is)
+
+  pub printed_ok : {A E : Type 0} (items : A → List ℕ) (r : Result A E) → IfOk r (λ a. IsTidyTextOf target f rule_text generation states (items a)) → IfOk r (λ a. IsWrittenAs target f rule generation (items a))
+  printed_ok items (Ok a) is = printed_text (items a) is
+  printed_ok items (Err e) is = is

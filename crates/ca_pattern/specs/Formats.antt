@@ -1,6 +1,6 @@
--- What the formats of pattern files are: which bytes are of each, what they mean, when they are read, and what is written. Another format is a
--- case of each of these.
-use Rattle.std.specs.Prelude.{◌≡◌, ◌≢◌, ℕ, List, Option, if◌then◌else◌}
+-- What the formats of pattern files are: which bytes are of each, what they mean, when they are read, what is written, and how
+-- each is named. Another format is a case of each of these.
+use Rattle.std.specs.Prelude.{◌≡◌, ◌≢◌, ℕ, List, Option, if◌then◌else◌, codes}
 use Rattle.ca_plane.specs.Plane.{Picture, cell}
 use Rattle.ca_rle.specs.File as rle
 use Rattle.ca_rle.specs.Limits.{IsWithinLimits}
@@ -23,6 +23,11 @@ use Rattle.ca_pattern.specs.declared.pattern_fault.PatternFault.TheVariants as p
 -- the format of a file: bytes that begin with `[M2]` are macrocell, and all others RLE
 abbrev pub format_of : List ℕ → Format
 format_of bytes = if macrocell.begins_macro bytes then Mc else Rle
+
+-- the name by which a format is shown
+abbrev pub format_name : Format → List ℕ
+format_name Rle = codes "rle"
+format_name Mc = codes "macrocell"
 
 -- the bytes are a text of this format that holds a picture, a rule text and a generation
 abbrev pub MeansAs : Format → List ℕ → Picture → List ℕ → ℕ → Type 0
@@ -64,3 +69,25 @@ IsUnreadFile bytes = (fault : PatternFault) × IsPatternFault bytes fault
 abbrev pub IsTidyAs : Format → List ℕ → Picture → List ℕ → ℕ → ℕ → Type 0
 IsTidyAs Rle text cells rule_text generation states = rle_tidy.IsTidyRle text cells rule_text generation states
 IsTidyAs Mc text cells rule_text generation states = macrocell_tidy.IsTidyMacrocell text (cell cells) rule_text generation states
+
+-- why a pattern's file wasn't read, in words (our own; docs/CLAIMS.md); out of memory inside another fault is told alone
+abbrev pub pattern_fault_text : PatternFault → List ℕ
+pattern_fault_text (pattern_fault.Rle rle_fault.Syntax) = codes "bad pattern: rle syntax"
+pattern_fault_text (pattern_fault.Rle rle_fault.Header) = codes "bad pattern: rle header"
+pattern_fault_text (pattern_fault.Rle rle_fault.XlifeRule) = codes "bad pattern: rle xlife rule"
+pattern_fault_text (pattern_fault.Rle rle_fault.NoEnd) = codes "bad pattern: rle no end"
+pattern_fault_text (pattern_fault.Rle rle_fault.BadState) = codes "bad pattern: rle bad state"
+pattern_fault_text (pattern_fault.Rle rle_fault.Range) = codes "bad pattern: rle range"
+pattern_fault_text (pattern_fault.Rle rle_fault.TooManyCells) = codes "bad pattern: rle too many cells"
+pattern_fault_text (pattern_fault.Rle rle_fault.GenTooLarge) = codes "bad pattern: rle gen too large"
+pattern_fault_text (pattern_fault.Rle rle_fault.Memory) = codes "memory"
+pattern_fault_text (pattern_fault.Macro macrocell_fault.NotMacro) = codes "bad pattern: macrocell not macro"
+pattern_fault_text (pattern_fault.Macro macrocell_fault.Timeline) = codes "bad pattern: macrocell timeline"
+pattern_fault_text (pattern_fault.Macro macrocell_fault.Syntax) = codes "bad pattern: macrocell syntax"
+pattern_fault_text (pattern_fault.Macro macrocell_fault.Forward) = codes "bad pattern: macrocell forward"
+pattern_fault_text (pattern_fault.Macro macrocell_fault.Level) = codes "bad pattern: macrocell level"
+pattern_fault_text (pattern_fault.Macro macrocell_fault.LeafSize) = codes "bad pattern: macrocell leaf size"
+pattern_fault_text (pattern_fault.Macro macrocell_fault.Range) = codes "bad pattern: macrocell range"
+pattern_fault_text (pattern_fault.Macro macrocell_fault.GenTooLarge) = codes "bad pattern: macrocell gen too large"
+pattern_fault_text (pattern_fault.Macro macrocell_fault.Memory) = codes "memory"
+pattern_fault_text pattern_fault.Memory = codes "memory"

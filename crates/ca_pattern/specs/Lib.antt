@@ -1,5 +1,6 @@
 pub mod Converted
 pub mod Evolved
+pub mod FaultTexts
 pub mod Formats
 pub mod LaterTrees
 pub mod Limited

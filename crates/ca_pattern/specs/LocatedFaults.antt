@@ -6,7 +6,7 @@ use Rattle.ca_rule.specs.Rule.{RuleValue, IsRuleFault}
 use Rattle.ca_pattern.specs.declared.convert_fault.ConvertFault.{ConvertFault}
 use Rattle.ca_pattern.specs.declared.convert_fault.ConvertFault.TheVariants as convert
 use Rattle.ca_pattern.specs.declared.located_fault.LocatedFault.{LocatedFault}
-use Rattle.ca_pattern.specs.declared.located_fault.LocatedFault.TheVariants.{Unread, UnnamedRule, StateTooLarge, GenTooLarge, Work, Range, TooManyCells, Memory}
+use Rattle.ca_pattern.specs.declared.located_fault.LocatedFault.TheVariants.{Unread, UnnamedRule, StateTooLarge, TooManyCells, Memory}
 use Rattle.ca_pattern.specs.Means.{HoldsRuleText, HoldsRuledPattern, MayWantMemory}
 use Rattle.ca_pattern.specs.Formats.{IsPatternFaultOn}
 use Rattle.ca_pattern.specs.States.{HasLargeState}

@@ -24,14 +24,17 @@ pub record IsSummaryOf (kind : Format) (cells : ℤ → ℤ → ℕ) (rule : Rul
   pub population : HasPopulation cells summary.cells
   pub bounds : (picture : Picture) → ((x y : ℤ) → cells x y ≡ plane.cell picture x y) → MatchOption summary.bounds (IsLive picture → ⊥) (IsLeastBox picture)
 
--- the text is the tidy one of a format with these cells, the printed form of the rule, and the generation
-pub record IsWrittenAs (target : Format) (cells : ℤ → ℤ → ℕ) (rule : RuleValue) (generation : ℕ)
-    (text : List ℕ) : Type 0 where
+-- the text is the tidy one of a format with these cells, this rule text of a rule with so many states, and the generation
+pub record IsTidyTextOf (target : Format) (cells : ℤ → ℤ → ℕ) (rule_text : List ℕ) (generation states : ℕ) (text : List ℕ) : Type 0 where
   pub shown : Picture
   pub same : (x y : ℤ) → cells x y ≡ plane.cell shown x y
   pub format : format_of text ≡ target
-  pub holds : HoldsPattern text shown (printed_form rule) generation
-  pub tidy : IsTidyAs target text shown (printed_form rule) generation (states_of rule)
+  pub holds : HoldsPattern text shown rule_text generation
+  pub tidy : IsTidyAs target text shown rule_text generation states
+
+-- with the printed form of the rule
+abbrev pub IsWrittenAs : Format → (ℤ → ℤ → ℕ) → RuleValue → (generation : ℕ) → List ℕ → Type 0
+IsWrittenAs target cells rule generation text = IsTidyTextOf target cells (printed_form rule) generation (states_of rule) text
 
 -- some live cell lies outside the range of a file
 abbrev pub HasCellOutOfRange : (ℤ → ℤ → ℕ) → Type 0

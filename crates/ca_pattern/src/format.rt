@@ -1,16 +1,17 @@
-//! The formats of pattern files: which one bytes are of, how each is read, and how cells are written in it. Another
-//! format is a case here, and one of each definition of `specs/Formats.antt`.
+//! The formats of pattern files: which one bytes are of, how each is read and named, and how cells are written in
+//! it. Another format is a case here, and one of each definition of `specs/Formats.antt`.
 
-ghost use Rattle.std.specs.Prelude.{◌≡◌, IfOk, IfErr, MatchResult};
+ghost use Rattle.std.specs.Prelude.{◌≡◌, ◌≤◌, length, IfOk, IfErr, MatchResult};
+ghost use Rattle.ca_plane.specs.Limits.{most_cells};
 ghost use Rattle.ca_plane.specs.Plane.{cell as plane_cell};
 ghost use Rattle.ca_quad.specs.Sound.{Grows};
 ghost use Rattle.ca_quad.specs.Trees.{cell};
-ghost use Rattle.ca_rule.specs.Rule.{rule_value};
+ghost use Rattle.ca_rle.specs.Pattern.{IsWritableRle};
+ghost use Rattle.ca_macro.specs.Pattern.{IsWritable};
 ghost use Rattle.ca_pattern.specs.declared.format.Format.TheVariants.{Rle, Mc};
-ghost use Rattle.ca_pattern.specs.Formats.{format_of};
+ghost use Rattle.ca_pattern.specs.Formats.{format_of, format_name};
 ghost use Rattle.ca_pattern.specs.Patterns.{IsReadFrom, IsUnread};
-ghost use Rattle.ca_pattern.specs.Written.{IsWrittenAs, AreUnwritten};
-ghost use Rattle.ca_pattern.specs.inner.Ready.{IsWritableTree, IsWritablePlane};
+ghost use Rattle.ca_pattern.specs.Written.{IsTidyTextOf, AreUnwritten};
 
 use crate::cells::{plane_of, tree_of};
 use crate::located_fault::LocatedFault;
@@ -18,11 +19,10 @@ use crate::pattern::Loaded;
 use crate::pattern_fault::PatternFault;
 use crate::read::{BadPattern, OUT_OF_MEMORY, bad_rle};
 use ca_macro::{LineFault, MacroFault, read_macro_with_line, write_macro};
+use ca_plane::Plane;
 use ca_plane::text::rule_text;
-use ca_plane::{Automaton, Plane};
 use ca_quad::{Store, Tree};
 use ca_rle::{draw_text, judge_rle, write_rle};
-use ca_rule::Rule;
 use std::alloc::Global;
 
 /// A format of pattern files.
@@ -32,6 +32,30 @@ pub enum Format {
     Rle,
     /// Macrocell.
     Mc,
+}
+
+/// The words for the formats on the command line. `Format::of_word` knows each of them.
+pub const FORMAT_WORDS: [&str; 2] = ["rle", "mc"];
+
+impl Format {
+    /// The name by which the format is shown.
+    pub fn name<'a>(self) -> &'a [u8]
+        ensures { result.now ≡ format_name self }
+    {
+        match self {
+            Format::Rle => b"rle",
+            Format::Mc => b"macrocell",
+        }
+    }
+
+    /// The format that the command line calls by this word.
+    pub fn of_word(word: &str) -> Option<Format> {
+        match word {
+            "rle" => Some(Format::Rle),
+            "mc" => Some(Format::Mc),
+            _ => None,
+        }
+    }
 }
 
 /// The format of a file with these bytes.
@@ -109,35 +133,37 @@ fn load_macro(alloc: Global, store: &mut Store, bytes: &[u8]) -> Result<Loaded, 
     }
 }
 
-/// The tidy text of the target's format with the cells of a tree, where they aren't too many for it.
-pub(crate) fn text_of_tree(
+/// The tidy text of the target's format with the cells of a tree, a rule text, a generation, and as many
+/// states as the rule has. The live cells are in a file's range and their states below that number, the rule
+/// text is a word, and the generation is below 2^63.
+///
+/// # Errors
+///
+/// `TooManyCells` for an RLE of more than 16777216 live cells. `Memory` may come before.
+pub fn text_of_tree(
     alloc: Global,
     store: &mut Store,
     tree: Tree,
-    rule: &Rule<'_>,
+    rule_text: &[u8],
     generation: u64,
+    states: u16,
     target: Format,
 ) -> Result<Vec<u8>, LocatedFault>
-    requires { IsWritableTree store.old tree (rule_value rule.now) generation }
+    requires { IsWritable store.old tree rule_text.now generation states }
     ensures written { IfOk result (λ text.
-        IsWrittenAs target (cell store.old tree) (rule_value rule.now) generation text.items) }
+        IsTidyTextOf target (cell store.old tree) rule_text.now generation states text.items) }
     ensures fault { IfErr result (AreUnwritten target (cell store.old tree)) }
 {
     match target {
         Format::Rle => match plane_of(alloc, store, tree) {
-            Ok(Some(cells)) => rle_of_plane(alloc, &cells, rule, generation),
+            Ok(Some(cells)) => rle_of_plane(alloc, &cells, rule_text, generation, states),
             Ok(None) => Err(LocatedFault::TooManyCells),
             Err(_) => Err(LocatedFault::Memory),
         },
-        Format::Mc => {
-            let Ok(rule_text) = rule.text(alloc) else {
-                return Err(LocatedFault::Memory);
-            };
-            match write_macro(alloc, store, tree, &rule_text, generation, rule.states()) {
-                Ok(text) => Ok(text),
-                Err(_) => Err(LocatedFault::Memory),
-            }
-        }
+        Format::Mc => match write_macro(alloc, store, tree, rule_text, generation, states) {
+            Ok(text) => Ok(text),
+            Err(_) => Err(LocatedFault::Memory),
+        },
     }
 }
 
@@ -145,18 +171,17 @@ pub(crate) fn text_of_tree(
 fn rle_of_plane(
     alloc: Global,
     cells: &Plane,
-    rule: &Rule<'_>,
+    rule_text: &[u8],
     generation: u64,
+    states: u16,
 ) -> Result<Vec<u8>, LocatedFault>
-    requires { IsWritablePlane cells.now (rule_value rule.now) generation }
+    requires writable { IsWritableRle cells.now rule_text.now generation states }
+    requires few { length cells.now ≤ most_cells }
     ensures written { IfOk result (λ text.
-        IsWrittenAs Rle (plane_cell cells.now) (rule_value rule.now) generation text.items) }
+        IsTidyTextOf Rle (plane_cell cells.now) rule_text.now generation states text.items) }
     ensures fault { IfErr result (AreUnwritten Rle (plane_cell cells.now)) }
 {
-    let Ok(rule_text) = rule.text(alloc) else {
-        return Err(LocatedFault::Memory);
-    };
-    match write_rle(alloc, cells, &rule_text, generation, rule.states()) {
+    match write_rle(alloc, cells, rule_text, generation, states) {
         Ok(text) => Ok(text),
         Err(_) => Err(LocatedFault::Memory),
     }

@@ -1,5 +1,8 @@
 //! Why a pattern file isn't read.
 
+ghost use Rattle.std.specs.Prelude.{◌≡◌};
+ghost use Rattle.ca_pattern.specs.Formats.{pattern_fault_text};
+
 use ca_macro::MacroFault;
 use ca_rle::RleFault;
 use thiserror::Error;
@@ -16,4 +19,33 @@ pub enum PatternFault {
     /// A growth was refused. No verdict has it: out of memory is a cause of its own.
     #[error("out of memory")]
     Memory,
+}
+
+impl PatternFault {
+    /// Why a pattern wasn't read, in the words of what is printed of it.
+    pub fn text<'a>(self) -> &'a [u8]
+        ensures { result.now ≡ pattern_fault_text self }
+    {
+        match self {
+            PatternFault::Rle(RleFault::Syntax) => b"bad pattern: rle syntax",
+            PatternFault::Rle(RleFault::Header) => b"bad pattern: rle header",
+            PatternFault::Rle(RleFault::XlifeRule) => b"bad pattern: rle xlife rule",
+            PatternFault::Rle(RleFault::NoEnd) => b"bad pattern: rle no end",
+            PatternFault::Rle(RleFault::BadState) => b"bad pattern: rle bad state",
+            PatternFault::Rle(RleFault::Range) => b"bad pattern: rle range",
+            PatternFault::Rle(RleFault::TooManyCells) => b"bad pattern: rle too many cells",
+            PatternFault::Rle(RleFault::GenTooLarge) => b"bad pattern: rle gen too large",
+            PatternFault::Macro(MacroFault::NotMacro) => b"bad pattern: macrocell not macro",
+            PatternFault::Macro(MacroFault::Timeline) => b"bad pattern: macrocell timeline",
+            PatternFault::Macro(MacroFault::Syntax) => b"bad pattern: macrocell syntax",
+            PatternFault::Macro(MacroFault::Forward) => b"bad pattern: macrocell forward",
+            PatternFault::Macro(MacroFault::Level) => b"bad pattern: macrocell level",
+            PatternFault::Macro(MacroFault::LeafSize) => b"bad pattern: macrocell leaf size",
+            PatternFault::Macro(MacroFault::Range) => b"bad pattern: macrocell range",
+            PatternFault::Macro(MacroFault::GenTooLarge) => b"bad pattern: macrocell gen too large",
+            PatternFault::Rle(RleFault::Memory)
+            | PatternFault::Macro(MacroFault::Memory)
+            | PatternFault::Memory => b"memory",
+        }
+    }
 }

@@ -94,5 +94,16 @@ fn text_of_squares(
         Ok(false) => return Err(LocatedFault::Range),
         Err(_) => return Err(LocatedFault::Memory),
     }
-    text_of_tree(alloc, &mut store, tree, rule, generation, target)
+    let Ok(rule_text) = rule.text(alloc) else {
+        return Err(LocatedFault::Memory);
+    };
+    text_of_tree(
+        alloc,
+        &mut store,
+        tree,
+        &rule_text,
+        generation,
+        rule.states(),
+        target,
+    )
 }

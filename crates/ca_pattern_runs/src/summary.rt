@@ -2,11 +2,11 @@
 
 ghost use Rattle.std.specs.Prelude.{◌≡◌, codes, OnOk, IfOk};
 ghost use Rattle.ca_plane.specs.Puts.{Puts};
-ghost use Rattle.ca_pattern_runs.specs.Shown.{format_name, pair_text, bounds_text, box_text, word_line};
+ghost use Rattle.ca_pattern_runs.specs.Shown.{pair_text, bounds_text, box_text, word_line};
 ghost use Rattle.ca_pattern_runs.specs.Shown.{summary_text};
 ghost use Rattle.ca_report.specs.Counts.{side_length};
 
-use ca_pattern::{Summary, Target};
+use ca_pattern::Summary;
 use ca_plane::text::{push_integer, push_text};
 use ca_plane::{Bounds, Memory};
 use ca_report::push_side;
@@ -27,7 +27,7 @@ fn push_summary(out: &mut Vec<u8>, summary: &Summary) -> Result<(), Memory>
 {
     let mut generation = Buffer::new();
     let mut cells = Buffer::new();
-    push_word_line(out, b"format", format_name(summary.kind))?;
+    push_word_line(out, b"format", summary.kind.name())?;
     push_word_line(out, b"rule", &summary.rule_text)?;
     push_word_line(
         out,
@@ -45,15 +45,6 @@ fn push_word_line(out: &mut Vec<u8>, word: &[u8], text: &[u8]) -> Result<(), Mem
     push_text(out, b" ")?;
     push_text(out, text)?;
     push_text(out, b"\n")
-}
-
-fn format_name<'a>(format: Target) -> &'a [u8]
-    ensures { result.now ≡ format_name format }
-{
-    match format {
-        Target::Rle => b"rle",
-        Target::Mc => b"macrocell",
-    }
 }
 
 fn push_box_line(out: &mut Vec<u8>, bounds: Option<Bounds>) -> Result<(), Memory>

@@ -1,12 +1,12 @@
 -- How a text is escaped from one place to the next.
-use Rattle.std.proofs.Common.{◌≡◌, ℕ, suc, ◌+◌, ◌<◌, List, [], ◌∷◌, ◌++◌, false, Option, Result, Err, length, get_or, take, drop, add-one, refl, sym, ap, subst, ◌∙◌, inl, inr, append_assoc, drop-cons}
+use Rattle.std.proofs.Common.{◌≡◌, ℕ, suc, ◌+◌, ◌<◌, List, [], ◌∷◌, ◌++◌, false, Option, Err, length, get_or, take, drop, add-one, refl, sym, ap, subst, ◌∙◌, inl, inr, append_assoc, drop-cons}
 use Rattle.std.proofs.Math.Seq.{take-suc}
 use Rattle.std.proofs.lemmas.Bool.{cases_Bool, false≢true}
 use Rattle.std.specs.Io.KnownBytes.{Appends}
 use Rattle.ca_plane.specs.Device.{Counted}
 use Rattle.ca_report.specs.Writing.{Sends}
 use Rattle.ca_report.proofs.InPieces.{sends_part, sends_later}
-use Rattle.ca_report.specs.Escaped.{is_control, is_control_pair, escaped}
+use Rattle.ca_report.specs.Escaped.{is_control_pair, escaped}
 use Rattle.ca_report.specs.inner.Parts.{begins_with_control}
 
 -- a first byte that begins no control character stays

@@ -7,7 +7,7 @@ use Rattle.ca_report.specs.declared.absence.Absence.{Absence}
 use Rattle.ca_report.specs.declared.absence.Absence.TheVariants as absences
 use Rattle.ca_report.specs.declared.absence.MissingFile.{MissingFile}
 use Rattle.ca_report.specs.Escaped.{escaped}
-use Rattle.ca_report.specs.FaultTexts.{table_line}
+use Rattle.ca_pattern.specs.FaultTexts.{table_line}
 
 -- on which line a file is faulty, where it has such a line
 abbrev pub at_line : Option ℕ → List ℕ

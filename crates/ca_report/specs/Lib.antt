@@ -1,6 +1,5 @@
 pub mod Counts
 pub mod Escaped
-pub mod FaultTexts
 pub mod FileLines
 pub mod Outside
 pub mod Pieces

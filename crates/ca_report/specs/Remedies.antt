@@ -10,8 +10,8 @@ use Rattle.ca_rule.specs.declared.fault.RuleFault.TheVariants as rules
 use Rattle.ca_pattern.specs.declared.file.File.{File}
 use Rattle.ca_pattern.specs.declared.pattern_fault.PatternFault.{PatternFault}
 use Rattle.ca_pattern.specs.declared.pattern_fault.PatternFault.TheVariants as patterns
-use Rattle.ca_pattern.specs.declared.cause.Cause.{Cause}
-use Rattle.ca_pattern.specs.declared.cause.Cause.TheVariants as causes
+use Rattle.ca_answers.specs.declared.cause.Cause.{Cause}
+use Rattle.ca_answers.specs.declared.cause.Cause.TheVariants as causes
 use Rattle.ca_pattern.specs.declared.convert_fault.ConvertFault.TheVariants as converts
 use Rattle.ca_report.specs.declared.fault.ToolFault.{ToolFault}
 use Rattle.ca_report.specs.declared.fault.ToolFault.TheVariants as tools

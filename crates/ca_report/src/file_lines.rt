@@ -7,7 +7,7 @@ ghost use Rattle.ca_report.specs.Pieces.{pieces_text};
 use crate::absence::{MissingFile, missing_piece};
 use crate::in_pieces;
 use crate::pieces::{NOTHING, Piece};
-use crate::texts::table_line;
+use ca_pattern::table_line;
 use ca_rule::TableFault;
 
 /// On which line a file is faulty, where it has such a line.

@@ -3,7 +3,6 @@
 #![tactic(auto)]
 
 mod absence;
-mod causes;
 mod counts;
 mod detailed_fault;
 mod escaped;
@@ -15,10 +14,8 @@ mod pieces;
 mod read;
 mod remedy;
 mod rule_folder;
-mod texts;
 
 pub use absence::{Absence, MissingFile, missing_piece};
-pub use causes::cause_pieces;
 pub use counts::{generations_word, push_counted, push_side};
 pub use detailed_fault::DetailedFault;
 pub use escaped::push_escaped;
@@ -30,4 +27,3 @@ pub use pieces::{NOTHING, Piece, push_pieces, send_both, send_pieces};
 pub use read::{MAX_FILE, read_all};
 pub use remedy::{Remedy, bytes_of, cause_remedy, file_word, remedy_line_pieces, run_remedy};
 pub use rule_folder::{FaultyRule, rule_path};
-pub use texts::{pattern_fault_bytes, rule_fault_bytes, table_kind, table_line};

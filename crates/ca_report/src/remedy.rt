@@ -11,8 +11,9 @@ use crate::fault::ToolFault;
 use crate::in_pieces;
 use crate::pieces::{NOTHING, Piece};
 use crate::rule_folder::is_file_name;
+use ca_answers::Cause;
 use ca_macro::MacroFault;
-use ca_pattern::{Cause, ConvertFault, File, PatternFault};
+use ca_pattern::{ConvertFault, File, PatternFault};
 use ca_rle::RleFault;
 use ca_rule::RuleFault;
 

@@ -146,13 +146,6 @@ impl Automaton for GenRule {
     ghost quiet = { λ rule sound. Prim.grind (arith, nat_tests) };
 }
 
-/// 1 for a live cell, 0 for one that is dead or dying.
-fn live(state: u8) -> u8
-    ensures { result ≡ liveness state }
-{
-    u8::from(state == 1)
-}
-
 impl Notation for GenRule {
     ghost use Rattle.ca_rule.specs.Generations.{SpellsGenerationsRule};
 
@@ -171,4 +164,11 @@ impl Notation for GenRule {
         }
         Some((birth, survival, states))
     }
+}
+
+/// 1 for a live cell, 0 for one that is dead or dying.
+fn live(state: u8) -> u8
+    ensures { result ≡ liveness state }
+{
+    u8::from(state == 1)
 }

@@ -39,7 +39,7 @@ FollowName words names (Dies generations) = (n : List ℕ) × (words ≡ n ∷ [
 abbrev pub WordsClaim : List (List ℕ) → (names : Both (List ℕ)) → Kind → Type 0
 WordsClaim words names kind = (later : List (List ℕ)) × (words ≡ keyword_of kind ∷ names.first ∷ later) × FollowName later names kind
 
--- how those after the first name are written, where the second name is this one
+-- the words after the first name, as they are written, where this is the second name
 abbrev pub words_after_name : (second : List ℕ) → Kind → List (List ℕ)
 words_after_name second Still = []
 words_after_name second (Oscillator period) = decimal period ∷ []

@@ -1,6 +1,6 @@
 //! The kinds of claims: the words of each, the limits of its numbers, and what it asks.
 
-ghost use Rattle.std.specs.Prelude.{◌≡◌, ◌≢◌, List, ℕ, [], ◌∷◌, not, codes, IsTrue, ◌↔◌, OnOk, MatchOption};
+ghost use Rattle.std.specs.Prelude.{◌≡◌, ◌≢◌, List, ℕ, [], ◌∷◌, not, codes, IsTrue, ◌↔◌, OnOk};
 ghost use Rattle.ca_plane.specs.Bytes.{Every, is_line_end, words_of};
 ghost use Rattle.ca_plane.specs.Puts.{Puts};
 ghost use Rattle.ca_text.specs.declared.kind.Kind.TheVariants as kinds;
@@ -64,7 +64,8 @@ impl Kind {
         }
     }
 
-    /// Puts the words of a claim of this kind that follow its first name, each after a blank, where this is its second name.
+    /// Puts the words of a claim of this kind that follow its first name, each after a blank, where this is its
+    /// second name.
     ///
     /// # Errors
     ///

@@ -14,7 +14,8 @@ use Rattle.ca_draw.specs.declared.view.WindowFault.TheVariants as windows
 use Rattle.ca_report.specs.declared.fault.ToolFault.{ToolFault}
 use Rattle.ca_report.specs.declared.fault.ToolFault.TheVariants as tools
 use Rattle.ca_report.specs.Escaped.{escaped}
-use Rattle.ca_report.specs.FaultTexts.{rule_fault_text, table_text, pattern_fault_text}
+use Rattle.ca_pattern.specs.FaultTexts.{rule_fault_text, table_text}
+use Rattle.ca_pattern.specs.Formats.{pattern_fault_text}
 
 -- why the `--rule` file is no good table
 abbrev pub rule_file_text : TableFault → List ℕ

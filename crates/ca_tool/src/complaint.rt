@@ -8,12 +8,9 @@ ghost use Rattle.ca_report.specs.Pieces.{pieces_text};
 
 use crate::fault::Fault;
 use ca_draw::WindowFault;
-use ca_pattern::ConvertFault;
+use ca_pattern::{ConvertFault, rule_fault_text, table_kind, table_line};
 use ca_plane::{Dev, WriteFault};
-use ca_report::{
-    InputFault, Piece, ToolFault, in_pieces, pattern_fault_bytes, rule_fault_bytes, send_pieces,
-    table_kind, table_line,
-};
+use ca_report::{InputFault, Piece, ToolFault, in_pieces, send_pieces};
 use ca_rule::TableFault;
 use ca_text::ClaimFault;
 use std::io::Write;
@@ -76,9 +73,9 @@ fn convert_pieces<'a>(fault: ConvertFault) -> [Piece<'a>; 3]
     ensures { pieces_text result ≡ convert_fault_text fault }
 {
     match fault {
-        ConvertFault::BadPattern(fault) => in_pieces![3; text pattern_fault_bytes(fault)],
+        ConvertFault::BadPattern(fault) => in_pieces![3; text fault.text()],
         ConvertFault::BadRule(fault) => {
-            in_pieces![3; text b"bad rule: ", text rule_fault_bytes(fault)]
+            in_pieces![3; text b"bad rule: ", text rule_fault_text(fault)]
         }
         ConvertFault::StateTooLarge => in_pieces![3; text b"state too large"],
         ConvertFault::TooManyCells => in_pieces![3; text b"too many cells"],

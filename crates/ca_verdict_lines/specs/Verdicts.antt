@@ -9,8 +9,8 @@ use Rattle.ca_answers.specs.declared.verdict.Verdict.{Verdict}
 use Rattle.ca_answers.specs.declared.verdict.Verdict.TheVariants.{Yes, No, Refused}
 use Rattle.ca_answers.specs.declared.verdict.Refutation.{Refutation}
 use Rattle.ca_answers.specs.declared.verdict.Refutation.TheVariants.{Empty, Differs, Earlier, Died}
-use Rattle.ca_pattern.specs.declared.cause.Cause.{Cause}
-use Rattle.ca_pattern.specs.declared.cause.Cause.TheVariants as causes
+use Rattle.ca_answers.specs.declared.cause.Cause.{Cause}
+use Rattle.ca_answers.specs.declared.cause.Cause.TheVariants as causes
 use Rattle.ca_pattern.specs.declared.file.File.{File}
 use Rattle.ca_answers.specs.declared.note.Note.{Note}
 use Rattle.ca_answers.specs.declared.note.Note.TheVariants as notes
@@ -21,7 +21,8 @@ use Rattle.ca_verdict_lines.specs.declared.finding.Finding.{Finding}
 use Rattle.ca_report.specs.declared.remedy.Remedy.{Remedy}
 use Rattle.ca_report.specs.Escaped.{escaped}
 use Rattle.ca_report.specs.Remedies.{cause_remedy, bytes_of, remedy_line}
-use Rattle.ca_report.specs.FaultTexts.{table_line, table_text, cause_text}
+use Rattle.ca_pattern.specs.FaultTexts.{table_line, table_text}
+use Rattle.ca_answers.specs.Answers.{cause_text}
 use Rattle.ca_report.specs.Counts.{generations_word}
 use Rattle.ca_report.specs.FileLines.{at_line, missing_words, file_line, rule_words}
 

@@ -10,13 +10,13 @@ ghost use Rattle.ca_report.specs.Writing.{Sends};
 ghost use Rattle.ca_report.specs.Pieces.{pieces_text};
 
 use crate::printing::answer_pieces;
-use ca_answers::{Answer, Note, Refutation, Verdict};
-use ca_pattern::{Cause, File};
+use ca_answers::{Answer, Cause, Note, Refutation, Verdict};
+use ca_pattern::{File, table_kind, table_line};
 use ca_plane::{Dev, Memory, WriteFault, send};
 use ca_report::{
     FaultyRule, MissingFile, NOTHING, Piece, Remedy, at_pieces, bytes_of, cause_remedy,
     file_pieces, generations_word, in_pieces, missing_piece, push_pieces, remedy_line_pieces,
-    rule_pieces, send_both, send_pieces, table_kind, table_line,
+    rule_pieces, send_both, send_pieces,
 };
 use ca_rule::TableFault;
 use std::io::Write;

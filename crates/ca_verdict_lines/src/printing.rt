@@ -8,10 +8,9 @@ ghost use Rattle.ca_verdict_lines.specs.Verdicts.{return_text, refutation_text, 
 ghost use Rattle.ca_verdict_lines.specs.Verdicts.{answer_lines, status_of, is_refusal, is_no};
 ghost use Rattle.ca_report.specs.Pieces.{pieces_text};
 
-use ca_answers::{Answer, Refutation, Verdict};
-use ca_pattern::Cause;
+use ca_answers::{Answer, Cause, Refutation, Verdict};
 use ca_plane::Memory;
-use ca_report::{Piece, cause_pieces, in_pieces, push_pieces};
+use ca_report::{Piece, in_pieces, push_pieces};
 use std::alloc::Global;
 
 fn return_pieces<'a>(generations: u64, dx: i64, dy: i64) -> [Piece<'a>; 6]
@@ -36,8 +35,8 @@ fn refutation_pieces<'a>(refutation: Refutation) -> [Piece<'a>; 6]
 fn refusal_pieces<'a>(cause: Cause) -> [Piece<'a>; 7]
     ensures { pieces_text result ≡ verdict_text (Refused cause) }
 {
-    let [first, second] = cause_pieces(cause);
-    in_pieces![7; text b"refused, ", piece first, piece second]
+    let (first, second) = cause.words();
+    in_pieces![7; text b"refused, ", text first, text second]
 }
 
 fn no_pieces<'a>(refutation: Refutation) -> [Piece<'a>; 7]

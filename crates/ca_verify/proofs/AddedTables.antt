@@ -12,8 +12,8 @@ use Rattle.ca_rule.specs.declared.fault.RuleFault.TheVariants.{Bounded, Wakes, U
 use Rattle.ca_text.specs.declared.asks.Asks.{Asks}
 use Rattle.ca_answers.specs.declared.verdict.Verdict.{Verdict}
 use Rattle.ca_answers.specs.declared.verdict.Verdict.TheVariants.{Yes, No, Refused}
-use Rattle.ca_pattern.specs.declared.cause.Cause.{Cause}
-use Rattle.ca_pattern.specs.declared.cause.Cause.TheVariants.{NoFile, BadTable, BadPattern, BadRule, StateTooLarge, MixedRules, TooManyCells, Work, Memory}
+use Rattle.ca_answers.specs.declared.cause.Cause.{Cause}
+use Rattle.ca_answers.specs.declared.cause.Cause.TheVariants.{NoFile, BadTable, BadPattern, BadRule, StateTooLarge, MixedRules, TooManyCells, Work, Memory}
 use Rattle.ca_text.specs.Text.{Claim}
 use Rattle.ca_text.specs.Kinds.{asks_of}
 use Rattle.ca_text.specs.declared.both.Both.{Both}

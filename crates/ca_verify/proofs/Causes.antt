@@ -17,7 +17,7 @@ use Rattle.ca_text.specs.declared.kind.Kind.{Kind}
 use Rattle.ca_text.specs.declared.asks.Asks.{Asks}
 use Rattle.ca_text.specs.declared.asks.Expected.{Expected}
 use Rattle.ca_text.specs.declared.asks.Expected.TheVariants.{Own, Other, NoCells}
-use Rattle.ca_pattern.specs.declared.cause.Cause.TheVariants.{NoFile, BadPattern, BadRule, StateTooLarge, Work, Memory}
+use Rattle.ca_answers.specs.declared.cause.Cause.TheVariants.{NoFile, BadPattern, BadRule, StateTooLarge, Work, Memory}
 use Rattle.ca_answers.specs.declared.verdict.Verdict.{Verdict}
 use Rattle.ca_answers.specs.declared.verdict.Verdict.TheVariants.{Yes, No, Refused}
 use Rattle.ca_text.specs.declared.both.Both.{Both}

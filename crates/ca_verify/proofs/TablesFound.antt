@@ -4,7 +4,7 @@ use Rattle.std.specs.List.{AllByRecursion, AllZip}
 use Rattle.std.specs.Option.{option_copied}
 use Rattle.ca_rule.specs.TableNext.{TableRule}
 use Rattle.ca_verify.specs.declared.verifier.tables.FaultyTable.{FaultyTable}
-use Rattle.ca_pattern.specs.declared.cause.Cause.TheVariants.{NoFile, BadTable}
+use Rattle.ca_answers.specs.declared.cause.Cause.TheVariants.{NoFile, BadTable}
 use Rattle.ca_text.specs.declared.asks.Asks.{Asks}
 use Rattle.ca_text.specs.Places.{path_at}
 use Rattle.ca_answers.specs.Files.{bytes_at}

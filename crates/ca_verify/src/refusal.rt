@@ -1,7 +1,6 @@
 //! Why a claim isn't judged, and what the cause is about.
 
-use ca_answers::Verdict;
-use ca_pattern::Cause;
+use ca_answers::{Cause, Verdict};
 
 /// Why a claim isn't judged, and what the cause is about.
 #[derive(Drop)]

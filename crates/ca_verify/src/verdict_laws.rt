@@ -21,8 +21,8 @@ ghost use Rattle.ca_answers.specs.declared.verdict.Refutation.{Refutation};
 ghost use Rattle.ca_answers.specs.declared.verdict.Refutation.TheVariants.{Empty, Differs, Earlier, Died};
 ghost use Rattle.ca_answers.specs.declared.verdict.Verdict.{Verdict};
 ghost use Rattle.ca_answers.specs.declared.verdict.Verdict.TheVariants.{Yes, No, Refused};
-ghost use Rattle.ca_pattern.specs.declared.cause.Cause.{Cause};
-ghost use Rattle.ca_pattern.specs.declared.cause.Cause.TheVariants.{NoFile, BadTable, BadRule, Work, Memory};
+ghost use Rattle.ca_answers.specs.declared.cause.Cause.{Cause};
+ghost use Rattle.ca_answers.specs.declared.cause.Cause.TheVariants.{NoFile, BadTable, BadRule, Work, Memory};
 ghost use Rattle.ca_rule.specs.declared.fault.RuleFault.TheVariants.{Unknown};
 ghost use Rattle.ca_rule.specs.declared.table.fault.TableFault.{TableFault};
 

@@ -1,5 +1,6 @@
 //! The words that several commands have.
 
+use ca_pattern::FORMAT_WORDS;
 use ca_plane::limits::MOST_MEMO;
 use clap::{Arg, ArgAction, Command, value_parser};
 use std::alloc::{AllocError, Global};
@@ -44,7 +45,7 @@ pub fn target_word<'a>(alloc: Global) -> Arg<'a> {
         "FORMAT",
         "The format to write: extended RLE or macrocell",
     )
-    .value_parser(["rle", "mc"].as_slice())
+    .value_parser(FORMAT_WORDS.as_slice())
 }
 
 /// The folder of `--rules`.

@@ -69,9 +69,5 @@ pub fn number_value(words: &ArgMatches<'_>, name: &str) -> Option<u64>
 
 /// The format to write, where the words say one.
 pub fn target_of(words: &ArgMatches<'_>) -> Option<Target> {
-    match words.get_str("to") {
-        Some("rle") => Some(Target::Rle),
-        Some("mc") => Some(Target::Mc),
-        _ => None,
-    }
+    Target::of_word(words.get_str("to")?)
 }

@@ -5,10 +5,10 @@ ghost use Rattle.ca_plane.specs.Limits.{longest_period};
 ghost use Rattle.cafile.specs.Scopes.{scope_of};
 
 use crate::FAULT;
-use ca_answers::Scope;
+use ca_answers::{Cause, Scope};
 use ca_catalog_runs::identify_run;
 use ca_host::{FaultyFile, Heading, Progress, RuleFiles, Streams, read_file};
-use ca_pattern::{Cause, File};
+use ca_pattern::File;
 use ca_plane::Memory;
 use ca_plane::limits::LONGEST_PERIOD;
 use ca_report::DetailedFault;

@@ -7,8 +7,9 @@ ghost use Rattle.cafile.specs.ImportFaults.{import_fault_name, line_fault_text, 
 ghost use Rattle.cafile.specs.ImportFaults.{import_complaint};
 
 use ca_import::{ImportFault, ImportTextFault, LineFault};
+use ca_pattern::rule_fault_text;
 use ca_plane::{Dev, WriteFault};
-use ca_report::{Piece, in_pieces, rule_fault_bytes, send_pieces};
+use ca_report::{Piece, in_pieces, send_pieces};
 use std::io::Write;
 
 fn fault_name<'a>(fault: ImportFault) -> &'a [u8]
@@ -40,7 +41,7 @@ fn fault_pieces<'a>(fault: ImportTextFault) -> [Piece<'a>; 4]
     match fault {
         ImportTextFault::Text(fault) => line_pieces(fault),
         ImportTextFault::Rule(fault) => {
-            in_pieces![4; text b"bad rule: ", text rule_fault_bytes(fault)]
+            in_pieces![4; text b"bad rule: ", text rule_fault_text(fault)]
         }
         ImportTextFault::TooManyCells => in_pieces![4; text b"too many cells"],
         ImportTextFault::Memory => in_pieces![4; text b"memory"],

@@ -3,9 +3,9 @@
 use crate::import_complaint::complain_of_import;
 use crate::{FAULT, write_text};
 use ca_host::{Streams, read_source};
-use ca_import::{ImportTarget, import_text};
+use ca_import::import_text;
 use ca_isotropic::{RuleFileFault, rule_file};
-use ca_pattern::{ConvertFault, Target};
+use ca_pattern::ConvertFault;
 use ca_tool::{Fault, ToolFault, complain};
 use ca_words::ImportWords;
 use std::rt::Files;
@@ -28,19 +28,12 @@ pub fn import_file<R: Files + AllocGlobal>(
         Some(rule) => rule.as_bytes(),
         None => USUAL_RULE,
     };
-    match import_text(rt.alloc(), &bytes, rule, import_target(words.target)) {
+    match import_text(rt.alloc(), &bytes, rule, words.target) {
         Ok(text) => write_text(&text, streams),
         Err(fault) => {
             let _ = complain_of_import(fault, &mut streams.errors);
             FAULT
         }
-    }
-}
-
-fn import_target(target: Target) -> ImportTarget {
-    match target {
-        Target::Rle => ImportTarget::Rle,
-        Target::Mc => ImportTarget::Macrocell,
     }
 }
 

@@ -222,9 +222,9 @@ fn plane_before<A: Automaton>(
     let mut left = early.len();
     'planes: while left > 0 {
         let index = left - 1;
-        match stage_of(alloc, leaper, &early[index], later, boxes)? {
-            Stage::Back { .. } => return Ok(Some(index)),
-            _ => {}
+        let stage = stage_of(alloc, leaper, &early[index], later, boxes)?;
+        if let Stage::Back { .. } = stage {
+            return Ok(Some(index));
         }
         left = index;
     }

@@ -1,24 +1,18 @@
 -- How a pattern is written: its rule text, and its cells.
-use Rattle.std.specs.Prelude.{◌≡◌, ℕ, ◌≤◌, ◌<◌, ℤ, List, Option, None}
+use Rattle.std.specs.Prelude.{◌≡◌, ℕ, ◌≤◌, ℤ, List, Option, None}
 use Rattle.ca_plane.specs.Bytes.{IsWord}
 use Rattle.ca_plane.specs.BitPlane.{bit_cell}
-use Rattle.ca_plane.specs.Plane.{Picture}
-use Rattle.ca_plane.specs.Plane as plane
-use Rattle.ca_plane.specs.Sparse.{IsSparse}
 use Rattle.ca_plane.specs.Population.{HasTooManyCells}
-use Rattle.ca_quad.specs.declared.node.Node.{Node}
-use Rattle.ca_quad.specs.declared.tree.Tree.{Tree}
-use Rattle.ca_quad.specs.Trees.{IsTree, cell}
-use Rattle.ca_macro.specs.Pattern.{AreInRange}
 use Rattle.ca_rule.specs.declared.bs_rule.BsRule.{BsRule}
 use Rattle.ca_rule.specs.Rule.{RuleValue, states_of, printed_form}
-use Rattle.ca_import.specs.declared.target.ImportTarget.{ImportTarget}
-use Rattle.ca_import.specs.declared.target.ImportTarget.TheVariants.{Rle}
+use Rattle.ca_pattern.specs.declared.format.Format.{Format}
+use Rattle.ca_pattern.specs.declared.format.Format.TheVariants.{Rle}
+use Rattle.ca_pattern.specs.Written.{IsTidyTextOf}
 use Rattle.ca_import.specs.declared.text_fault.ImportTextFault.{ImportTextFault}
 use Rattle.ca_import.specs.declared.text_fault.ImportTextFault.TheVariants.{Rule, TooManyCells, Memory}
 use Rattle.ca_import.specs.declared.import.ImportedPattern.{ImportedPattern}
 use Rattle.ca_import.specs.declared.rule_text.RuleText.{RuleText}
-use Rattle.ca_import.specs.Written.{IsAskedRule, IsAskedRuleFault, IsWrittenRule, IsTextFor}
+use Rattle.ca_import.specs.Written.{IsAskedRule, IsAskedRuleFault, IsWrittenRule}
 
 -- ---- rule texts
 
@@ -57,26 +51,8 @@ IsRuleRefused named asked fault = ⊥
 
 -- ---- cells
 
--- cells that may be written: in range, and of states 0 and 1
-pub record AreWritable (cells : ℤ → ℤ → ℕ) : Type 0 where
-  pub range : AreInRange cells
-  pub low : (x y : ℤ) → cells x y < 2
-
-pub record IsWritableTree (nodes : List Node) (tree : Tree) : Type 0 where
-  pub is_tree : IsTree nodes tree
-  pub writable : AreWritable (cell nodes tree)
-
-pub record IsWritablePlane (picture : Picture) : Type 0 where
-  pub sparse : IsSparse picture
-  pub writable : AreWritable (plane.cell picture)
-
--- a sparse plane shows the tree's cells
-pub record IsPlaneOf (nodes : List Node) (tree : Tree) (picture : Picture) : Type 0 where
-  pub shows : (x y : ℤ) → cell nodes tree x y ≡ plane.cell picture x y
-  pub sparse : IsSparse picture
-
 -- why cells aren't written
-abbrev pub AreUnwritten : ImportTarget → (ℤ → ℤ → ℕ) → ImportTextFault → Type 0
+abbrev pub AreUnwritten : Format → (ℤ → ℤ → ℕ) → ImportTextFault → Type 0
 AreUnwritten target cells TooManyCells = (target ≡ Rle) × HasTooManyCells cells
 AreUnwritten target cells Memory = Unit {0}
 AreUnwritten target cells fault = ⊥
@@ -84,13 +60,13 @@ AreUnwritten target cells fault = ⊥
 -- ---- both
 
 -- the text is what is written of a pattern, where this rule text is asked for
-pub record IsPatternText (pattern : ImportedPattern) (asked : List ℕ) (target : ImportTarget) (text : List ℕ) : Type 0 where
+pub record IsPatternText (pattern : ImportedPattern) (asked : List ℕ) (target : Format) (text : List ℕ) : Type 0 where
   pub rule : RuleText
   pub rule_text : IsWrittenRule pattern.rule asked rule.text.items rule.states
-  pub written : IsTextFor target text (bit_cell pattern.cells) rule.text.items rule.states
+  pub written : IsTidyTextOf target (bit_cell pattern.cells) rule.text.items 0 rule.states text
 
 -- why nothing is written of it
-abbrev pub IsPatternTextFault : ImportedPattern → List ℕ → ImportTarget → ImportTextFault → Type 0
+abbrev pub IsPatternTextFault : ImportedPattern → List ℕ → Format → ImportTextFault → Type 0
 IsPatternTextFault pattern asked target TooManyCells = (target ≡ Rle) × HasTooManyCells (bit_cell pattern.cells)
 IsPatternTextFault pattern asked target (Rule fault) = (pattern.rule ≡ None) × IsAskedRuleFault asked fault
 IsPatternTextFault pattern asked target Memory = Unit {0}

@@ -1,5 +1,5 @@
 -- What is told of a pattern.
-use Rattle.std.specs.Prelude.{◌≡◌, ℕ, ◌≤◌, ℤ, neg_ℤ, ◌≤ℤ◌, MatchOption}
+use Rattle.std.specs.Prelude.{◌≡◌, ℕ, ℤ, neg_ℤ, ◌≤ℤ◌, MatchOption}
 use Rattle.ca_plane.specs.Plane.{Picture, IsLive}
 use Rattle.ca_plane.specs.Plane as plane
 use Rattle.ca_plane.specs.Box.{IsLeastBox}

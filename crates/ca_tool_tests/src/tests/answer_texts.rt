@@ -1,9 +1,9 @@
 //! Lines of answers and faults that no text causes, and causes and faults in the words of their crates.
 
 use super::devices::expect;
-use ca_answers::{Answer, Refutation, Verdict};
+use ca_answers::{Answer, Cause, Refutation, Verdict};
 use ca_macro::MacroFault;
-use ca_pattern::{Cause, ConvertFault, PatternFault};
+use ca_pattern::{ConvertFault, PatternFault};
 use ca_plane::{Dev, Memory};
 use ca_rle::RleFault;
 use ca_rule::{RuleFault, TableFault};

@@ -19,8 +19,8 @@ use Rattle.ca_verify.specs.declared.refusal.WhichPattern.TheVariants.{First, Sec
 use Rattle.ca_verify.specs.declared.refusal.Refusal.{Refusal}
 use Rattle.ca_pattern.specs.declared.pattern_fault.PatternFault.{PatternFault}
 use Rattle.ca_pattern.specs.declared.pattern_fault.PatternFault.TheVariants as pattern_fault
-use Rattle.ca_pattern.specs.declared.cause.Cause.TheVariants.{BadPattern, StateTooLarge, MixedRules, TooManyCells}
-use Rattle.ca_pattern.specs.declared.cause.Cause.TheVariants as cause
+use Rattle.ca_answers.specs.declared.cause.Cause.TheVariants.{BadPattern, StateTooLarge, MixedRules, TooManyCells}
+use Rattle.ca_answers.specs.declared.cause.Cause.TheVariants as cause
 use Rattle.ca_verify.specs.declared.verifier.agreement.Disagreement.{Disagreement}
 use Rattle.ca_verify.specs.declared.verifier.agreement.Disagreement.TheVariants.{Large, Mixed}
 use Rattle.ca_verify.specs.declared.verifier.agreement.Disagreement.TheVariants as disagreement

@@ -5,8 +5,8 @@ use Rattle.ca_text.specs.declared.both.Both.{Both}
 use Rattle.ca_verify.specs.declared.refusal.About.{About}
 use Rattle.ca_verify.specs.declared.refusal.About.TheVariants as about
 use Rattle.ca_verify.specs.declared.refusal.Refusal.{Refusal}
-use Rattle.ca_pattern.specs.declared.cause.Cause.{Cause}
-use Rattle.ca_pattern.specs.declared.cause.Cause.TheVariants.{Work}
+use Rattle.ca_answers.specs.declared.cause.Cause.{Cause}
+use Rattle.ca_answers.specs.declared.cause.Cause.TheVariants.{Work}
 use Rattle.ca_answers.specs.declared.verdict.Verdict.{Verdict}
 use Rattle.ca_answers.specs.declared.verdict.Verdict.TheVariants.{Yes, No, Refused}
 use Rattle.ca_text.specs.Text.{Claim}

@@ -8,7 +8,8 @@ ghost use Rattle.ca_pattern.specs.PatternTrees.{IsPattern};
 
 use crate::decide::ClaimTrees;
 use crate::refusal::{About, Refusal, WhichPattern};
-use ca_pattern::{Cause, RuledPattern, has_too_many_cells};
+use ca_answers::Cause;
+use ca_pattern::{RuledPattern, has_too_many_cells};
 use ca_quad::{Store, Tree};
 use ca_text::{Asks, Both, Expected};
 use std::alloc::Global;

@@ -17,7 +17,7 @@ ghost use Rattle.ca_verify.specs.inner.Found.{IsFound, IsTableFound, IsFaultFoun
 ghost use Rattle.ca_verify.specs.inner.Refusals.{IsRefusal};
 
 use crate::refusal::{About, Refusal};
-use ca_pattern::Cause;
+use ca_answers::Cause;
 use ca_plane::Memory;
 use ca_rule::{Table, TableFault};
 use std::alloc::Global;

@@ -79,7 +79,7 @@ pub fn command<'a>(alloc: Global) -> Result<Command<'a>, AllocError> {
         .arg(path_words(
             alloc,
             "FILE",
-            "The paths of pattern files, RLE or macrocell, as a claim text names them",
+            "The paths of pattern files, as a claim text names them",
         ))?
         .arg(limit_word(alloc))?
         .arg(after_word(alloc))?

@@ -11,8 +11,8 @@ use clap::{Arg, ArgMatches, Command};
 use std::alloc::{AllocError, Global};
 
 const HELP: &str =
-    "The pattern of a file in another format is printed as RLE, or with --to mc as macrocell: the same cells in the
-same places, which all other commands read, and Golly too. The text says which format it is:
+    "The pattern of a file in another format is printed as RLE, or in the format of --to: the same cells in
+the same places, which all other commands read, and Golly too. The text says which format it is:
   Life 1.06, Life 1.05   the first line is `#Life 1.06` or `#Life 1.05`
   plaintext (.cells)     comments begin with `!`, and rows are made of `.` and `O`
   apgcode                the only word, as xq4_153: its cells, with their corner at 0,0
@@ -44,7 +44,7 @@ pub struct ImportWords {
 /// The command with its words.
 pub fn command<'a>(alloc: Global) -> Result<Command<'a>, AllocError> {
     Command::new(alloc, "import")
-        .about("Translates a pattern of another format into RLE or macrocell")
+        .about("Translates a pattern of another format into one that the other commands read")
         .after_help(HELP)
         .args(vec![in alloc;
             source_word(alloc),

@@ -9,7 +9,7 @@ use std::alloc::{AllocError, Global};
 
 const HELP: &str = pattern_help!(
     "Five lines are printed, for example:
-  format macrocell   the format: rle or macrocell
+  format macrocell   the format of the file
   rule B3/S23        the rule: as B3/S23 or 345/2/4, or the name of a table
   gen 4              the generation
   cells 5            the number of live cells

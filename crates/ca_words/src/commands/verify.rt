@@ -15,7 +15,7 @@ const HELP: &str = "Each line of a claim text is one of these. An example stands
       claims 2
   rule PATH               the rule file at PATH holds a table that a pattern's rule may name
       rule examples/tables/spread.rule
-  load NAME PATH          NAME stands for the pattern in the file at PATH, RLE or macrocell
+  load NAME PATH          NAME stands for the pattern in the file at PATH
       load glider examples/glider.rle
   still NAME              some cell is live, and a generation later no cell has changed
       still block

@@ -1,9 +1,10 @@
 use Rattle.std.proofs.Common.{◌<◌, ◌≤◌, ◌^◌, length, sym, subst, ◌∙◌}
+use Rattle.ca_plane.specs.Plane.{cell}
 use Rattle.ca_rle.specs.Shown.{picture_of_items}
-use Rattle.ca_rle.specs.Tidy.{IsTidyRle}
 use Rattle.ca_rule.specs.Rule.{rule_value}
 use Rattle.ca_pattern.proofs.OpenedCells.{greatest_small}
-use Rattle.ca_pattern.proofs.WrittenMeanings.{written_rle}
+use Rattle.ca_pattern.specs.declared.format.Format.TheVariants.{Rle}
+use Rattle.ca_pattern.proofs.WrittenMeanings.{written_rle, printed_text}
 use Rattle.ca_pattern.proofs.writing.rle_of_text.Goals as goal
 
 pub rewrite_rle-requires-clause-text : goal.rewrite_rle-requires-clause-text
@@ -22,8 +23,6 @@ returns-in-Ok-rewrite_rle-clause-written c = λ bytes is.
     let items = is.file.items in
     let p = picture_of_items given.corner items in
     let text = c.in-Ok-rewrite_rle.text.items in
-    let written = c.in-Ok-rewrite_rle.ensures items is.items in
-    let means = written.means in
     let short : length p ≤ 2 ^ 24 = subst (λ at. length (picture_of_items at items) ≤ 2 ^ 24) (sym is.corner) is.within.1 in
-    written_rle p (rule_value c.args.rule.now) given.generation c.deref.result.now text means.0 (c.deref.ensures.value ∙ c.in-Ok.ensures.printed)
-    (subst (λ n. IsTidyRle text p c.deref.result.now given.generation n) c.states.ensures.value written.tidy) means.1 (written.limits short means.0 means.1) means.3 means.4 means.5
+    printed_text Rle (cell p) (rule_value c.args.rule.now) c.deref.result.now given.generation c.states.result (c.deref.ensures.value ∙ c.in-Ok.ensures.printed) c.states.ensures.value text
+    (written_rle p c.deref.result.now given.generation c.states.result text short (c.in-Ok-rewrite_rle.ensures items is.items))

@@ -8,7 +8,7 @@ use Rattle.ca_text.specs.Places.{path_at}
 use Rattle.ca_answers.specs.Files.{bytes_at}
 use Rattle.ca_verify.specs.declared.refusal.About.TheVariants.{Claim}
 use Rattle.ca_answers.specs.declared.verdict.Verdict.TheVariants.{Refused}
-use Rattle.ca_pattern.specs.declared.cause.Cause.TheVariants.{Work}
+use Rattle.ca_answers.specs.declared.cause.Cause.TheVariants.{Work}
 use Rattle.ca_answers.specs.Work.{IsNoMoreThan}
 use Rattle.ca_answers.specs.Answers.{HasCause}
 use Rattle.ca_verify.specs.inner.Refusals.{IsRefusal, IsJudgedOn}

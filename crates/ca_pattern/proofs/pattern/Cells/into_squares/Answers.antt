@@ -1,4 +1,4 @@
-use Rattle.std.proofs.Common.{◌≡◌, ℤ, sym, subst, ◌∙◌}
+use Rattle.std.proofs.Common.{◌≡◌, ℤ, subst, ◌∙◌}
 use Rattle.ca_quad.specs.Trees as trees
 use Rattle.ca_pattern.specs.PatternCells.{AreCells}
 use Rattle.ca_pattern.proofs.OpenedCells.{tree_of_cells, text_in_range}

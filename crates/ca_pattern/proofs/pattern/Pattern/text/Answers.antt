@@ -3,7 +3,7 @@ use Rattle.std.specs.Result.{IfOk}
 use Rattle.ca_plane.specs.Plane.{cell as plane_cell}
 use Rattle.ca_quad.specs.Trees.{cell}
 use Rattle.ca_rle.specs.Shown.{picture_of_items}
-use Rattle.ca_rule.specs.Rule.{rule_value}
+use Rattle.ca_rule.specs.Rule.{rule_value, printed_form, states_of}
 use Rattle.ca_pattern.specs.declared.format.Format.TheVariants.{Rle}
 use Rattle.ca_pattern.specs.PatternCells.{AreCells, IsGenerationOf}
 use Rattle.ca_pattern.specs.Written.{IsWrittenAs}
@@ -23,7 +23,7 @@ returns-in-Text-Rle-clause-written c = λ cells is.
     let made = c.rle_of_text.result in
     let (bytes, of, shows) = subst (λ s. AreCells s cells) c.in-Text-Rle.is-0 is.are_cells in
     let at : text.generation ≡ c.args.self.generation = subst (λ s. IsGenerationOf s c.args.self.generation) c.in-Text-Rle.is-0 is.generation_is in
-    let written = written_ok (plane_cell (picture_of_items text.corner of.file.items)) cells shows rule text.generation (λ v. v.items) made (c.rle_of_text.ensures.written bytes of) in
+    let written = written_ok (plane_cell (picture_of_items text.corner of.file.items)) cells shows Rle (printed_form rule) text.generation (states_of rule) (λ v. v.items) made (c.rle_of_text.ensures.written bytes of) in
     subst (λ t. IfOk made (λ v. IsWrittenAs t cells rule c.args.self.generation v.items)) (sym c.in-Text-Rle.is-1)
     (subst (λ g. IfOk made (λ v. IsWrittenAs Rle cells rule g v.items)) at written)
 

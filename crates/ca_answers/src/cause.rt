@@ -1,6 +1,10 @@
 //! Why a claim isn't judged, or a pattern isn't identified.
 
-use crate::pattern_fault::PatternFault;
+ghost use Rattle.std.specs.Prelude.{◌≡◌, ◌++◌};
+ghost use Rattle.ca_pattern.specs.FaultTexts.{table_fault_text};
+ghost use Rattle.ca_answers.specs.Answers.{cause_text};
+
+use ca_pattern::{PatternFault, rule_fault_text, table_kind};
 use ca_rule::{RuleFault, TableFault};
 use thiserror::Error;
 
@@ -39,4 +43,34 @@ pub enum Cause {
     /// A growth was refused.
     #[error("out of memory")]
     Memory,
+}
+
+impl Cause {
+    /// Why a claim isn't judged, or a file isn't identified, in the words that are printed: a text, and what
+    /// follows it.
+    pub fn words<'a>(self) -> (&'a [u8], &'a [u8])
+        ensures { result.0.now ++ result.1.now ≡ cause_text self }
+    {
+        match self {
+            Cause::NoFile => (b"no file", b""),
+            Cause::BadTable(fault) => table_words(fault),
+            Cause::BadPattern(fault) => (fault.text(), b""),
+            Cause::BadRule(fault) => (b"bad rule: ", rule_fault_text(fault)),
+            Cause::StateTooLarge => (b"state too large", b""),
+            Cause::MixedRules => (b"mixed rules", b""),
+            Cause::TooManyCells => (b"too many cells", b""),
+            Cause::Work => (b"work", b""),
+            Cause::Memory => (b"memory", b""),
+        }
+    }
+}
+
+/// Why a rule table isn't good, in two such texts.
+fn table_words<'a>(fault: TableFault) -> (&'a [u8], &'a [u8])
+    ensures { result.0.now ++ result.1.now ≡ table_fault_text fault }
+{
+    if let TableFault::Memory = fault {
+        return (b"memory", b"");
+    }
+    (b"bad table:", table_kind(fault))
 }
