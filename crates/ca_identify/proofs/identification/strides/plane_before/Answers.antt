@@ -31,7 +31,7 @@ returns-in-Back-clause-before g c =
     let within = c.planes.invariant.within in
     let at = slice_get_read c.args.early.now _ (c.planes.left - 1) plane refl (omega (arith, c.planes-test.true, within)) c.index-early-index.is in
     let grows = c.planes.invariant.goes_on.grows in
-    let told = subst (IsStage (cell s plane.tree) (cell s later)) c.in-Back.is c.in_ok-stage_of.ensures.stage in (
+    let told = subst (IsStage (cell s plane.tree) (cell s later)) c.in-Back.is c.in_ok-stage.ensures.stage in (
       (
         plane,
         at,
@@ -55,12 +55,12 @@ planes-preserved g c =
     let there = slice_get_read c.args.early.now _ (c.planes.left - 1) here refl (omega (arith, c.planes-test.true, within)) c.index-early-index.is in
     let lives = c.requires.live in
     let live : HasLive (cell s later) = (lives.0, lives.1, λ none. lives.2 (sym (trees_stay s0 s c.store.ensures.sound inv.goes_on.grows later c.requires.later.is_tree lives.0 lives.1) ∙ none)) in
-    let told = not_back (cell s here.tree) (cell s later) _ c.in_ok-stage_of.ensures.stage live c.in_default.not-Back in
+    let told = not_back (cell s here.tree) (cell s later) _ c.in_ok-stage.ensures.stage live c.in_default.not-Back in
     let nowhere = nowhere_as (cell s here.tree) (cell s later) (cell s0 here.tree) (cell s0 later)
     (trees_stay s0 s c.store.ensures.sound inv.goes_on.grows here.tree (c.requires.early (c.planes.left - 1) here there).start.is_tree) (trees_stay s0 s c.store.ensures.sound inv.goes_on.grows later c.requires.later.is_tree) told in
     record {
-      goes_on = goes_on_again _ c.args.leaper.now c.planes.leaper c.stage_of.new.leaper inv.goes_on c.in_ok-stage_of.ensures.goes_on;
-      boxes = c.in_ok-stage_of.ensures.boxes;
+      goes_on = goes_on_again _ c.args.leaper.now c.planes.leaper c.stage_of.new.leaper inv.goes_on c.in_ok-stage.ensures.goes_on;
+      boxes = c.in_ok-stage.ensures.boxes;
       within = omega (arith, within);
       nowhere = λ k plane from at.
           elim (below_or_not k c.planes.left) [
