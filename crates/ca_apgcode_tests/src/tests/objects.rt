@@ -1,7 +1,9 @@
 //! Codes that Catagolue and LifeWiki have, in each orientation.
 
 use super::expected::expect;
-use ca_apgcode::{ObjectKind, Orientation, ReadFault, least_with, object_code, read_representation};
+use ca_apgcode::{
+    ObjectKind, Orientation, ReadFault, least_with, object_code, read_representation,
+};
 use std::alloc::Global;
 use std::test::*;
 
@@ -35,8 +37,18 @@ const STILL_LIFES: &[Object] = &[
     (ObjectKind::StillLife, 10, b"g8o652z01", b"xs10_g8o652z01"),
     (ObjectKind::StillLife, 11, b"g8o652z11", b"xs11_g8o652z11"),
     (ObjectKind::StillLife, 12, b"g8o653z11", b"xs12_g8o653z11"),
-    (ObjectKind::StillLife, 14, b"g88m952z121", b"xs14_g88m952z121"),
-    (ObjectKind::StillLife, 16, b"g88m996z1221", b"xs16_g88m996z1221"),
+    (
+        ObjectKind::StillLife,
+        14,
+        b"g88m952z121",
+        b"xs14_g88m952z121",
+    ),
+    (
+        ObjectKind::StillLife,
+        16,
+        b"g88m996z1221",
+        b"xs16_g88m996z1221",
+    ),
 ];
 
 const OSCILLATORS: &[Object] = &[
@@ -52,9 +64,24 @@ const OSCILLATORS: &[Object] = &[
         b"xp3_co9nas0san9oczgoldlo0oldlogz1047210127401",
     ),
     (ObjectKind::Oscillator, 4, b"37bkic", b"xp4_37bkic"),
-    (ObjectKind::Oscillator, 5, b"idiidiz01w1", b"xp5_idiidiz01w1"),
-    (ObjectKind::Oscillator, 5, b"3pmwmp3zx11", b"xp5_3pmwmp3zx11"),
-    (ObjectKind::Oscillator, 6, b"ccb7w66z066", b"xp6_ccb7w66z066"),
+    (
+        ObjectKind::Oscillator,
+        5,
+        b"idiidiz01w1",
+        b"xp5_idiidiz01w1",
+    ),
+    (
+        ObjectKind::Oscillator,
+        5,
+        b"3pmwmp3zx11",
+        b"xp5_3pmwmp3zx11",
+    ),
+    (
+        ObjectKind::Oscillator,
+        6,
+        b"ccb7w66z066",
+        b"xp6_ccb7w66z066",
+    ),
     (ObjectKind::Oscillator, 14, b"j9d0d9j", b"xp14_j9d0d9j"),
     (ObjectKind::Oscillator, 15, b"4r4z4r4", b"xp15_4r4z4r4"),
     (
@@ -76,7 +103,12 @@ const SPACESHIPS: &[Object] = &[
     (ObjectKind::Spaceship, 4, b"6frc", b"xq4_6frc"),
     (ObjectKind::Spaceship, 4, b"27dee6", b"xq4_27dee6"),
     (ObjectKind::Spaceship, 4, b"27deee6", b"xq4_27deee6"),
-    (ObjectKind::Spaceship, 7, b"3nw17862z6952", b"xq7_3nw17862z6952"),
+    (
+        ObjectKind::Spaceship,
+        7,
+        b"3nw17862z6952",
+        b"xq7_3nw17862z6952",
+    ),
 ];
 
 pub(crate) const ORIENTATIONS: &[Orientation] = &[
