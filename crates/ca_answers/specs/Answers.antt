@@ -2,34 +2,20 @@
 use Rattle.std.specs.Prelude.{◌≡◌, ℕ, IsTrue, List, ◌++◌, Option, Some, None, Vec, ◌⊎◌, codes}
 use Rattle.std.specs.declared.alloc.Global.{Global}
 use Rattle.std.specs.List.{AllZip, AllByRecursion}
-use Rattle.ca_plane.specs.Plane.{Picture, cell}
-use Rattle.ca_plane.specs.Population.{HasFewCells, HasTooManyCells}
-use Rattle.ca_rule.specs.TableNext.{TableRule}
-use Rattle.ca_rule.specs.declared.fault.RuleFault.{RuleFault}
-use Rattle.ca_rule.specs.declared.table.fault.TableFault.{TableFault}
-use Rattle.ca_rule.specs.Rule.{RuleValue, next_of, IsRuleFault, IsSameRule}
-use Rattle.ca_answers.specs.declared.verdict.Answer.{Answer}
-use Rattle.ca_answers.specs.declared.verdict.Verdict.{Verdict}
+use Rattle.ca_plane.specs.Prelude.{Picture, cell, HasFewCells, HasTooManyCells}
+use Rattle.ca_rule.specs.Prelude.{TableRule, RuleValue, next_of, IsRuleFault, IsSameRule}
+use Rattle.ca_rule.specs.declared.{fault.RuleFault.RuleFault, table.fault.TableFault.TableFault}
+use Rattle.ca_answers.specs.declared.{verdict.Answer.Answer, verdict.Verdict.Verdict, cause.Cause.Cause}
 use Rattle.ca_answers.specs.declared.verdict.Verdict.TheVariants.{Yes, No, Refused}
 use Rattle.ca_pattern.specs.declared.pattern_fault.PatternFault.{PatternFault}
-use Rattle.ca_answers.specs.declared.cause.Cause.{Cause}
 use Rattle.ca_answers.specs.declared.cause.Cause.TheVariants.{NoFile, BadTable, BadPattern, BadRule, StateTooLarge, MixedRules, TooManyCells, Work, Memory}
-use Rattle.ca_text.specs.declared.both.Both.{Both}
-use Rattle.ca_text.specs.Both.{HoldsOfBoth, HoldsOfEither, FirstBadOfBoth}
-use Rattle.ca_text.specs.Firsts.{FirstBad}
-use Rattle.ca_text.specs.declared.asks.Asks.{Asks}
+use Rattle.ca_text.specs.declared.{both.Both.Both, asks.Asks.Asks}
+use Rattle.ca_text.specs.Prelude.{HoldsOfBoth, HoldsOfEither, FirstBadOfBoth, FirstBad, SomeOf, Claim, asks_of, expected_cells, IsTrueClaim}
 use Rattle.ca_answers.specs.Work.{MayBeUsedUp}
-use Rattle.ca_text.specs.SomeOf.{SomeOf}
-use Rattle.ca_text.specs.Text.{Claim}
 use Rattle.ca_answers.specs.Files.{bytes_at}
-use Rattle.ca_pattern.specs.Means.{IsReadable, HoldsRuleText, HoldsRuledPattern, HasRuleFault, MayWantMemory}
-use Rattle.ca_text.specs.Kinds.{asks_of}
-use Rattle.ca_text.specs.Truth.{expected_cells, IsTrueClaim}
+use Rattle.ca_pattern.specs.Prelude.{IsReadable, HoldsRuleText, HoldsRuledPattern, HasRuleFault, MayWantMemory, IsQuietTable, IsTableFault, HasSmallStates, HasLargeState, rule_fault_text}
+use Rattle.ca_pattern.specs.Prelude.{table_fault_text, IsPatternFault, IsPatternFaultOn, pattern_fault_text}
 use Rattle.ca_answers.specs.Refutations.{IsReason}
-use Rattle.ca_pattern.specs.NamedTables.{IsQuietTable, IsTableFault}
-use Rattle.ca_pattern.specs.States.{HasSmallStates, HasLargeState}
-use Rattle.ca_pattern.specs.FaultTexts.{rule_fault_text, table_fault_text}
-use Rattle.ca_pattern.specs.Formats.{IsPatternFault, IsPatternFaultOn, pattern_fault_text}
 
 -- the file of a path was handed in, and this holds of its bytes
 abbrev pub HoldsOfFile : List (List ℕ × List ℕ) → (List ℕ → Type 0) → List ℕ → Type 0

@@ -1,22 +1,17 @@
 -- The code of a pattern under a rule, where it is a still life, an oscillator or a spaceship (LifeWiki, "Apgcode").
 use Rattle.std.specs.Prelude.{◌≤◌, ◌<◌, ◌+◌, ◌-◌, ◌*◌, ◌^◌, ◌⊎◌, ℕ, ℤ, List, Option, MatchOption}
-use Rattle.ca_plane.specs.Limits.{longest_period}
-use Rattle.ca_plane.specs.Plane.{Picture, cell}
-use Rattle.ca_plane.specs.Generations.{after, IsAfter}
-use Rattle.ca_plane.specs.Population.{HasPopulation}
-use Rattle.ca_quad.specs.Trees.{HoldsAll}
-use Rattle.ca_rule.specs.Rule.{RuleValue, Bs, Gen, Tab, next_of}
-use Rattle.ca_rule.specs.TableNext.{TableRule}
+use Rattle.ca_plane.specs.Prelude.{longest_period, Picture, cell, after, IsAfter, HasPopulation}
+use Rattle.ca_quad.specs.Prelude.{HoldsAll}
+use Rattle.ca_rule.specs.Prelude.{RuleValue, Bs, Gen, Tab, next_of, TableRule}
 use Rattle.ca_rule.specs.declared.hood.Hood.{Hood}
 use Rattle.ca_rule.specs.declared.hood.Hood.TheVariants.{Moore, VonNeumann, Hex}
-use Rattle.ca_apgcode.specs.Objects.{IsObjectCode}
+use Rattle.ca_apgcode.specs.Prelude.{IsObjectCode}
 use Rattle.ca_apgcode.specs.declared.object.ObjectKind.TheVariants as object
 use Rattle.ca_text.specs.declared.kind.Kind.TheVariants.{Still, Oscillator, Spaceship}
 use Rattle.ca_pattern.specs.declared.located_fault.LocatedFault.{LocatedFault}
 use Rattle.ca_pattern.specs.declared.located_fault.LocatedFault.TheVariants.{Work}
-use Rattle.ca_pattern.specs.LocatedFaults.{IsOpeningFault}
+use Rattle.ca_pattern.specs.Prelude.{IsOpeningFault, run_work}
 use Rattle.ca_answers.specs.Identified.{HoldsSmallPattern}
-use Rattle.ca_pattern.specs.Evolved.{run_work}
 use Rattle.ca_answers.specs.declared.identity.Identity.{Identity}
 use Rattle.ca_answers.specs.declared.identity.Identity.TheVariants.{Claim}
 

@@ -1,26 +1,16 @@
 -- What a pattern is found to be, by the claims that are true of it, and why that isn't found out.
 use Rattle.std.specs.Prelude.{◌≡◌, ℕ, ◌+◌, ◌*◌, ◌^◌, ◌≤◌, ◌<◌, ℤ, List, Some}
-use Rattle.ca_plane.specs.Plane.{Picture, cell, IsLive}
-use Rattle.ca_plane.specs.Box.{IsLeastBox}
-use Rattle.ca_plane.specs.Generations.{after, IsAfter}
-use Rattle.ca_plane.specs.Population.{HasPopulation}
-use Rattle.ca_quad.specs.Trees.{HoldsAll}
-use Rattle.ca_rule.specs.TableNext.{TableRule}
-use Rattle.ca_rule.specs.Rule.{RuleValue, next_of}
-use Rattle.ca_text.specs.declared.asks.Expected.{Expected}
+use Rattle.ca_plane.specs.Prelude.{Picture, cell, IsLive, IsLeastBox, after, IsAfter, HasPopulation}
+use Rattle.ca_quad.specs.Prelude.{HoldsAll}
+use Rattle.ca_rule.specs.Prelude.{TableRule, RuleValue, next_of}
+use Rattle.ca_text.specs.declared.{asks.Expected.Expected, kind.Kind.Kind}
 use Rattle.ca_text.specs.declared.asks.Expected.TheVariants.{Own, Other, NoCells}
-use Rattle.ca_text.specs.declared.kind.Kind.{Kind}
-use Rattle.ca_answers.specs.declared.identity.Identity.{Identity}
+use Rattle.ca_answers.specs.declared.{identity.Identity.Identity, identity.Growth.Growth, scope.Scope.Scope, scope.Look.Look}
 use Rattle.ca_answers.specs.declared.identity.Identity.TheVariants.{Empty, Claim, Unknown}
-use Rattle.ca_answers.specs.declared.identity.Growth.{Growth}
-use Rattle.ca_answers.specs.declared.scope.Scope.{Scope}
-use Rattle.ca_answers.specs.declared.scope.Look.{Look}
 use Rattle.ca_pattern.specs.declared.located_fault.LocatedFault.{LocatedFault}
 use Rattle.ca_pattern.specs.declared.located_fault.LocatedFault.TheVariants.{Work}
-use Rattle.ca_text.specs.Kinds.{HasGoodNumbers, asks_of}
-use Rattle.ca_text.specs.Truth.{IsTrueClaim}
-use Rattle.ca_pattern.specs.Evolved.{HoldsSmallRuledPattern, run_work}
-use Rattle.ca_pattern.specs.LocatedFaults.{IsOpeningFault}
+use Rattle.ca_text.specs.Prelude.{HasGoodNumbers, asks_of, IsTrueClaim}
+use Rattle.ca_pattern.specs.Prelude.{HoldsSmallRuledPattern, run_work, IsOpeningFault}
 
 -- these expected cells are of no other pattern
 abbrev pub AreOfNoOther : Expected → Type 0

@@ -1,9 +1,8 @@
 -- What is left to be judged.
 use Rattle.std.specs.Prelude.{◌≡◌, ℕ, List, [], ◌∷◌}
 use Rattle.ca_text.specs.declared.both.Both.{Both}
-use Rattle.ca_answers.specs.declared.verdict.Answer.{Answer}
-use Rattle.ca_answers.specs.declared.note.Note.{Note}
-use Rattle.ca_text.specs.Text.{Claim}
+use Rattle.ca_answers.specs.declared.{verdict.Answer.Answer, note.Note.Note}
+use Rattle.ca_text.specs.Prelude.{Claim}
 use Rattle.ca_answers.specs.Answers.{IsTrueAnswer, IsWithinWork}
 use Rattle.ca_answers.specs.Notes.{IsNote}
 

@@ -1,3 +1,4 @@
+pub mod Prelude
 pub mod Answers
 pub mod Codes
 pub mod Files

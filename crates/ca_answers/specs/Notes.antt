@@ -1,14 +1,12 @@
 -- What a note on a verdict says of the claim's patterns and of the files that were handed in.
 use Rattle.std.specs.Prelude.{◌≡◌, ◌≢◌, ℕ, ℤ, List}
 use Rattle.ca_text.specs.declared.both.Both.{Both}
-use Rattle.ca_answers.specs.declared.note.Note.{Note}
+use Rattle.ca_answers.specs.declared.{note.Note.Note, verdict.Verdict.Verdict, cause.Cause.Cause}
 use Rattle.ca_answers.specs.declared.note.Note.TheVariants.{Nothing, Cell, Pattern, RuleFile}
-use Rattle.ca_answers.specs.declared.verdict.Verdict.{Verdict}
 use Rattle.ca_answers.specs.declared.verdict.Verdict.TheVariants.{Yes, No, Refused}
 use Rattle.ca_answers.specs.declared.verdict.Refutation.TheVariants.{Empty, Differs, Earlier, Died}
-use Rattle.ca_answers.specs.declared.cause.Cause.{Cause}
 use Rattle.ca_answers.specs.Answers.{IsOfClaim, IsOfPattern, IsOfRuleFile}
-use Rattle.ca_text.specs.Both.{map_both, FirstBadOfBoth}
+use Rattle.ca_text.specs.Prelude.{map_both, FirstBadOfBoth}
 
 -- the first bad pattern is the one with this name and path; patterns are given by their names and paths
 abbrev pub IsFirstBad : Both (List ℕ × List ℕ) → (name path : List ℕ) → (Good Bad : List ℕ → Type 0) → Type 0

@@ -1,12 +1,11 @@
 -- What a refutation of a claim has to show (our own; docs/CLAIMS.md).
 use Rattle.std.specs.Prelude.{◌≡◌, ◌≢◌, ℕ, ◌≤◌, ◌<◌, List, [], IsTrue}
-use Rattle.ca_plane.specs.Plane.{Picture, cell, shifted, IsLive}
-use Rattle.ca_plane.specs.Generations.{after, IsAfter}
+use Rattle.ca_plane.specs.Prelude.{Picture, cell, shifted, IsLive, after, IsAfter}
 use Rattle.ca_text.specs.declared.asks.Asks.{Asks}
 use Rattle.ca_text.specs.declared.asks.Forbidden.TheVariants.{EmptyPlane}
 use Rattle.ca_answers.specs.declared.verdict.Refutation.{Refutation}
 use Rattle.ca_answers.specs.declared.verdict.Refutation.TheVariants.{Empty, Differs, Earlier, Died}
-use Rattle.ca_text.specs.Truth.{MayReturnBy, ShowsNothingForbidden, claimed_cells}
+use Rattle.ca_text.specs.Prelude.{MayReturnBy, ShowsNothingForbidden, claimed_cells}
 
 -- a claim that asks this is false for this reason: the pattern must be live and isn't; or a cell after the claimed generations
 -- isn't the claimed one; or the claimed cells stand, but what is forbidden is shown at an earlier time, and at no time before that: the pattern

@@ -1,8 +1,7 @@
 -- How much work the judgement of a claim may need.
 use Rattle.std.specs.Prelude.{ℕ, ◌+◌, ◌*◌, ◌<◌, ◌≤◌, ◌^◌, min, ℤ}
-use Rattle.ca_quad.specs.Trees.{HoldsAll}
-use Rattle.ca_text.specs.declared.asks.Asks.{Asks}
-use Rattle.ca_text.specs.declared.asks.Forbidden.{Forbidden}
+use Rattle.ca_quad.specs.Prelude.{HoldsAll}
+use Rattle.ca_text.specs.declared.asks.{Asks.Asks, Forbidden.Forbidden}
 use Rattle.ca_text.specs.declared.asks.Forbidden.TheVariants.{Nothing, InPlace, Anywhere, EmptyPlane}
 
 -- how often a pattern may be taken some generations on for a claim that asks this: once, and where something is forbidden at earlier times,

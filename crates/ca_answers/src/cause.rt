@@ -1,7 +1,7 @@
 //! Why a claim isn't judged, or a pattern isn't identified.
 
 ghost use Rattle.std.specs.Prelude.{◌≡◌, ◌++◌};
-ghost use Rattle.ca_pattern.specs.FaultTexts.{table_fault_text};
+ghost use Rattle.ca_pattern.specs.Prelude.{table_fault_text};
 ghost use Rattle.ca_answers.specs.Answers.{cause_text};
 
 use ca_pattern::{PatternFault, rule_fault_text, table_kind};

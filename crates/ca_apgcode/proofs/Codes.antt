@@ -6,8 +6,7 @@ use Rattle.std.proofs.lemmas.Bool.{cases_lt, cases_eq}
 use Rattle.std.proofs.lemmas.Grind.{same_number_lists}
 use Rattle.std.proofs.lemmas.List.{same_lists, get_or_past}
 use Rattle.std.proofs.lemmas.Nat.Bits.{bit_at-zero, bit_at-lt, bit_at_above, same_from_bits}
-use Rattle.ca_apgcode.specs.Grids.{GridCells, IsGrid, IsLeastGrid, cell}
-use Rattle.ca_apgcode.specs.Representation.{Step, IsStep, IsRepresentation, IsCode, five_cells, step_text, step_columns}
+use Rattle.ca_apgcode.specs.Prelude.{GridCells, IsGrid, IsLeastGrid, cell, Step, IsStep, IsRepresentation, IsCode, five_cells, step_text, step_columns}
 use Rattle.ca_apgcode.proofs.StepTexts.{one_list_of_strips}
 use Rattle.ca_apgcode.proofs.StepColumns.{one_list_of_steps}
 

@@ -6,7 +6,7 @@ use Rattle.std.proofs.lemmas.Bool.{cases_lt}
 use Rattle.std.proofs.lemmas.List.{get_or_past}
 use Rattle.std.proofs.lemmas.Nat.{pow_pos, shr-shr, shr_below}
 use Rattle.std.proofs.lemmas.Nat.Bits.{bit_at_lowest, bit_at-suc, bit_at-zero}
-use Rattle.ca_apgcode.specs.Grids.{GridCells, IsGrid, cell}
+use Rattle.ca_apgcode.specs.Prelude.{GridCells, IsGrid, cell}
 use Rattle.ca_apgcode.specs.inner.Turned.{IsFlipped}
 
 -- ---- bits the other way round

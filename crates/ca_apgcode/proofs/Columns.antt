@@ -6,8 +6,7 @@ use Rattle.std.proofs.lemmas.List.{get_or-set_same, get_or-set_other, length-set
 use Rattle.std.proofs.lemmas.Grind.{get_or_default_zero}
 use Rattle.std.proofs.lemmas.Nat.{shr-shr, or_lt, one_shl, pow_below, pow_pos}
 use Rattle.std.proofs.lemmas.Nat.Bits.{bit_at-zero, bit_at_set_same, bit_at_set_other}
-use Rattle.ca_apgcode.specs.Grids.{GridCells, IsGrid, MakesLive, cell}
-use Rattle.ca_apgcode.specs.Representation.{five_cells}
+use Rattle.ca_apgcode.specs.Prelude.{GridCells, IsGrid, MakesLive, cell, five_cells}
 
 -- the last five binary digits of a number
 five_of : (m : ℕ) → m % 32 ≡ m % 2 + 2 * (m / 2 % 2) + 4 * (m / 4 % 2) + 8 * (m / 8 % 2) + 16 * (m / 16 % 2)

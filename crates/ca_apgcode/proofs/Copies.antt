@@ -2,10 +2,8 @@
 use Rattle.std.proofs.Common.{◌≡◌, ℕ, List, Option, Some, None, refl, sym, ap, ap₂, ◌∙◌, ℤ, pos, ◌-ℤ◌, arith}
 use Rattle.std.specs.Prelude.{neg_ℤ}
 use Rattle.std.proofs.lemmas.Int.{ints}
-use Rattle.ca_apgcode.specs.Objects.{IsTextOf, IsTurnedText, IsPhaseText, IsLeastOfPhases, IsObjectCode, code_text}
-use Rattle.ca_apgcode.specs.Orientations.{turned, IsCopy, AreAmong}
-use Rattle.ca_apgcode.specs.declared.object.ObjectKind.{ObjectKind}
-use Rattle.ca_apgcode.specs.declared.orientation.Orientation.{Orientation}
+use Rattle.ca_apgcode.specs.Prelude.{IsTextOf, IsTurnedText, IsPhaseText, IsLeastOfPhases, IsObjectCode, code_text, turned, IsCopy, AreAmong}
+use Rattle.ca_apgcode.specs.declared.{object.ObjectKind.ObjectKind, orientation.Orientation.Orientation}
 use Rattle.ca_apgcode.specs.declared.orientation.Orientation.TheVariants.{Upright, QuarterTurn, HalfTurn, ThreeQuarterTurn, EastWest, NorthSouth, Diagonal, Antidiagonal}
 use Rattle.ca_apgcode.proofs.Leasts.{firsts_same}
 use Rattle.ca_apgcode.proofs.PlaneBoxes.{text_moved}

@@ -9,7 +9,7 @@ use Rattle.std.proofs.lemmas.Grind.{get_or_default_zero, flat_map-append}
 use Rattle.std.proofs.lemmas.List.{append-nil, get_or_past, get_or-set_same, get_or-set_other, get_or_append_left, get_or-replicate, length-set, length-replicate}
 use Rattle.std.proofs.lemmas.Nat.{shl_whole, shl-shr, or_shr, or_lt, shl_below, shr_below, pow_below, pow_pos}
 use Rattle.std.proofs.lemmas.Nat.Bits.{bit_at-zero, bit_at_or, bit_at_above, bit_at_cat_low}
-use Rattle.ca_apgcode.specs.Representation.{Step, IsStep, IsStrip, step_columns}
+use Rattle.ca_apgcode.specs.Prelude.{Step, IsStep, IsStrip, step_columns}
 use Rattle.ca_apgcode.proofs.Columns.{five_bits}
 use Rattle.ca_apgcode.proofs.Steps.{each_more, columns_before, columns_between, columns_at}
 

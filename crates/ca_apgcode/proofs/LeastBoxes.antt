@@ -6,7 +6,7 @@ use Rattle.std.proofs.lemmas.Bool.{cases_lt}
 use Rattle.std.proofs.lemmas.List.{get_or_past}
 use Rattle.std.proofs.lemmas.Nat.Bits.{bit_at-trailing_zeros, bit_at_lowest, bit_at-zero}
 use Rattle.std.proofs.lemmas.Option.{get_or_from_slice_get, slice_get_within}
-use Rattle.ca_apgcode.specs.Grids.{GridCells, cell, IsLeastOf}
+use Rattle.ca_apgcode.specs.Prelude.{GridCells, cell, IsLeastOf}
 
 -- a last column without cells is taken off
 pub popped : (old : List ℕ) (n : ℕ) → length old ≡ suc n → get_or old n 0 ≡ 0 → (x : ℕ) → get_or (take n old) x 0 ≡ get_or old x 0

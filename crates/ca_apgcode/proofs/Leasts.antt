@@ -9,7 +9,7 @@ use Rattle.std.specs.declared.cmp.Ordering.TheVariants.{Less, Equal, Greater}
 use Rattle.std.specs.FinMap.{nat_cmp-IsAntisymmetric, slice_cmp-IsAntisymmetric}
 use Rattle.std.proofs.lemmas.Bool.{cases_Bool, false≢true}
 use Rattle.std.proofs.lemmas.Cmp.{on_total, then_total, nat_cmp_total, nat_list_cmp_total, upto, tied_itself, alike_right}
-use Rattle.ca_apgcode.specs.Order.{representation_cmp, Precedes, IsLeastText}
+use Rattle.ca_apgcode.specs.Prelude.{representation_cmp, Precedes, IsLeastText}
 use Rattle.ca_apgcode.specs.inner.Least.{lesser, least_from}
 
 -- it is a total order

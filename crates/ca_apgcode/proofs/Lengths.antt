@@ -5,7 +5,7 @@ use Rattle.std.specs.Ordering.{nat_cmp}
 use Rattle.std.proofs.lemmas.Cmp.{ranked}
 use Rattle.std.specs.declared.cmp.Ordering.{Ordering}
 use Rattle.std.specs.declared.cmp.Ordering.TheVariants.{Less, Equal, Greater}
-use Rattle.ca_apgcode.specs.Representation.{IsRepresentation, five_cells, step_text}
+use Rattle.ca_apgcode.specs.Prelude.{IsRepresentation, five_cells, step_text}
 use Rattle.ca_apgcode.specs.inner.Least.{lesser}
 use Rattle.ca_apgcode.specs.inner.Lengths.{IsStripLength}
 use Rattle.ca_apgcode.proofs.Codes.{one_text}

@@ -7,7 +7,7 @@ use Rattle.std.proofs.lemmas.Bool.{cases_lt, cases_eq, false≢true}
 use Rattle.std.proofs.lemmas.Nat.{pow_pos, or_lt}
 use Rattle.std.proofs.Math.Nat.{pow-suc}
 use Rattle.std.proofs.lemmas.Nat.Bits.{bit_at-lt, bit_at_or, bit_at-zero}
-use Rattle.ca_apgcode.specs.Grids.{GridCells, cell}
+use Rattle.ca_apgcode.specs.Prelude.{GridCells, cell}
 use Rattle.ca_apgcode.specs.inner.Sides.{IsOfFiveBefore, AreLiveBefore}
 use Rattle.ca_apgcode.proofs.MaskBits.{bit_first, bit_later}
 use Rattle.ca_apgcode.proofs.PlaneBoxes.{east_dead}

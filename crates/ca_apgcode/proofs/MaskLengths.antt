@@ -4,8 +4,7 @@ use Rattle.std.specs.Prelude.{bit_or, count_ones}
 use Rattle.std.specs.Int.{bit_at}
 use Rattle.std.proofs.lemmas.Bool.{cases_eq, eq-eqb, ne_eqb}
 use Rattle.std.proofs.lemmas.Nat.Bits.{bit_at-lt, bit_at_or, bit_at_above}
-use Rattle.ca_apgcode.specs.Grids.{GridCells, cell}
-use Rattle.ca_apgcode.specs.Representation.{five_cells, gap_text, step_text}
+use Rattle.ca_apgcode.specs.Prelude.{GridCells, cell, five_cells, gap_text, step_text}
 use Rattle.ca_apgcode.specs.inner.Lengths.{IsStripLength}
 use Rattle.ca_apgcode.specs.inner.Sides.{IsStripMask, west_bit, bits_without, text_length}
 use Rattle.ca_apgcode.proofs.Lengths.{MeasuresColumns, MeasuresColumns-none, MeasuresColumns-more, MeasuresColumns-all}

@@ -5,7 +5,7 @@ use Rattle.std.specs.Int.{bit_at}
 use Rattle.std.proofs.lemmas.Bool.{eq-eqb, ne_eqb}
 use Rattle.std.proofs.lemmas.Nat.Bits.{bit_at-lt, bit_at_or, bit_at_above}
 use Rattle.std.proofs.Math.Nat.{pow-suc}
-use Rattle.ca_apgcode.specs.Grids.{GridCells, cell}
+use Rattle.ca_apgcode.specs.Prelude.{GridCells, cell}
 use Rattle.ca_apgcode.specs.inner.Lengths.{IsStripLength}
 use Rattle.ca_apgcode.specs.inner.Sides.{IsStripMask, west_bit, east_bit, bits_without, text_length}
 use Rattle.ca_apgcode.specs.inner.Turned.{IsMirrored}

@@ -3,9 +3,7 @@ use Rattle.std.proofs.Common.{Result, Ok, Err, IfOk, Vec, Global, ◌≢◌, ℕ
 use Rattle.std.specs.Prelude.{neg_ℤ, ◌≤ℤ◌}
 use Rattle.std.proofs.lemmas.Bool.{cases_eq}
 use Rattle.std.proofs.lemmas.Int.{ints}
-use Rattle.ca_apgcode.specs.Grids.{GridCells}
-use Rattle.ca_apgcode.specs.Objects.{IsBoxRound, IsTurnedText, IsPhaseText, IsLeastAmong, IsLeastOfPhases}
-use Rattle.ca_apgcode.specs.Orientations.{turned}
+use Rattle.ca_apgcode.specs.Prelude.{GridCells, IsBoxRound, IsTurnedText, IsPhaseText, IsLeastAmong, IsLeastOfPhases, turned}
 use Rattle.ca_apgcode.specs.declared.orientation.Orientation.{Orientation}
 use Rattle.ca_apgcode.specs.declared.orientation.Orientation.TheVariants.{Upright, QuarterTurn, HalfTurn, ThreeQuarterTurn, EastWest, NorthSouth, Diagonal, Antidiagonal}
 use Rattle.ca_apgcode.specs.inner.Rounds.{IsLeastWith}

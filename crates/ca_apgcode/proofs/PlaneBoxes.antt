@@ -5,10 +5,8 @@ use Rattle.std.specs.Int.{bit_at}
 use Rattle.std.proofs.lemmas.Int.{ints}
 use Rattle.std.proofs.lemmas.List.{get_or_past}
 use Rattle.std.proofs.lemmas.Nat.Bits.{bit_at-zero}
-use Rattle.ca_plane.specs.Shown.{from_corner}
-use Rattle.ca_apgcode.specs.Grids.{GridCells, cell}
-use Rattle.ca_apgcode.specs.Representation.{IsRepresentation}
-use Rattle.ca_apgcode.specs.Objects.{live, IsBoxRound, IsTextOf}
+use Rattle.ca_plane.specs.Prelude.{from_corner}
+use Rattle.ca_apgcode.specs.Prelude.{GridCells, cell, IsRepresentation, live, IsBoxRound, IsTextOf}
 use Rattle.ca_apgcode.proofs.Codes.{one_least_grid, one_text, live_column, live_row}
 
 -- ---- places on a box

@@ -6,8 +6,7 @@ use Rattle.std.proofs.Math.Seq.{get_or-append_seam}
 use Rattle.std.proofs.lemmas.Bool.{cases_lt}
 use Rattle.std.proofs.lemmas.List.{append-nil, get_or_append_left, nil_from_length}
 use Rattle.std.proofs.lemmas.Nat.Bits.{bit_at_above, same_from_bits}
-use Rattle.ca_apgcode.specs.Grids.{GridCells, cell, IsLeastOf}
-use Rattle.ca_apgcode.specs.Representation.{Step, IsStep, IsStrip, IsCode, step_text, step_columns}
+use Rattle.ca_apgcode.specs.Prelude.{GridCells, cell, IsLeastOf, Step, IsStep, IsStrip, IsCode, step_text, step_columns}
 use Rattle.ca_apgcode.specs.inner.Reading.{step_at}
 use Rattle.ca_apgcode.proofs.StepTexts.{step_again, not_both, later_strips}
 use Rattle.ca_apgcode.proofs.Codes.{one_least_grid, each_by_index, cells_from_five, some_strips}

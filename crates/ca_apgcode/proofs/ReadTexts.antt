@@ -3,7 +3,7 @@ use Rattle.std.proofs.Common.{◌≡◌, ℕ, ◌+◌, ◌<◌, List, [], ◌∷
 use Rattle.std.specs.List.{flat_map, join_with_byte, AllByRecursion}
 use Rattle.std.proofs.lemmas.Grind.{flat_map-append}
 use Rattle.std.proofs.lemmas.List.{append-nil, map-append, length-map}
-use Rattle.ca_apgcode.specs.Representation.{Step, IsStep, step_text}
+use Rattle.ca_apgcode.specs.Prelude.{Step, IsStep, step_text}
 use Rattle.ca_apgcode.specs.inner.Reading.{step_at}
 use Rattle.ca_apgcode.proofs.Strips.{joined_more}
 use Rattle.ca_apgcode.proofs.StepTexts.{step_again, same_parts, not_both, one_text_of_steps, later_strips, first_strip, later_none}

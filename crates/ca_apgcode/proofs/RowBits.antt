@@ -6,7 +6,7 @@ use Rattle.std.proofs.lemmas.Bool.{cases_lt, cases_eq, false≢true}
 use Rattle.std.proofs.lemmas.List.{get_or_past, get_or_push, get_or_append_left, length_push, get_or-reverse, length-reverse}
 use Rattle.std.proofs.lemmas.Nat.{pow_pos, pow_below}
 use Rattle.std.proofs.lemmas.Nat.Bits.{bit_at_set_same, bit_at_set_other, bit_at_above, bit_at_or, bit_at-lt, bit_at-zero, same_from_bits}
-use Rattle.ca_apgcode.specs.Grids.{GridCells, IsGrid, cell}
+use Rattle.ca_apgcode.specs.Prelude.{GridCells, IsGrid, cell}
 use Rattle.ca_apgcode.specs.inner.Turned.{IsMirrored, IsTransposed}
 use Rattle.ca_apgcode.proofs.Columns.{live_below}
 

@@ -3,7 +3,7 @@ use Rattle.std.proofs.Common.{◌≡◌, ℕ, ◌+◌, ◌-◌, ◌*◌, ◌^◌
 use Rattle.std.specs.Int.{bit_at}
 use Rattle.std.proofs.lemmas.Bool.{cases_lt}
 use Rattle.std.proofs.lemmas.Nat.Bits.{bit_at_above}
-use Rattle.ca_apgcode.specs.Grids.{GridCells, cell}
+use Rattle.ca_apgcode.specs.Prelude.{GridCells, cell}
 use Rattle.ca_apgcode.specs.inner.Turned.{IsMirrored, IsFlipped, IsTransposed}
 use Rattle.ca_apgcode.specs.inner.Sides.{IsSeenFrom, seen_width, seen_height, AreLiveBefore, IsStripMask}
 use Rattle.ca_apgcode.specs.declared.sides.Side.{Side}

@@ -10,9 +10,8 @@ use Rattle.std.proofs.lemmas.List.FromFn.{length-map-range_with_len, get_or-map-
 use Rattle.std.proofs.lemmas.Nat.{pow_pos, mul-add-lt}
 use Rattle.std.proofs.lemmas.Nat.Bits.{bit_at_lowest, bit_at_cat_low, bit_at_cat_high}
 use Rattle.std.proofs.Math.Nat.{pow-suc}
-use Rattle.ca_plane.specs.Shown.{from_corner}
-use Rattle.ca_apgcode.specs.Grids.{GridCells, IsGrid, IsLeastGrid, cell}
-use Rattle.ca_apgcode.specs.Objects.{live, IsBoxRound, IsTextOf, LiesWithin}
+use Rattle.ca_plane.specs.Prelude.{from_corner}
+use Rattle.ca_apgcode.specs.Prelude.{GridCells, IsGrid, IsLeastGrid, cell, live, IsBoxRound, IsTextOf, LiesWithin}
 use Rattle.ca_apgcode.proofs.PlaneBoxes.{LiesAt, lies_at, north_dead, east_dead, live_one}
 use Rattle.ca_apgcode.proofs.SomeTexts.{some_text}
 use Rattle.ca_apgcode.proofs.TurnedBoxes.{west_dead, south_dead}

@@ -1,8 +1,7 @@
 -- Cells in a box have a representation.
 use Rattle.std.proofs.Common.{◌≡◌, ℕ, zero, suc, ◌+◌, ◌*◌, ◌/◌, ◌%◌, ◌^◌, ◌≤◌, ◌==◌, if◌then◌else◌, List, [], ◌∷◌, ◌++◌, length, get_or, refl, subst, arith}
 use Rattle.std.proofs.lemmas.List.{get_or_past}
-use Rattle.ca_apgcode.specs.Grids.{GridCells, IsGrid, cell}
-use Rattle.ca_apgcode.specs.Representation.{IsRepresentation, five_cells, step_text}
+use Rattle.ca_apgcode.specs.Prelude.{GridCells, IsGrid, cell, IsRepresentation, five_cells, step_text}
 use Rattle.ca_apgcode.specs.inner.Puts.{PutsStrip}
 use Rattle.ca_apgcode.proofs.Columns.{five_bits, five_dead}
 use Rattle.ca_apgcode.proofs.Steps.{BeginsStrip, BeginsStrip-none, BeginsStrip-more, BeginsStrip-all}

@@ -2,7 +2,7 @@
 use Rattle.std.proofs.Common.{◌≡◌, ℕ, zero, suc, ◌+◌, ◌<◌, List, [], ◌∷◌, ◌++◌, get_or, replicate, refl, sym, ap, ap₂, ◌∙◌, inl, inr, arith}
 use Rattle.std.specs.List.{flat_map, AllByRecursion}
 use Rattle.std.proofs.lemmas.Bool.{cases_lt}
-use Rattle.ca_apgcode.specs.Representation.{Step, IsStep, step_columns}
+use Rattle.ca_apgcode.specs.Prelude.{Step, IsStep, step_columns}
 
 -- columns without cells, the next one, and what follows it
 gap_at_front : (gap column k : ℕ) (rest : List ℕ) → k < gap → get_or ((replicate gap 0 ++ column ∷ []) ++ rest) k 0 ≡ 0

@@ -4,7 +4,7 @@ use Rattle.std.specs.List.{flat_map, join_with_byte, AllByRecursion}
 use Rattle.std.proofs.lemmas.Bool.{ne_eqb, lt-ltb}
 use Rattle.std.proofs.lemmas.List.{append-nil}
 use Rattle.std.proofs.lemmas.Bool.Decides.{nat_tests}
-use Rattle.ca_apgcode.specs.Representation.{Step, IsStep, digit, gap_text, step_text}
+use Rattle.ca_apgcode.specs.Prelude.{Step, IsStep, digit, gap_text, step_text}
 use Rattle.ca_apgcode.specs.inner.Reading.{digit_value, gap_at, column_at, step_at}
 
 -- a digit has its number

@@ -4,8 +4,8 @@ use Rattle.std.specs.List.{flat_map, AllByRecursion}
 use Rattle.std.proofs.lemmas.Bool.{cases_Bool, cases_lt, eqb-true, eqb-false}
 use Rattle.std.proofs.lemmas.Grind.{flat_map-append}
 use Rattle.std.proofs.lemmas.List.{append-nil, get_or_past, get_or-append_right, get_or_append_left, get_or-replicate, length-replicate}
-use Rattle.ca_plane.specs.Puts.{Puts}
-use Rattle.ca_apgcode.specs.Representation.{Step, IsStep, five_cells, step_text, step_columns}
+use Rattle.ca_plane.specs.Prelude.{Puts}
+use Rattle.ca_apgcode.specs.Prelude.{Step, IsStep, five_cells, step_text, step_columns}
 use Rattle.ca_apgcode.specs.inner.Puts.{PutsStrip}
 
 -- what holds of each of a list and of one more

@@ -2,7 +2,7 @@
 use Rattle.std.proofs.Common.{◌≡◌, ℕ, ◌+◌, ◌-◌, ◌<◌, ◌≤◌, ◌==◌, nat_le, nat_lt, ◌&&◌, true, List, [], ◌∷◌, ◌++◌, Option, Some, None, option_and_then, refl, sym, ap, ap₂, ◌∙◌, inl, inr, append_assoc, arith}
 use Rattle.std.proofs.lemmas.Bool.{cases_Bool, ne_eqb, eqb-true}
 use Rattle.std.proofs.lemmas.Bool.Decides.{nat_tests}
-use Rattle.ca_apgcode.specs.Representation.{Step, IsStep, digit, gap_text, step_text}
+use Rattle.ca_apgcode.specs.Prelude.{Step, IsStep, digit, gap_text, step_text}
 use Rattle.ca_apgcode.specs.inner.Reading.{digit_value, long_gap_at, gap_at, column_at, step_at}
 
 some_same : {X : Type 0} (a b : X) → Some a ≡ Some b → a ≡ b

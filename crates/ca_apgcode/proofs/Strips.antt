@@ -4,8 +4,8 @@ use Rattle.std.specs.List.{flat_map, join_with_byte}
 use Rattle.std.proofs.lemmas.Bool.{cases_lt, eq-eqb, ne_eqb}
 use Rattle.std.proofs.lemmas.List.{get_or_append_left, map-append, length-map}
 use Rattle.std.proofs.Math.Seq.{get_or-append_seam}
-use Rattle.ca_plane.specs.Puts.{Puts}
-use Rattle.ca_apgcode.specs.Representation.{Step, IsStrip, step_text}
+use Rattle.ca_plane.specs.Prelude.{Puts}
+use Rattle.ca_apgcode.specs.Prelude.{Step, IsStrip, step_text}
 use Rattle.ca_apgcode.specs.inner.Puts.{PutsStrip}
 
 -- one more piece after others

@@ -5,8 +5,7 @@ use Rattle.std.proofs.Math.Seq.{get_or-append_seam}
 use Rattle.std.proofs.lemmas.Bool.{cases_lt}
 use Rattle.std.proofs.lemmas.Grind.{flat_map-append}
 use Rattle.std.proofs.lemmas.List.{get_or_past, get_or-append-add}
-use Rattle.ca_apgcode.specs.Grids.{GridCells, cell}
-use Rattle.ca_apgcode.specs.Representation.{Step, IsStep, IsCode, step_text, step_columns, five_cells}
+use Rattle.ca_apgcode.specs.Prelude.{GridCells, cell, Step, IsStep, IsCode, step_text, step_columns, five_cells}
 use Rattle.ca_apgcode.specs.declared.drawing.Drawing.{Drawing}
 use Rattle.ca_apgcode.specs.inner.Reading.{step_at}
 use Rattle.ca_apgcode.specs.inner.Drawing.{IsStuck}

@@ -3,10 +3,8 @@ use Rattle.std.proofs.Common.{Result, Ok, Err, IfOk, ◌≡◌, ℕ, ◌-◌, �
 use Rattle.std.specs.Prelude.{neg_ℤ}
 use Rattle.std.proofs.lemmas.Int.{ints}
 use Rattle.std.proofs.lemmas.Nat.Bits.{bit_at_above}
-use Rattle.ca_plane.specs.Shown.{from_corner}
-use Rattle.ca_apgcode.specs.Grids.{GridCells, IsGrid, IsLeastGrid, cell}
-use Rattle.ca_apgcode.specs.Objects.{IsBoxRound}
-use Rattle.ca_apgcode.specs.Orientations.{turned}
+use Rattle.ca_plane.specs.Prelude.{from_corner}
+use Rattle.ca_apgcode.specs.Prelude.{GridCells, IsGrid, IsLeastGrid, cell, IsBoxRound, turned}
 use Rattle.ca_apgcode.specs.declared.orientation.Orientation.TheVariants.{EastWest, NorthSouth, Diagonal}
 use Rattle.ca_apgcode.specs.inner.Turned.{IsMirrored, IsFlipped, IsTransposed}
 use Rattle.ca_apgcode.proofs.Codes.{live_column, live_row}

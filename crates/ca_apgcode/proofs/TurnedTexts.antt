@@ -1,8 +1,6 @@
 -- Texts of planes in each orientation, from a box that is seen from its sides.
 use Rattle.std.proofs.Common.{◌≡◌, ℕ, zero, suc, ◌+◌, ◌-◌, ◌*◌, ◌%◌, ◌^◌, ◌<◌, ◌≤◌, List, [], ◌∷◌, ◌++◌, length, reverse, bit_or, refl, ap, subst, ◌∙◌, ℤ, arith}
-use Rattle.ca_apgcode.specs.Grids.{GridCells, IsGrid, cell}
-use Rattle.ca_apgcode.specs.Objects.{IsBoxRound, IsTextOf, IsTurnedText}
-use Rattle.ca_apgcode.specs.Orientations.{turned}
+use Rattle.ca_apgcode.specs.Prelude.{GridCells, IsGrid, cell, IsBoxRound, IsTextOf, IsTurnedText, turned}
 use Rattle.ca_apgcode.specs.declared.orientation.Orientation.TheVariants.{Upright, QuarterTurn, HalfTurn, ThreeQuarterTurn, EastWest, NorthSouth, Diagonal, Antidiagonal}
 use Rattle.ca_apgcode.specs.declared.sides.Side.{Side}
 use Rattle.ca_apgcode.specs.declared.sides.Side.TheVariants.{North, South, West, East}

@@ -4,8 +4,7 @@ use Rattle.std.specs.List.{flat_map, AllByRecursion, list_all}
 use Rattle.std.proofs.lemmas.Bool.{cases_lt, eqb-true, leb-true, ltb-true, and_parts, agree_below, agree_below_at}
 use Rattle.std.proofs.lemmas.List.{get_or_past}
 use Rattle.std.proofs.lemmas.Nat.{pow_pos}
-use Rattle.ca_apgcode.specs.Grids.{GridCells, IsLeastGrid, cell}
-use Rattle.ca_apgcode.specs.Representation.{Step, IsStep, IsStrip, IsCode, five_cells, step_columns}
+use Rattle.ca_apgcode.specs.Prelude.{GridCells, IsLeastGrid, cell, Step, IsStep, IsStrip, IsCode, five_cells, step_columns}
 use Rattle.ca_apgcode.proofs.Columns.{five_dead}
 use Rattle.ca_apgcode.proofs.ReadTexts.{strips_text}
 

@@ -1,3 +1,4 @@
+pub mod Prelude
 pub mod Grids
 pub mod Representation
 pub mod Order

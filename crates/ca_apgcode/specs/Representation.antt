@@ -2,7 +2,7 @@
 -- and spaceships (LifeWiki, "Apgcode").
 use Rattle.std.specs.Prelude.{◌≡◌, ℕ, ◌+◌, ◌-◌, ◌*◌, ◌/◌, ◌<◌, ◌≤◌, nat_lt, ◌==◌, if◌then◌else◌, List, [], ◌∷◌, ◌++◌, length, map, replicate, codes, slice_index, slice_index_or}
 use Rattle.std.specs.List.{flat_map, join_with_byte, AllByRecursion}
-use Rattle.ca_plane.specs.Bytes.{letter}
+use Rattle.ca_plane.specs.Prelude.{letter}
 use Rattle.ca_apgcode.specs.Grids.{GridCells, IsGrid, IsLeastGrid, cell}
 
 -- the five cells of a column from a row down, as a binary number with the northern cell as 1

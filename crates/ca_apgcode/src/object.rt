@@ -1,7 +1,7 @@
 //! The code of an object.
 
 ghost use Rattle.std.specs.Prelude.{◌≡◌, Some, None, IfOk, OnOk, decimal, option_map};
-ghost use Rattle.ca_plane.specs.Puts.{Puts};
+ghost use Rattle.ca_plane.specs.Prelude.{Puts};
 ghost use Rattle.ca_apgcode.specs.Objects.{kind_letter, code_text};
 
 use ca_plane::Memory;

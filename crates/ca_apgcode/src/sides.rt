@@ -1,12 +1,10 @@
 //! Lengths of a grid's representations in its eight orientations, told without turning it.
 
-ghost use Rattle.std.specs.Prelude.{◌≡◌, ℕ, ℤ, List, ◌+◌, ◌*◌, ◌<◌, ◌≤◌, ◌^◌, ◌==◌, length, IsFalse};
-ghost use Rattle.std.specs.Prelude.{if◌then◌else◌};
+ghost use Rattle.std.specs.Prelude.{◌≡◌, ℕ, ℤ, List, ◌+◌, ◌*◌, ◌<◌, ◌≤◌, ◌^◌, ◌==◌, length, IsFalse, if◌then◌else◌};
 ghost use Rattle.ca_apgcode.specs.Grids.{GridCells as Cells, cell};
 ghost use Rattle.ca_apgcode.specs.Objects.{IsBoxRound, IsTurnedText};
 ghost use Rattle.ca_apgcode.specs.Representation.{IsRepresentation};
-ghost use Rattle.ca_apgcode.specs.inner.Sides.{IsSeenFrom, seen_width, seen_height, IsStripMask};
-ghost use Rattle.ca_apgcode.specs.inner.Sides.{IsTextLength, HasLongTexts};
+ghost use Rattle.ca_apgcode.specs.inner.Sides.{IsSeenFrom, seen_width, seen_height, IsStripMask, IsTextLength, HasLongTexts};
 ghost use Rattle.ca_apgcode.specs.inner.Turned.{IsMirrored};
 
 use crate::grid::Grid;

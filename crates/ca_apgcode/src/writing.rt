@@ -1,8 +1,7 @@
 //! Representations that are written.
 
-ghost use Rattle.std.specs.Prelude.{◌≡◌, ◌*◌, ◌/◌, ◌+◌, ◌<◌, ◌≤◌, ◌==◌, [], ◌∷◌, IfOk, OnOk};
-ghost use Rattle.std.specs.Prelude.{if◌then◌else◌};
-ghost use Rattle.ca_plane.specs.Puts.{Puts};
+ghost use Rattle.std.specs.Prelude.{◌≡◌, ◌*◌, ◌/◌, ◌+◌, ◌<◌, ◌≤◌, ◌==◌, [], ◌∷◌, IfOk, OnOk, if◌then◌else◌};
+ghost use Rattle.ca_plane.specs.Prelude.{Puts};
 ghost use Rattle.ca_apgcode.specs.Grids.{cell};
 ghost use Rattle.ca_apgcode.specs.Representation.{IsRepresentation, IsStep, digit, gap_text, step_text};
 ghost use Rattle.ca_apgcode.specs.inner.Puts.{PutsStrip};

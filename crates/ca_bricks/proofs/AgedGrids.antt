@@ -4,19 +4,13 @@ use Rattle.std.specs.Prelude.{ℤ, pos, ◌+ℤ◌, replicate}
 use Rattle.std.proofs.lemmas.Bool.Decides.{nat_tests}
 use Rattle.std.proofs.lemmas.List.Elements.{All-from_recursion}
 use Rattle.std.proofs.lemmas.Nat.Bits.{bit_at-zero, bit_at-lt}
-use Rattle.ca_plane.specs.Ageing.{liveness, aged, GoesByAgeing}
-use Rattle.ca_plane.specs.Counting.{counting_next, counted_sum}
-use Rattle.ca_plane.specs.Generations.{around, cells_after}
-use Rattle.ca_plane.specs.declared.counting.Ageing.{Ageing}
-use Rattle.ca_plane.specs.declared.counting.Counting.{Counting}
-use Rattle.ca_plane.specs.Shown.{row_cells}
+use Rattle.ca_plane.specs.Prelude.{liveness, aged, GoesByAgeing, counting_next, counted_sum, around, cells_after, row_cells}
+use Rattle.ca_plane.specs.declared.counting.{Ageing.Ageing, Counting.Counting}
 use Rattle.ca_plane.proofs.Numbers.{below_or_not}
-use Rattle.ca_bricks.specs.CellRules.{GoesByCells}
+use Rattle.ca_bricks.specs.Prelude.{GoesByCells, AgedGridShows, AreAlike, IsBeside, IsNextAged, HasBlankEdges, remaining, dying_digit, aged_digit, number_at, lives_at, begins_at, IsGrid, GridShows}
+use Rattle.ca_bricks.specs.Prelude.{BrickShows, BricksShow, HasMargin, HasNeighbours, HasBlankEdge, brick_x, brick_y, round_at, column_at}
 use Rattle.ca_bricks.specs.declared.cell_rule.CellRule.TheVariants.{ByCounting}
-use Rattle.ca_bricks.specs.declared.aged.AgedGrid.{AgedGrid}
-use Rattle.ca_bricks.specs.declared.grid.BrickGrid.{BrickGrid}
-use Rattle.ca_bricks.specs.Aged.{AgedGridShows, AreAlike, IsBeside, IsNextAged, HasBlankEdges, remaining, dying_digit, aged_digit, number_at, lives_at, begins_at}
-use Rattle.ca_bricks.specs.Bricks.{IsGrid, GridShows, BrickShows, BricksShow, HasMargin, HasNeighbours, HasBlankEdge, brick_x, brick_y, round_at, column_at}
+use Rattle.ca_bricks.specs.declared.{aged.AgedGrid.AgedGrid, grid.BrickGrid.BrickGrid}
 use Rattle.ca_bricks.proofs.AgedNumbers.{number_of}
 use Rattle.ca_bricks.proofs.AgedStates.{lives_aged, digit_aged, aged_low}
 use Rattle.ca_bricks.proofs.BrickEdges.{edge_dead, next_shows, round_shows}

@@ -2,11 +2,9 @@
 use Rattle.std.proofs.Common.{◌≡◌, ℕ, ◌+◌, inl, inr, List, [], length, get_or, slice_index, sym, ap, subst, ◌∙◌, arith}
 use Rattle.std.proofs.lemmas.Bool.{cases_eq}
 use Rattle.ca_plane.specs.declared.counting.Ageing.{Ageing}
-use Rattle.ca_plane.specs.Shown.{row_cells}
-use Rattle.ca_bricks.specs.declared.aged.AgedGrid.{AgedGrid}
-use Rattle.ca_bricks.specs.declared.grid.BrickGrid.{BrickGrid}
-use Rattle.ca_bricks.specs.Aged.{IsNextAged, IsSameAged}
-use Rattle.ca_bricks.specs.Bricks.{HasNeighbours, IsNotAhead}
+use Rattle.ca_plane.specs.Prelude.{row_cells}
+use Rattle.ca_bricks.specs.declared.{aged.AgedGrid.AgedGrid, grid.BrickGrid.BrickGrid}
+use Rattle.ca_bricks.specs.Prelude.{IsNextAged, IsSameAged, HasNeighbours, IsNotAhead}
 use Rattle.ca_bricks.proofs.BrickRounds.{same_again}
 
 -- the planes have the same bricks but for brick s

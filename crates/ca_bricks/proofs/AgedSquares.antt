@@ -7,14 +7,9 @@ use Rattle.std.proofs.lemmas.Bool.Decides.{nat_tests}
 use Rattle.std.proofs.lemmas.Int.{ints}
 use Rattle.std.proofs.lemmas.Nat.{or_shifted}
 use Rattle.std.proofs.lemmas.Nat.Bits.{bit_at_lowest, bit_at-suc, bit_at-lt}
-use Rattle.ca_plane.specs.Ageing.{liveness}
-use Rattle.ca_plane.specs.Shown.{word_cells}
-use Rattle.ca_bricks.specs.declared.aged.AgedGrid.{AgedGrid}
-use Rattle.ca_bricks.specs.declared.grid.BrickGrid.{BrickGrid}
-use Rattle.ca_bricks.specs.Aged.{AgedGridShows, remaining, dying_digit}
-use Rattle.ca_bricks.specs.Bricks.{GridShows}
-use Rattle.ca_bricks.specs.States.{StatesShow, told_state}
-use Rattle.ca_bricks.specs.Words.{WordShows, eight}
+use Rattle.ca_plane.specs.Prelude.{liveness, word_cells}
+use Rattle.ca_bricks.specs.declared.{aged.AgedGrid.AgedGrid, grid.BrickGrid.BrickGrid}
+use Rattle.ca_bricks.specs.Prelude.{AgedGridShows, remaining, dying_digit, GridShows, StatesShow, told_state, WordShows, eight}
 use Rattle.ca_bricks.proofs.Words.{word_from}
 
 -- ---- parts of squares

@@ -3,8 +3,8 @@ use Rattle.std.proofs.Common.{◌≡◌, ℕ, zero, suc, ◌-◌, ◌<◌, ◌�
 use Rattle.std.specs.Int.{bit_at}
 use Rattle.std.proofs.lemmas.Bool.Decides.{nat_tests}
 use Rattle.std.proofs.lemmas.Nat.Bits.{bit_at-zero, bit_at-lt}
-use Rattle.ca_plane.specs.Ageing.{liveness, aged}
-use Rattle.ca_bricks.specs.Aged.{remaining, dying_digit, aged_digit}
+use Rattle.ca_plane.specs.Prelude.{liveness, aged}
+use Rattle.ca_bricks.specs.Prelude.{remaining, dying_digit, aged_digit}
 
 -- ---- numbers one generation on
 

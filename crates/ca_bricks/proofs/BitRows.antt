@@ -8,7 +8,7 @@ use Rattle.std.proofs.lemmas.Nat.{div-add-mod'}
 use Rattle.std.proofs.lemmas.List.{get_or-replicate}
 use Rattle.std.proofs.lemmas.Nat.Bits.{bit_at-zero, bit_at-suc, bit_at_and, bit_at_or, bit_at_xor, bit_at_cat_low, bit_at_ones}
 use Rattle.std.specs.Simd.Lanes.{zip2, pick_l}
-use Rattle.ca_plane.specs.Shown.{row_cells}
+use Rattle.ca_plane.specs.Prelude.{row_cells}
 
 -- ---- two lists of rows, row by row
 

@@ -6,9 +6,8 @@ use Rattle.std.proofs.lemmas.Bool.{cond_below, cond_above}
 use Rattle.std.proofs.lemmas.Nat.Bits.{bit_at-zero, bit_at-suc, bit_at-lt, bit_at_and, bit_at_or, bit_at_xor, bit_at_cat_low, bit_at_cat_high, bit_at_above, bit_at_ones}
 use Rattle.ca_plane.specs.declared.counting.Counting.{Counting}
 use Rattle.ca_plane.proofs.Numbers.{below_or_not}
-use Rattle.ca_bricks.specs.Tiles.{next_by_count}
+use Rattle.ca_bricks.specs.Prelude.{next_by_count, wide_bit, AreWords}
 use Rattle.ca_bricks.specs.declared.word.WordMasks.{WordMasks}
-use Rattle.ca_bricks.specs.Bricks.{wide_bit, AreWords}
 use Rattle.ca_bricks.proofs.BitRows.{doubled_bit}
 
 -- ---- sums of bits

@@ -2,11 +2,10 @@
 use Rattle.std.proofs.Common.{◌≡◌, ℕ, zero, suc, ◌+◌, ◌-◌, ◌<◌, inl, inr, ◌⊎◌, List, [], get_or, length, refl, sym, ap, ◌∙◌, arith, slice_index}
 use Rattle.std.specs.Prelude.{pos, ◌+ℤ◌, replicate}
 use Rattle.std.specs.Int.{bit_at}
-use Rattle.ca_plane.specs.Shown.{row_cells}
+use Rattle.ca_plane.specs.Prelude.{row_cells}
 use Rattle.ca_plane.proofs.Numbers.{below_or_not}
-use Rattle.ca_bricks.specs.CellRules.{GoesByCells}
+use Rattle.ca_bricks.specs.Prelude.{GoesByCells, round_at, column_at, next_cell_at, IsNextBrick, IsSameRound, IsUnseen, HasNeighbours, HasBlankEdge, IsBlank, IsBlankRound}
 use Rattle.ca_bricks.specs.declared.cell_rule.CellRule.{CellRule}
-use Rattle.ca_bricks.specs.Bricks.{round_at, column_at, next_cell_at, IsNextBrick, IsSameRound, IsUnseen, HasNeighbours, HasBlankEdge, IsBlank, IsBlankRound}
 use Rattle.ca_plane.proofs.After.{after_dead}
 use Rattle.ca_bricks.proofs.BrickEdges.{next_shows}
 use Rattle.ca_bricks.proofs.BrickLists.{zeros_blank}

@@ -5,13 +5,12 @@ use Rattle.std.specs.List.{All}
 use Rattle.std.proofs.lemmas.Int.{ints}
 use Rattle.std.proofs.lemmas.List.Elements.{All-from_recursion}
 use Rattle.std.proofs.lemmas.Nat.{div-add-mod', mod_below}
-use Rattle.ca_plane.specs.Generations.{around, cells_after}
+use Rattle.ca_plane.specs.Prelude.{around, cells_after}
 use Rattle.ca_plane.proofs.Numbers.{below_or_not}
-use Rattle.ca_bricks.specs.CellRules.{GoesByCells, cell_next}
+use Rattle.ca_bricks.specs.Prelude.{GoesByCells, cell_next, round_at, next_cell_at, IsNextBrick, BrickShows, BricksShow, brick_x, brick_y, column_at, HasMargin, HasNeighbours, HasBlankEdge}
+use Rattle.ca_bricks.specs.Prelude.{next_by_count, nine_at}
 use Rattle.ca_bricks.specs.declared.cell_rule.CellRule.{CellRule}
 use Rattle.ca_bricks.specs.declared.cell_rule.CellRule.TheVariants.{ByCounting, ByDiagram}
-use Rattle.ca_bricks.specs.Bricks.{round_at, next_cell_at, IsNextBrick, BrickShows, BricksShow, brick_x, brick_y, column_at, HasMargin, HasNeighbours, HasBlankEdge}
-use Rattle.ca_bricks.specs.Tiles.{next_by_count, nine_at}
 use Rattle.ca_bricks.proofs.NeighbourSums.{sum_counted}
 use Rattle.ca_bricks.proofs.BrickRows.{wide_bit-lt}
 use Rattle.ca_bricks.proofs.BrickRounds.{round_at-middle, round_at-east}

@@ -6,7 +6,7 @@ use Rattle.std.proofs.lemmas.Bool.{cases_eq}
 use Rattle.std.proofs.lemmas.Grind.{get_or-set_at}
 use Rattle.std.proofs.lemmas.List.{get_or-replicate, get_or-set_other}
 use Rattle.std.proofs.lemmas.Nat.Bits.{bit_at-zero}
-use Rattle.ca_bricks.specs.Bricks.{IsBlank}
+use Rattle.ca_bricks.specs.Prelude.{IsBlank}
 
 -- no row of none is live
 pub none_blank : IsBlank []

@@ -6,7 +6,7 @@ use Rattle.std.proofs.lemmas.Int.{ints}
 use Rattle.std.proofs.lemmas.Nat.{div-add-mod', mod_below}
 use Rattle.std.proofs.Math.Nat.{mul-add-div_right, mod-eq-sub-div-mul, div-eq_of_lt}
 use Rattle.ca_plane.proofs.Numbers.{below_or_not}
-use Rattle.ca_bricks.specs.Bricks.{column_at, BricksShow, brick_x, brick_y}
+use Rattle.ca_bricks.specs.Prelude.{column_at, BricksShow, brick_x, brick_y}
 use Rattle.ca_bricks.proofs.BrickRounds.{column_at-middle, column_at-south}
 
 -- what is so many times d and rest_bit than d more

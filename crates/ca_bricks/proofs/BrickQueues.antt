@@ -1,6 +1,6 @@
 -- Lists of bricks that wake.
 use Rattle.std.proofs.Common.{ℕ, List}
-use Rattle.ca_bricks.specs.Bricks.{QueueGrows}
+use Rattle.ca_bricks.specs.Prelude.{QueueGrows}
 
 -- a list grows by no brick, and in two steps
 pub grows_by_none : (across count : ℕ) (list : List ℕ) → QueueGrows across count list list

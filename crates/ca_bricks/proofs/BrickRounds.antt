@@ -4,15 +4,12 @@ use Rattle.std.specs.Int.{bit_at}
 use Rattle.std.proofs.lemmas.Bool.{cases_eq, cond_below, cond_above}
 use Rattle.std.proofs.lemmas.List.{get_or-set_other}
 use Rattle.std.proofs.lemmas.Grind.{get_or-set_at}
-use Rattle.ca_plane.specs.Shown.{row_cells}
+use Rattle.ca_plane.specs.Prelude.{row_cells}
 use Rattle.ca_plane.proofs.Numbers.{below_or_not}
-use Rattle.ca_bricks.specs.Tiles.{next_by_count, nine_at}
-use Rattle.ca_bricks.specs.Diagrams.{diagram_next}
-use Rattle.ca_bricks.specs.declared.cell_rule.CellRule.{CellRule}
+use Rattle.ca_bricks.specs.Prelude.{next_by_count, nine_at, diagram_next, column_at, round_at, next_cell_at, IsNextBrick, IsSameRound, IsUnseen, HasNeighbours, IsNotAhead, round_cells}
+use Rattle.ca_bricks.specs.declared.{cell_rule.CellRule.CellRule, round.Round.Round}
 use Rattle.ca_bricks.specs.declared.cell_rule.CellRule.TheVariants.{ByCounting, ByDiagram}
 use Rattle.ca_bricks.proofs.NeighbourSums.{sum_round-same}
-use Rattle.ca_bricks.specs.declared.round.Round.{Round}
-use Rattle.ca_bricks.specs.Bricks.{column_at, round_at, next_cell_at, IsNextBrick, IsSameRound, IsUnseen, HasNeighbours, IsNotAhead, round_cells}
 
 -- ---- where a cell beside a brick stands
 

@@ -6,11 +6,10 @@ use Rattle.std.proofs.lemmas.List.{get_or-set_other}
 use Rattle.std.proofs.lemmas.Grind.{get_or-set_at}
 use Rattle.std.proofs.lemmas.Nat.Bits.{bit_at-lt}
 use Rattle.ca_plane.specs.declared.counting.Neighbourhood.{Neighbourhood}
-use Rattle.ca_plane.specs.Shown.{row_cells}
-use Rattle.ca_bricks.specs.Tiles.{next_by_count, sum_round}
+use Rattle.ca_plane.specs.Prelude.{row_cells}
+use Rattle.ca_bricks.specs.Prelude.{next_by_count, sum_round, wide_bit, round_cells}
 use Rattle.ca_bricks.proofs.NeighbourSums.{sum_round-le}
 use Rattle.ca_bricks.specs.declared.round.Round.{Round}
-use Rattle.ca_bricks.specs.Bricks.{wide_bit, round_cells}
 use Rattle.ca_bricks.proofs.BrickBits.{middle_bit}
 
 -- one row more

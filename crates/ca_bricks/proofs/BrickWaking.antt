@@ -7,7 +7,7 @@ use Rattle.std.proofs.lemmas.List.{get_or-set_same, get_or-set_other, length-set
 use Rattle.std.proofs.lemmas.Grind.{get_or-set_at}
 use Rattle.std.proofs.lemmas.Nat.Bits.{bit_at-zero, bit_at-lt, bit_at_and, bit_at_or, bit_at_xor, same_from_bits}
 use Rattle.ca_plane.proofs.Numbers.{below_or_not}
-use Rattle.ca_bricks.specs.Bricks.{HasNeighbours, IsNotIn, column_at}
+use Rattle.ca_bricks.specs.Prelude.{HasNeighbours, IsNotIn, column_at}
 use Rattle.ca_bricks.proofs.BrickRounds.{column_at-middle, column_at-south}
 
 -- where nothing changed, the bits are the same

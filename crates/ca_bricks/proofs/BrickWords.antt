@@ -6,10 +6,9 @@ use Rattle.std.specs.List.{range_with_len}
 use Rattle.std.proofs.lemmas.Int.{ints}
 use Rattle.std.proofs.lemmas.List.{get_or-set_same, get_or-set_other, length-set}
 use Rattle.std.proofs.Math.Nat.{div-add-mod, mod-lt}
-use Rattle.ca_plane.specs.Shown.{row_cells, word_cells}
+use Rattle.ca_plane.specs.Prelude.{row_cells, word_cells}
 use Rattle.ca_plane.proofs.Numbers.{below_or_not}
-use Rattle.ca_bricks.specs.Words.{WordShows, byte_of}
-use Rattle.ca_bricks.specs.Bricks.{BrickShows}
+use Rattle.ca_bricks.specs.Prelude.{WordShows, byte_of, BrickShows}
 use Rattle.ca_bricks.proofs.Words.{byte_bit, byte_bit_at, byte_low, made_byte}
 
 -- ---- rows of words

@@ -4,10 +4,8 @@ use Rattle.std.specs.Prelude.{ℤ, pos, negsuc, ◌+ℤ◌, ◌<ℤ◌, ◌≤�
 use Rattle.std.proofs.lemmas.Int.{ints}
 use Rattle.std.proofs.lemmas.Nat.{mul-add-lt, div-mul-add, mod-mul-add}
 use Rattle.ca_plane.proofs.Numbers.{below_or_not}
-use Rattle.ca_bricks.specs.declared.grid.BrickGrid.{BrickGrid}
-use Rattle.ca_bricks.specs.declared.grid.WordPlace.{WordPlace}
-use Rattle.ca_bricks.specs.Words.{WordShows, eight}
-use Rattle.ca_bricks.specs.Bricks.{BrickShows, IsBlank, IsGrid, GridShows, HasMargin, IsNearGrid}
+use Rattle.ca_bricks.specs.declared.grid.{BrickGrid.BrickGrid, WordPlace.WordPlace}
+use Rattle.ca_bricks.specs.Prelude.{WordShows, eight, BrickShows, IsBlank, IsGrid, GridShows, HasMargin, IsNearGrid}
 use Rattle.ca_bricks.proofs.Words.{word_from, word_empty}
 
 -- ---- beyond the bricks

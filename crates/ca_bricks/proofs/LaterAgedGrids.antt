@@ -3,15 +3,11 @@ use Rattle.std.proofs.Common.{◌≡◌, ℕ, zero, suc, ◌+◌, ◌-◌, ◌*�
 use Rattle.std.proofs.lemmas.List.Elements.{All-from_recursion}
 use Rattle.std.proofs.lemmas.Nat.Bits.{bit_at-zero}
 use Rattle.std.specs.Prelude.{ℤ, replicate}
-use Rattle.ca_plane.specs.Ageing.{liveness, aged, GoesByAgeing}
-use Rattle.ca_plane.specs.Counting.{counting_next}
-use Rattle.ca_plane.specs.Generations.{cells_after}
+use Rattle.ca_plane.specs.Prelude.{liveness, aged, GoesByAgeing, counting_next, cells_after, row_cells}
 use Rattle.ca_plane.specs.declared.counting.Ageing.{Ageing}
-use Rattle.ca_plane.specs.Shown.{row_cells}
-use Rattle.ca_bricks.specs.declared.aged.AgedGrid.{AgedGrid}
-use Rattle.ca_bricks.specs.declared.grid.BrickGrid.{BrickGrid}
-use Rattle.ca_bricks.specs.Aged.{AgedGridShows, AreAlike, IsNextAged, IsSameAged, HasBlankEdges, IsBlankAged, IsBlankRoundAged, HaveAged, IsBeside, AreBeside, dying_digit, aged_digit, lives_at, number_at}
-use Rattle.ca_bricks.specs.Bricks.{HasNeighbours, IsBlank, round_at, counted_cell_at}
+use Rattle.ca_bricks.specs.declared.{aged.AgedGrid.AgedGrid, grid.BrickGrid.BrickGrid}
+use Rattle.ca_bricks.specs.Prelude.{AgedGridShows, AreAlike, IsNextAged, IsSameAged, HasBlankEdges, IsBlankAged, IsBlankRoundAged, HaveAged, IsBeside, AreBeside, dying_digit, aged_digit, lives_at}
+use Rattle.ca_bricks.specs.Prelude.{number_at, HasNeighbours, IsBlank, round_at, counted_cell_at}
 use Rattle.ca_plane.proofs.After.{after_again}
 use Rattle.ca_bricks.proofs.AgedNumbers.{in_place_again}
 use Rattle.ca_bricks.specs.declared.cell_rule.CellRule.TheVariants.{ByCounting}

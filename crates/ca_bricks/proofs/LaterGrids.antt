@@ -2,13 +2,10 @@
 use Rattle.std.proofs.Common.{◌≡◌, ℕ, suc, ◌+◌, ◌-◌, ◌<◌, inl, inr, List, [], length, sym, ap, subst, ◌∙◌, arith}
 use Rattle.std.specs.Prelude.{ℤ, replicate}
 use Rattle.std.proofs.lemmas.List.{get_or_past}
-use Rattle.ca_plane.specs.Generations.{cells_after}
-use Rattle.ca_plane.specs.Shown.{row_cells}
+use Rattle.ca_plane.specs.Prelude.{cells_after, row_cells}
 use Rattle.ca_plane.proofs.Numbers.{below_or_not}
-use Rattle.ca_bricks.specs.declared.grid.BrickGrid.{BrickGrid}
-use Rattle.ca_bricks.specs.CellRules.{GoesByCells}
-use Rattle.ca_bricks.specs.declared.cell_rule.CellRule.{CellRule}
-use Rattle.ca_bricks.specs.Bricks.{GridShows, IsInPlace, HasNeighbours, AllHaveNeighbours, IsNextBrick, HasBlankEdge, QueueGrows}
+use Rattle.ca_bricks.specs.declared.{grid.BrickGrid.BrickGrid, cell_rule.CellRule.CellRule}
+use Rattle.ca_bricks.specs.Prelude.{GoesByCells, GridShows, IsInPlace, HasNeighbours, AllHaveNeighbours, IsNextBrick, HasBlankEdge, QueueGrows}
 use Rattle.ca_plane.proofs.After.{after_again}
 use Rattle.ca_bricks.proofs.BrickEdges.{bricks_go_on, edge_dead}
 use Rattle.ca_bricks.proofs.BrickLists.{none_blank}

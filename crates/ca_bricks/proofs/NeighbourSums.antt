@@ -1,9 +1,9 @@
 -- Sums of the counted neighbours of a cell.
 use Rattle.std.proofs.Common.{◌≡◌, ℕ, suc, ◌<◌, ◌≤◌, sym, ap, ◌∙◌, arith}
-use Rattle.ca_plane.specs.Counting.{counted_sum}
+use Rattle.ca_plane.specs.Prelude.{counted_sum}
 use Rattle.ca_plane.specs.declared.counting.Neighbourhood.{Neighbourhood}
 use Rattle.ca_plane.specs.declared.counting.Neighbourhood.TheVariants.{Moore, VonNeumann, Hexagonal}
-use Rattle.ca_bricks.specs.Tiles.{nine_at, sum_round}
+use Rattle.ca_bricks.specs.Prelude.{nine_at, sum_round}
 
 -- the sum by rows is the sum among the nine
 pub sum_counted : (counted : Neighbourhood) (at : ℕ → ℕ → ℕ) (x y : ℕ) → sum_round counted at x y ≡ counted_sum counted (nine_at at x y)

@@ -1,10 +1,9 @@
 -- Each nine cells, dead or live, are a neighbourhood with a number.
 use Rattle.std.proofs.Common.{◌≡◌, ℕ, ◌+◌, ◌*◌, ◌/◌, ◌%◌, ◌<◌, List, [], ◌∷◌, length, map, refl, sym, ap, ◌∙◌, arith, slice_index, All, lit<}
 use Rattle.std.proofs.lemmas.List.FromFn.{fill_by_all}
-use Rattle.ca_plane.specs.Counting.{counting_next}
+use Rattle.ca_plane.specs.Prelude.{counting_next}
 use Rattle.ca_plane.specs.declared.counting.Counting.{Counting}
-use Rattle.ca_bricks.specs.Diagrams.{diagram_next}
-use Rattle.ca_bricks.specs.CellRules.{GoesByCells}
+use Rattle.ca_bricks.specs.Prelude.{diagram_next, GoesByCells}
 use Rattle.ca_bricks.specs.declared.diagram.Diagram.{Diagram}
 use Rattle.ca_bricks.specs.declared.cell_rule.CellRule.TheVariants.{ByCounting, ByDiagram}
 use Rattle.ca_bricks.specs.inner.Neighbourhoods.{neighbourhood, AreNextStates}

@@ -3,7 +3,7 @@ use Rattle.std.proofs.Common.{◌≡◌, ◌≢◌, ℕ, zero, suc, ◌+◌, ◌
 use Rattle.std.specs.Prelude.{bit_and, bit_or}
 use Rattle.std.specs.Int.{bit_at}
 use Rattle.std.proofs.lemmas.Nat.Bits.{bit_at-zero, bit_at-lt, bit_at_and, bit_at_or}
-use Rattle.ca_bricks.specs.Tiles.{lives_next, next_by_count}
+use Rattle.ca_bricks.specs.Prelude.{lives_next, next_by_count}
 
 bit_told : (n : ℕ) → n < 2 → (if n == 1 then 1 else 0) ≡ n
 bit_told zero h = refl

@@ -3,9 +3,8 @@ use Rattle.std.proofs.Common.{◌≡◌, ℕ, suc, refl, sym, ap, subst, arith}
 use Rattle.std.specs.Prelude.{ℤ, ◌+ℤ◌}
 use Rattle.std.proofs.lemmas.Int.{ints}
 use Rattle.std.proofs.Math.Nat.{two-pow-succ}
-use Rattle.ca_bricks.specs.declared.trio.Trio.{Trio}
-use Rattle.ca_bricks.specs.declared.trio.Rows.{Rows}
-use Rattle.ca_bricks.specs.Overlaps.{PairShows, TrioShows, RowsShow, QuartersShow, side}
+use Rattle.ca_bricks.specs.declared.trio.{Trio.Trio, Rows.Rows}
+use Rattle.ca_bricks.specs.Prelude.{PairShows, TrioShows, RowsShow, QuartersShow, side}
 
 -- where each quarter shows something else, or in another way, so does the whole
 pub quarters_each : {T U : Type 0} {Was : T → (ℤ → ℤ → ℕ) → ℤ → ℤ → Type 0} {wide : ℤ} {nw ne sw se : T} {p : ℤ → ℤ → ℕ} {a b : ℤ} (Is : U → (ℤ → ℤ → ℕ) → ℤ → ℤ → Type 0) (w x y z : U) (q : ℤ → ℤ → ℕ)

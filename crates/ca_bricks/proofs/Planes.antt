@@ -2,11 +2,10 @@
 use Rattle.std.proofs.Common.{◌≡◌, ℕ, zero, suc, ◌+◌, List, [], ◌∷◌, ◌++◌, get_or, Bool, true, false, ◌==◌, if◌then◌else◌, sym, ap, refl, ◌∙◌, arith, slice_index}
 use Rattle.std.proofs.lemmas.Nat.Bits.{bit_at-zero}
 use Rattle.std.proofs.lemmas.List.{map-append}
-use Rattle.ca_plane.specs.Shown.{row_cells}
-use Rattle.ca_bricks.specs.Diagrams.{states_of, node_state}
-use Rattle.ca_bricks.specs.declared.diagram.Node.{Node}
+use Rattle.ca_plane.specs.Prelude.{row_cells}
+use Rattle.ca_bricks.specs.Prelude.{states_of, node_state}
+use Rattle.ca_bricks.specs.declared.{diagram.Node.Node, kernel.bits.Bits.Bits}
 use Rattle.ca_bricks.specs.declared.diagram.Node.TheVariants.{State}
-use Rattle.ca_bricks.specs.declared.kernel.bits.Bits.{Bits}
 use Rattle.ca_bricks.specs.inner.Planes.{cells_at, tile_planes}
 
 -- one of them is that of its rows

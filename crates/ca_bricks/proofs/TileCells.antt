@@ -6,13 +6,10 @@ use Rattle.std.proofs.Math.ListN.{get_or-append}
 use Rattle.std.proofs.lemmas.Int.{ints}
 use Rattle.std.proofs.lemmas.List.{get_or-replicate, get_or-append-add}
 use Rattle.std.proofs.lemmas.Nat.Bits.{bit_at-zero, bit_at-suc, bit_at-lt, bit_at_ones, bit_at_ones_above}
-use Rattle.ca_plane.specs.Generations.{around}
-use Rattle.ca_plane.specs.Counting.{counting_next}
+use Rattle.ca_plane.specs.Prelude.{around, counting_next, row_cells}
 use Rattle.ca_plane.specs.declared.counting.Counting.{Counting}
-use Rattle.ca_plane.specs.Shown.{row_cells}
 use Rattle.ca_plane.proofs.Numbers.{below_or_not}
-use Rattle.ca_bricks.specs.Lanes.{tile_cell, IsWithinEdge}
-use Rattle.ca_bricks.specs.Tiles.{next_by_count, sum_round, nine_at}
+use Rattle.ca_bricks.specs.Prelude.{tile_cell, IsWithinEdge, next_by_count, sum_round, nine_at}
 use Rattle.ca_bricks.proofs.NeighbourSums.{sum_counted, sum_round-le}
 
 -- the nine cells round a place that isn't in the first row or column

@@ -13,16 +13,10 @@ use Rattle.std.proofs.lemmas.List.{get_or-replicate}
 use Rattle.std.proofs.lemmas.Simd.{length-zip2, get_or-zip2, get_or_narrower}
 use Rattle.std.specs.Simd.Lanes.{zip2, digits_l, number_l}
 use Rattle.std.proofs.lemmas.List.Elements.{All-from_recursion}
-use Rattle.ca_plane.specs.Generations.{around, cells_after}
-use Rattle.ca_plane.specs.Shown.{row_cells, word_cells}
+use Rattle.ca_plane.specs.Prelude.{around, cells_after, row_cells, word_cells, IsWithin}
 use Rattle.ca_plane.proofs.Numbers.{below_or_not}
-use Rattle.ca_bricks.specs.declared.word_square.WordSquare.{WordSquare}
-use Rattle.ca_bricks.specs.Lanes.{tile_cell}
-use Rattle.ca_bricks.specs.WordSquares.{WordSquareShows, TileShows, word_bytes_at, inner_byte}
-use Rattle.ca_bricks.specs.Words.{WordShows, byte_of}
-use Rattle.ca_bricks.specs.CellRules.{GoesByCells, IsTileNext}
-use Rattle.ca_bricks.specs.declared.cell_rule.CellRule.{CellRule}
-use Rattle.ca_plane.specs.Box.{IsWithin}
+use Rattle.ca_bricks.specs.declared.{word_square.WordSquare.WordSquare, cell_rule.CellRule.CellRule}
+use Rattle.ca_bricks.specs.Prelude.{tile_cell, WordSquareShows, TileShows, word_bytes_at, inner_byte, WordShows, byte_of, GoesByCells, IsTileNext}
 use Rattle.ca_plane.proofs.After.{around-same, around-nine_states}
 use Rattle.ca_bricks.proofs.BitRows.{bit_low}
 use Rattle.ca_bricks.proofs.Words.{bit_shifted, byte_bit, byte_low, made_byte, word_of_same}

@@ -9,10 +9,10 @@ use Rattle.std.proofs.lemmas.Nat.{shr-shr, mod_below, le_bytes_8}
 use Rattle.std.proofs.lemmas.Nat.Bits.{bit_at-zero}
 use Rattle.std.proofs.lemmas.List.FromFn.{get_or-map-range_with_len, length-map-range_with_len}
 use Rattle.std.proofs.lemmas.List.{get_or_past}
-use Rattle.ca_plane.specs.Shown.{word_cells}
+use Rattle.ca_plane.specs.Prelude.{word_cells}
 use Rattle.ca_plane.proofs.Numbers.{below_or_not}
 use Rattle.ca_plane.proofs.Shown.{looks_from}
-use Rattle.ca_bricks.specs.Words.{WordShows, byte_of}
+use Rattle.ca_bricks.specs.Prelude.{WordShows, byte_of}
 use Rattle.ca_bricks.proofs.BitRows.{bit_low}
 
 -- ---- bits

@@ -3,12 +3,9 @@
 use Rattle.std.specs.Prelude.{◌≡◌, ℕ, ◌+◌, ◌-◌, ◌*◌, ◌<◌, ◌≤◌, ◌^◌, ℤ, List, [], ◌∷◌, length, replicate, get_or, min, max, nat_lt, if◌then◌else◌}
 use Rattle.std.specs.List.{All}
 use Rattle.std.specs.Int.{bit_at}
-use Rattle.ca_plane.specs.Ageing.{GoesByAgeing, liveness}
-use Rattle.ca_plane.specs.Generations.{cells_after}
+use Rattle.ca_plane.specs.Prelude.{GoesByAgeing, liveness, cells_after, row_cells}
 use Rattle.ca_plane.specs.declared.counting.Ageing.{Ageing}
-use Rattle.ca_plane.specs.Shown.{row_cells}
-use Rattle.ca_bricks.specs.declared.aged.AgedGrid.{AgedGrid}
-use Rattle.ca_bricks.specs.declared.grid.BrickGrid.{BrickGrid}
+use Rattle.ca_bricks.specs.declared.{aged.AgedGrid.AgedGrid, grid.BrickGrid.BrickGrid}
 use Rattle.ca_bricks.specs.Bricks.{IsGrid, GridShows, IsInPlace, HasNeighbours, AllHaveNeighbours, IsNotIn, QueueGrows, IsSameRound, IsBlank, IsBlankRound, HasMargin, round_at, counted_cell_at}
 
 -- ---- states as bits

@@ -2,20 +2,14 @@
 -- in rows of as many, and each has a number: first those of the northern-most row from the west, then those of the next.
 use Rattle.std.specs.Prelude.{◌≡◌, ℕ, zero, suc, ◌+◌, ◌-◌, ◌*◌, ◌/◌, ◌%◌, ◌<◌, ◌≤◌, ℤ, pos, ◌+ℤ◌, ◌≤ℤ◌, ◌<ℤ◌, ◌^◌, neg_ℤ, List, [], length, replicate, get_or, if◌then◌else◌, nat_lt, ◌⊎◌, slice_index, bit_and, bit_or}
 use Rattle.std.specs.Int.{bit_at}
-use Rattle.ca_plane.specs.Generations.{cells_after}
+use Rattle.ca_plane.specs.Prelude.{cells_after, row_cells}
 use Rattle.ca_plane.specs.declared.counting.Counting.{Counting}
-use Rattle.ca_plane.specs.Shown.{row_cells}
-use Rattle.ca_bricks.specs.declared.round.Round.{Round}
-use Rattle.ca_bricks.specs.declared.grid.BrickGrid.{BrickGrid}
-use Rattle.ca_bricks.specs.declared.count.Count.{Count}
-use Rattle.ca_bricks.specs.declared.word.WordMasks.{WordMasks}
-use Rattle.ca_bricks.specs.declared.word.WordPair.{WordPair}
-use Rattle.ca_bricks.specs.declared.grid.WordPlace.{WordPlace}
+use Rattle.ca_bricks.specs.declared.{round.Round.Round, grid.BrickGrid.BrickGrid, count.Count.Count, word.WordMasks.WordMasks, word.WordPair.WordPair, grid.WordPlace.WordPlace}
+use Rattle.ca_bricks.specs.declared.{cell_rule.CellRule.CellRule}
 use Rattle.ca_bricks.specs.Words.{eight}
 use Rattle.ca_bricks.specs.Tiles.{next_by_count, sum_round, nine_at}
 use Rattle.ca_bricks.specs.Diagrams.{diagram_next}
 use Rattle.ca_bricks.specs.CellRules.{GoesByCells}
-use Rattle.ca_bricks.specs.declared.cell_rule.CellRule.{CellRule}
 use Rattle.ca_bricks.specs.declared.cell_rule.CellRule.TheVariants.{ByCounting, ByDiagram}
 
 -- ---- bricks on the plane

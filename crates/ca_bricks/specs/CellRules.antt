@@ -1,8 +1,7 @@
 -- How rules of two states tell next states, for many cells at once.
 use Rattle.std.specs.Prelude.{◌≡◌, ℕ, ◌<◌, ℤ, List, length}
 use Rattle.std.specs.List.{All}
-use Rattle.ca_plane.specs.Counting.{counting_next}
-use Rattle.ca_plane.specs.Generations.{around}
+use Rattle.ca_plane.specs.Prelude.{counting_next, around}
 use Rattle.ca_bricks.specs.Lanes.{tile_cell, IsWithinEdge}
 use Rattle.ca_bricks.specs.Diagrams.{diagram_next}
 use Rattle.ca_bricks.specs.declared.cell_rule.CellRule.{CellRule}

@@ -1,6 +1,6 @@
 -- Rules that go by the number of live cells among some neighbours of a cell.
 use Rattle.std.specs.Prelude.{ℕ, List}
-use Rattle.ca_plane.specs.Counting.{GoesByCounting}
+use Rattle.ca_plane.specs.Prelude.{GoesByCounting}
 use Rattle.ca_plane.specs.declared.counting.Counting.{Counting}
 
 -- the rule has two states, and goes by the counting

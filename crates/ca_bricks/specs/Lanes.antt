@@ -1,9 +1,6 @@
 -- Tiles: squares of 16 by 16 cells of two states, a number for each row from the top. Bit x of a row is its cell at x.
 use Rattle.std.specs.Prelude.{◌≡◌, ℕ, ℤ, pos, List}
-use Rattle.ca_plane.specs.Box.{IsInBox}
-use Rattle.ca_plane.specs.Generations.{around}
-use Rattle.ca_plane.specs.Moore.{moore_next}
-use Rattle.ca_plane.specs.Shown.{row_cells, from_corner}
+use Rattle.ca_plane.specs.Prelude.{IsInBox, around, moore_next, row_cells, from_corner}
 
 -- the state at (x, y) of a tile with its upper left cell at (0, 0); 0 above it and to the left of it
 abbrev pub tile_cell : List ℕ → ℤ → ℤ → ℕ

@@ -1,7 +1,6 @@
 -- Things that lie together and show a plane: squares of a store, or words (our own).
 use Rattle.std.specs.Prelude.{ℕ, ◌^◌, ℤ, pos, ◌+ℤ◌}
-use Rattle.ca_bricks.specs.declared.trio.Trio.{Trio}
-use Rattle.ca_bricks.specs.declared.trio.Rows.{Rows}
+use Rattle.ca_bricks.specs.declared.trio.{Trio.Trio, Rows.Rows}
 
 -- the side of a square of this level
 abbrev pub side : ℕ → ℤ

@@ -1,6 +1,6 @@
 -- Cells of several states as bits, and as a list that squares are made of (our own).
 use Rattle.std.specs.Prelude.{ℕ, ◌+◌, ◌-◌, ◌*◌, ◌==◌, if◌then◌else◌, ℤ, List, slice_index}
-use Rattle.ca_plane.specs.Shown.{ShowsPlane}
+use Rattle.ca_plane.specs.Prelude.{ShowsPlane}
 
 -- the states, eight in each row, show the plane from (a, b) on, from a place among them on and as far as the side reaches
 pub record StatesShow (side : ℕ) (states : List ℕ) (place : ℕ) (p : ℤ → ℤ → ℕ) (a b : ℤ) : Type 0 where

@@ -3,9 +3,8 @@ use Rattle.std.specs.Prelude.{ℕ, suc, ◌+◌, ◌*◌, List, [], ◌∷◌, B
 use Rattle.std.specs.Int.{bit_at}
 use Rattle.ca_plane.specs.declared.counting.Neighbourhood.{Neighbourhood}
 use Rattle.ca_plane.specs.declared.counting.Neighbourhood.TheVariants.{Moore, VonNeumann, Hexagonal}
-use Rattle.ca_plane.specs.Shown.{row_cells}
-use Rattle.ca_bricks.specs.declared.count.Count.{Count}
-use Rattle.ca_bricks.specs.declared.kernel.bits.Bits.{Bits}
+use Rattle.ca_plane.specs.Prelude.{row_cells}
+use Rattle.ca_bricks.specs.declared.{count.Count.Count, kernel.bits.Bits.Bits}
 
 -- whether a cell lives next: where it is dead, whether it is born, and else whether it stays
 abbrev pub lives_next : Bool → Bool → ℕ → ℕ

@@ -2,7 +2,7 @@
 
 ghost use Rattle.std.specs.Prelude.{◌≡◌, true, ℕ, ◌+◌, ◌-◌, ◌*◌, ◌<◌, ◌%◌, ℤ, ◌+ℤ◌, slice_index};
 ghost use Rattle.std.specs.Int.{bit_at};
-ghost use Rattle.ca_plane.specs.Ageing.{liveness};
+ghost use Rattle.ca_plane.specs.Prelude.{liveness};
 ghost use Rattle.ca_bricks.specs.Aged.{AgedGridShows, IsAgedGrid};
 ghost use Rattle.ca_bricks.specs.States.{StatesShow, told_state};
 ghost use Rattle.ca_bricks.specs.Words.{WordShows, eight};

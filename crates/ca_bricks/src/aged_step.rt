@@ -4,7 +4,7 @@ ghost use Rattle.std.specs.Prelude.{◌≡◌, ◌+◌, ◌-◌, ◌*◌, ◌<�
 ghost use Rattle.std.specs.Prelude.{get_or, OnOk, if◌then◌else◌};
 ghost use Rattle.std.specs.List.{All};
 ghost use Rattle.std.specs.Int.{bit_at};
-ghost use Rattle.ca_plane.specs.Shown.{row_cells};
+ghost use Rattle.ca_plane.specs.Prelude.{row_cells};
 ghost use Rattle.ca_bricks.specs.declared.grid.BrickGrid.{BrickGrid};
 ghost use Rattle.ca_bricks.specs.Aged.{CanAge, HaveAged, AreBeside, AreAlike, number_at, aged_digit};
 ghost use Rattle.ca_bricks.specs.Bricks.{IsInPlace};

@@ -2,7 +2,7 @@
 
 ghost use Rattle.std.specs.Prelude.{◌≡◌, ℕ, ◌+◌, ◌*◌, ◌<◌, ℤ, pos, ◌+ℤ◌, slice_index};
 ghost use Rattle.std.specs.Int.{bit_at};
-ghost use Rattle.ca_plane.specs.Shown.{word_cells};
+ghost use Rattle.ca_plane.specs.Prelude.{word_cells};
 ghost use Rattle.ca_bricks.specs.Words.{WordShows, byte_of};
 ghost use Rattle.ca_bricks.specs.Bricks.{BrickShows};
 

@@ -2,7 +2,7 @@
 
 ghost use Rattle.std.specs.Prelude.{◌≡◌, ◌<◌, ◌+◌, ℕ, [], get_or, ◌==◌, if◌then◌else◌, IfOk};
 ghost use Rattle.std.specs.Int.{bit_at};
-ghost use Rattle.ca_plane.specs.Shown.{row_cells};
+ghost use Rattle.ca_plane.specs.Prelude.{row_cells};
 ghost use Rattle.ca_bricks.specs.Bricks.{round_cells};
 ghost use Rattle.ca_bricks.specs.Tiles.{nine_at};
 ghost use Rattle.ca_bricks.specs.Diagrams.{node_state, diagram_next};

@@ -1,7 +1,7 @@
 //! The counting of neighbours by which cells go on, found from their next states.
 
 ghost use Rattle.std.specs.Prelude.{◌≡◌, ◌≤◌, true, IfSome};
-ghost use Rattle.ca_plane.specs.Counting.{counted_sum, counting_next};
+ghost use Rattle.ca_plane.specs.Prelude.{counted_sum, counting_next};
 ghost use Rattle.ca_bricks.specs.inner.Neighbourhoods.{neighbourhood, AreNextStates};
 
 use crate::next_states::{NEIGHBOURHOODS, cell, state_at};

@@ -2,7 +2,7 @@
 
 ghost use Rattle.std.specs.Prelude.{◌≡◌, ◌<◌, ℕ};
 ghost use Rattle.ca_plane.specs.declared.counting.Counting.{Counting};
-ghost use Rattle.ca_plane.specs.Shown.{row_cells};
+ghost use Rattle.ca_plane.specs.Prelude.{row_cells};
 ghost use Rattle.ca_bricks.specs.Bricks.{round_cells, pair_at, counted_cell_at};
 ghost use Rattle.ca_bricks.specs.Tiles.{sum_above, sum_beside, sum_below};
 

@@ -1,7 +1,7 @@
 //! Squares of 16 by 16 cells of two states, row by row.
 
 ghost use Rattle.std.specs.Prelude.{◌≡◌, ℕ, ◌/◌, ◌%◌, ◌<◌, ℤ, pos, ◌+ℤ◌, List, length, slice_index, IfOk};
-ghost use Rattle.ca_plane.specs.Generations.{cells_after};
+ghost use Rattle.ca_plane.specs.Prelude.{cells_after};
 ghost use Rattle.ca_bricks.specs.WordSquares.{WordSquareShows, TileShows, word_bytes_at};
 ghost use Rattle.ca_bricks.specs.Words.{WordShows};
 ghost use Rattle.ca_bricks.specs.CellRules.{GoesByCells};

@@ -1,7 +1,7 @@
 //! Squares of 32 by 32 cells of two states, by nine squares that overlap, each half as wide.
 
 ghost use Rattle.std.specs.Prelude.{ℕ, ◌+◌, ◌≤◌, ℤ, pos, ◌+ℤ◌, List, IfOk};
-ghost use Rattle.ca_plane.specs.Generations.{cells_after};
+ghost use Rattle.ca_plane.specs.Prelude.{cells_after};
 ghost use Rattle.ca_bricks.specs.Overlaps.{PairShows, TrioShows, RowsShow};
 ghost use Rattle.ca_bricks.specs.WordSquares.{WordSquareShows, WideSquareShows};
 ghost use Rattle.ca_bricks.specs.Words.{WordShows};

@@ -1,13 +1,10 @@
 //! Words of 64 cells side by side: sums of their bits, and the next state of each cell.
 
-ghost use Rattle.std.specs.Prelude.{◌≡◌, ◌↔◌, ◌+◌, ◌-◌, ◌*◌, ◌<◌, ◌≤◌, ℕ};
-ghost use Rattle.std.specs.Prelude.{suc, ⊤, IsTrue, ◌==◌, if◌then◌else◌};
+ghost use Rattle.std.specs.Prelude.{◌≡◌, ◌↔◌, ◌+◌, ◌-◌, ◌*◌, ◌<◌, ◌≤◌, ℕ, suc, ⊤, IsTrue, ◌==◌, if◌then◌else◌};
 ghost use Rattle.std.specs.Int.{bit_at};
-ghost use Rattle.ca_plane.specs.declared.counting.Counting.{Counting};
-ghost use Rattle.ca_plane.specs.declared.counting.Neighbourhood.{Neighbourhood};
+ghost use Rattle.ca_plane.specs.declared.counting.{Counting.Counting, Neighbourhood.Neighbourhood};
 ghost use Rattle.ca_plane.specs.declared.counting.Neighbourhood.TheVariants.{Moore, VonNeumann, Hexagonal};
-ghost use Rattle.ca_bricks.specs.Bricks.{wide_bit, pair_at, count_at};
-ghost use Rattle.ca_bricks.specs.Bricks.{IsWordOfEach, AreWords, HasTwoAndThreeAlone};
+ghost use Rattle.ca_bricks.specs.Bricks.{wide_bit, pair_at, count_at, IsWordOfEach, AreWords, HasTwoAndThreeAlone};
 ghost use Rattle.ca_bricks.specs.Tiles.{next_by_count, sum_above, sum_beside, sum_below};
 
 use crate::count::Count;

@@ -1,7 +1,7 @@
 //! Squares of 16 by 16 cells of two states, as four words of 64 bits.
 
 ghost use Rattle.std.specs.Prelude.{ℕ, ◌≤◌, ℤ, pos, ◌+ℤ◌, List, IfOk};
-ghost use Rattle.ca_plane.specs.Generations.{cells_after};
+ghost use Rattle.ca_plane.specs.Prelude.{cells_after};
 ghost use Rattle.ca_bricks.specs.WordSquares.{WordSquareShows};
 ghost use Rattle.ca_bricks.specs.Words.{WordShows};
 ghost use Rattle.ca_bricks.specs.CellRules.{GoesByCells};

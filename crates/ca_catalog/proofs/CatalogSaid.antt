@@ -8,37 +8,25 @@ use Rattle.std.specs.Str.{bytes_eq}
 use Rattle.std.proofs.lemmas.Bool.{cases_Bool, or_parts, false≢true}
 use Rattle.std.proofs.lemmas.List.{append-nil}
 use Rattle.std.proofs.lemmas.Slice.Eq.{bytes_eq-Decides}
-use Rattle.ca_plane.specs.Bytes.{Every, IsWord, lines_of}
-use Rattle.ca_plane.specs.Plane.{Picture}
+use Rattle.ca_plane.specs.Prelude.{Every, IsWord, lines_of, Picture}
 use Rattle.ca_plane.proofs.Fronts.{every_append}
-use Rattle.ca_rule.specs.Rule.{next_of}
-use Rattle.ca_rule.specs.TableNext.{TableRule}
-use Rattle.ca_answers.specs.declared.identity.Identity.{Identity}
-use Rattle.ca_answers.specs.declared.identity.Growth.{Growth}
-use Rattle.ca_answers.specs.declared.cause.Cause.{Cause}
+use Rattle.ca_rule.specs.Prelude.{next_of, TableRule}
+use Rattle.ca_answers.specs.declared.{identity.Identity.Identity, identity.Growth.Growth, cause.Cause.Cause}
 use Rattle.ca_answers.specs.declared.cause.Cause.TheVariants as causes
 use Rattle.ca_answers.specs.declared.identity.Identity.TheVariants.{Empty, Claim, Unknown}
-use Rattle.ca_text.specs.Kinds.{keyword_of, words_after_name, spaced}
-use Rattle.ca_text.specs.Text.{ClaimTextLine, Version, Rule, Load, Claims, is_second, path_of, ClaimLinesSay}
-use Rattle.ca_answers.specs.Identified.{IsIdentity}
+use Rattle.ca_text.specs.Prelude.{keyword_of, words_after_name, spaced, ClaimTextLine, Version, Rule, Load, Claims, is_second, path_of, ClaimLinesSay}
+use Rattle.ca_answers.specs.Prelude.{IsIdentity, cause_text}
 use Rattle.ca_text.proofs.LinesSaid.{path_of-append}
 use Rattle.ca_text.proofs.WrittenWords.{keyword_word, keyword_spoken, written_follow, written_words}
 use Rattle.ca_text.proofs.PathLists.{bytes_eq_self}
-use Rattle.ca_catalog.specs.declared.entry.Content.{Content}
+use Rattle.ca_catalog.specs.declared.{entry.Content.Content, entry.Subject.Subject, entry.Outcome.Outcome, entry.Entry.Entry, task.Task.Task}
 use Rattle.ca_catalog.specs.declared.entry.Content.TheVariants.{Bytes, Missing, FaultyRule}
-use Rattle.ca_catalog.specs.declared.entry.Subject.{Subject}
-use Rattle.ca_catalog.specs.declared.entry.Outcome.{Outcome}
 use Rattle.ca_catalog.specs.declared.entry.Outcome.TheVariants as outcomes
 use Rattle.ca_catalog.specs.declared.entry.Outcome.TheVariants.{Unnameable, Identified, Refused}
-use Rattle.ca_catalog.specs.declared.entry.Entry.{Entry}
-use Rattle.ca_catalog.specs.declared.task.Task.{Task}
-use Rattle.ca_report.specs.Escaped.{escaped}
-use Rattle.ca_answers.specs.Answers.{cause_text}
-use Rattle.ca_report.specs.FileLines.{at_line}
-use Rattle.ca_report.specs.Counts.{generations_word, side_length}
-use Rattle.ca_catalog.specs.Names.{is_claim_path, is_taken}
-use Rattle.ca_catalog.specs.Catalog.{cells_word, growth_text, none_text, later_text, later_head, later_line, found_line, code_line, code_lines, identified_lines, IsAskedCode, refused_line, identity_line, entry_lines, outcome_lines, rule_lines, version_line, catalog_head, catalog_text, IsContentOutcome, IsEntry, AreEntries}
-use Rattle.ca_catalog.specs.CatalogSays.{claim_line, identity_says, found_says, outcome_says, entry_says, AreRuleWords, SaysItsClaims}
+use Rattle.ca_report.specs.Prelude.{escaped, at_line, generations_word, side_length}
+use Rattle.ca_catalog.specs.Prelude.{is_claim_path, is_taken, cells_word, growth_text, none_text, later_text, later_head, later_line, found_line, code_line, code_lines, identified_lines, IsAskedCode}
+use Rattle.ca_catalog.specs.Prelude.{refused_line, identity_line, entry_lines, outcome_lines, rule_lines, version_line, catalog_head, catalog_text, IsContentOutcome, IsEntry, AreEntries, claim_line}
+use Rattle.ca_catalog.specs.Prelude.{identity_says, found_says, outcome_says, entry_says, AreRuleWords, SaysItsClaims}
 use Rattle.ca_catalog.proofs.Saying.{is_inner, TextSays, inner_word, says_none, says_then, spelled_spaced, spaced_inner, says_words, says_comment, line_end, line_more}
 use Rattle.ca_catalog.proofs.NameWords.{word_by_test, path_word, free_word, decimal_inner, signed_inner, escaped_inner}
 use Rattle.ca_catalog.proofs.CauseLines.{cause_inner, at_inner}

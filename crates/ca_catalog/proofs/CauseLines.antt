@@ -1,9 +1,8 @@
 -- What is told of a refusal is on one line.
 use Rattle.std.proofs.Common.{ℕ, Option, None, Some, refl}
-use Rattle.ca_plane.specs.Bytes.{Every}
-use Rattle.ca_rule.specs.declared.fault.RuleFault.{RuleFault}
+use Rattle.ca_plane.specs.Prelude.{Every}
+use Rattle.ca_rule.specs.declared.{fault.RuleFault.RuleFault, table.fault.TableFault.TableFault}
 use Rattle.ca_rule.specs.declared.fault.RuleFault.TheVariants as rules
-use Rattle.ca_rule.specs.declared.table.fault.TableFault.{TableFault}
 use Rattle.ca_rule.specs.declared.table.fault.TableFault.TheVariants as tables
 use Rattle.ca_rle.specs.declared.fault.RleFault.TheVariants as rle
 use Rattle.ca_macro.specs.declared.fault.MacroFault.TheVariants as macrocell
@@ -11,10 +10,9 @@ use Rattle.ca_pattern.specs.declared.pattern_fault.PatternFault.{PatternFault}
 use Rattle.ca_pattern.specs.declared.pattern_fault.PatternFault.TheVariants as patterns
 use Rattle.ca_answers.specs.declared.cause.Cause.{Cause}
 use Rattle.ca_answers.specs.declared.cause.Cause.TheVariants as causes
-use Rattle.ca_pattern.specs.FaultTexts.{rule_fault_text, table_fault_text}
-use Rattle.ca_pattern.specs.Formats.{pattern_fault_text}
-use Rattle.ca_answers.specs.Answers.{cause_text}
-use Rattle.ca_report.specs.FileLines.{at_line}
+use Rattle.ca_pattern.specs.Prelude.{rule_fault_text, table_fault_text, pattern_fault_text}
+use Rattle.ca_answers.specs.Prelude.{cause_text}
+use Rattle.ca_report.specs.Prelude.{at_line}
 use Rattle.ca_catalog.proofs.Saying.{is_inner}
 use Rattle.ca_catalog.proofs.NameWords.{decimal_inner}
 

@@ -3,18 +3,15 @@ use Rattle.std.proofs.Common.{◌≡◌, ℕ, ◌+◌, ◌-◌, ◌≤◌, nat_l
 use Rattle.std.specs.Prelude.{ℤ, ◌==◌, if◌then◌else◌}
 use Rattle.std.specs.List.{flat_map, join_with_byte}
 use Rattle.std.proofs.lemmas.Bool.Decides.{nat_tests}
-use Rattle.ca_plane.specs.Bytes.{Every, letter}
-use Rattle.ca_plane.specs.Plane.{Picture}
-use Rattle.ca_plane.specs.Generations.{after}
+use Rattle.ca_plane.specs.Prelude.{Every, letter, Picture, after}
 use Rattle.ca_plane.proofs.Fronts.{every_append}
-use Rattle.ca_apgcode.specs.Objects.{IsObjectCode, IsLeastOfPhases, code_text, kind_letter}
-use Rattle.ca_apgcode.specs.Representation.{Step, digit, gap_text, step_text}
+use Rattle.ca_apgcode.specs.Prelude.{IsObjectCode, IsLeastOfPhases, code_text, kind_letter, Step, digit, gap_text, step_text}
 use Rattle.ca_apgcode.specs.declared.object.ObjectKind.{ObjectKind}
 use Rattle.ca_apgcode.specs.declared.object.ObjectKind.TheVariants as kind
 use Rattle.ca_text.specs.declared.kind.Kind.TheVariants.{Still, Oscillator, Spaceship}
 use Rattle.ca_answers.specs.declared.identity.Identity.{Identity}
 use Rattle.ca_answers.specs.declared.identity.Identity.TheVariants.{Claim}
-use Rattle.ca_answers.specs.Codes.{IsCodeOf}
+use Rattle.ca_answers.specs.Prelude.{IsCodeOf}
 use Rattle.ca_catalog.proofs.Saying.{is_inner}
 use Rattle.ca_catalog.proofs.NameWords.{decimal_inner}
 

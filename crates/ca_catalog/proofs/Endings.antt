@@ -2,7 +2,7 @@
 use Rattle.std.proofs.Common.{◌≡◌, ℕ, Bool, true, false, List, [], ◌∷◌, ◌++◌, length, nat_eq, refl, ap, sym, ◌∙◌, append_assoc, arith}
 use Rattle.std.specs.List.{list_any}
 use Rattle.std.proofs.lemmas.Bool.{or_right, or_parts, ne_eqb}
-use Rattle.ca_catalog.specs.Names.{without_ending}
+use Rattle.ca_catalog.specs.Prelude.{without_ending}
 
 abbrev pub is_dot : ℕ → Bool
 is_dot b = nat_eq b 46

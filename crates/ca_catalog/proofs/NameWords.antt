@@ -4,10 +4,10 @@ use Rattle.std.specs.Fmt.{digits, digits_onto, digit_glyph, signed_decimal}
 use Rattle.std.specs.List.{list_all}
 use Rattle.std.proofs.lemmas.Bool.{and_parts, and_from, cases_Bool, lt-ltb, false≢true}
 use Rattle.std.proofs.lemmas.Bool.Decides.{nat_tests}
-use Rattle.ca_plane.specs.Bytes.{Every, is_word_byte, IsWord}
+use Rattle.ca_plane.specs.Prelude.{Every, is_word_byte, IsWord}
 use Rattle.ca_plane.proofs.Fronts.{every_append}
-use Rattle.ca_catalog.specs.Names.{is_word, is_claim_path, name_byte, with_first_byte, without_ending, last_component, claim_name, numbered_name, IsFreeName}
-use Rattle.ca_report.specs.Escaped.{spelled_byte, is_control, is_control_pair, escaped_byte, escaped}
+use Rattle.ca_catalog.specs.Prelude.{is_word, is_claim_path, name_byte, with_first_byte, without_ending, last_component, claim_name, numbered_name, IsFreeName}
+use Rattle.ca_report.specs.Prelude.{spelled_byte, is_control, is_control_pair, escaped_byte, escaped}
 use Rattle.ca_catalog.proofs.Saying.{is_inner}
 
 -- what the test says is a word

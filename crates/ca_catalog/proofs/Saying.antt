@@ -3,11 +3,10 @@ use Rattle.std.proofs.Common.{◌≡◌, ℕ, Bool, false, not, List, [], ◌∷
 use Rattle.std.specs.List.{AllByRecursion}
 use Rattle.std.proofs.lemmas.Bool.{and_parts, false≢true}
 use Rattle.std.proofs.lemmas.List.{append-nil}
-use Rattle.ca_plane.specs.Bytes.{Every, is_line_end, is_word_byte, is_blank, IsWord, lines_of, words_of}
+use Rattle.ca_plane.specs.Prelude.{Every, is_line_end, is_word_byte, is_blank, IsWord, lines_of, words_of}
 use Rattle.ca_plane.proofs.Fronts.{every_append, every_wider}
 use Rattle.ca_plane.proofs.Lines.{lines_ahead, words_ahead}
-use Rattle.ca_text.specs.Kinds.{spaced}
-use Rattle.ca_text.specs.Text.{ClaimTextLine, is_skipped, ClaimWordsSay, IsAllowedLine, ClaimLinesSay, said_lines}
+use Rattle.ca_text.specs.Prelude.{spaced, ClaimTextLine, is_skipped, ClaimWordsSay, IsAllowedLine, ClaimLinesSay, said_lines}
 use Rattle.ca_text.proofs.LinesSaid.{spoken-append}
 
 -- a byte that ends no line

@@ -6,7 +6,7 @@ use Rattle.std.proofs.lemmas.Bool.{cases_Bool, or_left, false≢true}
 use Rattle.std.proofs.lemmas.Option.{same_Some, none-some}
 use Rattle.std.proofs.lemmas.Slice.Eq.{bytes_eq-Decides}
 use Rattle.indexmap.specs.IndexMap.{insert_entry}
-use Rattle.ca_catalog.specs.Names.{numbered_name, is_taken}
+use Rattle.ca_catalog.specs.Prelude.{numbered_name, is_taken}
 use Rattle.ca_catalog.specs.inner.Tried.{IsTried, AreTried}
 
 -- a taken name stays taken

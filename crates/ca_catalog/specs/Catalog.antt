@@ -3,36 +3,21 @@ use Rattle.std.specs.Prelude.{ℕ, List, [], ◌∷◌, ◌++◌, Bool, true, fa
 use Rattle.std.specs.declared.alloc.Global.{Global}
 use Rattle.std.specs.Fmt.{signed_decimal}
 use Rattle.std.specs.List.{flat_map, list_any, list_all}
-use Rattle.ca_answers.specs.declared.cause.Cause.{Cause}
+use Rattle.ca_answers.specs.declared.{cause.Cause.Cause, identity.Identity.Identity, identity.Growth.Growth, coded_look.CodedLook.CodedLook}
 use Rattle.ca_answers.specs.declared.cause.Cause.TheVariants as causes
-use Rattle.ca_pattern.specs.declared.file.File.{File}
-use Rattle.ca_pattern.specs.declared.located_fault.LocatedFault.{LocatedFault}
-use Rattle.ca_report.specs.declared.detailed_fault.DetailedFault.{DetailedFault}
-use Rattle.ca_report.specs.declared.fault.ToolFault.{ToolFault}
+use Rattle.ca_pattern.specs.declared.{file.File.File, located_fault.LocatedFault.LocatedFault}
+use Rattle.ca_report.specs.declared.{detailed_fault.DetailedFault.DetailedFault, fault.ToolFault.ToolFault}
 use Rattle.ca_report.specs.declared.fault.ToolFault.TheVariants as tools
-use Rattle.ca_report.specs.Escaped.{escaped}
-use Rattle.ca_report.specs.Remedies.{cause_remedy, bytes_of, remedy_line}
-use Rattle.ca_plane.specs.Device.{Counted}
-use Rattle.ca_rule.specs.TableNext.{TableRule}
-use Rattle.ca_text.specs.Kinds.{keyword_of, words_after_name, spaced}
-use Rattle.ca_answers.specs.declared.identity.Identity.{Identity}
+use Rattle.ca_report.specs.Prelude.{escaped, cause_remedy, bytes_of, remedy_line, at_line, rule_file_line, pattern_line, generations_word, side_length}
+use Rattle.ca_plane.specs.Prelude.{Counted}
+use Rattle.ca_rule.specs.Prelude.{TableRule}
+use Rattle.ca_text.specs.Prelude.{keyword_of, words_after_name, spaced}
 use Rattle.ca_answers.specs.declared.identity.Identity.TheVariants.{Empty, Claim, Unknown}
-use Rattle.ca_answers.specs.declared.identity.Growth.{Growth}
-use Rattle.ca_answers.specs.Identified.{IsLookAt, IsUnidentifiedAfter}
-use Rattle.ca_answers.specs.declared.coded_look.CodedLook.{CodedLook}
-use Rattle.ca_answers.specs.Codes.{IsCodeOfFile, IsUncodedAfter}
-use Rattle.ca_catalog.specs.declared.known_rules.KnownRules.{KnownRules}
-use Rattle.ca_catalog.specs.declared.task.Task.{Task}
-use Rattle.ca_catalog.specs.declared.entry.Content.{Content}
+use Rattle.ca_answers.specs.Prelude.{IsLookAt, IsUnidentifiedAfter, IsCodeOfFile, IsUncodedAfter, cause_text}
+use Rattle.ca_catalog.specs.declared.{known_rules.KnownRules.KnownRules, task.Task.Task, entry.Content.Content, entry.Subject.Subject, entry.Outcome.Outcome, entry.Entry.Entry}
 use Rattle.ca_catalog.specs.declared.entry.Content.TheVariants.{Bytes, Missing, FaultyRule}
-use Rattle.ca_catalog.specs.declared.entry.Subject.{Subject}
-use Rattle.ca_catalog.specs.declared.entry.Outcome.{Outcome}
 use Rattle.ca_catalog.specs.declared.entry.Outcome.TheVariants as outcomes
 use Rattle.ca_catalog.specs.declared.entry.Outcome.TheVariants.{Unnameable, Identified, Refused}
-use Rattle.ca_catalog.specs.declared.entry.Entry.{Entry}
-use Rattle.ca_answers.specs.Answers.{cause_text}
-use Rattle.ca_report.specs.FileLines.{at_line, rule_file_line, pattern_line}
-use Rattle.ca_report.specs.Counts.{generations_word, side_length}
 use Rattle.ca_catalog.specs.Names.{is_claim_path, claim_name, IsFreeName}
 use Rattle.ca_catalog.specs.FaultReports.{IsBareReport, IsReportOf}
 use Rattle.ca_catalog.specs.WrittenOn.{WritesOn, WritesOnFirst, WritesPartOn}

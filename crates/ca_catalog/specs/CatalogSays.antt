@@ -5,14 +5,9 @@ use Rattle.std.specs.List.{flat_map, AllByRecursion}
 use Rattle.ca_text.specs.declared.kind.Kind.{Kind}
 use Rattle.ca_answers.specs.declared.identity.Identity.{Identity}
 use Rattle.ca_answers.specs.declared.identity.Identity.TheVariants.{Empty, Claim, Unknown}
-use Rattle.ca_text.specs.Both.{twice}
-use Rattle.ca_text.specs.Text.{ClaimTextLine, Version, Rule, Load, Claims, IsClaimText, said_lines}
-use Rattle.ca_catalog.specs.declared.entry.Outcome.{Outcome}
+use Rattle.ca_text.specs.Prelude.{twice, ClaimTextLine, Version, Rule, Load, Claims, IsClaimText, said_lines}
+use Rattle.ca_catalog.specs.declared.{entry.Outcome.Outcome, entry.Entry.Entry, entry.Subject.Subject, known_rules.KnownRules.KnownRules, task.Task.Task}
 use Rattle.ca_catalog.specs.declared.entry.Outcome.TheVariants.{Identified}
-use Rattle.ca_catalog.specs.declared.entry.Entry.{Entry}
-use Rattle.ca_catalog.specs.declared.entry.Subject.{Subject}
-use Rattle.ca_catalog.specs.declared.known_rules.KnownRules.{KnownRules}
-use Rattle.ca_catalog.specs.declared.task.Task.{Task}
 use Rattle.ca_catalog.specs.Names.{is_word}
 use Rattle.ca_catalog.specs.Catalog.{IsCatalog}
 

@@ -1,3 +1,4 @@
+pub mod Prelude
 pub mod Catalog
 pub mod CatalogSays
 pub mod FaultReports

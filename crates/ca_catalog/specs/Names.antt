@@ -2,7 +2,7 @@
 use Rattle.std.specs.Prelude.{◌≡◌, ℕ, ◌+◌, ◌<◌, List, [], ◌∷◌, ◌++◌, map, Bool, true, false, not, ◌&&◌, codes, decimal, nat_eq, if◌then◌else◌}
 use Rattle.std.specs.List.{list_any, list_all}
 use Rattle.std.specs.Str.{bytes_eq}
-use Rattle.ca_plane.specs.Bytes.{is_word_byte}
+use Rattle.ca_plane.specs.Prelude.{is_word_byte}
 
 -- one or more bytes, none of them a blank or LF
 abbrev pub is_word : List ℕ → Bool

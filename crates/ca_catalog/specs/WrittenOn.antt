@@ -1,7 +1,7 @@
 -- What a call that writes a text on some things, one after another, does to its device, whose writer tells its bytes by `contents`.
 use Rattle.std.specs.Prelude.{◌≡◌, ℕ, ◌<◌, List, length, take, Option}
 use Rattle.std.specs.Io.KnownBytes.{Appends}
-use Rattle.ca_plane.specs.Device.{Counted, Rises, AppendsPrefix}
+use Rattle.ca_plane.specs.Prelude.{Counted, Rises, AppendsPrefix}
 
 -- a text on some things is written whole, with what is told of it, and no write failed
 pub record WritesOn {W X T : Type 0} (contents : W → Option (List ℕ)) (old new : Counted W) (IsText : List X → List ℕ → T → Type 0)

@@ -3,12 +3,11 @@
 
 ghost use Rattle.std.specs.Prelude.{◌≡◌, ◌≢◌, ◌++◌, [], IfOk, OnOk, OnErr};
 ghost use Rattle.std.specs.List.{list_all};
-ghost use Rattle.ca_plane.specs.Puts.{Puts};
+ghost use Rattle.ca_plane.specs.Prelude.{Puts};
 ghost use Rattle.ca_catalog.specs.Catalog.{version_line, rule_lines, is_identified, catalog_status};
 ghost use Rattle.ca_catalog.specs.Catalog.{entry_explanation, catalog_explanation, catalog_has_explanation};
 ghost use Rattle.ca_catalog.specs.CatalogSays.{SaysItsClaims};
-ghost use Rattle.ca_report.specs.Writing.{Sends};
-ghost use Rattle.ca_report.specs.Pieces.{pieces_text};
+ghost use Rattle.ca_report.specs.Prelude.{Sends, pieces_text};
 
 use crate::entry::{Entry, Outcome};
 use crate::entry_lines::push_rule;

@@ -2,13 +2,12 @@
 
 ghost use Rattle.std.specs.Prelude.{◌≡◌, ◌+◌, ◌<◌, ◌^◌, ◌++◌, ◌∷◌, [], OnOk};
 ghost use Rattle.ca_answers.specs.declared.identity.Identity.TheVariants.{Unknown};
-ghost use Rattle.ca_plane.specs.Puts.{Puts};
-ghost use Rattle.ca_text.specs.Kinds.{keyword_of, words_after_name, spaced};
-ghost use Rattle.ca_catalog.specs.Catalog.{load_line, identity_line, refused_line, unnameable_line, later_text};
-ghost use Rattle.ca_catalog.specs.Catalog.{later_head, later_line, found_line, code_comment, code_line};
-ghost use Rattle.ca_catalog.specs.Catalog.{identified_lines, entry_lines, rule_line};
-ghost use Rattle.ca_report.specs.Pieces.{pieces_text};
-ghost use Rattle.ca_catalog.specs.Catalog.{IsWithin};
+ghost use Rattle.ca_plane.specs.Prelude.{Puts};
+ghost use Rattle.ca_text.specs.Prelude.{keyword_of, words_after_name, spaced};
+ghost use Rattle.ca_catalog.specs.Catalog.{load_line, identity_line, refused_line, unnameable_line, later_text, later_head};
+ghost use Rattle.ca_catalog.specs.Catalog.{later_line, found_line, code_comment, code_line, identified_lines, entry_lines};
+ghost use Rattle.ca_catalog.specs.Catalog.{rule_line, IsWithin};
+ghost use Rattle.ca_report.specs.Prelude.{pieces_text};
 
 use crate::entry::{Entry, Outcome};
 use crate::growth::push_none;

@@ -1,7 +1,7 @@
 //! How far a plane has grown of which no claim is true within a limit.
 
 ghost use Rattle.std.specs.Prelude.{◌≡◌, OnOk};
-ghost use Rattle.ca_plane.specs.Puts.{Puts};
+ghost use Rattle.ca_plane.specs.Prelude.{Puts};
 ghost use Rattle.ca_catalog.specs.Catalog.{cells_word, growth_text, none_text};
 
 use ca_answers::Growth;

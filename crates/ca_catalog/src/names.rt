@@ -2,8 +2,7 @@
 
 ghost use Rattle.std.specs.Prelude.{◌≡◌, ◌++◌, ◌∷◌, [], map, IfOk, OnOk, OnErr};
 ghost use Rattle.std.specs.List.{list_all};
-ghost use Rattle.ca_plane.specs.Bytes.{is_word_byte};
-ghost use Rattle.ca_plane.specs.Puts.{Puts};
+ghost use Rattle.ca_plane.specs.Prelude.{is_word_byte, Puts};
 ghost use Rattle.ca_catalog.specs.Names.{is_word, is_claim_path, last_component, without_ending, name_byte};
 ghost use Rattle.ca_catalog.specs.Names.{with_first_byte, claim_name, IsFreeName};
 

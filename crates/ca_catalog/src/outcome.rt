@@ -3,7 +3,7 @@
 ghost use Rattle.std.specs.Prelude.{◌≡◌};
 ghost use Rattle.ca_catalog.specs.Catalog.{cause_explanation, is_in_file, outcome_explanation};
 ghost use Rattle.ca_catalog.specs.Catalog.{outcome_has_explanation, outcome_remedy_line};
-ghost use Rattle.ca_report.specs.Pieces.{pieces_text};
+ghost use Rattle.ca_report.specs.Prelude.{pieces_text};
 
 use crate::entry::Outcome;
 use ca_answers::Cause;

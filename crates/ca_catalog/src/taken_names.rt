@@ -1,7 +1,7 @@
 //! Names, of which each is taken once.
 
 ghost use Rattle.std.specs.Prelude.{◌≡◌, ◌<◌, ◌^◌, ◌-◌, ◌++◌, ◌∷◌, [], false, codes, decimal, IfOk, OnOk, OnErr};
-ghost use Rattle.ca_plane.specs.Puts.{Puts};
+ghost use Rattle.ca_plane.specs.Prelude.{Puts};
 ghost use Rattle.ca_catalog.specs.Names.{is_taken, numbered_name, IsFreeName};
 ghost use Rattle.ca_catalog.specs.inner.Tried.{IsTried};
 

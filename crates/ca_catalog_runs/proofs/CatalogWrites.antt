@@ -2,17 +2,13 @@
 use Rattle.std.proofs.Common.{◌≡◌, ℕ, List, [], ◌++◌, Option, inl, ap, sym, ◌∙◌, subst}
 use Rattle.std.specs.Io.KnownBytes.{Appends}
 use Rattle.std.proofs.lemmas.List.{append-nil}
-use Rattle.ca_plane.specs.Device.{Counted, Rises, AppendsPrefix}
+use Rattle.ca_plane.specs.Prelude.{Counted, Rises, AppendsPrefix}
 use Rattle.ca_plane.proofs.Sends.{sent_both, prefix_of_second}
-use Rattle.ca_catalog.specs.declared.known_rules.KnownRules.{KnownRules}
-use Rattle.ca_catalog.specs.declared.entry.Entry.{Entry}
-use Rattle.ca_catalog.specs.declared.entry.Subject.{Subject}
+use Rattle.ca_catalog.specs.declared.{known_rules.KnownRules.KnownRules, entry.Entry.Entry, entry.Subject.Subject, task.Task.Task}
 use Rattle.ca_report.specs.declared.fault.ToolFault.{ToolFault}
 use Rattle.ca_report.specs.declared.fault.ToolFault.TheVariants as tools
 use Rattle.ca_catalog_runs.specs.declared.identification_run.Search.{Search}
-use Rattle.ca_catalog.specs.declared.task.Task.{Task}
-use Rattle.ca_catalog.specs.Catalog.{catalog_head, AreEntries, IsCatalog, WritesCatalog, EndsCatalog}
-use Rattle.ca_catalog.specs.WrittenOn.{WritesOn, WritesPartOn}
+use Rattle.ca_catalog.specs.Prelude.{catalog_head, AreEntries, IsCatalog, WritesCatalog, EndsCatalog, WritesOn, WritesPartOn}
 use Rattle.ca_catalog_runs.specs.inner.Searches.{AreLines, EndsLines}
 
 -- they are a claim text

@@ -3,30 +3,25 @@ use Rattle.std.proofs.Common.{◌≡◌, ℕ, suc, ◌+◌, ◌*◌, ◌^◌, �
 use Rattle.std.specs.Prelude.{ℤ, option_map, MatchOption, IsTrue, ◌↔◌}
 use Rattle.std.proofs.Math.Nat.{mul-le-mul_right}
 use Rattle.std.proofs.lemmas.Bool.{false≢true}
-use Rattle.ca_plane.specs.Plane.{Picture}
+use Rattle.ca_plane.specs.Prelude.{Picture, after, cells_after}
 use Rattle.ca_plane.specs.Plane as plane
-use Rattle.ca_plane.specs.Generations.{after, cells_after}
 use Rattle.ca_plane.proofs.After.{after_same, after_again}
-use Rattle.ca_quad.specs.declared.node.Node.{Node}
-use Rattle.ca_quad.specs.declared.tree.Tree.{Tree}
+use Rattle.ca_quad.specs.declared.{node.Node.Node, tree.Tree.Tree}
 use Rattle.ca_quad.specs.Trees as trees
-use Rattle.ca_rule.specs.Rule.{RuleValue, next_of}
+use Rattle.ca_rule.specs.Prelude.{RuleValue, next_of}
 use Rattle.ca_work.proofs.Powers.{power_suc}
 use Rattle.ca_pattern.specs.declared.pattern.StoredTree.{StoredTree}
-use Rattle.ca_pattern.specs.PatternCells.{IsTreeOf}
-use Rattle.ca_pattern.specs.PatternTrees.{ShowsTree}
+use Rattle.ca_pattern.specs.Prelude.{IsTreeOf, ShowsTree}
 use Rattle.ca_pattern.proofs.CellsNearMiddle.{trimmed_low}
-use Rattle.ca_answers.specs.Identified.{IsIdentity}
+use Rattle.ca_answers.specs.Prelude.{IsIdentity, HasCodes, HasNoCode, HasGoodPeriod, IsNoObject, IsCodeOf, MayNeedWorkTwice, steps_of}
 use Rattle.ca_identify.specs.TreeLooks.{IsTreeLook, TakesRunAndSearch}
-use Rattle.ca_evolution.specs.Steps.{TakesSteps}
+use Rattle.ca_evolution.specs.Prelude.{TakesSteps}
 use Rattle.ca_text.specs.declared.kind.Kind.TheVariants.{Oscillator, Spaceship}
-use Rattle.ca_answers.specs.declared.identity.Identity.{Identity}
+use Rattle.ca_answers.specs.declared.{identity.Identity.Identity, scope.Scope.Scope}
 use Rattle.ca_answers.specs.declared.identity.Identity.TheVariants.{Claim}
-use Rattle.ca_answers.specs.declared.scope.Scope.{Scope}
 use Rattle.ca_identify.specs.declared.tree_look.TreeLook.{TreeLook}
 use Rattle.ca_identify.proofs.LaterPlanes.{tree_picture}
 use Rattle.ca_identify.proofs.Stages.{run_more}
-use Rattle.ca_answers.specs.Codes.{HasCodes, HasNoCode, HasGoodPeriod, IsNoObject, IsCodeOf, MayNeedWorkTwice, steps_of}
 use Rattle.ca_catalog_runs.specs.inner.CodedLooks.{IsFoundCode}
 use Rattle.ca_catalog_runs.specs.inner.Spent.{TakesRunAndTwice}
 

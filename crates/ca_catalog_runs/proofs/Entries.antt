@@ -6,20 +6,14 @@ use Rattle.std.proofs.Math.Seq.{take-suc}
 use Rattle.std.proofs.lemmas.List.{append-nil, map-append}
 use Rattle.std.proofs.lemmas.Option.{slice_get_within, get_or_from_slice_get}
 use Rattle.std.proofs.lemmas.List.Concat.{flat_map-append}
-use Rattle.ca_plane.specs.Device.{AppendsPrefix}
+use Rattle.ca_plane.specs.Prelude.{AppendsPrefix, longest_period, most_generations}
 use Rattle.ca_plane.proofs.Sends.{sent_both, prefix_of_second}
-use Rattle.ca_rule.specs.TableNext.{TableRule}
-use Rattle.ca_catalog.specs.declared.task.Task.{Task}
-use Rattle.ca_plane.specs.Limits.{longest_period, most_generations}
-use Rattle.ca_catalog.specs.declared.entry.Content.{Content}
+use Rattle.ca_rule.specs.Prelude.{TableRule}
+use Rattle.ca_catalog.specs.declared.{task.Task.Task, entry.Content.Content, entry.Outcome.Outcome, entry.Subject.Subject, entry.Entry.Entry}
 use Rattle.ca_catalog.specs.declared.entry.Content.TheVariants.{Bytes, Missing, FaultyRule}
-use Rattle.ca_catalog.specs.declared.entry.Outcome.{Outcome}
 use Rattle.ca_catalog.specs.declared.entry.Outcome.TheVariants as outcomes
 use Rattle.ca_catalog.specs.declared.entry.Outcome.TheVariants.{Unnameable, Identified, Refused}
-use Rattle.ca_catalog.specs.declared.entry.Subject.{Subject}
-use Rattle.ca_catalog.specs.declared.entry.Entry.{Entry}
-use Rattle.ca_catalog.specs.Catalog.{entry_lines, IsContentOutcome, IsEntry, AreEntries}
-use Rattle.ca_catalog.specs.Catalog.{IsWithin}
+use Rattle.ca_catalog.specs.Prelude.{entry_lines, IsContentOutcome, IsEntry, AreEntries, IsWithin}
 
 -- the names of entries
 abbrev pub names_of : List Entry → List (List ℕ)

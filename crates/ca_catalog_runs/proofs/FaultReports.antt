@@ -3,12 +3,11 @@ use Rattle.std.proofs.Common.{ℕ, List, Bool, true, false, refl}
 use Rattle.ca_answers.specs.declared.cause.Cause.{Cause}
 use Rattle.ca_pattern.specs.declared.located_fault.LocatedFault.{LocatedFault}
 use Rattle.ca_pattern.specs.declared.located_fault.LocatedFault.TheVariants.{Unread, UnnamedRule, StateTooLarge, GenTooLarge, Work, Range, TooManyCells, Memory}
-use Rattle.ca_rule.specs.TableNext.{TableRule}
-use Rattle.ca_pattern.specs.LocatedFaults.{IsOpeningFault}
+use Rattle.ca_rule.specs.Prelude.{TableRule}
+use Rattle.ca_pattern.specs.Prelude.{IsOpeningFault}
 use Rattle.ca_report.specs.declared.detailed_fault.DetailedFault.{DetailedFault}
 use Rattle.ca_catalog.specs.declared.task.Task.{Task}
-use Rattle.ca_catalog.specs.Catalog.{IsUnfoundFor}
-use Rattle.ca_catalog.specs.FaultReports.{IsReportOf}
+use Rattle.ca_catalog.specs.Prelude.{IsUnfoundFor, IsReportOf}
 
 -- each fault for which a file isn't opened has a report
 opening_report : (bytes : List ℕ) (tables : List TableRule) (fault : LocatedFault) → IsOpeningFault bytes tables fault → (report : DetailedFault Cause) × IsReportOf fault report

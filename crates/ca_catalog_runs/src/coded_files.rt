@@ -1,16 +1,12 @@
 //! What the pattern of a file is, and its code.
 
 ghost use Rattle.std.specs.Prelude.{◌≤◌, IfOk, IfErr, option_map};
-ghost use Rattle.ca_plane.specs.Generations.{cells_after};
-ghost use Rattle.ca_plane.specs.Limits.{longest_period, most_generations};
-ghost use Rattle.ca_plane.specs.Plane.{Picture};
-ghost use Rattle.ca_quad.specs.Trees.{cell};
-ghost use Rattle.ca_run.specs.Leaping.{LeaperGrows};
-ghost use Rattle.ca_work.specs.Spending.{EndsAtLimit};
-ghost use Rattle.ca_answers.specs.Identified.{IsLookAt};
-ghost use Rattle.ca_pattern.specs.Limited.{AreGoodLimits};
-ghost use Rattle.ca_pattern.specs.PatternTrees.{ShowsTree, IsPattern};
-ghost use Rattle.ca_answers.specs.Codes.{IsCodeOfFile, IsUncodedAfter};
+ghost use Rattle.ca_plane.specs.Prelude.{cells_after, longest_period, most_generations, Picture};
+ghost use Rattle.ca_quad.specs.Prelude.{cell};
+ghost use Rattle.ca_run.specs.Prelude.{LeaperGrows};
+ghost use Rattle.ca_work.specs.Prelude.{EndsAtLimit};
+ghost use Rattle.ca_answers.specs.Prelude.{IsLookAt, IsCodeOfFile, IsUncodedAfter};
+ghost use Rattle.ca_pattern.specs.Prelude.{AreGoodLimits, ShowsTree, IsPattern};
 ghost use Rattle.ca_catalog_runs.specs.inner.CodedLooks.{IsCodedLook};
 ghost use Rattle.ca_object_code.specs.Countings.{MayGoBy};
 ghost use Rattle.ca_catalog_runs.specs.inner.Spent.{TakesRunAndTwice};

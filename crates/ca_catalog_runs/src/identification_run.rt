@@ -2,13 +2,11 @@
 //! before the next one is identified.
 
 ghost use Rattle.std.specs.Prelude.{◌≡◌, ◌≤◌, ◌++◌, ◌∷◌, [], IfOk, IfErr, OnOk};
-ghost use Rattle.ca_pattern.specs.Limited.{AreGoodLimits};
-ghost use Rattle.ca_plane.specs.Limits.{longest_period, most_generations};
-ghost use Rattle.ca_catalog.specs.Catalog.{entry_lines, IsOutcome, IsEntry, WritesCatalog};
-ghost use Rattle.ca_catalog.specs.Catalog.{EndsCatalog, IsFoundIn, IsUnfoundFor};
-ghost use Rattle.ca_catalog.specs.WrittenOn.{WritesOn};
+ghost use Rattle.ca_pattern.specs.Prelude.{AreGoodLimits};
+ghost use Rattle.ca_plane.specs.Prelude.{longest_period, most_generations};
+ghost use Rattle.ca_catalog.specs.Prelude.{entry_lines, IsOutcome, IsEntry, WritesCatalog, EndsCatalog, IsFoundIn, IsUnfoundFor};
+ghost use Rattle.ca_catalog.specs.Prelude.{WritesOn, IsWithin};
 ghost use Rattle.ca_catalog_runs.specs.inner.Searches.{IsGoodSearch, AreLines, EndsLines};
-ghost use Rattle.ca_catalog.specs.Catalog.{IsWithin};
 
 use crate::coded_files::identify_with_code;
 use ca_answers::CodedLook;

@@ -7,18 +7,12 @@ use Rattle.std.proofs.lemmas.Bool.{cases_Bool, false≢true, ltb-true, ltb-false
 use Rattle.std.proofs.lemmas.List.Folds.{list_any-append}
 use Rattle.std.proofs.lemmas.Option.{none-some, same_Some, slice_get_within, slice_get-get_or, unwrap_or-slice_get}
 use Rattle.std.proofs.lemmas.Slice.Eq.{bytes_eq-Decides}
-use Rattle.ca_rule.specs.TableNext.{TableRule}
-use Rattle.ca_rule.specs.Rule.{IsRuleFault}
+use Rattle.ca_rule.specs.Prelude.{TableRule, IsRuleFault}
 use Rattle.ca_rule.specs.declared.fault.RuleFault.TheVariants.{Unknown}
-use Rattle.ca_text.specs.Text.{ClaimText}
-use Rattle.ca_text.specs.Places.{path_at}
-use Rattle.ca_text.specs.NeededFiles.{IsNeeded}
-use Rattle.ca_answers.specs.Files.{bytes_at}
-use Rattle.ca_pattern.specs.Means.{HoldsRuleText}
-use Rattle.ca_answers.specs.Answers.{AreTables}
-use Rattle.ca_pattern.specs.Formats.{IsUnreadFile}
+use Rattle.ca_text.specs.Prelude.{ClaimText, path_at, IsNeeded, with_word}
+use Rattle.ca_answers.specs.Prelude.{bytes_at, AreTables}
+use Rattle.ca_pattern.specs.Prelude.{HoldsRuleText, IsUnreadFile}
 use Rattle.ca_claims.specs.Unknown.{HoldsUnknownRule, IsUnknownRule, AreUnknownRules}
-use Rattle.ca_text.specs.Words.{with_word}
 use Rattle.ca_claims.specs.inner.Unknown.{AsksFor, IsAskedBefore, AreAskedBefore, AddsAsked}
 use Rattle.ca_verify.proofs.Causes.{bytes_found}
 use Rattle.ca_verify.proofs.FoundFiles.{found-length}

@@ -2,13 +2,11 @@
 use Rattle.std.specs.Prelude.{◌≡◌, ◌↔◌, ℕ, List, Some, IsTrue, slice_get}
 use Rattle.std.specs.List.{list_any}
 use Rattle.std.specs.Str.{bytes_eq}
-use Rattle.ca_rule.specs.TableNext.{TableRule}
-use Rattle.ca_rule.specs.Rule.{IsRuleFault}
+use Rattle.ca_rule.specs.Prelude.{TableRule, IsRuleFault}
 use Rattle.ca_rule.specs.declared.fault.RuleFault.TheVariants.{Unknown}
-use Rattle.ca_text.specs.Text.{ClaimText}
-use Rattle.ca_text.specs.NeededFiles.{IsNeeded}
-use Rattle.ca_pattern.specs.Means.{HoldsRuleText}
-use Rattle.ca_answers.specs.Answers.{AreTables, HoldsOfFile}
+use Rattle.ca_text.specs.Prelude.{ClaimText, IsNeeded}
+use Rattle.ca_pattern.specs.Prelude.{HoldsRuleText}
+use Rattle.ca_answers.specs.Prelude.{AreTables, HoldsOfFile}
 
 -- the bytes are a pattern file that is read, and this is its rule text, which is a name: no rule of its own, and no table's
 abbrev pub HoldsUnknownRule : List TableRule → (name bytes : List ℕ) → Type 0

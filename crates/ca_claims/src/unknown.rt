@@ -1,12 +1,11 @@
 //! The rules that a text's patterns name and that aren't known.
 
-ghost use Rattle.std.specs.Prelude.{◌≡◌, ◌≢◌, ◌↔◌, ℕ, ◌<◌, List, [], length, IsTrue, IfOk, OnOk, OnErr};
-ghost use Rattle.std.specs.Prelude.{MatchOption};
-ghost use Rattle.ca_rule.specs.Rule.{IsRuleFault};
+ghost use Rattle.std.specs.Prelude.{◌≡◌, ◌≢◌, ◌↔◌, ℕ, ◌<◌, List, [], length, IsTrue, IfOk, OnOk, OnErr, MatchOption};
+ghost use Rattle.ca_rule.specs.Prelude.{IsRuleFault};
 ghost use Rattle.ca_rule.specs.declared.fault.RuleFault.TheVariants as rule_fault;
 ghost use Rattle.ca_rule.specs.declared.table.fault.TableFault.TheVariants as table_fault;
-ghost use Rattle.ca_answers.specs.Files.{contents};
-ghost use Rattle.ca_pattern.specs.Means.{MayWantMemory};
+ghost use Rattle.ca_answers.specs.Prelude.{contents};
+ghost use Rattle.ca_pattern.specs.Prelude.{MayWantMemory};
 ghost use Rattle.ca_claims.specs.Unknown.{HoldsUnknownRule, AreUnknownRules};
 ghost use Rattle.ca_claims.specs.inner.Unknown.{AreAskedBefore, AddsAsked};
 

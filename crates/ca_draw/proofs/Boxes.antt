@@ -2,14 +2,11 @@
 use Rattle.std.proofs.Common.{◌≡◌, ◌≢◌, ℕ, ◌+◌, ◌-◌, ◌/◌, ◌<◌, ◌≤◌, ◌^◌, inl, inr, ℤ, pos, negsuc, neg_ℤ, ◌+ℤ◌, ◌-ℤ◌, ◌<ℤ◌, ◌≤ℤ◌, List, refl, subst, arith}
 use Rattle.std.proofs.lemmas.Int.{ints}
 use Rattle.std.proofs.Math.Nat.{div-eq_of_lt, pow-le-pow_right}
-use Rattle.ca_quad.specs.declared.node.Node.{Node}
-use Rattle.ca_quad.specs.declared.tree.Tree.{Tree}
-use Rattle.ca_quad.specs.declared.tree.WideBounds.{WideBounds}
-use Rattle.ca_quad.specs.Boxes.{IsLeastWideBox}
-use Rattle.ca_quad.specs.Trees.{cell}
+use Rattle.ca_quad.specs.declared.{node.Node.Node, tree.Tree.Tree, tree.WideBounds.WideBounds}
+use Rattle.ca_quad.specs.Prelude.{IsLeastWideBox, cell}
 use Rattle.ca_quad.proofs.Edges.{outside_x, outside_y}
 use Rattle.ca_draw.specs.declared.window.Window.{Window}
-use Rattle.ca_draw.specs.Windows.{strip_of, IsInSquare, IsInWindow, IsBox, IsTreeBox, ShowsBox}
+use Rattle.ca_draw.specs.Prelude.{strip_of, IsInSquare, IsInWindow, IsBox, IsTreeBox, ShowsBox}
 use Rattle.ca_draw.specs.inner.Strips.{AreStrips, AreStripsBetween}
 use Rattle.ca_draw.proofs.Edges.{off_or_not}
 use Rattle.ca_draw.proofs.Strips.{strip_mono}

@@ -5,15 +5,12 @@ use Rattle.std.proofs.lemmas.Bool.Decides.{nat_tests}
 use Rattle.std.proofs.lemmas.Int.{ints}
 use Rattle.std.proofs.lemmas.Nat.{mul-le, pow-add}
 use Rattle.std.proofs.Math.Nat.{div-eq_of_lt, div-mul-le_self, add-mul, pow-le-pow_right, two-pow-succ}
-use Rattle.ca_quad.specs.declared.node.Node.{Node}
-use Rattle.ca_quad.specs.declared.tree.Tree.{Tree}
-use Rattle.ca_quad.specs.Squares.{cell_of}
-use Rattle.ca_quad.specs.Trees.{cell}
-use Rattle.ca_plane.specs.Shown.{from_corner}
+use Rattle.ca_quad.specs.declared.{node.Node.Node, tree.Tree.Tree}
+use Rattle.ca_quad.specs.Prelude.{cell_of, cell}
+use Rattle.ca_plane.specs.Prelude.{from_corner}
 use Rattle.ca_plane.proofs.Numbers.{below_or_not}
 use Rattle.ca_quad.proofs.Edges.{IsOff, outside_x, outside_y}
-use Rattle.ca_draw.specs.Windows.{strip_of}
-use Rattle.ca_draw.specs.Marks.{IsBlankSquare, has_live}
+use Rattle.ca_draw.specs.Prelude.{strip_of, IsBlankSquare, has_live}
 use Rattle.ca_draw.specs.inner.Blanks.{IsBlankIn}
 use Rattle.ca_draw.proofs.Strips.{strip_shift}
 use Rattle.ca_draw.proofs.Lives.{blank_there, none_there}

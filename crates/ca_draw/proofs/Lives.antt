@@ -2,8 +2,7 @@
 use Rattle.std.proofs.Common.{◌≡◌, ◌≢◌, ℕ, zero, suc, ◌⊎◌, inl, inr, true, false, ◌||◌, nat_lt, ℤ, pos, ◌+ℤ◌, sym, ap, ◌∙◌, arith}
 use Rattle.std.proofs.lemmas.Bool.{cases_Bool, or_cases, or_parts}
 use Rattle.std.proofs.lemmas.Bool.Decides.{nat_tests}
-use Rattle.ca_draw.specs.Windows.{strip_of, IsInSquare}
-use Rattle.ca_draw.specs.Marks.{IsBlankSquare, IsLiveSquare, has_live}
+use Rattle.ca_draw.specs.Prelude.{strip_of, IsInSquare, IsBlankSquare, IsLiveSquare, has_live}
 use Rattle.ca_draw.proofs.Strips.{strip-zero, strip-suc, half_cases, half_even, half_odd}
 
 live_cell : (s : ℕ) → nat_lt 0 s ≡ true → s ≢ 0

@@ -2,7 +2,7 @@
 use Rattle.std.proofs.Common.{◌≡◌, ℕ, zero, suc, ◌==◌, ◌&&◌, ◌↔◌, Bool, true, false, nat_lt, inl, inr, ℤ, refl, sym, ap, subst, ◌∙◌, arith}
 use Rattle.std.proofs.lemmas.Bool.{cases_Bool, eqb-true, and_parts}
 use Rattle.ca_draw.specs.declared.mark.Mark.TheVariants.{Dead, Live}
-use Rattle.ca_draw.specs.Marks.{IsBlankSquare, IsLiveSquare, has_live, live_mark, state_mark, mark_of}
+use Rattle.ca_draw.specs.Prelude.{IsBlankSquare, IsLiveSquare, has_live, live_mark, state_mark, mark_of}
 use Rattle.ca_draw.proofs.Strips.{strip-zero}
 use Rattle.ca_draw.proofs.Lives.{live_there, blank_there, none_there}
 

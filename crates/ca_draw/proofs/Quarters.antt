@@ -3,8 +3,7 @@ use Rattle.std.proofs.Common.{◌≡◌, ℕ, suc, ◌+◌, ◌-◌, ◌*◌, �
 use Rattle.std.proofs.lemmas.Nat.{pow-add}
 use Rattle.std.proofs.Math.Nat.{two-pow-succ}
 use Rattle.ca_quad.specs.declared.node.Node.{Node}
-use Rattle.ca_quad.specs.Squares.{IsOf, joined_cells, cell_of}
-use Rattle.ca_quad.specs.Trees.{IsEmpty, AreQuarters}
+use Rattle.ca_quad.specs.Prelude.{IsOf, joined_cells, cell_of, IsEmpty, AreQuarters}
 use Rattle.ca_quad.proofs.Cuts.{quarters_at}
 use Rattle.ca_draw.specs.declared.squares.PartPlace.{PartPlace}
 use Rattle.ca_draw.specs.inner.Blanks.{IsBlankIn, LiesInPart}

@@ -1,7 +1,7 @@
 -- Rows, and the bytes in them, as they are put one after the other.
 use Rattle.std.proofs.Common.{◌≡◌, ℕ, suc, ◌+◌, ◌≤◌, List, ◌++◌, sym, ap, ◌∙◌, append_assoc, arith}
-use Rattle.ca_plane.specs.Puts.{Puts}
-use Rattle.ca_draw.specs.Drawings.{texts_below}
+use Rattle.ca_plane.specs.Prelude.{Puts}
+use Rattle.ca_draw.specs.Prelude.{texts_below}
 
 -- one more text
 pub texts_more : (start now new more : List ℕ) (i : ℕ) (text : ℕ → List ℕ) → Puts start now (texts_below i text) → Puts now new more → more ≡ text i → Puts start new (texts_below (i + 1) text)

@@ -1,9 +1,7 @@
 -- Pictures of cells that are the same everywhere.
 use Rattle.std.proofs.Common.{◌≡◌, ℕ, zero, suc, ◌*◌, ℤ, pos, ◌+ℤ◌, List, ◌∷◌, [], ◌++◌, nat_lt, refl, ap}
-use Rattle.ca_draw.specs.declared.drawing.Style.{Style}
-use Rattle.ca_draw.specs.declared.window.Window.{Window}
-use Rattle.ca_draw.specs.Marks.{has_live, mark_of}
-use Rattle.ca_draw.specs.Drawings.{texts_below, repeated, byte_of_mark, row_end, drawing_row, drawing, drawing_front}
+use Rattle.ca_draw.specs.declared.{drawing.Style.Style, window.Window.Window}
+use Rattle.ca_draw.specs.Prelude.{has_live, mark_of, texts_below, repeated, byte_of_mark, row_end, drawing_row, drawing, drawing_front}
 
 -- a square has a live cell among the one where it has one among the other
 same_live : (one other : ℤ → ℤ → ℕ) → ((x y : ℤ) → one x y ≡ other x y) → (scale : ℕ) (column row : ℤ) → has_live one scale column row ≡ has_live other scale column row

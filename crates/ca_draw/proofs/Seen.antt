@@ -4,7 +4,7 @@ use Rattle.std.proofs.lemmas.Bool.Decides.{nat_tests}
 use Rattle.std.proofs.lemmas.Nat.{le-div, div_below}
 use Rattle.std.proofs.Math.Nat.{div-mul-le_self, suc-mul}
 use Rattle.ca_plane.proofs.Numbers.{below_or_not}
-use Rattle.ca_draw.specs.Marks.{state_mark, state_grey, mark_letter, mark_grey}
+use Rattle.ca_draw.specs.Prelude.{state_mark, state_grey, mark_letter, mark_grey}
 
 -- the letters of three kinds of states
 low_letter : (a : ℕ) → suc a < 25 → mark_letter (state_mark (suc a)) ≡ 64 + suc a

@@ -4,7 +4,7 @@ use Rattle.std.proofs.lemmas.Int.{ints}
 use Rattle.std.proofs.lemmas.Nat.{pow_pos, shr-shr, div-mul-add, div-add-mod', mod_below, div_below, le-div}
 use Rattle.std.proofs.Math.Nat.{div-mul-le_self, div-one, add-mul-div_right, add-mul}
 use Rattle.ca_plane.proofs.Numbers.{below_or_not}
-use Rattle.ca_draw.specs.Windows.{strip_of}
+use Rattle.ca_draw.specs.Prelude.{strip_of}
 
 -- at scale 0 each number is one
 pub strip-zero : (n : ℤ) → strip_of 0 n ≡ n

@@ -1,10 +1,7 @@
 -- Pictures of windows, as text and as an image.
 use Rattle.std.specs.Prelude.{ℕ, zero, suc, ◌*◌, ℤ, pos, ◌+ℤ◌, List, [], ◌∷◌, ◌++◌, codes, decimal}
-use Rattle.ca_draw.specs.declared.drawing.ImageFormat.{ImageFormat}
+use Rattle.ca_draw.specs.declared.{drawing.ImageFormat.ImageFormat, drawing.Style.Style, mark.Mark.Mark, window.Window.Window}
 use Rattle.ca_draw.specs.declared.drawing.ImageFormat.TheVariants.{Text, Pgm}
-use Rattle.ca_draw.specs.declared.drawing.Style.{Style}
-use Rattle.ca_draw.specs.declared.mark.Mark.{Mark}
-use Rattle.ca_draw.specs.declared.window.Window.{Window}
 use Rattle.ca_draw.specs.Marks.{mark_of, mark_letter, mark_grey}
 
 -- the texts of the numbers below n, one after the other

@@ -1,3 +1,4 @@
+pub mod Prelude
 pub mod Windows
 pub mod Marks
 pub mod Drawings

@@ -1,15 +1,10 @@
 -- Which window of a plane is drawn.
 use Rattle.std.specs.Prelude.{◌≡◌, ◌⊎◌, ℕ, ◌≤◌, ◌/◌, ◌==◌, if◌then◌else◌, ℤ, pos, ◌+ℤ◌, ◌-ℤ◌, Option, None, Some, unwrap_or}
-use Rattle.ca_quad.specs.declared.tree.Spot.{Spot}
-use Rattle.ca_quad.specs.declared.tree.WideBounds.{WideBounds}
-use Rattle.ca_quad.specs.Boxes.{IsDead, IsLeastWideBox}
-use Rattle.ca_draw.specs.declared.drawing.ImageFormat.{ImageFormat}
+use Rattle.ca_quad.specs.declared.tree.{Spot.Spot, WideBounds.WideBounds}
+use Rattle.ca_quad.specs.Prelude.{IsDead, IsLeastWideBox}
+use Rattle.ca_draw.specs.declared.{drawing.ImageFormat.ImageFormat, window.Window.Window, view.Size.Size, view.View.View, view.WindowFault.WindowFault}
 use Rattle.ca_draw.specs.declared.drawing.ImageFormat.TheVariants.{Text, Pgm}
-use Rattle.ca_draw.specs.declared.window.Window.{Window}
 use Rattle.ca_draw.specs.Windows.{IsInSquare, IsWindow, ShowsBox, window_at}
-use Rattle.ca_draw.specs.declared.view.Size.{Size}
-use Rattle.ca_draw.specs.declared.view.View.{View}
-use Rattle.ca_draw.specs.declared.view.WindowFault.{WindowFault}
 use Rattle.ca_draw.specs.declared.view.WindowFault.TheVariants.{Range, TooLarge}
 
 -- the box that is drawn of some cells: the least one round those that are live, or where none is, that of the cell at (0, 0)

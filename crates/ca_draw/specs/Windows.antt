@@ -1,9 +1,8 @@
 -- Windows of the unbounded plane. At a scale of k, squares of 2^k by 2^k cells lie in columns and rows.
 use Rattle.std.specs.Prelude.{◌≡◌, ℕ, ◌^◌, ◌≤◌, ℤ, pos, neg_ℤ, ◌+ℤ◌, ◌<ℤ◌, ◌≤ℤ◌}
 use Rattle.std.specs.Int.{int_shr}
-use Rattle.ca_quad.specs.declared.tree.Spot.{Spot}
-use Rattle.ca_quad.specs.declared.tree.WideBounds.{WideBounds}
-use Rattle.ca_quad.specs.Boxes.{IsInWideBox}
+use Rattle.ca_quad.specs.declared.tree.{Spot.Spot, WideBounds.WideBounds}
+use Rattle.ca_quad.specs.Prelude.{IsInWideBox}
 use Rattle.ca_draw.specs.declared.window.Window.{Window}
 
 -- the column in which an x lies, or the row in which a y lies: it divided by 2^scale, and rounded down

@@ -1,12 +1,11 @@
 //! Pictures of windows.
 
 ghost use Rattle.std.specs.Prelude.{◌≡◌, ◌<◌, ◌*◌, [], ◌∷◌, pos, ◌+ℤ◌, IfOk, OnOk};
-ghost use Rattle.ca_plane.specs.Puts.{Puts};
-ghost use Rattle.ca_quad.specs.Trees.{IsTree, cell};
+ghost use Rattle.ca_plane.specs.Prelude.{Puts};
+ghost use Rattle.ca_quad.specs.Prelude.{IsTree, cell};
 ghost use Rattle.ca_draw.specs.Windows.{IsWindow};
 ghost use Rattle.ca_draw.specs.Marks.{mark_of};
-ghost use Rattle.ca_draw.specs.Drawings.{byte_of_mark, drawing_front, row_end, repeated};
-ghost use Rattle.ca_draw.specs.Drawings.{drawing_row, drawing};
+ghost use Rattle.ca_draw.specs.Drawings.{byte_of_mark, drawing_front, row_end, repeated, drawing_row, drawing};
 
 use crate::mark::Mark;
 use crate::squares::mark_at;

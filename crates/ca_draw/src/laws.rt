@@ -2,15 +2,11 @@
 
 ghost use Rattle.std.specs.Prelude.{◌≡◌, ◌≢◌, ◌<◌, ◌≤◌, ℕ, ℤ, ◌↔◌};
 ghost use Rattle.ca_quad.specs.declared.tree.WideBounds.{WideBounds as Box};
-ghost use Rattle.ca_quad.specs.Trees.{IsTree, cell};
-ghost use Rattle.ca_quad.specs.Boxes.{IsLeastWideBox};
-ghost use Rattle.ca_draw.specs.declared.mark.Mark.{Mark};
+ghost use Rattle.ca_quad.specs.Prelude.{IsTree, cell, IsLeastWideBox};
+ghost use Rattle.ca_draw.specs.declared.{mark.Mark.Mark, drawing.Style.Style, window.Window.Window};
 ghost use Rattle.ca_draw.specs.declared.mark.Mark.TheVariants.{Dead, Live, State};
-ghost use Rattle.ca_draw.specs.Marks.{mark_of, state_mark, mark_letter, mark_grey};
-ghost use Rattle.ca_draw.specs.Marks.{IsBlankSquare, IsLiveSquare};
+ghost use Rattle.ca_draw.specs.Marks.{mark_of, state_mark, mark_letter, mark_grey, IsBlankSquare, IsLiveSquare};
 ghost use Rattle.ca_draw.specs.Windows.{IsBox, IsTreeBox};
-ghost use Rattle.ca_draw.specs.declared.drawing.Style.{Style};
-ghost use Rattle.ca_draw.specs.declared.window.Window.{Window};
 ghost use Rattle.ca_draw.specs.Drawings.{drawing};
 
 use ca_quad::{Store, Tree};

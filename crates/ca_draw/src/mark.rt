@@ -1,8 +1,7 @@
 //! What is drawn of one square, and its letters and greys.
 
 ghost use Rattle.std.specs.Prelude.{◌≡◌};
-ghost use Rattle.ca_draw.specs.Marks.{state_mark, live_mark, state_letter, state_grey};
-ghost use Rattle.ca_draw.specs.Marks.{mark_letter, mark_grey};
+ghost use Rattle.ca_draw.specs.Marks.{state_mark, live_mark, state_letter, state_grey, mark_letter, mark_grey};
 
 /// What is drawn of a square of cells.
 #[derive(Clone, Copy, Drop)]

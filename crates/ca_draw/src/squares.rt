@@ -1,8 +1,7 @@
 //! Whether a square of a tree has a live cell.
 
 ghost use Rattle.std.specs.Prelude.{◌≡◌, ◌-◌, ◌<◌, ◌≤◌, ◌^◌, ◌↔◌, min, IsTrue};
-ghost use Rattle.ca_quad.specs.Squares.{IsOf, cell_of};
-ghost use Rattle.ca_quad.specs.Trees.{IsTree, cell};
+ghost use Rattle.ca_quad.specs.Prelude.{IsOf, cell_of, IsTree, cell};
 ghost use Rattle.ca_draw.specs.Marks.{has_live, mark_of};
 ghost use Rattle.ca_draw.specs.inner.Blanks.{IsBlankIn, LiesInPart};
 

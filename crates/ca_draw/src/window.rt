@@ -1,9 +1,8 @@
 //! Windows of the plane.
 
-ghost use Rattle.std.specs.Prelude.{◌≡◌, ℕ, ℤ, pos, neg_ℤ, ◌+ℤ◌, ◌-ℤ◌, ◌≤ℤ◌, ◌<ℤ◌, ◌^◌};
-ghost use Rattle.std.specs.Prelude.{◌≤◌, ◌<◌, ◌↔◌, IsTrue, IfSome, IfNone, IsSome};
-ghost use Rattle.ca_draw.specs.Windows.{strip_of, IsInSquare, IsWindow, IsBox};
-ghost use Rattle.ca_draw.specs.Windows.{IsTreeBox, ShowsBox, window_at};
+ghost use Rattle.std.specs.Prelude.{◌≡◌, ℕ, ℤ, pos, neg_ℤ, ◌+ℤ◌, ◌-ℤ◌, ◌≤ℤ◌, ◌<ℤ◌, ◌^◌, ◌≤◌, ◌<◌, ◌↔◌, IsTrue, IfSome, IfNone};
+ghost use Rattle.std.specs.Prelude.{IsSome};
+ghost use Rattle.ca_draw.specs.Windows.{strip_of, IsInSquare, IsWindow, IsBox, IsTreeBox, ShowsBox, window_at};
 ghost use Rattle.ca_draw.specs.inner.Strips.{AreStrips, AreStripsBetween};
 
 use ca_quad::{Spot, WideBounds};

@@ -1,8 +1,8 @@
 -- How what calls take of a leaper's work adds up.
 use Rattle.std.proofs.Common.{◌≡◌, ℕ, ◌+◌, ◌<◌, ◌≤◌, ◌^◌, ap, arith}
-use Rattle.ca_run.specs.Leaping.{LeaperView, Costs}
-use Rattle.ca_work.specs.Spending.{Spent}
-use Rattle.ca_evolution.specs.Spending.{Takes}
+use Rattle.ca_run.specs.Prelude.{LeaperView, Costs}
+use Rattle.ca_work.specs.Prelude.{Spent}
+use Rattle.ca_evolution.specs.Prelude.{Takes}
 
 -- and then nothing
 pub takes_before : (old : ℕ) (mid new : Spent) (runs level n : ℕ) → new ≡ mid → Takes old mid.used runs level n → Takes old new.used runs level n

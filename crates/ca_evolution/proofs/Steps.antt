@@ -2,18 +2,15 @@
 use Rattle.std.proofs.Common.{◌≡◌, ℕ, zero, suc, ◌+◌, ◌*◌, ◌^◌, ◌≤◌, ◌<◌, List, refl, sym, ◌∙◌, arith}
 use Rattle.std.proofs.Math.Nat.{mul-le-mul_right}
 use Rattle.std.specs.Prelude.{ℤ, replicate}
-use Rattle.ca_plane.specs.Generations.{cells_after}
-use Rattle.ca_plane.specs.Limits.{longest_period}
+use Rattle.ca_plane.specs.Prelude.{cells_after, longest_period}
 use Rattle.ca_plane.proofs.After.{after_same, after_again}
-use Rattle.ca_quad.specs.declared.node.Node.{Node}
-use Rattle.ca_quad.specs.declared.tree.Tree.{Tree}
-use Rattle.ca_quad.specs.Trees.{cell, IsTrimmed, HoldsAll}
+use Rattle.ca_quad.specs.declared.{node.Node.Node, tree.Tree.Tree}
+use Rattle.ca_quad.specs.Prelude.{cell, IsTrimmed, HoldsAll}
 use Rattle.ca_work.proofs.Powers.{power_more}
-use Rattle.ca_pattern.specs.LaterTrees.{IsWithinPlane, IsStart, IsLaterTree}
+use Rattle.ca_pattern.specs.Prelude.{IsWithinPlane, IsStart, IsLaterTree}
 use Rattle.ca_pattern.proofs.CellsNearMiddle.{trimmed_low}
 use Rattle.ca_pattern.proofs.Starts.{near_start, start_near}
-use Rattle.ca_evolution.specs.Spending.{Takes}
-use Rattle.ca_evolution.specs.Steps.{TakesSteps, TakesRun, step_work}
+use Rattle.ca_evolution.specs.Prelude.{Takes, TakesSteps, TakesRun, step_work}
 
 -- ---- one generation on
 

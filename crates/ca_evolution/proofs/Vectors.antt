@@ -2,7 +2,7 @@
 use Rattle.std.proofs.Common.{◌≡◌, sym, ap₂, ◌∙◌, arith}
 use Rattle.std.specs.Prelude.{ℤ, ◌+ℤ◌, ◌-ℤ◌}
 use Rattle.std.proofs.lemmas.Int.{ints}
-use Rattle.ca_plane.specs.Plane.{Picture, cell, IsSame, shifted, IsLive}
+use Rattle.ca_plane.specs.Prelude.{Picture, cell, IsSame, shifted, IsLive}
 use Rattle.ca_plane.proofs.Shifts.{cell-shifted}
 use Rattle.ca_steps.proofs.Vectors.{no_vector}
 

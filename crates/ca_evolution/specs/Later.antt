@@ -1,13 +1,10 @@
 -- A pattern some generations on, and why it isn't reached.
 use Rattle.std.specs.Prelude.{◌≡◌, ℕ, ◌+◌, ◌<◌, ◌≤◌, ℤ}
-use Rattle.ca_plane.specs.Generations.{cells_after}
-use Rattle.ca_plane.specs.Limits.{generation_limit}
-use Rattle.ca_rule.specs.Rule.{rule_value, next_of}
-use Rattle.ca_pattern.specs.declared.pattern.Pattern.{Pattern}
-use Rattle.ca_pattern.specs.declared.located_fault.LocatedFault.{LocatedFault}
+use Rattle.ca_plane.specs.Prelude.{cells_after, generation_limit}
+use Rattle.ca_rule.specs.Prelude.{rule_value, next_of}
+use Rattle.ca_pattern.specs.declared.{pattern.Pattern.Pattern, located_fault.LocatedFault.LocatedFault}
 use Rattle.ca_pattern.specs.declared.located_fault.LocatedFault.TheVariants.{GenTooLarge, Work, Memory}
-use Rattle.ca_pattern.specs.Evolved.{MayNeedRun}
-use Rattle.ca_pattern.specs.PatternCells.{IsPatternOf}
+use Rattle.ca_pattern.specs.Prelude.{MayNeedRun, IsPatternOf}
 
 -- the pattern is that of these cells n generations on, under the same rule, and n is added to its generation
 pub record IsEvolvedFrom (first : Pattern) (cells : ℤ → ℤ → ℕ) (n : ℕ) (later : Pattern) : Type 0 where

@@ -1,3 +1,4 @@
+pub mod Prelude
 pub mod Later
 pub mod Spending
 pub mod Steps

@@ -1,6 +1,6 @@
 -- What runs take of a leaper's work (our own).
 use Rattle.std.specs.Prelude.{◌≡◌, ℕ, ◌+◌, ◌*◌, ◌<◌, ◌≤◌, ◌^◌}
-use Rattle.ca_run.specs.Leaping.{LeaperView}
+use Rattle.ca_run.specs.Prelude.{LeaperView}
 use Rattle.ca_pattern.specs.declared.limits.Limits.{Limits}
 
 -- a leaper may remember and work out as much as the limits say

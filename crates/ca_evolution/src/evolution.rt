@@ -1,19 +1,15 @@
 //! Patterns that are taken some generations on.
 
 ghost use Rattle.std.specs.Prelude.{◌≡◌, ◌≤◌, ◌<◌, ◌+◌, ℕ, ℤ, Ok, IfOk, IfErr, MatchOption};
-ghost use Rattle.ca_plane.specs.Limits.{generation_limit, most_generations};
-ghost use Rattle.ca_quad.specs.Trees.{cell};
-ghost use Rattle.ca_macro.specs.Pattern.{AreInRange};
-ghost use Rattle.ca_run.specs.Leaping.{LeaperGrows};
-ghost use Rattle.ca_work.specs.Spending.{EndsAtLimit};
+ghost use Rattle.ca_plane.specs.Prelude.{generation_limit, most_generations};
+ghost use Rattle.ca_quad.specs.Prelude.{cell};
+ghost use Rattle.ca_macro.specs.Prelude.{AreInRange};
+ghost use Rattle.ca_run.specs.Prelude.{LeaperGrows};
+ghost use Rattle.ca_work.specs.Prelude.{EndsAtLimit};
 ghost use Rattle.ca_work.specs.declared.fault.LeapFault.TheVariants.{Work};
-ghost use Rattle.ca_pattern.specs.Evolved.{IsPatternAfter, IsReachFault};
-ghost use Rattle.ca_pattern.specs.Limited.{AreGoodLimits};
-ghost use Rattle.ca_pattern.specs.PatternCells.{IsPatternOf};
+ghost use Rattle.ca_pattern.specs.Prelude.{IsPatternAfter, IsReachFault, AreGoodLimits, IsPatternOf, IsLaterTree, IsRun};
 ghost use Rattle.ca_evolution.specs.Later.{IsEvolvedFrom, IsUnreachedFor};
 ghost use Rattle.ca_evolution.specs.Spending.{HasLimits, Takes};
-ghost use Rattle.ca_pattern.specs.LaterTrees.{IsLaterTree};
-ghost use Rattle.ca_pattern.specs.PatternTrees.{IsRun};
 
 use crate::leaper::leaper_of;
 use crate::observer::{Observer, RunSubject};

@@ -1,11 +1,11 @@
 //! Trees some generations on.
 
 ghost use Rattle.std.specs.Prelude.{◌≡◌, ◌+◌, ◌≤◌, IfOk};
-ghost use Rattle.ca_quad.specs.Trees.{cell};
-ghost use Rattle.ca_run.specs.Leaping.{LeaperGrows};
-ghost use Rattle.ca_work.specs.Spending.{EndsAtLimit};
+ghost use Rattle.ca_quad.specs.Prelude.{cell};
+ghost use Rattle.ca_run.specs.Prelude.{LeaperGrows};
+ghost use Rattle.ca_work.specs.Prelude.{EndsAtLimit};
 ghost use Rattle.ca_evolution.specs.Steps.{CanGoOn, TakesRun, step_work};
-ghost use Rattle.ca_pattern.specs.LaterTrees.{IsLaterTree};
+ghost use Rattle.ca_pattern.specs.Prelude.{IsLaterTree};
 
 use ca_plane::{Automaton, MoveFault};
 use ca_quad::Tree;

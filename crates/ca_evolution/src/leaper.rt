@@ -1,7 +1,7 @@
 //! Leapers within the limits of a caller.
 
 ghost use Rattle.std.specs.Prelude.{◌≡◌, IfOk};
-ghost use Rattle.ca_pattern.specs.Limited.{AreGoodLimits};
+ghost use Rattle.ca_pattern.specs.Prelude.{AreGoodLimits};
 ghost use Rattle.ca_evolution.specs.Spending.{HasLimits};
 
 use ca_pattern::Limits;

@@ -1,16 +1,12 @@
 //! Trees of patterns, taken some generations on, moved and compared.
 
 ghost use Rattle.std.specs.Prelude.{◌≡◌, ◌-ℤ◌, IfOk, IsOk, IsTrue, IsFalse, MatchOption};
-ghost use Rattle.ca_quad.specs.Boxes.{IsDead};
-ghost use Rattle.ca_quad.specs.Expanded.{HasCellOutsidePlane};
-ghost use Rattle.ca_quad.specs.Shifted.{shifted_cells};
-ghost use Rattle.ca_quad.specs.Trees.{cell};
-ghost use Rattle.ca_run.specs.Leaping.{LeaperGrows};
-ghost use Rattle.ca_work.specs.Spending.{EndsAtLimit};
+ghost use Rattle.ca_quad.specs.Prelude.{IsDead, HasCellOutsidePlane, shifted_cells, cell};
+ghost use Rattle.ca_run.specs.Prelude.{LeaperGrows};
+ghost use Rattle.ca_work.specs.Prelude.{EndsAtLimit};
 ghost use Rattle.ca_evolution.specs.Spending.{Takes};
-ghost use Rattle.ca_pattern.specs.PatternTrees.{IsBroad, IsWide};
-ghost use Rattle.ca_pattern.specs.PatternTrees.{IsRun, IsNearTree, HasLive, IsEndTree, IsMoved, IsMove};
-ghost use Rattle.ca_pattern.specs.PatternTrees.{IsNoMove, IsOnlyMove};
+ghost use Rattle.ca_pattern.specs.Prelude.{IsBroad, IsWide, IsRun, IsNearTree, HasLive, IsEndTree, IsMoved, IsMove, IsNoMove};
+ghost use Rattle.ca_pattern.specs.Prelude.{IsOnlyMove};
 
 use crate::observer::Observer;
 use ca_plane::{Automaton, Memory, MoveFault};

@@ -1,14 +1,11 @@
 -- Tables of rule files, and those that are put after others.
 use Rattle.std.specs.Prelude.{◌≡◌, ◌≢◌, ℕ, ◌⊎◌, List, [], ◌∷◌, ◌++◌, Vec}
 use Rattle.std.specs.declared.alloc.Global.{Global}
-use Rattle.ca_rule.specs.Rule.{IsRuleFault}
-use Rattle.ca_rule.specs.TableNext.{TableRule}
+use Rattle.ca_rule.specs.Prelude.{IsRuleFault, TableRule, IsTableTextFault}
 use Rattle.ca_rule.specs.declared.fault.RuleFault.TheVariants as rule_fault
 use Rattle.ca_host.specs.declared.rules.NamedTable.{NamedTable}
 use Rattle.ca_host.specs.declared.rules.NamedTable.TheVariants.{Good, OtherName, Faulty}
-use Rattle.ca_pattern.specs.Means.{HoldsRuleText}
-use Rattle.ca_pattern.specs.NamedTables.{IsQuietTable, IsTableFault}
-use Rattle.ca_rule.specs.TableFaults.{IsTableTextFault}
+use Rattle.ca_pattern.specs.Prelude.{HoldsRuleText, IsQuietTable, IsTableFault}
 use Rattle.ca_rule.specs.declared.table.fault.TableFault.TheVariants as table_fault
 use Rattle.ca_report.specs.declared.fault.ToolFault.{ToolFault}
 use Rattle.ca_report.specs.declared.fault.ToolFault.TheVariants.{BadTable, Memory}

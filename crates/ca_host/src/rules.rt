@@ -1,13 +1,12 @@
 //! The rule files of a run, and those that are looked for in a folder by the name of a rule.
 
 ghost use Rattle.std.specs.Prelude.{◌≡◌, ◌⊎◌, [], ◌∷◌, ◌++◌, IfOk, IfErr, IfSome, OnOk, OnErr, IsTrue, ◌↔◌, vec_len};
-ghost use Rattle.ca_rule.specs.Rule.{IsRuleFault};
-ghost use Rattle.ca_rule.specs.TableFaults.{IsTableTextFault};
+ghost use Rattle.ca_rule.specs.Prelude.{IsRuleFault, IsTableTextFault};
 ghost use Rattle.ca_rule.specs.declared.fault.RuleFault.TheVariants as rule_fault;
 ghost use Rattle.ca_rule.specs.declared.table.fault.TableFault.TheVariants as table_fault;
 ghost use Rattle.ca_host.specs.RuleFiles.{IsNamedTable, AddsTableOf, AddsPath, AddsTableNamed, AddsTableFor};
 ghost use Rattle.ca_host.specs.RuleFiles.{IsBadTable, IsUnknownRuleOf};
-ghost use Rattle.ca_pattern.specs.NamedTables.{IsTableFault};
+ghost use Rattle.ca_pattern.specs.Prelude.{IsTableFault};
 
 use crate::files::{FaultyFile, LoadedFile, load_rule_file};
 use ca_pattern::rule_text_of;

@@ -1,32 +1,22 @@
 -- What is found of the plane of a file's pattern, and what finding it may need.
 use Rattle.std.proofs.Common.{◌≡◌, ℕ, ◌+◌, List, Option, None, Some, inl, inr, refl, sym, ◌∙◌, arith}
 use Rattle.std.specs.Prelude.{ℤ, ◌-ℤ◌}
-use Rattle.ca_plane.specs.Plane.{Picture, IsLive, shifted}
+use Rattle.ca_plane.specs.Prelude.{Picture, IsLive, shifted, after, cells_after}
 use Rattle.ca_plane.specs.Plane as plane
-use Rattle.ca_plane.specs.Generations.{after, cells_after}
 use Rattle.ca_plane.proofs.Shifts.{cell-shifted}
 use Rattle.ca_quad.specs.Trees as trees
 use Rattle.ca_plane.proofs.Numbers.{below_or_not}
-use Rattle.ca_rule.specs.TableNext.{TableRule}
+use Rattle.ca_rule.specs.Prelude.{TableRule}
 use Rattle.ca_plane.proofs.After.{after_same}
-use Rattle.ca_text.specs.declared.asks.Asks.{Asks}
-use Rattle.ca_text.specs.declared.asks.Expected.{Expected}
+use Rattle.ca_text.specs.declared.{asks.Asks.Asks, asks.Expected.Expected, asks.Forbidden.Forbidden, kind.Kind.Kind}
 use Rattle.ca_text.specs.declared.asks.Expected.TheVariants.{Own, Other, NoCells}
-use Rattle.ca_text.specs.declared.asks.Forbidden.{Forbidden}
 use Rattle.ca_text.specs.declared.asks.Forbidden.TheVariants.{Nothing, InPlace, Anywhere, EmptyPlane}
-use Rattle.ca_text.specs.declared.kind.Kind.{Kind}
-use Rattle.ca_answers.specs.declared.identity.Identity.{Identity}
+use Rattle.ca_answers.specs.declared.{identity.Identity.Identity, scope.Scope.Scope, scope.Look.Look}
 use Rattle.ca_answers.specs.declared.identity.Identity.TheVariants.{Empty, Claim, Unknown}
-use Rattle.ca_answers.specs.declared.scope.Scope.{Scope}
-use Rattle.ca_answers.specs.declared.scope.Look.{Look}
-use Rattle.ca_pattern.specs.declared.pattern.Pattern.{Pattern}
-use Rattle.ca_pattern.specs.declared.pattern.StoredTree.{StoredTree}
-use Rattle.ca_answers.specs.Identified.{IsTrueWithin, IsIdentity, IsLookAt, MayNeedWorkAfter}
-use Rattle.ca_text.specs.Kinds.{asks_of}
-use Rattle.ca_text.specs.Truth.{expected_cells, IsTrueClaim, ShowsNothingForbidden}
-use Rattle.ca_pattern.specs.Evolved.{IsPatternAfter}
-use Rattle.ca_pattern.specs.Means.{MayWantMemory}
-use Rattle.ca_pattern.specs.PatternCells.{IsTreeOf}
+use Rattle.ca_pattern.specs.declared.pattern.{Pattern.Pattern, StoredTree.StoredTree}
+use Rattle.ca_answers.specs.Prelude.{IsTrueWithin, IsIdentity, IsLookAt, MayNeedWorkAfter}
+use Rattle.ca_text.specs.Prelude.{asks_of, expected_cells, IsTrueClaim, ShowsNothingForbidden}
+use Rattle.ca_pattern.specs.Prelude.{IsPatternAfter, MayWantMemory, IsTreeOf}
 use Rattle.ca_identify.specs.TreeLooks.{TakesRunAndSearch}
 use Rattle.ca_pattern.proofs.CellsNearMiddle.{trimmed_low}
 use Rattle.ca_pattern.proofs.PatternsRead.{reads_may_want}

@@ -3,33 +3,24 @@ use Rattle.std.proofs.Common.{◌≡◌, ◌≢◌, ℕ, zero, suc, ◌+◌, ◌
 use Rattle.std.specs.Prelude.{ℤ, pos, ◌-ℤ◌, replicate, IfOk}
 use Rattle.std.proofs.lemmas.Int.{ints}
 use Rattle.std.proofs.lemmas.Option.{none-some, same_Some}
-use Rattle.ca_plane.specs.Plane.{Picture, shifted, IsLive}
+use Rattle.ca_plane.specs.Prelude.{Picture, shifted, IsLive, after, cells_after, IsAfter, IsLiveAfter, longest_period}
 use Rattle.ca_plane.specs.Plane as plane
-use Rattle.ca_plane.specs.Generations.{after, cells_after, IsAfter, IsLiveAfter}
 use Rattle.ca_plane.proofs.Shifts.{cell-shifted}
-use Rattle.ca_quad.specs.declared.node.Node.{Node}
-use Rattle.ca_quad.specs.declared.tree.Tree.{Tree}
-use Rattle.ca_quad.specs.Boxes.{IsDead}
+use Rattle.ca_quad.specs.declared.{node.Node.Node, tree.Tree.Tree}
+use Rattle.ca_quad.specs.Prelude.{IsDead}
 use Rattle.ca_quad.specs.Trees as trees
 use Rattle.ca_work.specs.declared.fault.LeapFault.{LeapFault}
 use Rattle.ca_plane.proofs.After.{after_same}
 use Rattle.ca_text.specs.declared.kind.Kind.TheVariants as kind
-use Rattle.ca_identify.specs.declared.identification.ending.Ending.{Ending}
+use Rattle.ca_identify.specs.declared.identification.{ending.Ending.Ending, ending.Recurrence.Recurrence, stage.First.First, stage.Stage.Stage}
 use Rattle.ca_identify.specs.declared.identification.ending.Ending.TheVariants.{Death}
-use Rattle.ca_identify.specs.declared.identification.ending.Recurrence.{Recurrence}
-use Rattle.ca_identify.specs.declared.identification.stage.First.{First}
-use Rattle.ca_identify.specs.declared.identification.stage.Stage.{Stage}
 use Rattle.ca_identify.specs.declared.identification.stage.Stage.TheVariants.{Empty, Back, Other}
-use Rattle.ca_answers.specs.declared.identity.Growth.{Growth}
-use Rattle.ca_answers.specs.declared.identity.Identity.{Identity}
+use Rattle.ca_answers.specs.declared.{identity.Growth.Growth, identity.Identity.Identity, scope.Scope.Scope}
 use Rattle.ca_answers.specs.declared.identity.Identity.TheVariants.{Unknown}
-use Rattle.ca_answers.specs.declared.scope.Scope.{Scope}
-use Rattle.ca_answers.specs.Identified.{IsIdentity, IsTrueWithin, HasNoTrueClaim, IsLook, MayNeedWork}
-use Rattle.ca_plane.specs.Limits.{longest_period}
-use Rattle.ca_text.specs.Truth.{IsChanged, IsNowhere}
+use Rattle.ca_answers.specs.Prelude.{IsIdentity, IsTrueWithin, HasNoTrueClaim, IsLook, MayNeedWork}
+use Rattle.ca_text.specs.Prelude.{IsChanged, IsNowhere}
 use Rattle.ca_identify.specs.inner.Stages.{IsFirst, IsStage, IsReturn, IsGrowthOf, AreMoved, AreMovedNowhere, AreOtherUpTo, IsEnding, ending_of, generations_of, HasNoReturn, TakesSearch}
-use Rattle.ca_pattern.specs.LaterTrees.{IsLaterTree}
-use Rattle.ca_pattern.specs.PatternTrees.{ShowsTree, HasLive}
+use Rattle.ca_pattern.specs.Prelude.{IsLaterTree, ShowsTree, HasLive}
 use Rattle.ca_pattern.proofs.Deaths.{live_at_all}
 use Rattle.ca_identify.proofs.LaterPlanes.{tree_picture}
 use Rattle.ca_pattern.proofs.LeaptTrees.{ok_as}

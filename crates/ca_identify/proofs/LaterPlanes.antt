@@ -1,10 +1,9 @@
 -- What is told of later planes.
 use Rattle.std.proofs.Common.{Result, Ok, Err, ◌≡◌, List}
 use Rattle.std.specs.Prelude.{OnErr, ℤ}
-use Rattle.ca_plane.specs.Plane.{Picture}
+use Rattle.ca_plane.specs.Prelude.{Picture}
 use Rattle.ca_plane.specs.Plane as plane
-use Rattle.ca_quad.specs.declared.node.Node.{Node}
-use Rattle.ca_quad.specs.declared.tree.Tree.{Tree}
+use Rattle.ca_quad.specs.declared.{node.Node.Node, tree.Tree.Tree}
 use Rattle.ca_quad.specs.Trees as trees
 use Rattle.ca_quad.proofs.LiveCells.{tree_population}
 use Rattle.ca_pattern.proofs.LaterPlanes.{picture_of}

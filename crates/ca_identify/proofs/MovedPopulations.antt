@@ -5,7 +5,7 @@ use Rattle.std.proofs.lemmas.Int.{ints}
 use Rattle.std.proofs.lemmas.List.{get_or-map, length-map}
 use Rattle.std.proofs.lemmas.List.Elements.{All-map, All-from_recursion, recursion_from_All}
 use Rattle.ca_plane.specs.declared.point.Point.{Point}
-use Rattle.ca_plane.specs.Population.{AreLivePlaces, HasPopulation}
+use Rattle.ca_plane.specs.Prelude.{AreLivePlaces, HasPopulation}
 use Rattle.ca_plane.proofs.Populations.{same_population}
 use Rattle.ca_identify.specs.inner.Stages.{AreMoved, AreMovedNowhere}
 

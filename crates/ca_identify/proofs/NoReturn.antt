@@ -4,23 +4,18 @@ use Rattle.std.specs.Prelude.{ℤ, pos, replicate, Option, None, Some, IsTrue, I
 use Rattle.std.specs.Option.{is_some}
 use Rattle.std.proofs.lemmas.Int.{ints}
 use Rattle.ca_plane.specs.declared.point.Bounds.{Bounds}
-use Rattle.ca_plane.specs.Plane.{Picture, cell, shifted}
-use Rattle.ca_plane.specs.Box.{IsLeastBox}
-use Rattle.ca_plane.specs.Generations.{after, IsAfter}
-use Rattle.ca_quad.specs.declared.node.Node.{Node}
-use Rattle.ca_quad.specs.declared.tree.Tree.{Tree}
-use Rattle.ca_quad.specs.declared.tree.WideBounds.{WideBounds}
-use Rattle.ca_quad.specs.Boxes.{IsDead, IsLeastWideBox}
+use Rattle.ca_plane.specs.Prelude.{Picture, cell, shifted, IsLeastBox, after, IsAfter}
+use Rattle.ca_quad.specs.declared.{node.Node.Node, tree.Tree.Tree, tree.WideBounds.WideBounds}
+use Rattle.ca_quad.specs.Prelude.{IsDead, IsLeastWideBox}
 use Rattle.ca_quad.specs.Trees as trees
-use Rattle.ca_steps.specs.Reach.{IsWiderByAtMost}
+use Rattle.ca_steps.specs.Prelude.{IsWiderByAtMost}
 use Rattle.ca_plane.proofs.After.{after_dead, after_same}
 use Rattle.ca_steps.proofs.Returning.{never_wide, settles_alike}
 use Rattle.ca_steps.proofs.Returns.{after_stands}
 use Rattle.ca_identify.specs.declared.identification.ending.Ending.{Ending}
 use Rattle.ca_identify.specs.declared.identification.ending.Ending.TheVariants.{Death, Return}
 use Rattle.ca_identify.specs.inner.Stages.{HasNoReturn, IsEnding, generations_of, EndsWithin, box_of}
-use Rattle.ca_pattern.specs.LaterTrees.{IsLaterTree}
-use Rattle.ca_pattern.specs.PatternTrees.{ShowsTree}
+use Rattle.ca_pattern.specs.Prelude.{IsLaterTree, ShowsTree}
 use Rattle.ca_identify.proofs.LaterPlanes.{tree_picture}
 
 module _ (next : List ℕ → ℕ) (quiet : next (replicate 9 0) ≡ 0) (cells : Picture) (seen limit : ℕ) (without : HasNoReturn next cells seen) where

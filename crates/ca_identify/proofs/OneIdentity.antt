@@ -5,27 +5,23 @@ use Rattle.std.proofs.Math.Nat.{suc-mul, mul_comm}
 use Rattle.std.proofs.Math.IntN.{*ℤ-zero}
 use Rattle.std.proofs.lemmas.Bool.{cases_order}
 use Rattle.std.proofs.lemmas.Int.{ints}
-use Rattle.ca_plane.specs.Plane.{Picture, cell, IsSame, shifted, IsLive}
-use Rattle.ca_plane.specs.Generations.{after, cells_after, IsAfter}
+use Rattle.ca_plane.specs.Prelude.{Picture, cell, IsSame, shifted, IsLive, after, cells_after, IsAfter}
 use Rattle.ca_plane.proofs.Populations.{same_population}
 use Rattle.ca_plane.proofs.Shifts.{cell-shifted}
-use Rattle.ca_rule.specs.TableNext.{TableRule}
-use Rattle.ca_rule.specs.Rule.{next_of}
+use Rattle.ca_rule.specs.Prelude.{TableRule, next_of}
 use Rattle.ca_plane.proofs.After.{after_same, after_seen}
 use Rattle.ca_steps.proofs.Returns.{after_stands, back_times, vector_times}
 use Rattle.ca_steps.proofs.Vectors.{no_vector, live-moved}
 use Rattle.ca_text.specs.declared.asks.Forbidden.TheVariants.{InPlace, Anywhere, EmptyPlane}
 use Rattle.ca_text.specs.declared.kind.Kind.{Kind}
 use Rattle.ca_text.specs.declared.kind.Kind.TheVariants.{Still, Oscillator, Spaceship, Becomes, BecomesShifted, Dies}
-use Rattle.ca_answers.specs.declared.identity.Growth.{Growth}
-use Rattle.ca_answers.specs.declared.identity.Identity.{Identity}
+use Rattle.ca_answers.specs.declared.identity.{Growth.Growth, Identity.Identity}
 use Rattle.ca_answers.specs.declared.identity.Identity.TheVariants.{Empty, Claim, Unknown}
 use Rattle.ca_pattern.specs.declared.located_fault.LocatedFault.{LocatedFault}
 use Rattle.ca_pattern.specs.declared.located_fault.LocatedFault.TheVariants.{Work, Memory}
-use Rattle.ca_pattern.specs.LocatedFaults.{IsOpeningFault, IsSameFault}
-use Rattle.ca_answers.specs.Identified.{AreOfNoOther, IsTrueWithin, IsGrowth, IsIdentity, IsIdentityAfter, IsIdentifiedAfter, IsUnidentifiedAfter}
-use Rattle.ca_text.specs.Kinds.{asks_of}
-use Rattle.ca_text.specs.Truth.{ShowsNothingForbidden}
+use Rattle.ca_pattern.specs.Prelude.{IsOpeningFault, IsSameFault}
+use Rattle.ca_answers.specs.Prelude.{AreOfNoOther, IsTrueWithin, IsGrowth, IsIdentity, IsIdentityAfter, IsIdentifiedAfter, IsUnidentifiedAfter}
+use Rattle.ca_text.specs.Prelude.{asks_of, ShowsNothingForbidden}
 use Rattle.ca_identify.proofs.IdentifiedFiles.{same_identity}
 use Rattle.ca_pattern.proofs.OneConversion.{one_box}
 use Rattle.ca_pattern.proofs.OneFault.{opened_or_fault, one_opening_fault}

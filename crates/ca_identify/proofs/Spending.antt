@@ -1,6 +1,6 @@
 -- How what calls take of a leaper's work adds up.
 use Rattle.std.proofs.Common.{ℕ, ◌≤◌, max, arith}
-use Rattle.ca_run.specs.Leaping.{LeaperView, LeaperGrows}
+use Rattle.ca_run.specs.Prelude.{LeaperView, LeaperGrows}
 
 -- ---- a share of the work
 

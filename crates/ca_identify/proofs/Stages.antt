@@ -4,28 +4,20 @@ use Rattle.std.proofs.Math.Nat.{mul-le-mul_left}
 use Rattle.std.specs.Prelude.{ℤ, pos, neg_ℤ, ◌+ℤ◌, ◌-ℤ◌, ◌≤ℤ◌, replicate}
 use Rattle.std.proofs.lemmas.Bool.{cases_eq}
 use Rattle.std.proofs.lemmas.Int.{ints}
-use Rattle.ca_plane.specs.Generations.{cells_after}
-use Rattle.ca_plane.specs.Sparse.{IsInPlane}
-use Rattle.ca_quad.specs.declared.node.Node.{Node}
-use Rattle.ca_quad.specs.declared.tree.Tree.{Tree}
-use Rattle.ca_quad.specs.declared.tree.WideBounds.{WideBounds}
-use Rattle.ca_quad.specs.Sound.{IsSoundStore, Grows}
-use Rattle.ca_quad.specs.Boxes.{IsLeastWideBox, IsInWideBox, AreSquareBoxes}
-use Rattle.ca_quad.specs.Trees.{cell}
+use Rattle.ca_plane.specs.Prelude.{cells_after, IsInPlane}
+use Rattle.ca_quad.specs.declared.{node.Node.Node, tree.Tree.Tree, tree.WideBounds.WideBounds}
+use Rattle.ca_quad.specs.Prelude.{IsSoundStore, Grows, IsLeastWideBox, IsInWideBox, AreSquareBoxes, cell}
 use Rattle.ca_plane.proofs.Numbers.{below_or_not}
 use Rattle.ca_quad.proofs.Measures.{boxes_stay}
 use Rattle.ca_quad.proofs.Trims.{trees_stay}
 use Rattle.ca_plane.proofs.After.{after_same, after_again}
 use Rattle.ca_work.proofs.Powers.{power_more, power_suc}
-use Rattle.ca_pattern.specs.Evolved.{run_work}
-use Rattle.ca_identify.specs.declared.identification.stage.First.{First}
-use Rattle.ca_identify.specs.declared.identification.stage.Stage.{Stage}
-use Rattle.ca_identify.specs.declared.identification.walk.Walk.{Walk}
+use Rattle.ca_pattern.specs.Prelude.{run_work, IsWithinPlane, IsStart, IsLaterTree}
+use Rattle.ca_identify.specs.declared.identification.{stage.First.First, stage.Stage.Stage, walk.Walk.Walk}
 use Rattle.ca_identify.specs.declared.identification.stage.Stage.TheVariants.{Empty, Back, Other}
-use Rattle.ca_pattern.specs.LaterTrees.{IsWithinPlane, IsStart, IsLaterTree}
 use Rattle.ca_identify.specs.inner.Stages.{IsFirst, AreMoved, AreMovedNowhere, IsStage, AreOtherUpTo, IsWalk, IsHalted, TakesSearch, TakesSearchFrom, TakesEarly, early_work, leap_work}
 use Rattle.ca_identify.specs.TreeLooks.{TakesRunAndSearch}
-use Rattle.ca_evolution.specs.Steps.{CanGoOn, TakesSteps, TakesRun}
+use Rattle.ca_evolution.specs.Prelude.{CanGoOn, TakesSteps, TakesRun}
 use Rattle.ca_evolution.proofs.Steps.{first_tree, no_step, fewer_steps}
 use Rattle.ca_pattern.proofs.Corners.{live_after}
 use Rattle.ca_pattern.proofs.CellsNearMiddle.{live_near}

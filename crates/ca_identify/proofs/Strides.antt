@@ -3,29 +3,21 @@ use Rattle.std.proofs.Common.{◌≡◌, ◌≢◌, ℕ, zero, suc, ◌+◌, ◌
 use Rattle.std.specs.Prelude.{ℤ, neg_ℤ, ◌+ℤ◌, ◌-ℤ◌, replicate}
 use Rattle.std.proofs.lemmas.Int.{ints}
 use Rattle.std.proofs.lemmas.Option.{none-some, same_Some}
-use Rattle.ca_plane.specs.Plane.{Picture, shifted}
+use Rattle.ca_plane.specs.Prelude.{Picture, shifted, cells_after, IsAfter, longest_period}
 use Rattle.ca_plane.specs.Plane as plane
-use Rattle.ca_plane.specs.Generations.{cells_after, IsAfter}
 use Rattle.ca_plane.proofs.Shifts.{cell-shifted}
-use Rattle.ca_plane.specs.Limits.{longest_period}
-use Rattle.ca_quad.specs.declared.node.Node.{Node}
-use Rattle.ca_quad.specs.Shifted.{shifted_cells}
-use Rattle.ca_quad.specs.Sound.{IsSoundStore, Grows}
-use Rattle.ca_quad.specs.Trees.{cell, HoldsAll}
-use Rattle.ca_quad.specs.declared.tree.Tree.{Tree}
+use Rattle.ca_quad.specs.declared.{node.Node.Node, tree.Tree.Tree}
+use Rattle.ca_quad.specs.Prelude.{shifted_cells, IsSoundStore, Grows, cell, HoldsAll}
 use Rattle.ca_plane.proofs.Numbers.{below_or_not}
 use Rattle.ca_quad.proofs.Trims.{trees_stay}
 use Rattle.ca_plane.proofs.After.{after_same, after_seen, after_again, after_dead}
 use Rattle.ca_steps.proofs.Returning.{settles_alike}
-use Rattle.ca_identify.specs.declared.identification.stage.First.{First}
-use Rattle.ca_identify.specs.declared.identification.stage.Stage.{Stage}
+use Rattle.ca_identify.specs.declared.identification.{stage.First.First, stage.Stage.Stage, strides.Stride.Stride}
 use Rattle.ca_identify.specs.declared.identification.stage.Stage.TheVariants.{Empty, Back, Other}
-use Rattle.ca_identify.specs.declared.identification.strides.Stride.{Stride}
 use Rattle.ca_identify.specs.declared.identification.strides.Stride.TheVariants.{On, End, Never, Dead}
 use Rattle.ca_identify.specs.inner.Stages.{AreMoved, AreMovedNowhere, IsStage, AreOtherUpTo, IsEarly, AreEarly, IsStride}
-use Rattle.ca_evolution.specs.Steps.{CanGoOn}
-use Rattle.ca_pattern.specs.LaterTrees.{IsLaterTree}
-use Rattle.ca_pattern.specs.PatternTrees.{HasLive}
+use Rattle.ca_evolution.specs.Prelude.{CanGoOn}
+use Rattle.ca_pattern.specs.Prelude.{IsLaterTree, HasLive}
 use Rattle.ca_identify.proofs.Identities.{picture_moved, picture_nowhere}
 use Rattle.ca_pattern.proofs.Searches.{search_within}
 use Rattle.ca_identify.proofs.Stages.{first_stays, later_as, stage_as}

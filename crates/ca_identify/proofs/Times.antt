@@ -3,8 +3,8 @@ use Rattle.std.proofs.Common.{◌≡◌, ℕ, ◌<◌, ◌^◌, sym, ap, ap₂, 
 use Rattle.std.specs.Int.{w128}
 use Rattle.std.specs.Prelude.{ℤ, pos, ◌-ℤ◌, FitsSigned}
 use Rattle.std.proofs.lemmas.Int.{ints, to_z-of_z}
-use Rattle.ca_text.specs.Kinds.{IsShift}
-use Rattle.ca_pattern.specs.PatternTrees.{IsWide}
+use Rattle.ca_text.specs.Prelude.{IsShift}
+use Rattle.ca_pattern.specs.Prelude.{IsWide}
 use Rattle.ca_text.proofs.Shifts.{shift_reads}
 use Rattle.ca_pattern.proofs.Times.{wide_reads}
 

@@ -1,14 +1,12 @@
 -- Looks at the planes of trees, and what work they take.
 use Rattle.std.specs.Prelude.{ℕ, ◌+◌, ◌*◌, ◌^◌, ◌≤◌, ◌<◌, ℤ, List}
-use Rattle.ca_plane.specs.Plane.{Picture}
-use Rattle.ca_plane.specs.Generations.{IsAfter}
+use Rattle.ca_plane.specs.Prelude.{Picture, IsAfter}
 use Rattle.ca_quad.specs.declared.node.Node.{Node}
-use Rattle.ca_quad.specs.Trees.{HoldsAll}
+use Rattle.ca_quad.specs.Prelude.{HoldsAll}
 use Rattle.ca_answers.specs.declared.scope.Scope.{Scope}
 use Rattle.ca_identify.specs.declared.tree_look.TreeLook.{TreeLook}
-use Rattle.ca_answers.specs.Identified.{IsLook}
-use Rattle.ca_pattern.specs.Evolved.{run_work}
-use Rattle.ca_pattern.specs.PatternTrees.{ShowsTree}
+use Rattle.ca_answers.specs.Prelude.{IsLook}
+use Rattle.ca_pattern.specs.Prelude.{run_work, ShowsTree}
 
 -- the tree shows the plane n generations on from some cells, and a look at that with this scope finds what it is
 abbrev pub IsTreeLook : (List ℕ → ℕ) → Picture → (n : ℕ) → Scope → List Node → TreeLook → Type 0

@@ -1,17 +1,13 @@
 //! What a pattern is: its first generations are looked at one by one, then leaps are made, then strides.
 
 ghost use Rattle.std.specs.Prelude.{◌≡◌, ◌≤◌, IfOk, IfErr};
-ghost use Rattle.ca_plane.specs.Plane.{Picture};
-ghost use Rattle.ca_plane.specs.Generations.{cells_after};
-ghost use Rattle.ca_quad.specs.Trees.{cell};
-ghost use Rattle.ca_run.specs.Leaping.{LeaperGrows};
-ghost use Rattle.ca_work.specs.Spending.{EndsAtLimit};
-ghost use Rattle.ca_answers.specs.Identified.{IsLookAt, IsUnidentifiedAfter};
-ghost use Rattle.ca_pattern.specs.Limited.{AreGoodLimits};
-ghost use Rattle.ca_plane.specs.Limits.{longest_period, most_generations};
+ghost use Rattle.ca_plane.specs.Prelude.{Picture, cells_after, longest_period, most_generations};
+ghost use Rattle.ca_quad.specs.Prelude.{cell};
+ghost use Rattle.ca_run.specs.Prelude.{LeaperGrows};
+ghost use Rattle.ca_work.specs.Prelude.{EndsAtLimit};
+ghost use Rattle.ca_answers.specs.Prelude.{IsLookAt, IsUnidentifiedAfter};
+ghost use Rattle.ca_pattern.specs.Prelude.{AreGoodLimits, ShowsTree, IsPattern, IsStart};
 ghost use Rattle.ca_identify.specs.TreeLooks.{IsTreeLook, TakesRunAndSearch};
-ghost use Rattle.ca_pattern.specs.PatternTrees.{ShowsTree, IsPattern};
-ghost use Rattle.ca_pattern.specs.LaterTrees.{IsStart};
 
 mod early;
 mod ending;

@@ -3,16 +3,13 @@
 //! isn't found out.
 
 ghost use Rattle.std.specs.Prelude.{◌≡◌, ◌≢◌, ℕ, List, None};
-ghost use Rattle.ca_plane.specs.Plane.{Picture};
-ghost use Rattle.ca_rule.specs.TableNext.{TableRule};
+ghost use Rattle.ca_plane.specs.Prelude.{Picture};
+ghost use Rattle.ca_rule.specs.Prelude.{TableRule};
 ghost use Rattle.ca_pattern.specs.declared.located_fault.LocatedFault.{LocatedFault};
 ghost use Rattle.ca_pattern.specs.declared.located_fault.LocatedFault.TheVariants.{Work, Memory};
-ghost use Rattle.ca_pattern.specs.LocatedFaults.{IsSameFault};
-ghost use Rattle.ca_answers.specs.declared.identity.Identity.{Identity};
-ghost use Rattle.ca_answers.specs.declared.scope.Scope.{Scope};
-ghost use Rattle.ca_answers.specs.declared.scope.Look.{Look};
-ghost use Rattle.ca_answers.specs.Identified.{IsIdentity, IsIdentityAfter, IsLookAt};
-ghost use Rattle.ca_answers.specs.Identified.{IsIdentifiedAfter, IsUnidentifiedAfter};
+ghost use Rattle.ca_pattern.specs.Prelude.{IsSameFault};
+ghost use Rattle.ca_answers.specs.declared.{identity.Identity.Identity, scope.Scope.Scope, scope.Look.Look};
+ghost use Rattle.ca_answers.specs.Prelude.{IsIdentity, IsIdentityAfter, IsLookAt, IsIdentifiedAfter, IsUnidentifiedAfter};
 
 /// Under any rule, one identity at most holds of some cells within a limit, and of their plane some
 /// generations on.

@@ -6,10 +6,8 @@ use Rattle.std.proofs.lemmas.List.{get_or_past}
 use Rattle.std.proofs.lemmas.Nat.Bits.{bit_at-lt, bit_at-zero, bit_at_above}
 use Rattle.std.specs.Int.{bit_at}
 use Rattle.ca_plane.specs.declared.bit_plane.CellWord.{CellWord}
-use Rattle.ca_plane.specs.BitPlane.{state_from_corner, bit_cell, AddsRun}
-use Rattle.ca_plane.specs.Limits.{reach}
-use Rattle.ca_plane.specs.Shown.{from_corner}
-use Rattle.ca_apgcode.specs.Grids.{GridCells, IsGrid, cell}
+use Rattle.ca_plane.specs.Prelude.{state_from_corner, bit_cell, AddsRun, reach, from_corner}
+use Rattle.ca_apgcode.specs.Prelude.{GridCells, IsGrid, cell}
 use Rattle.ca_import.specs.inner.Drawn.{IsDrawnTo}
 
 module _ (cells : ℕ → ℕ → ℕ) (column row : ℕ) (old : List CellWord) (h : IsDrawnTo cells column row old) where

@@ -4,10 +4,9 @@ use Rattle.std.proofs.lemmas.Int.{ints}
 use Rattle.std.proofs.lemmas.Bool.{cases_Bool, true≢false}
 use Rattle.ca_plane.proofs.Pictures.{place-from_true}
 use Rattle.ca_plane.proofs.Rising.{place-itself}
-use Rattle.ca_plane.specs.declared.point.Point.{Point}
-use Rattle.ca_plane.specs.declared.bit_plane.CellWord.{CellWord}
-use Rattle.ca_plane.specs.BitPlane.{bit_cell, AddsRun}
-use Rattle.ca_import.specs.CellLines.{is_live_byte, is_at, east, is_live_in_row}
+use Rattle.ca_plane.specs.declared.{point.Point.Point, bit_plane.CellWord.CellWord}
+use Rattle.ca_plane.specs.Prelude.{bit_cell, AddsRun}
+use Rattle.ca_import.specs.Prelude.{is_live_byte, is_at, east, is_live_in_row}
 
 -- so many cells of a row are drawn, and these are left, which begin at a point
 pub record IsDrawn (first : Point) (cells : List ℕ) (old : List CellWord) (at : Point) (left : List ℕ)

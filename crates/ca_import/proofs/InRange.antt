@@ -4,20 +4,16 @@ use Rattle.std.proofs.lemmas.Int.{ints}
 use Rattle.std.proofs.lemmas.Bool.{or_cases, and_parts, true≢false, cases_Bool, cases_eq}
 use Rattle.std.proofs.lemmas.Nat.Bits.{bit_at-lt}
 use Rattle.ca_plane.specs.declared.point.Point.{Point}
-use Rattle.ca_plane.specs.Bytes.{lines_of}
-use Rattle.ca_plane.specs.Limits.{range, IsInRange}
-use Rattle.ca_plane.specs.Shown.{from_corner}
+use Rattle.ca_plane.specs.Prelude.{lines_of, range, IsInRange, from_corner}
 use Rattle.ca_plane.proofs.Pictures.{place-from_true}
-use Rattle.ca_apgcode.specs.Grids.{GridCells, cell}
-use Rattle.ca_apgcode.specs.Representation.{IsCode}
+use Rattle.ca_apgcode.specs.Prelude.{GridCells, cell, IsCode}
 use Rattle.ca_apgcode.proofs.Codes.{live_column, live_row}
 use Rattle.ca_rule.specs.declared.bs_rule.BsRule.{BsRule}
-use Rattle.ca_import.specs.declared.format.ImportFormat.{ImportFormat}
+use Rattle.ca_import.specs.declared.format.{ImportFormat.ImportFormat, LineFormat.LineFormat}
 use Rattle.ca_import.specs.declared.format.ImportFormat.TheVariants.{Lines, Apgcode}
-use Rattle.ca_import.specs.declared.format.LineFormat.{LineFormat}
 use Rattle.ca_import.specs.declared.format.LineFormat.TheVariants.{Life106, Life105, Plaintext}
-use Rattle.ca_import.specs.CellLines.{CellLine, Nothing, LiveCell, Row, Corner, Rule, is_live_byte, is_at, east, is_live_in_row, is_live_in_line, is_live_in, next_row, live_count, IsRowInRange, IsLineInRange}
-use Rattle.ca_import.specs.Import.{first_row, LinesSay, LinesHold, HoldsIn, IsImport}
+use Rattle.ca_import.specs.Prelude.{CellLine, Nothing, LiveCell, Row, Corner, Rule, is_live_byte, is_at, east, is_live_in_row, is_live_in_line, is_live_in, next_row, live_count, IsRowInRange}
+use Rattle.ca_import.specs.Prelude.{IsLineInRange, first_row, LinesSay, LinesHold, HoldsIn, IsImport}
 use Rattle.ca_import.specs.inner.Reading.{IsRowPlace, IsPlace}
 
 -- a cell of a row lies in the row

@@ -5,16 +5,12 @@ use Rattle.std.specs.Result.{MatchResult}
 use Rattle.std.proofs.lemmas.Bool.{true≢false, cases_Bool}
 use Rattle.std.proofs.lemmas.Bool.Decides.{nat_tests}
 use Rattle.ca_plane.specs.declared.point.Point.{Point}
-use Rattle.ca_plane.specs.Bytes.{IsInteger, is_blank, is_end_or, with_front, words_of, front}
-use Rattle.ca_plane.specs.Limits.{default_rule}
+use Rattle.ca_plane.specs.Prelude.{IsInteger, is_blank, is_end_or, with_front, words_of, front, default_rule}
 use Rattle.ca_rule.specs.declared.bs_rule.BsRule.{BsRule}
-use Rattle.ca_rule.specs.Spelling.{NamesBsRule}
-use Rattle.ca_import.specs.declared.cell_line.Line.{Line}
-use Rattle.ca_import.specs.declared.fault.ImportFault.{ImportFault}
+use Rattle.ca_rule.specs.Prelude.{NamesBsRule}
+use Rattle.ca_import.specs.declared.{cell_line.Line.Line, fault.ImportFault.ImportFault}
 use Rattle.ca_import.specs.declared.fault.ImportFault.TheVariants.{Syntax, Range}
-use Rattle.ca_import.specs.CellLines.{CellLine, Nothing, LiveCell, Row, Corner, Rule}
-use Rattle.ca_import.specs.Rows.{is_star_cell, IsRow}
-use Rattle.ca_import.specs.Life105.{corner_numbers, Life105WordsSay, Life105Says}
+use Rattle.ca_import.specs.Prelude.{CellLine, Nothing, LiveCell, Row, Corner, Rule, is_star_cell, IsRow, corner_numbers, Life105WordsSay, Life105Says}
 use Rattle.ca_import.specs.inner.Lines.{WritePoint, HavePointFault, IsAloneFault}
 
 -- ---- words

@@ -3,11 +3,10 @@ use Rattle.std.proofs.Common.{◌≡◌, ℕ, List, [], ◌∷◌, true, false, 
 use Rattle.std.specs.List.{starts_with}
 use Rattle.std.proofs.lemmas.Bool.{true≢false}
 use Rattle.ca_plane.specs.declared.point.Point.{Point}
-use Rattle.ca_plane.specs.Bytes.{IsInteger}
+use Rattle.ca_plane.specs.Prelude.{IsInteger}
 use Rattle.ca_import.specs.declared.fault.ImportFault.{ImportFault}
 use Rattle.ca_import.specs.declared.fault.ImportFault.TheVariants.{Syntax, Range}
-use Rattle.ca_import.specs.CellLines.{CellLine, Nothing, LiveCell, Row, Corner, Rule}
-use Rattle.ca_import.specs.Life106.{is_remark, Life106WordsSay}
+use Rattle.ca_import.specs.Prelude.{CellLine, Nothing, LiveCell, Row, Corner, Rule, is_remark, Life106WordsSay}
 use Rattle.ca_import.specs.inner.Lines.{WritePoint, HavePointFault, IsAloneFault}
 
 module _ (words : List (List ℕ)) (x y : List ℕ) (are : words ≡ x ∷ y ∷ []) where

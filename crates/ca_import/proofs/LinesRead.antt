@@ -4,15 +4,12 @@ use Rattle.std.proofs.Math.Bool.{or_assoc}
 use Rattle.std.proofs.lemmas.List.{append_assoc, length_push}
 use Rattle.std.proofs.lemmas.List.Sums.{sum_by-cons, sum_by-append}
 use Rattle.ca_plane.specs.declared.point.Point.{Point}
-use Rattle.ca_plane.specs.BitPlane.{bit_cell}
-use Rattle.ca_plane.specs.Bytes.{lines_of}
+use Rattle.ca_plane.specs.Prelude.{bit_cell, lines_of}
 use Rattle.ca_rule.specs.declared.bs_rule.BsRule.{BsRule}
 use Rattle.ca_import.specs.declared.format.ImportFormat.TheVariants.{Lines}
-use Rattle.ca_import.specs.declared.format.LineFormat.{LineFormat}
-use Rattle.ca_import.specs.declared.fault.ImportFault.{ImportFault}
-use Rattle.ca_import.specs.declared.reading.Reading.{Reading}
-use Rattle.ca_import.specs.CellLines.{CellLine, next_row, row_after, is_live_in_line, is_live_in, next_rule, last_said_rule, live_count, said_count}
-use Rattle.ca_import.specs.Import.{import_format, LineSays, first_row, IsGoodLine, LinesSay, IsLineFault, HasFaultOn}
+use Rattle.ca_import.specs.declared.{format.LineFormat.LineFormat, fault.ImportFault.ImportFault, reading.Reading.Reading}
+use Rattle.ca_import.specs.Prelude.{CellLine, next_row, row_after, is_live_in_line, is_live_in, next_rule, last_said_rule, live_count, said_count, import_format, LineSays, first_row, IsGoodLine}
+use Rattle.ca_import.specs.Prelude.{LinesSay, IsLineFault, HasFaultOn}
 use Rattle.ca_import.specs.inner.Reading.{Takes, IsReading}
 
 -- ---- one more line

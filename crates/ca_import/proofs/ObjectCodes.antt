@@ -5,18 +5,14 @@ use Rattle.std.specs.List.{list_all, flat_map, join_with_byte}
 use Rattle.std.proofs.lemmas.Bool.{and_parts, and_from, true≢false}
 use Rattle.std.proofs.lemmas.Bool.Decides.{nat_tests}
 use Rattle.std.proofs.lemmas.List.{append_assoc}
-use Rattle.ca_plane.specs.Bytes.{letter, is_digit, is_word_byte, Every, AreDigits, front, rest}
-use Rattle.ca_plane.specs.Shown.{from_corner}
+use Rattle.ca_plane.specs.Prelude.{letter, is_digit, is_word_byte, Every, AreDigits, front, rest, from_corner}
 use Rattle.ca_plane.proofs.Decimals.{decimal_writes}
 use Rattle.ca_plane.proofs.Fronts.{every_append, every_wider, front_append, rest_append}
-use Rattle.ca_apgcode.specs.Objects.{code_text, kind_letter}
-use Rattle.ca_apgcode.specs.Grids.{GridCells, cell}
-use Rattle.ca_apgcode.specs.Representation.{Step, digit, gap_text, step_text, IsRepresentation, IsCode}
+use Rattle.ca_apgcode.specs.Prelude.{code_text, kind_letter, GridCells, cell, Step, digit, gap_text, step_text, IsRepresentation, IsCode}
 use Rattle.ca_apgcode.specs.declared.object.ObjectKind.{ObjectKind}
 use Rattle.ca_apgcode.specs.declared.object.ObjectKind.TheVariants.{StillLife, Oscillator, Spaceship}
 use Rattle.ca_import.specs.declared.format.ImportFormat.TheVariants.{Apgcode}
-use Rattle.ca_import.specs.Apgcode.{after_mark, after_number, after_head}
-use Rattle.ca_import.specs.Import.{word_alone, representation_text, line_format, format_of, IsImport}
+use Rattle.ca_import.specs.Prelude.{after_mark, after_number, after_head, word_alone, representation_text, line_format, format_of, IsImport}
 
 -- ---- the bytes of a representation may be in a word
 

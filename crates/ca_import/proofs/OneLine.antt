@@ -4,21 +4,16 @@ use Rattle.std.specs.List.{starts_with}
 use Rattle.std.proofs.lemmas.Bool.{true≢false, cases_Bool}
 use Rattle.std.proofs.lemmas.Bool.Decides.{nat_tests}
 use Rattle.ca_plane.specs.declared.point.Point.{Point}
-use Rattle.ca_plane.specs.Bytes.{AreDigits, IsInteger, words_of}
+use Rattle.ca_plane.specs.Prelude.{AreDigits, IsInteger, words_of}
 use Rattle.ca_plane.proofs.Integers.{one_integer}
 use Rattle.ca_plane.proofs.Pictures.{point-same}
 use Rattle.ca_rule.specs.declared.bs_rule.BsRule.{BsRule}
-use Rattle.ca_rule.specs.Rule.{Bs, IsSameRule}
-use Rattle.ca_rule.specs.Spelling.{NamesBsRule}
+use Rattle.ca_rule.specs.Prelude.{Bs, IsSameRule, NamesBsRule}
 use Rattle.ca_rule.proofs.Meaning.{names-once}
 use Rattle.ca_import.specs.declared.format.LineFormat.{LineFormat}
 use Rattle.ca_import.specs.declared.format.LineFormat.TheVariants.{Life106, Life105, Plaintext}
-use Rattle.ca_import.specs.CellLines.{CellLine, Nothing, LiveCell, Row, Corner, Rule}
-use Rattle.ca_import.specs.Rows.{is_letter_cell, IsRow}
-use Rattle.ca_import.specs.Life106.{is_remark, Life106WordsSay}
-use Rattle.ca_import.specs.Life105.{is_description, NameRuleText, corner_numbers, Life105Says}
-use Rattle.ca_import.specs.Plaintext.{PlaintextSays}
-use Rattle.ca_import.specs.Import.{LineSays}
+use Rattle.ca_import.specs.Prelude.{CellLine, Nothing, LiveCell, Row, Corner, Rule, is_letter_cell, IsRow, is_remark, Life106WordsSay, is_description, NameRuleText, corner_numbers, Life105Says}
+use Rattle.ca_import.specs.Prelude.{PlaintextSays, LineSays}
 use Rattle.ca_import.proofs.Life105Lines.{row_word, p_not_n, p_not_r, n_not_r}
 
 -- two lines say the same, and the same rule

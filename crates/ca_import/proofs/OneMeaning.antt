@@ -1,20 +1,16 @@
 -- A text holds one pattern at most, and then it has no fault.
 use Rattle.std.proofs.Common.{◌≡◌, ◌≢◌, ℕ, ◌+◌, ℤ, List, [], ◌∷◌, ◌++◌, ◌||◌, cond, Option, None, Some, refl, sym, ap, ap₂, subst, ◌∙◌, arith}
 use Rattle.ca_plane.specs.declared.point.Point.{Point}
-use Rattle.ca_plane.specs.Bytes.{lines_of}
-use Rattle.ca_plane.specs.Shown.{from_corner}
-use Rattle.ca_apgcode.specs.Grids.{GridCells, cell}
-use Rattle.ca_apgcode.specs.Representation.{IsCode}
+use Rattle.ca_plane.specs.Prelude.{lines_of, from_corner}
+use Rattle.ca_apgcode.specs.Prelude.{GridCells, cell, IsCode}
 use Rattle.ca_apgcode.proofs.Codes.{one_picture}
 use Rattle.ca_rule.specs.declared.bs_rule.BsRule.{BsRule}
-use Rattle.ca_import.specs.declared.format.ImportFormat.{ImportFormat}
+use Rattle.ca_import.specs.declared.{format.ImportFormat.ImportFormat, format.LineFormat.LineFormat, fault.ImportFault.ImportFault}
 use Rattle.ca_import.specs.declared.format.ImportFormat.TheVariants.{Lines, Apgcode}
-use Rattle.ca_import.specs.declared.format.LineFormat.{LineFormat}
-use Rattle.ca_import.specs.declared.fault.ImportFault.{ImportFault}
 use Rattle.ca_import.specs.declared.fault.ImportFault.TheVariants.{UnknownFormat, Syntax, NoCorner, Range, TooManyCells, Memory}
-use Rattle.ca_import.specs.CellLines.{CellLine, Nothing, LiveCell, Row, Corner, Rule, next_row, row_after, is_live_in_line, is_live_in, next_rule, last_said_rule, live_count, said_count, HasPlace, IsLineInRange}
-use Rattle.ca_import.specs.Import.{import_format, LineSays, first_row, IsGoodLine, LinesSay, LinesHold, CodeHolds, HoldsIn, IsImport, IsLineFault, HasFaultyLine, IsCodeFault, HasFaultyCode, HasFaultIn, HasFaultOn, IsImportFaultOn}
-use Rattle.ca_import.specs.Laws.{NameSameRule}
+use Rattle.ca_import.specs.Prelude.{CellLine, Nothing, LiveCell, Row, Corner, Rule, next_row, row_after, is_live_in_line, is_live_in, next_rule, last_said_rule, live_count, said_count, HasPlace}
+use Rattle.ca_import.specs.Prelude.{IsLineInRange, import_format, LineSays, first_row, IsGoodLine, LinesSay, LinesHold, CodeHolds, HoldsIn, IsImport, IsLineFault, HasFaultyLine, IsCodeFault}
+use Rattle.ca_import.specs.Prelude.{HasFaultyCode, HasFaultIn, HasFaultOn, IsImportFaultOn, NameSameRule}
 use Rattle.ca_import.proofs.LinesRead.{counted_on, counted_none}
 use Rattle.ca_import.proofs.OneLine.{AreAlike, says_alike}
 

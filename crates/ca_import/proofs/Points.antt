@@ -2,8 +2,7 @@
 use Rattle.std.proofs.Common.{◌≡◌, ℕ, ◌^◌, ℤ, pos, neg_ℤ, negsuc, ◌≤ℤ◌, ◌<ℤ◌, List, sym, subst, arith}
 use Rattle.std.proofs.lemmas.Int.{ints}
 use Rattle.ca_plane.specs.declared.point.Point.{Point}
-use Rattle.ca_plane.specs.Bytes.{IsInteger, nearest_i64}
-use Rattle.ca_plane.specs.Limits.{range, IsInRange}
+use Rattle.ca_plane.specs.Prelude.{IsInteger, nearest_i64, range, IsInRange}
 use Rattle.ca_import.specs.inner.Lines.{WritePoint}
 
 -- and so is one that is in range itself

@@ -1,12 +1,10 @@
 -- A line of cells that is taken.
 use Rattle.std.proofs.Common.{◌≡◌, ℕ, ◌+◌, ◌<◌, ◌≤◌, ℤ, List, cond, Some, refl, sym, subst, arith}
 use Rattle.std.proofs.lemmas.Int.{ints}
-use Rattle.ca_plane.specs.declared.point.Point.{Point}
-use Rattle.ca_plane.specs.declared.bit_plane.CellWord.{CellWord}
-use Rattle.ca_plane.specs.BitPlane.{bit_cell, AddsRun}
-use Rattle.ca_plane.specs.Limits.{IsInRange, most_cells}
+use Rattle.ca_plane.specs.declared.{point.Point.Point, bit_plane.CellWord.CellWord}
+use Rattle.ca_plane.specs.Prelude.{bit_cell, AddsRun, IsInRange, most_cells}
 use Rattle.ca_import.specs.declared.reading.Reading.{Reading}
-use Rattle.ca_import.specs.CellLines.{LiveCell, Row, south, next_row, is_live_in_row, is_live_in_line, live_count, IsRowInRange, HasPlace, IsLineInRange}
+use Rattle.ca_import.specs.Prelude.{LiveCell, Row, south, next_row, is_live_in_row, is_live_in_line, live_count, IsRowInRange, HasPlace, IsLineInRange}
 use Rattle.ca_import.specs.inner.Reading.{IsRowPlace, IsPlace, IsReady, Takes}
 use Rattle.ca_import.proofs.DrawnRows.{one_cell}
 

@@ -1,10 +1,8 @@
 -- Cells that are written.
 use Rattle.std.proofs.Common.{◌≡◌, ℕ, ◌<◌, ℤ, pos, negsuc, ◌+ℤ◌, List, ◌∷◌, Bool, Result, Ok, Err, IfOk, IsTrue, sym, subst, ◌∙◌, arith}
 use Rattle.std.specs.List.{list_all}
-use Rattle.ca_plane.specs.Bytes.{is_word_byte, IsWord}
+use Rattle.ca_plane.specs.Prelude.{is_word_byte, IsWord, bit_cell, state_from_corner, reach}
 use Rattle.ca_plane.specs.declared.bit_plane.CellWord.{CellWord}
-use Rattle.ca_plane.specs.BitPlane.{bit_cell, state_from_corner}
-use Rattle.ca_plane.specs.Limits.{reach}
 use Rattle.ca_plane.proofs.BitPlanes.{state_below_two}
 
 -- ---- states

@@ -1,7 +1,7 @@
 -- Words that are apgcodes (LifeWiki, "Apgcode"): a head, which says what an object is, and the representation of its cells.
 use Rattle.std.specs.Prelude.{ℕ, List, [], ◌∷◌, length, Bool, ◌||◌, ◌==◌, if◌then◌else◌, Option, None, Some}
-use Rattle.ca_plane.specs.Bytes.{letter, is_digit, front, rest}
-use Rattle.ca_apgcode.specs.Objects.{kind_letter}
+use Rattle.ca_plane.specs.Prelude.{letter, is_digit, front, rest}
+use Rattle.ca_apgcode.specs.Prelude.{kind_letter}
 use Rattle.ca_apgcode.specs.declared.object.ObjectKind.TheVariants.{StillLife, Oscillator, Spaceship}
 
 -- the byte is the letter of a kind

@@ -4,8 +4,7 @@ use Rattle.std.specs.Prelude.{ℕ, ℤ, pos, ◌+ℤ◌, ◌≤ℤ◌, ◌<ℤ�
 use Rattle.std.specs.List.{sum_by}
 use Rattle.std.specs.Ordering.{int_eq}
 use Rattle.ca_plane.specs.declared.point.Point.{Point}
-use Rattle.ca_plane.specs.Bytes.{letter}
-use Rattle.ca_plane.specs.Limits.{range, IsInRange}
+use Rattle.ca_plane.specs.Prelude.{letter, range, IsInRange}
 use Rattle.ca_rule.specs.declared.bs_rule.BsRule.{BsRule}
 
 -- what a line says: nothing, one live cell, the cells of a row, where the rows after it begin, or the rule

@@ -3,17 +3,12 @@ use Rattle.std.specs.Prelude.{◌≡◌, ℕ, ◌+◌, ◌<◌, ◌≤◌, ℤ, 
 use Rattle.std.specs.List.{list_all}
 use Rattle.std.specs.Str.{bytes_eq}
 use Rattle.ca_plane.specs.declared.point.Point.{Point}
-use Rattle.ca_plane.specs.Bytes.{letter, is_blank, is_line_end, is_word_byte, front, rest, trimmed, lines_of, words_of}
-use Rattle.ca_plane.specs.Limits.{most_cells}
-use Rattle.ca_plane.specs.Shown.{from_corner}
-use Rattle.ca_apgcode.specs.Grids.{GridCells, cell}
-use Rattle.ca_apgcode.specs.Representation.{IsCode}
+use Rattle.ca_plane.specs.Prelude.{letter, is_blank, is_line_end, is_word_byte, front, rest, trimmed, lines_of, words_of, most_cells, from_corner}
+use Rattle.ca_apgcode.specs.Prelude.{GridCells, cell, IsCode}
 use Rattle.ca_rule.specs.declared.bs_rule.BsRule.{BsRule}
-use Rattle.ca_import.specs.declared.format.ImportFormat.{ImportFormat}
+use Rattle.ca_import.specs.declared.{format.ImportFormat.ImportFormat, format.LineFormat.LineFormat, fault.ImportFault.ImportFault}
 use Rattle.ca_import.specs.declared.format.ImportFormat.TheVariants.{Lines, Apgcode}
-use Rattle.ca_import.specs.declared.format.LineFormat.{LineFormat}
 use Rattle.ca_import.specs.declared.format.LineFormat.TheVariants.{Life106, Life105, Plaintext}
-use Rattle.ca_import.specs.declared.fault.ImportFault.{ImportFault}
 use Rattle.ca_import.specs.declared.fault.ImportFault.TheVariants.{UnknownFormat, Syntax, NoCorner, Range, TooManyCells, Memory}
 use Rattle.ca_import.specs.CellLines.{CellLine, next_row, row_after, said_state, last_said_rule, live_count, said_count, HasPlace, IsLineInRange}
 use Rattle.ca_import.specs.Rows.{is_letter_cell}

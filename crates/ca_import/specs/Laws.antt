@@ -1,7 +1,7 @@
 -- What the laws of the formats speak of.
 use Rattle.std.specs.Prelude.{Option, None, Some}
 use Rattle.ca_rule.specs.declared.bs_rule.BsRule.{BsRule}
-use Rattle.ca_rule.specs.Rule.{Bs, IsSameRule}
+use Rattle.ca_rule.specs.Prelude.{Bs, IsSameRule}
 
 -- both name no rule, or the same one
 abbrev pub NameSameRule : Option BsRule → Option BsRule → Type 0

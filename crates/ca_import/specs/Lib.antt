@@ -1,3 +1,4 @@
+pub mod Prelude
 pub mod CellLines
 pub mod Rows
 pub mod Life106

@@ -4,9 +4,8 @@ use Rattle.std.specs.Prelude.{◌≡◌, ℕ, ◌<◌, List, [], ◌∷◌, leng
 use Rattle.std.specs.Bool.{nat_eq}
 use Rattle.std.specs.List.{starts_with}
 use Rattle.std.specs.Str.{bytes_eq}
-use Rattle.ca_plane.specs.Bytes.{words_of, IsInteger}
-use Rattle.ca_plane.specs.Limits.{default_rule}
-use Rattle.ca_rule.specs.Spelling.{NamesBsRule}
+use Rattle.ca_plane.specs.Prelude.{words_of, IsInteger, default_rule}
+use Rattle.ca_rule.specs.Prelude.{NamesBsRule}
 use Rattle.ca_import.specs.CellLines.{CellLine, Nothing, LiveCell, Row, Corner, Rule}
 use Rattle.ca_import.specs.Rows.{is_star_cell, IsRow}
 

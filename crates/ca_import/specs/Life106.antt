@@ -2,7 +2,7 @@
 use Rattle.std.specs.Prelude.{◌≡◌, ℕ, List, [], ◌∷◌, Bool, true, IsTrue, codes}
 use Rattle.std.specs.Bool.{nat_eq}
 use Rattle.std.specs.List.{starts_with}
-use Rattle.ca_plane.specs.Bytes.{IsInteger}
+use Rattle.ca_plane.specs.Prelude.{IsInteger}
 use Rattle.ca_import.specs.CellLines.{CellLine, Nothing, LiveCell, Row, Corner, Rule}
 
 -- the words of a line that says nothing: it is blank, or its first word begins with `#` (our own)

@@ -1,6 +1,6 @@
 -- Lines that are rows of cells (LifeWiki, "Plaintext" and "Life 1.05"; that blanks may follow the cells is our own).
 use Rattle.std.specs.Prelude.{◌≡◌, ℕ, List, Bool, ◌==◌, ◌||◌}
-use Rattle.ca_plane.specs.Bytes.{letter, is_blank, Every, front, rest}
+use Rattle.ca_plane.specs.Prelude.{letter, is_blank, Every, front, rest}
 
 -- a dead cell `.` or a live one `*`, as Life 1.05 has them
 abbrev pub is_star_cell : ℕ → Bool

@@ -1,14 +1,12 @@
 -- What a text of another format is written as, and why nothing is written.
 use Rattle.std.specs.Prelude.{◌≡◌, ℕ, ℤ, List, [], Option, None, Some, ◌⊎◌}
-use Rattle.ca_plane.specs.Bytes.{IsWord}
-use Rattle.ca_plane.specs.Population.{HasTooManyCells}
-use Rattle.ca_rule.specs.declared.bs_rule.BsRule.{BsRule}
-use Rattle.ca_rule.specs.declared.fault.RuleFault.{RuleFault}
+use Rattle.ca_plane.specs.Prelude.{IsWord, HasTooManyCells}
+use Rattle.ca_rule.specs.declared.{bs_rule.BsRule.BsRule, fault.RuleFault.RuleFault}
 use Rattle.ca_rule.specs.declared.fault.RuleFault.TheVariants.{Bounded, Wakes, Unknown}
-use Rattle.ca_rule.specs.Rule.{RuleValue, Bs, states_of, NamesRule, IsRuleFault, printed_form}
+use Rattle.ca_rule.specs.Prelude.{RuleValue, Bs, states_of, NamesRule, IsRuleFault, printed_form}
 use Rattle.ca_pattern.specs.declared.format.Format.{Format}
 use Rattle.ca_pattern.specs.declared.format.Format.TheVariants.{Rle}
-use Rattle.ca_pattern.specs.Written.{IsTidyTextOf}
+use Rattle.ca_pattern.specs.Prelude.{IsTidyTextOf}
 use Rattle.ca_import.specs.declared.text_fault.ImportTextFault.{ImportTextFault}
 use Rattle.ca_import.specs.declared.text_fault.ImportTextFault.TheVariants.{Text, Rule, TooManyCells, Memory}
 use Rattle.ca_import.specs.Import.{IsImport, IsImportFaultOn}

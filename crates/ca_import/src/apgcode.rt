@@ -1,8 +1,7 @@
 //! Words that are apgcodes. Nothing here takes memory.
 
 ghost use Rattle.std.specs.Prelude.{◌≡◌, None, Some, MatchOption};
-ghost use Rattle.ca_import.specs.Apgcode.{after_mark, after_number, after_kind, after_head};
-ghost use Rattle.ca_import.specs.Apgcode.{is_kind_letter};
+ghost use Rattle.ca_import.specs.Apgcode.{after_mark, after_number, after_kind, after_head, is_kind_letter};
 ghost use Rattle.ca_import.specs.Import.{word_alone, representation_text};
 
 use crate::white::{all_white, split_white};

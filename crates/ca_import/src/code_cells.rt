@@ -1,13 +1,10 @@
 //! The cells of an apgcode.
 
 ghost use Rattle.std.specs.Prelude.{◌≡◌, ◌+◌, ◌<◌, ℤ, pos, Some, length, OnOk, IfOk, IfErr, count_by};
-ghost use Rattle.ca_plane.specs.BitPlane.{bit_cell};
-ghost use Rattle.ca_plane.specs.Bytes.{is_line_end, front};
-ghost use Rattle.ca_plane.specs.Shown.{from_corner};
-ghost use Rattle.ca_apgcode.specs.Grids.{cell};
+ghost use Rattle.ca_plane.specs.Prelude.{bit_cell, is_line_end, front, from_corner};
+ghost use Rattle.ca_apgcode.specs.Prelude.{cell};
 ghost use Rattle.ca_import.specs.declared.format.ImportFormat.TheVariants.{Apgcode};
-ghost use Rattle.ca_import.specs.Import.{is_white, representation_text, import_format};
-ghost use Rattle.ca_import.specs.Import.{IsImport, IsImportFaultOn, IsCodeFault};
+ghost use Rattle.ca_import.specs.Import.{is_white, representation_text, import_format, IsImport, IsImportFaultOn, IsCodeFault};
 ghost use Rattle.ca_import.specs.inner.Drawn.{IsDrawnTo, IsCodeCells};
 
 use crate::fault::{ImportFault, LineFault};

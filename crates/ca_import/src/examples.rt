@@ -1,7 +1,7 @@
 //! Worked examples: what the definitions say of small texts.
 
 ghost use Rattle.std.specs.Prelude.{◌≡◌, pos, negsuc, [], ◌∷◌, true, false, codes, None, Some};
-ghost use Rattle.ca_plane.specs.Bytes.{lines_of};
+ghost use Rattle.ca_plane.specs.Prelude.{lines_of};
 ghost use Rattle.ca_import.specs.declared.fault.ImportFault.TheVariants.{NoCorner};
 ghost use Rattle.ca_import.specs.declared.format.ImportFormat.TheVariants.{Lines, Apgcode};
 ghost use Rattle.ca_import.specs.declared.format.LineFormat.TheVariants.{Life106, Life105, Plaintext};

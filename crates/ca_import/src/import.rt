@@ -1,7 +1,7 @@
 //! The reader of other formats.
 
 ghost use Rattle.std.specs.Prelude.{◌≡◌, Some, IfOk, IfErr};
-ghost use Rattle.ca_plane.specs.BitPlane.{bit_cell};
+ghost use Rattle.ca_plane.specs.Prelude.{bit_cell};
 ghost use Rattle.ca_import.specs.declared.format.ImportFormat.TheVariants.{Lines};
 ghost use Rattle.ca_import.specs.Import.{line_format, import_format, has_first_line, begins_plaintext};
 ghost use Rattle.ca_import.specs.Import.{IsImport, IsImportFaultOn, first_row};

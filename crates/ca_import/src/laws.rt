@@ -1,10 +1,8 @@
 //! Laws of the formats: a text holds one pattern or has a fault, and codes of objects hold their cells.
 
 ghost use Rattle.std.specs.Prelude.{◌≡◌, ◌≢◌, ℕ, ◌<◌, ◌^◌, ℤ, List, Option, None, Some};
-ghost use Rattle.ca_plane.specs.Shown.{from_corner};
-ghost use Rattle.ca_apgcode.specs.Grids.{GridCells, cell};
-ghost use Rattle.ca_apgcode.specs.Objects.{code_text};
-ghost use Rattle.ca_apgcode.specs.Representation.{IsCode};
+ghost use Rattle.ca_plane.specs.Prelude.{from_corner};
+ghost use Rattle.ca_apgcode.specs.Prelude.{GridCells, cell, code_text, IsCode};
 ghost use Rattle.ca_apgcode.specs.declared.object.ObjectKind.{ObjectKind};
 ghost use Rattle.ca_rule.specs.declared.bs_rule.BsRule.{BsRule};
 ghost use Rattle.ca_import.specs.declared.fault.ImportFault.{ImportFault};

@@ -2,8 +2,8 @@
 
 ghost use Rattle.std.specs.Prelude.{◌≡◌, not, true, ◌∷◌, codes, nat_eq, IfOk, IfErr, MatchResult};
 ghost use Rattle.std.specs.List.{starts_with};
-ghost use Rattle.ca_plane.specs.Bytes.{Every, is_line_end, words_of};
-ghost use Rattle.ca_rule.specs.Spelling.{NamesBsRule};
+ghost use Rattle.ca_plane.specs.Prelude.{Every, is_line_end, words_of};
+ghost use Rattle.ca_rule.specs.Prelude.{NamesBsRule};
 ghost use Rattle.ca_import.specs.declared.fault.ImportFault.TheVariants.{Syntax};
 ghost use Rattle.ca_import.specs.CellLines.{Rule};
 ghost use Rattle.ca_import.specs.Life105.{Life105Says, Life105WordsSay};

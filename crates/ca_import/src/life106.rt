@@ -1,7 +1,7 @@
 //! The lines of Life 1.06. Nothing here takes memory.
 
 ghost use Rattle.std.specs.Prelude.{not, IfOk, IfErr};
-ghost use Rattle.ca_plane.specs.Bytes.{Every, is_line_end, words_of};
+ghost use Rattle.ca_plane.specs.Prelude.{Every, is_line_end, words_of};
 ghost use Rattle.ca_import.specs.Life106.{Life106WordsSay};
 ghost use Rattle.ca_import.specs.inner.Lines.{IsSaid, IsAloneFault};
 

@@ -1,7 +1,7 @@
 //! Points that a line gives by two words. Nothing here takes memory.
 
 ghost use Rattle.std.specs.Prelude.{◌↔◌, IsTrue, IfOk, IfErr};
-ghost use Rattle.ca_plane.specs.Limits.{IsInRange};
+ghost use Rattle.ca_plane.specs.Prelude.{IsInRange};
 ghost use Rattle.ca_import.specs.inner.Lines.{WritePoint, HavePointFault};
 
 use crate::fault::ImportFault;

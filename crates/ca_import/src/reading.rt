@@ -1,12 +1,8 @@
 //! A text, read a line at a time.
 
-ghost use Rattle.std.specs.Prelude.{◌≡◌, ◌↔◌, ℤ, pos, ◌+ℤ◌, ◌<ℤ◌, [], not, length, if◌then◌else◌};
-ghost use Rattle.std.specs.Prelude.{IsTrue, OnOk, IfOk, IfErr};
-ghost use Rattle.ca_plane.specs.BitPlane.{bit_cell};
-ghost use Rattle.ca_plane.specs.Bytes.{Every, is_line_end};
-ghost use Rattle.ca_plane.specs.Limits.{range, IsInRange};
-ghost use Rattle.ca_import.specs.CellLines.{CellLine, LiveCell, Row, IsRowInRange};
-ghost use Rattle.ca_import.specs.CellLines.{east, south, is_live_in_row};
+ghost use Rattle.std.specs.Prelude.{◌≡◌, ◌↔◌, ℤ, pos, ◌+ℤ◌, ◌<ℤ◌, [], not, length, if◌then◌else◌, IsTrue, OnOk, IfOk, IfErr};
+ghost use Rattle.ca_plane.specs.Prelude.{bit_cell, Every, is_line_end, range, IsInRange};
+ghost use Rattle.ca_import.specs.CellLines.{CellLine, LiveCell, Row, IsRowInRange, east, south, is_live_in_row};
 ghost use Rattle.ca_import.specs.Import.{LineSays, IsLineFault};
 ghost use Rattle.ca_import.specs.inner.Lines.{IsSaid, IsAloneFault, IsBounded, said_of};
 ghost use Rattle.ca_import.specs.inner.Reading.{IsPlace, IsRowPlace, IsReady, Takes, IsRefused, IsReading};

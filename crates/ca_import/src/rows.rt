@@ -2,7 +2,7 @@
 
 ghost use Rattle.std.specs.Prelude.{◌≡◌, ℕ, List, MatchOption, count_by};
 ghost use Rattle.std.specs.List.{prefix_len, list_all};
-ghost use Rattle.ca_plane.specs.Bytes.{is_blank, front, rest};
+ghost use Rattle.ca_plane.specs.Prelude.{is_blank, front, rest};
 ghost use Rattle.ca_import.specs.CellLines.{is_live_byte};
 ghost use Rattle.ca_import.specs.Rows.{is_star_cell, is_letter_cell, IsRow};
 

@@ -2,11 +2,10 @@
 
 ghost use Rattle.std.specs.Prelude.{◌≡◌, ◌↔◌, [], IsTrue, IfOk, IfErr};
 ghost use Rattle.std.specs.List.{list_all};
-ghost use Rattle.ca_plane.specs.Bytes.{is_word_byte, IsWord};
-ghost use Rattle.ca_rule.specs.Rule.{rule_value, IsRuleFault};
+ghost use Rattle.ca_plane.specs.Prelude.{is_word_byte, IsWord};
+ghost use Rattle.ca_rule.specs.Prelude.{rule_value, IsRuleFault};
 ghost use Rattle.ca_rule.specs.declared.fault.RuleFault.TheVariants.{Unknown};
-ghost use Rattle.ca_import.specs.inner.Writing.{IsPrinted, IsAskedText, IsAskedRefused, IsWrittenText};
-ghost use Rattle.ca_import.specs.inner.Writing.{IsRuleRefused};
+ghost use Rattle.ca_import.specs.inner.Writing.{IsPrinted, IsAskedText, IsAskedRefused, IsWrittenText, IsRuleRefused};
 
 use crate::text_fault::ImportTextFault;
 use ca_plane::bytes::is_word_byte;

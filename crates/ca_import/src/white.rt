@@ -2,7 +2,7 @@
 
 ghost use Rattle.std.specs.Prelude.{◌≡◌, count_by};
 ghost use Rattle.std.specs.List.{prefix_len, list_all};
-ghost use Rattle.ca_plane.specs.Bytes.{is_line_end, front, rest};
+ghost use Rattle.ca_plane.specs.Prelude.{is_line_end, front, rest};
 ghost use Rattle.ca_import.specs.Import.{is_white};
 
 use ca_plane::bytes::is_blank;

@@ -1,12 +1,11 @@
 //! Patterns of other formats, written in one of ca_pattern's.
 
 ghost use Rattle.std.specs.Prelude.{IfOk, IfErr};
-ghost use Rattle.ca_plane.specs.BitPlane.{bit_cell};
-ghost use Rattle.ca_macro.specs.Pattern.{AreInRange};
-ghost use Rattle.ca_pattern.specs.Written.{IsTidyTextOf};
+ghost use Rattle.ca_plane.specs.Prelude.{bit_cell};
+ghost use Rattle.ca_macro.specs.Prelude.{AreInRange};
+ghost use Rattle.ca_pattern.specs.Prelude.{IsTidyTextOf};
 ghost use Rattle.ca_import.specs.Written.{IsImportText, IsImportTextFault};
-ghost use Rattle.ca_import.specs.inner.Writing.{IsWritableRule, AreUnwritten};
-ghost use Rattle.ca_import.specs.inner.Writing.{IsPatternText, IsPatternTextFault};
+ghost use Rattle.ca_import.specs.inner.Writing.{IsWritableRule, AreUnwritten, IsPatternText, IsPatternTextFault};
 
 use crate::import::{ImportedPattern, read_import};
 use crate::rule_text::{RuleText, rule_text_for};

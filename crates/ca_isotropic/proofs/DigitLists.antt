@@ -3,12 +3,10 @@ use Rattle.std.proofs.Common.{◌≡◌, ℕ, zero, suc, ◌+◌, ◌<◌, List,
 use Rattle.std.specs.List.{list_all, list_any}
 use Rattle.std.proofs.lemmas.Bool.{and_parts}
 use Rattle.std.proofs.lemmas.Bool.Decides.{nat_tests}
-use Rattle.ca_plane.specs.Bytes.{Every, is_digit, with_front}
+use Rattle.ca_plane.specs.Prelude.{Every, is_digit, with_front}
 use Rattle.ca_plane.proofs.Fronts.{every_wider}
-use Rattle.ca_rule.specs.Counts.{is_count, has_digit, counts_of, are_digits_up_to}
-use Rattle.ca_isotropic.specs.Kinds.{live_neighbours, letter_of}
-use Rattle.ca_isotropic.specs.Isotropic.{parts, part_has, has_kind, isotropic_next}
-use Rattle.ca_isotropic.specs.Examples.{AreNineCells, counted_next}
+use Rattle.ca_rule.specs.Prelude.{is_count, has_digit, counts_of, are_digits_up_to}
+use Rattle.ca_isotropic.specs.Prelude.{live_neighbours, letter_of, parts, part_has, has_kind, isotropic_next, AreNineCells, counted_next}
 
 digit-parts : (ds : List ℕ) → Every is_digit ds → parts ds ≡ map (λ d. d ∷ []) ds
 digit-parts [] all = refl

@@ -8,16 +8,11 @@ use Rattle.std.proofs.lemmas.Grind.{flat_map-append}
 use Rattle.std.proofs.lemmas.List.{map-append, append-nil}
 use Rattle.std.proofs.lemmas.List.Elements.{All-replicate}
 use Rattle.std.proofs.lemmas.List.FromFn.{map-range_with_len_more}
-use Rattle.ca_plane.specs.Ageing.{older}
-use Rattle.ca_plane.specs.Bytes.{text_of}
-use Rattle.ca_plane.specs.Puts.{Puts}
-use Rattle.ca_rule.specs.Counts.{is_count}
-use Rattle.ca_rule.specs.Generations.{generations_next}
+use Rattle.ca_plane.specs.Prelude.{older, text_of, Puts}
+use Rattle.ca_rule.specs.Prelude.{is_count, generations_next, TableRule, table_next, IsTable, table_from}
 use Rattle.ca_rule.specs.declared.counts.Counts.{Counts}
 use Rattle.ca_rule.specs.declared.table.slot.Slot.TheVariants.{Number, Variable}
-use Rattle.ca_rule.specs.TableNext.{TableRule, table_next}
-use Rattle.ca_rule.specs.TableText.{IsTable, table_from}
-use Rattle.ca_isotropic.specs.RuleFiles.{IsTableName, WritesRule}
+use Rattle.ca_isotropic.specs.Prelude.{IsTableName, WritesRule}
 use Rattle.ca_isotropic.specs.inner.WrittenTables.{inputs_of, neighbourhood, neighbourhoods, changes}
 use Rattle.ca_isotropic.specs.inner.GenerationsTables.{generations_head, listed_states, variable_line, variable_lines, ring_of, neighbour_byte, neighbour_bytes, live_line, live_lines, dying_line, dying_lines}
 use Rattle.ca_isotropic.proofs.WrittenTables.{AreBits}

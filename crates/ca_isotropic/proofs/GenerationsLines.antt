@@ -7,18 +7,16 @@ use Rattle.std.proofs.lemmas.Bool.Decides.{nat_tests}
 use Rattle.std.proofs.lemmas.Fmt.{decimal_digit}
 use Rattle.std.proofs.lemmas.List.Folds.{list_any-append}
 use Rattle.std.proofs.lemmas.List.{append-nil, length-map, length-append}
-use Rattle.ca_plane.specs.Bytes.{is_blank, is_digit, is_line_end, is_end_or, AreDigits, Every, rest, with_front, without_last_blanks, trimmed, text_of, value}
+use Rattle.ca_plane.specs.Prelude.{is_blank, is_digit, is_line_end, is_end_or, AreDigits, Every, rest, with_front, without_last_blanks, trimmed, text_of, value}
 use Rattle.ca_plane.proofs.Decimals.{decimal_writes}
 use Rattle.ca_plane.proofs.Fronts.{every_append, every_wider, every_digit, rest_append}
 use Rattle.ca_rule.specs.declared.table.neighbourhood.Neighbourhood.TheVariants.{Moore}
 use Rattle.ca_rule.specs.declared.table.neighbourhood.Symmetry.TheVariants.{Identity}
 use Rattle.ca_rule.specs.declared.table.slot.Slot.{Slot}
 use Rattle.ca_rule.specs.declared.table.slot.Slot.TheVariants.{Number, Variable}
-use Rattle.ca_rule.specs.Digits.{are_digits, state_count}
-use Rattle.ca_rule.specs.TableNext.{States, Transition, admits}
-use Rattle.ca_rule.specs.TableLines.{rule_named, begins_with, tail_after, begins_variable, comma_parts, fields_between, is_field, is_name, IsVariableLine, IsTransitionLine}
-use Rattle.ca_rule.specs.TableText.{Settings, SaidStatements, StandsFor, SaysVariable, SaysTransition, LinesSay, IsTable, table_from, states_among}
-use Rattle.ca_isotropic.specs.RuleFiles.{IsTableName}
+use Rattle.ca_rule.specs.Prelude.{are_digits, state_count, States, Transition, admits, rule_named, begins_with, tail_after, begins_variable, comma_parts, fields_between, is_field, is_name}
+use Rattle.ca_rule.specs.Prelude.{IsVariableLine, IsTransitionLine, Settings, SaidStatements, StandsFor, SaysVariable, SaysTransition, LinesSay, IsTable, table_from, states_among}
+use Rattle.ca_isotropic.specs.Prelude.{IsTableName}
 use Rattle.ca_isotropic.specs.inner.GenerationsTables.{generations_head, listed_states, least_of, variable_line, variable_lines}
 use Rattle.ca_isotropic.proofs.WrittenTables.{is_plain, IsSaid, lines-said, one-line, no-blanks, no-comment, front-all, keeps-last, keeps-end, something-said, plain-said, rule-line-said, name-said}
 

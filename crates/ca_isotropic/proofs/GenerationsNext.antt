@@ -6,16 +6,12 @@ use Rattle.std.proofs.lemmas.Bool.{cases_Bool, and_parts, and_from, or_left, or_
 use Rattle.std.proofs.lemmas.Bool.Decides.{nat_tests}
 use Rattle.std.proofs.lemmas.List.Folds.{list_any-append}
 use Rattle.std.proofs.lemmas.List.Elements.{All-from_recursion}
-use Rattle.ca_plane.specs.Ageing.{liveness, older}
-use Rattle.ca_rule.specs.Counts.{is_count}
-use Rattle.ca_rule.specs.Generations.{generations_next, generations_next_state, live_count}
-use Rattle.ca_rule.specs.declared.counts.Counts.{Counts}
+use Rattle.ca_plane.specs.Prelude.{liveness, older}
+use Rattle.ca_rule.specs.Prelude.{is_count, generations_next, generations_next_state, live_count, States, SlotCell, is_variable, admits, take_one_cell, fits, next_by, variable_states, orders}
+use Rattle.ca_rule.specs.declared.{counts.Counts.Counts, table.slot.Slot.Slot}
 use Rattle.ca_rule.specs.declared.table.neighbourhood.Neighbourhood.TheVariants.{Moore}
 use Rattle.ca_rule.specs.declared.table.neighbourhood.Symmetry.TheVariants.{Identity}
-use Rattle.ca_rule.specs.declared.table.slot.Slot.{Slot}
 use Rattle.ca_rule.specs.declared.table.slot.Slot.TheVariants.{Number, Variable}
-use Rattle.ca_rule.specs.TableNext.{States, SlotCell, is_variable, admits, take_one_cell, fits, next_by, variable_states}
-use Rattle.ca_rule.specs.TableOrders.{orders}
 use Rattle.ca_rule.specs.inner.TableDistinct.{are_distinct}
 use Rattle.ca_rule.proofs.Distinct.{distinct-take}
 use Rattle.ca_isotropic.specs.inner.WrittenTables.{inputs_of, neighbourhood, neighbourhoods, changes}

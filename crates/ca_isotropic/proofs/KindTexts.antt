@@ -4,14 +4,14 @@ use Rattle.std.proofs.lemmas.List.{append-nil}
 use Rattle.std.specs.List.{list_all}
 use Rattle.std.proofs.lemmas.Bool.{cases_Bool, and_parts}
 use Rattle.std.proofs.lemmas.Bool.Decides.{nat_tests}
-use Rattle.ca_plane.specs.Bytes.{Every, is_end_or}
+use Rattle.ca_plane.specs.Prelude.{Every, is_end_or}
 use Rattle.ca_plane.proofs.Fronts.{front_then_rest, front_append, rest_append}
-use Rattle.ca_rule.specs.Spelling.{IsLetter, IsOptionalSlash, IsLettered, IsUnlettered}
+use Rattle.ca_rule.specs.Prelude.{IsLetter, IsOptionalSlash, IsLettered, IsUnlettered}
 use Rattle.ca_rule.specs.declared.hood.Hood.TheVariants.{Moore}
 use Rattle.ca_rule.specs.inner.TextParts.{is_rule_letter, without_slash, tail_after_letter, tail_after_slash, both_lists, swapped_lists}
 use Rattle.ca_rule.proofs.Ends.{IsLetter-from_test, is_rule_letter-from}
 use Rattle.ca_rule.proofs.SpelledDigits.{first_list, second_list}
-use Rattle.ca_isotropic.specs.Isotropic.{is_kind_list, SpellsIsotropicRule}
+use Rattle.ca_isotropic.specs.Prelude.{is_kind_list, SpellsIsotropicRule}
 use Rattle.ca_isotropic.specs.inner.KindTexts.{ends_list, list_front, list_rest, lists_around, lists_around_slash, lists_of}
 use Rattle.ca_isotropic.proofs.ListBytes.{list-bytes, ends-none}
 

@@ -3,11 +3,10 @@ use Rattle.std.proofs.Common.{◌≡◌, ℕ, ◌+◌, ◌-◌, List, [], ◌∷
 use Rattle.std.specs.List.{list_all, list_any}
 use Rattle.std.proofs.lemmas.Bool.{cases_Bool, and_parts, and_from, or_cases, false≢true}
 use Rattle.std.proofs.lemmas.Bool.Decides.{nat_tests}
-use Rattle.ca_plane.specs.Bytes.{Every, is_digit, is_end_or, with_front}
+use Rattle.ca_plane.specs.Prelude.{Every, is_digit, is_end_or, with_front}
 use Rattle.ca_plane.proofs.Fronts.{every_wider}
 use Rattle.ca_isotropic.specs.declared.kinds.Kind.{Kind}
-use Rattle.ca_isotropic.specs.Kinds.{kinds_of_one, kinds_of_two, kinds_of_three, kinds_of_four, kinds_with}
-use Rattle.ca_isotropic.specs.Isotropic.{is_letter, lettered_kinds, has_letter, are_letters, is_part, parts, is_kind_list}
+use Rattle.ca_isotropic.specs.Prelude.{kinds_of_one, kinds_of_two, kinds_of_three, kinds_of_four, kinds_with, is_letter, lettered_kinds, has_letter, are_letters, is_part, parts, is_kind_list}
 use Rattle.ca_isotropic.specs.inner.KindTexts.{ends_list}
 use Rattle.ca_isotropic.proofs.TextBytes.{is_text_byte}
 

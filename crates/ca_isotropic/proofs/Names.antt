@@ -3,18 +3,14 @@ use Rattle.std.proofs.Common.{◌≡◌, ℕ, List, [], ◌∷◌, ◌++◌, len
 use Rattle.std.specs.List.{list_all}
 use Rattle.std.proofs.lemmas.Bool.{and_parts, and_from}
 use Rattle.std.proofs.lemmas.Bool.Decides.{nat_tests}
-use Rattle.ca_plane.specs.Bytes.{Every, is_word_byte, is_blank, is_line_end, is_digit, value}
+use Rattle.ca_plane.specs.Prelude.{Every, is_word_byte, is_blank, is_line_end, is_digit, value}
 use Rattle.ca_plane.proofs.Fronts.{every_append, every_wider}
-use Rattle.ca_rule.specs.Spelling.{IsLetter, IsSuffix, IsOptionalSlash, IsLettered, IsUnlettered, SpellsBsRule}
+use Rattle.ca_rule.specs.Prelude.{IsLetter, IsSuffix, IsOptionalSlash, IsLettered, IsUnlettered, SpellsBsRule, are_digits, state_count, SpellsGenerationsRule}
 use Rattle.ca_rule.specs.declared.hood.Hood.{Hood}
 use Rattle.ca_rule.specs.declared.hood.Hood.TheVariants.{Moore, VonNeumann, Hex}
-use Rattle.ca_rule.specs.Digits.{are_digits, state_count}
-use Rattle.ca_rule.specs.Generations.{SpellsGenerationsRule}
 use Rattle.ca_rule.proofs.OneSpelling.{if-some}
 use Rattle.ca_rule.proofs.ReadInwards.{digits-of}
-use Rattle.ca_isotropic.specs.Isotropic.{SpellsIsotropicRule}
-use Rattle.ca_isotropic.specs.Map.{is_base64, sextet, are_characters, IsMap}
-use Rattle.ca_isotropic.specs.RuleFiles.{IsTableName}
+use Rattle.ca_isotropic.specs.Prelude.{SpellsIsotropicRule, is_base64, sextet, are_characters, IsMap, IsTableName}
 use Rattle.ca_isotropic.proofs.WrittenTables.{is_plain}
 use Rattle.ca_isotropic.proofs.TextBytes.{is_text_byte, IsText}
 use Rattle.ca_isotropic.proofs.ListBytes.{list-bytes, text-list}

@@ -3,10 +3,7 @@ use Rattle.std.proofs.Common.{◌≡◌, ℕ, List, [], ◌∷◌, length, Bool,
 use Rattle.std.specs.List.{list_all}
 use Rattle.std.proofs.lemmas.Bool.{and_parts}
 use Rattle.std.proofs.lemmas.Bool.Decides.{nat_tests}
-use Rattle.ca_isotropic.specs.Kinds.{turned, mirrored, letter_of, kinds_of, has_no_letter}
-use Rattle.ca_isotropic.specs.Isotropic.{has_kind}
-use Rattle.ca_isotropic.specs.Map.{map_next}
-use Rattle.ca_isotropic.specs.Examples.{AreNineCells, counted_next, life_characters}
+use Rattle.ca_isotropic.specs.Prelude.{turned, mirrored, letter_of, kinds_of, has_no_letter, has_kind, map_next, AreNineCells, counted_next, life_characters}
 use Rattle.ca_isotropic.specs.inner.WrittenTables.{neighbourhoods}
 use Rattle.ca_isotropic.proofs.WrittenNext.{Holds, all-held}
 

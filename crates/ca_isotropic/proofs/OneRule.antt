@@ -4,24 +4,19 @@ use Rattle.std.specs.List.{list_all}
 use Rattle.std.proofs.lemmas.Bool.{cases_Bool, false≢true, and_parts}
 use Rattle.std.proofs.lemmas.List.{append-nil}
 use Rattle.std.proofs.lemmas.Bool.Decides.{nat_tests}
-use Rattle.ca_plane.specs.Bytes.{Every, is_digit, front, rest}
+use Rattle.ca_plane.specs.Prelude.{Every, is_digit, front, rest}
 use Rattle.ca_plane.proofs.Fronts.{every_wider, every_right, one_split}
-use Rattle.ca_rule.specs.Spelling.{IsLetter, IsLettered, IsUnlettered, SpellsBsRule}
-use Rattle.ca_rule.specs.declared.hood.Hood.{Hood}
+use Rattle.ca_rule.specs.Prelude.{IsLetter, IsLettered, IsUnlettered, SpellsBsRule, has_colon, SpellsGenerationsRule}
+use Rattle.ca_rule.specs.declared.{hood.Hood.Hood, fault.RuleFault.RuleFault}
 use Rattle.ca_rule.specs.declared.hood.Hood.TheVariants.{Moore}
-use Rattle.ca_rule.specs.Spelling.{has_colon}
-use Rattle.ca_rule.specs.declared.fault.RuleFault.{RuleFault}
 use Rattle.ca_rule.specs.declared.fault.RuleFault.TheVariants.{Bounded, Wakes, Unknown}
-use Rattle.ca_rule.specs.Generations.{SpellsGenerationsRule}
 use Rattle.ca_rule.proofs.GenerationsRead as generations
 use Rattle.ca_rule.proofs.Meaning.{names-once, names-faultless}
 use Rattle.ca_rule.proofs.Rules.{same-equal, equal-generations}
 use Rattle.ca_rule.proofs.ReadInwards.{digits-of}
 use Rattle.ca_isotropic.specs.inner.KindTexts.{ends_list}
 use Rattle.ca_rule.specs.inner.TextParts.{is_rule_letter}
-use Rattle.ca_isotropic.specs.Isotropic.{is_part, is_kind_list, SpellsIsotropicRule, gives_birth_alone}
-use Rattle.ca_isotropic.specs.Map.{IsMap, map_next}
-use Rattle.ca_isotropic.specs.TextRules.{TextRule, Bs, Isotropic, Map, Generations, NamesTextRule, IsTextRuleFault}
+use Rattle.ca_isotropic.specs.Prelude.{is_part, is_kind_list, SpellsIsotropicRule, gives_birth_alone, IsMap, map_next, TextRule, Bs, Isotropic, Map, Generations, NamesTextRule, IsTextRuleFault}
 use Rattle.ca_isotropic.proofs.KindTexts.{spells-once}
 use Rattle.ca_isotropic.proofs.ListBytes.{list-bytes, ends-none}
 use Rattle.ca_isotropic.proofs.Parts.{first_part}

@@ -1,9 +1,9 @@
 -- The first part of a list of kinds, and the others.
 use Rattle.std.proofs.Common.{◌≡◌, ℕ, ◌≤◌, length, arith, List, [], ◌∷◌, not, refl, sym, ap, ◌∙◌, inl, inr, if◌then◌else◌}
 use Rattle.std.proofs.lemmas.Bool.{cases_Bool}
-use Rattle.ca_plane.specs.Bytes.{is_digit, front, rest, with_front}
+use Rattle.ca_plane.specs.Prelude.{is_digit, front, rest, with_front}
 use Rattle.ca_plane.proofs.Fronts.{front_length}
-use Rattle.ca_isotropic.specs.Isotropic.{parts}
+use Rattle.ca_isotropic.specs.Prelude.{parts}
 
 -- the bytes before the first digit, and the bytes from there on
 abbrev before : List ℕ → List ℕ

@@ -2,7 +2,7 @@
 use Rattle.std.proofs.Common.{◌≡◌, ℕ, List, ◌++◌, Bool, true, false, ◌||◌, sym, ap, ◌∙◌, append_assoc}
 use Rattle.std.specs.List.{list_any}
 use Rattle.std.proofs.lemmas.List.Folds.{list_any-append}
-use Rattle.ca_plane.specs.Puts.{Puts}
+use Rattle.ca_plane.specs.Prelude.{Puts}
 
 pub then-puts : (a b c x y : List ℕ) → Puts a b x → Puts b c y → Puts a c (x ++ y)
 then-puts a b c x y p q = record { whole = q.whole ∙ ap (λ l. l ++ y) p.whole ∙ append_assoc a x y }

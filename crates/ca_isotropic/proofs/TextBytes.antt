@@ -2,8 +2,8 @@
 use Rattle.std.proofs.Common.{◌≡◌, ℕ, List, [], ◌∷◌, Bool, false, not, ◌==◌, ◌&&◌, ◌||◌, refl, ap, ◌∙◌}
 use Rattle.std.specs.List.{list_all, list_any}
 use Rattle.std.proofs.lemmas.Bool.{and_parts, not-true}
-use Rattle.ca_plane.specs.Bytes.{Every}
-use Rattle.ca_rule.specs.Spelling.{has_colon}
+use Rattle.ca_plane.specs.Prelude.{Every}
+use Rattle.ca_rule.specs.Prelude.{has_colon}
 use Rattle.ca_isotropic.proofs.WrittenTables.{is_plain}
 
 abbrev pub is_text_byte : ℕ → Bool

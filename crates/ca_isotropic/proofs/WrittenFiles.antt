@@ -6,11 +6,9 @@ use Rattle.std.proofs.lemmas.Grind.{flat_map-append}
 use Rattle.std.proofs.lemmas.List.{map-append, append-nil}
 use Rattle.std.proofs.lemmas.List.Elements.{All-from_recursion, All-replicate}
 use Rattle.std.proofs.lemmas.List.FromFn.{filter_of_map_range_with_len_more}
-use Rattle.ca_plane.specs.Bytes.{text_of}
-use Rattle.ca_plane.specs.Puts.{Puts}
-use Rattle.ca_rule.specs.TableNext.{TableRule, table_next}
-use Rattle.ca_rule.specs.TableText.{IsTable, table_from}
-use Rattle.ca_isotropic.specs.RuleFiles.{IsTableName, WritesRule}
+use Rattle.ca_plane.specs.Prelude.{text_of, Puts}
+use Rattle.ca_rule.specs.Prelude.{TableRule, table_next, IsTable, table_from}
+use Rattle.ca_isotropic.specs.Prelude.{IsTableName, WritesRule}
 use Rattle.ca_isotropic.specs.inner.WrittenTables.{head_lines, inputs_of, transition_lines, lines_by, neighbourhood, neighbourhoods, changes}
 use Rattle.ca_isotropic.proofs.WrittenTables.{AreBits, IsInput, transition, written_settings, said_of, is-table}
 use Rattle.ca_isotropic.proofs.WrittenNext.{next-written, all-held, all-nine}

@@ -7,9 +7,8 @@ use Rattle.std.proofs.lemmas.Bool.Decides.{nat_tests}
 use Rattle.ca_rule.specs.declared.table.neighbourhood.Neighbourhood.TheVariants.{Moore}
 use Rattle.ca_rule.specs.declared.table.neighbourhood.Symmetry.TheVariants.{Identity}
 use Rattle.ca_rule.specs.declared.table.slot.Slot.TheVariants.{Number}
-use Rattle.ca_rule.specs.TableNext.{SlotCell, admits, take_one_cell, fits, next_by}
-use Rattle.ca_rule.specs.TableOrders.{orders}
-use Rattle.ca_isotropic.specs.Map.{number_of}
+use Rattle.ca_rule.specs.Prelude.{SlotCell, admits, take_one_cell, fits, next_by, orders}
+use Rattle.ca_isotropic.specs.Prelude.{number_of}
 use Rattle.ca_isotropic.specs.inner.WrittenTables.{inputs_of, neighbourhood, neighbourhoods, changes}
 use Rattle.ca_isotropic.proofs.WrittenTables.{transition}
 

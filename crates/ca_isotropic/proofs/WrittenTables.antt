@@ -5,16 +5,15 @@ use Rattle.std.proofs.lemmas.Bool.{and_parts, and_from, not-true, false≢true}
 use Rattle.std.proofs.lemmas.Bool.Decides.{nat_tests}
 use Rattle.std.proofs.lemmas.List.Folds.{list_all-append}
 use Rattle.std.proofs.lemmas.List.{append-nil, length-map, length-append}
-use Rattle.ca_plane.specs.Bytes.{is_blank, is_line_end, Every, front, rest, without_last_blanks, trimmed, lines_of, text_of, words_of, IsWord, is_word_byte}
+use Rattle.ca_plane.specs.Prelude.{is_blank, is_line_end, Every, front, rest, without_last_blanks, trimmed, lines_of, text_of, words_of, IsWord, is_word_byte}
 use Rattle.ca_plane.proofs.Fronts.{every_append, every_wider, front_append}
 use Rattle.ca_plane.proofs.Lines.{lines_ahead, words_ahead}
 use Rattle.ca_rule.specs.declared.table.neighbourhood.Neighbourhood.TheVariants.{Moore}
 use Rattle.ca_rule.specs.declared.table.neighbourhood.Symmetry.TheVariants.{Identity}
 use Rattle.ca_rule.specs.declared.table.slot.Slot.TheVariants.{Number}
-use Rattle.ca_rule.specs.TableNext.{Transition}
-use Rattle.ca_rule.specs.TableLines.{content_of, says_something, lines_said, rule_named, fields_between, is_field, begins_variable, IsTransitionLine}
-use Rattle.ca_rule.specs.TableText.{Settings, SaidStatements, StandsFor, SaysTransition, LinesSay, IsTable, table_from}
-use Rattle.ca_isotropic.specs.RuleFiles.{IsTableName}
+use Rattle.ca_rule.specs.Prelude.{Transition, content_of, says_something, lines_said, rule_named, fields_between, is_field, begins_variable, IsTransitionLine, Settings, SaidStatements, StandsFor}
+use Rattle.ca_rule.specs.Prelude.{SaysTransition, LinesSay, IsTable, table_from}
+use Rattle.ca_isotropic.specs.Prelude.{IsTableName}
 use Rattle.ca_isotropic.specs.inner.WrittenTables.{head_lines, digit_of, input_digits}
 
 -- ---- the lines of a text

@@ -1,7 +1,6 @@
 -- Texts and cells of the laws and the worked examples.
 use Rattle.std.specs.Prelude.{◌≡◌, ℕ, ◌<◌, List, length, All, codes}
-use Rattle.ca_rule.specs.Counts.{counts_of}
-use Rattle.ca_rule.specs.Next.{bs_next}
+use Rattle.ca_rule.specs.Prelude.{counts_of, bs_next}
 use Rattle.ca_rule.specs.declared.hood.Hood.TheVariants.{Moore}
 use Rattle.ca_isotropic.specs.Isotropic.{isotropic_next}
 use Rattle.ca_isotropic.specs.Kinds.{cells}

@@ -2,8 +2,8 @@
 -- non-totalistic rule"; what is marked so is our own).
 use Rattle.std.specs.Prelude.{◌≡◌, ℕ, ◌+◌, ◌-◌, List, [], ◌∷◌, length, Bool, true, false, not, ◌==◌, ◌&&◌, ◌||◌, nat_le, IsTrue, ◌⊎◌, Option, Some, None, slice_index, replicate, if◌then◌else◌}
 use Rattle.std.specs.List.{list_all, list_any}
-use Rattle.ca_plane.specs.Bytes.{letter, is_digit, is_end_or, with_front}
-use Rattle.ca_rule.specs.Spelling.{IsLettered, IsUnlettered, has_colon}
+use Rattle.ca_plane.specs.Prelude.{letter, is_digit, is_end_or, with_front}
+use Rattle.ca_rule.specs.Prelude.{IsLettered, IsUnlettered, has_colon}
 use Rattle.ca_rule.specs.declared.fault.RuleFault.{RuleFault}
 use Rattle.ca_rule.specs.declared.fault.RuleFault.TheVariants.{Bounded, Wakes, Unknown}
 use Rattle.ca_rule.specs.declared.hood.Hood.TheVariants.{Moore}

@@ -4,9 +4,9 @@ use Rattle.std.specs.Prelude.{ℕ, ◌-◌, List, [], ◌∷◌, ◌++◌, Bool,
 use Rattle.std.specs.List.{list_any}
 use Rattle.std.specs.Str.{bytes_eq}
 use Prim.Native.String.{String}
-use Rattle.ca_plane.specs.Bytes.{letter}
+use Rattle.ca_plane.specs.Prelude.{letter}
 use Rattle.ca_rule.specs.declared.hood.Hood.TheVariants.{Moore}
-use Rattle.ca_rule.specs.Next.{neighbour_count}
+use Rattle.ca_rule.specs.Prelude.{neighbour_count}
 use Rattle.ca_isotropic.specs.declared.kinds.Kind.{Kind}
 
 -- the cells of a picture: `O` is a live one

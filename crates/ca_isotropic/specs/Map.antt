@@ -2,8 +2,8 @@
 -- string"; what is marked so is our own).
 use Rattle.std.specs.Prelude.{◌≡◌, ℕ, ◌+◌, ◌-◌, ◌*◌, ◌/◌, ◌%◌, ◌^◌, List, ◌++◌, length, replicate, Bool, true, false, ◌==◌, ◌&&◌, ◌||◌, nat_le, IsTrue, codes, slice_index, if◌then◌else◌}
 use Rattle.std.specs.List.{list_all}
-use Rattle.ca_plane.specs.Bytes.{letter}
-use Rattle.ca_rule.specs.Spelling.{has_colon}
+use Rattle.ca_plane.specs.Prelude.{letter}
+use Rattle.ca_rule.specs.Prelude.{has_colon}
 use Rattle.ca_rule.specs.declared.fault.RuleFault.{RuleFault}
 use Rattle.ca_rule.specs.declared.fault.RuleFault.TheVariants.{Bounded, Wakes, Unknown}
 

@@ -1,8 +1,7 @@
 -- Rule files that are written: each is the text of a table by the definitions of rule tables.
 use Rattle.std.specs.Prelude.{◌≡◌, ℕ, ◌<◌, List, length, All, not, ◌==◌}
-use Rattle.ca_plane.specs.Bytes.{IsWord, Every}
-use Rattle.ca_rule.specs.TableNext.{TableRule, IsSoundTable, table_next}
-use Rattle.ca_rule.specs.TableText.{IsTable}
+use Rattle.ca_plane.specs.Prelude.{IsWord, Every}
+use Rattle.ca_rule.specs.Prelude.{TableRule, IsSoundTable, table_next, IsTable}
 use Rattle.ca_isotropic.specs.TextRules.{TextRule, text_rule_states, text_rule_next, NamesTextRule, IsTextRuleFault}
 use Rattle.ca_isotropic.specs.declared.fault.RuleFileFault.{RuleFileFault}
 use Rattle.ca_isotropic.specs.declared.fault.RuleFileFault.TheVariants.{Rule, Memory}

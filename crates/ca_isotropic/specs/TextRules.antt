@@ -2,11 +2,8 @@
 -- a text that names none.
 use Rattle.std.specs.Prelude.{◌≡◌, ℕ, List, true, ◌⊎◌}
 use Rattle.ca_rule.specs.Next as bs
-use Rattle.ca_rule.specs.Spelling.{NamesBsRule, SpellsNoBsRule, IsBsRuleFault, has_colon}
-use Rattle.ca_rule.specs.Generations.{generations_next, NamesGenerationsRule, IsGenerationsRuleFault}
-use Rattle.ca_rule.specs.declared.bs_rule.BsRule.{BsRule}
-use Rattle.ca_rule.specs.declared.gen_rule.GenRule.{GenRule}
-use Rattle.ca_rule.specs.declared.fault.RuleFault.{RuleFault}
+use Rattle.ca_rule.specs.Prelude.{NamesBsRule, SpellsNoBsRule, IsBsRuleFault, has_colon, generations_next, NamesGenerationsRule, IsGenerationsRuleFault}
+use Rattle.ca_rule.specs.declared.{bs_rule.BsRule.BsRule, gen_rule.GenRule.GenRule, fault.RuleFault.RuleFault}
 use Rattle.ca_rule.specs.declared.fault.RuleFault.TheVariants.{Bounded, Wakes, Unknown}
 use Rattle.ca_isotropic.specs.Isotropic.{NamesIsotropicRule, IsIsotropicRuleFault, isotropic_next}
 use Rattle.ca_isotropic.specs.Map.{NamesMap, IsMapFault, map_next}

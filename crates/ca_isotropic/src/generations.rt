@@ -1,10 +1,8 @@
 //! The rule file of a Generations rule.
 
 ghost use Rattle.std.specs.Prelude.{◌≡◌, ◌<◌, ◌≤◌, ◌-◌, ◌∷◌, [], ◌++◌, OnOk, IfOk, decimal};
-ghost use Rattle.ca_plane.specs.Ageing.{older};
-ghost use Rattle.ca_plane.specs.Bytes.{text_of};
-ghost use Rattle.ca_plane.specs.Puts.{Puts};
-ghost use Rattle.ca_rule.specs.Generations.{generations_next};
+ghost use Rattle.ca_plane.specs.Prelude.{older, text_of, Puts};
+ghost use Rattle.ca_rule.specs.Prelude.{generations_next};
 ghost use Rattle.ca_isotropic.specs.RuleFiles.{IsTableName, WritesRule};
 ghost use Rattle.ca_isotropic.specs.inner.GenerationsTables.{generations_head, listed_states, least_of};
 ghost use Rattle.ca_isotropic.specs.inner.GenerationsTables.{variable_line, variable_lines, neighbour_byte};

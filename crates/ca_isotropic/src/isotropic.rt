@@ -2,13 +2,11 @@
 
 ghost use Rattle.std.specs.Prelude.{◌≡◌, ◌≤◌, None, Some, false, not, MatchOption, IfOk, IfErr, IfSome, IfNone};
 ghost use Rattle.std.specs.List.{prefix_len};
-ghost use Rattle.ca_isotropic.specs.Isotropic.{gives_birth_alone, SpellsIsotropicRule};
-ghost use Rattle.ca_isotropic.specs.Isotropic.{SpellsNoIsotropicRule, NamesIsotropicRule};
+ghost use Rattle.ca_isotropic.specs.Isotropic.{gives_birth_alone, SpellsIsotropicRule, SpellsNoIsotropicRule, NamesIsotropicRule};
 ghost use Rattle.ca_isotropic.specs.Isotropic.{IsIsotropicRuleFault};
 ghost use Rattle.ca_isotropic.specs.inner.KindTexts.{ends_list, lists_around, lists_around_slash, lists_of};
-ghost use Rattle.ca_plane.specs.Bytes.{front, rest};
-ghost use Rattle.ca_rule.specs.inner.TextParts.{is_rule_letter, without_slash, tail_after_letter};
-ghost use Rattle.ca_rule.specs.inner.TextParts.{tail_after_slash};
+ghost use Rattle.ca_plane.specs.Prelude.{front, rest};
+ghost use Rattle.ca_rule.specs.inner.TextParts.{is_rule_letter, without_slash, tail_after_letter, tail_after_slash};
 ghost use Rattle.std.proofs.Common.{arith, rules};
 ghost use Rattle.std.proofs.lemmas.Bool.Decides.{nat_tests};
 

@@ -2,7 +2,7 @@
 
 ghost use Rattle.std.specs.Prelude.{◌≡◌, ◌∷◌, ◌<◌, [], not, length, MatchOption, IfSome};
 ghost use Rattle.std.specs.List.{list_all, list_any, prefix_len};
-ghost use Rattle.ca_plane.specs.Bytes.{is_digit, front, rest};
+ghost use Rattle.ca_plane.specs.Prelude.{is_digit, front, rest};
 ghost use Rattle.ca_isotropic.specs.Isotropic.{is_letter, lettered_kinds, has_letter, are_letters, is_part};
 ghost use Rattle.ca_isotropic.specs.Isotropic.{parts, is_kind_list, is_named, picks, part_has, has_kind};
 

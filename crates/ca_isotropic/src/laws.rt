@@ -2,11 +2,10 @@
 //! functions are of no use to a program: each has laws for its contract.
 
 ghost use Rattle.std.specs.Prelude.{◌≡◌, ◌++◌, ℕ, List, length, Some, None, IsTrue, codes, if◌then◌else◌};
-ghost use Rattle.ca_plane.specs.Bytes.{letter};
-ghost use Rattle.ca_rule.specs.Counts.{are_digits_up_to};
+ghost use Rattle.ca_plane.specs.Prelude.{letter};
+ghost use Rattle.ca_rule.specs.Prelude.{are_digits_up_to, HasAtMostOne};
 ghost use Rattle.ca_isotropic.specs.Kinds.{cells, turned, mirrored, letter_of, kinds_of, has_no_letter};
 ghost use Rattle.ca_isotropic.specs.Isotropic.{has_kind, isotropic_next, SpellsIsotropicRule};
-ghost use Rattle.ca_rule.specs.OneMeaning.{HasAtMostOne};
 ghost use Rattle.ca_isotropic.specs.TextRules.{TextRule, NamesTextRule, IsTextRuleFault};
 ghost use Rattle.ca_rule.specs.declared.fault.RuleFault.{RuleFault};
 ghost use Rattle.ca_isotropic.specs.Map.{IsMap, map_next};

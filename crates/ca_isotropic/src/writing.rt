@@ -1,11 +1,9 @@
 //! The rule file of a rule of two states.
 
 ghost use Rattle.std.specs.Prelude.{◌≡◌, ◌<◌, ◌/◌, ◌%◌, ◌∷◌, [], ℕ, List, OnOk, IfOk};
-ghost use Rattle.ca_plane.specs.Bytes.{text_of};
-ghost use Rattle.ca_plane.specs.Puts.{Puts};
+ghost use Rattle.ca_plane.specs.Prelude.{text_of, Puts};
 ghost use Rattle.ca_isotropic.specs.RuleFiles.{IsTableName, WritesRule};
-ghost use Rattle.ca_isotropic.specs.inner.WrittenTables.{head_lines, digit_of, transition_line};
-ghost use Rattle.ca_isotropic.specs.inner.WrittenTables.{transition_lines, neighbourhood};
+ghost use Rattle.ca_isotropic.specs.inner.WrittenTables.{head_lines, digit_of, transition_line, transition_lines, neighbourhood};
 
 use ca_plane::text::push_text;
 use ca_plane::{Automaton, Memory, Nine};

@@ -9,16 +9,15 @@ use Rattle.std.proofs.lemmas.Int.{ints}
 use Rattle.std.proofs.lemmas.List.Elements.{All-head, All-tail, All-nil, All-cons, All-append, All-map}
 use Rattle.std.proofs.lemmas.Nat.Bits.{bit_at-zero, bit_at_lowest, bit_at-suc}
 use Rattle.ca_plane.specs.declared.point.Point.{Point}
-use Rattle.ca_plane.specs.Plane.{Picture, IsPicture, cell, shifted}
+use Rattle.ca_plane.specs.Prelude.{Picture, IsPicture, cell, shifted, from_corner, row_cells}
 use Rattle.ca_plane.proofs.Pictures.{place-from_true, cell-first}
 use Rattle.ca_plane.proofs.Shifts.{cell-shifted}
-use Rattle.ca_quad.specs.Squares.{one_cell, joined_cells}
-use Rattle.ca_plane.specs.Shown.{from_corner, row_cells}
+use Rattle.ca_quad.specs.Prelude.{one_cell, joined_cells}
 use Rattle.ca_plane.proofs.Numbers.{below_or_not}
 use Rattle.ca_quad.specs.inner.Measure.{EndsWithin}
 use Rattle.ca_quad.proofs.Cells.{in_nw, in_ne, in_sw, in_se, dot_ends, together_ends}
 use Rattle.ca_quad.proofs.Edges.{off_x, off_y}
-use Rattle.ca_macro.specs.Shown.{row_from, rows_from, leaf_state, joined_picture}
+use Rattle.ca_macro.specs.Prelude.{row_from, rows_from, leaf_state, joined_picture}
 use Rattle.ca_macro.specs.inner.Leaves.{row_bits, leaf_bits}
 
 -- ---- one picture after another

@@ -5,9 +5,7 @@ use Rattle.std.proofs.lemmas.List.{get_or_append_left, length_push}
 use Rattle.std.proofs.lemmas.Option.{slice_get_within, get_or_from_slice_get}
 use Rattle.std.proofs.Math.Seq.{get_or-append_seam}
 use Rattle.ca_quad.specs.declared.node.Node.{Node as Kept}
-use Rattle.ca_quad.specs.Squares.{one_cell, joined_cells, cell_of}
-use Rattle.ca_quad.specs.Sound.{IsSoundStore, Grows}
-use Rattle.ca_quad.specs.Trees.{ShowsSquare}
+use Rattle.ca_quad.specs.Prelude.{one_cell, joined_cells, cell_of, IsSoundStore, Grows, ShowsSquare}
 use Rattle.ca_plane.proofs.Numbers.{below_or_not}
 use Rattle.ca_quad.proofs.ShownSquares.{shows_as, shows_stays}
 use Rattle.ca_quad.proofs.Walks.{dot_empty, together_empty}

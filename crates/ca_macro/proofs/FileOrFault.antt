@@ -6,14 +6,12 @@ use Rattle.std.proofs.lemmas.Bool.{cases_Bool, and_from, true≢false}
 use Rattle.std.proofs.lemmas.Bool.Decides.{nat_tests}
 use Rattle.std.proofs.lemmas.List.{append-nil, append_assoc}
 use Rattle.std.proofs.lemmas.Slice.Eq.{bytes_eq-Decides}
-use Rattle.ca_plane.specs.Bytes.{letter, is_line_end, is_end_or, with_front, value, lines_of, words_of}
-use Rattle.ca_plane.specs.Limits.{generation_limit}
+use Rattle.ca_plane.specs.Prelude.{letter, is_line_end, is_end_or, with_front, value, lines_of, words_of, generation_limit}
 use Rattle.ca_plane.proofs.Numbers.{below_or_not}
 use Rattle.ca_macro.specs.declared.fault.MacroFault.{MacroFault}
 use Rattle.ca_macro.specs.declared.fault.MacroFault.TheVariants.{NotMacro, Timeline, Syntax, Forward, Level, LeafSize, Range, GenTooLarge, Memory}
-use Rattle.ca_macro.specs.Nodes.{Node, Leaf, Cells, Parts, NamesPart, IsLevel}
-use Rattle.ca_macro.specs.File.{MacrocellLine, Nothing, Rule, Generation, Adds, AreNumbers, MacrocellWordsSay, added_nodes, IsAllowedNode, MacrocellLinesSay, MacrocellFile, begins_macro, IsMacrocellFile}
-use Rattle.ca_macro.specs.Faults.{HasMacrocellLine, is_leaf_byte, HasBadPart, AreFaulty, IsFirstMacrocellFault}
+use Rattle.ca_macro.specs.Prelude.{Node, Leaf, Cells, Parts, NamesPart, IsLevel, MacrocellLine, Nothing, Rule, Generation, Adds, AreNumbers, MacrocellWordsSay, added_nodes, IsAllowedNode}
+use Rattle.ca_macro.specs.Prelude.{MacrocellLinesSay, MacrocellFile, begins_macro, IsMacrocellFile, HasMacrocellLine, is_leaf_byte, HasBadPart, AreFaulty, IsFirstMacrocellFault}
 use Rattle.ca_macro.specs.inner.Leaves.{leaf_fault, leaf_cells, IsLeafFault}
 use Rattle.ca_macro.specs.inner.Reading.{file_of_lines}
 use Rattle.ca_macro.proofs.Leaves.{leaf_found}

@@ -3,10 +3,8 @@ use Rattle.std.proofs.Common.{◌≡◌, ℕ, zero, suc, ◌+◌, ◌<◌, ◌�
 use Rattle.std.specs.List.{AllByRecursion, flat_map, slice_index_or}
 use Rattle.std.proofs.Math.ListN.{get_or-append}
 use Rattle.std.proofs.Math.Seq.{get_or-append_seam}
-use Rattle.ca_plane.specs.Plane.{Picture}
-use Rattle.ca_macro.specs.Nodes.{Node}
-use Rattle.ca_macro.specs.Shown.{numbered_square, node_picture, squares_after, squares_of}
-use Rattle.ca_macro.specs.Tidy.{node_parts, walks_after}
+use Rattle.ca_plane.specs.Prelude.{Picture}
+use Rattle.ca_macro.specs.Prelude.{Node, numbered_square, node_picture, squares_after, squares_of, node_parts, walks_after}
 use Rattle.ca_plane.proofs.Elements.{all_append, all_weaker}
 
 -- ---- lists that are made one after another, each from the earlier ones

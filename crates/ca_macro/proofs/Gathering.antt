@@ -7,20 +7,16 @@ use Rattle.std.proofs.lemmas.Bool.{cases_Bool, and_parts, eqb-true}
 use Rattle.std.proofs.lemmas.Bool.Decides.{nat_tests}
 use Rattle.std.proofs.lemmas.List.{length-map, map-append}
 use Rattle.std.proofs.lemmas.Option.{same_Some}
-use Rattle.ca_plane.specs.Plane.{Picture, cell}
+use Rattle.ca_plane.specs.Prelude.{Picture, cell, from_corner}
 use Rattle.ca_quad.specs.declared.node.Node.{Node as Kept}
 use Rattle.ca_quad.specs.Squares as squares
-use Rattle.ca_quad.specs.Sound.{IsSoundStore}
-use Rattle.ca_quad.specs.SquareValues.{square_value}
-use Rattle.ca_quad.specs.Trees.{IsIn, IsEmpty}
-use Rattle.ca_plane.specs.Shown.{from_corner}
+use Rattle.ca_quad.specs.Prelude.{IsSoundStore, square_value, IsIn, IsEmpty}
 use Rattle.ca_quad.proofs.Cells.{same_cells}
 use Rattle.ca_plane.proofs.Numbers.{below_or_not}
 use Rattle.ca_quad.proofs.Measures.{one_more}
 use Rattle.ca_macro.specs.declared.write.written.WrittenNode.{WrittenNode}
-use Rattle.ca_macro.specs.Nodes.{Node, Leaf, Cells, Parts, node_level, NamesPart, MayFollow}
-use Rattle.ca_macro.specs.Shown.{numbered_square, row_from, rows_from, leaf_state, node_picture, squares_of}
-use Rattle.ca_macro.specs.Tidy.{AreInPlace, HasForm, is_empty}
+use Rattle.ca_macro.specs.Prelude.{Node, Leaf, Cells, Parts, node_level, NamesPart, MayFollow, numbered_square, row_from, rows_from, leaf_state, node_picture, squares_of, AreInPlace, HasForm}
+use Rattle.ca_macro.specs.Prelude.{is_empty}
 use Rattle.ca_macro.specs.inner.Written.{node_of, kept_cells, IsPictureOfSquare, IsWrittenNumber, IsNodeOf, IsGathered}
 use Rattle.ca_macro.proofs.Following.{square_stays, square_last}
 use Rattle.ca_plane.proofs.Elements.{all_append}

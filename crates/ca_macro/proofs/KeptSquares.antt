@@ -4,22 +4,16 @@ use Rattle.std.specs.List.{slice_get, AllByRecursion, last_or}
 use Rattle.std.proofs.lemmas.Int.{ints}
 use Rattle.std.proofs.lemmas.List.Elements.{All-nil}
 use Rattle.std.proofs.lemmas.Option.{slice_get_within, same_Some}
-use Rattle.ca_plane.specs.Plane.{Picture, IsPicture, cell}
+use Rattle.ca_plane.specs.Prelude.{Picture, IsPicture, cell, row_cells, from_corner, nearest_u64}
 use Rattle.ca_plane.proofs.Shifts.{cell-shifted}
-use Rattle.ca_quad.specs.declared.node.Node.{Node as Kept}
-use Rattle.ca_quad.specs.declared.tree.Tree.{Tree}
-use Rattle.ca_quad.specs.Squares.{one_cell, joined_cells, cell_of}
-use Rattle.ca_quad.specs.Sound.{IsSoundStore, Grows}
-use Rattle.ca_quad.specs.Trees.{ShowsSquare, AreFour, IsTree, cell as tree_cell}
-use Rattle.ca_plane.specs.Shown.{row_cells, from_corner}
+use Rattle.ca_quad.specs.declared.{node.Node.Node as Kept, tree.Tree.Tree}
+use Rattle.ca_quad.specs.Prelude.{one_cell, joined_cells, cell_of, IsSoundStore, Grows, ShowsSquare, AreFour, IsTree, cell as tree_cell}
 use Rattle.ca_quad.proofs.Cells.{cell_ends, cells_stay, of_stays}
 use Rattle.ca_quad.proofs.ShownSquares.{shows_stays}
 use Rattle.ca_macro.specs.declared.read.squares.Squares.{Squares}
-use Rattle.ca_macro.specs.Nodes.{Node, Leaf, Cells, Parts, node_level, NamesPart, IsLevel, MayFollow}
-use Rattle.ca_macro.specs.Shown.{leaf_state, rows_from, joined_picture, numbered_square, node_picture, squares_after, squares_of, centred_picture, root_picture, picture_of_nodes}
-use Rattle.ca_macro.specs.Faults.{HasBadPart}
+use Rattle.ca_macro.specs.Prelude.{Node, Leaf, Cells, Parts, node_level, NamesPart, IsLevel, MayFollow, leaf_state, rows_from, joined_picture, numbered_square, node_picture, squares_after}
+use Rattle.ca_macro.specs.Prelude.{squares_of, centred_picture, root_picture, picture_of_nodes, HasBadPart}
 use Rattle.ca_macro.specs.inner.Leaves.{leaf_bits}
-use Rattle.ca_plane.specs.Bytes.{nearest_u64}
 use Rattle.ca_macro.specs.inner.Reading.{Draws, AreDrawn, AreEmpties, AreSquares, IsNodePart}
 use Rattle.ca_macro.proofs.Drawings.{AreStates, rows_states, rows_cell, from_corner_same, in_rows, four_cells, leaf_cell, leaf_states, shifted_states, joined_states, joined_cell}
 

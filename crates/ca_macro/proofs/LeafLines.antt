@@ -4,11 +4,10 @@ use Rattle.std.proofs.lemmas.Bool.{cases_Bool, true≢false}
 use Rattle.std.proofs.lemmas.Bool.Decides.{nat_tests}
 use Rattle.std.proofs.lemmas.List.{nil_from_length}
 use Rattle.std.proofs.lemmas.Option.{same_Some}
-use Rattle.ca_plane.specs.Bytes.{is_end_or, with_front, front, rest}
+use Rattle.ca_plane.specs.Prelude.{is_end_or, with_front, front, rest}
 use Rattle.ca_macro.specs.declared.fault.MacroFault.{MacroFault}
 use Rattle.ca_macro.specs.declared.fault.MacroFault.TheVariants.{Syntax, LeafSize}
-use Rattle.ca_macro.specs.Nodes.{leaf_rows, IsLeaf}
-use Rattle.ca_macro.specs.Faults.{is_leaf_byte, HasBadByte}
+use Rattle.ca_macro.specs.Prelude.{leaf_rows, IsLeaf, is_leaf_byte, HasBadByte}
 use Rattle.ca_macro.specs.inner.Leaves.{is_mark, has_room, leaf_fault, IsLeafFault, leaf_cells, IsRowSplit}
 use Rattle.ca_macro.proofs.Leaves.{leaf_found, leaf_passes, no_leaf}
 

@@ -4,7 +4,7 @@ use Rattle.std.specs.List.{AllByRecursion, list_all}
 use Rattle.std.proofs.lemmas.Bool.{and_parts, and_from, leb-true, le-leb, true≢false}
 use Rattle.std.proofs.lemmas.List.{length-map}
 use Rattle.std.proofs.lemmas.Bool.Decides.{nat_tests}
-use Rattle.ca_macro.specs.Nodes.{leaf_mark, leaf_rows, IsLeaf}
+use Rattle.ca_macro.specs.Prelude.{leaf_mark, leaf_rows, IsLeaf}
 use Rattle.ca_macro.specs.inner.Leaves.{is_mark, is_live, has_room, is_leaf}
 
 -- ---- rows of marks

@@ -4,10 +4,9 @@ use Rattle.std.specs.List.{flat_map}
 use Rattle.std.proofs.lemmas.Bool.{cases_Bool, eqb-true}
 use Rattle.std.proofs.lemmas.Grind.{flat_map-append}
 use Rattle.std.proofs.lemmas.List.{take_all}
-use Rattle.ca_plane.specs.Puts.{Puts}
-use Rattle.ca_macro.specs.Nodes.{leaf_mark}
+use Rattle.ca_plane.specs.Prelude.{Puts}
+use Rattle.ca_macro.specs.Prelude.{leaf_mark, node_text}
 use Rattle.ca_macro.specs.declared.write.written.WrittenNode.{WrittenNode}
-use Rattle.ca_macro.specs.Tidy.{node_text}
 use Rattle.ca_macro.specs.inner.Written.{row_marks, node_of}
 
 pub puts_on : (a b c t u : List ℕ) → Puts a b t → Puts b c u → Puts a c (t ++ u)

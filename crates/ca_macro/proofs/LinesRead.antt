@@ -2,16 +2,13 @@
 use Rattle.std.proofs.Common.{◌≡◌, ℕ, ◌+◌, ◌<◌, ◌≤◌, List, [], ◌∷◌, ◌++◌, length, true, refl, sym, ap, subst, ◌∙◌, arith}
 use Rattle.std.specs.List.{flat_map}
 use Rattle.std.proofs.lemmas.List.{append-nil, append_assoc, length_push}
-use Rattle.ca_plane.specs.Bytes.{lines_of, words_of}
+use Rattle.ca_plane.specs.Prelude.{lines_of, words_of}
 use Rattle.ca_quad.specs.declared.node.Node.{Node as Kept}
-use Rattle.ca_quad.specs.Sound.{Grows}
+use Rattle.ca_quad.specs.Prelude.{Grows}
 use Rattle.ca_quad.proofs.Growth.{grows_on}
-use Rattle.ca_macro.specs.declared.fault.MacroFault.{MacroFault}
+use Rattle.ca_macro.specs.declared.{fault.MacroFault.MacroFault, read.reading.Reading.Reading}
 use Rattle.ca_macro.specs.declared.fault.MacroFault.TheVariants.{NotMacro, Memory}
-use Rattle.ca_macro.specs.declared.read.reading.Reading.{Reading}
-use Rattle.ca_macro.specs.Nodes.{Node}
-use Rattle.ca_macro.specs.File.{MacrocellLine, MacrocellWordsSay, added_nodes, IsAllowedNode, MacrocellLinesSay, begins_macro}
-use Rattle.ca_macro.specs.Faults.{HasMacrocellLine, AreFaulty, AddNode}
+use Rattle.ca_macro.specs.Prelude.{Node, MacrocellLine, MacrocellWordsSay, added_nodes, IsAllowedNode, MacrocellLinesSay, begins_macro, HasMacrocellLine, AreFaulty, AddNode}
 use Rattle.ca_macro.specs.inner.Reading.{HasNodeFault, HasFaultOn, IsMacrocellReading}
 
 -- ---- one more line

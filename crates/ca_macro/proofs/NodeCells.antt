@@ -3,14 +3,11 @@ use Rattle.std.proofs.Common.{◌≡◌, ◌≢◌, ℕ, zero, suc, ◌+◌, ◌
 use Rattle.std.specs.List.{AllByRecursion, AllPairs, slice_index_or, list_all}
 use Rattle.std.proofs.Math.Nat.{two-pow-succ}
 use Rattle.std.proofs.lemmas.Bool.{cases_Bool, and_from}
-use Rattle.ca_plane.specs.Plane.{cell}
-use Rattle.ca_quad.specs.Squares.{one_cell, joined_cells}
-use Rattle.ca_quad.specs.Trees.{IsEmpty}
+use Rattle.ca_plane.specs.Prelude.{cell}
+use Rattle.ca_quad.specs.Prelude.{one_cell, joined_cells, IsEmpty}
 use Rattle.ca_quad.specs.inner.Measure.{EndsWithin}
 use Rattle.ca_quad.proofs.Cells.{together_ends, same_nw, same_ne, same_sw, same_se}
-use Rattle.ca_macro.specs.Nodes.{Node, Leaf, Cells, Parts, node_level, NamesPart, MayFollow}
-use Rattle.ca_macro.specs.Shown.{numbered_square, node_picture, squares_of, leaf_state}
-use Rattle.ca_macro.specs.Tidy.{AreInPlace, HasForm, is_empty}
+use Rattle.ca_macro.specs.Prelude.{Node, Leaf, Cells, Parts, node_level, NamesPart, MayFollow, numbered_square, node_picture, squares_of, leaf_state, AreInPlace, HasForm, is_empty}
 use Rattle.ca_macro.specs.inner.Written.{IsPictureOfSquare}
 use Rattle.ca_macro.proofs.Pictures.{rows_show, four_show, four_end, joined_show, picture_as}
 use Rattle.ca_macro.proofs.Gathering.{corner_zero, in_place_at, names_level, names_low, names_stay, split_at, square_at}

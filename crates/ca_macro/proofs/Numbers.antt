@@ -1,10 +1,9 @@
 -- Five numbers, of each of which something is kept.
 use Rattle.std.proofs.Common.{◌≡◌, ◌≢◌, ℕ, ◌≤◌, inr, sym, List, [], ◌∷◌, map, length, slice_index_or, refl, ap₂, subst, arith, ◌∙◌, ap}
 use Rattle.std.specs.List.{AllZip, AllByRecursion}
-use Rattle.ca_plane.specs.Bytes.{nearest_u64, value}
+use Rattle.ca_plane.specs.Prelude.{nearest_u64, value}
 use Rattle.ca_macro.specs.declared.line.numbers.Numbers.{Numbers}
-use Rattle.ca_macro.specs.File.{IsNumber, AreNumbers}
-use Rattle.ca_macro.specs.Faults.{AreMisspelledNodeWords}
+use Rattle.ca_macro.specs.Prelude.{IsNumber, AreNumbers, AreMisspelledNodeWords}
 use Rattle.ca_macro.specs.inner.Numbers.{KeepsNumberOf, AreKept}
 
 numbers_kept : (words : List (List ℕ)) (kept : List ℕ) → AllZip KeepsNumberOf words kept → AllZip IsNumber words (map value words) × (kept ≡ map nearest_u64 (map value words)) × (length (map value words) ≡ length kept)

@@ -2,14 +2,11 @@
 use Rattle.std.proofs.Common.{◌≡◌, ◌≢◌, ℕ, ◌+◌, Bool, true, false, List, [], ◌∷◌, ◌++◌, length, Option, Some, None, Result, Ok, Err, ◌⊎◌, inl, inr, refl, sym, ap, subst, ◌∙◌, arith}
 use Rattle.std.specs.List.{flat_map}
 use Rattle.std.proofs.lemmas.List.{append-nil, append_assoc}
-use Rattle.ca_plane.specs.Bytes.{lines_of, words_of}
-use Rattle.ca_plane.specs.Limits.{default_rule}
+use Rattle.ca_plane.specs.Prelude.{lines_of, words_of, default_rule}
 use Rattle.ca_macro.specs.declared.fault.MacroFault.{MacroFault}
 use Rattle.ca_macro.specs.declared.fault.MacroFault.TheVariants.{NotMacro, Range, Memory}
-use Rattle.ca_macro.specs.Nodes.{Node}
-use Rattle.ca_macro.specs.File.{MacrocellLine, added_nodes, MacrocellLinesSay, last_rule, last_line_generation, MacrocellFile, begins_macro, IsMacrocellFile}
-use Rattle.ca_macro.specs.Limits.{IsMacrocellWithinRange, IsMacrocellOutOfRange}
-use Rattle.ca_macro.specs.Faults.{HasMacrocellLine, AreFaulty, IsFirstMacrocellFault, IsFirstMacrocellFaultOn, IsFaultyMacrocellLine, IsMacrocellFault, IsMacrocellFaultOn}
+use Rattle.ca_macro.specs.Prelude.{Node, MacrocellLine, added_nodes, MacrocellLinesSay, last_rule, last_line_generation, MacrocellFile, begins_macro, IsMacrocellFile, IsMacrocellWithinRange}
+use Rattle.ca_macro.specs.Prelude.{IsMacrocellOutOfRange, HasMacrocellLine, AreFaulty, IsFirstMacrocellFault, IsFirstMacrocellFaultOn, IsFaultyMacrocellLine, IsMacrocellFault, IsMacrocellFaultOn}
 use Rattle.ca_macro.specs.inner.Reading.{HasFaultOn, IsMacrocellReadingFault, file_of_lines}
 use Rattle.ca_macro.proofs.Verdicts.{Verdict, verdict, said_told, fault_told}
 

@@ -5,14 +5,13 @@ use Rattle.std.proofs.lemmas.Bool.{cases_Bool, eqb-true}
 use Rattle.std.proofs.lemmas.Bool.Decides.{nat_tests}
 use Rattle.std.proofs.lemmas.Int.{ints}
 use Rattle.std.proofs.lemmas.Option.{same_Some}
-use Rattle.ca_plane.specs.Plane.{cell}
+use Rattle.ca_plane.specs.Prelude.{cell}
 use Rattle.ca_plane.proofs.Shifts.{cell-shifted}
-use Rattle.ca_quad.specs.Squares.{joined_cells}
+use Rattle.ca_quad.specs.Prelude.{joined_cells}
 use Rattle.ca_quad.proofs.Cells.{same_nw, same_ne, same_sw, same_se}
 use Rattle.ca_plane.proofs.Numbers.{below_or_not}
-use Rattle.ca_macro.specs.Nodes.{Node, Leaf, Cells, Parts, node_level, NamesPart, MayFollow}
-use Rattle.ca_macro.specs.Shown.{numbered_square, squares_of, centred_picture, root_picture, picture_of_nodes, leaf_state}
-use Rattle.ca_macro.specs.Tidy.{lowest_level, IsLeastLevel, AreInPlace, HasForm, is_empty, node_parts, walks_after, walk_of, numbers_once, tidy_lines, IsTidyMacrocell}
+use Rattle.ca_macro.specs.Prelude.{Node, Leaf, Cells, Parts, node_level, NamesPart, MayFollow, numbered_square, squares_of, centred_picture, root_picture, picture_of_nodes, leaf_state, lowest_level}
+use Rattle.ca_macro.specs.Prelude.{IsLeastLevel, AreInPlace, HasForm, is_empty, node_parts, walks_after, walk_of, numbers_once, tidy_lines, IsTidyMacrocell}
 use Rattle.ca_macro.proofs.Following.{walk_to, walk_stays, walk_last, walks_length}
 use Rattle.ca_macro.proofs.Gathering.{dead_square, four_dead, in_place_at, each_part, split_at}
 use Rattle.ca_macro.proofs.Roots.{last_node}

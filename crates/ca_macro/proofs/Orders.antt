@@ -4,9 +4,7 @@ use Rattle.std.specs.List.{range_with_len, flat_map}
 use Rattle.std.proofs.lemmas.Bool.{cases_Bool}
 use Rattle.std.proofs.lemmas.Bool.Decides.{nat_tests}
 use Rattle.std.proofs.lemmas.List.Elements.{filter-append}
-use Rattle.ca_macro.specs.Nodes.{Node, Parts}
-use Rattle.ca_macro.specs.Shown.{numbered_square}
-use Rattle.ca_macro.specs.Tidy.{node_parts, walks_after, numbers_once}
+use Rattle.ca_macro.specs.Prelude.{Node, Parts, numbered_square, node_parts, walks_after, numbers_once}
 use Rattle.ca_macro.specs.inner.Written.{Extends, KeepsFirstOrder}
 use Rattle.ca_macro.proofs.Following.{Within, walk_stays, walk_last, walks_length, walk_within}
 

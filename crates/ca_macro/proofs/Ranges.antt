@@ -3,18 +3,15 @@ use Rattle.std.proofs.Common.{◌≡◌, ℕ, ◌≤◌, ℤ, pos, neg_ℤ, ◌<
 use Rattle.std.specs.Ordering.{int_eq}
 use Rattle.std.proofs.lemmas.Bool.{cases_Bool}
 use Rattle.std.proofs.lemmas.List.Elements.{All-head, All-tail}
-use Rattle.ca_plane.specs.Plane.{Picture, IsPicture, cell}
+use Rattle.ca_plane.specs.Prelude.{Picture, IsPicture, cell, range, IsInRange}
 use Rattle.ca_plane.proofs.Pictures.{place-from_true, cell-first, point-same}
 use Rattle.std.specs.List.{AllByRecursion}
 use Rattle.std.proofs.lemmas.Int.{ints}
-use Rattle.ca_plane.specs.Limits.{range, IsInRange}
-use Rattle.ca_quad.specs.declared.tree.WideBounds.{WideBounds}
-use Rattle.ca_quad.specs.Boxes.{IsLeastWideBox}
-use Rattle.ca_quad.specs.declared.node.Node.{Node}
-use Rattle.ca_quad.specs.declared.tree.Tree.{Tree}
+use Rattle.ca_quad.specs.declared.{tree.WideBounds.WideBounds, node.Node.Node, tree.Tree.Tree}
+use Rattle.ca_quad.specs.Prelude.{IsLeastWideBox}
 use Rattle.ca_quad.specs.Trees as trees
 use Rattle.ca_quad.proofs.Reach.{tree_holds}
-use Rattle.ca_macro.specs.Pattern.{AreInRange}
+use Rattle.ca_macro.specs.Prelude.{AreInRange}
 
 -- a box is in range
 abbrev pub IsBoxInRange : WideBounds → Type 0

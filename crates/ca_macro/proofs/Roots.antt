@@ -5,22 +5,18 @@ use Rattle.std.proofs.Math.Nat.{two-pow-succ}
 use Rattle.std.proofs.lemmas.Bool.{cases_Bool, eqb-true}
 use Rattle.std.proofs.lemmas.Int.{ints}
 use Rattle.std.proofs.lemmas.Option.{same_Some}
-use Rattle.ca_plane.specs.Plane.{Picture}
+use Rattle.ca_plane.specs.Prelude.{Picture, from_corner}
 use Rattle.ca_plane.specs.Plane as plane
 use Rattle.ca_plane.proofs.Shifts.{cell-shifted}
-use Rattle.ca_quad.specs.declared.node.Node.{Node as Kept}
-use Rattle.ca_quad.specs.declared.tree.Tree.{Tree}
+use Rattle.ca_quad.specs.declared.{node.Node.Node as Kept, tree.Tree.Tree}
 use Rattle.ca_quad.specs.Squares as squares
-use Rattle.ca_quad.specs.Trees.{IsEmpty, IsTree, cell, IsTrimmed}
-use Rattle.ca_plane.specs.Shown.{from_corner}
+use Rattle.ca_quad.specs.Prelude.{IsEmpty, IsTree, cell, IsTrimmed}
 use Rattle.ca_quad.specs.inner.Measure.{EndsWithin}
 use Rattle.ca_quad.proofs.Cells.{cell_ends}
 use Rattle.ca_quad.proofs.Differ.{cell_at}
 use Rattle.ca_plane.proofs.Numbers.{below_or_not}
-use Rattle.ca_macro.specs.Nodes.{Node, Cells, Parts, node_level}
-use Rattle.ca_macro.specs.Shown.{numbered_square, squares_of, centred_picture, root_picture, picture_of_nodes}
-use Rattle.ca_macro.specs.Pattern.{AreInRange}
-use Rattle.ca_macro.specs.Tidy.{lowest_level, Fits, IsLeastLevel, walks_after, numbers_once, AreTidyNodes}
+use Rattle.ca_macro.specs.Prelude.{Node, Cells, Parts, node_level, numbered_square, squares_of, centred_picture, root_picture, picture_of_nodes, AreInRange, lowest_level, Fits, IsLeastLevel}
+use Rattle.ca_macro.specs.Prelude.{walks_after, numbers_once, AreTidyNodes}
 use Rattle.ca_macro.specs.inner.Written.{kept_cells, IsPictureOfSquare, IsWrittenNumber, IsGathered, KeepsFirstOrder, empty_root}
 use Rattle.ca_macro.proofs.Gathering.{corner_zero}
 

@@ -6,18 +6,13 @@ use Rattle.std.specs.Result.{IsErrAnd}
 use Rattle.std.proofs.lemmas.Result.{err_from_is_err_and}
 use Rattle.std.proofs.lemmas.Bool.{cases_Bool, and_parts, and_from}
 use Rattle.std.proofs.lemmas.List.{append-nil}
-use Rattle.ca_plane.specs.Bytes.{is_blank, is_line_end, is_word_byte, is_end_or, with_front, Every, IsWord, words_of}
-use Rattle.ca_plane.specs.Limits.{generation_limit}
+use Rattle.ca_plane.specs.Prelude.{is_blank, is_line_end, is_word_byte, is_end_or, with_front, Every, IsWord, words_of, generation_limit}
 use Rattle.ca_quad.specs.declared.node.Node.{Node as Kept}
-use Rattle.ca_macro.specs.declared.fault.MacroFault.{MacroFault}
+use Rattle.ca_macro.specs.declared.{fault.MacroFault.MacroFault, line.comment.Comment.Comment, read.reading.Reading.Reading, read.squares.Squares.Squares}
 use Rattle.ca_macro.specs.declared.fault.MacroFault.TheVariants.{Forward, Level, Memory}
-use Rattle.ca_macro.specs.declared.line.comment.Comment.{Comment}
 use Rattle.ca_macro.specs.declared.line.comment.Comment.TheVariants as comment
-use Rattle.ca_macro.specs.declared.read.reading.Reading.{Reading}
-use Rattle.ca_macro.specs.declared.read.squares.Squares.{Squares}
-use Rattle.ca_macro.specs.Nodes.{Node, Parts, IsLevel}
-use Rattle.ca_macro.specs.File.{MacrocellLine, Nothing, Rule, Generation, Adds, MacrocellWordsSay, added_nodes, IsAllowedNode, last_rule, last_line_generation}
-use Rattle.ca_macro.specs.Faults.{AreFaulty, HasBadPart}
+use Rattle.ca_macro.specs.Prelude.{Node, Parts, IsLevel, MacrocellLine, Nothing, Rule, Generation, Adds, MacrocellWordsSay, added_nodes, IsAllowedNode, last_rule, last_line_generation, AreFaulty}
+use Rattle.ca_macro.specs.Prelude.{HasBadPart}
 use Rattle.ca_macro.specs.inner.Comments.{said_of}
 use Rattle.ca_macro.specs.inner.Reading.{AreSquares, IsBadNumber, HaveNumberFault, HasNodeFault, IsMacrocellReading}
 use Rattle.ca_macro.proofs.LinesRead.{added-push}

@@ -3,19 +3,13 @@ use Rattle.std.proofs.Common.{◌≡◌, ◌≢◌, ℕ, ◌+◌, ◌-◌, ◌<�
 use Rattle.std.specs.List.{AllByRecursion, flat_map, last_or}
 use Rattle.std.specs.Ordering.{int_eq}
 use Rattle.std.proofs.lemmas.Bool.{cases_Bool, eqb-true}
-use Rattle.ca_plane.specs.Bytes.{lines_of, IsWord}
-use Rattle.ca_plane.specs.Limits.{IsInRange}
-use Rattle.ca_plane.specs.Plane.{Picture, cell}
+use Rattle.ca_plane.specs.Prelude.{lines_of, IsWord, IsInRange, Picture, cell, Puts}
 use Rattle.std.proofs.lemmas.List.{length-map}
 use Rattle.ca_plane.proofs.Pictures.{cell-first}
 use Rattle.ca_plane.specs.declared.point.Point.{Point}
-use Rattle.ca_macro.specs.Nodes.{Node, Leaf, Cells, Parts, MayFollow}
-use Rattle.ca_macro.specs.File.{Rule, Generation, Adds, added_nodes, MacrocellLinesSay, last_rule, last_line_generation, MacrocellFile, begins_macro, IsMacrocellFile}
-use Rattle.ca_macro.specs.Shown.{root_picture, picture_of_nodes}
-use Rattle.ca_macro.specs.Limits.{IsMacrocellWithinRange}
-use Rattle.ca_macro.specs.Pattern.{AreInRange, Holds}
-use Rattle.ca_macro.specs.Tidy.{AreInPlace, HasForm, node_text, generation_lines, tidy_lines, IsTidyMacrocell, AreTidyNodes}
-use Rattle.ca_plane.specs.Puts.{Puts}
+use Rattle.ca_macro.specs.Prelude.{Node, Leaf, Cells, Parts, MayFollow, Rule, Generation, Adds, added_nodes, MacrocellLinesSay, last_rule, last_line_generation, MacrocellFile, begins_macro}
+use Rattle.ca_macro.specs.Prelude.{IsMacrocellFile, root_picture, picture_of_nodes, IsMacrocellWithinRange, AreInRange, Holds, AreInPlace, HasForm, node_text, generation_lines, tidy_lines}
+use Rattle.ca_macro.specs.Prelude.{IsTidyMacrocell, AreTidyNodes}
 use Rattle.ca_macro.specs.declared.write.written.WrittenNode.{WrittenNode}
 use Rattle.ca_macro.specs.inner.Written.{node_of}
 use Rattle.ca_macro.proofs.Roots.{least_as}

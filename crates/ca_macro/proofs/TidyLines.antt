@@ -2,13 +2,11 @@
 use Rattle.std.proofs.Common.{◌≡◌, ℕ, ◌<◌, ◌^◌, Bool, true, false, not, List, [], ◌∷◌, ◌++◌, map, length, codes, decimal, refl, sym, ap, subst, ◌∙◌, arith, append_assoc, append-nil, length-append}
 use Rattle.std.specs.List.{AllByRecursion, AllZip, flat_map, join_with_byte}
 use Rattle.std.proofs.lemmas.Bool.{and_parts}
-use Rattle.ca_plane.specs.Bytes.{Every, is_blank, is_line_end, is_word_byte, with_front, words_of, lines_of, IsWord, AreDigits}
+use Rattle.ca_plane.specs.Prelude.{Every, is_blank, is_line_end, is_word_byte, with_front, words_of, lines_of, IsWord, AreDigits}
 use Rattle.ca_plane.proofs.Fronts.{every_append, every_wider, every_word_byte, digits_in_word}
 use Rattle.ca_plane.proofs.FirstWords.{word_from}
 use Rattle.ca_plane.proofs.Lines.{lines_ahead, words_ahead, words_next}
-use Rattle.ca_macro.specs.Nodes.{Node, Leaf, Cells, Parts, leaf_mark, leaf_rows, MayFollow}
-use Rattle.ca_macro.specs.File.{Adds, Rule, Generation, IsNumber, MacrocellWordsSay}
-use Rattle.ca_macro.specs.Tidy.{HasForm, numbers_text, node_text}
+use Rattle.ca_macro.specs.Prelude.{Node, Leaf, Cells, Parts, leaf_mark, leaf_rows, MayFollow, Adds, Rule, Generation, IsNumber, MacrocellWordsSay, HasForm, numbers_text, node_text}
 use Rattle.ca_plane.proofs.Decimals.{decimal_writes}
 
 -- ---- lines and words

@@ -5,13 +5,11 @@ use Rattle.std.specs.List.{AllByRecursion, list_all, starts_with}
 use Rattle.std.specs.Str.{bytes_eq}
 use Rattle.std.proofs.lemmas.Bool.{cases_Bool, and_parts, and_from, true≢false}
 use Rattle.std.proofs.lemmas.Bool.Decides.{nat_tests}
-use Rattle.ca_plane.specs.Bytes.{letter, is_digit, is_end_or, AreDigits, value}
-use Rattle.ca_plane.specs.Limits.{generation_limit}
+use Rattle.ca_plane.specs.Prelude.{letter, is_digit, is_end_or, AreDigits, value, generation_limit}
 use Rattle.ca_macro.specs.declared.fault.MacroFault.{MacroFault}
 use Rattle.ca_macro.specs.declared.fault.MacroFault.TheVariants.{NotMacro, Timeline, Syntax, Forward, Level, LeafSize, Range, GenTooLarge, Memory}
-use Rattle.ca_macro.specs.Nodes.{Node, Leaf, Cells, Parts, IsLeaf, node_level, NamesPart, IsLevel}
-use Rattle.ca_macro.specs.File.{MacrocellLine, Nothing, Rule, Generation, Adds, is_comment, AreNumbers, MacrocellWordsSay, IsAllowedNode}
-use Rattle.ca_macro.specs.Faults.{is_leaf_byte, HasBadByte, HavePart, LackNumbers, AreFaulty}
+use Rattle.ca_macro.specs.Prelude.{Node, Leaf, Cells, Parts, IsLeaf, node_level, NamesPart, IsLevel, MacrocellLine, Nothing, Rule, Generation, Adds, is_comment, AreNumbers, MacrocellWordsSay}
+use Rattle.ca_macro.specs.Prelude.{IsAllowedNode, is_leaf_byte, HasBadByte, HavePart, LackNumbers, AreFaulty}
 use Rattle.ca_macro.specs.inner.Leaves.{leaf_fault, leaf_cells}
 use Rattle.ca_macro.proofs.Leaves.{one_leaf}
 use Rattle.ca_macro.proofs.LeafLines.{byte_fault, leaf_none, bad_fault, leaf_begins}

@@ -4,16 +4,12 @@ use Rattle.std.specs.List.{AllByRecursion, AllPairs, AllZip, list_all, join_with
 use Rattle.std.specs.Ordering.{int_eq}
 use Rattle.std.proofs.lemmas.Bool.{and_parts, cases_Bool}
 use Rattle.std.proofs.lemmas.Fmt.{decimal_digit}
-use Rattle.ca_plane.specs.Bytes.{AreDigits, is_digit, value, lines_of, text_of, words_of}
-use Rattle.ca_plane.specs.Plane.{Picture, cell}
+use Rattle.ca_plane.specs.Prelude.{AreDigits, is_digit, value, lines_of, text_of, words_of, Picture, cell}
 use Rattle.ca_plane.proofs.Pictures.{place-from_true}
-use Rattle.ca_quad.specs.Trees.{IsWithinLevel}
+use Rattle.ca_quad.specs.Prelude.{IsWithinLevel}
 use Rattle.ca_macro.specs.declared.fault.MacroFault.TheVariants.{Forward}
-use Rattle.ca_macro.specs.Nodes.{Node, Leaf, node_level, leaf_rows}
-use Rattle.ca_macro.specs.File.{Adds, IsNumber, begins_macro}
-use Rattle.ca_macro.specs.Faults.{HasMacrocellLine, HasBadByte, AreMisspelledNodeWords, AreFaulty}
-use Rattle.ca_macro.specs.Shown.{picture_of_nodes}
-use Rattle.ca_macro.specs.Tidy.{Fits, IsLeastLevel, AreInPlace, HasForm, is_empty, walk_of, numbers_once, numbers_text, tidy_lines, IsTidyMacrocell}
+use Rattle.ca_macro.specs.Prelude.{Node, Leaf, node_level, leaf_rows, Adds, IsNumber, begins_macro, HasMacrocellLine, HasBadByte, AreMisspelledNodeWords, AreFaulty, picture_of_nodes, Fits}
+use Rattle.ca_macro.specs.Prelude.{IsLeastLevel, AreInPlace, HasForm, is_empty, walk_of, numbers_once, numbers_text, tidy_lines, IsTidyMacrocell}
 use Rattle.ca_macro.specs.inner.Leaves.{is_leaf, is_live}
 use Rattle.ca_macro.proofs.Leaves.{leaf_found, no_leaf}
 

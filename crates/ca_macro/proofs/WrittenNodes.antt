@@ -5,18 +5,14 @@ use Rattle.std.proofs.Math.Nat.{two-pow-succ}
 use Rattle.std.proofs.lemmas.Bool.{cases_Bool, eqb-true}
 use Rattle.std.proofs.lemmas.Bool.Decides.{nat_tests}
 use Rattle.std.proofs.lemmas.List.{length-map}
-use Rattle.ca_plane.specs.Plane.{Picture}
+use Rattle.ca_plane.specs.Prelude.{Picture, row_cells}
 use Rattle.ca_quad.specs.declared.node.Node.{Node as Kept}
 use Rattle.ca_quad.specs.Squares as squares
-use Rattle.ca_quad.specs.Squares.{one_cell, joined_cells, IsOf}
-use Rattle.ca_quad.specs.SquareValues.{square_value}
-use Rattle.ca_quad.specs.Trees.{IsIn, IsEmpty, AreQuarters}
-use Rattle.ca_plane.specs.Shown.{row_cells}
+use Rattle.ca_quad.specs.Prelude.{one_cell, joined_cells, IsOf, square_value, IsIn, IsEmpty, AreQuarters}
 use Rattle.ca_quad.specs.inner.Measure.{EndsWithin}
 use Rattle.ca_quad.proofs.Cells.{cell_ends, at_nw, at_ne, at_sw, at_se}
 use Rattle.ca_plane.proofs.Numbers.{below_or_not}
-use Rattle.ca_macro.specs.Nodes.{Node, Leaf, Cells, Parts, NamesPart}
-use Rattle.ca_macro.specs.Shown.{numbered_square, joined_picture, node_picture, squares_after, squares_of, leaf_state}
+use Rattle.ca_macro.specs.Prelude.{Node, Leaf, Cells, Parts, NamesPart, numbered_square, joined_picture, node_picture, squares_after, squares_of, leaf_state}
 use Rattle.ca_macro.specs.inner.Written.{row_marks, kept_cells, IsPictureOfSquare, IsWrittenNumber, IsNodeOf, Extends, KeepsFirstOrder, leaf_level, HasFitParts}
 use Rattle.ca_macro.proofs.Lines.{unequal}
 use Rattle.ca_macro.proofs.Pictures.{NoneDead, rows_live, shifted_live, leaf_shows, four_show, joined_show, picture_as}

@@ -1,7 +1,6 @@
 -- Small macrocell texts, for which the definitions are worked out.
 use Rattle.std.specs.Prelude.{ℕ, ℤ, pos, negsuc, ◌+ℤ◌, List, [], ◌∷◌, true, false, codes}
-use Rattle.ca_plane.specs.Bytes.{text_of}
-use Rattle.ca_plane.specs.Plane.{Picture}
+use Rattle.ca_plane.specs.Prelude.{text_of, Picture}
 use Rattle.ca_macro.specs.Nodes.{Node, Leaf, Cells, Parts}
 use Rattle.ca_macro.specs.File.{MacrocellFile}
 

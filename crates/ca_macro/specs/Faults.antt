@@ -2,12 +2,11 @@
 use Rattle.std.specs.Prelude.{◌≡◌, ◌≢◌, ℕ, ◌+◌, ◌-◌, ◌<◌, ◌≤◌, List, [], ◌∷◌, ◌++◌, length, Bool, true, false, not, ◌||◌, ◌==◌, codes, Option, MatchOption, ◌⊎◌}
 use Rattle.std.specs.Bool.{nat_eq}
 use Rattle.std.specs.List.{AllByRecursion, starts_with, flat_map}
-use Rattle.ca_plane.specs.Bytes.{letter, is_end_or, AreDigits, value, lines_of, words_of}
+use Rattle.ca_plane.specs.Prelude.{letter, is_end_or, AreDigits, value, lines_of, words_of, generation_limit}
 use Rattle.ca_macro.specs.declared.fault.MacroFault.{MacroFault}
 use Rattle.ca_macro.specs.declared.fault.MacroFault.TheVariants.{NotMacro, Timeline, Syntax, Forward, Level, LeafSize, Range, GenTooLarge, Memory}
 use Rattle.ca_macro.specs.Nodes.{Node, IsLeaf, NamesPart, IsLevel, MayFollow}
 use Rattle.ca_macro.specs.File.{MacrocellLine, Adds, AreNumbers, MacrocellWordsSay, added_nodes, MacrocellLinesSay, MacrocellFile, begins_macro, IsMacrocellFile}
-use Rattle.ca_plane.specs.Limits.{generation_limit}
 use Rattle.ca_macro.specs.Limits.{IsMacrocellOutOfRange}
 
 -- a line after `[M2]` and good lines: this holds of the nodes of the good lines and the words of this line

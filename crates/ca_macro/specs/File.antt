@@ -3,8 +3,7 @@ use Rattle.std.specs.Prelude.{◌≡◌, ℕ, ◌<◌, List, [], ◌∷◌, ◌+
 use Rattle.std.specs.Bool.{nat_eq}
 use Rattle.std.specs.List.{AllZip, starts_with, flat_map}
 use Rattle.std.specs.Str.{bytes_eq}
-use Rattle.ca_plane.specs.Limits.{generation_limit, default_rule}
-use Rattle.ca_plane.specs.Bytes.{AreDigits, value, lines_of, words_of}
+use Rattle.ca_plane.specs.Prelude.{generation_limit, default_rule, AreDigits, value, lines_of, words_of}
 use Rattle.ca_macro.specs.Nodes.{Node, Leaf, Cells, Parts, IsLeaf, MayFollow}
 
 -- what a line says: nothing, the rule text, the generation, or one more node

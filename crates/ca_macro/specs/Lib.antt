@@ -1,3 +1,4 @@
+pub mod Prelude
 pub mod Nodes
 pub mod File
 pub mod Shown

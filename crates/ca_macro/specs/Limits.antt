@@ -1,6 +1,6 @@
 -- The limit of a macrocell text (our own): which of its live cells are out of range.
 use Rattle.std.specs.List.{AllByRecursion}
-use Rattle.ca_plane.specs.Limits.{IsInRange}
+use Rattle.ca_plane.specs.Prelude.{IsInRange}
 use Rattle.ca_macro.specs.File.{MacrocellFile}
 use Rattle.ca_macro.specs.Shown.{picture_of_nodes}
 

@@ -2,7 +2,7 @@
 -- (Golly Help, File Formats: Macrocell format; what is marked so is our own).
 use Rattle.std.specs.Prelude.{◌≡◌, ℕ, zero, suc, ◌-◌, ◌≤◌, List, [], ◌∷◌, map, length, Bool, ◌==◌, Some, slice_get, option_map, if◌then◌else◌}
 use Rattle.std.specs.List.{AllByRecursion}
-use Rattle.ca_plane.specs.Bytes.{letter, with_front}
+use Rattle.ca_plane.specs.Prelude.{letter, with_front}
 
 -- a node: a leaf of 8 by 8 cells of two states by its rows, of which dead cells and rows at the end may be left out; a square of
 -- 2 by 2 cells by their states; or one by its level and the numbers of its four parts

@@ -1,12 +1,9 @@
 -- A pattern in a store of squares: what is read from a macrocell text, and what can be written as one.
 use Rattle.std.specs.Prelude.{◌≡◌, ◌≢◌, ℕ, ◌<◌, ℤ, List}
-use Rattle.ca_plane.specs.Bytes.{IsWord}
-use Rattle.ca_plane.specs.Plane.{IsPicture, cell}
-use Rattle.ca_plane.specs.Limits.{IsInRange, generation_limit}
-use Rattle.ca_quad.specs.declared.node.Node.{Node}
-use Rattle.ca_quad.specs.declared.tree.Tree.{Tree}
+use Rattle.ca_plane.specs.Prelude.{IsWord, IsPicture, cell, IsInRange, generation_limit}
+use Rattle.ca_quad.specs.declared.{node.Node.Node, tree.Tree.Tree}
 use Rattle.ca_quad.specs.Trees as trees
-use Rattle.ca_quad.specs.Trees.{IsTrimmed}
+use Rattle.ca_quad.specs.Prelude.{IsTrimmed}
 use Rattle.ca_macro.specs.declared.pattern.MacroPattern.{MacroPattern}
 use Rattle.ca_macro.specs.File.{MacrocellFile, IsMacrocellFile}
 use Rattle.ca_macro.specs.Limits.{IsMacrocellWithinRange}

@@ -1,7 +1,7 @@
 -- The picture of a macrocell's nodes (Golly Help, File Formats: Macrocell format; the place of its centre is our own).
 use Rattle.std.specs.Prelude.{ℕ, zero, suc, ◌-◌, ◌^◌, ℤ, pos, neg_ℤ, ◌+ℤ◌, List, [], ◌∷◌, ◌++◌, map, Bool, ◌==◌, Option, Some, None, get_or, length, if◌then◌else◌}
 use Rattle.std.specs.List.{last_or}
-use Rattle.ca_plane.specs.Plane.{Picture, shifted}
+use Rattle.ca_plane.specs.Prelude.{Picture, shifted}
 use Rattle.ca_macro.specs.Nodes.{Node, Leaf, Cells, Parts, node_level}
 
 -- the live cells of a row of states, from (x, y) to the right

@@ -1,9 +1,8 @@
 -- Tidy texts: the one form in which a plane is written (our own).
 use Rattle.std.specs.Prelude.{◌≡◌, ◌≢◌, ℕ, ◌+◌, ◌≤◌, ℤ, List, [], ◌∷◌, ◌++◌, map, length, filter, Bool, true, false, not, ◌==◌, Some, None, codes, decimal, ◌⊎◌, if◌then◌else◌}
 use Rattle.std.specs.List.{flat_map, list_all, AllByRecursion, AllPairs, last_or, range_with_len, join_with_byte}
-use Rattle.ca_plane.specs.Bytes.{letter}
-use Rattle.ca_plane.specs.Plane.{cell}
-use Rattle.ca_quad.specs.Trees.{HoldsAll}
+use Rattle.ca_plane.specs.Prelude.{letter, cell}
+use Rattle.ca_quad.specs.Prelude.{HoldsAll}
 use Rattle.ca_macro.specs.Nodes.{Node, Leaf, Cells, Parts, node_level, leaf_mark, MayFollow}
 use Rattle.ca_macro.specs.Shown.{numbered_square, picture_of_nodes}
 

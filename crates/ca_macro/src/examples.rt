@@ -1,19 +1,17 @@
 //! Worked examples: what the definitions say of small texts.
 
 ghost use Rattle.std.specs.Prelude.{◌≡◌, [], ◌∷◌, codes};
-ghost use Rattle.ca_plane.specs.Plane.{cell};
-ghost use Rattle.ca_macro.specs.declared.fault.MacroFault.TheVariants.{NotMacro, Timeline, Syntax, Forward};
-ghost use Rattle.ca_macro.specs.declared.fault.MacroFault.TheVariants.{Level, LeafSize, GenTooLarge};
+ghost use Rattle.ca_plane.specs.Prelude.{cell, text_of};
+ghost use Rattle.ca_macro.specs.declared.fault.MacroFault.TheVariants.{NotMacro, Timeline, Syntax, Forward, Level, LeafSize};
+ghost use Rattle.ca_macro.specs.declared.fault.MacroFault.TheVariants.{GenTooLarge};
 ghost use Rattle.ca_macro.specs.Nodes.{Parts};
 ghost use Rattle.ca_macro.specs.File.{IsMacrocellFile};
 ghost use Rattle.ca_macro.specs.Shown.{picture_of_nodes};
 ghost use Rattle.ca_macro.specs.Faults.{IsFirstMacrocellFault, IsFaultyMacrocellLine};
 ghost use Rattle.ca_macro.specs.Tidy.{IsTidyMacrocell};
-ghost use Rattle.ca_plane.specs.Bytes.{text_of};
-ghost use Rattle.ca_macro.specs.Examples.{after_first, glider_text, glider_file, glider, cut_text};
-ghost use Rattle.ca_macro.specs.Examples.{cut_file, cut, cut_numbers_text, golly_text, golly_file};
-ghost use Rattle.ca_macro.specs.Examples.{golly_glider, cross_text, cross_file, cross, empty_text};
-ghost use Rattle.ca_macro.specs.Examples.{empty_text_of_states, mixed_text, mixed_file, mixed};
+ghost use Rattle.ca_macro.specs.Examples.{after_first, glider_text, glider_file, glider, cut_text, cut_file, cut};
+ghost use Rattle.ca_macro.specs.Examples.{cut_numbers_text, golly_text, golly_file, golly_glider, cross_text, cross_file, cross};
+ghost use Rattle.ca_macro.specs.Examples.{empty_text, empty_text_of_states, mixed_text, mixed_file, mixed};
 
 /// What whole texts hold, and the pictures that they show.
 pub fn worked_files()

@@ -5,8 +5,7 @@ ghost use Rattle.ca_macro.specs.declared.fault.MacroFault.{MacroFault};
 ghost use Rattle.ca_macro.specs.declared.fault.MacroFault.TheVariants.{Memory};
 ghost use Rattle.ca_macro.specs.File.{MacrocellFile, IsMacrocellFile};
 ghost use Rattle.ca_macro.specs.Limits.{IsMacrocellWithinRange};
-ghost use Rattle.ca_macro.specs.Faults.{IsFirstMacrocellFault, IsFirstMacrocellFaultOn};
-ghost use Rattle.ca_macro.specs.Faults.{IsFaultyMacrocellLine, IsMacrocellFault};
+ghost use Rattle.ca_macro.specs.Faults.{IsFirstMacrocellFault, IsFirstMacrocellFaultOn, IsFaultyMacrocellLine, IsMacrocellFault};
 
 /// A text is a file in one way at most: its nodes, its rule text and its generation.
 pub fn one_file()

@@ -1,9 +1,8 @@
 //! The lines of a macrocell text, each read by itself. Nothing here takes memory.
 
-ghost use Rattle.std.specs.Prelude.{◌≡◌, ◌<◌, ◌≤◌, not, List, [], ◌∷◌, MatchOption, IfOk, IfErr, true};
-ghost use Rattle.std.specs.Prelude.{length};
+ghost use Rattle.std.specs.Prelude.{◌≡◌, ◌<◌, ◌≤◌, not, List, [], ◌∷◌, MatchOption, IfOk, IfErr, true, length};
 ghost use Rattle.std.specs.List.{AllByRecursion};
-ghost use Rattle.ca_plane.specs.Bytes.{is_end_or, is_line_end, Every, words_of};
+ghost use Rattle.ca_plane.specs.Prelude.{is_end_or, is_line_end, Every, words_of};
 ghost use Rattle.ca_macro.specs.Nodes.{Node};
 ghost use Rattle.ca_macro.specs.Faults.{is_leaf_byte, AreFaulty, begin_node};
 ghost use Rattle.ca_macro.specs.inner.Lines.{ReadsLines};

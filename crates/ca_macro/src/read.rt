@@ -1,14 +1,13 @@
 //! The reader of macrocell.
 
 ghost use Rattle.std.specs.Prelude.{◌≡◌, ◌⊎◌, ◌<◌, List, IfOk, IfErr};
-ghost use Rattle.ca_quad.specs.Sound.{Grows};
+ghost use Rattle.ca_quad.specs.Prelude.{Grows};
 ghost use Rattle.ca_macro.specs.declared.fault.MacroFault.TheVariants.{Range, Memory};
 ghost use Rattle.ca_macro.specs.File.{MacrocellLine};
 ghost use Rattle.ca_macro.specs.Limits.{IsMacrocellWithinRange, IsMacrocellOutOfRange};
 ghost use Rattle.ca_macro.specs.Faults.{IsMacrocellFault, IsMacrocellFaultOn};
 ghost use Rattle.ca_macro.specs.Pattern.{IsMacrocellPattern, HoldsMacrocellPattern};
-ghost use Rattle.ca_macro.specs.inner.Reading.{HoldsReading, IsMacrocellReading};
-ghost use Rattle.ca_macro.specs.inner.Reading.{IsMacrocellReadingFault, file_of_lines};
+ghost use Rattle.ca_macro.specs.inner.Reading.{HoldsReading, IsMacrocellReading, IsMacrocellReadingFault, file_of_lines};
 
 mod empties;
 mod range;

@@ -1,8 +1,7 @@
 //! Laws of tidy texts: what a tidy text says, and that a plane has one at most.
 
 ghost use Rattle.std.specs.Prelude.{◌≡◌, ℕ, ◌<◌, ◌^◌, ℤ, List, length};
-ghost use Rattle.ca_plane.specs.Bytes.{IsWord};
-ghost use Rattle.ca_plane.specs.Limits.{generation_limit};
+ghost use Rattle.ca_plane.specs.Prelude.{IsWord, generation_limit};
 ghost use Rattle.ca_macro.specs.File.{MacrocellFile, IsMacrocellFile};
 ghost use Rattle.ca_macro.specs.Pattern.{AreInRange, Holds, IsFileOf};
 ghost use Rattle.ca_macro.specs.Tidy.{IsTidyMacrocell};

@@ -2,9 +2,8 @@
 
 ghost use Rattle.std.specs.Prelude.{◌≡◌, ℕ, List, IfOk, OnOk, IsErrOf};
 ghost use Rattle.std.specs.Io.KnownBytes.{Appends};
-ghost use Rattle.ca_plane.specs.Device.{Rises, AppendsPrefix};
-ghost use Rattle.ca_quad.specs.Sound.{Grows};
-ghost use Rattle.ca_quad.specs.Trees.{cell};
+ghost use Rattle.ca_plane.specs.Prelude.{Rises, AppendsPrefix};
+ghost use Rattle.ca_quad.specs.Prelude.{Grows, cell};
 ghost use Rattle.ca_macro.specs.Pattern.{IsWritable, IsFileOf};
 ghost use Rattle.ca_macro.specs.Tidy.{IsTidyMacrocell};
 

@@ -5,10 +5,9 @@ use Rattle.std.specs.Map.{lookup, lookup_entry, remove_entry}
 use Rattle.lru.specs.LruCache.{LruCache, promoted, put_entries, displaced}
 use Rattle.lru.proofs.CallerLemmas.{Contains-lookup, Contains-lookup_entry, Contains-put_entries}
 use Rattle.lru.proofs.Splits.{Contains-head}
-use Rattle.ca_memo.specs.declared.key.Key.{Key}
+use Rattle.ca_memo.specs.declared.{key.Key.Key, page.Page.Page}
 use Rattle.ca_memo.specs.declared.key.Key.TheVariants.{Page as OfPage, Single}
-use Rattle.ca_memo.specs.declared.page.Page.{Page}
-use Rattle.ca_memo.specs.Pages.{HasPageKey, ArePagesKept, HasSlot, HasFullLeapIn, HasSingleIn}
+use Rattle.ca_memo.specs.Prelude.{HasPageKey, ArePagesKept, HasSlot, HasFullLeapIn, HasSingleIn}
 use Rattle.ca_memo.specs.contracts.key.KeyPartialEq.TheImpl as eq
 use Rattle.ca_memo.proofs.OrdersOfUse.{promoted-Contains, put_entries-key, after}
 

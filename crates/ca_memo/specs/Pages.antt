@@ -2,9 +2,8 @@
 use Rattle.std.specs.Prelude.{◌≡◌, ℕ, ◌≤◌, ◌/◌, ◌%◌, List, [], Option, Some, length, slice_get}
 use Rattle.std.specs.List.{Contains}
 use Rattle.lru.specs.LruCache.{LruCache}
-use Rattle.ca_memo.specs.declared.key.Key.{Key}
+use Rattle.ca_memo.specs.declared.{key.Key.Key, page.Page.Page}
 use Rattle.ca_memo.specs.declared.key.Key.TheVariants.{Page as OfPage, Single}
-use Rattle.ca_memo.specs.declared.page.Page.{Page}
 
 -- pages by number, and the keys of pages and of single results in the order of their use
 pub record MemoView : Type 0 where

@@ -1,10 +1,8 @@
 //! The results that a leaper remembers: a bounded number of pages and of single ones.
 
-ghost use Rattle.std.specs.Prelude.{◌≡◌, ◌⊎◌, ◌<◌, ◌^◌, ℕ, length};
-ghost use Rattle.std.specs.Prelude.{IfSome, IfOk, OnOk, Some, Option, slice_get};
+ghost use Rattle.std.specs.Prelude.{◌≡◌, ◌⊎◌, ◌<◌, ◌^◌, ℕ, length, IfSome, IfOk, OnOk, Some, Option, slice_get};
 ghost use Rattle.std.specs.NonZero.{non_zero_usize_get};
-ghost use Rattle.ca_memo.specs.Pages.{HasPageKey, HasFullLeap, HasSingle, RemembersNoMore};
-ghost use Rattle.ca_memo.specs.Pages.{IsBoundedMemo, IsBlankMemo};
+ghost use Rattle.ca_memo.specs.Pages.{HasPageKey, HasFullLeap, HasSingle, RemembersNoMore, IsBoundedMemo, IsBlankMemo};
 ghost use Rattle.ca_memo.specs.declared.page.Page.{Page};
 ghost use Rattle.ca_memo.specs.declared.key.Key.TheVariants.{Page as OfPage, Single};
 

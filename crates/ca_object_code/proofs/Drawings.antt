@@ -6,11 +6,10 @@ use Rattle.std.proofs.lemmas.Int.{ints}
 use Rattle.std.proofs.lemmas.List.Elements.{All-contains, All-push, All-weaker}
 use Rattle.std.proofs.lemmas.Nat.Bits.{bit_at-lt}
 use Rattle.ca_plane.specs.declared.point.Point.{Point}
-use Rattle.ca_plane.specs.Plane.{Picture}
+use Rattle.ca_plane.specs.Prelude.{Picture}
 use Rattle.ca_plane.specs.Plane as plane
 use Rattle.ca_plane.proofs.Pictures.{Contains-cell}
-use Rattle.ca_apgcode.specs.Grids.{GridCells, cell}
-use Rattle.ca_apgcode.specs.Objects.{live}
+use Rattle.ca_apgcode.specs.Prelude.{GridCells, cell, live}
 use Rattle.ca_apgcode.proofs.PlaneBoxes.{live_one}
 use Rattle.ca_object_code.specs.declared.drawing.Window.{Window}
 use Rattle.ca_object_code.specs.inner.Drawn.{FitsWindow, PutsCell, IsLiveAt, ShowsNoOther, IsDrawn}

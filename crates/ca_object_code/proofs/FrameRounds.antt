@@ -5,16 +5,14 @@ use Rattle.std.specs.Int.{bit_at}
 use Rattle.std.proofs.lemmas.Bool.{cases_eq}
 use Rattle.std.proofs.lemmas.Nat.Bits.{bit_at-zero, bit_at_lowest, bit_at_above}
 use Rattle.ca_plane.proofs.Numbers.{below_or_not}
-use Rattle.ca_plane.specs.Counting.{counting_next}
-use Rattle.ca_plane.specs.declared.counting.Counting.{Counting}
-use Rattle.ca_plane.specs.declared.counting.Neighbourhood.{Neighbourhood}
+use Rattle.ca_plane.specs.Prelude.{counting_next}
+use Rattle.ca_plane.specs.declared.counting.{Counting.Counting, Neighbourhood.Neighbourhood}
 use Rattle.ca_plane.specs.declared.counting.Neighbourhood.TheVariants.{Moore, VonNeumann, Hexagonal}
-use Rattle.ca_bricks.specs.CellRules.{GoesByCells}
+use Rattle.ca_bricks.specs.Prelude.{GoesByCells, HasNeighbours, IsBlank, IsNextBrick, column_at}
 use Rattle.ca_bricks.specs.declared.cell_rule.CellRule.TheVariants.{ByCounting}
-use Rattle.ca_bricks.specs.Bricks.{HasNeighbours, IsBlank, IsNextBrick, column_at}
 use Rattle.ca_bricks.proofs.BrickBlanks.{blank_rests}
 use Rattle.ca_bricks.proofs.BrickRounds.{round_at-middle, round_at-east, column_at-middle, column_at-south}
-use Rattle.ca_apgcode.specs.Grids.{GridCells, IsGrid}
+use Rattle.ca_apgcode.specs.Prelude.{GridCells, IsGrid}
 use Rattle.ca_apgcode.proofs.Heights.{pow_most}
 use Rattle.ca_object_code.specs.inner.Frames.{IsMiddle, IsFrameOf, IsDarkBeside, frame_row}
 

@@ -8,19 +8,14 @@ use Rattle.std.proofs.lemmas.Int.{ints}
 use Rattle.std.proofs.lemmas.List.{get_or_past}
 use Rattle.std.proofs.lemmas.List.Elements.{All-from_recursion}
 use Rattle.std.proofs.lemmas.Nat.Bits.{bit_at-zero, bit_at-suc, bit_at_lowest, bit_at-lt, bit_at_above}
-use Rattle.ca_plane.specs.Shown.{from_corner}
-use Rattle.ca_plane.specs.Generations.{cells_after, around}
-use Rattle.ca_plane.specs.Counting.{counted_sum, counting_next}
-use Rattle.ca_plane.specs.declared.counting.Counting.{Counting}
-use Rattle.ca_plane.specs.declared.counting.Neighbourhood.{Neighbourhood}
+use Rattle.ca_plane.specs.Prelude.{from_corner, cells_after, around, counted_sum, counting_next}
+use Rattle.ca_plane.specs.declared.counting.{Counting.Counting, Neighbourhood.Neighbourhood}
 use Rattle.ca_plane.specs.declared.counting.Neighbourhood.TheVariants.{Moore, VonNeumann, Hexagonal}
 use Rattle.ca_bricks.specs.declared.grid.BrickGrid.{BrickGrid}
-use Rattle.ca_bricks.specs.Bricks.{BrickShows, GridShows, HasNeighbours, HasBlankEdge, IsNearEnd, IsNextBrick}
-use Rattle.ca_bricks.specs.Counting.{GoesBy}
+use Rattle.ca_bricks.specs.Prelude.{BrickShows, GridShows, HasNeighbours, HasBlankEdge, IsNearEnd, IsNextBrick, GoesBy}
 use Rattle.ca_bricks.specs.declared.cell_rule.CellRule.TheVariants.{ByCounting}
 use Rattle.ca_bricks.proofs.LaterGrids.{grid_later}
-use Rattle.ca_apgcode.specs.Grids.{GridCells, IsGrid, cell}
-use Rattle.ca_apgcode.specs.Objects.{live, IsBoxRound}
+use Rattle.ca_apgcode.specs.Prelude.{GridCells, IsGrid, cell, live, IsBoxRound}
 use Rattle.ca_object_code.specs.inner.Frames.{IsFrameOf, IsMiddle, IsBeside, AreColumnsOf, frame_row}
 use Rattle.ca_object_code.specs.Countings.{HasTwoStates, MayGoBy}
 

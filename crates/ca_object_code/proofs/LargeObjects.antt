@@ -3,14 +3,12 @@ use Rattle.std.proofs.Common.{Result, Ok, Err, IfOk, Option, Some, IfSome, Vec, 
 use Rattle.std.specs.Prelude.{replicate}
 use Rattle.std.proofs.lemmas.Bool.{cases_eq}
 use Rattle.std.proofs.lemmas.Int.{ints}
-use Rattle.ca_plane.specs.Box.{IsWithin}
-use Rattle.ca_plane.specs.Generations.{cells_after, after, IsAfter}
-use Rattle.ca_plane.specs.Plane.{Picture, cell, shifted}
+use Rattle.ca_plane.specs.Prelude.{IsWithin, cells_after, after, IsAfter, Picture, cell, shifted}
 use Rattle.ca_plane.proofs.After.{after_again, after_dead, after_same}
 use Rattle.ca_plane.proofs.Shifts.{cell-shifted}
 use Rattle.ca_quad.specs.declared.tree.WideBounds.{WideBounds}
-use Rattle.ca_quad.specs.Boxes.{IsLeastWideBox}
-use Rattle.ca_apgcode.specs.Objects.{IsPhaseText, IsLeastOfPhases, IsObjectCode}
+use Rattle.ca_quad.specs.Prelude.{IsLeastWideBox}
+use Rattle.ca_apgcode.specs.Prelude.{IsPhaseText, IsLeastOfPhases, IsObjectCode}
 use Rattle.ca_apgcode.specs.declared.object.ObjectKind.{ObjectKind}
 use Rattle.ca_apgcode.proofs.Copies.{code_of_same}
 use Rattle.ca_apgcode.proofs.PhaseTexts.{near_each_other}

@@ -3,14 +3,11 @@ use Rattle.std.proofs.Common.{◌≡◌, ◌≢◌, ℕ, ◌-◌, length, refl, 
 use Rattle.std.specs.Prelude.{neg_ℤ, ◌≤ℤ◌}
 use Rattle.std.proofs.lemmas.Bool.{cases_eq}
 use Rattle.std.proofs.lemmas.Int.{ints}
-use Rattle.ca_plane.specs.Plane.{Picture}
+use Rattle.ca_plane.specs.Prelude.{Picture, from_corner}
 use Rattle.ca_plane.specs.Plane as plane
-use Rattle.ca_plane.specs.Shown.{from_corner}
 use Rattle.ca_quad.specs.declared.tree.WideBounds.{WideBounds}
-use Rattle.ca_quad.specs.Boxes.{IsDead, IsLeastWideBox}
-use Rattle.ca_apgcode.specs.Grids.{GridCells, IsLeastGrid, cell}
-use Rattle.ca_apgcode.specs.Objects.{live, IsBoxRound}
-use Rattle.ca_apgcode.specs.Orientations.{turned}
+use Rattle.ca_quad.specs.Prelude.{IsDead, IsLeastWideBox}
+use Rattle.ca_apgcode.specs.Prelude.{GridCells, IsLeastGrid, cell, live, IsBoxRound, turned}
 use Rattle.ca_apgcode.specs.declared.orientation.Orientation.{Orientation}
 use Rattle.ca_apgcode.specs.declared.orientation.Orientation.TheVariants.{Upright, QuarterTurn, HalfTurn, ThreeQuarterTurn, EastWest, NorthSouth, Diagonal, Antidiagonal}
 use Rattle.ca_apgcode.proofs.PlaneBoxes.{live_one, one_live, shown_at}

@@ -1,7 +1,7 @@
 -- How many cells are live.
 use Rattle.std.proofs.Common.{◌≡◌, ◌≢◌, ℕ, sym, ◌∙◌, ℤ}
 use Rattle.ca_plane.specs.declared.point.Point.{Point}
-use Rattle.ca_plane.specs.Population.{HasPopulation}
+use Rattle.ca_plane.specs.Prelude.{HasPopulation}
 use Rattle.ca_plane.proofs.Elements.{all_weaker}
 
 -- planes with the same cells have as many live ones

@@ -6,9 +6,8 @@ use Rattle.std.proofs.lemmas.Int.{ints}
 use Rattle.std.proofs.lemmas.List.{get_or_past, get_or_push, get_or_append_left, length_push}
 use Rattle.std.proofs.lemmas.Nat.{shr-shr, pow_pos}
 use Rattle.std.proofs.lemmas.Nat.Bits.{bit_at-zero, bit_at_above}
-use Rattle.ca_plane.specs.Shown.{from_corner}
-use Rattle.ca_apgcode.specs.Grids.{GridCells, IsLeastOf, cell}
-use Rattle.ca_apgcode.specs.Objects.{live, IsBoxRound}
+use Rattle.ca_plane.specs.Prelude.{from_corner}
+use Rattle.ca_apgcode.specs.Prelude.{GridCells, IsLeastOf, cell, live, IsBoxRound}
 use Rattle.ca_object_code.specs.inner.Frames.{AreColumnsOf}
 
 -- the first columns of a box: the rows from one on, without their lowest bits

@@ -1,7 +1,7 @@
 -- Planes that go by a counting of neighbours.
 use Rattle.std.specs.Prelude.{ℕ, ◌<◌, ℤ, List, Option, Some, None}
 use Rattle.ca_plane.specs.declared.counting.Counting.{Counting}
-use Rattle.ca_bricks.specs.Counting.{GoesBy}
+use Rattle.ca_bricks.specs.Prelude.{GoesBy}
 
 -- no cell has another state than 0 and 1
 abbrev pub HasTwoStates : (ℤ → ℤ → ℕ) → Type 0

@@ -1,11 +1,9 @@
 //! The least box round the live cells of a phase.
 
 ghost use Rattle.std.specs.Prelude.{◌≡◌, ◌≤◌, pos, ◌+ℤ◌, ◌≤ℤ◌, IfOk, OnOk, MatchOption};
-ghost use Rattle.ca_quad.specs.Boxes.{AreSquareBoxes};
-ghost use Rattle.ca_quad.specs.Trees.{cell};
-ghost use Rattle.ca_apgcode.specs.Objects.{IsBoxRound};
-ghost use Rattle.ca_pattern.specs.PatternTrees.{IsNearTree, IsWide, ShowsTree};
-ghost use Rattle.ca_pattern.specs.PatternTrees.{IsWideBox};
+ghost use Rattle.ca_quad.specs.Prelude.{AreSquareBoxes, cell};
+ghost use Rattle.ca_apgcode.specs.Prelude.{IsBoxRound};
+ghost use Rattle.ca_pattern.specs.Prelude.{IsNearTree, IsWide, ShowsTree, IsWideBox};
 ghost use Rattle.ca_object_code.specs.inner.Drawn.{HasNoText, IsLarge, IsWindowOf};
 
 use crate::drawing::{Window, draw};

@@ -1,17 +1,14 @@
 //! The code of a plane that was identified.
 
 ghost use Rattle.std.specs.Prelude.{◌≡◌, ◌≤◌, ◌-◌, IfOk, MatchOption};
-ghost use Rattle.ca_plane.specs.Plane.{Picture};
-ghost use Rattle.ca_plane.specs.Generations.{cells_after};
-ghost use Rattle.ca_plane.specs.Limits.{longest_period};
-ghost use Rattle.ca_quad.specs.Trees.{cell};
-ghost use Rattle.ca_run.specs.Leaping.{LeaperGrows};
-ghost use Rattle.ca_work.specs.Spending.{EndsAtLimit};
-ghost use Rattle.ca_apgcode.specs.Objects.{IsObjectCode};
-ghost use Rattle.ca_evolution.specs.Steps.{TakesSteps};
-ghost use Rattle.ca_pattern.specs.PatternTrees.{ShowsTree};
-ghost use Rattle.ca_pattern.specs.LaterTrees.{IsStart};
-ghost use Rattle.ca_answers.specs.Codes.{IsCodeOf, IsNoObject, HasGoodPeriod, steps_of};
+ghost use Rattle.ca_plane.specs.Prelude.{Picture, cells_after, longest_period};
+ghost use Rattle.ca_quad.specs.Prelude.{cell};
+ghost use Rattle.ca_run.specs.Prelude.{LeaperGrows};
+ghost use Rattle.ca_work.specs.Prelude.{EndsAtLimit};
+ghost use Rattle.ca_apgcode.specs.Prelude.{IsObjectCode};
+ghost use Rattle.ca_evolution.specs.Prelude.{TakesSteps};
+ghost use Rattle.ca_pattern.specs.Prelude.{ShowsTree, IsStart};
+ghost use Rattle.ca_answers.specs.Prelude.{IsCodeOf, IsNoObject, HasGoodPeriod, steps_of};
 
 use crate::phases::least_of_phases;
 use ca_answers::Identity;

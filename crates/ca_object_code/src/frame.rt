@@ -1,7 +1,7 @@
 //! Small boxes in a frame of bricks, where their cells are taken one generation on.
 
 ghost use Rattle.std.specs.Prelude.{◌≡◌, ◌+◌, ◌*◌, ◌/◌, ◌%◌, ◌<◌, ◌≤◌, [], ℕ, length, slice_index, get_or, IfOk};
-ghost use Rattle.ca_bricks.specs.Bricks.{HasBlankEdge, HasNeighbours, IsNextBrick};
+ghost use Rattle.ca_bricks.specs.Prelude.{HasBlankEdge, HasNeighbours, IsNextBrick};
 ghost use Rattle.ca_bricks.specs.declared.cell_rule.CellRule.TheVariants.{ByCounting};
 ghost use Rattle.ca_object_code.specs.inner.Frames.{IsDarkBeside, IsFrameOf, frame_row};
 

@@ -2,7 +2,7 @@
 
 ghost use Rattle.std.specs.Prelude.{◌≡◌, ◌+◌, ◌<◌, ◌≤◌, ℕ, ℤ, slice_index, IfOk, IfSome, IsTrue};
 ghost use Rattle.std.specs.Int.{bit_at};
-ghost use Rattle.ca_apgcode.specs.Objects.{IsBoxRound};
+ghost use Rattle.ca_apgcode.specs.Prelude.{IsBoxRound};
 ghost use Rattle.ca_object_code.specs.inner.Frames.{AreColumnsOf};
 
 use crate::frame::ROWS;

@@ -1,9 +1,8 @@
 //! Objects that are too large for any of their phases to fit into 40 by 40 cells.
 
 ghost use Rattle.std.specs.Prelude.{◌≡◌, ◌≤◌, ◌+◌, ◌-◌, ◌*◌, ◌≤ℤ◌, pos, ◌+ℤ◌, IsTrue};
-ghost use Rattle.ca_plane.specs.Limits.{longest_period};
-ghost use Rattle.ca_pattern.specs.PatternTrees.{IsWideBox};
-ghost use Rattle.ca_pattern.specs.PatternTrees.{IsWide};
+ghost use Rattle.ca_plane.specs.Prelude.{longest_period};
+ghost use Rattle.ca_pattern.specs.Prelude.{IsWideBox, IsWide};
 ghost use Rattle.ca_object_code.specs.inner.Large.{IsTooLarge};
 
 use ca_apgcode::MOST_SIDE;

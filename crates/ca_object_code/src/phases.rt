@@ -1,16 +1,13 @@
 //! The least text of the phases of a pattern.
 
 ghost use Rattle.std.specs.Prelude.{◌≡◌, ◌≤◌, ◌+◌, ◌-◌, ℕ, ℤ, IfOk, OnOk, option_map};
-ghost use Rattle.ca_plane.specs.Generations.{cells_after};
-ghost use Rattle.ca_plane.specs.Limits.{longest_period};
-ghost use Rattle.ca_quad.specs.Boxes.{AreSquareBoxes};
-ghost use Rattle.ca_quad.specs.Trees.{cell};
-ghost use Rattle.ca_run.specs.Leaping.{LeaperGrows};
-ghost use Rattle.ca_work.specs.Spending.{EndsAtLimit};
-ghost use Rattle.ca_apgcode.specs.Objects.{IsLeastOfPhases};
-ghost use Rattle.ca_evolution.specs.Steps.{TakesSteps};
-ghost use Rattle.ca_pattern.specs.PatternTrees.{IsNearTree};
-ghost use Rattle.ca_pattern.specs.LaterTrees.{IsStart};
+ghost use Rattle.ca_plane.specs.Prelude.{cells_after, longest_period};
+ghost use Rattle.ca_quad.specs.Prelude.{AreSquareBoxes, cell};
+ghost use Rattle.ca_run.specs.Prelude.{LeaperGrows};
+ghost use Rattle.ca_work.specs.Prelude.{EndsAtLimit};
+ghost use Rattle.ca_apgcode.specs.Prelude.{IsLeastOfPhases};
+ghost use Rattle.ca_evolution.specs.Prelude.{TakesSteps};
+ghost use Rattle.ca_pattern.specs.Prelude.{IsNearTree, IsStart};
 
 use crate::boxes::box_round;
 use ca_apgcode::least_with;

@@ -1,16 +1,13 @@
 //! Codes that are found without the trees of an object's phases.
 
 ghost use Rattle.std.specs.Prelude.{◌≡◌, ◌≤◌, ◌+◌, ◌-◌, ◌*◌, ℕ, ℤ, List, replicate, IfOk, IfSome};
-ghost use Rattle.ca_plane.specs.Generations.{cells_after};
-ghost use Rattle.ca_plane.specs.Limits.{longest_period};
-ghost use Rattle.ca_plane.specs.Plane.{Picture};
-ghost use Rattle.ca_quad.specs.Trees.{cell};
-ghost use Rattle.ca_run.specs.Leaping.{LeaperGrows};
-ghost use Rattle.ca_work.specs.Spending.{EndsAtLimit};
-ghost use Rattle.ca_apgcode.specs.Objects.{IsObjectCode};
-ghost use Rattle.ca_answers.specs.Identified.{IsIdentity};
-ghost use Rattle.ca_pattern.specs.PatternTrees.{IsNearTree, ShowsTree};
-ghost use Rattle.ca_answers.specs.Codes.{IsCodeOf, HasGoodPeriod, steps_of};
+ghost use Rattle.ca_plane.specs.Prelude.{cells_after, longest_period, Picture};
+ghost use Rattle.ca_quad.specs.Prelude.{cell};
+ghost use Rattle.ca_run.specs.Prelude.{LeaperGrows};
+ghost use Rattle.ca_work.specs.Prelude.{EndsAtLimit};
+ghost use Rattle.ca_apgcode.specs.Prelude.{IsObjectCode};
+ghost use Rattle.ca_answers.specs.Prelude.{IsIdentity, IsCodeOf, HasGoodPeriod, steps_of};
+ghost use Rattle.ca_pattern.specs.Prelude.{IsNearTree, ShowsTree};
 ghost use Rattle.ca_object_code.specs.Countings.{MayGoBy};
 ghost use Rattle.ca_object_code.specs.inner.Large.{IsBackBy};
 

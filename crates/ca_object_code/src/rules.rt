@@ -1,8 +1,8 @@
 //! Under which rules objects have codes.
 
 ghost use Rattle.std.specs.Prelude.{◌↔◌, IsTrue};
-ghost use Rattle.ca_rule.specs.Rule.{rule_value};
-ghost use Rattle.ca_answers.specs.Codes.{HasCodes};
+ghost use Rattle.ca_rule.specs.Prelude.{rule_value};
+ghost use Rattle.ca_answers.specs.Prelude.{HasCodes};
 
 use ca_rule::{Hood, Rule};
 

@@ -1,14 +1,13 @@
 //! Phases that fit into 40 by 40 cells, which are stepped in a frame of bricks and not as trees.
 
 ghost use Rattle.std.specs.Prelude.{◌≡◌, ◌≤◌, ◌+◌, ◌-◌, ◌*◌, ◌%◌, ℕ, ℤ, List, replicate, IfOk, IfSome, Some};
-ghost use Rattle.ca_plane.specs.Generations.{cells_after};
-ghost use Rattle.ca_bricks.specs.Counting.{GoesBy};
-ghost use Rattle.ca_quad.specs.Boxes.{AreSquareBoxes};
-ghost use Rattle.ca_quad.specs.Trees.{cell};
-ghost use Rattle.ca_run.specs.Leaping.{LeaperGrows};
-ghost use Rattle.ca_work.specs.Spending.{EndsAtLimit};
-ghost use Rattle.ca_apgcode.specs.Objects.{IsBoxRound, IsLeastOfPhases};
-ghost use Rattle.ca_pattern.specs.PatternTrees.{IsNearTree};
+ghost use Rattle.ca_plane.specs.Prelude.{cells_after};
+ghost use Rattle.ca_bricks.specs.Prelude.{GoesBy};
+ghost use Rattle.ca_quad.specs.Prelude.{AreSquareBoxes, cell};
+ghost use Rattle.ca_run.specs.Prelude.{LeaperGrows};
+ghost use Rattle.ca_work.specs.Prelude.{EndsAtLimit};
+ghost use Rattle.ca_apgcode.specs.Prelude.{IsBoxRound, IsLeastOfPhases};
+ghost use Rattle.ca_pattern.specs.Prelude.{IsNearTree};
 ghost use Rattle.ca_object_code.specs.Countings.{HasTwoStates};
 
 use crate::boxes::box_round;

@@ -3,15 +3,13 @@ use Rattle.std.proofs.Common.{◌≡◌, ◌≢◌, ℕ, ◌+◌, ◌-◌, ◌�
 use Rattle.std.specs.Prelude.{ℤ, pos, neg_ℤ, ◌+ℤ◌, ◌≤ℤ◌, replicate}
 use Rattle.std.proofs.lemmas.Bool.{cases_eq}
 use Rattle.std.proofs.lemmas.Int.{ints}
-use Rattle.ca_plane.specs.Generations.{cells_after}
-use Rattle.ca_quad.specs.declared.node.Node.{Node}
-use Rattle.ca_quad.specs.declared.tree.Tree.{Tree}
-use Rattle.ca_quad.specs.Trees.{cell, IsTrimmed, HoldsAll}
+use Rattle.ca_plane.specs.Prelude.{cells_after, IsWithin}
+use Rattle.ca_quad.specs.declared.{node.Node.Node, tree.Tree.Tree}
+use Rattle.ca_quad.specs.Prelude.{cell, IsTrimmed, HoldsAll}
 use Rattle.ca_plane.proofs.Numbers.{below_or_not}
-use Rattle.ca_macro.specs.Pattern.{AreInRange}
-use Rattle.ca_plane.specs.Box.{IsWithin}
+use Rattle.ca_macro.specs.Prelude.{AreInRange}
 use Rattle.ca_plane.proofs.After.{after_dead}
-use Rattle.ca_pattern.specs.LaterTrees.{IsWithinPlane}
+use Rattle.ca_pattern.specs.Prelude.{IsWithinPlane}
 use Rattle.ca_pattern.proofs.Corners.{not_above}
 
 -- cells in range lie in the square of level 61

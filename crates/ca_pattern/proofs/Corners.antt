@@ -3,16 +3,11 @@ use Rattle.std.proofs.Common.{◌≡◌, ◌≢◌, ℕ, ◌^◌, List, sym, ap�
 use Rattle.std.specs.Prelude.{ℤ, pos, ◌+ℤ◌, ◌-ℤ◌, ◌≤ℤ◌, neg_ℤ}
 use Rattle.std.proofs.lemmas.Bool.{cases_eq}
 use Rattle.std.proofs.lemmas.Int.{ints, by_lt_z}
-use Rattle.ca_plane.specs.Sparse.{IsInPlane}
-use Rattle.ca_quad.specs.declared.node.Node.{Node}
-use Rattle.ca_quad.specs.declared.tree.Tree.{Tree}
-use Rattle.ca_quad.specs.declared.tree.WideBounds.{WideBounds}
+use Rattle.ca_plane.specs.Prelude.{IsInPlane}
+use Rattle.ca_quad.specs.declared.{node.Node.Node, tree.Tree.Tree, tree.WideBounds.WideBounds}
 use Rattle.ca_quad.specs.Boxes as wide
-use Rattle.ca_quad.specs.Expanded.{FitsPlane, HasCellOutsidePlane}
-use Rattle.ca_quad.specs.Shifted.{shifted_cells}
-use Rattle.ca_quad.specs.Trees.{cell, HoldsAll}
-use Rattle.ca_pattern.specs.PatternTrees.{IsWide, HasLive, IsNoMove, IsOnlyMove, IsBroad}
-use Rattle.ca_pattern.specs.LaterTrees.{IsWithinPlane}
+use Rattle.ca_quad.specs.Prelude.{FitsPlane, HasCellOutsidePlane, shifted_cells, cell, HoldsAll}
+use Rattle.ca_pattern.specs.Prelude.{IsWide, HasLive, IsNoMove, IsOnlyMove, IsBroad, IsWithinPlane}
 use Rattle.ca_pattern.proofs.Searches.{search_within}
 
 -- cells in the square of a plane are all 0, or one is live

@@ -2,8 +2,7 @@
 use Rattle.std.proofs.Common.{◌≡◌, ℕ, zero, suc, ◌≤◌, List, [], inl, inr, ap, subst, ◌∙◌, arith}
 use Rattle.std.specs.Prelude.{replicate}
 use Rattle.std.proofs.lemmas.Bool.{cases_eq}
-use Rattle.ca_plane.specs.Plane.{Picture}
-use Rattle.ca_plane.specs.Generations.{after, IsAfter, IsLiveAfter}
+use Rattle.ca_plane.specs.Prelude.{Picture, after, IsAfter, IsLiveAfter}
 use Rattle.ca_plane.proofs.Numbers.{below_or_not}
 use Rattle.ca_plane.proofs.After.{around-same}
 use Rattle.ca_pattern.proofs.Searches.{search_within}

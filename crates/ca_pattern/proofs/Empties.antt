@@ -2,12 +2,9 @@
 use Rattle.std.proofs.Common.{◌≡◌, ℕ, ◌-◌, ◌^◌, List, refl, sym, ◌∙◌, arith}
 use Rattle.std.specs.Prelude.{ℤ, pos, negsuc, ◌+ℤ◌, ◌-ℤ◌}
 use Rattle.std.proofs.lemmas.Int.{ints}
-use Rattle.ca_quad.specs.declared.node.Node.{Node}
-use Rattle.ca_quad.specs.declared.tree.Tree.{Tree}
-use Rattle.ca_quad.specs.Squares.{cell_of}
-use Rattle.ca_quad.specs.Trees.{IsEmpty, cell}
-use Rattle.ca_plane.specs.Shown.{from_corner}
-use Rattle.ca_quad.specs.Boxes.{IsDead}
+use Rattle.ca_quad.specs.declared.{node.Node.Node, tree.Tree.Tree}
+use Rattle.ca_quad.specs.Prelude.{cell_of, IsEmpty, cell, IsDead}
+use Rattle.ca_plane.specs.Prelude.{from_corner}
 use Rattle.ca_quad.proofs.Differ.{cell_at}
 
 -- cells that are all 0 from a corner on

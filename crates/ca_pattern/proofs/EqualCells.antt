@@ -3,9 +3,9 @@ use Rattle.std.proofs.Common.{◌≡◌, ◌≢◌, ℕ, ◌≤◌, ◌<◌, Lis
 use Rattle.std.specs.Prelude.{ℤ}
 use Rattle.std.specs.List.{AllByRecursion}
 use Rattle.ca_plane.specs.declared.point.Point.{Point}
-use Rattle.ca_plane.specs.Population.{AreLivePlaces, HasPopulation, HasFewCells, HasTooManyCells}
-use Rattle.ca_rule.specs.Rule.{RuleValue, states_of}
-use Rattle.ca_pattern.specs.States.{HasLargeState, HasSmallStates}
+use Rattle.ca_plane.specs.Prelude.{AreLivePlaces, HasPopulation, HasFewCells, HasTooManyCells}
+use Rattle.ca_rule.specs.Prelude.{RuleValue, states_of}
+use Rattle.ca_pattern.specs.Prelude.{HasLargeState, HasSmallStates}
 
 module _ (f g : ℤ → ℤ → ℕ) (same : (x y : ℤ) → f x y ≡ g x y) where
   -- their states are small, or one is large

@@ -1,16 +1,15 @@
 -- The live cells of a file that reads are in range.
 use Rattle.std.proofs.Common.{ℕ, List, sym, ap, subst, ◌∙◌}
-use Rattle.ca_plane.specs.Plane.{Picture, cell}
+use Rattle.ca_plane.specs.Prelude.{Picture, cell}
 use Rattle.ca_rle.specs.Shown as rle_shown
 use Rattle.ca_rle.proofs.OneFile as rle_file
-use Rattle.ca_macro.specs.Pattern.{AreInRange}
+use Rattle.ca_macro.specs.Prelude.{AreInRange}
 use Rattle.ca_macro.specs.Shown as macrocell_shown
 use Rattle.ca_macro.proofs.OneMeaning as macrocell
 use Rattle.ca_macro.proofs.Ranges.{cells_in_range}
 use Rattle.ca_pattern.specs.declared.format.Format.{Format}
 use Rattle.ca_pattern.specs.declared.format.Format.TheVariants.{Rle, Mc}
-use Rattle.ca_pattern.specs.Formats.{format_of, MeansAs, IsReadableAs}
-use Rattle.ca_pattern.specs.Means.{HoldsPattern}
+use Rattle.ca_pattern.specs.Prelude.{format_of, MeansAs, IsReadableAs, HoldsPattern}
 
 -- the cells of a text that reads are in range
 pub read_in_range : (format : Format) (text : List ℕ) (cells : Picture) (rule_text : List ℕ) (generation : ℕ) → IsReadableAs format text → MeansAs format text cells rule_text generation → AreInRange (cell cells)

@@ -3,12 +3,11 @@ use Rattle.std.proofs.Common.{◌≡◌, ℕ, List, [], ◌∷◌, sym, subst, �
 use Rattle.std.specs.Prelude.{ℤ}
 use Rattle.std.specs.List.{All, AllByRecursion}
 use Rattle.std.proofs.lemmas.List.Elements.{All-nil, All-cons, All-contains}
-use Rattle.ca_plane.specs.Plane.{Picture, cell}
-use Rattle.ca_plane.specs.Limits.{IsInRange}
+use Rattle.ca_plane.specs.Prelude.{Picture, cell, IsInRange}
 use Rattle.ca_plane.proofs.Pictures.{Contains-cell}
-use Rattle.ca_macro.specs.Pattern.{AreInRange}
+use Rattle.ca_macro.specs.Prelude.{AreInRange}
 use Rattle.ca_pattern.specs.declared.format.Format.{Format}
-use Rattle.ca_pattern.specs.Formats.{format_of}
+use Rattle.ca_pattern.specs.Prelude.{format_of}
 
 -- what holds of bytes in their format holds of them
 pub in_format : (P : Format → Type 0) (bytes : List ℕ) (format : Format) → format_of bytes ≡ format → P format → P (format_of bytes)

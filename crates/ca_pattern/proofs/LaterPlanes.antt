@@ -8,25 +8,18 @@ use Rattle.std.proofs.lemmas.Bool.Decides.{Decides-int_eq}
 use Rattle.std.proofs.lemmas.Int.{ints}
 use Rattle.std.proofs.lemmas.List.Elements.{All-nil, All-cons, All-contains}
 use Rattle.ca_plane.specs.declared.point.Point.{Point}
-use Rattle.ca_plane.specs.Plane.{Picture}
+use Rattle.ca_plane.specs.Prelude.{Picture, around, cells_after, AreLivePlaces, HasPopulation}
 use Rattle.ca_plane.specs.Plane as plane
-use Rattle.ca_plane.specs.Generations.{around, cells_after}
-use Rattle.ca_plane.specs.Population.{AreLivePlaces, HasPopulation}
 use Rattle.ca_plane.proofs.Pictures.{place-from_true}
-use Rattle.ca_quad.specs.declared.node.Node.{Node}
-use Rattle.ca_quad.specs.declared.tree.Tree.{Tree}
-use Rattle.ca_quad.specs.declared.tree.WideBounds.{WideBounds}
-use Rattle.ca_quad.specs.Boxes.{IsLeastWideBox}
+use Rattle.ca_quad.specs.declared.{node.Node.Node, tree.Tree.Tree, tree.WideBounds.WideBounds}
+use Rattle.ca_quad.specs.Prelude.{IsLeastWideBox, IsTrimmed, HoldsAll, IsSoundStore}
 use Rattle.ca_quad.specs.Trees as trees
-use Rattle.ca_quad.specs.Trees.{IsTrimmed, HoldsAll}
-use Rattle.ca_quad.specs.Sound.{IsSoundStore}
 use Rattle.ca_quad.proofs.Reach.{low_fits}
 use Rattle.ca_quad.proofs.Shifts.{some_level}
-use Rattle.ca_macro.specs.Pattern.{AreInRange}
-use Rattle.ca_pattern.specs.Written.{HasCellOutOfRange}
+use Rattle.ca_macro.specs.Prelude.{AreInRange}
+use Rattle.ca_pattern.specs.Prelude.{HasCellOutOfRange, IsLowTree}
 use Rattle.ca_pattern.specs.inner.Cells.{IsBoxOutOfRange}
 use Rattle.ca_pattern.specs.inner.Summed.{AreNearBounds}
-use Rattle.ca_pattern.specs.PatternTrees.{IsLowTree}
 use Rattle.ca_pattern.proofs.FilesRead.{All-each}
 use Rattle.ca_pattern.proofs.CellsNearMiddle.{range_held, later_held, trimmed_low}
 

@@ -1,14 +1,12 @@
 -- Trees as a leaper goes on: what was known of them stays.
 use Rattle.std.proofs.Common.{List, Result, Ok, Err, sym, ◌∙◌}
 use Rattle.std.specs.Prelude.{IfOk}
-use Rattle.ca_plane.specs.Plane.{Picture}
-use Rattle.ca_quad.specs.declared.node.Node.{Node}
-use Rattle.ca_quad.specs.declared.tree.Tree.{Tree}
-use Rattle.ca_quad.specs.Sound.{IsSoundStore, Grows}
-use Rattle.ca_quad.specs.Trees.{IsTree}
+use Rattle.ca_plane.specs.Prelude.{Picture}
+use Rattle.ca_quad.specs.declared.{node.Node.Node, tree.Tree.Tree}
+use Rattle.ca_quad.specs.Prelude.{IsSoundStore, Grows, IsTree}
 use Rattle.ca_quad.proofs.Cells.{of_stays}
 use Rattle.ca_quad.proofs.Trims.{trees_stay}
-use Rattle.ca_pattern.specs.PatternTrees.{ShowsTree, IsPattern, IsNearTree}
+use Rattle.ca_pattern.specs.Prelude.{ShowsTree, IsPattern, IsNearTree}
 
 -- ---- the store grows
 

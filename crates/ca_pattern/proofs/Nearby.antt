@@ -3,10 +3,9 @@ use Rattle.std.proofs.Common.{◌≡◌, ℕ, ◌≤◌, ◌^◌, List, ◌∙�
 use Rattle.std.specs.Prelude.{ℤ, replicate}
 use Rattle.std.proofs.lemmas.Bool.{cases_eq}
 use Rattle.std.proofs.lemmas.Int.{ints}
-use Rattle.ca_plane.specs.Sparse.{IsInPlane}
-use Rattle.ca_plane.specs.Generations.{cells_after}
+use Rattle.ca_plane.specs.Prelude.{IsInPlane, cells_after}
 use Rattle.ca_plane.proofs.After.{after_dead}
-use Rattle.ca_macro.specs.Pattern.{AreInRange}
+use Rattle.ca_macro.specs.Prelude.{AreInRange}
 
 -- where cells are in range, few generations later
 pub later_outside : (next : List ℕ → ℕ) (p : ℤ → ℤ → ℕ) (n : ℕ) → next (replicate 9 0) ≡ 0 → AreInRange p → n ≤ 2 ^ 60

@@ -3,22 +3,14 @@ use Rattle.std.proofs.Common.{◌≡◌, ◌≢◌, ℕ, ◌≤◌, List, length
 use Rattle.std.specs.Prelude.{◌≤ℤ◌}
 use Rattle.std.proofs.lemmas.Int.{ints}
 use Rattle.ca_plane.specs.declared.point.Bounds.{Bounds}
-use Rattle.ca_plane.specs.Plane.{Picture, cell, IsLive}
-use Rattle.ca_plane.specs.Box.{IsLeastBox}
-use Rattle.ca_plane.specs.Limits.{most_cells}
+use Rattle.ca_plane.specs.Prelude.{Picture, cell, IsLive, IsLeastBox, most_cells}
 use Rattle.ca_rle.specs.Shown as rle_shown
 use Rattle.ca_rle.proofs.OneFile as rle_file
-use Rattle.ca_rule.specs.TableNext.{TableRule}
-use Rattle.ca_rule.specs.Rule.{RuleValue, printed_form}
-use Rattle.ca_pattern.specs.declared.format.Format.{Format}
+use Rattle.ca_rule.specs.Prelude.{TableRule, RuleValue, printed_form}
+use Rattle.ca_pattern.specs.declared.{format.Format.Format, convert_fault.ConvertFault.ConvertFault}
 use Rattle.ca_pattern.specs.declared.format.Format.TheVariants.{Rle, Mc}
-use Rattle.ca_pattern.specs.declared.convert_fault.ConvertFault.{ConvertFault}
 use Rattle.ca_pattern.specs.declared.convert_fault.ConvertFault.TheVariants.{BadPattern, BadRule, StateTooLarge, TooManyCells, Memory}
-use Rattle.ca_pattern.specs.Formats.{format_of, MeansAs, IsReadableAs}
-use Rattle.ca_pattern.specs.Means.{HoldsRuledPattern}
-use Rattle.ca_pattern.specs.States.{HasSmallStates}
-use Rattle.ca_pattern.specs.Converted.{IsConverted, IsSummaryFault, IsConvertFault}
-use Rattle.ca_pattern.specs.Evolved.{IsEvolved}
+use Rattle.ca_pattern.specs.Prelude.{format_of, MeansAs, IsReadableAs, HoldsRuledPattern, HasSmallStates, IsConverted, IsSummaryFault, IsConvertFault, IsEvolved}
 use Rattle.ca_pattern.proofs.OneMeaning.{reads_without_fault, one_fault_of, one_ruled, small_or_large, named_or_fault, one_rule_fault_of}
 use Rattle.ca_pattern.proofs.PicturePopulations.{population-le}
 

@@ -1,28 +1,18 @@
 -- A file is opened, or it isn't for one fault, in one place; out of memory apart.
 use Rattle.std.proofs.Common.{◌≡◌, ◌≢◌, ℕ, List, Option, None, Some, refl, ap, subst}
 use Rattle.std.specs.Option.{MatchOption}
-use Rattle.ca_plane.specs.Plane.{Picture, cell}
-use Rattle.ca_rle.specs.Faults.{IsFirstRleFault}
-use Rattle.ca_rle.specs.FaultyLine.{IsFirstRleFaultOn}
+use Rattle.ca_plane.specs.Prelude.{Picture, cell}
+use Rattle.ca_rle.specs.Prelude.{IsFirstRleFault, IsFirstRleFaultOn}
 use Rattle.ca_rle.proofs.FaultLines as rle
-use Rattle.ca_macro.specs.Faults.{IsFirstMacrocellFault, IsFirstMacrocellFaultOn}
+use Rattle.ca_macro.specs.Prelude.{IsFirstMacrocellFault, IsFirstMacrocellFaultOn}
 use Rattle.ca_macro.proofs.OneMeaning as macrocell
-use Rattle.ca_rule.specs.TableNext.{TableRule}
-use Rattle.ca_rule.specs.Rule.{RuleValue}
-use Rattle.ca_pattern.specs.declared.convert_fault.ConvertFault.{ConvertFault}
+use Rattle.ca_rule.specs.Prelude.{TableRule, RuleValue, IsRuleFault}
+use Rattle.ca_pattern.specs.declared.{convert_fault.ConvertFault.ConvertFault, pattern_fault.PatternFault.PatternFault, located_fault.LocatedFault.LocatedFault, read.BadPattern.BadPattern}
+use Rattle.ca_pattern.specs.declared.{ruled.UnnamedRule.UnnamedRule as Unnamed}
 use Rattle.ca_pattern.specs.declared.convert_fault.ConvertFault.TheVariants as convert
-use Rattle.ca_pattern.specs.declared.pattern_fault.PatternFault.{PatternFault}
 use Rattle.ca_pattern.specs.declared.pattern_fault.PatternFault.TheVariants as pattern_fault
-use Rattle.ca_pattern.specs.declared.located_fault.LocatedFault.{LocatedFault}
 use Rattle.ca_pattern.specs.declared.located_fault.LocatedFault.TheVariants.{Unread, UnnamedRule, StateTooLarge, GenTooLarge, Work, Range, TooManyCells, Memory}
-use Rattle.ca_pattern.specs.declared.read.BadPattern.{BadPattern}
-use Rattle.ca_pattern.specs.declared.ruled.UnnamedRule.{UnnamedRule as Unnamed}
-use Rattle.ca_pattern.specs.Converted.{IsSummaryFault}
-use Rattle.ca_pattern.specs.Formats.{IsPatternFaultOn}
-use Rattle.ca_pattern.specs.LocatedFaults.{IsOpeningFault, convert_fault_of, IsSameFault}
-use Rattle.ca_pattern.specs.Means.{HoldsRuledPattern, HoldsRuleText, HasRuleFault}
-use Rattle.ca_pattern.specs.States.{HasSmallStates}
-use Rattle.ca_rule.specs.Rule.{IsRuleFault}
+use Rattle.ca_pattern.specs.Prelude.{IsSummaryFault, IsPatternFaultOn, IsOpeningFault, convert_fault_of, IsSameFault, HoldsRuledPattern, HoldsRuleText, HasRuleFault, HasSmallStates}
 use Rattle.ca_pattern.proofs.OneConversion.{ready_or_fault}
 use Rattle.ca_pattern.proofs.OneMeaning.{one_fault_of, one_meaning, one_rule_fault_of, reads_without_fault, named_or_fault}
 use Rattle.ca_pattern.proofs.PatternsRead.{fault_on}

@@ -1,22 +1,18 @@
 -- A file has one meaning and one fault at most, and not both.
 use Rattle.std.proofs.Common.{◌≡◌, ℕ, ◌<◌, List, sym, ap, subst, ◌∙◌, arith}
-use Rattle.ca_plane.specs.Plane.{Picture, cell}
-use Rattle.ca_rule.specs.TableNext.{TableRule}
+use Rattle.ca_plane.specs.Prelude.{Picture, cell}
+use Rattle.ca_rule.specs.Prelude.{TableRule, RuleValue, states_of, NamesRule, IsRuleFault}
 use Rattle.ca_rule.specs.declared.fault.RuleFault.{RuleFault}
-use Rattle.ca_rule.specs.Rule.{RuleValue, states_of, NamesRule, IsRuleFault}
 use Rattle.ca_rule.proofs.Rules.{named-once, named-faultless, one-rule-fault}
 use Rattle.ca_rle.specs.Shown as rle_shown
 use Rattle.ca_rle.proofs.OneFile as rle_file
 use Rattle.ca_rle.proofs.OneFault as rle_fault
 use Rattle.ca_macro.specs.Shown as macrocell_shown
 use Rattle.ca_macro.proofs.OneMeaning as macrocell
-use Rattle.ca_pattern.specs.declared.pattern_fault.PatternFault.{PatternFault}
+use Rattle.ca_pattern.specs.declared.{pattern_fault.PatternFault.PatternFault, format.Format.Format}
 use Rattle.ca_pattern.specs.declared.pattern_fault.PatternFault.TheVariants as pattern_fault
-use Rattle.ca_pattern.specs.declared.format.Format.{Format}
 use Rattle.ca_pattern.specs.declared.format.Format.TheVariants as formats
-use Rattle.ca_pattern.specs.Formats.{format_of, MeansAs, IsReadableAs, IsPatternFault}
-use Rattle.ca_pattern.specs.Means.{Means, IsReadable, HoldsRuledPattern, HasRuleFault}
-use Rattle.ca_pattern.specs.States.{HasLargeState, HasSmallStates}
+use Rattle.ca_pattern.specs.Prelude.{format_of, MeansAs, IsReadableAs, IsPatternFault, Means, IsReadable, HoldsRuledPattern, HasRuleFault, HasLargeState, HasSmallStates}
 
 -- ---- one meaning
 

@@ -3,25 +3,15 @@ use Rattle.std.proofs.Common.{◌≡◌, ◌≢◌, ℕ, ◌+◌, ◌<◌, List,
 use Rattle.std.specs.Prelude.{ℤ}
 use Rattle.std.specs.Option.{MatchOption}
 use Rattle.ca_plane.specs.declared.point.Bounds.{Bounds}
-use Rattle.ca_plane.specs.Plane.{Picture, cell, IsSame, IsLive}
-use Rattle.ca_plane.specs.Box.{IsLeastBox}
-use Rattle.ca_plane.specs.Generations.{after}
-use Rattle.ca_plane.specs.Limits.{generation_limit}
+use Rattle.ca_plane.specs.Prelude.{Picture, cell, IsSame, IsLive, IsLeastBox, after, generation_limit}
 use Rattle.ca_plane.proofs.Populations.{same_population}
-use Rattle.ca_macro.specs.Pattern.{AreInRange}
+use Rattle.ca_macro.specs.Prelude.{AreInRange}
 use Rattle.ca_macro.proofs.Ranges.{range_as}
-use Rattle.ca_rule.specs.TableNext.{TableRule}
-use Rattle.ca_rule.specs.Rule.{RuleValue, rule_value, states_of, next_of, printed_form}
-use Rattle.ca_pattern.specs.declared.format.Format.{Format}
-use Rattle.ca_pattern.specs.declared.pattern.Summary.{Summary}
-use Rattle.ca_pattern.specs.declared.pattern.Pattern.{Pattern}
-use Rattle.ca_pattern.specs.declared.located_fault.LocatedFault.{LocatedFault}
+use Rattle.ca_rule.specs.Prelude.{TableRule, RuleValue, rule_value, states_of, next_of, printed_form}
+use Rattle.ca_pattern.specs.declared.{format.Format.Format, pattern.Summary.Summary, pattern.Pattern.Pattern, located_fault.LocatedFault.LocatedFault}
 use Rattle.ca_pattern.specs.declared.located_fault.LocatedFault.TheVariants.{GenTooLarge, Work, Range, TooManyCells, Memory}
-use Rattle.ca_pattern.specs.Evolved.{HoldsSmallRuledPattern, IsPatternAfter, IsSamePattern, IsReachFault, IsEvolved, IsSummaryAfter, IsConvertedAfter, IsConvertFaultAfter}
-use Rattle.ca_pattern.specs.Formats.{IsTidyAs, format_of}
-use Rattle.ca_pattern.specs.Written.{HasCellOutOfRange}
-use Rattle.ca_pattern.specs.LocatedFaults.{IsSameFault}
-use Rattle.ca_pattern.specs.Converted.{IsSameSummary}
+use Rattle.ca_pattern.specs.Prelude.{HoldsSmallRuledPattern, IsPatternAfter, IsSamePattern, IsReachFault, IsEvolved, IsSummaryAfter, IsConvertedAfter, IsConvertFaultAfter, IsTidyAs, format_of}
+use Rattle.ca_pattern.specs.Prelude.{HasCellOutOfRange, IsSameFault, IsSameSummary}
 use Rattle.ca_pattern.proofs.FilesInRange.{read_in_range}
 use Rattle.ca_pattern.proofs.OneConversion.{few_shown, one_bounds}
 use Rattle.ca_pattern.proofs.OneFault.{opened_or_fault, one_opening_fault}

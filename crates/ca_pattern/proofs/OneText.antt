@@ -1,16 +1,14 @@
 -- A file is converted to one text.
 use Rattle.std.proofs.Common.{◌≡◌, ℕ, List, Option, None, Some, sym, ◌∙◌, inl, inr}
-use Rattle.ca_plane.specs.declared.point.Point.{Point}
-use Rattle.ca_plane.specs.declared.point.Bounds.{Bounds}
+use Rattle.ca_plane.specs.declared.point.{Point.Point, Bounds.Bounds}
 use Rattle.std.specs.Option.{MatchOption}
-use Rattle.ca_plane.specs.Plane.{Picture, cell, IsSame, IsLive}
-use Rattle.ca_plane.specs.Box.{IsLeastBox}
+use Rattle.ca_plane.specs.Prelude.{Picture, cell, IsSame, IsLive, IsLeastBox}
 use Rattle.ca_rle.specs.Tidy as rle
 use Rattle.ca_rle.proofs.OneTidy as rle_tidy
 use Rattle.ca_macro.proofs.OneTidy as macrocell_tidy
 use Rattle.ca_pattern.specs.declared.format.Format.{Format}
 use Rattle.ca_pattern.specs.declared.format.Format.TheVariants.{Rle, Mc}
-use Rattle.ca_pattern.specs.Formats.{IsTidyAs}
+use Rattle.ca_pattern.specs.Prelude.{IsTidyAs}
 use Rattle.ca_pattern.proofs.WrittenMeanings.{tidy_shown}
 
 -- a text that is tidy for a picture is so for one that shows the same

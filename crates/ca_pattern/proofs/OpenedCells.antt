@@ -3,25 +3,20 @@ use Rattle.std.proofs.Common.{◌≡◌, ℕ, zero, suc, ◌<◌, ◌≤◌, Lis
 use Rattle.std.specs.Prelude.{ℤ}
 use Rattle.std.specs.Option.{MatchOption}
 use Rattle.ca_plane.specs.declared.point.Point.{Point}
-use Rattle.ca_plane.specs.Plane.{Picture, cell, IsLive}
-use Rattle.ca_plane.specs.Box.{IsLeastBox}
-use Rattle.ca_plane.specs.Population.{HasPopulation}
-use Rattle.ca_quad.specs.declared.node.Node.{Node}
-use Rattle.ca_quad.specs.declared.tree.Tree.{Tree}
+use Rattle.ca_plane.specs.Prelude.{Picture, cell, IsLive, IsLeastBox, HasPopulation}
+use Rattle.ca_quad.specs.declared.{node.Node.Node, tree.Tree.Tree}
 use Rattle.ca_quad.specs.Trees as trees
-use Rattle.ca_quad.specs.Trees.{IsTrimmed}
-use Rattle.ca_macro.specs.Pattern.{AreInRange}
+use Rattle.ca_quad.specs.Prelude.{IsTrimmed}
+use Rattle.ca_macro.specs.Prelude.{AreInRange}
 use Rattle.ca_macro.proofs.Ranges.{cells_in_range}
 use Rattle.ca_rle.specs.declared.rle_text.RleText.{RleText}
-use Rattle.ca_rle.specs.Judged.{IsRleText}
-use Rattle.ca_rle.specs.Shown.{picture_of_items}
+use Rattle.ca_rle.specs.Prelude.{IsRleText, picture_of_items}
 use Rattle.ca_rle.proofs.JudgedTexts.{text_bounds}
 use Rattle.ca_rle.proofs.OneList.{one_list}
-use Rattle.ca_rule.specs.Rule.{RuleValue, states_of}
+use Rattle.ca_rule.specs.Prelude.{RuleValue, states_of}
 use Rattle.ca_pattern.specs.declared.pattern.Cells.{Cells}
 use Rattle.ca_pattern.specs.declared.pattern.Cells.TheVariants.{Text, Squares}
-use Rattle.ca_pattern.specs.PatternCells.{AreCells, IsTreeOf}
-use Rattle.ca_pattern.specs.States.{HasSmallStates}
+use Rattle.ca_pattern.specs.Prelude.{AreCells, IsTreeOf, HasSmallStates}
 use Rattle.ca_pattern.proofs.CellsNearMiddle.{range_held, trimmed_low}
 use Rattle.ca_pattern.proofs.EqualCells.{population_shown}
 use Rattle.ca_pattern.proofs.LaterPlanes.{range_shown}

@@ -1,39 +1,23 @@
 -- Files that were opened, and what is reached, told and written of their patterns.
 use Rattle.std.proofs.Common.{◌≡◌, ℕ, ◌+◌, ◌<◌, List, Some, Result, Ok, Err, refl, sym, subst, ◌∙◌, arith}
 use Rattle.std.specs.Prelude.{ℤ, IfOk}
-use Rattle.ca_plane.specs.Plane.{Picture, cell}
-use Rattle.ca_plane.specs.Generations.{after}
-use Rattle.ca_plane.specs.Limits.{generation_limit}
+use Rattle.ca_plane.specs.Prelude.{Picture, cell, after, generation_limit}
 use Rattle.ca_quad.specs.declared.node.Node.{Node}
 use Rattle.ca_quad.specs.Trees as trees
-use Rattle.ca_macro.specs.Pattern.{AreInRange}
+use Rattle.ca_macro.specs.Prelude.{AreInRange}
 use Rattle.ca_macro.proofs.Ranges.{range_as}
 use Rattle.ca_rle.specs.declared.rle_text.RleText.{RleText}
-use Rattle.ca_rle.specs.Judged.{IsRleText}
-use Rattle.ca_rle.specs.Shown.{picture_of_items}
+use Rattle.ca_rle.specs.Prelude.{IsRleText, picture_of_items}
 use Rattle.ca_rule.specs.declared.rule.Rule.{Rule}
-use Rattle.ca_rule.specs.TableNext.{TableRule}
-use Rattle.ca_rule.specs.Rule.{RuleValue, rule_value, states_of, next_of, NamesRule}
-use Rattle.ca_pattern.specs.declared.convert_fault.ConvertFault.{ConvertFault}
+use Rattle.ca_rule.specs.Prelude.{TableRule, RuleValue, rule_value, states_of, next_of, NamesRule}
+use Rattle.ca_pattern.specs.declared.{convert_fault.ConvertFault.ConvertFault, format.Format.Format, located_fault.LocatedFault.LocatedFault, pattern.Pattern.Pattern, pattern.StoredTree.StoredTree}
+use Rattle.ca_pattern.specs.declared.{pattern.Summary.Summary, ruled.RuledPattern.RuledPattern}
 use Rattle.ca_pattern.specs.declared.convert_fault.ConvertFault.TheVariants as convert
-use Rattle.ca_pattern.specs.declared.format.Format.{Format}
 use Rattle.ca_pattern.specs.declared.format.Format.TheVariants.{Rle}
-use Rattle.ca_pattern.specs.declared.located_fault.LocatedFault.{LocatedFault}
 use Rattle.ca_pattern.specs.declared.located_fault.LocatedFault.TheVariants.{Unread, UnnamedRule, StateTooLarge, GenTooLarge, Work, Range, TooManyCells, Memory}
 use Rattle.ca_pattern.specs.declared.pattern.Cells.TheVariants.{Text, Squares}
-use Rattle.ca_pattern.specs.declared.pattern.Pattern.{Pattern}
-use Rattle.ca_pattern.specs.declared.pattern.StoredTree.{StoredTree}
-use Rattle.ca_pattern.specs.declared.pattern.Summary.{Summary}
-use Rattle.ca_pattern.specs.declared.ruled.RuledPattern.{RuledPattern}
-use Rattle.ca_pattern.specs.Converted.{IsConvertFault}
-use Rattle.ca_pattern.specs.Evolved.{IsPatternAfter, IsEvolved, IsSummaryAfter, IsConvertedAfter, IsConvertFaultAfter}
-use Rattle.ca_pattern.specs.LocatedFaults.{convert_fault_of}
-use Rattle.ca_pattern.specs.Formats.{format_of}
-use Rattle.ca_pattern.specs.PatternCells.{IsTreeOf, IsPatternOf}
-use Rattle.ca_pattern.specs.PatternTrees.{IsPattern}
-use Rattle.ca_pattern.specs.Patterns.{IsReadFrom, rule_of, ShowsSmall}
-use Rattle.ca_pattern.specs.States.{HasSmallStates}
-use Rattle.ca_pattern.specs.Written.{IsSummaryOf, IsWrittenAs, AreUnwritten}
+use Rattle.ca_pattern.specs.Prelude.{IsConvertFault, IsPatternAfter, IsEvolved, IsSummaryAfter, IsConvertedAfter, IsConvertFaultAfter, convert_fault_of, format_of, IsTreeOf, IsPatternOf, IsPattern}
+use Rattle.ca_pattern.specs.Prelude.{IsReadFrom, rule_of, ShowsSmall, HasSmallStates, IsSummaryOf, IsWrittenAs, AreUnwritten}
 use Rattle.ca_pattern.proofs.EqualCells.{small_shown, population_shown}
 use Rattle.ca_pattern.proofs.FilesInRange.{file_in_range}
 use Rattle.ca_pattern.proofs.LaterPlanes.{picture_of}

@@ -2,16 +2,12 @@
 use Rattle.std.proofs.Common.{◌≡◌, ℕ, ◌≤◌, ◌<◌, ℤ, List, get_or, Option, inr, sym, subst, ◌∙◌, arith}
 use Rattle.std.specs.List.{All}
 use Rattle.ca_plane.specs.declared.point.Point.{Point}
-use Rattle.ca_plane.specs.Plane.{Picture, cell}
-use Rattle.ca_plane.specs.Limits.{IsInRange}
-use Rattle.ca_plane.specs.Sparse.{IsSparse}
+use Rattle.ca_plane.specs.Prelude.{Picture, cell, IsInRange, IsSparse}
 use Rattle.ca_plane.proofs.Pictures.{cell-listed}
-use Rattle.ca_macro.specs.Pattern.{AreInRange}
-use Rattle.ca_pattern.specs.declared.format.Format.{Format}
+use Rattle.ca_macro.specs.Prelude.{AreInRange}
+use Rattle.ca_pattern.specs.declared.{format.Format.Format, pattern_fault.PatternFault.PatternFault}
 use Rattle.ca_pattern.specs.declared.format.Format.TheVariants.{Rle, Mc}
-use Rattle.ca_pattern.specs.Formats.{format_of, IsReadableAs, MayWantMemoryAs, IsPatternFault, IsPatternFaultOn}
-use Rattle.ca_pattern.specs.Means.{IsReadable, MayWantMemory}
-use Rattle.ca_pattern.specs.declared.pattern_fault.PatternFault.{PatternFault}
+use Rattle.ca_pattern.specs.Prelude.{format_of, IsReadableAs, MayWantMemoryAs, IsPatternFault, IsPatternFaultOn, IsReadable, MayWantMemory}
 use Rattle.ca_pattern.specs.declared.pattern_fault.PatternFault.TheVariants as pattern_fault
 
 -- ---- files that read

@@ -7,8 +7,7 @@ use Rattle.std.proofs.lemmas.List.{get_or-map, length-map}
 use Rattle.std.proofs.lemmas.List.Elements.{All-contains, All-from_recursion}
 use Rattle.std.proofs.lemmas.Map.Made.{is_member-Decides, length-le_from_is_member, IsDistinct-from_AllPairs}
 use Rattle.ca_plane.specs.declared.point.Point.{Point}
-use Rattle.ca_plane.specs.Plane.{Picture, cell}
-use Rattle.ca_plane.specs.Population.{HasPopulation}
+use Rattle.ca_plane.specs.Prelude.{Picture, cell, HasPopulation}
 use Rattle.ca_plane.proofs.Pictures.{point_cmp_total, Contains-cell}
 use Rattle.ca_plane.proofs.Populations.{is_point, Decides-is_point}
 

@@ -2,13 +2,9 @@
 use Rattle.std.proofs.Common.{ℕ, List, refl, arith}
 use Rattle.ca_quad.specs.declared.node.Node.{Node}
 use Rattle.ca_quad.specs.Trees as trees
-use Rattle.ca_rule.specs.TableNext.{TableRule}
-use Rattle.ca_rule.specs.Rule.{NamesRule}
-use Rattle.ca_pattern.specs.declared.pattern.Loaded.{Loaded}
-use Rattle.ca_pattern.specs.declared.ruled.RuledPattern.{RuledPattern}
-use Rattle.ca_pattern.specs.Means.{HoldsRuledPattern}
-use Rattle.ca_pattern.specs.Patterns.{IsReadFrom, rule_of}
-use Rattle.ca_pattern.specs.PatternTrees.{IsPattern}
+use Rattle.ca_rule.specs.Prelude.{TableRule, NamesRule}
+use Rattle.ca_pattern.specs.declared.{pattern.Loaded.Loaded, ruled.RuledPattern.RuledPattern}
+use Rattle.ca_pattern.specs.Prelude.{HoldsRuledPattern, IsReadFrom, rule_of, IsPattern}
 use Rattle.ca_pattern.proofs.CellsNearMiddle.{range_held, trimmed_low}
 
 -- the tree that is read from a file is that of a pattern

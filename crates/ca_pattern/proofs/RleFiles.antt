@@ -1,21 +1,14 @@
 -- RLE files that were read, their cells kept in one form or another.
 use Rattle.std.proofs.Common.{◌≡◌, ℕ, ◌≤◌, ◌<◌, ◌^◌, List, refl, sym, ap, subst, arith}
 use Rattle.std.specs.Prelude.{ℤ}
-use Rattle.ca_plane.specs.Plane.{Picture, cell}
-use Rattle.ca_plane.specs.Population.{HasPopulation}
+use Rattle.ca_plane.specs.Prelude.{Picture, cell, HasPopulation}
 use Rattle.ca_plane.specs.declared.point.Point.{Point}
 use Rattle.ca_rle.specs.declared.rle_text.RleText.{RleText}
-use Rattle.ca_rle.specs.Judged.{IsRleText}
-use Rattle.ca_rle.specs.File.{RleFile, IsRleFile}
-use Rattle.ca_rle.specs.Limits.{IsWithinLimits}
-use Rattle.ca_rle.specs.Pattern.{HasFileParts}
-use Rattle.ca_rle.specs.Shown.{picture_of_items}
-use Rattle.ca_rule.specs.Rule.{RuleValue, states_of}
-use Rattle.ca_macro.specs.Pattern.{AreInRange}
+use Rattle.ca_rle.specs.Prelude.{IsRleText, RleFile, IsRleFile, IsWithinLimits, HasFileParts, picture_of_items}
+use Rattle.ca_rule.specs.Prelude.{RuleValue, states_of}
+use Rattle.ca_macro.specs.Prelude.{AreInRange}
 use Rattle.ca_pattern.specs.declared.format.Format.TheVariants.{Rle}
-use Rattle.ca_pattern.specs.Formats.{format_of, MeansAs, IsReadableAs}
-use Rattle.ca_pattern.specs.Means.{HoldsPattern}
-use Rattle.ca_pattern.specs.States.{HasLargeState}
+use Rattle.ca_pattern.specs.Prelude.{format_of, MeansAs, IsReadableAs, HoldsPattern, HasLargeState}
 use Rattle.ca_pattern.proofs.FilesRead.{in_format, shown_in_range}
 
 module _ (bytes : List ℕ) (file : RleFile) (f : ℤ → ℤ → ℕ) (rule_text : List ℕ) (generation : ℕ) (rle : format_of bytes ≡ Rle) (is_file : IsRleFile bytes file) (within : IsWithinLimits file) (parts : HasFileParts file f rule_text generation) where

@@ -5,7 +5,7 @@ use Rattle.std.specs.Ordering.{int_eq}
 use Rattle.std.proofs.lemmas.Bool.{cases_eq, cases_Bool}
 use Rattle.std.proofs.lemmas.Bool.Decides.{Decides-int_eq, not_from_Decides}
 use Rattle.std.proofs.lemmas.Int.{ints}
-use Rattle.ca_plane.specs.Box.{IsWithin}
+use Rattle.ca_plane.specs.Prelude.{IsWithin}
 
 -- two numbers are one, or they aren't
 cases_int : (a b : ℤ) → (a ≡ b) ⊎ (a ≡ b → ⊥)

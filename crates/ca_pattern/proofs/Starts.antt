@@ -1,19 +1,15 @@
 -- Trees of planes that are looked at, and what their planes show some generations on.
 use Rattle.std.proofs.Common.{◌≡◌, ℕ, ◌≤◌, ◌^◌, List, sym, ◌∙◌, arith}
 use Rattle.std.specs.Prelude.{ℤ, replicate}
-use Rattle.ca_plane.specs.Plane.{Picture}
+use Rattle.ca_plane.specs.Prelude.{Picture, after, cells_after}
 use Rattle.ca_plane.specs.Plane as plane
-use Rattle.ca_plane.specs.Generations.{after, cells_after}
-use Rattle.ca_quad.specs.declared.node.Node.{Node}
-use Rattle.ca_quad.specs.declared.tree.Tree.{Tree}
-use Rattle.ca_quad.specs.Sound.{IsSoundStore, Grows}
-use Rattle.ca_quad.specs.Trees.{cell, IsTrimmed, HoldsAll}
+use Rattle.ca_quad.specs.declared.{node.Node.Node, tree.Tree.Tree}
+use Rattle.ca_quad.specs.Prelude.{IsSoundStore, Grows, cell, IsTrimmed, HoldsAll}
 use Rattle.ca_quad.proofs.Cells.{of_stays}
 use Rattle.ca_quad.proofs.Trims.{trees_stay}
-use Rattle.ca_macro.specs.Pattern.{AreInRange}
+use Rattle.ca_macro.specs.Prelude.{AreInRange}
 use Rattle.ca_plane.proofs.After.{after_same}
-use Rattle.ca_pattern.specs.LaterTrees.{IsWithinPlane, IsStart, IsLaterTree}
-use Rattle.ca_pattern.specs.PatternTrees.{ShowsTree, IsNearTree}
+use Rattle.ca_pattern.specs.Prelude.{IsWithinPlane, IsStart, IsLaterTree, ShowsTree, IsNearTree}
 use Rattle.ca_pattern.proofs.CellsNearMiddle.{held_near, later_held, trimmed_low}
 use Rattle.ca_pattern.proofs.LaterPlanes.{later_holds, later_is_low}
 

@@ -3,8 +3,8 @@ use Rattle.std.proofs.Common.{◌≡◌, ℕ, sym, ap₂, ◌∙◌, arith, w64,
 use Rattle.std.specs.Int.{w128}
 use Rattle.std.specs.Prelude.{ℤ, pos, ◌-ℤ◌, FitsSigned}
 use Rattle.std.proofs.lemmas.Int.{ints, to_z-of_z}
-use Rattle.ca_quad.specs.Shifted.{shifted_cells}
-use Rattle.ca_pattern.specs.PatternTrees.{IsBroad, IsWide}
+use Rattle.ca_quad.specs.Prelude.{shifted_cells}
+use Rattle.ca_pattern.specs.Prelude.{IsBroad, IsWide}
 
 -- cells that are moved by (0, 0)
 pub moved_nowhere : (p : ℤ → ℤ → ℕ) (dx dy x y : ℤ) → dx ≡ pos 0 → dy ≡ pos 0 → p x y ≡ shifted_cells p dx dy x y

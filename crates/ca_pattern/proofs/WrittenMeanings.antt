@@ -3,30 +3,25 @@ use Rattle.std.proofs.Common.{◌≡◌, ℕ, ◌≤◌, ◌<◌, List, length, 
 use Rattle.std.specs.Prelude.{ℤ}
 use Rattle.std.specs.Option.{MatchOption}
 use Rattle.std.specs.Result.{IfOk, IfErr}
-use Rattle.ca_plane.specs.Plane.{Picture}
+use Rattle.ca_plane.specs.Prelude.{Picture, most_cells, HasTooManyCells}
 use Rattle.ca_plane.specs.Plane as plane
-use Rattle.ca_plane.specs.Limits.{most_cells}
-use Rattle.ca_plane.specs.Population.{HasTooManyCells}
 use Rattle.ca_plane.proofs.Populations.{same_population, sparse_population}
-use Rattle.ca_quad.specs.declared.node.Node.{Node}
-use Rattle.ca_quad.specs.declared.tree.Tree.{Tree}
-use Rattle.ca_quad.specs.Trees.{cell}
+use Rattle.ca_quad.specs.declared.{node.Node.Node, tree.Tree.Tree}
+use Rattle.ca_quad.specs.Prelude.{cell}
 use Rattle.ca_rle.specs.Tidy as rle
-use Rattle.ca_rle.specs.Pattern.{IsWritableRle, IsWrittenRle}
+use Rattle.ca_rle.specs.Prelude.{IsWritableRle, IsWrittenRle}
 use Rattle.ca_macro.specs.Tidy as macrocell
 use Rattle.ca_macro.specs.File as macrocell_file
 use Rattle.ca_macro.specs.Shown as macrocell_shown
-use Rattle.ca_macro.specs.Pattern.{IsWritable, IsFileOf}
+use Rattle.ca_macro.specs.Prelude.{IsWritable, IsFileOf}
 use Rattle.ca_macro.proofs.TidyFiles.{tidy_nodes_as}
-use Rattle.ca_rule.specs.Rule.{RuleValue, states_of, printed_form}
-use Rattle.ca_pattern.specs.declared.format.Format.{Format}
+use Rattle.ca_rule.specs.Prelude.{RuleValue, states_of, printed_form}
+use Rattle.ca_pattern.specs.declared.{format.Format.Format, located_fault.LocatedFault.LocatedFault}
 use Rattle.ca_pattern.specs.declared.format.Format.TheVariants.{Rle, Mc}
-use Rattle.ca_pattern.specs.Formats.{format_of, MeansAs, IsReadableAs}
+use Rattle.ca_pattern.specs.Prelude.{format_of, MeansAs, IsReadableAs, IsTidyTextOf, IsWrittenAs, AreUnwritten}
 use Rattle.ca_pattern.specs.inner.Cells.{IsPlaneOf}
 use Rattle.ca_macro.proofs.Ranges.{range_as}
-use Rattle.ca_pattern.specs.declared.located_fault.LocatedFault.{LocatedFault}
 use Rattle.ca_pattern.specs.declared.located_fault.LocatedFault.TheVariants.{Unread, UnnamedRule, StateTooLarge, GenTooLarge, Work, Range, TooManyCells, Memory}
-use Rattle.ca_pattern.specs.Written.{IsTidyTextOf, IsWrittenAs, AreUnwritten}
 use Rattle.ca_pattern.proofs.FilesRead.{in_format}
 use Rattle.ca_pattern.proofs.EqualCells.{many_shown}
 use Rattle.ca_pattern.proofs.PatternsRead.{listed_in_range, listed_below}

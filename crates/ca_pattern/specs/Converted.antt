@@ -1,14 +1,10 @@
 -- What a pattern file is converted to, what is told of it, and why it is refused.
 use Rattle.std.specs.Prelude.{◌≡◌, ℕ, List}
-use Rattle.ca_plane.specs.Plane.{Picture, cell}
-use Rattle.ca_plane.specs.Population.{HasTooManyCells}
-use Rattle.ca_rule.specs.TableNext.{TableRule}
-use Rattle.ca_rule.specs.Rule.{RuleValue}
-use Rattle.ca_pattern.specs.declared.format.Format.{Format}
+use Rattle.ca_plane.specs.Prelude.{Picture, cell, HasTooManyCells}
+use Rattle.ca_rule.specs.Prelude.{TableRule, RuleValue}
+use Rattle.ca_pattern.specs.declared.{format.Format.Format, convert_fault.ConvertFault.ConvertFault, pattern.Summary.Summary}
 use Rattle.ca_pattern.specs.declared.format.Format.TheVariants.{Rle}
-use Rattle.ca_pattern.specs.declared.convert_fault.ConvertFault.{ConvertFault}
 use Rattle.ca_pattern.specs.declared.convert_fault.ConvertFault.TheVariants.{BadPattern, BadRule, StateTooLarge, TooManyCells, Memory}
-use Rattle.ca_pattern.specs.declared.pattern.Summary.{Summary}
 use Rattle.ca_pattern.specs.Evolved.{IsConvertedAfter, IsSummaryAfter}
 use Rattle.ca_pattern.specs.Means.{HoldsRuledPattern, HasRuleFault, MayWantMemory}
 use Rattle.ca_pattern.specs.Formats.{IsPatternFault}

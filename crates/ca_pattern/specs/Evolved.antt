@@ -1,19 +1,11 @@
 -- Patterns some generations on: what is reached, what is told and written of it, and why it isn't.
 use Rattle.std.specs.Prelude.{◌≡◌, ℕ, zero, suc, ◌+◌, ◌^◌, ◌<◌, ◌≤◌, ℤ, List, MatchOption}
-use Rattle.ca_plane.specs.Plane.{Picture, cell, IsLive}
-use Rattle.ca_plane.specs.Box.{IsLeastBox}
-use Rattle.ca_plane.specs.Generations.{after, IsAfter}
-use Rattle.ca_plane.specs.Limits.{generation_limit}
-use Rattle.ca_plane.specs.Population.{HasPopulation, HasTooManyCells}
-use Rattle.ca_quad.specs.Trees.{HoldsAll}
-use Rattle.ca_macro.specs.Pattern.{AreInRange}
-use Rattle.ca_rule.specs.TableNext.{TableRule}
-use Rattle.ca_rule.specs.Rule.{RuleValue, rule_value, states_of, next_of, printed_form}
-use Rattle.ca_pattern.specs.declared.format.Format.{Format}
+use Rattle.ca_plane.specs.Prelude.{Picture, cell, IsLive, IsLeastBox, after, IsAfter, generation_limit, HasPopulation, HasTooManyCells}
+use Rattle.ca_quad.specs.Prelude.{HoldsAll}
+use Rattle.ca_macro.specs.Prelude.{AreInRange}
+use Rattle.ca_rule.specs.Prelude.{TableRule, RuleValue, rule_value, states_of, next_of, printed_form}
+use Rattle.ca_pattern.specs.declared.{format.Format.Format, pattern.Summary.Summary, pattern.Pattern.Pattern, located_fault.LocatedFault.LocatedFault}
 use Rattle.ca_pattern.specs.declared.format.Format.TheVariants.{Rle}
-use Rattle.ca_pattern.specs.declared.pattern.Summary.{Summary}
-use Rattle.ca_pattern.specs.declared.pattern.Pattern.{Pattern}
-use Rattle.ca_pattern.specs.declared.located_fault.LocatedFault.{LocatedFault}
 use Rattle.ca_pattern.specs.declared.located_fault.LocatedFault.TheVariants.{GenTooLarge, Work, Range, TooManyCells}
 use Rattle.ca_pattern.specs.Formats.{format_of, IsTidyAs}
 use Rattle.ca_pattern.specs.Means.{HoldsPattern, HoldsRuledPattern}

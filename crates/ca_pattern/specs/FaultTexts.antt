@@ -1,8 +1,7 @@
 -- Why a rule or a table is refused, in words (our own; docs/CLAIMS.md).
 use Rattle.std.specs.Prelude.{ℕ, List, ◌++◌, codes}
-use Rattle.ca_rule.specs.declared.fault.RuleFault.{RuleFault}
+use Rattle.ca_rule.specs.declared.{fault.RuleFault.RuleFault, table.fault.TableFault.TableFault}
 use Rattle.ca_rule.specs.declared.fault.RuleFault.TheVariants as rules
-use Rattle.ca_rule.specs.declared.table.fault.TableFault.{TableFault}
 use Rattle.ca_rule.specs.declared.table.fault.TableFault.TheVariants as tables
 
 -- why a text names no rule

@@ -1,23 +1,22 @@
 -- What the formats of pattern files are: which bytes are of each, what they mean, when they are read, what is written, and how
 -- each is named. Another format is a case of each of these.
 use Rattle.std.specs.Prelude.{◌≡◌, ◌≢◌, ℕ, List, Option, if◌then◌else◌, codes}
-use Rattle.ca_plane.specs.Plane.{Picture, cell}
+use Rattle.ca_plane.specs.Prelude.{Picture, cell}
 use Rattle.ca_rle.specs.File as rle
-use Rattle.ca_rle.specs.Limits.{IsWithinLimits}
+use Rattle.ca_rle.specs.Prelude.{IsWithinLimits}
 use Rattle.ca_rle.specs.Shown as rle_shown
 use Rattle.ca_rle.specs.Faults as rle_faults
 use Rattle.ca_rle.specs.FaultyLine as rle_lines
 use Rattle.ca_rle.specs.Tidy as rle_tidy
 use Rattle.ca_rle.specs.declared.fault.RleFault.TheVariants as rle_fault
 use Rattle.ca_macro.specs.File as macrocell
-use Rattle.ca_macro.specs.Limits.{IsMacrocellWithinRange}
+use Rattle.ca_macro.specs.Prelude.{IsMacrocellWithinRange}
 use Rattle.ca_macro.specs.Shown as macrocell_shown
 use Rattle.ca_macro.specs.Faults as macrocell_faults
 use Rattle.ca_macro.specs.Tidy as macrocell_tidy
 use Rattle.ca_macro.specs.declared.fault.MacroFault.TheVariants as macrocell_fault
-use Rattle.ca_pattern.specs.declared.format.Format.{Format}
+use Rattle.ca_pattern.specs.declared.{format.Format.Format, pattern_fault.PatternFault.PatternFault}
 use Rattle.ca_pattern.specs.declared.format.Format.TheVariants.{Rle, Mc}
-use Rattle.ca_pattern.specs.declared.pattern_fault.PatternFault.{PatternFault}
 use Rattle.ca_pattern.specs.declared.pattern_fault.PatternFault.TheVariants as pattern_fault
 
 -- the format of a file: bytes that begin with `[M2]` are macrocell, and all others RLE

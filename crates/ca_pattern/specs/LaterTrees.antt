@@ -1,10 +1,8 @@
 -- The trees of planes some generations on.
 use Rattle.std.specs.Prelude.{◌≡◌, ℕ, ◌≤◌, ℤ, List}
-use Rattle.ca_plane.specs.Generations.{cells_after}
-use Rattle.ca_plane.specs.Sparse.{IsInPlane}
-use Rattle.ca_quad.specs.declared.node.Node.{Node}
-use Rattle.ca_quad.specs.declared.tree.Tree.{Tree}
-use Rattle.ca_quad.specs.Trees.{IsTree, cell, IsTrimmed, HoldsAll}
+use Rattle.ca_plane.specs.Prelude.{cells_after, IsInPlane}
+use Rattle.ca_quad.specs.declared.{node.Node.Node, tree.Tree.Tree}
+use Rattle.ca_quad.specs.Prelude.{IsTree, cell, IsTrimmed, HoldsAll}
 use Rattle.ca_pattern.specs.PatternTrees.{IsNearTree}
 
 -- no live cell lies outside the square of a plane

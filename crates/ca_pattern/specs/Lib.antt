@@ -1,3 +1,4 @@
+pub mod Prelude
 pub mod Converted
 pub mod Evolved
 pub mod FaultTexts

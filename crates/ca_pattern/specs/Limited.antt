@@ -1,6 +1,6 @@
 -- How much a caller may allow.
 use Rattle.std.specs.Prelude.{◌≤◌}
-use Rattle.ca_plane.specs.Limits.{most_memo}
+use Rattle.ca_plane.specs.Prelude.{most_memo}
 use Rattle.ca_pattern.specs.declared.limits.Limits.{Limits}
 
 -- the memo has an entry at least, and no more than it may have; any work may be allowed

@@ -1,9 +1,9 @@
 -- Patterns that were read into a store of squares.
 use Rattle.std.specs.Prelude.{◌≡◌, ℕ, ℤ, List}
-use Rattle.ca_plane.specs.Plane.{Picture, cell}
+use Rattle.ca_plane.specs.Prelude.{Picture, cell}
 use Rattle.ca_quad.specs.declared.node.Node.{Node}
 use Rattle.ca_quad.specs.Trees as trees
-use Rattle.ca_quad.specs.Trees.{IsTrimmed}
+use Rattle.ca_quad.specs.Prelude.{IsTrimmed}
 use Rattle.ca_pattern.specs.declared.pattern.Loaded.{Loaded}
 use Rattle.ca_pattern.specs.Formats.{format_of}
 use Rattle.ca_pattern.specs.Means.{HoldsPattern}

@@ -1,11 +1,9 @@
 -- Why a pattern file isn't opened, and where the fault stands.
 use Rattle.std.specs.Prelude.{◌≡◌, ℕ, List, Option, Some, None}
-use Rattle.ca_plane.specs.Plane.{Picture, cell}
-use Rattle.ca_rule.specs.TableNext.{TableRule}
-use Rattle.ca_rule.specs.Rule.{RuleValue, IsRuleFault}
-use Rattle.ca_pattern.specs.declared.convert_fault.ConvertFault.{ConvertFault}
+use Rattle.ca_plane.specs.Prelude.{Picture, cell}
+use Rattle.ca_rule.specs.Prelude.{TableRule, RuleValue, IsRuleFault}
+use Rattle.ca_pattern.specs.declared.{convert_fault.ConvertFault.ConvertFault, located_fault.LocatedFault.LocatedFault}
 use Rattle.ca_pattern.specs.declared.convert_fault.ConvertFault.TheVariants as convert
-use Rattle.ca_pattern.specs.declared.located_fault.LocatedFault.{LocatedFault}
 use Rattle.ca_pattern.specs.declared.located_fault.LocatedFault.TheVariants.{Unread, UnnamedRule, StateTooLarge, TooManyCells, Memory}
 use Rattle.ca_pattern.specs.Means.{HoldsRuleText, HoldsRuledPattern, MayWantMemory}
 use Rattle.ca_pattern.specs.Formats.{IsPatternFaultOn}

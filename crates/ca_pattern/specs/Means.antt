@@ -1,9 +1,8 @@
 -- What the bytes of a pattern file mean.
 use Rattle.std.specs.Prelude.{ℕ, List}
-use Rattle.ca_plane.specs.Plane.{Picture}
-use Rattle.ca_rule.specs.TableNext.{TableRule}
+use Rattle.ca_plane.specs.Prelude.{Picture}
+use Rattle.ca_rule.specs.Prelude.{TableRule, RuleValue, NamesRule, IsRuleFault}
 use Rattle.ca_rule.specs.declared.fault.RuleFault.{RuleFault}
-use Rattle.ca_rule.specs.Rule.{RuleValue, NamesRule, IsRuleFault}
 use Rattle.ca_pattern.specs.Formats.{format_of, MeansAs, IsReadableAs, MayWantMemoryAs}
 
 -- the bytes of a file mean a picture, a rule text and a generation

@@ -1,7 +1,6 @@
 -- Good tables, and why a text is none.
 use Rattle.std.specs.Prelude.{◌≡◌, ◌≢◌, ℕ, List, replicate}
-use Rattle.ca_rule.specs.TableNext.{TableRule, table_next}
-use Rattle.ca_rule.specs.TableText.{IsTable}
+use Rattle.ca_rule.specs.Prelude.{TableRule, table_next, IsTable}
 use Rattle.ca_rule.specs.TableFaults as table_faults
 use Rattle.ca_rule.specs.declared.table.fault.TableFault.{TableFault}
 use Rattle.ca_rule.specs.declared.table.fault.TableFault.TheVariants as table_fault

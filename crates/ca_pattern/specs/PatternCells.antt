@@ -1,16 +1,12 @@
 -- The cells of a pattern that was opened.
 use Rattle.std.specs.Prelude.{◌≡◌, ℕ, ◌<◌, ◌≤◌, ℤ, List}
-use Rattle.ca_plane.specs.Plane.{cell}
-use Rattle.ca_plane.specs.Limits.{generation_limit}
+use Rattle.ca_plane.specs.Prelude.{cell, generation_limit}
 use Rattle.ca_quad.specs.Trees as trees
-use Rattle.ca_quad.specs.Trees.{IsTrimmed}
-use Rattle.ca_rle.specs.Judged.{IsRleText}
-use Rattle.ca_rle.specs.Shown.{picture_of_items}
-use Rattle.ca_rule.specs.Rule.{rule_value}
-use Rattle.ca_pattern.specs.declared.pattern.Cells.{Cells}
+use Rattle.ca_quad.specs.Prelude.{IsTrimmed}
+use Rattle.ca_rle.specs.Prelude.{IsRleText, picture_of_items}
+use Rattle.ca_rule.specs.Prelude.{rule_value}
+use Rattle.ca_pattern.specs.declared.pattern.{Cells.Cells, Pattern.Pattern, StoredTree.StoredTree}
 use Rattle.ca_pattern.specs.declared.pattern.Cells.TheVariants.{Text, Squares}
-use Rattle.ca_pattern.specs.declared.pattern.Pattern.{Pattern}
-use Rattle.ca_pattern.specs.declared.pattern.StoredTree.{StoredTree}
 use Rattle.ca_pattern.specs.States.{HasSmallStates}
 
 -- the tree shows these cells in its store, at every x and y, and has the least level

@@ -1,16 +1,10 @@
 -- Trees of patterns, taken some generations on, moved and compared.
 use Rattle.std.specs.Prelude.{◌≤◌, ◌^◌, ℤ, pos, neg_ℤ, ◌≤ℤ◌, List, ◌≡◌, ◌≢◌, ℕ}
-use Rattle.ca_plane.specs.Limits.{reach, most_generations}
-use Rattle.ca_quad.specs.declared.node.Node.{Node}
-use Rattle.ca_quad.specs.declared.tree.Tree.{Tree}
-use Rattle.ca_quad.specs.declared.tree.WideBounds.{WideBounds}
-use Rattle.ca_quad.specs.Trees.{IsTree, cell, IsTrimmed}
-use Rattle.ca_plane.specs.Plane.{Picture}
+use Rattle.ca_plane.specs.Prelude.{reach, most_generations, Picture, cells_after, IsInPlane}
+use Rattle.ca_quad.specs.declared.{node.Node.Node, tree.Tree.Tree, tree.WideBounds.WideBounds}
+use Rattle.ca_quad.specs.Prelude.{IsTree, cell, IsTrimmed, shifted_cells}
 use Rattle.ca_plane.specs.Plane as plane
-use Rattle.ca_plane.specs.Generations.{cells_after}
-use Rattle.ca_plane.specs.Sparse.{IsInPlane}
-use Rattle.ca_quad.specs.Shifted.{shifted_cells}
-use Rattle.ca_macro.specs.Pattern.{AreInRange}
+use Rattle.ca_macro.specs.Prelude.{AreInRange}
 
 -- a coordinate in the square of a plane
 abbrev pub IsWide : ℤ → Type 0

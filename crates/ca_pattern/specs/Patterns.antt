@@ -1,18 +1,11 @@
 -- A pattern that was read, and its rule; and why one isn't read or ruled.
 use Rattle.std.specs.Prelude.{◌≡◌, ℕ, ◌<◌, List, Option}
-use Rattle.ca_pattern.specs.declared.ruled.RuledPattern.{RuledPattern}
-use Rattle.ca_pattern.specs.declared.ruled.UnnamedRule.{UnnamedRule}
-use Rattle.ca_plane.specs.Plane.{Picture}
-use Rattle.ca_plane.specs.Bytes.{IsWord}
-use Rattle.ca_plane.specs.Limits.{generation_limit}
+use Rattle.ca_pattern.specs.declared.{ruled.RuledPattern.RuledPattern, ruled.UnnamedRule.UnnamedRule, pattern.Loaded.Loaded, read.BadPattern.BadPattern, pattern_fault.PatternFault.PatternFault}
+use Rattle.ca_plane.specs.Prelude.{Picture, IsWord, generation_limit}
 use Rattle.ca_quad.specs.declared.node.Node.{Node}
-use Rattle.ca_quad.specs.Trees.{cell}
-use Rattle.ca_rule.specs.TableNext.{TableRule}
-use Rattle.ca_rule.specs.Rule.{RuleValue, rule_value, NamesRule, IsRuleFault}
-use Rattle.ca_macro.specs.Pattern.{AreInRange}
-use Rattle.ca_pattern.specs.declared.pattern.Loaded.{Loaded}
-use Rattle.ca_pattern.specs.declared.read.BadPattern.{BadPattern}
-use Rattle.ca_pattern.specs.declared.pattern_fault.PatternFault.{PatternFault}
+use Rattle.ca_quad.specs.Prelude.{cell}
+use Rattle.ca_rule.specs.Prelude.{TableRule, RuleValue, rule_value, NamesRule, IsRuleFault}
+use Rattle.ca_macro.specs.Prelude.{AreInRange}
 use Rattle.ca_pattern.specs.declared.pattern_fault.PatternFault.TheVariants.{Memory}
 use Rattle.ca_pattern.specs.Means.{MayWantMemory}
 use Rattle.ca_pattern.specs.Formats.{IsPatternFaultOn}

@@ -1,6 +1,6 @@
 -- Whether the states of cells are below the number of a rule's states.
 use Rattle.std.specs.Prelude.{ℕ, ◌≤◌, ◌<◌, ℤ}
-use Rattle.ca_rule.specs.Rule.{RuleValue, states_of}
+use Rattle.ca_rule.specs.Prelude.{RuleValue, states_of}
 
 -- some cell has a state that isn't below the number of the rule's states
 abbrev pub HasLargeState : RuleValue → (ℤ → ℤ → ℕ) → Type 0

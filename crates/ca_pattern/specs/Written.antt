@@ -1,17 +1,12 @@
 -- What is told and written of a pattern's cells, and why they aren't written.
 use Rattle.std.specs.Prelude.{◌≡◌, ◌≢◌, ℕ, ℤ, List, MatchOption}
-use Rattle.ca_plane.specs.Plane.{Picture, IsLive, cell}
+use Rattle.ca_plane.specs.Prelude.{Picture, IsLive, cell, IsLeastBox, IsInRange, HasPopulation, HasTooManyCells}
 use Rattle.ca_plane.specs.Plane as plane
-use Rattle.ca_plane.specs.Box.{IsLeastBox}
-use Rattle.ca_plane.specs.Limits.{IsInRange}
-use Rattle.ca_plane.specs.Population.{HasPopulation, HasTooManyCells}
-use Rattle.ca_macro.specs.Pattern.{AreInRange}
-use Rattle.ca_rule.specs.Rule.{RuleValue, states_of, printed_form}
-use Rattle.ca_pattern.specs.declared.format.Format.{Format}
+use Rattle.ca_macro.specs.Prelude.{AreInRange}
+use Rattle.ca_rule.specs.Prelude.{RuleValue, states_of, printed_form}
+use Rattle.ca_pattern.specs.declared.{format.Format.Format, located_fault.LocatedFault.LocatedFault, pattern.Summary.Summary}
 use Rattle.ca_pattern.specs.declared.format.Format.TheVariants.{Rle}
-use Rattle.ca_pattern.specs.declared.located_fault.LocatedFault.{LocatedFault}
 use Rattle.ca_pattern.specs.declared.located_fault.LocatedFault.TheVariants.{Range, TooManyCells, Memory}
-use Rattle.ca_pattern.specs.declared.pattern.Summary.{Summary}
 use Rattle.ca_pattern.specs.Formats.{format_of, IsTidyAs}
 use Rattle.ca_pattern.specs.Means.{HoldsPattern}
 

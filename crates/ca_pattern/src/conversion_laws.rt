@@ -2,13 +2,11 @@
 //! one text at most and has one summary at most, and one cause for which it is refused.
 
 ghost use Rattle.std.specs.Prelude.{◌≡◌, ◌≢◌, ℕ, List};
-ghost use Rattle.ca_rule.specs.TableNext.{TableRule};
-ghost use Rattle.ca_pattern.specs.declared.format.Format.{Format};
-ghost use Rattle.ca_pattern.specs.declared.pattern.Summary.{Summary};
-ghost use Rattle.ca_pattern.specs.declared.convert_fault.ConvertFault.{ConvertFault};
+ghost use Rattle.ca_rule.specs.Prelude.{TableRule};
+ghost use Rattle.ca_pattern.specs.declared.{format.Format.Format, pattern.Summary.Summary};
+ghost use Rattle.ca_pattern.specs.declared.{convert_fault.ConvertFault.ConvertFault};
 ghost use Rattle.ca_pattern.specs.declared.convert_fault.ConvertFault.TheVariants.{Memory};
-ghost use Rattle.ca_pattern.specs.Converted.{IsConverted, IsConvertFault, IsSummary, IsSummaryFault};
-ghost use Rattle.ca_pattern.specs.Converted.{IsSameSummary};
+ghost use Rattle.ca_pattern.specs.Converted.{IsConverted, IsConvertFault, IsSummary, IsSummaryFault, IsSameSummary};
 
 /// A file is converted to one text at most, or refused for one cause, and not both; out of memory apart.
 pub fn one_kind_of_conversion()

@@ -2,12 +2,10 @@
 //! it. Another format is a case here, and one of each definition of `specs/Formats.antt`.
 
 ghost use Rattle.std.specs.Prelude.{◌≡◌, ◌≤◌, length, IfOk, IfErr, MatchResult};
-ghost use Rattle.ca_plane.specs.Limits.{most_cells};
-ghost use Rattle.ca_plane.specs.Plane.{cell as plane_cell};
-ghost use Rattle.ca_quad.specs.Sound.{Grows};
-ghost use Rattle.ca_quad.specs.Trees.{cell};
-ghost use Rattle.ca_rle.specs.Pattern.{IsWritableRle};
-ghost use Rattle.ca_macro.specs.Pattern.{IsWritable};
+ghost use Rattle.ca_plane.specs.Prelude.{most_cells, cell as plane_cell};
+ghost use Rattle.ca_quad.specs.Prelude.{Grows, cell};
+ghost use Rattle.ca_rle.specs.Prelude.{IsWritableRle};
+ghost use Rattle.ca_macro.specs.Prelude.{IsWritable};
 ghost use Rattle.ca_pattern.specs.declared.format.Format.TheVariants.{Rle, Mc};
 ghost use Rattle.ca_pattern.specs.Formats.{format_of, format_name};
 ghost use Rattle.ca_pattern.specs.Patterns.{IsReadFrom, IsUnread};

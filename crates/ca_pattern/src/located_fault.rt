@@ -1,7 +1,7 @@
 //! Why a pattern isn't opened, taken on or written, and where the fault stands.
 
 ghost use Rattle.std.specs.Prelude.{◌≡◌, ℕ, List, Some};
-ghost use Rattle.ca_rule.specs.TableNext.{TableRule};
+ghost use Rattle.ca_rule.specs.Prelude.{TableRule};
 ghost use Rattle.ca_pattern.specs.LocatedFaults.{IsOpeningFault, convert_fault_of};
 ghost use Rattle.ca_pattern.specs.Patterns.{IsUnread};
 ghost use Rattle.ca_pattern.specs.declared.convert_fault.ConvertFault.{ConvertFault};

@@ -1,14 +1,10 @@
 //! Pattern files, read into a store of squares.
 
 ghost use Rattle.std.specs.Prelude.{◌≡◌, ◌≢◌, ℕ, ◌<◌, List, IfOk, IfErr, IsErrOf, MatchOption, MatchResult, OnErr};
-ghost use Rattle.ca_plane.specs.Plane.{Picture};
-ghost use Rattle.ca_plane.specs.Bytes.{IsWord};
-ghost use Rattle.ca_plane.specs.Limits.{generation_limit};
-ghost use Rattle.ca_quad.specs.Sound.{Grows};
-ghost use Rattle.ca_quad.specs.Trees.{cell};
-ghost use Rattle.ca_macro.specs.Pattern.{AreInRange};
-ghost use Rattle.ca_rle.specs.FaultyLine.{IsRleFaultOn};
-ghost use Rattle.ca_rle.specs.Pattern.{IsReadableRle};
+ghost use Rattle.ca_plane.specs.Prelude.{Picture, IsWord, generation_limit};
+ghost use Rattle.ca_quad.specs.Prelude.{Grows, cell};
+ghost use Rattle.ca_macro.specs.Prelude.{AreInRange};
+ghost use Rattle.ca_rle.specs.Prelude.{IsRleFaultOn, IsReadableRle};
 ghost use Rattle.ca_rle.specs.declared.fault.RleFault.TheVariants as rle_fault;
 ghost use Rattle.ca_pattern.specs.declared.format.Format.TheVariants.{Rle};
 ghost use Rattle.ca_pattern.specs.declared.pattern_fault.PatternFault.TheVariants as pattern_fault;

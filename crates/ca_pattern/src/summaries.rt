@@ -1,8 +1,8 @@
 //! What a pattern file shows at a glance.
 
 ghost use Rattle.std.specs.Prelude.{ℕ, ℤ, IfOk, IfErr};
-ghost use Rattle.ca_plane.specs.Bytes.{IsWord};
-ghost use Rattle.ca_rule.specs.Rule.{rule_value};
+ghost use Rattle.ca_plane.specs.Prelude.{IsWord};
+ghost use Rattle.ca_rule.specs.Prelude.{rule_value};
 ghost use Rattle.ca_pattern.specs.Converted.{IsSummary, IsSummaryFault};
 ghost use Rattle.ca_pattern.specs.PatternCells.{IsPatternOf};
 ghost use Rattle.ca_pattern.specs.Written.{IsSummaryOf};

@@ -1,11 +1,10 @@
 //! Patterns that are written as the text of a format.
 
 ghost use Rattle.std.specs.Prelude.{◌≡◌, ℕ, ℤ, List, IfOk, IfErr};
-ghost use Rattle.ca_plane.specs.Plane.{cell as plane_cell};
-ghost use Rattle.ca_quad.specs.Trees.{cell};
-ghost use Rattle.ca_rle.specs.Judged.{IsRleText};
-ghost use Rattle.ca_rle.specs.Shown.{picture_of_items};
-ghost use Rattle.ca_rule.specs.Rule.{rule_value};
+ghost use Rattle.ca_plane.specs.Prelude.{cell as plane_cell};
+ghost use Rattle.ca_quad.specs.Prelude.{cell};
+ghost use Rattle.ca_rle.specs.Prelude.{IsRleText, picture_of_items};
+ghost use Rattle.ca_rule.specs.Prelude.{rule_value};
 ghost use Rattle.ca_pattern.specs.declared.format.Format.TheVariants.{Rle};
 ghost use Rattle.ca_pattern.specs.declared.located_fault.LocatedFault.TheVariants.{Memory};
 ghost use Rattle.ca_pattern.specs.declared.pattern.Cells.TheVariants.{Text};

@@ -2,36 +2,23 @@
 use Rattle.std.proofs.Common.{◌≡◌, ◌≢◌, ℕ, ◌+◌, ◌<◌, ℤ, List, Option, None, Some, Result, Ok, Err, Vec, Global, inl, inr, refl, subst, sym, ◌∙◌, arith}
 use Rattle.ca_quad.specs.declared.tree.WideBounds.{WideBounds}
 use Rattle.std.specs.Prelude.{MatchOption, IfOk}
-use Rattle.ca_quad.specs.Boxes.{IsDead, IsLeastWideBox}
-use Rattle.ca_quad.specs.Trees.{cell}
-use Rattle.ca_rule.specs.TableNext.{TableRule}
-use Rattle.ca_rule.specs.Rule.{rule_value, states_of, next_of}
-use Rattle.ca_plane.specs.Generations.{after}
-use Rattle.ca_plane.specs.Limits.{generation_limit}
+use Rattle.ca_quad.specs.Prelude.{IsDead, IsLeastWideBox, cell}
+use Rattle.ca_rule.specs.Prelude.{TableRule, rule_value, states_of, next_of}
+use Rattle.ca_plane.specs.Prelude.{after, generation_limit}
 use Rattle.ca_draw.proofs.SameCells.{same_drawing}
-use Rattle.ca_pattern.specs.declared.located_fault.LocatedFault.{LocatedFault}
+use Rattle.ca_pattern.specs.declared.{located_fault.LocatedFault.LocatedFault, pattern.Pattern.Pattern, pattern.StoredTree.StoredTree, format.Format.Format}
 use Rattle.ca_pattern.specs.declared.located_fault.LocatedFault.TheVariants as located
 use Rattle.ca_pattern.specs.declared.located_fault.LocatedFault.TheVariants.{Unread, UnnamedRule}
-use Rattle.ca_pattern.specs.declared.pattern.Pattern.{Pattern}
-use Rattle.ca_pattern.specs.declared.pattern.StoredTree.{StoredTree}
-use Rattle.ca_pattern.specs.declared.format.Format.{Format}
-use Rattle.ca_pattern.specs.Evolved.{IsPatternAfter, IsReachFault, IsConvertedAfter}
-use Rattle.ca_pattern.specs.Written.{IsWrittenAs}
+use Rattle.ca_pattern.specs.Prelude.{IsPatternAfter, IsReachFault, IsConvertedAfter, IsWrittenAs, IsTreeOf}
 use Rattle.ca_pattern.proofs.OpenedFiles.{pattern_written}
-use Rattle.ca_pattern.specs.PatternCells.{IsTreeOf}
 use Rattle.ca_pattern.proofs.PatternsRead.{reads_may_want}
-use Rattle.ca_report.specs.declared.form.DrawRequest.{DrawRequest}
-use Rattle.ca_report.specs.declared.fault.ToolFault.{ToolFault}
+use Rattle.ca_report.specs.declared.{form.DrawRequest.DrawRequest, fault.ToolFault.ToolFault, form.Form.Form, form.TextForm.TextForm}
 use Rattle.ca_report.specs.declared.fault.ToolFault.TheVariants.{Convert, Window, Write, Memory}
 use Rattle.ca_draw.specs.declared.view.WindowFault.{WindowFault}
-use Rattle.ca_report.specs.declared.form.Form.{Form}
 use Rattle.ca_report.specs.declared.form.Form.TheVariants.{Text, Picture}
-use Rattle.ca_report.specs.declared.form.TextForm.{TextForm}
 use Rattle.ca_report.specs.declared.form.TextForm.TheVariants as forms
-use Rattle.ca_pattern_runs.specs.Details.{IsRunDetailOf, HasRunDetail}
-use Rattle.ca_draw.specs.Views.{IsBoxShown}
-use Rattle.ca_pattern_runs.specs.Drawn.{IsPictureOf, IsCaptionOf, HasNoWindow, IsDrawnAfter, IsCaptionAfter}
-use Rattle.ca_pattern_runs.specs.Runs.{IsTextFault, IsFormFaultAfter, reported}
+use Rattle.ca_pattern_runs.specs.Prelude.{IsRunDetailOf, HasRunDetail, IsPictureOf, IsCaptionOf, HasNoWindow, IsDrawnAfter, IsCaptionAfter, IsTextFault, IsFormFaultAfter, reported}
+use Rattle.ca_draw.specs.Prelude.{IsBoxShown}
 use Rattle.ca_pattern_runs.proofs.OfFiles.{pattern_not_write}
 use Rattle.ca_pattern_runs.specs.inner.Refusals.{IsUndrawn, IsUndrawnAfter}
 

@@ -2,33 +2,23 @@
 use Rattle.std.proofs.Common.{◌≡◌, ◌≢◌, ℕ, ◌+◌, List, Option, None, Some, inl, inr, refl, sym, ap, subst, ◌∙◌, arith}
 use Rattle.std.specs.Prelude.{ℤ, ◌≤ℤ◌, MatchOption}
 use Rattle.std.proofs.lemmas.Int.{ints}
-use Rattle.ca_plane.specs.Generations.{after}
-use Rattle.ca_quad.specs.declared.tree.Spot.{Spot}
-use Rattle.ca_quad.specs.declared.tree.WideBounds.{WideBounds}
-use Rattle.ca_quad.specs.Boxes.{IsDead, IsLeastWideBox}
-use Rattle.ca_rule.specs.TableNext.{TableRule}
-use Rattle.ca_rule.specs.Rule.{states_of, next_of}
-use Rattle.ca_draw.specs.declared.window.Window.{Window}
-use Rattle.ca_draw.specs.Drawings.{drawing}
-use Rattle.ca_draw.specs.Windows.{IsWindow, strip_of}
+use Rattle.ca_plane.specs.Prelude.{after}
+use Rattle.ca_quad.specs.declared.tree.{Spot.Spot, WideBounds.WideBounds}
+use Rattle.ca_quad.specs.Prelude.{IsDead, IsLeastWideBox}
+use Rattle.ca_rule.specs.Prelude.{TableRule, states_of, next_of}
+use Rattle.ca_draw.specs.declared.{window.Window.Window, view.Size.Size, view.WindowFault.WindowFault}
+use Rattle.ca_draw.specs.Prelude.{drawing, IsWindow, strip_of, IsBoxShown, box_shown, ShowsWhole, HasScale, size_of, IsWindowFrom, IsNoWindowFrom}
 use Rattle.ca_pattern.specs.declared.convert_fault.ConvertFault.TheVariants as convert_fault
 use Rattle.ca_pattern.specs.declared.located_fault.LocatedFault.{LocatedFault}
 use Rattle.ca_pattern.specs.declared.located_fault.LocatedFault.TheVariants as located
 use Rattle.ca_pattern.specs.declared.located_fault.LocatedFault.TheVariants.{Unread, UnnamedRule}
-use Rattle.ca_pattern.specs.Evolved.{IsReachFault}
-use Rattle.ca_pattern.specs.LocatedFaults.{IsSameFault}
+use Rattle.ca_pattern.specs.Prelude.{IsReachFault, IsSameFault}
 use Rattle.ca_pattern.proofs.OneRun.{one_start, one_plane, evolved_or_fault, one_reach_fault}
-use Rattle.ca_report.specs.declared.form.DrawRequest.{DrawRequest}
-use Rattle.ca_report.specs.declared.fault.ToolFault.{ToolFault}
+use Rattle.ca_report.specs.declared.{form.DrawRequest.DrawRequest, fault.ToolFault.ToolFault}
 use Rattle.ca_report.specs.declared.fault.ToolFault.TheVariants.{Convert, Work, Window as NoWindow, Memory}
-use Rattle.ca_draw.specs.declared.view.Size.{Size}
-use Rattle.ca_draw.specs.declared.view.WindowFault.{WindowFault}
 use Rattle.ca_draw.specs.declared.view.WindowFault.TheVariants as window_fault
-use Rattle.ca_pattern_runs.specs.Captions.{caption_text}
+use Rattle.ca_pattern_runs.specs.Prelude.{caption_text, IsPictureOf, IsCaptionOf, HasNoWindow, HoldsOfLater, IsDrawnAfter, IsCaptionAfter, TellsPattern, IsFormFaultAfter, reported}
 use Rattle.ca_report.specs.declared.form.Form.TheVariants.{Picture}
-use Rattle.ca_pattern_runs.specs.Drawn.{IsPictureOf, IsCaptionOf, HasNoWindow, HoldsOfLater, IsDrawnAfter, IsCaptionAfter}
-use Rattle.ca_pattern_runs.specs.Runs.{TellsPattern, IsFormFaultAfter, reported}
-use Rattle.ca_draw.specs.Views.{IsBoxShown, box_shown, ShowsWhole, HasScale, size_of, IsWindowFrom, IsNoWindowFrom}
 use Rattle.ca_pattern_runs.proofs.DrawnFiles.{picture_too, caption_too, no_window_too}
 
 -- ---- boxes

@@ -2,7 +2,7 @@
 use Rattle.std.specs.Prelude.{ℕ, List, ◌++◌, Option, None, Some, codes, decimal}
 use Rattle.ca_quad.specs.declared.tree.WideBounds.{WideBounds}
 use Rattle.ca_pattern_runs.specs.Shown.{pair_text}
-use Rattle.ca_report.specs.Counts.{side_length}
+use Rattle.ca_report.specs.Prelude.{side_length}
 
 -- a box: its upper left corner, its width and its height
 abbrev pub wide_bounds_text : WideBounds → List ℕ

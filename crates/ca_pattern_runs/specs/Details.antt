@@ -2,10 +2,8 @@
 use Rattle.std.specs.Prelude.{◌≡◌, ℕ, List, Option, None, Some, Vec, Result, Ok, Err}
 use Rattle.std.specs.declared.alloc.Global.{Global}
 use Rattle.ca_pattern.specs.declared.convert_fault.ConvertFault.TheVariants.{BadPattern, BadRule}
-use Rattle.ca_pattern.specs.Means.{HoldsRuleText}
-use Rattle.ca_pattern.specs.Formats.{IsPatternFaultOn}
-use Rattle.ca_report.specs.declared.detailed_fault.DetailedFault.{DetailedFault}
-use Rattle.ca_report.specs.declared.fault.ToolFault.{ToolFault}
+use Rattle.ca_pattern.specs.Prelude.{HoldsRuleText, IsPatternFaultOn}
+use Rattle.ca_report.specs.declared.{detailed_fault.DetailedFault.DetailedFault, fault.ToolFault.ToolFault}
 use Rattle.ca_report.specs.declared.fault.ToolFault.TheVariants.{Convert}
 
 -- the line on which a fault of the file with these bytes stands, which only a fault of their spelling has; and their rule text, which is given where it

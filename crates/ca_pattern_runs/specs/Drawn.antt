@@ -1,19 +1,14 @@
 -- What is drawn of a pattern file.
 use Rattle.std.specs.Prelude.{◌≡◌, ℕ, ◌+◌, ◌<◌, ℤ, List, Option, MatchOption}
-use Rattle.ca_plane.specs.Plane.{Picture}
-use Rattle.ca_plane.specs.Generations.{after}
-use Rattle.ca_plane.specs.Limits.{generation_limit}
+use Rattle.ca_plane.specs.Prelude.{Picture, after, generation_limit}
 use Rattle.ca_quad.specs.declared.tree.WideBounds.{WideBounds}
-use Rattle.ca_quad.specs.Boxes.{IsDead, IsLeastWideBox}
-use Rattle.ca_rule.specs.TableNext.{TableRule}
-use Rattle.ca_rule.specs.Rule.{RuleValue, next_of, states_of}
-use Rattle.ca_draw.specs.declared.window.Window.{Window}
-use Rattle.ca_draw.specs.Drawings.{drawing}
-use Rattle.ca_pattern.specs.Evolved.{HoldsSmallRuledPattern}
+use Rattle.ca_quad.specs.Prelude.{IsDead, IsLeastWideBox}
+use Rattle.ca_rule.specs.Prelude.{TableRule, RuleValue, next_of, states_of}
+use Rattle.ca_draw.specs.declared.{window.Window.Window, view.WindowFault.WindowFault}
+use Rattle.ca_draw.specs.Prelude.{drawing, IsBoxShown, box_shown, IsWindowFor, IsNoWindowFor}
+use Rattle.ca_pattern.specs.Prelude.{HoldsSmallRuledPattern}
 use Rattle.ca_report.specs.declared.form.DrawRequest.{DrawRequest}
-use Rattle.ca_draw.specs.declared.view.WindowFault.{WindowFault}
 use Rattle.ca_pattern_runs.specs.Captions.{caption_text}
-use Rattle.ca_draw.specs.Views.{IsBoxShown, box_shown, IsWindowFor, IsNoWindowFor}
 
 -- the text is a picture of these cells, of so many states: that of the window that is asked for, of the box that is drawn of them
 pub record IsPictureOf (request : DrawRequest) (states : ℕ) (cells : ℤ → ℤ → ℕ) (text : List ℕ) : Type 0 where

@@ -1,3 +1,4 @@
+pub mod Prelude
 pub mod Captions
 pub mod Details
 pub mod Drawn

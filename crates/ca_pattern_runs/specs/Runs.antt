@@ -1,32 +1,23 @@
 -- What a run over a pattern file reads and writes.
 use Rattle.std.specs.Prelude.{◌≡◌, ◌≢◌, ℕ, List, [], ◌∷◌, Option, None, Some, Result, ◌⊎◌}
-use Rattle.ca_plane.specs.Device.{Counted}
-use Rattle.ca_rule.specs.TableNext.{TableRule}
+use Rattle.ca_plane.specs.Prelude.{Counted}
+use Rattle.ca_rule.specs.Prelude.{TableRule}
 use Rattle.ca_rule.specs.TableFaults as table_faults
 use Rattle.ca_rule.specs.declared.table.fault.TableFault.{TableFault}
 use Rattle.ca_rule.specs.declared.table.fault.TableFault.TheVariants as table_fault
-use Rattle.ca_pattern.specs.NamedTables.{IsQuietTable}
-use Rattle.ca_pattern.specs.Converted.{IsSummary, IsSummaryFault, IsConverted, IsConvertFault}
-use Rattle.ca_pattern.specs.Evolved.{IsSummaryAfter, IsReachFault, IsConvertedAfter, IsConvertFaultAfter}
-use Rattle.ca_pattern.specs.declared.pattern.Summary.{Summary}
-use Rattle.ca_pattern.specs.declared.convert_fault.ConvertFault.{ConvertFault}
+use Rattle.ca_pattern.specs.Prelude.{IsQuietTable, IsSummary, IsSummaryFault, IsConverted, IsConvertFault, IsSummaryAfter, IsReachFault, IsConvertedAfter, IsConvertFaultAfter}
+use Rattle.ca_pattern.specs.declared.{pattern.Summary.Summary, convert_fault.ConvertFault.ConvertFault, located_fault.LocatedFault.LocatedFault}
 use Rattle.ca_pattern.specs.declared.convert_fault.ConvertFault.TheVariants as convert_fault
-use Rattle.ca_pattern.specs.declared.located_fault.LocatedFault.{LocatedFault}
 use Rattle.ca_pattern.specs.declared.located_fault.LocatedFault.TheVariants as located
 use Rattle.ca_pattern.specs.declared.located_fault.LocatedFault.TheVariants.{Unread, UnnamedRule}
-use Rattle.ca_report.specs.declared.detailed_fault.DetailedFault.{DetailedFault}
-use Rattle.ca_report.specs.declared.fault.InputFault.{InputFault}
+use Rattle.ca_report.specs.declared.{detailed_fault.DetailedFault.DetailedFault, fault.InputFault.InputFault, fault.ToolFault.ToolFault, form.TextForm.TextForm, form.Form.Form}
 use Rattle.ca_report.specs.declared.fault.InputFault.TheVariants as inputs
-use Rattle.ca_report.specs.declared.fault.ToolFault.{ToolFault}
 use Rattle.ca_report.specs.declared.fault.ToolFault.TheVariants.{Input, BadTable, Convert, GenTooLarge, Work, Range, Window, Memory}
-use Rattle.ca_report.specs.declared.form.TextForm.{TextForm}
 use Rattle.ca_report.specs.declared.form.TextForm.TheVariants as forms
-use Rattle.ca_report.specs.declared.form.Form.{Form}
 use Rattle.ca_report.specs.declared.form.Form.TheVariants.{Text, Picture}
 use Rattle.ca_pattern_runs.specs.Drawn.{IsDrawnAfter, IsCaptionAfter, HasNoWindowAfter}
 use Rattle.ca_pattern_runs.specs.Shown.{summary_text}
-use Rattle.ca_report.specs.Writing.{WritesOneOf}
-use Rattle.ca_report.specs.Reading.{ReadsAll, GivesTooMany, GivesSome, TakesFile}
+use Rattle.ca_report.specs.Prelude.{WritesOneOf, ReadsAll, GivesTooMany, GivesSome, TakesFile}
 
 -- what a file gave that isn't read; of a read that fails the device tells
 abbrev pub IsInputFault : Option (List ℕ) → Option (List ℕ) → InputFault → Type 0

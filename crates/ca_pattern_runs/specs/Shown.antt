@@ -2,9 +2,9 @@
 use Rattle.std.specs.Prelude.{ℕ, ℤ, List, [], ◌∷◌, ◌++◌, Option, None, Some, codes, decimal}
 use Rattle.std.specs.Fmt.{signed_decimal}
 use Rattle.ca_plane.specs.declared.point.Bounds.{Bounds}
-use Rattle.ca_pattern.specs.Formats.{format_name}
+use Rattle.ca_pattern.specs.Prelude.{format_name}
 use Rattle.ca_pattern.specs.declared.pattern.Summary.{Summary}
-use Rattle.ca_report.specs.Counts.{side_length}
+use Rattle.ca_report.specs.Prelude.{side_length}
 
 -- two numbers
 abbrev pub pair_text : ℤ → ℤ → List ℕ

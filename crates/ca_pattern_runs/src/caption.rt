@@ -2,10 +2,10 @@
 
 ghost use Rattle.std.specs.Prelude.{◌≡◌, ◌^◌, ◌≤ℤ◌, ◌<ℤ◌, pos, neg_ℤ, IfSome, IfOk, OnOk};
 ghost use Rattle.std.specs.Fmt.{signed_decimal};
-ghost use Rattle.ca_plane.specs.Puts.{Puts};
-ghost use Rattle.ca_draw.specs.Windows.{IsBox, IsTreeBox};
+ghost use Rattle.ca_plane.specs.Prelude.{Puts};
+ghost use Rattle.ca_draw.specs.Prelude.{IsBox, IsTreeBox};
 ghost use Rattle.ca_pattern_runs.specs.Shown.{pair_text};
-ghost use Rattle.ca_report.specs.Counts.{side_length};
+ghost use Rattle.ca_report.specs.Prelude.{side_length};
 ghost use Rattle.ca_pattern_runs.specs.Captions.{wide_bounds_text, wide_box_text, caption_text};
 
 use ca_plane::Memory;

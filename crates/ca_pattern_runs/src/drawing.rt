@@ -1,12 +1,10 @@
 //! Pictures of windows of a pattern's plane.
 
 ghost use Rattle.std.specs.Prelude.{◌≡◌, ℕ, List, IfSome, IfOk, IfErr, MatchOption};
-ghost use Rattle.ca_quad.specs.Trees.{IsTree, cell};
-ghost use Rattle.ca_quad.specs.Boxes.{IsDead, IsLeastWideBox};
-ghost use Rattle.ca_draw.specs.Views.{IsBoxShown, box_shown};
-ghost use Rattle.ca_draw.specs.Windows.{IsBox, IsTreeBox};
-ghost use Rattle.ca_rule.specs.TableNext.{TableRule};
-ghost use Rattle.ca_pattern.specs.Evolved.{IsPatternAfter};
+ghost use Rattle.ca_quad.specs.Prelude.{IsTree, cell, IsDead, IsLeastWideBox};
+ghost use Rattle.ca_draw.specs.Prelude.{IsBoxShown, box_shown, IsBox, IsTreeBox};
+ghost use Rattle.ca_rule.specs.Prelude.{TableRule};
+ghost use Rattle.ca_pattern.specs.Prelude.{IsPatternAfter};
 ghost use Rattle.ca_pattern_runs.specs.Drawn.{IsPictureOf, IsCaptionOf, IsDrawnAfter, IsCaptionAfter};
 ghost use Rattle.ca_pattern_runs.specs.inner.Refusals.{IsUndrawn, IsUndrawnAfter};
 

@@ -2,9 +2,8 @@
 //! file as it is asked for, or none for one fault.
 
 ghost use Rattle.std.specs.Prelude.{◌≡◌, ◌≢◌, ℕ, List};
-ghost use Rattle.ca_rule.specs.TableNext.{TableRule};
-ghost use Rattle.ca_report.specs.declared.form.DrawRequest.{DrawRequest};
-ghost use Rattle.ca_report.specs.declared.fault.ToolFault.{ToolFault};
+ghost use Rattle.ca_rule.specs.Prelude.{TableRule};
+ghost use Rattle.ca_report.specs.declared.{form.DrawRequest.DrawRequest, fault.ToolFault.ToolFault};
 ghost use Rattle.ca_report.specs.declared.fault.ToolFault.TheVariants.{Work, Memory};
 ghost use Rattle.ca_pattern_runs.specs.Drawn.{IsDrawnAfter, IsCaptionAfter};
 ghost use Rattle.ca_pattern_runs.specs.Runs.{IsFormFaultAfter};

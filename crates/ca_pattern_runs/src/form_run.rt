@@ -1,15 +1,12 @@
 //! What is written of a pattern file, some generations on.
 
 ghost use Rattle.std.specs.Prelude.{◌≡◌, ℕ, ◌≤◌, List, IfOk, IfErr};
-ghost use Rattle.ca_plane.specs.Limits.{most_generations};
-ghost use Rattle.ca_rule.specs.TableNext.{TableRule};
-ghost use Rattle.ca_pattern.specs.Evolved.{IsPatternAfter};
-ghost use Rattle.ca_pattern.specs.Limited.{AreGoodLimits};
+ghost use Rattle.ca_plane.specs.Prelude.{most_generations};
+ghost use Rattle.ca_rule.specs.Prelude.{TableRule};
+ghost use Rattle.ca_pattern.specs.Prelude.{IsPatternAfter, AreGoodLimits};
 ghost use Rattle.ca_pattern_runs.specs.Details.{HasRunDetail, fault_alone};
 ghost use Rattle.ca_report.specs.declared.form.Form.TheVariants.{Text};
-ghost use Rattle.ca_pattern_runs.specs.Runs.{IsFormAfter, IsFormCaption, IsFormFaultAfter};
-ghost use Rattle.ca_pattern_runs.specs.Runs.{IsTextFault, reported};
-ghost use Rattle.ca_pattern_runs.specs.Runs.{WritesText};
+ghost use Rattle.ca_pattern_runs.specs.Runs.{IsFormAfter, IsFormCaption, IsFormFaultAfter, IsTextFault, reported, WritesText};
 
 use crate::drawing::picture;
 use crate::form::{Evolution, FormText};

@@ -2,10 +2,9 @@
 
 ghost use Rattle.std.specs.Prelude.{◌≡◌, IfOk, IfErr};
 ghost use Rattle.std.specs.Option.{option_copied, option_to_list};
-ghost use Rattle.ca_pattern.specs.Converted.{IsConverted, IsSummaryFault, IsConvertFault};
+ghost use Rattle.ca_pattern.specs.Prelude.{IsConverted, IsSummaryFault, IsConvertFault};
 ghost use Rattle.ca_report.specs.declared.fault.InputFault.TheVariants as inputs;
-ghost use Rattle.ca_report.specs.Writing.{Sends};
-ghost use Rattle.ca_report.specs.Reading.{ReadsAll, TakesFile};
+ghost use Rattle.ca_report.specs.Prelude.{Sends, ReadsAll, TakesFile};
 ghost use Rattle.ca_pattern_runs.specs.Runs.{AreKnownTables, IsShown, IsRuleFileFault, RunsOver, TellsTable};
 ghost use Rattle.ca_pattern_runs.specs.Runs.{TellsConvert, IsFormOf, IsFormFault, WritesUnder};
 ghost use Rattle.ca_pattern_runs.specs.inner.Refusals.{IsReadingFault};

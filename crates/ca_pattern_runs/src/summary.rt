@@ -1,10 +1,9 @@
 //! What is shown of a pattern.
 
 ghost use Rattle.std.specs.Prelude.{◌≡◌, codes, OnOk, IfOk};
-ghost use Rattle.ca_plane.specs.Puts.{Puts};
-ghost use Rattle.ca_pattern_runs.specs.Shown.{pair_text, bounds_text, box_text, word_line};
-ghost use Rattle.ca_pattern_runs.specs.Shown.{summary_text};
-ghost use Rattle.ca_report.specs.Counts.{side_length};
+ghost use Rattle.ca_plane.specs.Prelude.{Puts};
+ghost use Rattle.ca_pattern_runs.specs.Shown.{pair_text, bounds_text, box_text, word_line, summary_text};
+ghost use Rattle.ca_report.specs.Prelude.{side_length};
 
 use ca_pattern::Summary;
 use ca_plane::text::{push_integer, push_text};

@@ -2,8 +2,7 @@
 use Rattle.std.proofs.Common.{◌≡◌, ℕ, zero, suc, ◌+◌, List, refl, ap, ◌∙◌, arith}
 use Rattle.std.specs.Prelude.{ℤ, pos, ◌+ℤ◌, ◌-ℤ◌, replicate}
 use Rattle.std.proofs.lemmas.Int.{ints}
-use Rattle.ca_plane.specs.Generations.{around, cells_after}
-use Rattle.ca_plane.specs.Box.{IsWithin}
+use Rattle.ca_plane.specs.Prelude.{around, cells_after, IsWithin}
 
 -- planes with the same nine cells round a place
 pub around-same : (f g : ℤ → ℤ → ℕ) (x y : ℤ) → ((u v : ℤ) → IsWithin 1 x y u v → f u v ≡ g u v) → around f x y ≡ around g x y

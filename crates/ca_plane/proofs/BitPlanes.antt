@@ -3,10 +3,8 @@ use Rattle.std.proofs.Common.{◌≡◌, ℕ, zero, suc, ◌+◌, ◌-◌, ◌/�
 use Rattle.std.proofs.lemmas.Int.{ints}
 use Rattle.std.proofs.lemmas.Bool.{cases_Bool, cases_lt}
 use Rattle.std.proofs.lemmas.Nat.Bits.{bit_at-lt, bit_at_or, bit_at_mask_above, bit_at_mask_below, bit_at_mask_inside}
-use Rattle.ca_plane.specs.declared.bit_plane.CellWord.{CellWord}
-use Rattle.ca_plane.specs.declared.point.Point.{Point}
-use Rattle.ca_plane.specs.BitPlane.{word_state, state_of_words, state_from_corner, AddsRun}
-use Rattle.ca_plane.specs.Limits.{reach}
+use Rattle.ca_plane.specs.declared.{bit_plane.CellWord.CellWord, point.Point.Point}
+use Rattle.ca_plane.specs.Prelude.{word_state, state_of_words, state_from_corner, AddsRun, reach}
 use Rattle.ca_plane.specs.inner.BitRuns.{AddsColumns, AddsWord, AreBitsOf, HaveSameCells, IsWordOfRun}
 
 -- a word at the end adds its cells

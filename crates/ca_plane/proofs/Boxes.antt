@@ -6,12 +6,8 @@ use Rattle.std.specs.Int.{int_min, int_max}
 use Rattle.std.proofs.lemmas.Bool.{cases_cond}
 use Rattle.std.proofs.lemmas.Map.Iter.{rest_more}
 use Rattle.std.proofs.lemmas.Int.{ints, clamps}
-use Rattle.ca_plane.specs.declared.point.Point.{Point}
-use Rattle.ca_plane.specs.declared.point.Bounds.{Bounds}
-use Rattle.ca_plane.specs.Plane.{Picture, cell, IsLive}
-use Rattle.ca_plane.specs.Change.{Sets}
-use Rattle.ca_plane.specs.Sparse.{IsSparse}
-use Rattle.ca_plane.specs.Box.{IsInBox, IsLeastBox}
+use Rattle.ca_plane.specs.declared.point.{Point.Point, Bounds.Bounds}
+use Rattle.ca_plane.specs.Prelude.{Picture, cell, IsLive, Sets, IsSparse, IsInBox, IsLeastBox}
 use Rattle.ca_plane.proofs.Pictures.{place-from_true, cell-Sets, Sets-push, IsListed-at}
 
 -- a choice of two that aren't 0 isn't 0

@@ -6,8 +6,7 @@ use Rattle.std.specs.List.Sorted.{IsStableBy, ties}
 use Rattle.std.specs.Ordering.{int_eq, int_cmp, is_lt, is_eq, ordering_reverse}
 use Rattle.std.specs.Cmp.{tied_then}
 use Rattle.ca_plane.specs.declared.point.Point.{Point}
-use Rattle.ca_plane.specs.Plane.{Picture, cell, IsSame}
-use Rattle.ca_plane.specs.Sparse.{point_cmp}
+use Rattle.ca_plane.specs.Prelude.{Picture, cell, IsSame, point_cmp}
 use Rattle.ca_plane.proofs.Pictures.{point_cmp_total}
 
 -- a cell that is kept where it is at the place, and left out elsewhere

@@ -3,9 +3,7 @@ use Rattle.std.proofs.Common.{◌≡◌, ◌≢◌, ℕ, ◌≤◌, [], ◌∷�
 use Rattle.std.specs.Ordering.{ordering_reverse}
 use Rattle.std.proofs.lemmas.List.{append-nil}
 use Rattle.ca_plane.specs.declared.point.Point.{Point}
-use Rattle.ca_plane.specs.Plane.{Picture, cell, IsSame}
-use Rattle.ca_plane.specs.Change.{DifferAt}
-use Rattle.ca_plane.specs.Sparse.{point_cmp, IsSparse}
+use Rattle.ca_plane.specs.Prelude.{Picture, cell, IsSame, DifferAt, point_cmp, IsSparse}
 use Rattle.ca_plane.specs.inner.Places.{ComeBehind}
 use Rattle.ca_plane.proofs.Pictures.{IsListed-at, point_cmp_total, point_cmp_exact}
 use Rattle.ca_plane.proofs.Rising.{Rises, ComeBehind-lower, entry-same}

@@ -4,7 +4,7 @@ use Rattle.std.specs.Fmt.{signed_decimal}
 use Rattle.std.proofs.lemmas.Bool.Decides.{nat_tests}
 use Rattle.std.proofs.lemmas.Fmt.{decimal_by_steps}
 use Rattle.std.proofs.lemmas.Int.{ints}
-use Rattle.ca_plane.specs.Bytes.{is_digit, AreDigits, IsInteger, value}
+use Rattle.ca_plane.specs.Prelude.{is_digit, AreDigits, IsInteger, value}
 use Rattle.ca_plane.proofs.Numbers.{value-append}
 use Rattle.ca_plane.proofs.Fronts.{every_append}
 

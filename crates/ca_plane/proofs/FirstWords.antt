@@ -2,7 +2,7 @@
 use Rattle.std.proofs.Common.{◌≡◌, ◌≢◌, ℕ, suc, ◌<◌, Bool, true, not, List, [], ◌∷◌, ◌++◌, length, refl, sym, ap, ◌∙◌, arith}
 use Rattle.std.proofs.lemmas.Bool.{both_ways, not-true}
 use Rattle.std.proofs.lemmas.List.{append-nil}
-use Rattle.ca_plane.specs.Bytes.{Every, front, rest, is_end_or, is_line_end, is_blank, is_word_byte, IsWord, lines_of, words_of}
+use Rattle.ca_plane.specs.Prelude.{Every, front, rest, is_end_or, is_line_end, is_blank, is_word_byte, IsWord, lines_of, words_of}
 use Rattle.ca_plane.proofs.Fronts.{front_then_rest, every_front, every_rest, rest_ends, front_length}
 use Rattle.ca_plane.proofs.Lines.{lines_at_end, lines_at_last, line_ends_by_lf, words_behind_blanks, words_ahead, ends_by_blank}
 

@@ -4,7 +4,7 @@ use Rattle.std.specs.List.{list_all}
 use Rattle.std.proofs.lemmas.Bool.{and_parts, and_from, cases_Bool, not-true}
 use Rattle.std.proofs.lemmas.List.Folds.{list_all-append}
 use Rattle.std.proofs.lemmas.Bool.Decides.{nat_tests}
-use Rattle.ca_plane.specs.Bytes.{Every, front, rest, is_end_or, is_digit, is_word_byte, AreDigits, IsWord}
+use Rattle.ca_plane.specs.Prelude.{Every, front, rest, is_end_or, is_digit, is_word_byte, AreDigits, IsWord}
 
 -- the front and then the rest are the bytes
 pub front_then_rest : (test : ℕ → Bool) (bs : List ℕ) → front test bs ++ rest test bs ≡ bs

@@ -3,7 +3,7 @@ use Rattle.std.proofs.Common.{◌≡◌, ℕ, List, ◌∷◌, [], inl, inr, ℤ
 use Rattle.std.specs.List.{list_all}
 use Rattle.std.proofs.lemmas.List.{append_cancel_left}
 use Rattle.std.proofs.lemmas.Bool.{and_parts}
-use Rattle.ca_plane.specs.Bytes.{is_digit, AreDigits, IsInteger, value}
+use Rattle.ca_plane.specs.Prelude.{is_digit, AreDigits, IsInteger, value}
 
 -- digits have no minus sign
 no_minus : (digits : List ℕ) → AreDigits (45 ∷ digits) → ⊥

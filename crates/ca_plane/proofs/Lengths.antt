@@ -3,7 +3,7 @@ use Rattle.std.proofs.Common.{◌≡◌, ℕ, ◌+◌, Bool, true, false, List, 
 use Rattle.std.specs.List.{prefix_len}
 use Rattle.std.proofs.lemmas.List.Sums.{take_while-cons, prefix_len-le-length}
 use Rattle.std.proofs.lemmas.Grind.{common_steps}
-use Rattle.ca_plane.specs.Bytes.{front, rest}
+use Rattle.ca_plane.specs.Prelude.{front, rest}
 
 -- the front is as many bytes as pass at first
 pub take_front : (test : ℕ → Bool) (bs : List ℕ) → take (prefix_len test bs) bs ≡ front test bs

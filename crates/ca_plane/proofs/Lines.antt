@@ -3,7 +3,7 @@ use Rattle.std.proofs.Common.{◌≡◌, ◌≢◌, ℕ, true, false, not, List,
 use Rattle.std.specs.List.{list_all}
 use Rattle.std.proofs.lemmas.Bool.{and_parts, and_cases, both_ways, not-true, not-false, eqb-true, false≢true}
 use Rattle.std.proofs.lemmas.List.{append-nil}
-use Rattle.ca_plane.specs.Bytes.{Every, front, rest, is_end_or, is_line_end, is_blank, is_word_byte, IsWord, with_front, lines_of, words_of}
+use Rattle.ca_plane.specs.Prelude.{Every, front, rest, is_end_or, is_line_end, is_blank, is_word_byte, IsWord, with_front, lines_of, words_of}
 use Rattle.ca_plane.proofs.Fronts.{front_then_rest, every_front, every_wider, rest_ends}
 
 -- a line, its LF, and more lines

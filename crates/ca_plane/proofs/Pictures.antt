@@ -19,9 +19,7 @@ use Rattle.std.proofs.lemmas.Map.Keys.{IsDistinct-from_sorted, sorted_head, sort
 use Rattle.std.proofs.lemmas.Map.Lookups.{CmpEqualImpliesEq, exact_pairs, exact_signed}
 use Rattle.std.proofs.lemmas.Map.Views.{All-turn, Contains-from_lookup, lookup-from_Contains, tells_apart}
 use Rattle.ca_plane.specs.declared.point.Point.{Point}
-use Rattle.ca_plane.specs.Plane.{Picture, IsPicture, cell, IsSame, IsLive}
-use Rattle.ca_plane.specs.Change.{Sets}
-use Rattle.ca_plane.specs.Sparse.{point_cmp, IsInPlane, IsSparse}
+use Rattle.ca_plane.specs.Prelude.{Picture, IsPicture, cell, IsSame, IsLive, Sets, point_cmp, IsInPlane, IsSparse}
 
 -- points are in one order, row by row
 pub point_cmp_total : IsTotalOrder point_cmp

@@ -10,9 +10,7 @@ use Rattle.std.proofs.lemmas.List.Elements.{All-map, All-from_recursion, recursi
 use Rattle.std.proofs.lemmas.List.Sorted.{searchable_from_sorted}
 use Rattle.std.proofs.lemmas.Map.Keys.{sorted_head, sorted_tail, Less-from_sorted}
 use Rattle.ca_plane.specs.declared.point.Point.{Point}
-use Rattle.ca_plane.specs.Plane.{Picture, cell}
-use Rattle.ca_plane.specs.Change.{Sets}
-use Rattle.ca_plane.specs.Sparse.{IsInPlane, point_cmp, IsSparse}
+use Rattle.ca_plane.specs.Prelude.{Picture, cell, Sets, IsInPlane, point_cmp, IsSparse}
 use Rattle.ca_plane.specs.inner.Places.{ComeBefore, ComeBehind, IsGap, IsAt}
 use Rattle.ca_plane.proofs.Pictures.{point_cmp_total, point_cmp_exact, place-from_true, apart-Less, if-swap, point-middle}
 use Rattle.ca_plane.proofs.Rising.{Rises, place-itself, cell-behind, entry-same}

@@ -10,9 +10,7 @@ use Rattle.std.proofs.lemmas.Map.Keys.{IsDistinct-from_sorted}
 use Rattle.std.proofs.lemmas.Map.Made.{is_member-Decides, length-le_from_is_member, AllPairs-from_IsDistinct, IsDistinct-from_AllPairs}
 use Rattle.std.proofs.lemmas.Map.Views.{tells_apart}
 use Rattle.ca_plane.specs.declared.point.Point.{Point}
-use Rattle.ca_plane.specs.Plane.{Picture, cell}
-use Rattle.ca_plane.specs.Population.{AreLivePlaces, HasPopulation, HasFewCells, HasTooManyCells}
-use Rattle.ca_plane.specs.Sparse.{point_cmp, IsSparse}
+use Rattle.ca_plane.specs.Prelude.{Picture, cell, AreLivePlaces, HasPopulation, HasFewCells, HasTooManyCells, point_cmp, IsSparse}
 use Rattle.ca_plane.proofs.Pictures.{point_cmp_total, point_cmp_exact, cell-listed, Contains-cell}
 
 -- whether two points are the same

@@ -5,8 +5,7 @@ use Rattle.std.specs.Ordering.{int_eq}
 use Rattle.std.proofs.lemmas.Bool.{cond-false, false_from_ne_true}
 use Rattle.std.proofs.lemmas.Cmp.{int_eq_equiv}
 use Rattle.ca_plane.specs.declared.point.Point.{Point}
-use Rattle.ca_plane.specs.Plane.{Picture, cell}
-use Rattle.ca_plane.specs.Sparse.{point_cmp}
+use Rattle.ca_plane.specs.Prelude.{Picture, cell, point_cmp}
 use Rattle.ca_plane.specs.inner.Places.{ComeBehind}
 use Rattle.ca_plane.proofs.Pictures.{point_cmp_total, apart-Less}
 

@@ -8,14 +8,11 @@ use Rattle.std.proofs.lemmas.Cmp.{int_ranked}
 use Rattle.std.proofs.lemmas.Bool.Decides.{Decides-int_eq, same_from_decides}
 use Rattle.std.proofs.lemmas.Int.{ints}
 use Rattle.std.proofs.lemmas.List.Elements.{All-contains, All-map}
-use Rattle.ca_plane.specs.declared.point.Point.{Point}
-use Rattle.ca_plane.specs.declared.memory.MoveFault.{MoveFault}
+use Rattle.ca_plane.specs.declared.{point.Point.Point, memory.MoveFault.MoveFault}
 use Rattle.ca_plane.specs.declared.memory.MoveFault.TheVariants.{Memory, Range}
-use Rattle.ca_plane.specs.Plane.{Picture, cell, shifted}
-use Rattle.ca_plane.specs.Sparse.{IsInPlane, IsSparse, point_cmp}
+use Rattle.ca_plane.specs.Prelude.{Picture, cell, shifted, IsInPlane, IsSparse, point_cmp, moved, LeavesPlane}
 use Rattle.ca_plane.specs.inner.Places.{ComeBehind}
 use Rattle.ca_plane.proofs.Rising.{Rises}
-use Rattle.ca_plane.specs.Box.{moved, LeavesPlane}
 use Rattle.ca_plane.specs.inner.Moves.{StaysInPlane}
 use Rattle.ca_plane.proofs.Pictures.{Contains-cell, IsListed}
 

@@ -1,7 +1,7 @@
 -- Squares that show a plane.
 use Rattle.std.proofs.Common.{◌≡◌, ℕ, ap₂, ◌∙◌}
 use Rattle.std.specs.Prelude.{ℤ, pos, ◌+ℤ◌}
-use Rattle.ca_plane.specs.Shown.{ShowsPlane}
+use Rattle.ca_plane.specs.Prelude.{ShowsPlane}
 
 -- the same from a place by another name
 pub looks_from : (side : ℕ) (cells : ℕ → ℕ → ℕ) (p : ℤ → ℤ → ℕ) (a b c d : ℤ) → a ≡ c → b ≡ d → ShowsPlane side cells p a b → ShowsPlane side cells p c d

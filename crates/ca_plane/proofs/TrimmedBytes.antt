@@ -2,7 +2,7 @@
 use Rattle.std.proofs.Common.{◌≡◌, ℕ, true, false, List, [], ◌∷◌, ◌++◌, refl, ap, ◌∙◌, sym, inl, inr}
 use Rattle.std.specs.List.{list_all}
 use Rattle.std.proofs.lemmas.Bool.{cases_Bool}
-use Rattle.ca_plane.specs.Bytes.{is_blank, without_last_blanks}
+use Rattle.ca_plane.specs.Prelude.{is_blank, without_last_blanks}
 
 -- a list with one more byte is all blanks where it was and the byte is a blank
 all_more : (bs : List ℕ) (c : ℕ) → is_blank c ≡ true → list_all is_blank (bs ++ c ∷ []) ≡ list_all is_blank bs

@@ -2,8 +2,7 @@
 use Rattle.std.specs.Prelude.{◌≡◌, ℕ, ◌/◌, ◌%◌, ◌<◌, ◌≤◌, ◌^◌, max, ℤ, pos, negsuc, ◌+ℤ◌, List, [], ◌∷◌, ◌==◌, ◌&&◌, if◌then◌else◌}
 use Rattle.std.specs.Int.{bit_at}
 use Rattle.std.specs.List.{All}
-use Rattle.ca_plane.specs.declared.bit_plane.CellWord.{CellWord}
-use Rattle.ca_plane.specs.declared.point.Point.{Point}
+use Rattle.ca_plane.specs.declared.{bit_plane.CellWord.CellWord, point.Point.Point}
 use Rattle.ca_plane.specs.Limits.{reach}
 
 -- what a word tells of the cell in a column and a row, both counted from the corner: bit b of the word is the cell in column 64 * w + b, where the word lies in column w of its row

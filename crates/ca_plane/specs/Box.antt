@@ -1,7 +1,6 @@
 -- The least box round the live cells, and planes that are moved.
 use Rattle.std.specs.Prelude.{◌≢◌, ℕ, ℤ, pos, ◌≤ℤ◌, ◌+ℤ◌, ◌-ℤ◌}
-use Rattle.ca_plane.specs.declared.point.Point.{Point}
-use Rattle.ca_plane.specs.declared.point.Bounds.{Bounds}
+use Rattle.ca_plane.specs.declared.point.{Point.Point, Bounds.Bounds}
 use Rattle.ca_plane.specs.Plane.{Picture, cell}
 use Rattle.ca_plane.specs.Sparse.{IsInPlane}
 

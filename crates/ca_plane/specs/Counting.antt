@@ -4,8 +4,7 @@ use Rattle.std.specs.Prelude.{◌≡◌, ℕ, ◌+◌, ◌<◌, List, length, �
 use Rattle.std.specs.List.{All}
 use Rattle.std.specs.Int.{bit_at}
 use Rattle.ca_plane.specs.Moore.{eight_sum}
-use Rattle.ca_plane.specs.declared.counting.Counting.{Counting}
-use Rattle.ca_plane.specs.declared.counting.Neighbourhood.{Neighbourhood}
+use Rattle.ca_plane.specs.declared.counting.{Counting.Counting, Neighbourhood.Neighbourhood}
 use Rattle.ca_plane.specs.declared.counting.Neighbourhood.TheVariants.{Moore, VonNeumann, Hexagonal}
 
 -- the sum of the counted neighbours among nine cells, in the order NW, N, NE, W, the centre, E, SW, S, SE:

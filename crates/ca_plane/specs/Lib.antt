@@ -1,3 +1,4 @@
+pub mod Prelude
 pub mod Plane
 pub mod Generations
 pub mod Moore

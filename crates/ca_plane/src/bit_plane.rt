@@ -1,7 +1,6 @@
 //! Planes of two states as words of 64 cells.
 
-ghost use Rattle.std.specs.Prelude.{◌≡◌, ℕ, ◌+◌, ◌<◌, ◌≤◌, ◌/◌, ◌^◌, pos, neg_ℤ};
-ghost use Rattle.std.specs.Prelude.{◌+ℤ◌, ◌≤ℤ◌, [], IsTrue, IfSome, OnOk, OnErr};
+ghost use Rattle.std.specs.Prelude.{◌≡◌, ℕ, ◌+◌, ◌<◌, ◌≤◌, ◌/◌, ◌^◌, pos, neg_ℤ, ◌+ℤ◌, ◌≤ℤ◌, [], IsTrue, IfSome, OnOk, OnErr};
 ghost use Rattle.ca_plane.specs.BitPlane.{AddsRun, AddsPartOfRun, AreNearWords, IsNearWord, plane_side};
 ghost use Rattle.ca_plane.specs.Limits.{reach};
 ghost use Rattle.ca_plane.specs.inner.BitRuns.{AddsWord, AreBitsOf, HaveSameCells, IsPlaceOf, IsWordOfRun};

@@ -1,11 +1,9 @@
 //! Blanks, words, numbers and lines: what every reader of bytes begins with. Nothing here takes memory.
 
-ghost use Rattle.std.specs.Prelude.{◌≡◌, ◌≢◌, ◌⊎◌, ℕ, ◌-◌, ◌<◌, ◌++◌, List, ◌∷◌, [], length, not};
-ghost use Rattle.std.specs.Prelude.{ℤ, ◌==◌, MatchOption, IfSome};
+ghost use Rattle.std.specs.Prelude.{◌≡◌, ◌≢◌, ◌⊎◌, ℕ, ◌-◌, ◌<◌, ◌++◌, List, ◌∷◌, [], length, not, ℤ, ◌==◌, MatchOption, IfSome};
 ghost use Rattle.std.specs.List.{prefix_len, list_all};
-ghost use Rattle.ca_plane.specs.Bytes.{is_blank, is_line_end, is_digit, is_word_byte, Every, front, rest};
-ghost use Rattle.ca_plane.specs.Bytes.{trimmed, value, AreDigits, IsInteger, nearest_i64, IsWord, lines_of};
-ghost use Rattle.ca_plane.specs.Bytes.{nearest_u64, words_of};
+ghost use Rattle.ca_plane.specs.Bytes.{is_blank, is_line_end, is_digit, is_word_byte, Every, front, rest, trimmed, value};
+ghost use Rattle.ca_plane.specs.Bytes.{AreDigits, IsInteger, nearest_i64, IsWord, lines_of, nearest_u64, words_of};
 
 /// Whether the byte is a blank: a space, a tab or a CR.
 pub fn is_blank(byte: u8) -> bool

@@ -2,9 +2,7 @@
 use Rattle.std.proofs.Common.{◌≡◌, ℕ, inl, inr, Result, Ok, Err, IfOk, OnErr, List, length, refl, ap, subst, arith}
 use Rattle.ca_quad.specs.declared.node.Node.{Node}
 use Rattle.ca_quad.specs.declared.square.Square.TheVariants.{Parts}
-use Rattle.ca_quad.specs.Squares.{place_id, square_of, level_of, cell_of}
-use Rattle.ca_quad.specs.Sound.{IsSoundStore, Grows, AddsOnly}
-use Rattle.ca_quad.specs.Added.{IsPartOf, itself, in_part, IsCopy, AddsCopies}
+use Rattle.ca_quad.specs.Prelude.{place_id, square_of, level_of, cell_of, IsSoundStore, Grows, AddsOnly, IsPartOf, itself, in_part, IsCopy, AddsCopies}
 use Rattle.ca_plane.proofs.Numbers.{below_or_not}
 use Rattle.ca_quad.proofs.ShownSquares.{shows_stays}
 

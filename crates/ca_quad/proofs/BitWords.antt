@@ -8,15 +8,11 @@ use Rattle.std.proofs.lemmas.Int.{ints}
 use Rattle.std.proofs.lemmas.Nat.Bits.{bit_at-zero, bit_at_or, bit_at_above, bit_at_cat_low, bit_at_cat_high}
 use Rattle.std.proofs.lemmas.List.{get_or-set_same, get_or-set_other, get_or-replicate}
 use Rattle.std.proofs.Math.Nat.{pow-le-pow_right}
-use Rattle.ca_plane.specs.declared.point.Bounds.{Bounds}
-use Rattle.ca_plane.specs.declared.bit_plane.CellWord.{CellWord}
-use Rattle.ca_plane.specs.BitPlane.{state_of_words, state_from_corner, bit_cell}
-use Rattle.ca_plane.specs.Limits.{reach}
+use Rattle.ca_plane.specs.declared.{point.Bounds.Bounds, bit_plane.CellWord.CellWord}
+use Rattle.ca_plane.specs.Prelude.{state_of_words, state_from_corner, bit_cell, reach, row_cells}
 use Rattle.ca_plane.proofs.BitPlanes.{AddsWord-at_end}
-use Rattle.ca_quad.specs.declared.tree.Spot.{Spot}
-use Rattle.ca_quad.specs.declared.node.Node.{Node}
-use Rattle.ca_quad.specs.Trees.{ShowsSquare, HoldsAll}
-use Rattle.ca_plane.specs.Shown.{row_cells}
+use Rattle.ca_quad.specs.declared.{tree.Spot.Spot, node.Node.Node}
+use Rattle.ca_quad.specs.Prelude.{ShowsSquare, HoldsAll}
 use Rattle.ca_quad.specs.inner.BitParts.{cells_of_word, HaveCells, HasNoCell, IsBoxOfWord, AreApart, AddsCells, AreShiftedBits}
 use Rattle.ca_quad.specs.inner.Filled.{cells_from, HoldsBox}
 use Rattle.ca_quad.specs.inner.Window.{ShowsFrom}

@@ -2,14 +2,9 @@
 use Rattle.std.proofs.Common.{◌≡◌, ◌≢◌, ℕ, suc, ◌+◌, ◌-◌, ◌≤◌, ◌^◌, ℤ, pos, negsuc, ◌+ℤ◌, ◌-ℤ◌, ◌≤ℤ◌, List, refl, sym, ap, ◌∙◌, arith}
 use Rattle.std.proofs.lemmas.Int.{ints}
 use Rattle.std.proofs.Math.Nat.{two-pow-succ}
-use Rattle.ca_quad.specs.declared.node.Node.{Node}
-use Rattle.ca_quad.specs.declared.tree.Tree.{Tree}
-use Rattle.ca_quad.specs.declared.tree.WideBounds.{WideBounds}
-use Rattle.ca_quad.specs.declared.store.extent.Extent.{Extent}
-use Rattle.ca_quad.specs.Squares.{cell_of}
-use Rattle.ca_quad.specs.Trees.{IsEmpty, cell}
-use Rattle.ca_plane.specs.Shown.{from_corner}
-use Rattle.ca_quad.specs.Boxes.{IsLeastWideBox}
+use Rattle.ca_quad.specs.declared.{node.Node.Node, tree.Tree.Tree, tree.WideBounds.WideBounds, store.extent.Extent.Extent}
+use Rattle.ca_quad.specs.Prelude.{cell_of, IsEmpty, cell, IsLeastWideBox}
+use Rattle.ca_plane.specs.Prelude.{from_corner}
 use Rattle.ca_quad.specs.inner.Extent.{FitsSide, IsExtent}
 
 -- a box that is counted from the corner holds the place

@@ -1,13 +1,9 @@
 -- Squares that are copied from one store to another.
 use Rattle.std.proofs.Common.{◌≡◌, ℕ, suc, ◌-◌, ◌^◌, ℤ, pos, negsuc, ◌+ℤ◌, Result, Ok, Err, OnOk, List, length, refl, sym, ap, subst, ◌∙◌, arith}
-use Rattle.ca_quad.specs.declared.node.Node.{Node}
+use Rattle.ca_quad.specs.declared.{node.Node.Node, tree.Tree.Tree}
 use Rattle.ca_quad.specs.declared.square.Square.TheVariants.{Parts}
-use Rattle.ca_quad.specs.Squares.{square_of, level, level_of, IsOf, joined_cells, cell_of}
-use Rattle.ca_quad.specs.Sound.{IsSoundStore, Grows, HasParts}
-use Rattle.ca_quad.specs.declared.tree.Tree.{Tree}
-use Rattle.ca_quad.specs.Trees.{IsIn, ShowsSquare, AreFour, IsTree, cell, IsTrimmed}
-use Rattle.ca_plane.specs.Shown.{from_corner}
-use Rattle.ca_quad.specs.Added.{IsCopy, AreCopies}
+use Rattle.ca_quad.specs.Prelude.{square_of, level, level_of, IsOf, joined_cells, cell_of, IsSoundStore, Grows, HasParts, IsIn, ShowsSquare, AreFour, IsTree, cell, IsTrimmed, IsCopy, AreCopies}
+use Rattle.ca_plane.specs.Prelude.{from_corner}
 use Rattle.ca_quad.proofs.ShownSquares.{shows_stays, shows_as, four_show_together, shown_together}
 use Rattle.ca_quad.proofs.Walks.{parts_show}
 

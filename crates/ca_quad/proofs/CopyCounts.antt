@@ -1,13 +1,9 @@
 -- How many squares the copy of a tree adds.
 use Rattle.std.proofs.Common.{◌≡◌, ℕ, ◌+◌, ◌-◌, ◌<◌, ◌≤◌, ◌⊎◌, inl, inr, List, [], length, refl, sym, ap, subst, ◌∙◌, arith}
 use Rattle.indexmap.proofs.IndexTableLemmas.Probe.{pigeonhole}
-use Rattle.ca_quad.specs.declared.node.Node.{Node}
-use Rattle.ca_quad.specs.declared.square.Square.{Square}
+use Rattle.ca_quad.specs.declared.{node.Node.Node, square.Square.Square}
 use Rattle.ca_quad.specs.declared.square.Square.TheVariants.{Four, Parts}
-use Rattle.ca_quad.specs.Squares.{place_id, square_of, level_of, IsOf, cell_of}
-use Rattle.ca_quad.specs.Sound.{IsSoundStore, Grows}
-use Rattle.ca_quad.specs.Trees.{IsIn, ShowsSquare}
-use Rattle.ca_quad.specs.Added.{IsPartOf, LiesIn, itself, in_part, IsCopy, AddsCopies}
+use Rattle.ca_quad.specs.Prelude.{place_id, square_of, level_of, IsOf, cell_of, IsSoundStore, Grows, IsIn, ShowsSquare, IsPartOf, LiesIn, itself, in_part, IsCopy, AddsCopies}
 use Rattle.ca_quad.specs.inner.Whole.{IsWhole}
 use Rattle.ca_plane.proofs.Numbers.{below_or_not}
 use Rattle.ca_quad.proofs.Views.{square_whole}

@@ -4,14 +4,10 @@ use Rattle.std.proofs.lemmas.Bool.{cases_eq}
 use Rattle.std.proofs.lemmas.Int.{ints}
 use Rattle.std.proofs.lemmas.List.{get_or_default}
 use Rattle.ca_plane.specs.declared.point.Point.{Point}
-use Rattle.ca_plane.specs.Plane.{Picture, cell}
+use Rattle.ca_plane.specs.Prelude.{Picture, cell}
 use Rattle.ca_plane.proofs.Pictures.{Contains-cell}
-use Rattle.ca_quad.specs.declared.node.Node.{Node}
-use Rattle.ca_quad.specs.declared.store.quarters.Quarters.{Quarters}
-use Rattle.ca_quad.specs.declared.store.rows.Row.{Row}
-use Rattle.ca_quad.specs.declared.store.to_plane.Corners.{Corners}
-use Rattle.ca_quad.specs.declared.tree.Spot.{Spot}
-use Rattle.ca_quad.specs.Trees.{ShowsSquare}
+use Rattle.ca_quad.specs.declared.{node.Node.Node, store.quarters.Quarters.Quarters, store.rows.Row.Row, store.to_plane.Corners.Corners, tree.Spot.Spot}
+use Rattle.ca_quad.specs.Prelude.{ShowsSquare}
 use Rattle.ca_quad.specs.inner.Drawn.{ArePartCorners}
 use Rattle.ca_quad.specs.inner.Filled.{cells_from, LiesNear, AreRowsOf}
 use Rattle.ca_quad.specs.inner.Ring.{no_cells}

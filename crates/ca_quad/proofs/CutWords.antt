@@ -4,12 +4,9 @@ use Rattle.std.specs.Int.{bit_at}
 use Rattle.std.proofs.lemmas.Bool.{eqb-true, agree_below_at}
 use Rattle.std.proofs.lemmas.Bool.Decides.{nat_tests}
 use Rattle.std.proofs.lemmas.Nat.Bits.{bit_at-lt, bit_at_and, bit_at_or, bit_at_cat_low, bit_at_cat_high}
-use Rattle.ca_quad.specs.declared.neighbours.Neighbours.{Neighbours}
-use Rattle.ca_quad.specs.declared.node.Node.{Node}
-use Rattle.ca_quad.specs.declared.store.cut.Offset.{Offset}
-use Rattle.ca_quad.specs.Squares.{cell_of}
-use Rattle.ca_quad.specs.Trees.{ShowsSquare}
-use Rattle.ca_plane.specs.Shown.{word_cells}
+use Rattle.ca_quad.specs.declared.{neighbours.Neighbours.Neighbours, node.Node.Node, store.cut.Offset.Offset}
+use Rattle.ca_quad.specs.Prelude.{cell_of, ShowsSquare}
+use Rattle.ca_plane.specs.Prelude.{word_cells}
 use Rattle.ca_quad.specs.inner.Cut.{cells_of_four, IsCutWord}
 use Rattle.ca_quad.specs.inner.Window.{ShowsFrom}
 use Rattle.ca_quad.proofs.Cells.{in_nw, in_ne, in_sw, in_se}

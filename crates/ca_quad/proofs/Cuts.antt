@@ -4,13 +4,9 @@ use Rattle.std.proofs.Math.Nat.{two-pow-succ}
 use Rattle.std.proofs.lemmas.Bool.{cases_Bool, eqb-true, and_parts}
 use Rattle.std.proofs.lemmas.Bool.Decides.{nat_tests}
 use Rattle.std.proofs.lemmas.Nat.{mod_below, mod-pow-add}
-use Rattle.ca_quad.specs.declared.neighbours.Neighbours.{Neighbours}
-use Rattle.ca_quad.specs.declared.node.Node.{Node}
-use Rattle.ca_quad.specs.declared.store.cut.Offset.{Offset}
+use Rattle.ca_quad.specs.declared.{neighbours.Neighbours.Neighbours, node.Node.Node, store.cut.Offset.Offset}
 use Rattle.ca_quad.specs.contracts.neighbours.NeighboursPartialEq.TheImpl.{eq-value}
-use Rattle.ca_quad.specs.Squares.{IsOf, level_of, one_cell, joined_cells, cell_of}
-use Rattle.ca_quad.specs.Sound.{IsSoundStore, Grows}
-use Rattle.ca_quad.specs.Trees.{ShowsSquare, AreFour, AreQuarters, AreCorners}
+use Rattle.ca_quad.specs.Prelude.{IsOf, level_of, one_cell, joined_cells, cell_of, IsSoundStore, Grows, ShowsSquare, AreFour, AreQuarters, AreCorners}
 use Rattle.ca_quad.specs.inner.Cut.{AreNeighbours, cells_of_four, half_of, neighbours_at, overlapping_fours, IsCut, AreCuts, AreSixteen, AreSixteenCells, cut_value}
 use Rattle.ca_quad.specs.inner.Window.{ShowsFrom}
 use Rattle.ca_quad.proofs.Cells.{one_up, at_nw, at_ne, at_sw, at_se, cells_stay, of_stays}

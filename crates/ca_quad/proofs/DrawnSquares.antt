@@ -7,16 +7,10 @@ use Rattle.std.proofs.lemmas.Int.{ints}
 use Rattle.std.proofs.Math.Nat.{two-pow-succ}
 use Rattle.ca_plane.specs.declared.point.Point.{Point}
 use Rattle.ca_plane.proofs.Pictures.{place-from_true}
-use Rattle.ca_quad.specs.declared.node.Node.{Node}
+use Rattle.ca_quad.specs.declared.{node.Node.Node, store.to_plane.Corners.Corners, tree.Spot.Spot, tree.Tree.Tree}
 use Rattle.ca_quad.specs.declared.square.Square.TheVariants.{Four, Parts}
-use Rattle.ca_quad.specs.declared.store.to_plane.Corners.{Corners}
-use Rattle.ca_quad.specs.declared.tree.Spot.{Spot}
-use Rattle.ca_quad.specs.declared.tree.Tree.{Tree}
-use Rattle.ca_quad.specs.Squares.{square_of, level, level_of, IsOf, one_cell, joined_cells, cell_of}
-use Rattle.ca_quad.specs.Sound.{HasParts}
-use Rattle.ca_quad.specs.Trees.{IsIn, IsTree, cell as tree_cell}
-use Rattle.ca_plane.specs.Shown.{from_corner}
-use Rattle.ca_quad.specs.Expanded.{FitsPlane}
+use Rattle.ca_quad.specs.Prelude.{square_of, level, level_of, IsOf, one_cell, joined_cells, cell_of, HasParts, IsIn, IsTree, cell as tree_cell, FitsPlane}
+use Rattle.ca_plane.specs.Prelude.{from_corner}
 use Rattle.ca_quad.specs.inner.Drawn.{square_cells, side_of, cells_at_corner, CanDraw, ArePartCorners, Agrees, IsLiveAt, IsReadyToDraw}
 use Rattle.ca_plane.proofs.Numbers.{below_or_not}
 use Rattle.ca_quad.specs.inner.Measure.{EndsWithin}

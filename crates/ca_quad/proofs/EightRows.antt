@@ -4,8 +4,8 @@ use Rattle.std.specs.Int.{bit_at, bytes_low_first, to_le_bytes}
 use Rattle.std.proofs.lemmas.Nat.{shr-shr, shr_split}
 use Rattle.std.proofs.lemmas.Nat.Bits.{bit_at_cat_low}
 use Rattle.ca_quad.specs.declared.node.Node.{Node}
-use Rattle.ca_quad.specs.Trees.{ShowsSquare}
-use Rattle.ca_plane.specs.Shown.{row_cells, word_cells}
+use Rattle.ca_quad.specs.Prelude.{ShowsSquare}
+use Rattle.ca_plane.specs.Prelude.{row_cells, word_cells}
 use Rattle.ca_quad.proofs.Windows.{rows_end}
 use Rattle.ca_quad.proofs.Words.{are_word_cells}
 

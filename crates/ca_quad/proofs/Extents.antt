@@ -2,7 +2,7 @@
 use Rattle.std.proofs.Common.{◌≡◌, ◌≢◌, ℕ, ◌+◌, ◌-◌, ◌<◌, ◌≤◌, ◌^◌, min, max, ◌⊎◌, inl, inr, true, false, nat_lt, refl, sym, subst, ◌∙◌, arith}
 use Rattle.std.proofs.lemmas.Bool.Decides.{nat_tests}
 use Rattle.ca_quad.specs.declared.store.extent.Extent.{Extent}
-use Rattle.ca_quad.specs.Trees.{IsEmpty}
+use Rattle.ca_quad.specs.Prelude.{IsEmpty}
 use Rattle.ca_quad.specs.inner.Extent.{box_of_two, IsExtent}
 use Rattle.ca_plane.proofs.Numbers.{below_or_not}
 

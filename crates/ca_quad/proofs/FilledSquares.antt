@@ -4,15 +4,9 @@ use Rattle.std.proofs.lemmas.Bool.{cases_eq}
 use Rattle.std.proofs.lemmas.Int.{ints}
 use Rattle.std.proofs.Math.Nat.{pow-le-pow_right}
 use Rattle.ca_plane.specs.declared.point.Bounds.{Bounds}
-use Rattle.ca_plane.specs.Box.{IsLeastBox}
-use Rattle.ca_plane.specs.Plane.{Picture, cell}
-use Rattle.ca_quad.specs.declared.node.Node.{Node}
-use Rattle.ca_quad.specs.declared.store.to_plane.Corners.{Corners}
-use Rattle.ca_quad.specs.declared.tree.Spot.{Spot}
-use Rattle.ca_quad.specs.declared.tree.Tree.{Tree}
-use Rattle.ca_quad.specs.Squares.{IsOf, joined_cells, cell_of}
-use Rattle.ca_quad.specs.Sound.{IsSoundStore, Grows}
-use Rattle.ca_quad.specs.Trees.{ShowsSquare, AreFour, AreQuarters, cell as tree_cell, HoldsAll}
+use Rattle.ca_plane.specs.Prelude.{IsLeastBox, Picture, cell}
+use Rattle.ca_quad.specs.declared.{node.Node.Node, store.to_plane.Corners.Corners, tree.Spot.Spot, tree.Tree.Tree}
+use Rattle.ca_quad.specs.Prelude.{IsOf, joined_cells, cell_of, IsSoundStore, Grows, ShowsSquare, AreFour, AreQuarters, cell as tree_cell, HoldsAll}
 use Rattle.ca_quad.specs.inner.Drawn.{ArePartCorners}
 use Rattle.ca_quad.specs.inner.Filled.{cells_from, IsEmptyOf, LiesNear, HoldsBox}
 use Rattle.ca_quad.specs.inner.Ring.{no_cells}

@@ -3,7 +3,7 @@ use Rattle.std.proofs.Common.{◌≡◌, ℕ, zero, suc, ◌+◌, ◌≤◌, Lis
 use Rattle.std.proofs.lemmas.List.{get_or-take, length-take, take_more_same, take_all}
 use Rattle.ca_quad.specs.declared.node.Node.{Node}
 use Rattle.ca_quad.specs.declared.node.Node.TheVariants.{Leaf}
-use Rattle.ca_quad.specs.Sound.{IsSoundStore, IsStorable, Grows, node_at}
+use Rattle.ca_quad.specs.Prelude.{IsSoundStore, IsStorable, Grows, node_at}
 use Rattle.ca_quad.proofs.Growth.{SameFirst, good_stays}
 
 first_same : (n : ℕ) (nodes : List Node) → SameFirst n nodes (take n nodes)

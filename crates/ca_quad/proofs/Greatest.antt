@@ -2,11 +2,9 @@
 use Rattle.std.proofs.Common.{◌≡◌, ◌≢◌, ℕ, ◌+◌, ◌-◌, ◌<◌, ◌≤◌, ◌^◌, ◌⊎◌, inl, inr, max, ◌==◌, ◌&&◌, List, nat_lt, ℤ, pos, negsuc, ◌+ℤ◌, ◌-ℤ◌, refl, sym, ◌∙◌, arith}
 use Rattle.std.proofs.lemmas.Bool.{cases_Bool}
 use Rattle.std.proofs.lemmas.Int.{ints}
-use Rattle.ca_quad.specs.declared.node.Node.{Node}
-use Rattle.ca_quad.specs.declared.tree.Tree.{Tree}
-use Rattle.ca_quad.specs.Squares.{one_cell, joined_cells, cell_of}
-use Rattle.ca_quad.specs.Trees.{IsTree, cell}
-use Rattle.ca_plane.specs.Shown.{from_corner}
+use Rattle.ca_quad.specs.declared.{node.Node.Node, tree.Tree.Tree}
+use Rattle.ca_quad.specs.Prelude.{one_cell, joined_cells, cell_of, IsTree, cell}
+use Rattle.ca_plane.specs.Prelude.{from_corner}
 use Rattle.ca_quad.specs.inner.Greatest.{IsGreatest, IsGreatestOf}
 use Rattle.ca_quad.specs.inner.Measure.{EndsWithin, IsJoined}
 use Rattle.ca_quad.proofs.Cells.{at_nw, at_ne, at_sw, at_se}

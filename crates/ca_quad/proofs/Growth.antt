@@ -9,13 +9,11 @@ use Rattle.std.proofs.lemmas.List.Folds.{list_any_at}
 use Rattle.std.proofs.lemmas.Option.{get_or_from_slice_get, slice_get_within}
 use Rattle.ca_plane.proofs.Numbers.{below_or_not}
 use Rattle.indexmap.specs.IndexSet.{insert_key}
-use Rattle.ca_quad.specs.declared.named.IdForm.{IdForm}
+use Rattle.ca_quad.specs.declared.{named.IdForm.IdForm, node.Node.Node}
 use Rattle.ca_quad.specs.declared.named.IdForm.TheVariants.{Cells2, Cells4, Kept}
-use Rattle.ca_quad.specs.declared.node.Node.{Node}
 use Rattle.ca_quad.specs.declared.node.Node.TheVariants.{Leaf, Block, Join}
-use Rattle.ca_quad.specs.Squares.{meaning_of_id, place_id, node_square, square_named, square_of, level, IsAmong}
+use Rattle.ca_quad.specs.Prelude.{meaning_of_id, place_id, node_square, square_named, square_of, level, IsAmong, IsStorable, node_at, IsSoundStore, Grows, AddsOnly}
 use Rattle.ca_quad.proofs.Nodes.{node_eq, node_eq-self, node_eq-same}
-use Rattle.ca_quad.specs.Sound.{IsStorable, node_at, IsSoundStore, Grows, AddsOnly}
 
 -- the number of a name by value is small, and a place is one of the first
 abbrev pub IsBelow : ℕ → IdForm → Type 0

@@ -3,9 +3,7 @@ use Rattle.std.proofs.Common.{◌≡◌, ℕ, suc, Result, Ok, Err, IfOk, ◌+�
 use Rattle.ca_quad.specs.declared.node.Node.{Node}
 use Rattle.ca_quad.specs.declared.node.Node.TheVariants.{Block}
 use Rattle.ca_quad.specs.declared.square.Square.TheVariants.{Parts}
-use Rattle.ca_quad.specs.Squares.{digit, cells4, node_square, square_named, square_of, level, level_of, IsOf, joined_cells, cells_in, cell_of}
-use Rattle.ca_quad.specs.Sound.{IsSoundStore, Grows}
-use Rattle.ca_quad.specs.Trees.{IsIn, ShowsSquare, AreFour}
+use Rattle.ca_quad.specs.Prelude.{digit, cells4, node_square, square_named, square_of, level, level_of, IsOf, joined_cells, cells_in, cell_of, IsSoundStore, Grows, IsIn, ShowsSquare, AreFour}
 use Rattle.ca_quad.specs.inner.IdForm.{AreCells2, AreCells4}
 use Rattle.ca_quad.proofs.Views.{named_cells4, among_cells2, among_cells4}
 use Rattle.ca_quad.proofs.Cells.{cells_stay}

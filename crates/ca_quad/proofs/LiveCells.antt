@@ -9,14 +9,10 @@ use Rattle.std.proofs.lemmas.List.Kept.{AllPairs-cons}
 use Rattle.std.proofs.lemmas.Nat.{div-mul-add, mod-mul-add, div-add-mod'}
 use Rattle.std.proofs.Math.Nat.{suc-mul, mul-le-mul_right}
 use Rattle.ca_plane.specs.declared.point.Point.{Point}
-use Rattle.ca_plane.specs.Limits.{most_cells}
-use Rattle.ca_plane.specs.Population.{HasPopulation, HasFewCells, HasTooManyCells}
+use Rattle.ca_plane.specs.Prelude.{most_cells, HasPopulation, HasFewCells, HasTooManyCells, from_corner}
 use Rattle.ca_plane.proofs.Pictures.{point-same}
-use Rattle.ca_quad.specs.declared.node.Node.{Node}
-use Rattle.ca_quad.specs.declared.tree.Tree.{Tree}
-use Rattle.ca_quad.specs.Squares.{cell_of}
-use Rattle.ca_quad.specs.Trees.{IsTree, cell}
-use Rattle.ca_plane.specs.Shown.{from_corner}
+use Rattle.ca_quad.specs.declared.{node.Node.Node, tree.Tree.Tree}
+use Rattle.ca_quad.specs.Prelude.{cell_of, IsTree, cell}
 use Rattle.ca_quad.specs.inner.Population.{sum_below, cell_population, live_cells_of_tree, IsCountOf}
 use Rattle.ca_quad.proofs.Cells.{cell_ends}
 use Rattle.ca_plane.proofs.Numbers.{below_or_not}

@@ -2,14 +2,9 @@
 use Rattle.std.proofs.Common.{◌≡◌, ℕ, suc, ◌+◌, ◌-◌, ◌≤◌, ◌^◌, inl, inr, ◌==◌, cond, Some, Option, List, length, refl, sym, ap, subst, ◌∙◌, arith}
 use Rattle.std.proofs.lemmas.Bool.{cases_Bool, eqb-true}
 use Rattle.std.proofs.Math.Nat.{two-pow-succ}
-use Rattle.ca_quad.specs.declared.node.Node.{Node}
+use Rattle.ca_quad.specs.declared.{node.Node.Node, store.extent.Extent.Extent}
 use Rattle.ca_quad.specs.declared.square.Square.TheVariants.{Four, Parts}
-use Rattle.ca_quad.specs.declared.store.extent.Extent.{Extent}
-use Rattle.ca_quad.specs.Boxes.{AreSquareBoxes}
-use Rattle.ca_quad.specs.Squares.{square_of, level, level_of, IsOf, one_cell, cell_of}
-use Rattle.ca_quad.specs.Sound.{HasParts, IsSoundStore, Grows}
-use Rattle.ca_quad.specs.SquareValues.{square_value}
-use Rattle.ca_quad.specs.Trees.{IsIn}
+use Rattle.ca_quad.specs.Prelude.{AreSquareBoxes, square_of, level, level_of, IsOf, one_cell, cell_of, HasParts, IsSoundStore, Grows, square_value, IsIn}
 use Rattle.ca_quad.specs.inner.Extent.{IsSquareExtent}
 use Rattle.ca_quad.specs.inner.Measure.{EndsWithin, IsJoined, IsMeasureOf, AreMeasures}
 use Rattle.ca_quad.proofs.Cells.{dot_ends, cell_ends, cells_stay, of_stays}

@@ -4,9 +4,7 @@ use Rattle.std.specs.List.{All}
 use Rattle.std.proofs.lemmas.List.Elements.{All-from_recursion, recursion_from_All}
 use Rattle.ca_quad.specs.declared.node.Node.{Node}
 use Rattle.ca_quad.specs.declared.square.Square.TheVariants.{Four, Parts}
-use Rattle.ca_quad.specs.Squares.{square_of, level, IsOf, one_cell, joined_cells, cell_of}
-use Rattle.ca_quad.specs.Sound.{HasParts}
-use Rattle.ca_quad.specs.Trees.{IsIn, IsEmpty, ShowsSquare, AreFour}
+use Rattle.ca_quad.specs.Prelude.{square_of, level, IsOf, one_cell, joined_cells, cell_of, HasParts, IsIn, IsEmpty, ShowsSquare, AreFour}
 use Rattle.ca_quad.specs.inner.Ring.{IsEmptySquare, no_cells, with_ring, IsRinged, IsMiddleSquare}
 use Rattle.ca_quad.specs.inner.Measure.{EndsWithin}
 use Rattle.ca_quad.proofs.Cells.{twice, dot_ends, cell_ends, together_ends, same_nw, same_ne, same_sw, same_se}

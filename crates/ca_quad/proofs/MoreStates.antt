@@ -4,9 +4,8 @@ use Rattle.std.proofs.lemmas.Bool.Decides.{nat_tests}
 use Rattle.ca_quad.specs.declared.named.IdForm.TheVariants.{Kept}
 use Rattle.ca_quad.specs.declared.node.Node.{Node}
 use Rattle.ca_quad.specs.declared.node.Node.TheVariants.{Leaf, Block, Join}
-use Rattle.ca_quad.specs.Squares.{place_id, meaning_of_id, node_square, square_named, square_of, level, IsOf, IsAmong, one_cell, joined_cells, cells_in, cell_of}
-use Rattle.ca_quad.specs.Sound.{IsStorable, node_at, IsSoundStore}
-use Rattle.ca_quad.specs.Trees.{HasMoreStates}
+use Rattle.ca_quad.specs.Prelude.{place_id, meaning_of_id, node_square, square_named, square_of, level, IsOf, IsAmong, one_cell, joined_cells, cells_in, cell_of, IsStorable, node_at, IsSoundStore}
+use Rattle.ca_quad.specs.Prelude.{HasMoreStates}
 use Rattle.ca_quad.specs.inner.Numbered.{IsKeptOtherwise}
 use Rattle.ca_quad.specs.inner.Measure.{EndsWithin}
 use Rattle.ca_quad.proofs.Cells.{at_nw, at_ne, at_sw, at_se, cell_ends, dot_ends, no_level}

@@ -10,9 +10,7 @@ use Rattle.ca_quad.specs.declared.named.IdForm.TheVariants.{Cells2}
 use Rattle.ca_quad.specs.declared.node.Node.{Node}
 use Rattle.ca_quad.specs.declared.node.Node.TheVariants.{Block}
 use Rattle.ca_quad.specs.declared.square.Square.TheVariants.{Parts}
-use Rattle.ca_quad.specs.Squares.{cells2, cells4, digit, node_square, shown_cells4, square_named, square_of, level, one_cell, joined_cells}
-use Rattle.ca_quad.specs.Sound.{IsSoundStore, HasParts}
-use Rattle.ca_quad.specs.Trees.{IsIn}
+use Rattle.ca_quad.specs.Prelude.{cells2, cells4, digit, node_square, shown_cells4, square_named, square_of, level, one_cell, joined_cells, IsSoundStore, HasParts, IsIn}
 use Rattle.ca_quad.specs.inner.Whole.{IsWhole}
 use Rattle.ca_quad.specs.inner.Population.{cell_population, population, IsPopulationIn, IsCountOf}
 use Rattle.ca_quad.specs.inner.Greatest.{IsGreatest, IsGreatestOf}

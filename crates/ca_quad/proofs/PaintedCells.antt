@@ -5,17 +5,10 @@ use Rattle.std.proofs.lemmas.Bool.{cases_Bool, cases_eq}
 use Rattle.std.proofs.lemmas.Int.{ints}
 use Rattle.std.proofs.lemmas.List.Elements.{All-append, All-nil, All-cons, All-head, All-tail}
 use Rattle.ca_plane.specs.declared.point.Point.{Point}
-use Rattle.ca_plane.specs.Change.{Sets}
-use Rattle.ca_plane.specs.Plane.{Picture, cell}
-use Rattle.ca_quad.specs.declared.node.Node.{Node}
+use Rattle.ca_plane.specs.Prelude.{Sets, Picture, cell}
+use Rattle.ca_quad.specs.declared.{node.Node.Node, store.draw.Halves.Halves, store.draw.PlacedSquare.PlacedSquare, store.to_plane.Corners.Corners, tree.Spot.Spot}
 use Rattle.ca_quad.specs.declared.square.Square.TheVariants.{Parts}
-use Rattle.ca_quad.specs.declared.store.draw.Halves.{Halves}
-use Rattle.ca_quad.specs.declared.store.draw.PlacedSquare.{PlacedSquare}
-use Rattle.ca_quad.specs.declared.store.to_plane.Corners.{Corners}
-use Rattle.ca_quad.specs.declared.tree.Spot.{Spot}
-use Rattle.ca_quad.specs.Squares.{square_of, level as level_in, level_of, one_cell}
-use Rattle.ca_quad.specs.Sound.{HasParts}
-use Rattle.ca_quad.specs.Trees.{IsIn, IsEmpty}
+use Rattle.ca_quad.specs.Prelude.{square_of, level as level_in, level_of, one_cell, HasParts, IsIn, IsEmpty}
 use Rattle.ca_quad.specs.inner.Drawn.{square_cells, cells_at_corner, ArePartCorners, Agrees, IsLiveAt, placed_cells, IsReadyToDraw, AreReady, IsLiveIn, IsLiveInRow, Paints, IsAdded, ArePushed}
 use Rattle.ca_quad.proofs.Boxes.{dead_from}
 use Rattle.ca_quad.proofs.DrawnSquares.{dot_shown, part_ends, parts_live, parts_ready}

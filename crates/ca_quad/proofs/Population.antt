@@ -3,7 +3,7 @@ use Rattle.std.proofs.Common.{◌≡◌, ℕ, zero, suc, ◌+◌, ◌-◌, ◌*�
 use Rattle.std.proofs.lemmas.Bool.{cases_Bool}
 use Rattle.std.proofs.Math.Nat.{pow-le-pow_right}
 use Rattle.ca_quad.specs.declared.node.Node.{Node}
-use Rattle.ca_quad.specs.Squares.{IsOf, joined_cells, cell_of}
+use Rattle.ca_quad.specs.Prelude.{IsOf, joined_cells, cell_of}
 use Rattle.ca_quad.specs.inner.Measure.{IsJoined}
 use Rattle.ca_quad.specs.inner.Population.{sum_below, cell_population, population, IsPopulationIn, IsCountOf}
 use Rattle.ca_quad.proofs.Cells.{at_nw, at_ne, at_sw, at_se}

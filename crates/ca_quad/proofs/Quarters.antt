@@ -2,9 +2,7 @@
 use Rattle.std.proofs.Common.{◌≡◌, ◌≢◌, ℕ, suc, zero-add, ◌+◌, ◌-◌, ◌≤◌, ◌^◌, List, length, refl, sym, ap, subst, ◌∙◌, arith}
 use Rattle.ca_quad.specs.declared.node.Node.{Node}
 use Rattle.ca_quad.specs.declared.square.Square.TheVariants.{Parts}
-use Rattle.ca_quad.specs.Squares.{square_of, level, level_of, IsOf, cell_of, joined_cells}
-use Rattle.ca_quad.specs.Sound.{HasParts}
-use Rattle.ca_quad.specs.Trees.{IsIn}
+use Rattle.ca_quad.specs.Prelude.{square_of, level, level_of, IsOf, cell_of, joined_cells, HasParts, IsIn}
 use Rattle.ca_quad.specs.inner.Difference.{AreUnequal}
 use Rattle.ca_quad.specs.inner.Window.{ShowsFrom}
 use Rattle.ca_quad.proofs.Cells.{at_nw, at_ne, at_sw, at_se}

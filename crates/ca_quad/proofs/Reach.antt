@@ -2,12 +2,8 @@
 use Rattle.std.proofs.Common.{ℕ, ◌+◌, ◌-◌, ◌≤◌, ◌^◌, inl, inr, ℤ, pos, ◌+ℤ◌, List, refl, arith}
 use Rattle.std.proofs.lemmas.Int.{ints}
 use Rattle.std.proofs.Math.Nat.{pow-le-pow_right}
-use Rattle.ca_quad.specs.declared.node.Node.{Node}
-use Rattle.ca_quad.specs.declared.tree.Tree.{Tree}
-use Rattle.ca_quad.specs.declared.tree.WideBounds.{WideBounds}
-use Rattle.ca_quad.specs.Trees.{cell, HoldsAll}
-use Rattle.ca_quad.specs.Boxes.{IsLeastWideBox}
-use Rattle.ca_quad.specs.Expanded.{FitsPlane, HasCellOutsidePlane}
+use Rattle.ca_quad.specs.declared.{node.Node.Node, tree.Tree.Tree, tree.WideBounds.WideBounds}
+use Rattle.ca_quad.specs.Prelude.{cell, HoldsAll, IsLeastWideBox, FitsPlane, HasCellOutsidePlane}
 use Rattle.ca_quad.specs.inner.Reach.{IsBoxInReach, IsBoxOutOfReach}
 use Rattle.ca_quad.proofs.Edges.{outside_x, outside_y}
 use Rattle.ca_quad.proofs.FilledSquares.{place_on}

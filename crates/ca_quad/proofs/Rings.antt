@@ -2,11 +2,9 @@
 use Rattle.std.proofs.Common.{◌==◌, if◌then◌else◌, ◌≡◌, ℕ, suc, ◌+◌, ◌-◌, ◌<◌, ◌≤◌, ◌^◌, ◌⊎◌, inl, inr, ℤ, pos, negsuc, ◌+ℤ◌, ◌<ℤ◌, List, refl, sym, ap, subst, ◌∙◌, arith}
 use Rattle.std.proofs.lemmas.Int.{ints}
 use Rattle.std.proofs.Math.Nat.{two-pow-succ}
-use Rattle.ca_quad.specs.declared.node.Node.{Node}
-use Rattle.ca_quad.specs.declared.tree.Tree.{Tree}
-use Rattle.ca_quad.specs.Squares.{joined_cells, cell_of}
-use Rattle.ca_quad.specs.Trees.{cell}
-use Rattle.ca_plane.specs.Shown.{from_corner}
+use Rattle.ca_quad.specs.declared.{node.Node.Node, tree.Tree.Tree}
+use Rattle.ca_quad.specs.Prelude.{joined_cells, cell_of, cell}
+use Rattle.ca_plane.specs.Prelude.{from_corner}
 use Rattle.ca_quad.specs.inner.Ring.{no_cells, with_ring, IsOut, IsRinged}
 use Rattle.ca_plane.proofs.Numbers.{below_or_not}
 use Rattle.ca_quad.specs.inner.Measure.{EndsWithin}

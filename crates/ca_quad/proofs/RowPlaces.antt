@@ -8,10 +8,8 @@ use Rattle.std.proofs.lemmas.List.Elements.{All-append, All-nil, All-cons, All-g
 use Rattle.std.proofs.lemmas.Map.Keys.{Less-from_sorted}
 use Rattle.std.proofs.lemmas.Option.{get_or_from_slice_get, slice_get_within}
 use Rattle.ca_plane.specs.declared.point.Point.{Point}
-use Rattle.ca_plane.specs.Plane.{Picture}
-use Rattle.ca_plane.specs.Sparse.{point_cmp, IsSparse}
-use Rattle.ca_quad.specs.declared.store.rows.Row.{Row}
-use Rattle.ca_quad.specs.declared.tree.Spot.{Spot}
+use Rattle.ca_plane.specs.Prelude.{Picture, point_cmp, IsSparse}
+use Rattle.ca_quad.specs.declared.{store.rows.Row.Row, tree.Spot.Spot}
 use Rattle.ca_quad.specs.inner.Rows.{point_at, ComesBefore, IsInRow, IsPictureRow, AreRows, HaveRowAt, IsPartOfRows, IsNorth, IsSouth}
 
 -- ---- the order of the list

@@ -2,18 +2,8 @@
 use Rattle.std.proofs.Common.{◌≡◌, ◌≢◌, ℕ, suc, ◌+◌, ◌-◌, ◌<◌, ◌≤◌, ◌^◌, ◌%◌, inl, inr, ℤ, pos, neg_ℤ, ◌+ℤ◌, ◌-ℤ◌, ◌<ℤ◌, ◌≤ℤ◌, List, [], ◌∷◌, length, mod-eq_of_lt, refl, sym, ap, subst, ◌∙◌, arith}
 use Rattle.std.proofs.lemmas.Int.{ints}
 use Rattle.std.proofs.Math.Nat.{pow-le-pow_right}
-use Rattle.ca_quad.specs.declared.neighbours.Neighbours.{Neighbours}
-use Rattle.ca_quad.specs.declared.node.Node.{Node}
-use Rattle.ca_quad.specs.declared.store.cut.Offset.{Offset}
-use Rattle.ca_quad.specs.declared.tree.Spot.{Spot}
-use Rattle.ca_quad.specs.declared.tree.Tree.{Tree}
-use Rattle.ca_quad.specs.declared.tree.WideBounds.{WideBounds}
-use Rattle.ca_quad.specs.Boxes.{IsLeastWideBox}
-use Rattle.ca_quad.specs.Expanded.{FitsPlane}
-use Rattle.ca_quad.specs.Shifted.{shifted_cells}
-use Rattle.ca_quad.specs.Sound.{IsSoundStore, Grows}
-use Rattle.ca_quad.specs.Squares.{square_of, IsOf, cell_of}
-use Rattle.ca_quad.specs.Trees.{IsTree, AreFour, AreQuarters, cell, HoldsAll, IsTrimmed}
+use Rattle.ca_quad.specs.declared.{neighbours.Neighbours.Neighbours, node.Node.Node, store.cut.Offset.Offset, tree.Spot.Spot, tree.Tree.Tree, tree.WideBounds.WideBounds}
+use Rattle.ca_quad.specs.Prelude.{IsLeastWideBox, FitsPlane, shifted_cells, IsSoundStore, Grows, square_of, IsOf, cell_of, IsTree, AreFour, AreQuarters, cell, HoldsAll, IsTrimmed}
 use Rattle.ca_quad.specs.inner.Cut.{cells_of_four, IsCut}
 use Rattle.ca_quad.specs.inner.Shifted.{IsNoFarther, IsShort, HasRoom, CanMove, shifted_box}
 use Rattle.ca_quad.specs.inner.Window.{ShowsFrom}

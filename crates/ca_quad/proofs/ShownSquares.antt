@@ -3,9 +3,7 @@ use Rattle.std.proofs.Common.{◌≡◌, ℕ, suc, Result, Ok, Err, IfOk, ◌+�
 use Rattle.std.proofs.lemmas.Bool.{cases_Bool}
 use Rattle.std.proofs.Math.Nat.{two-pow-succ}
 use Rattle.ca_quad.specs.declared.node.Node.{Node}
-use Rattle.ca_quad.specs.Squares.{IsOf, one_cell, joined_cells, cell_of}
-use Rattle.ca_quad.specs.Sound.{IsSoundStore, Grows}
-use Rattle.ca_quad.specs.Trees.{ShowsSquare, AreFour}
+use Rattle.ca_quad.specs.Prelude.{IsOf, one_cell, joined_cells, cell_of, IsSoundStore, Grows, ShowsSquare, AreFour}
 use Rattle.ca_quad.specs.inner.Ring.{no_cells, with_ring, IsRinged, Rings}
 use Rattle.ca_quad.proofs.Cells.{cells_stay, of_stays}
 use Rattle.ca_quad.proofs.Growth.{grows_on}

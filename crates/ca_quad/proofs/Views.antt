@@ -2,13 +2,11 @@
 use Rattle.std.proofs.Common.{◌≡◌, ℕ, ◌+◌, ◌-◌, ◌<◌, ◌≤◌, max, inl, inr, true, false, List, length, nat_lt, refl, sym, ap, ◌∙◌, arith}
 use Rattle.std.proofs.lemmas.Bool.{cases_Bool}
 use Rattle.std.proofs.lemmas.Bool.Decides.{nat_tests}
-use Rattle.ca_quad.specs.declared.named.IdForm.{IdForm}
+use Rattle.ca_quad.specs.declared.{named.IdForm.IdForm, node.Node.Node}
 use Rattle.ca_quad.specs.declared.named.IdForm.TheVariants.{Cells2, Cells4, Kept}
-use Rattle.ca_quad.specs.declared.node.Node.{Node}
 use Rattle.ca_quad.specs.declared.node.Node.TheVariants.{Leaf, Block, Join}
 use Rattle.ca_quad.specs.declared.square.Square.TheVariants.{Four, Parts}
-use Rattle.ca_quad.specs.Squares.{digit, cells2, cells4, meaning_of_id, place_id, node_square, square_named, square_of, level, IsAmong}
-use Rattle.ca_quad.specs.Sound.{IsStorable, node_at, IsSoundStore}
+use Rattle.ca_quad.specs.Prelude.{digit, cells2, cells4, meaning_of_id, place_id, node_square, square_named, square_of, level, IsAmong, IsStorable, node_at, IsSoundStore}
 use Rattle.ca_quad.specs.inner.Whole.{IsWhole}
 use Rattle.ca_quad.proofs.Growth.{IsBelow, named_below}
 

@@ -3,9 +3,7 @@ use Rattle.std.proofs.Common.{◌≡◌, ℕ, suc, ◌-◌, ◌<◌, ◌≤◌, 
 use Rattle.std.proofs.lemmas.Bool.{cases_Bool}
 use Rattle.ca_quad.specs.declared.node.Node.{Node}
 use Rattle.ca_quad.specs.declared.square.Square.TheVariants.{Four, Parts}
-use Rattle.ca_quad.specs.Squares.{square_of, level, IsOf, one_cell, joined_cells, cells_in, cell_of}
-use Rattle.ca_quad.specs.Sound.{IsSoundStore}
-use Rattle.ca_quad.specs.Trees.{IsEmpty}
+use Rattle.ca_quad.specs.Prelude.{square_of, level, IsOf, one_cell, joined_cells, cells_in, cell_of, IsSoundStore, IsEmpty}
 use Rattle.ca_quad.proofs.Cells.{in_nw, in_ne, in_sw, in_se, cell_ends, same_nw, same_ne, same_sw, same_se, same_cells}
 
 module _ (nodes : List Node) (id k : ℕ) (h : IsOf nodes id k) where

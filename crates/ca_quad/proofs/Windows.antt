@@ -4,10 +4,8 @@ use Rattle.std.proofs.Math.Nat.{two-pow-succ}
 use Rattle.std.proofs.lemmas.List.{get_or_past}
 use Rattle.std.proofs.lemmas.Nat.Bits.{bit_at_above, bit_at-zero}
 use Rattle.ca_quad.specs.declared.node.Node.{Node}
-use Rattle.ca_quad.specs.Squares.{cell_of, joined_cells}
-use Rattle.ca_quad.specs.Sound.{IsSoundStore, Grows}
-use Rattle.ca_quad.specs.Trees.{ShowsSquare, AreFour}
-use Rattle.ca_plane.specs.Shown.{row_cells}
+use Rattle.ca_quad.specs.Prelude.{cell_of, joined_cells, IsSoundStore, Grows, ShowsSquare, AreFour}
+use Rattle.ca_plane.specs.Prelude.{row_cells}
 use Rattle.ca_quad.specs.inner.Window.{ShowsFrom}
 use Rattle.ca_quad.proofs.Growth.{grows_on}
 use Rattle.ca_plane.proofs.Numbers.{below_or_not}

@@ -5,13 +5,9 @@ use Rattle.std.specs.Int.{bit_at, trailing_zeros, leading_zeros}
 use Rattle.std.proofs.lemmas.Nat.{leading_top}
 use Rattle.std.proofs.lemmas.Bool.{cond_below, cond_above}
 use Rattle.std.proofs.lemmas.Nat.Bits.{bit_at-zero, bit_at-lt, bit_at_and, bit_at_or, bit_at_above, bit_at_ones, bit_at_ones_above, bit_at_cat_high, bit_at-trailing_zeros}
-use Rattle.ca_quad.specs.Trees.{IsEmpty}
-use Rattle.ca_plane.specs.Shown.{word_cells}
-use Rattle.ca_quad.specs.declared.store.extent.Extent.{Extent}
-use Rattle.ca_quad.specs.declared.store.word_extent.BitEnds.{BitEnds}
-use Rattle.ca_quad.specs.declared.node.Node.{Node}
-use Rattle.ca_quad.specs.Squares.{IsOf, cell_of, level_of, level}
-use Rattle.ca_quad.specs.Sound.{IsSoundStore}
+use Rattle.ca_quad.specs.Prelude.{IsEmpty, IsOf, cell_of, level_of, level, IsSoundStore}
+use Rattle.ca_plane.specs.Prelude.{word_cells}
+use Rattle.ca_quad.specs.declared.{store.extent.Extent.Extent, store.word_extent.BitEnds.BitEnds, node.Node.Node}
 use Rattle.ca_quad.specs.inner.Numbered.{IsNumberOfNode}
 use Rattle.ca_quad.specs.inner.Bits.{place}
 use Rattle.ca_quad.specs.inner.Extent.{IsExtent, IsSquareExtent}

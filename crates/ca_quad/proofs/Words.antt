@@ -8,10 +8,8 @@ use Rattle.ca_quad.specs.declared.named.IdForm.TheVariants.{Cells2}
 use Rattle.ca_quad.specs.declared.node.Node.{Node}
 use Rattle.ca_quad.specs.declared.node.Node.TheVariants.{Block}
 use Rattle.ca_quad.specs.declared.square.Square.TheVariants.{Parts}
-use Rattle.ca_quad.specs.Squares.{digit, node_square, square_named, square_of, level, IsOf, one_cell, joined_cells, cell_of}
-use Rattle.ca_quad.specs.Sound.{IsSoundStore, HasParts}
-use Rattle.ca_quad.specs.Trees.{IsIn, ShowsSquare}
-use Rattle.ca_plane.specs.Shown.{word_cells}
+use Rattle.ca_quad.specs.Prelude.{digit, node_square, square_named, square_of, level, IsOf, one_cell, joined_cells, cell_of, IsSoundStore, HasParts, IsIn, ShowsSquare}
+use Rattle.ca_plane.specs.Prelude.{word_cells}
 use Rattle.ca_quad.specs.inner.Bits.{place}
 use Rattle.ca_quad.specs.inner.Numbered.{AreFourDigits, IsNumberOfNode}
 use Rattle.ca_quad.specs.inner.Measure.{EndsWithin}

@@ -1,7 +1,6 @@
 -- Which squares a copy of a tree adds to a store.
 use Rattle.std.specs.Prelude.{◌≡◌, ℕ, ◌<◌, ◌≤◌, ◌⊎◌, List, Some, length}
-use Rattle.ca_quad.specs.declared.node.Node.{Node}
-use Rattle.ca_quad.specs.declared.square.Square.{Square}
+use Rattle.ca_quad.specs.declared.{node.Node.Node, square.Square.Square}
 use Rattle.ca_quad.specs.declared.square.Square.TheVariants.{Four, Parts}
 use Rattle.ca_quad.specs.Squares.{place_id, square_of, level_of, cell_of}
 use Rattle.ca_quad.specs.SquareValues.{square_value}

@@ -1,8 +1,6 @@
 -- The least box round the live cells of a tree, and of a square.
 use Rattle.std.specs.Prelude.{◌≡◌, ◌≢◌, ℕ, ℤ, ◌≤ℤ◌, List, Option}
-use Rattle.ca_quad.specs.declared.node.Node.{Node}
-use Rattle.ca_quad.specs.declared.store.extent.Extent.{Extent}
-use Rattle.ca_quad.specs.declared.tree.WideBounds.{WideBounds}
+use Rattle.ca_quad.specs.declared.{node.Node.Node, store.extent.Extent.Extent, tree.WideBounds.WideBounds}
 use Rattle.ca_quad.specs.inner.Extent.{IsSquareExtent}
 use Rattle.ca_quad.specs.inner.Measure.{AreMeasures}
 

@@ -1,13 +1,9 @@
 -- Trees that are made planes, and why one is refused (the limits are our own).
 use Rattle.std.specs.Prelude.{◌≡◌, ◌≢◌, ℕ, ℤ, List}
-use Rattle.ca_plane.specs.Plane.{Picture}
+use Rattle.ca_plane.specs.Prelude.{Picture, IsInPlane, HasFewCells, HasTooManyCells}
 use Rattle.ca_plane.specs.Plane as plane
-use Rattle.ca_plane.specs.Sparse.{IsInPlane}
-use Rattle.ca_plane.specs.Population.{HasFewCells, HasTooManyCells}
-use Rattle.ca_quad.specs.declared.fault.QuadFault.{QuadFault}
+use Rattle.ca_quad.specs.declared.{fault.QuadFault.QuadFault, node.Node.Node, tree.Tree.Tree}
 use Rattle.ca_quad.specs.declared.fault.QuadFault.TheVariants.{Memory, TooManyCells, Range}
-use Rattle.ca_quad.specs.declared.node.Node.{Node}
-use Rattle.ca_quad.specs.declared.tree.Tree.{Tree}
 use Rattle.ca_quad.specs.Trees.{cell}
 
 -- every live cell lies in the square of a plane

@@ -1,3 +1,4 @@
+pub mod Prelude
 pub mod Squares
 pub mod Sound
 pub mod Trees

@@ -2,11 +2,9 @@
 -- A square of level k has 2 ^ k cells a side. Its four quarters are told in the order
 -- north-west, north-east, south-west, south-east.
 use Rattle.std.specs.Prelude.{◌≡◌, ℕ, zero, suc, ◌+◌, ◌-◌, ◌/◌, ◌%◌, ◌^◌, ◌<◌, List, length, nat_lt, ◌==◌, ◌&&◌, if◌then◌else◌, slice_index_or}
-use Rattle.ca_quad.specs.declared.named.IdForm.{IdForm}
+use Rattle.ca_quad.specs.declared.{named.IdForm.IdForm, node.Node.Node, square.Square.Square}
 use Rattle.ca_quad.specs.declared.named.IdForm.TheVariants.{Cells2, Cells4, Kept}
-use Rattle.ca_quad.specs.declared.node.Node.{Node}
 use Rattle.ca_quad.specs.declared.node.Node.TheVariants.{Leaf, Block, Join}
-use Rattle.ca_quad.specs.declared.square.Square.{Square}
 use Rattle.ca_quad.specs.declared.square.Square.TheVariants.{Four, Parts}
 
 -- an id is a number. The first 16 name the 2 by 2 squares of two states, by their cells

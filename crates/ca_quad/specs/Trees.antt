@@ -1,10 +1,8 @@
 -- What calls give: squares with stated cells, and the cells of trees on the unbounded plane.
 use Rattle.std.specs.Prelude.{◌≡◌, ◌≢◌, ℕ, suc, ◌+◌, ◌-◌, ◌*◌, ◌^◌, ◌<◌, ◌≤◌, ℤ, pos, neg_ℤ, ◌+ℤ◌, ◌<ℤ◌, ◌≤ℤ◌, List, [], ◌∷◌, length, slice_index}
-use Rattle.ca_quad.specs.declared.node.Node.{Node}
-use Rattle.ca_quad.specs.declared.square.Square.{Square}
+use Rattle.ca_quad.specs.declared.{node.Node.Node, square.Square.Square, tree.Tree.Tree}
 use Rattle.ca_quad.specs.declared.square.Square.TheVariants.{Four, Parts}
-use Rattle.ca_quad.specs.declared.tree.Tree.{Tree}
-use Rattle.ca_plane.specs.Shown.{from_corner}
+use Rattle.ca_plane.specs.Prelude.{from_corner}
 use Rattle.ca_quad.specs.Squares.{place_id, level_of, IsOf, one_cell, joined_cells, cell_of}
 
 -- the id is one of these nodes' squares

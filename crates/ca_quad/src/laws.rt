@@ -1,8 +1,7 @@
 //! Laws of the squares of a store, over the definitions alone.
 
 ghost use Rattle.std.specs.Prelude.{◌≡◌, ℕ, ◌↔◌, List, Option};
-ghost use Rattle.ca_quad.specs.declared.node.Node.{Node};
-ghost use Rattle.ca_quad.specs.declared.store.extent.Extent.{Extent};
+ghost use Rattle.ca_quad.specs.declared.{node.Node.Node, store.extent.Extent.Extent};
 ghost use Rattle.ca_quad.specs.Squares.{IsOf};
 ghost use Rattle.ca_quad.specs.Sound.{IsSoundStore, Grows};
 ghost use Rattle.ca_quad.specs.Boxes.{AreSquareBoxes};

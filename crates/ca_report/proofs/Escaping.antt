@@ -3,10 +3,9 @@ use Rattle.std.proofs.Common.{◌≡◌, ℕ, suc, ◌+◌, ◌<◌, List, [], �
 use Rattle.std.proofs.Math.Seq.{take-suc}
 use Rattle.std.proofs.lemmas.Bool.{cases_Bool, false≢true}
 use Rattle.std.specs.Io.KnownBytes.{Appends}
-use Rattle.ca_plane.specs.Device.{Counted}
-use Rattle.ca_report.specs.Writing.{Sends}
+use Rattle.ca_plane.specs.Prelude.{Counted}
+use Rattle.ca_report.specs.Prelude.{Sends, is_control_pair, escaped}
 use Rattle.ca_report.proofs.InPieces.{sends_part, sends_later}
-use Rattle.ca_report.specs.Escaped.{is_control_pair, escaped}
 use Rattle.ca_report.specs.inner.Parts.{begins_with_control}
 
 -- a first byte that begins no control character stays

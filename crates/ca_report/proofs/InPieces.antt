@@ -5,9 +5,9 @@ use Rattle.std.specs.Io.KnownBytes.{Appends}
 use Rattle.std.proofs.Math.Seq.{take-suc}
 use Rattle.std.proofs.lemmas.List.{drop_all, append-nil}
 use Rattle.std.proofs.lemmas.List.Concat.{flat_map-append}
-use Rattle.ca_plane.specs.Device.{Counted, Rises, AppendsPrefix}
+use Rattle.ca_plane.specs.Prelude.{Counted, Rises, AppendsPrefix}
 use Rattle.ca_plane.proofs.Sends.{sent_both, prefix_of_first, prefix_of_second}
-use Rattle.ca_report.specs.Writing.{Sends}
+use Rattle.ca_report.specs.Prelude.{Sends}
 
 -- the pieces before one, that piece, and those after it
 flat_map_around : {X : Type 0} (f : X → List ℕ) (xs : List X) (i : ℕ) (d : X) → i < length xs → flat_map f xs ≡ flat_map f (take i xs) ++ (f (get_or xs i d) ++ flat_map f (drop (suc i) xs))

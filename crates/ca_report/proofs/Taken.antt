@@ -3,7 +3,7 @@ use Rattle.std.proofs.Common.{ℕ, ◌+◌, ◌<◌, ◌≤◌, List, ◌++◌, 
 use Rattle.std.specs.Io.KnownBytes.{Consumes}
 use Rattle.std.proofs.KnownBytes.{Consumes-trans}
 use Rattle.std.proofs.lemmas.List.{length-append}
-use Rattle.ca_report.specs.Reading.{max_file, GivesSome}
+use Rattle.ca_report.specs.Prelude.{max_file, GivesSome}
 
 -- bytes came, and then a piece: together they came, and are as long as both
 pub with_piece : (old mid new : Option (List ℕ)) (bytes piece : List ℕ) (Within : ℕ → Type 0) → Consumes old mid bytes → Consumes mid new piece → Within (length bytes + length piece) → (all : List ℕ) × Within (length all) × Consumes old new all

@@ -3,11 +3,10 @@ use Rattle.std.specs.Prelude.{ℕ, List, [], ◌∷◌, ◌++◌, Option, None, 
 use Rattle.std.specs.declared.alloc.Global.{Global}
 use Rattle.std.specs.Str.{bytes_eq}
 use Rattle.ca_rule.specs.declared.table.fault.TableFault.{TableFault}
-use Rattle.ca_report.specs.declared.absence.Absence.{Absence}
+use Rattle.ca_report.specs.declared.absence.{Absence.Absence, MissingFile.MissingFile}
 use Rattle.ca_report.specs.declared.absence.Absence.TheVariants as absences
-use Rattle.ca_report.specs.declared.absence.MissingFile.{MissingFile}
 use Rattle.ca_report.specs.Escaped.{escaped}
-use Rattle.ca_pattern.specs.FaultTexts.{table_line}
+use Rattle.ca_pattern.specs.Prelude.{table_line}
 
 -- on which line a file is faulty, where it has such a line
 abbrev pub at_line : Option ℕ → List ℕ

@@ -1,3 +1,4 @@
+pub mod Prelude
 pub mod Counts
 pub mod Escaped
 pub mod FileLines

@@ -1,7 +1,7 @@
 -- What a call that reads a file takes of its device.
 use Rattle.std.specs.Prelude.{◌≡◌, ◌≢◌, ℕ, ◌+◌, ◌<◌, ◌≤◌, ◌^◌, List, length, Option, Result, Err, IsErrOf}
 use Rattle.std.specs.Io.KnownBytes.{Consumes, IsAtEnd}
-use Rattle.ca_plane.specs.Device.{Counted, Rises}
+use Rattle.ca_plane.specs.Prelude.{Counted, Rises}
 
 -- the greatest length of a file: 67108864 bytes
 abbrev pub max_file : ℕ

@@ -7,15 +7,13 @@ use Rattle.ca_rle.specs.declared.fault.RleFault.TheVariants as rle
 use Rattle.ca_macro.specs.declared.fault.MacroFault.TheVariants as macrocell
 use Rattle.ca_rule.specs.declared.fault.RuleFault.{RuleFault}
 use Rattle.ca_rule.specs.declared.fault.RuleFault.TheVariants as rules
-use Rattle.ca_pattern.specs.declared.file.File.{File}
-use Rattle.ca_pattern.specs.declared.pattern_fault.PatternFault.{PatternFault}
+use Rattle.ca_pattern.specs.declared.{file.File.File, pattern_fault.PatternFault.PatternFault}
 use Rattle.ca_pattern.specs.declared.pattern_fault.PatternFault.TheVariants as patterns
 use Rattle.ca_answers.specs.declared.cause.Cause.{Cause}
 use Rattle.ca_answers.specs.declared.cause.Cause.TheVariants as causes
 use Rattle.ca_pattern.specs.declared.convert_fault.ConvertFault.TheVariants as converts
-use Rattle.ca_report.specs.declared.fault.ToolFault.{ToolFault}
+use Rattle.ca_report.specs.declared.{fault.ToolFault.ToolFault, remedy.Remedy.Remedy}
 use Rattle.ca_report.specs.declared.fault.ToolFault.TheVariants as tools
-use Rattle.ca_report.specs.declared.remedy.Remedy.{Remedy}
 use Rattle.ca_report.specs.declared.remedy.Remedy.TheVariants.{DropMark, Unpack, Import, BreakLines, WriteHeader, WriteEnd, FindByte, MoveRule, MendState, NameFolder, CutRule, SavePlane, ClaimBecomes, ToMacrocell, AllowWork}
 use Rattle.ca_report.specs.Escaped.{escaped}
 use Rattle.ca_report.specs.RulePaths.{is_file_name}

@@ -1,7 +1,7 @@
 -- What a call that writes does to its device, whose writer tells its bytes by `contents`.
 use Rattle.std.specs.Prelude.{◌≡◌, ◌≢◌, ℕ, List, Option, Result, IfOk, IfErr, OnOk, OnErr, IsErrOf}
 use Rattle.std.specs.Io.KnownBytes.{Appends}
-use Rattle.ca_plane.specs.Device.{Counted, Rises, AppendsPrefix}
+use Rattle.ca_plane.specs.Prelude.{Counted, Rises, AppendsPrefix}
 use Rattle.ca_report.specs.declared.fault.ToolFault.{ToolFault}
 use Rattle.ca_report.specs.declared.fault.ToolFault.TheVariants.{Write}
 

@@ -1,7 +1,7 @@
 //! Numbers in words, which several texts have.
 
 ghost use Rattle.std.specs.Prelude.{◌≡◌, ◌++◌, decimal, OnOk};
-ghost use Rattle.ca_plane.specs.Puts.{Puts};
+ghost use Rattle.ca_plane.specs.Prelude.{Puts};
 ghost use Rattle.std.specs.Fmt.{signed_decimal};
 ghost use Rattle.ca_report.specs.Counts.{side_length, generations_word};
 

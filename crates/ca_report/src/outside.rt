@@ -1,9 +1,8 @@
 //! Paths that are looked for in a folder, and those that may lead out of it.
 
 ghost use Rattle.std.specs.Prelude.{◌≡◌, true, false, IfOk, OnOk, OnErr, MatchOption};
-ghost use Rattle.ca_plane.specs.Puts.{Puts};
-ghost use Rattle.ca_report.specs.Outside.{is_absolute, begins_with_parent, has_later_parent, lies_outside};
-ghost use Rattle.ca_report.specs.Outside.{path_in};
+ghost use Rattle.ca_plane.specs.Prelude.{Puts};
+ghost use Rattle.ca_report.specs.Outside.{is_absolute, begins_with_parent, has_later_parent, lies_outside, path_in};
 
 use crate::in_pieces;
 use crate::pieces::push_pieces;

@@ -2,9 +2,8 @@
 
 ghost use Rattle.std.specs.Prelude.{◌≡◌};
 ghost use Rattle.std.specs.List.{list_all};
-ghost use Rattle.ca_report.specs.Remedies.{unread_remedy, pattern_remedy, rule_remedy, cause_remedy};
-ghost use Rattle.ca_report.specs.Remedies.{run_remedy, file_at, bytes_of, rule_name, remedy_text, remedy_line};
-ghost use Rattle.ca_report.specs.Remedies.{is_plain_byte, file_word};
+ghost use Rattle.ca_report.specs.Remedies.{unread_remedy, pattern_remedy, rule_remedy, cause_remedy, run_remedy, file_at};
+ghost use Rattle.ca_report.specs.Remedies.{bytes_of, rule_name, remedy_text, remedy_line, is_plain_byte, file_word};
 ghost use Rattle.ca_report.specs.Pieces.{pieces_text};
 
 use crate::fault::ToolFault;

@@ -1,7 +1,7 @@
 //! Rule files that are looked for in a folder.
 
 ghost use Rattle.std.specs.Prelude.{◌≡◌, true, false, IfOk, OnOk, OnErr, MatchOption};
-ghost use Rattle.ca_plane.specs.Puts.{Puts};
+ghost use Rattle.ca_plane.specs.Prelude.{Puts};
 ghost use Rattle.ca_report.specs.RulePaths.{has_two_dots, is_file_name, rule_path};
 
 use crate::in_pieces;

@@ -2,11 +2,10 @@
 use Rattle.std.proofs.Common.{◌≡◌, ℕ, ◌<◌, ◌≤◌, ◌^◌, inl, inr, true, List, [], ◌∷◌, ◌++◌, drop, codes, nat_eq, refl, sym, ap, ap₂, subst, ◌∙◌, true≢false, arith}
 use Rattle.std.specs.List.{AllZip, starts_with}
 use Rattle.std.proofs.lemmas.List.{append_cancel_left}
-use Rattle.ca_plane.specs.Bytes.{value}
+use Rattle.ca_plane.specs.Prelude.{value}
 use Rattle.ca_rle.specs.declared.fault.RleFault.{RleFault}
 use Rattle.ca_rle.specs.declared.fault.RleFault.TheVariants.{Syntax, GenTooLarge}
-use Rattle.ca_rle.specs.Header.{extended_words, CxrleWord, Corner, Generation, Nothing, WordSays}
-use Rattle.ca_rle.specs.Faults.{IsBadWord, HasBadWord}
+use Rattle.ca_rle.specs.Prelude.{extended_words, CxrleWord, Corner, Generation, Nothing, WordSays, IsBadWord, HasBadWord}
 use Rattle.ca_rle.proofs.OneHeader.{begins_gen}
 use Rattle.ca_rle.proofs.OnePlace.{IsGood, EndsPreamble, one_place}
 

@@ -5,11 +5,9 @@ use Rattle.std.specs.Ordering.{int_eq}
 use Rattle.std.specs.List.{range_with_len}
 use Rattle.std.proofs.lemmas.Bool.{cases_Bool, cases_eq, and_parts, false≢true}
 use Rattle.std.proofs.lemmas.Bool.Decides.{Decides-int_eq}
-use Rattle.ca_plane.specs.BitPlane.{AddsRun, bit_cell}
-use Rattle.ca_plane.specs.declared.bit_plane.CellWord.{CellWord}
-use Rattle.ca_plane.specs.declared.point.Point.{Point}
-use Rattle.ca_plane.specs.Plane.{Picture, cell, IsSame}
-use Rattle.ca_rle.specs.Shown.{run_of}
+use Rattle.ca_plane.specs.Prelude.{AddsRun, bit_cell, Picture, cell, IsSame}
+use Rattle.ca_plane.specs.declared.{bit_plane.CellWord.CellWord, point.Point.Point}
+use Rattle.ca_rle.specs.Prelude.{run_of}
 use Rattle.ca_rle.specs.inner.Extent.{drawn_over}
 
 -- cells drawn over those of a picture stand before it

@@ -7,16 +7,11 @@ use Rattle.std.proofs.lemmas.Int.{ints}
 use Rattle.std.proofs.lemmas.List.{append-nil}
 use Rattle.std.proofs.lemmas.List.Elements.{All-append, All-nil}
 use Rattle.ca_plane.specs.declared.point.Point.{Point}
-use Rattle.ca_plane.specs.Plane.{Picture, IsPicture, cell, IsSame}
+use Rattle.ca_plane.specs.Prelude.{Picture, IsPicture, cell, IsSame, IsInRange}
 use Rattle.ca_plane.proofs.Pictures.{point-same}
-use Rattle.ca_rle.specs.declared.extent.Offset.{Offset}
-use Rattle.ca_rle.specs.declared.item.Item.{Item}
-use Rattle.ca_rle.specs.declared.item.Tag.{Tag}
+use Rattle.ca_rle.specs.declared.{extent.Offset.Offset, item.Item.Item, item.Tag.Tag}
 use Rattle.ca_rle.specs.declared.item.Tag.TheVariants.{Cell, RowEnd}
-use Rattle.ca_rle.specs.Items.{Run, IsEnd, Items}
-use Rattle.ca_rle.specs.Shown.{ends_row, tag_state, greatest_state, row_count, columns_of, place_after, item_cells, picture_after, picture_of_items}
-use Rattle.ca_rle.specs.Limits.{IsRleWithinRange}
-use Rattle.ca_plane.specs.Limits.{IsInRange}
+use Rattle.ca_rle.specs.Prelude.{Run, IsEnd, Items, ends_row, tag_state, greatest_state, row_count, columns_of, place_after, item_cells, picture_after, picture_of_items, IsRleWithinRange}
 use Rattle.ca_rle.specs.inner.BodyFaults.{bare_file, with_capped_count, IsItemAtFront}
 use Rattle.ca_rle.specs.inner.Extent.{IsOffsetOf, point_from, HasRoomRight, cells_from, drawn_over}
 use Rattle.ca_rle.proofs.PushedItems.{greatest_state-append, greatest_state-push, row_count-push, columns_of-push, picture_after-push, picture_after-append, Run-push, counts_low}

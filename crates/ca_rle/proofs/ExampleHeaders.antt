@@ -1,13 +1,10 @@
 -- The parts of the worked examples: a header, a bad item after one, a bad word before one, and a header that is missing.
 use Rattle.std.proofs.Common.{◌≡◌, ℕ, List, [], ◌∷◌, ◌++◌, Option, Some, None, inl, inr, IsTrue, refl, ◌⊎◌, false, true}
 use Rattle.std.specs.List.{flat_map, AllZip, AllByRecursion}
-use Rattle.ca_plane.specs.Bytes.{is_blank, is_line_end, is_end_or, IsWord}
-use Rattle.ca_rle.specs.declared.fault.RleFault.{RleFault}
-use Rattle.ca_rle.specs.declared.item.Item.{Item}
-use Rattle.ca_rle.specs.Items.{Run}
-use Rattle.ca_rle.specs.Header.{size_parts, rule_parts, is_front_line, extended_words, IsHeader, CxrleWord, WordSays}
-use Rattle.ca_rle.specs.File.{IsLine, line_with_lf, IsPreamble, FollowsPreamble, IsHeaded}
-use Rattle.ca_rle.specs.Faults.{item_fault, IsBadWord, HasBadWord, HasNoHeader, HasBadItem}
+use Rattle.ca_plane.specs.Prelude.{is_blank, is_line_end, is_end_or, IsWord}
+use Rattle.ca_rle.specs.declared.{fault.RleFault.RleFault, item.Item.Item}
+use Rattle.ca_rle.specs.Prelude.{Run, size_parts, rule_parts, is_front_line, extended_words, IsHeader, CxrleWord, WordSays, IsLine, line_with_lf, IsPreamble, FollowsPreamble, IsHeaded, item_fault}
+use Rattle.ca_rle.specs.Prelude.{IsBadWord, HasBadWord, HasNoHeader, HasBadItem}
 use Rattle.ca_rle.specs.inner.HeaderParts.{parts_left}
 use Rattle.ca_rle.proofs.Headers.{spaced_found, header_found}
 

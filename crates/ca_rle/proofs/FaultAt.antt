@@ -2,11 +2,7 @@
 use Rattle.std.proofs.Common.{◌≡◌, ℕ, List, Option, true, inr, sym, true≢false}
 use Rattle.ca_rle.specs.declared.fault.RleFault.{RleFault}
 use Rattle.ca_rle.specs.declared.fault.RleFault.TheVariants.{Syntax, NoEnd, BadState}
-use Rattle.ca_rle.specs.Items.{InLine}
-use Rattle.ca_rle.specs.Header.{CxrleWord}
-use Rattle.ca_rle.specs.File.{IsHeaded}
-use Rattle.ca_rle.specs.Faults.{after_white}
-use Rattle.ca_rle.specs.FaultyLine.{HasBadItemAt, IsFirstFaultAt}
+use Rattle.ca_rle.specs.Prelude.{InLine, CxrleWord, IsHeaded, after_white, HasBadItemAt, IsFirstFaultAt}
 use Rattle.ca_rle.specs.inner.BodyFaults.{HasBadUnitAt}
 use Rattle.ca_rle.proofs.FileOrFault.{is_of_item, item_fault_kind}
 

@@ -6,13 +6,11 @@ use Rattle.std.proofs.lemmas.Bool.{and_parts, not-true}
 use Rattle.std.proofs.lemmas.List.{length-append}
 use Rattle.std.proofs.lemmas.List.Sums.{sum_by-append}
 use Rattle.std.proofs.Math.Seq.{take-append_seam}
-use Rattle.ca_plane.specs.Bytes.{is_line_end, with_front, lines_of}
+use Rattle.ca_plane.specs.Prelude.{is_line_end, with_front, lines_of}
 use Rattle.ca_rle.specs.declared.fault.RleFault.{RleFault}
 use Rattle.ca_rle.specs.declared.fault.RleFault.TheVariants.{Syntax, Header, XlifeRule, NoEnd, BadState, GenTooLarge, Range, TooManyCells, Memory}
-use Rattle.ca_rle.specs.Items.{InLine}
-use Rattle.ca_rle.specs.File.{IsLine, line_with_lf}
-use Rattle.ca_rle.specs.Faults.{after_white, HasBadWord, HasBadItem, IsFirstRleFault, IsRleFault}
-use Rattle.ca_rle.specs.FaultyLine.{HasBadWordAt, HasBadItemAt, IsFirstFaultAt, IsFirstRleFaultOn, IsFaultyRleLine, IsRleFaultOn, line_number_of}
+use Rattle.ca_rle.specs.Prelude.{InLine, IsLine, line_with_lf, after_white, HasBadWord, HasBadItem, IsFirstRleFault, IsRleFault, HasBadWordAt, HasBadItemAt, IsFirstFaultAt, IsFirstRleFaultOn}
+use Rattle.ca_rle.specs.Prelude.{IsFaultyRleLine, IsRleFaultOn, line_number_of}
 use Rattle.ca_rle.proofs.OnePlace.{EndsPreamble, one_place, xlife_place, no_header_place}
 use Rattle.ca_rle.proofs.BadWord.{bad_word_place}
 use Rattle.ca_rle.proofs.OneFault.{bad_word_or_header, header_of_headed, one_bad_place, one_first_fault, one_fault}

@@ -4,16 +4,12 @@ use Rattle.std.specs.List.{flat_map, AllZip}
 use Rattle.std.proofs.lemmas.Bool.{cases_Bool, cond_both}
 use Rattle.std.proofs.lemmas.Grind.{flat_map-append}
 use Rattle.std.proofs.lemmas.List.{length-append}
-use Rattle.ca_plane.specs.Bytes.{is_digit, is_line_end, front, rest, value}
+use Rattle.ca_plane.specs.Prelude.{is_digit, is_line_end, front, rest, value}
 use Rattle.ca_plane.proofs.Lines.{line_ends_by_lf}
-use Rattle.ca_rle.specs.declared.fault.RleFault.{RleFault}
+use Rattle.ca_rle.specs.declared.{fault.RleFault.RleFault, item.Item.Item, item.Tag.Tag}
 use Rattle.ca_rle.specs.declared.fault.RleFault.TheVariants.{Syntax, Header, XlifeRule, NoEnd, BadState, GenTooLarge}
-use Rattle.ca_rle.specs.declared.item.Item.{Item}
-use Rattle.ca_rle.specs.declared.item.Tag.{Tag}
-use Rattle.ca_rle.specs.Items.{InLine, is_letter, is_prefix, prefixed_state, tag_of, IsItem, Items}
-use Rattle.ca_rle.specs.Header.{IsHeader, is_front_line, extended_words, CxrleWord, WordSays}
-use Rattle.ca_rle.specs.File.{RleFile, line_with_lf, IsPreamble, FollowsPreamble, IsHeaded, IsRleFile}
-use Rattle.ca_rle.specs.Faults.{after_white, letter_fault, tag_fault, count_fault, item_fault, HasBadWord, HasBadItem, IsFirstRleFault}
+use Rattle.ca_rle.specs.Prelude.{InLine, is_letter, is_prefix, prefixed_state, tag_of, IsItem, Items, IsHeader, is_front_line, extended_words, CxrleWord, WordSays, RleFile, line_with_lf, IsPreamble}
+use Rattle.ca_rle.specs.Prelude.{FollowsPreamble, IsHeaded, IsRleFile, after_white, letter_fault, tag_fault, count_fault, item_fault, HasBadWord, HasBadItem, IsFirstRleFault}
 use Rattle.ca_rle.specs.inner.BodyFaults.{HasBadUnit}
 use Rattle.ca_plane.proofs.Fronts.{front_then_rest}
 use Rattle.ca_rle.proofs.OneHeader.{no_comment}

@@ -1,12 +1,9 @@
 -- What a file holds: its parts, of which the generation is below 2^63 and the rule text is a word.
 use Rattle.std.proofs.Common.{ℕ, ◌<◌, ◌^◌, List, [], ◌∷◌, Option, Some, None, unwrap_or, refl, sym, subst, arith}
 use Rattle.std.specs.List.{AllZip}
-use Rattle.ca_plane.specs.Limits.{default_rule}
-use Rattle.ca_plane.specs.Bytes.{IsWord}
+use Rattle.ca_plane.specs.Prelude.{default_rule, IsWord}
 use Rattle.ca_rle.specs.declared.item.Item.{Item}
-use Rattle.ca_rle.specs.Header.{IsHeader, CxrleWord, Corner, Generation, Nothing, WordSays}
-use Rattle.ca_rle.specs.Items.{Items}
-use Rattle.ca_rle.specs.File.{RleFile, corner_of, last_word_generation, generation_of, IsHeaded, IsRleFile}
+use Rattle.ca_rle.specs.Prelude.{IsHeader, CxrleWord, Corner, Generation, Nothing, WordSays, Items, RleFile, corner_of, last_word_generation, generation_of, IsHeaded, IsRleFile}
 
 -- what lines before a header, the header's rule and the items say
 abbrev pub file_of : List CxrleWord → Option (List ℕ) → List Item → RleFile

@@ -4,15 +4,12 @@ use Rattle.std.specs.Option.{IsNone, IfSome}
 use Rattle.std.proofs.lemmas.Int.{ints}
 use Rattle.std.specs.List.{All}
 use Rattle.std.proofs.lemmas.List.Elements.{All-contains}
-use Rattle.ca_plane.specs.declared.point.Point.{Point}
-use Rattle.ca_plane.specs.declared.point.Bounds.{Bounds}
-use Rattle.ca_plane.specs.Plane.{Picture, IsLive, cell}
-use Rattle.ca_plane.specs.Box.{IsLeastBox}
+use Rattle.ca_plane.specs.declared.point.{Point.Point, Bounds.Bounds}
+use Rattle.ca_plane.specs.Prelude.{Picture, IsLive, cell, IsLeastBox, IsInRange}
 use Rattle.ca_plane.proofs.Pictures.{Contains-cell}
-use Rattle.ca_plane.specs.Limits.{IsInRange}
 use Rattle.ca_rle.specs.inner.Boxes.{IsBoxInRange, AreBounds}
 use Rattle.ca_rle.specs.inner.RunByRun.{IsCorner}
-use Rattle.ca_rle.specs.Tidy.{IsFrame}
+use Rattle.ca_rle.specs.Prelude.{IsFrame}
 
 -- the place of a live cell is in range
 live_in_range : (p : Picture) (x y : ℤ) → All (λ e. IsInRange e.0) p → cell p x y ≢ 0 → IsInRange (record { y = y; x = x })

@@ -4,14 +4,12 @@ use Rattle.std.specs.List.{AllZip, flat_map, list_all}
 use Rattle.std.proofs.lemmas.Bool.{both_ways, not-true, not-false, eqb-true}
 use Rattle.std.proofs.lemmas.Grind.{flat_map-append}
 use Rattle.std.proofs.lemmas.List.{append-nil, nil_from_length}
-use Rattle.ca_plane.specs.Bytes.{is_line_end, is_end_or, front, rest}
+use Rattle.ca_plane.specs.Prelude.{is_line_end, is_end_or, front, rest}
 use Rattle.ca_plane.proofs.Fronts.{front_then_rest, every_front, rest_ends, front_length}
 use Rattle.ca_rle.specs.declared.fault.RleFault.{RleFault}
 use Rattle.ca_rle.specs.declared.fault.RleFault.TheVariants.{Syntax, GenTooLarge}
-use Rattle.ca_rle.specs.Header.{is_front_line, extended_words, CxrleWord, WordSays}
-use Rattle.ca_rle.specs.File.{IsLine, line_with_lf, IsPreamble, FollowsPreamble}
-use Rattle.ca_rle.specs.Faults.{HasBadWordAmong, HasBadWord, HasNoHeader}
-use Rattle.ca_rle.specs.FaultyLine.{HasNoHeaderAt, IsFirstFaultAt}
+use Rattle.ca_rle.specs.Prelude.{is_front_line, extended_words, CxrleWord, WordSays, IsLine, line_with_lf, IsPreamble, FollowsPreamble, HasBadWordAmong, HasBadWord, HasNoHeader, HasNoHeaderAt}
+use Rattle.ca_rle.specs.Prelude.{IsFirstFaultAt}
 use Rattle.ca_rle.proofs.OneHeader.{no_comment}
 
 -- the bytes of a line

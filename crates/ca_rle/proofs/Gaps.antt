@@ -6,11 +6,9 @@ use Rattle.std.proofs.lemmas.Int.{ints}
 use Rattle.std.proofs.lemmas.List.{append-nil}
 use Rattle.ca_plane.specs.declared.point.Point.{Point}
 use Rattle.ca_plane.proofs.Pictures.{point-same}
-use Rattle.ca_rle.specs.declared.item.Item.{Item}
-use Rattle.ca_rle.specs.declared.item.Tag.{Tag}
+use Rattle.ca_rle.specs.declared.item.{Item.Item, Tag.Tag}
 use Rattle.ca_rle.specs.declared.item.Tag.TheVariants.{Cell, RowEnd}
-use Rattle.ca_rle.specs.Shown.{tag_state, row_count, columns_of, run_of, place_after, picture_of_items}
-use Rattle.ca_rle.specs.Tidy.{AreTidy}
+use Rattle.ca_rle.specs.Prelude.{tag_state, row_count, columns_of, run_of, place_after, picture_of_items, AreTidy}
 use Rattle.ca_rle.specs.inner.Written.{some_of, IsItemGap}
 use Rattle.ca_rle.specs.inner.RunByRun.{AreBefore}
 use Rattle.ca_rle.proofs.PushedItems.{row_count-push, columns_of-push, picture_after-push}

@@ -3,14 +3,11 @@ use Rattle.std.proofs.Common.{◌≡◌, ℕ, ◌<◌, ◌⊎◌, inl, inr, Bool
 use Rattle.std.proofs.lemmas.Bool.{cond_both}
 use Rattle.std.proofs.lemmas.Bool.Decides.{nat_tests}
 use Rattle.std.proofs.lemmas.Option.{none-some}
-use Rattle.ca_plane.specs.Bytes.{is_digit, front, rest, value}
-use Rattle.ca_rle.specs.declared.fault.RleFault.{RleFault}
+use Rattle.ca_plane.specs.Prelude.{is_digit, front, rest, value}
+use Rattle.ca_rle.specs.declared.{fault.RleFault.RleFault, item.Item.Item, item.Tag.Tag}
 use Rattle.ca_rle.specs.declared.fault.RleFault.TheVariants.{Syntax, NoEnd, BadState}
-use Rattle.ca_rle.specs.declared.item.Item.{Item}
-use Rattle.ca_rle.specs.declared.item.Tag.{Tag}
 use Rattle.ca_rle.specs.declared.item.Tag.TheVariants.{Cell}
-use Rattle.ca_rle.specs.Items.{InLine, is_letter, is_prefix, prefixed_state, tag_of, Run, IsEnd}
-use Rattle.ca_rle.specs.Faults.{after_white, letter_fault, tag_fault, count_fault, item_fault}
+use Rattle.ca_rle.specs.Prelude.{InLine, is_letter, is_prefix, prefixed_state, tag_of, Run, IsEnd, after_white, letter_fault, tag_fault, count_fault, item_fault}
 use Rattle.ca_plane.proofs.Fronts.{front_then_rest}
 use Rattle.ca_rle.proofs.White.{Stops_above, after_white_is}
 use Rattle.ca_rle.proofs.ItemAt.{tag_byte, tag_at_is, count_of, item_at}

@@ -4,11 +4,10 @@ use Rattle.std.specs.List.{list_all}
 use Rattle.std.proofs.lemmas.Bool.{and_parts, and_from, eqb-true, eqb-false}
 use Rattle.std.proofs.lemmas.List.{nil_from_length}
 use Rattle.std.proofs.lemmas.Option.{same_Some}
-use Rattle.ca_plane.specs.Bytes.{is_blank, is_line_end, is_word_byte, front, rest, is_end_or}
+use Rattle.ca_plane.specs.Prelude.{is_blank, is_line_end, is_word_byte, front, rest, is_end_or}
 use Rattle.ca_plane.proofs.Lines.{ends_by_blank}
-use Rattle.ca_rle.specs.Header.{Part, Exactly, size_parts, rule_parts, IsHeader}
+use Rattle.ca_rle.specs.Prelude.{Part, Exactly, size_parts, rule_parts, IsHeader, IsLine}
 use Rattle.ca_rle.specs.inner.HeaderParts.{strip, part_left, parts_left}
-use Rattle.ca_rle.specs.File.{IsLine}
 use Rattle.ca_plane.proofs.Fronts.{every_front, every_right, every_rest, rest_ends, front_then_rest}
 use Rattle.ca_rle.proofs.Headers.{strip_is, strip_found, then_some_of, parts_found, spaced_found, header_found, has_more, no_header}
 use Rattle.ca_rle.proofs.OneHeader.{parts_append}

@@ -4,10 +4,9 @@ use Rattle.std.specs.List.{AllZip, list_all}
 use Rattle.std.proofs.lemmas.Bool.{and_parts}
 use Rattle.std.proofs.lemmas.Bool.Decides.{nat_tests}
 use Rattle.std.proofs.lemmas.Option.{none-some, same_Some}
-use Rattle.ca_plane.specs.Bytes.{Every, is_blank, is_line_end, is_digit, is_word_byte, IsWord, AreDigits, front, rest, is_end_or}
-use Rattle.ca_rle.specs.Header.{Part, Exactly, Number, IsHeaderPart, IsSpaced, size_parts, rule_parts, IsHeader}
+use Rattle.ca_plane.specs.Prelude.{Every, is_blank, is_line_end, is_digit, is_word_byte, IsWord, AreDigits, front, rest, is_end_or}
+use Rattle.ca_rle.specs.Prelude.{Part, Exactly, Number, IsHeaderPart, IsSpaced, size_parts, rule_parts, IsHeader, IsLine}
 use Rattle.ca_rle.specs.inner.HeaderParts.{strip, left_after, part_left, parts_left}
-use Rattle.ca_rle.specs.File.{IsLine}
 use Rattle.ca_plane.proofs.Fronts.{every_wider, every_front, front_append, rest_append, front_then_rest}
 
 -- pieces one after another, each after its blanks

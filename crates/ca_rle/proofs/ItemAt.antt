@@ -3,11 +3,9 @@ use Rattle.std.proofs.Common.{◌≡◌, ℕ, ◌<◌, ◌⊎◌, true, false, c
 use Rattle.std.specs.List.{list_all}
 use Rattle.std.proofs.lemmas.Bool.{and_parts}
 use Rattle.std.proofs.lemmas.Bool.Decides.{nat_tests}
-use Rattle.ca_plane.specs.Bytes.{is_digit, is_end_or, front, rest, value, AreDigits}
-use Rattle.ca_rle.specs.declared.item.Item.{Item}
-use Rattle.ca_rle.specs.declared.item.Tag.{Tag}
-use Rattle.ca_rle.specs.Items.{InLine, IsWhite, is_prefix, tag_of, IsCount, IsItem, IsEnd}
-use Rattle.ca_rle.specs.Faults.{after_white}
+use Rattle.ca_plane.specs.Prelude.{is_digit, is_end_or, front, rest, value, AreDigits}
+use Rattle.ca_rle.specs.declared.item.{Item.Item, Tag.Tag}
+use Rattle.ca_rle.specs.Prelude.{InLine, IsWhite, is_prefix, tag_of, IsCount, IsItem, IsEnd, after_white}
 use Rattle.ca_plane.proofs.Fronts.{front_append, rest_append}
 use Rattle.ca_rle.proofs.White.{Stops, Stops_above, after_white_is, IsWhite-append, no_digit_after}
 

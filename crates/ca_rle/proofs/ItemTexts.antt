@@ -1,7 +1,7 @@
 -- How long the texts of items are.
 use Rattle.std.proofs.Common.{ℕ, ◌<◌, ◌≤◌, ◌^◌, Bool, true, false, cond, ◌==◌, List, [], length, decimal, arith}
 use Rattle.std.proofs.lemmas.Fmt.{length-decimal-le}
-use Rattle.ca_rle.specs.Tidy.{count_text}
+use Rattle.ca_rle.specs.Prelude.{count_text}
 
 -- a choice of two texts is as short as both
 choice-le : (b : Bool) (xs ys : List ℕ) (n : ℕ) → length xs ≤ n → length ys ≤ n → length (cond b xs ys) ≤ n

@@ -3,21 +3,11 @@ use Rattle.std.proofs.Common.{◌≡◌, ℕ, zero, suc, ◌<◌, ◌≤◌, Lis
 use Rattle.std.specs.List.{All}
 use Rattle.std.proofs.lemmas.List.Elements.{All-from_recursion}
 use Rattle.ca_plane.specs.declared.point.Point.{Point}
-use Rattle.ca_plane.specs.Plane.{cell}
-use Rattle.ca_plane.specs.Population.{HasPopulation}
-use Rattle.ca_plane.specs.Sparse.{IsSparse}
-use Rattle.ca_plane.specs.Limits.{IsInRange}
+use Rattle.ca_plane.specs.Prelude.{cell, HasPopulation, IsSparse, IsInRange}
 use Rattle.ca_plane.proofs.Pictures.{cell-listed}
 use Rattle.ca_plane.proofs.Populations.{sparse_population}
-use Rattle.ca_rle.specs.declared.fault_line.GoodText.{GoodText}
-use Rattle.ca_rle.specs.declared.extent.Offset.{Offset}
-use Rattle.ca_rle.specs.declared.item.Item.{Item}
-use Rattle.ca_rle.specs.declared.rle_text.RleText.{RleText}
-use Rattle.ca_rle.specs.File.{RleFile}
-use Rattle.ca_rle.specs.Items.{Run, Items}
-use Rattle.ca_rle.specs.Judged.{IsRleText}
-use Rattle.ca_rle.specs.Limits.{IsRleWithinRange}
-use Rattle.ca_rle.specs.Shown.{greatest_state, picture_of_items}
+use Rattle.ca_rle.specs.declared.{fault_line.GoodText.GoodText, extent.Offset.Offset, item.Item.Item, rle_text.RleText.RleText}
+use Rattle.ca_rle.specs.Prelude.{RleFile, Run, Items, IsRleText, IsRleWithinRange, greatest_state, picture_of_items}
 use Rattle.ca_rle.specs.inner.BodyFaults.{bare_file, IsItemAtFront}
 use Rattle.ca_rle.specs.inner.Boxes.{AreBounds}
 use Rattle.ca_rle.specs.inner.Extent.{IsOffsetOf}

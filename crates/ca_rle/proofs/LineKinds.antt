@@ -3,10 +3,9 @@ use Rattle.std.proofs.Common.{◌≡◌, ℕ, ◌⊎◌, inl, inr, Bool, true, f
 use Rattle.std.specs.List.{AllByRecursion, list_all}
 use Rattle.std.proofs.lemmas.Bool.{and_parts, and_from, cases_Bool}
 use Rattle.std.proofs.lemmas.Option.{same_Some}
-use Rattle.ca_plane.specs.Bytes.{Every, is_blank, is_line_end, is_word_byte, is_end_or, front, rest, IsWord, without_cr}
+use Rattle.ca_plane.specs.Prelude.{Every, is_blank, is_line_end, is_word_byte, is_end_or, front, rest, IsWord, without_cr}
 use Rattle.ca_plane.proofs.Lines.{ends_by_blank}
-use Rattle.ca_rle.specs.Header.{Part, size_parts, rule_parts, IsHeader, IsXlifeLine}
-use Rattle.ca_rle.specs.File.{IsLine}
+use Rattle.ca_rle.specs.Prelude.{Part, size_parts, rule_parts, IsHeader, IsXlifeLine, IsLine}
 use Rattle.ca_plane.proofs.Fronts.{rest_ends, every_right, every_rest, front_then_rest, every_front, rest_append}
 use Rattle.ca_rle.specs.inner.HeaderParts.{parts_left, part_left}
 use Rattle.ca_rle.proofs.Headers.{has_more, no_header, parts_found, spaced_found, header_found}

@@ -4,8 +4,7 @@ use Rattle.std.specs.List.{flat_map, concat}
 use Rattle.std.proofs.lemmas.List.{append-nil}
 use Rattle.std.proofs.lemmas.List.Concat.{flat_map-append}
 use Rattle.std.proofs.lemmas.List.Folds.{concat-append}
-use Rattle.ca_rle.specs.File.{line_with_lf}
-use Rattle.ca_rle.specs.Tidy.{AreLines}
+use Rattle.ca_rle.specs.Prelude.{line_with_lf, AreLines}
 use Rattle.ca_rle.specs.inner.Written.{IsPlaced, PutsLines, IsOpen, IsLaid}
 
 -- a piece at a line's end

@@ -1,13 +1,10 @@
 -- The items of a body measured one after another.
 use Rattle.std.proofs.Common.{◌≡◌, ℕ, ◌+◌, max, Bool, true, false, List, [], ◌∷◌, ◌++◌, ◌==◌, refl, sym, ap, subst, ◌∙◌, arith}
 use Rattle.std.specs.Prelude.{if◌then◌else◌}
-use Rattle.ca_rle.specs.declared.item.Item.{Item}
-use Rattle.ca_rle.specs.declared.extent.Extent.{Extent}
-use Rattle.ca_rle.specs.declared.extent.Offset.{Offset}
-use Rattle.ca_rle.specs.Items.{Run}
-use Rattle.ca_rle.specs.Shown.{ends_row, tag_state, row_count, columns_of}
+use Rattle.ca_rle.specs.declared.{item.Item.Item, extent.Extent.Extent, extent.Offset.Offset}
+use Rattle.ca_rle.specs.Prelude.{Run, ends_row, tag_state, row_count, columns_of}
 use Rattle.ca_rle.specs.inner.BodyFaults.{with_capped_count, IsItemAtFront}
-use Rattle.ca_plane.specs.Bytes.{nearest_u64}
+use Rattle.ca_plane.specs.Prelude.{nearest_u64}
 use Rattle.ca_rle.specs.inner.Extent.{live_count_of_item, columns_to, rows_to, IsOffsetOf, IsItemsExtent}
 use Rattle.ca_rle.proofs.PushedItems.{row_count-push, columns_of-push, longest_of-push, greatest_state-push, greatest_of-push, live_count_of_items-push, Run-push}
 

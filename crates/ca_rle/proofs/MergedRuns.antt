@@ -5,15 +5,11 @@ use Rattle.std.specs.List.{range_with_len}
 use Rattle.std.proofs.lemmas.Int.{ints}
 use Rattle.std.proofs.lemmas.List.{append-nil, map-append}
 use Rattle.ca_plane.specs.declared.point.Point.{Point}
-use Rattle.ca_plane.specs.Plane.{Picture}
+use Rattle.ca_plane.specs.Prelude.{Picture}
 use Rattle.ca_plane.proofs.Pictures.{point-same}
-use Rattle.ca_rle.specs.declared.item.Item.{Item}
-use Rattle.ca_rle.specs.declared.item.Tag.{Tag}
+use Rattle.ca_rle.specs.declared.{item.Item.Item, item.Tag.Tag, write.again.Pending.Pending, write.runs.Run.Run}
 use Rattle.ca_rle.specs.declared.item.Tag.TheVariants.{Cell, RowEnd}
-use Rattle.ca_rle.specs.declared.write.again.Pending.{Pending}
-use Rattle.ca_rle.specs.declared.write.runs.Run.{Run}
-use Rattle.ca_rle.specs.Shown.{tag_state, place_after, run_of, picture_of_items}
-use Rattle.ca_rle.specs.Tidy.{item_text}
+use Rattle.ca_rle.specs.Prelude.{tag_state, place_after, run_of, picture_of_items, item_text}
 use Rattle.ca_rle.specs.inner.Extent.{cells_from}
 use Rattle.ca_rle.specs.inner.Written.{some_of, IsItemGap, IsPlaced, IsLaid}
 use Rattle.ca_rle.specs.inner.RunByRun.{IsBegun, IsReadTo, IsWrittenTo, Lays, LaysGap, LaysRun, AddsCells, AddsRun}

@@ -2,14 +2,11 @@
 use Rattle.std.proofs.Common.{◌≡◌, ℕ, Bool, true, false, cond, ◌&&◌, ◌==◌, List, [], ◌∷◌, ◌++◌, Option, Some, None, is_some, nat_le, ne_eqb, refl, sym, ap, subst, ◌∙◌, arith}
 use Rattle.std.proofs.lemmas.Bool.{and_parts}
 use Rattle.std.proofs.lemmas.Option.{none-some, cond_some}
-use Rattle.ca_plane.specs.Bytes.{front, rest, value}
-use Rattle.ca_rle.specs.declared.fault.RleFault.{RleFault}
+use Rattle.ca_plane.specs.Prelude.{front, rest, value}
+use Rattle.ca_rle.specs.declared.{fault.RleFault.RleFault, item.Item.Item, item.Tag.Tag}
 use Rattle.ca_rle.specs.declared.fault.RleFault.TheVariants.{Syntax}
-use Rattle.ca_rle.specs.declared.item.Item.{Item}
-use Rattle.ca_rle.specs.declared.item.Tag.{Tag}
 use Rattle.ca_rle.specs.declared.item.Tag.TheVariants.{Cell}
-use Rattle.ca_rle.specs.Items.{InLine, is_letter, is_prefix, prefixed_state, tag_of, IsCount, IsItem, Run, IsEnd, Items}
-use Rattle.ca_rle.specs.Faults.{after_white, letter_fault, tag_fault, count_fault, item_fault}
+use Rattle.ca_rle.specs.Prelude.{InLine, is_letter, is_prefix, prefixed_state, tag_of, IsCount, IsItem, Run, IsEnd, Items, after_white, letter_fault, tag_fault, count_fault, item_fault}
 use Rattle.ca_rle.proofs.ItemAt.{tag_byte, two_letters, item_parts, end_after, regroup}
 use Rattle.ca_rle.proofs.OneList.{item_or_end, one_item}
 

@@ -4,12 +4,8 @@ use Rattle.std.specs.List.{AllByRecursion}
 use Rattle.std.proofs.lemmas.Option.{same_Some}
 use Rattle.ca_rle.specs.declared.fault.RleFault.{RleFault}
 use Rattle.ca_rle.specs.declared.fault.RleFault.TheVariants.{Syntax, Header, XlifeRule, NoEnd, BadState, GenTooLarge, Range, TooManyCells, Memory}
-use Rattle.ca_rle.specs.Items.{Run}
-use Rattle.ca_rle.specs.Header.{IsHeader, is_front_line, CxrleWord, IsXlifeLine}
-use Rattle.ca_rle.specs.File.{RleFile, IsHeaded, IsRleFile}
-use Rattle.ca_rle.specs.Limits.{IsRleWithinRange, IsRleOutOfRange, HasTooManyRleCells, IsWithinLimits}
-use Rattle.ca_rle.specs.Shown.{picture_of_items}
-use Rattle.ca_rle.specs.Faults.{item_fault, HasBadWord, HasNoHeader, HasXlifeRule, HasBadItem, IsFirstRleFault, IsRleFault}
+use Rattle.ca_rle.specs.Prelude.{Run, IsHeader, is_front_line, CxrleWord, IsXlifeLine, RleFile, IsHeaded, IsRleFile, IsRleWithinRange, IsRleOutOfRange, HasTooManyRleCells, IsWithinLimits}
+use Rattle.ca_rle.specs.Prelude.{picture_of_items, item_fault, HasBadWord, HasNoHeader, HasXlifeRule, HasBadItem, IsFirstRleFault, IsRleFault}
 use Rattle.ca_rle.proofs.NoFault.{no_bad_item}
 use Rattle.ca_rle.proofs.OneHeader.{one_header, no_comment}
 use Rattle.ca_rle.proofs.OneFile.{one_headed, one_file}

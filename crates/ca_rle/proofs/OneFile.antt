@@ -1,10 +1,8 @@
 -- A text is a file in one way at most.
 use Rattle.std.proofs.Common.{◌≡◌, ℕ, List, Option, unwrap_or, sym, ap, subst, ◌∙◌}
 use Rattle.std.specs.List.{flat_map, AllZip}
-use Rattle.ca_plane.specs.Limits.{default_rule}
-use Rattle.ca_rle.specs.Items.{Items}
-use Rattle.ca_rle.specs.Header.{IsHeader, extended_words, CxrleWord, WordSays}
-use Rattle.ca_rle.specs.File.{RleFile, corner_of, generation_of, IsHeaded, IsRleFile}
+use Rattle.ca_plane.specs.Prelude.{default_rule}
+use Rattle.ca_rle.specs.Prelude.{Items, IsHeader, extended_words, CxrleWord, WordSays, RleFile, corner_of, generation_of, IsHeaded, IsRleFile}
 use Rattle.ca_rle.proofs.OneList.{one_list}
 use Rattle.ca_rle.proofs.OneHeader.{one_header, all_said}
 use Rattle.ca_rle.proofs.OnePlace.{one_place, headed_place}

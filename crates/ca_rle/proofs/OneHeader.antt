@@ -3,8 +3,8 @@ use Rattle.std.proofs.Common.{◌≡◌, ℕ, Bool, true, false, cond, not, ◌=
 use Rattle.std.specs.List.{AllZip, starts_with}
 use Rattle.std.proofs.lemmas.List.{append_cancel_left}
 use Rattle.std.proofs.lemmas.Bool.Decides.{nat_tests}
-use Rattle.ca_plane.specs.Bytes.{Every, is_blank, is_digit, is_word_byte, is_end_or, front, rest, IsInteger, IsWord, value}
-use Rattle.ca_rle.specs.Header.{Part, IsSpaced, size_parts, rule_parts, IsHeader, is_front_line, CxrleWord, Corner, Generation, Nothing, WordSays}
+use Rattle.ca_plane.specs.Prelude.{Every, is_blank, is_digit, is_word_byte, is_end_or, front, rest, IsInteger, IsWord, value}
+use Rattle.ca_rle.specs.Prelude.{Part, IsSpaced, size_parts, rule_parts, IsHeader, is_front_line, CxrleWord, Corner, Generation, Nothing, WordSays}
 use Rattle.ca_rle.specs.inner.HeaderParts.{part_left, parts_left}
 use Rattle.ca_plane.proofs.Fronts.{front_append, rest_append, one_split, every_wider, every_digit, every_word_byte}
 use Rattle.ca_plane.proofs.Integers.{one_integer}

@@ -2,7 +2,7 @@
 use Rattle.std.proofs.Common.{◌≡◌, ℕ, List, [], ◌∷◌, ◌++◌, refl, sym, ap, subst, ◌∙◌}
 use Rattle.std.proofs.lemmas.Option.{some_pair_parts, none-some}
 use Rattle.ca_rle.specs.declared.item.Item.{Item}
-use Rattle.ca_rle.specs.Items.{IsItem, Run, IsEnd, Items}
+use Rattle.ca_rle.specs.Prelude.{IsItem, Run, IsEnd, Items}
 use Rattle.ca_rle.proofs.ItemAt.{item_at, item_at_is, no_item_at_end}
 
 -- no item stands where a pattern ends

@@ -2,10 +2,8 @@
 use Rattle.std.proofs.Common.{◌≡◌, ℕ, true, false, not, IsTrue, List, [], ◌∷◌, ◌++◌, Option, None, refl, sym, ap₂, subst, ◌∙◌, append_assoc, true≢false, ◌⊎◌, inl, inr}
 use Rattle.std.specs.List.{flat_map, AllZip}
 use Rattle.std.proofs.lemmas.List.{append_cancel_left}
-use Rattle.ca_plane.specs.Bytes.{is_line_end, is_end_or}
-use Rattle.ca_rle.specs.Header.{IsHeader, is_front_line, extended_words, CxrleWord, WordSays}
-use Rattle.ca_rle.specs.File.{IsLine, line_with_lf, IsPreamble, FollowsPreamble, IsHeaded}
-use Rattle.ca_rle.specs.Faults.{HasNoHeader, HasXlifeRule}
+use Rattle.ca_plane.specs.Prelude.{is_line_end, is_end_or}
+use Rattle.ca_rle.specs.Prelude.{IsHeader, is_front_line, extended_words, CxrleWord, WordSays, IsLine, line_with_lf, IsPreamble, FollowsPreamble, IsHeaded, HasNoHeader, HasXlifeRule}
 use Rattle.ca_plane.proofs.Fronts.{one_split}
 use Rattle.ca_rle.proofs.OneHeader.{no_comment}
 

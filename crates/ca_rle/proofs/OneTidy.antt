@@ -2,18 +2,13 @@
 use Rattle.std.proofs.Common.{◌≡◌, ℕ, ◌+◌, ◌<◌, ◌≤◌, ◌⊎◌, inl, inr, List, [], ◌∷◌, ◌++◌, length, ℤ, pos, ◌+ℤ◌, refl, sym, ap, ap₂, subst, ◌∙◌, length-append, arith}
 use Rattle.std.specs.List.{flat_map, concat}
 use Rattle.std.proofs.lemmas.Int.{ints}
-use Rattle.ca_plane.specs.declared.point.Point.{Point}
-use Rattle.ca_plane.specs.declared.point.Bounds.{Bounds}
-use Rattle.ca_plane.specs.Plane.{Picture, cell, IsSame}
-use Rattle.ca_plane.specs.Box.{IsLeastBox}
+use Rattle.ca_plane.specs.declared.point.{Point.Point, Bounds.Bounds}
+use Rattle.ca_plane.specs.Prelude.{Picture, cell, IsSame, IsLeastBox}
 use Rattle.ca_plane.proofs.Boxes.{IsLive-box}
 use Rattle.ca_plane.proofs.Pictures.{point-same}
-use Rattle.ca_rle.specs.declared.item.Item.{Item}
-use Rattle.ca_rle.specs.declared.item.Tag.{Tag}
+use Rattle.ca_rle.specs.declared.item.{Item.Item, Tag.Tag}
 use Rattle.ca_rle.specs.declared.item.Tag.TheVariants.{Cell, RowEnd}
-use Rattle.ca_rle.specs.File.{line_with_lf}
-use Rattle.ca_rle.specs.Shown.{picture_of_items}
-use Rattle.ca_rle.specs.Tidy.{AreTidy, IsFull, AreLines, IsFrame, corner_line, header_line, IsTidyRle}
+use Rattle.ca_rle.specs.Prelude.{line_with_lf, picture_of_items, AreTidy, IsFull, AreLines, IsFrame, corner_line, header_line, IsTidyRle}
 use Rattle.ca_rle.proofs.TidyCells.{next, drawn, picture_drawn, IsAhead, tidy_counts, tidy_tail, item_out, clear, within, after, reach}
 use Rattle.ca_rle.proofs.TidyBody.{text_of, tokens}
 

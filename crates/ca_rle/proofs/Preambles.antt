@@ -5,11 +5,9 @@ use Rattle.std.proofs.lemmas.Bool.{ne_eqb}
 use Rattle.std.proofs.lemmas.Grind.{flat_map-append}
 use Rattle.std.proofs.lemmas.List.{append-nil, append_cancel_left}
 use Rattle.std.proofs.lemmas.Option.{same_Some, none-some}
-use Rattle.ca_plane.specs.Bytes.{is_blank, front, rest, without_cr}
-use Rattle.ca_rle.specs.declared.front.words.Start.{Start}
-use Rattle.ca_rle.specs.declared.front.lines.Preamble.{Preamble}
-use Rattle.ca_rle.specs.Header.{is_front_line, extended_words, CxrleWord, WordSays, IsXlifeLine}
-use Rattle.ca_rle.specs.File.{IsLine, IsPreamble}
+use Rattle.ca_plane.specs.Prelude.{is_blank, front, rest, without_cr}
+use Rattle.ca_rle.specs.declared.front.{words.Start.Start, lines.Preamble.Preamble}
+use Rattle.ca_rle.specs.Prelude.{is_front_line, extended_words, CxrleWord, WordSays, IsXlifeLine, IsLine, IsPreamble}
 use Rattle.ca_rle.specs.inner.FrontParts.{IsFrontStart, WordsLead, HasXlifeLine, IsPreambleOf, LeadsPreamble}
 use Rattle.ca_plane.proofs.Fronts.{every_front, front_then_rest, rest_append}
 use Rattle.ca_rle.proofs.StartWords.{all_zip_append}

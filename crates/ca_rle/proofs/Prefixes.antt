@@ -1,10 +1,8 @@
 -- Items that were read so far are the first of all items of the body.
 use Rattle.std.proofs.Common.{◌≡◌, ℕ, ◌≤◌, List, [], ◌∷◌, ◌++◌, Some, refl, sym, ap, subst, ◌∙◌, arith}
 use Rattle.std.proofs.lemmas.Bool.Decides.{nat_tests}
-use Rattle.ca_rle.specs.declared.item.Item.{Item}
-use Rattle.ca_rle.specs.declared.item.Tag.{Tag}
-use Rattle.ca_rle.specs.Items.{tag_of, Run, IsEnd, Items}
-use Rattle.ca_rle.specs.Shown.{tag_state}
+use Rattle.ca_rle.specs.declared.item.{Item.Item, Tag.Tag}
+use Rattle.ca_rle.specs.Prelude.{tag_of, Run, IsEnd, Items, tag_state}
 use Rattle.ca_rle.proofs.OneList.{item_or_end, one_item, one_list}
 
 -- the items after those that were read spell what is left

@@ -7,8 +7,7 @@ use Rattle.std.proofs.lemmas.List.{append-nil, drop_all, drop-append-le, reverse
 use Rattle.std.proofs.lemmas.List.Sums.{sum_by_push, prefix_len-le-length}
 use Rattle.ca_plane.specs.declared.point.Point.{Point}
 use Rattle.ca_rle.specs.declared.item.Item.{Item}
-use Rattle.ca_rle.specs.Items.{IsCount, Run}
-use Rattle.ca_rle.specs.Shown.{ends_row, tag_state, greatest_state, row_count, columns_of, item_cells, picture_after}
+use Rattle.ca_rle.specs.Prelude.{IsCount, Run, ends_row, tag_state, greatest_state, row_count, columns_of, item_cells, picture_after}
 use Rattle.ca_rle.specs.inner.Extent.{longest_of, live_count_of_item, live_count_of_items, greatest_of}
 
 -- one more element at the end begins anew, or stands after what was there

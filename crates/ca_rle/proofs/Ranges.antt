@@ -5,13 +5,10 @@ use Rattle.std.proofs.lemmas.Bool.{cases_eq}
 use Rattle.std.proofs.lemmas.List.Sums.{sum_by-cons}
 use Rattle.std.proofs.lemmas.Int.{ints}
 use Rattle.ca_plane.specs.declared.point.Point.{Point}
-use Rattle.ca_rle.specs.declared.item.Item.{Item}
-use Rattle.ca_rle.specs.declared.extent.Extent.{Extent}
-use Rattle.ca_rle.specs.Shown.{tag_state, row_count, columns_of, run_of, place_after, item_cells, picture_after}
-use Rattle.ca_rle.specs.Limits.{IsRleWithinRange}
-use Rattle.ca_plane.specs.Limits.{IsInRange}
+use Rattle.ca_rle.specs.declared.{item.Item.Item, extent.Extent.Extent}
+use Rattle.ca_rle.specs.Prelude.{tag_state, row_count, columns_of, run_of, place_after, item_cells, picture_after, IsRleWithinRange}
+use Rattle.ca_plane.specs.Prelude.{IsInRange, nearest_u64}
 use Rattle.ca_rle.specs.inner.BodyFaults.{bare_file}
-use Rattle.ca_plane.specs.Bytes.{nearest_u64}
 use Rattle.ca_rle.specs.inner.Extent.{longest_of, live_count_of_item, live_count_of_items, columns_to, rows_to, right_after, bottom_after, IsItemsExtent, IsExtentInRange, HasRoomRight}
 use Rattle.ca_rle.proofs.CellRuns.{all_run, length_run}
 use Rattle.ca_plane.proofs.Elements.{all_append}

@@ -1,11 +1,9 @@
 -- The item that is read at the front of bytes stands there, and items that are read one after another do.
 use Rattle.std.proofs.Common.{◌≡◌, ℕ, zero, suc, ◌<◌, ◌⊎◌, inl, inr, Bool, true, false, cond, ◌==◌, ◌||◌, IsTrue, List, [], ◌∷◌, ◌++◌, Option, Some, None, nat_lt, ltb-true, eqb-true, refl, sym, ap, ap₂, subst, ◌∙◌, append_assoc}
 use Rattle.std.proofs.lemmas.Option.{some_pair_parts, same_Some, none-some}
-use Rattle.ca_plane.specs.Bytes.{Every, is_blank, is_line_end, is_digit, front, rest}
-use Rattle.ca_rle.specs.declared.item.Item.{Item}
-use Rattle.ca_rle.specs.declared.item.Tag.{Tag}
-use Rattle.ca_rle.specs.Items.{Place, AtStart, InLine, InComment, is_white_from, tag_of, is_prefix, IsCount, IsItem, Run, IsEnd, Items}
-use Rattle.ca_rle.specs.Faults.{after_white}
+use Rattle.ca_plane.specs.Prelude.{Every, is_blank, is_line_end, is_digit, front, rest}
+use Rattle.ca_rle.specs.declared.item.{Item.Item, Tag.Tag}
+use Rattle.ca_rle.specs.Prelude.{Place, AtStart, InLine, InComment, is_white_from, tag_of, is_prefix, IsCount, IsItem, Run, IsEnd, Items, after_white}
 use Rattle.ca_plane.proofs.Fronts.{front_then_rest, every_front}
 use Rattle.ca_rle.proofs.ItemAt.{with_rest, tag_at, count_of, counted, item_at}
 

@@ -1,16 +1,9 @@
 -- The parts of a text without a fault, read one by one.
 use Rattle.std.proofs.Common.{◌≡◌, ℕ, ◌≤◌, ◌<◌, ◌^◌, ℤ, List, [], ◌∷◌, unwrap_or, refl, sym, subst, ◌∙◌, arith}
 use Rattle.std.specs.Option.{option_copied}
-use Rattle.ca_plane.specs.Bytes.{IsWord}
-use Rattle.ca_plane.specs.Limits.{default_rule}
-use Rattle.ca_plane.specs.Plane.{IsPicture, cell}
-use Rattle.ca_rle.specs.declared.fault_line.GoodText.{GoodText}
-use Rattle.ca_rle.specs.declared.item.Item.{Item}
-use Rattle.ca_rle.specs.File.{RleFile}
-use Rattle.ca_rle.specs.Items.{Run, Items}
-use Rattle.ca_rle.specs.Limits.{IsRleWithinRange}
-use Rattle.ca_rle.specs.Pattern.{HasFileParts}
-use Rattle.ca_rle.specs.Shown.{greatest_state, picture_of_items}
+use Rattle.ca_plane.specs.Prelude.{IsWord, default_rule, IsPicture, cell}
+use Rattle.ca_rle.specs.declared.{fault_line.GoodText.GoodText, item.Item.Item}
+use Rattle.ca_rle.specs.Prelude.{RleFile, Run, Items, IsRleWithinRange, HasFileParts, greatest_state, picture_of_items}
 use Rattle.ca_rle.specs.inner.BodyFaults.{bare_file}
 use Rattle.ca_rle.specs.inner.FrontParts.{IsGoodText}
 use Rattle.ca_rle.proofs.FileParts.{generation_is_low, rule_is_word}

@@ -3,21 +3,12 @@ use Rattle.std.proofs.Common.{◌≡◌, ◌≢◌, ℕ, ◌-◌, ◌<◌, pos, 
 use Rattle.std.specs.List.{range_with_len}
 use Rattle.std.proofs.lemmas.Bool.{cases_eq}
 use Rattle.std.proofs.lemmas.Int.{ints}
-use Rattle.ca_plane.specs.Puts.{Puts}
+use Rattle.ca_plane.specs.Prelude.{Puts, Picture}
 use Rattle.ca_plane.specs.declared.point.Point.{Point}
-use Rattle.ca_plane.specs.Plane.{Picture}
 use Rattle.ca_plane.proofs.Pictures.{IsListed-at}
-use Rattle.ca_rle.specs.declared.extent.Offset.{Offset}
-use Rattle.ca_rle.specs.declared.item.Item.{Item}
-use Rattle.ca_rle.specs.declared.item.Tag.{Tag}
+use Rattle.ca_rle.specs.declared.{extent.Offset.Offset, item.Item.Item, item.Tag.Tag, rle_text.RleText.RleText, write.again.Pending.Pending, write.runs.Run.Run as CellRun}
 use Rattle.ca_rle.specs.declared.item.Tag.TheVariants.{Cell, RowEnd}
-use Rattle.ca_rle.specs.declared.rle_text.RleText.{RleText}
-use Rattle.ca_rle.specs.declared.write.again.Pending.{Pending}
-use Rattle.ca_rle.specs.declared.write.runs.Run.{Run as CellRun}
-use Rattle.ca_rle.specs.Items.{Run, IsEnd, Items}
-use Rattle.ca_rle.specs.Judged.{IsRleText}
-use Rattle.ca_rle.specs.Shown.{tag_state, place_after, item_cells, picture_after, picture_of_items}
-use Rattle.ca_rle.specs.Tidy.{AreTidy, item_text}
+use Rattle.ca_rle.specs.Prelude.{Run, IsEnd, Items, IsRleText, tag_state, place_after, item_cells, picture_after, picture_of_items, AreTidy, item_text}
 use Rattle.ca_rle.specs.inner.BodyFaults.{IsItemAtFront}
 use Rattle.ca_rle.specs.inner.Extent.{IsOffsetOf, point_from, cells_from}
 use Rattle.ca_rle.specs.inner.Written.{some_of, IsPlaced}

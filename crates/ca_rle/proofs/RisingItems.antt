@@ -9,14 +9,12 @@ use Rattle.std.proofs.lemmas.Cmp.{int_ranked}
 use Rattle.std.proofs.lemmas.Int.{ints}
 use Rattle.std.proofs.lemmas.List.Elements.{All-from_recursion}
 use Rattle.ca_plane.specs.declared.point.Point.{Point}
-use Rattle.ca_plane.specs.Limits.{IsInRange}
-use Rattle.ca_plane.specs.Plane.{Picture, IsPicture, cell}
-use Rattle.ca_plane.specs.Sparse.{IsInPlane, IsSparse, point_cmp}
+use Rattle.ca_plane.specs.Prelude.{IsInRange, Picture, IsPicture, cell, IsInPlane, IsSparse, point_cmp}
 use Rattle.ca_plane.proofs.Elements.{all_append, all_weaker}
 use Rattle.ca_plane.proofs.Pictures.{cell-All, IsListed-at}
 use Rattle.ca_rle.specs.declared.item.Item.{Item}
 use Rattle.ca_rle.specs.declared.item.Tag.TheVariants.{Cell, RowEnd}
-use Rattle.ca_rle.specs.Shown.{tag_state, greatest_state, run_of, place_after, item_cells, picture_after, picture_of_items}
+use Rattle.ca_rle.specs.Prelude.{tag_state, greatest_state, run_of, place_after, item_cells, picture_after, picture_of_items}
 use Rattle.ca_rle.specs.inner.RunByRun.{IsAhead}
 use Rattle.ca_rle.proofs.CellRuns.{all_run}
 use Rattle.ca_rle.proofs.DrawnItems.{next_place, place_after-push}

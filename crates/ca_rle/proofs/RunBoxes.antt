@@ -8,14 +8,12 @@ use Rattle.std.proofs.lemmas.Bool.{cases_Bool, cases_cond, cases_eq, eqb-false, 
 use Rattle.std.proofs.lemmas.Int.{ints, clamps}
 use Rattle.std.proofs.lemmas.List.{append-nil}
 use Rattle.std.proofs.lemmas.List.Elements.{All-contains, All-from_recursion}
-use Rattle.ca_plane.specs.declared.point.Point.{Point}
-use Rattle.ca_plane.specs.declared.point.Bounds.{Bounds}
-use Rattle.ca_plane.specs.Box.{IsInBox, IsLeastBox}
-use Rattle.ca_plane.specs.Plane.{Picture, IsPicture, cell}
+use Rattle.ca_plane.specs.declared.point.{Point.Point, Bounds.Bounds}
+use Rattle.ca_plane.specs.Prelude.{IsInBox, IsLeastBox, Picture, IsPicture, cell}
 use Rattle.ca_plane.proofs.Pictures.{Contains-cell}
 use Rattle.ca_plane.proofs.Rising.{place-itself}
 use Rattle.ca_rle.specs.declared.item.Item.{Item}
-use Rattle.ca_rle.specs.Shown.{tag_state, run_of}
+use Rattle.ca_rle.specs.Prelude.{tag_state, run_of}
 use Rattle.ca_rle.specs.inner.Boxes.{AreBounds}
 use Rattle.ca_rle.specs.inner.Extent.{cells_from}
 use Rattle.ca_rle.proofs.CellRuns.{all_run}

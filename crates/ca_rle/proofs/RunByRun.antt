@@ -11,14 +11,11 @@ use Rattle.std.proofs.lemmas.List.FromFn.{map-range_with_len_more}
 use Rattle.std.proofs.lemmas.Map.Iter.{rest_more, rest_all}
 use Rattle.std.proofs.lemmas.Map.Keys.{sorted_head, sorted_tail}
 use Rattle.ca_plane.specs.declared.point.Point.{Point}
-use Rattle.ca_plane.specs.Plane.{Picture}
-use Rattle.ca_plane.specs.Sparse.{IsSparse, point_cmp}
+use Rattle.ca_plane.specs.Prelude.{Picture, IsSparse, point_cmp}
 use Rattle.ca_plane.proofs.Pictures.{IsListed-at, point-same}
-use Rattle.ca_rle.specs.declared.item.Item.{Item}
+use Rattle.ca_rle.specs.declared.{item.Item.Item, write.runs.Run.Run}
 use Rattle.ca_rle.specs.declared.item.Tag.TheVariants.{Cell}
-use Rattle.ca_rle.specs.declared.write.runs.Run.{Run}
-use Rattle.ca_rle.specs.Shown.{place_after, run_of, picture_of_items}
-use Rattle.ca_rle.specs.Tidy.{AreTidy}
+use Rattle.ca_rle.specs.Prelude.{place_after, run_of, picture_of_items, AreTidy}
 use Rattle.ca_rle.specs.inner.Written.{IsItemGap}
 use Rattle.ca_rle.specs.inner.RunByRun.{IsAhead, IsReadTo, IsCorner}
 use Rattle.ca_rle.proofs.Gaps.{PutsGap, item_of, place-cells, place-gap, cells-gap, cells-run, before-first, before-next, tidy-end}

@@ -9,9 +9,8 @@ use Rattle.std.proofs.lemmas.Int.{ints}
 use Rattle.std.proofs.lemmas.List.Elements.{All-head, All-tail, All-nil, All-cons}
 use Rattle.std.proofs.lemmas.List.FromFn.{map-range_with_len_more}
 use Rattle.ca_plane.specs.declared.point.Point.{Point}
-use Rattle.ca_plane.specs.Plane.{Picture, IsPicture, cell, IsSame}
-use Rattle.ca_plane.specs.Change.{Sets}
-use Rattle.ca_rle.specs.Shown.{run_of}
+use Rattle.ca_plane.specs.Prelude.{Picture, IsPicture, cell, IsSame, Sets}
+use Rattle.ca_rle.specs.Prelude.{run_of}
 
 -- one cell of a run
 abbrev run_cell : ℕ → Point → ℕ → Point × ℕ

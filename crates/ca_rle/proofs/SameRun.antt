@@ -1,10 +1,8 @@
 -- Items in front of bytes: after the same items stands the same rest, and a longer run goes on where a shorter one ends.
 use Rattle.std.proofs.Common.{◌≡◌, ℕ, ◌⊎◌, inl, inr, List, [], ◌∷◌, ◌++◌, Some, refl, sym, ap, ap₂, subst, ◌∙◌}
 use Rattle.std.proofs.lemmas.Option.{none-some}
-use Rattle.ca_rle.specs.declared.fault.RleFault.{RleFault}
-use Rattle.ca_rle.specs.declared.item.Item.{Item}
-use Rattle.ca_rle.specs.Items.{Run}
-use Rattle.ca_rle.specs.Faults.{item_fault}
+use Rattle.ca_rle.specs.declared.{fault.RleFault.RleFault, item.Item.Item}
+use Rattle.ca_rle.specs.Prelude.{Run, item_fault}
 use Rattle.ca_rle.proofs.OneList.{one_item}
 use Rattle.ca_rle.proofs.NoFault.{no_item_fault}
 

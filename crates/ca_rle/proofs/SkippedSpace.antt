@@ -3,10 +3,9 @@ use Rattle.std.proofs.Common.{◌≡◌, ℕ, ◌≤◌, Bool, true, false, not,
 use Rattle.std.specs.List.{starts_with}
 use Rattle.std.proofs.lemmas.Bool.{cases_Bool}
 use Rattle.std.proofs.lemmas.Bool.Decides.{nat_tests}
-use Rattle.ca_plane.specs.Bytes.{is_blank, is_line_end, is_end_or, rest}
+use Rattle.ca_plane.specs.Prelude.{is_blank, is_line_end, is_end_or, rest}
 use Rattle.ca_plane.proofs.Fronts.{rest_ends, front_length}
-use Rattle.ca_rle.specs.Items.{Place, AtStart, InLine, InComment}
-use Rattle.ca_rle.specs.Faults.{after_white}
+use Rattle.ca_rle.specs.Prelude.{Place, AtStart, InLine, InComment, after_white}
 
 -- no blank ends a line
 blank_no_end : (b : ℕ) → is_blank b ≡ true → is_line_end b ≡ false

@@ -3,14 +3,9 @@ use Rattle.std.proofs.Common.{◌≡◌, ◌≢◌, ℕ, ◌+◌, ◌-◌, ◌<�
 use Rattle.std.specs.List.{AllByRecursion}
 use Rattle.std.proofs.lemmas.Int.{ints, clamps}
 use Rattle.ca_plane.specs.declared.point.Point.{Point}
-use Rattle.ca_plane.specs.Bytes.{nearest_u64}
-use Rattle.ca_plane.specs.Limits.{IsInRange}
-use Rattle.ca_plane.specs.Plane.{Picture}
-use Rattle.ca_rle.specs.declared.extent.Offset.{Offset}
-use Rattle.ca_rle.specs.declared.extent.Span.{Span}
-use Rattle.ca_rle.specs.declared.item.Item.{Item}
-use Rattle.ca_rle.specs.Items.{Run}
-use Rattle.ca_rle.specs.Shown.{tag_state, place_after, item_cells, picture_of_items}
+use Rattle.ca_plane.specs.Prelude.{nearest_u64, IsInRange, Picture}
+use Rattle.ca_rle.specs.declared.{extent.Offset.Offset, extent.Span.Span, item.Item.Item}
+use Rattle.ca_rle.specs.Prelude.{Run, tag_state, place_after, item_cells, picture_of_items}
 use Rattle.ca_rle.specs.inner.BodyFaults.{IsItemAtFront}
 use Rattle.ca_rle.specs.inner.Boxes.{AreBounds, IsSpanOf, IsSpanWith, bounds_at, box_at}
 use Rattle.ca_rle.specs.inner.Extent.{IsOffsetOf}

@@ -10,12 +10,10 @@ use Rattle.std.proofs.lemmas.Int.{ints, int_min_is, int_max_is}
 use Rattle.std.proofs.lemmas.List.{append-nil}
 use Rattle.std.proofs.lemmas.Slice.Eq.{starts_is}
 use Rattle.ca_plane.specs.declared.point.Point.{Point}
-use Rattle.ca_plane.specs.Bytes.{front, rest, IsInteger, nearest_i64}
+use Rattle.ca_plane.specs.Prelude.{front, rest, IsInteger, nearest_i64}
 use Rattle.ca_rle.specs.declared.front.words.Start.{Start}
 use Rattle.ca_rle.specs.declared.fault.RleFault.TheVariants.{Syntax}
-use Rattle.ca_rle.specs.Header.{CxrleWord, Corner, Generation, Nothing, WordSays}
-use Rattle.ca_rle.specs.File.{last_corner, last_word_generation}
-use Rattle.ca_rle.specs.Faults.{IsBadWord}
+use Rattle.ca_rle.specs.Prelude.{CxrleWord, Corner, Generation, Nothing, WordSays, last_corner, last_word_generation, IsBadWord}
 use Rattle.ca_rle.specs.inner.BodyFaults.{KeepsCorner}
 use Rattle.ca_rle.specs.inner.FrontParts.{KeepsNumber, Writes, WritesPair, IsFrontStart, WordsLead}
 use Rattle.ca_plane.proofs.Fronts.{front_append, rest_append, front_then_rest}

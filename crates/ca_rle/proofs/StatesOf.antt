@@ -4,10 +4,9 @@ use Rattle.std.specs.List.{All}
 use Rattle.std.proofs.lemmas.Bool.{cases_eq}
 use Rattle.std.proofs.lemmas.List.Elements.{All-head, All-tail}
 use Rattle.ca_plane.specs.declared.point.Point.{Point}
-use Rattle.ca_plane.specs.Plane.{Picture, IsPicture}
+use Rattle.ca_plane.specs.Prelude.{Picture, IsPicture}
 use Rattle.ca_rle.specs.declared.item.Item.{Item}
-use Rattle.ca_rle.specs.Shown.{tag_state, run_of, place_after, item_cells, picture_after, picture_of_items}
-use Rattle.ca_rle.specs.Tidy.{AreTidy, HaveStates}
+use Rattle.ca_rle.specs.Prelude.{tag_state, run_of, place_after, item_cells, picture_after, picture_of_items, AreTidy, HaveStates}
 use Rattle.ca_rle.proofs.Gaps.{nonzero}
 
 -- what holds of all holds of those after

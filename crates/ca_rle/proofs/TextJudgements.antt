@@ -1,24 +1,17 @@
 -- A text judged by its front and by the extent of its items.
 use Rattle.std.proofs.Common.{◌≡◌, ℕ, ◌<◌, ◌≤◌, ◌^◌, Bool, false, ◌↔◌, IsTrue, length, List, [], Option, None, inl, inr, sym, subst, ◌∙◌, arith}
 use Rattle.std.proofs.lemmas.Bool.{false≢true}
-use Rattle.ca_plane.specs.declared.point.Point.{Point}
-use Rattle.ca_rle.specs.declared.extent.Extent.{Extent}
+use Rattle.ca_plane.specs.declared.point.{Point.Point, Bounds.Bounds}
+use Rattle.ca_rle.specs.declared.{extent.Extent.Extent, item.Item.Item}
 use Rattle.ca_rle.specs.declared.fault.RleFault.TheVariants.{Range, TooManyCells}
-use Rattle.ca_rle.specs.declared.item.Item.{Item}
-use Rattle.ca_rle.specs.Items.{Items}
-use Rattle.ca_rle.specs.Header.{CxrleWord}
-use Rattle.ca_rle.specs.File.{RleFile, corner_of, IsHeaded, IsRleFile}
-use Rattle.ca_rle.specs.Shown.{picture_of_items}
-use Rattle.ca_rle.specs.Limits.{IsRleWithinRange, IsRleOutOfRange, IsWithinLimits}
-use Rattle.ca_rle.specs.FaultyLine.{IsRleFaultOn}
+use Rattle.ca_rle.specs.Prelude.{Items, CxrleWord, RleFile, corner_of, IsHeaded, IsRleFile, picture_of_items, IsRleWithinRange, IsRleOutOfRange, IsWithinLimits, IsRleFaultOn}
 use Rattle.ca_rle.specs.inner.BodyFaults.{KeepsCorner, bare_file}
 use Rattle.ca_rle.specs.inner.Extent.{IsItemsExtent, IsExtentInRange}
 use Rattle.ca_rle.proofs.FileParts.{file_of, headed_is_file}
 use Rattle.ca_rle.proofs.PushedItems.{counts_low}
 use Rattle.std.specs.Option.{IfSome}
 use Rattle.std.proofs.lemmas.List.Elements.{All-from_recursion}
-use Rattle.ca_plane.specs.declared.point.Bounds.{Bounds}
-use Rattle.ca_plane.specs.Limits.{IsInRange}
+use Rattle.ca_plane.specs.Prelude.{IsInRange}
 use Rattle.ca_rle.specs.inner.Boxes.{AreBounds, IsBoxInRange, IsSpanOf, bounds_at}
 use Rattle.ca_rle.proofs.Frames.{bounds_in_range}
 use Rattle.ca_rle.proofs.Ranges.{within_range, extent_in_range, length-picture}

@@ -3,13 +3,9 @@ use Rattle.std.proofs.Common.{◌≡◌, ℕ, ◌+◌, ◌-◌, ◌/◌, ◌%◌
 use Rattle.std.specs.List.{flat_map, concat, AllByRecursion}
 use Rattle.std.proofs.lemmas.Bool.{cases_Bool, eqb-true, eqb-false}
 use Rattle.std.proofs.lemmas.Bool.Decides.{nat_tests}
-use Rattle.ca_rle.specs.declared.item.Item.{Item}
-use Rattle.ca_rle.specs.declared.item.Tag.{Tag}
+use Rattle.ca_rle.specs.declared.item.{Item.Item, Tag.Tag}
 use Rattle.ca_rle.specs.declared.item.Tag.TheVariants.{Cell, RowEnd}
-use Rattle.ca_rle.specs.Items.{is_letter, is_prefix, prefixed_state, tag_of, IsWhite, IsCount, IsItem, Items}
-use Rattle.ca_rle.specs.Shown.{tag_state}
-use Rattle.ca_rle.specs.File.{line_with_lf}
-use Rattle.ca_rle.specs.Tidy.{letters_of, tag_text, count_text, item_text, HaveStates}
+use Rattle.ca_rle.specs.Prelude.{is_letter, is_prefix, prefixed_state, tag_of, IsWhite, IsCount, IsItem, Items, tag_state, line_with_lf, letters_of, tag_text, count_text, item_text, HaveStates}
 use Rattle.ca_rle.proofs.White.{IsWhite-append}
 use Rattle.ca_plane.proofs.Decimals.{Writes, decimal_writes}
 

@@ -7,13 +7,11 @@ use Rattle.std.proofs.lemmas.Bool.{cases_Bool, cases_eq, and_parts, eqb-true}
 use Rattle.std.proofs.lemmas.Bool.Decides.{Decides-int_eq}
 use Rattle.std.proofs.lemmas.Int.{ints}
 use Rattle.ca_plane.specs.declared.point.Point.{Point}
-use Rattle.ca_plane.specs.Plane.{Picture, cell}
+use Rattle.ca_plane.specs.Prelude.{Picture, cell}
 use Rattle.ca_plane.proofs.Pictures.{point-same}
-use Rattle.ca_rle.specs.declared.item.Item.{Item}
-use Rattle.ca_rle.specs.declared.item.Tag.{Tag}
+use Rattle.ca_rle.specs.declared.item.{Item.Item, Tag.Tag}
 use Rattle.ca_rle.specs.declared.item.Tag.TheVariants.{Cell, RowEnd}
-use Rattle.ca_rle.specs.Shown.{ends_row, tag_state, row_count, columns_of, run_of, place_after, item_cells, picture_after}
-use Rattle.ca_rle.specs.Tidy.{AreTidy}
+use Rattle.ca_rle.specs.Prelude.{ends_row, tag_state, row_count, columns_of, run_of, place_after, item_cells, picture_after, AreTidy}
 use Rattle.ca_rle.proofs.PushedItems.{row_count-push, columns_of-push}
 
 -- ---- a run of cells before a picture

@@ -1,14 +1,9 @@
 -- A tidy text is an RLE file of its plane.
 use Rattle.std.proofs.Common.{◌≡◌, ◌≢◌, ℕ, ◌+◌, ◌<◌, ◌≤◌, ◌^◌, inl, List, [], ◌∷◌, ◌++◌, Some, ℤ, refl, sym, subst, ◌∙◌, append_assoc, append-nil, arith}
 use Rattle.std.specs.List.{AllZip, AllByRecursion}
-use Rattle.ca_plane.specs.Bytes.{IsWord}
-use Rattle.ca_plane.specs.Plane.{Picture, cell, IsSame}
-use Rattle.ca_plane.specs.Sparse.{IsInPlane}
+use Rattle.ca_plane.specs.Prelude.{IsWord, Picture, cell, IsSame, IsInPlane}
 use Rattle.ca_rle.specs.declared.item.Item.{Item}
-use Rattle.ca_rle.specs.Header.{extended_words, WordSays}
-use Rattle.ca_rle.specs.File.{RleFile, line_with_lf, IsRleFile}
-use Rattle.ca_rle.specs.Shown.{picture_of_items}
-use Rattle.ca_rle.specs.Tidy.{corner_line, header_line, IsTidyRle}
+use Rattle.ca_rle.specs.Prelude.{extended_words, WordSays, RleFile, line_with_lf, IsRleFile, picture_of_items, corner_line, header_line, IsTidyRle}
 use Rattle.ca_rle.proofs.OneFile.{one_file}
 use Rattle.ca_rle.proofs.TidyBody.{all_written, text_of, lines_spell}
 use Rattle.ca_rle.proofs.TidyHead.{SaysBoth, corner_line_says, header_line_is, header_line_is_line}

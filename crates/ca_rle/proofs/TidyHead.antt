@@ -4,11 +4,10 @@ use Rattle.std.specs.Fmt.{signed_decimal}
 use Rattle.std.specs.List.{AllZip}
 use Rattle.std.proofs.lemmas.Bool.{cases_Bool, and_parts, eqb-true}
 use Rattle.ca_plane.specs.declared.point.Point.{Point}
-use Rattle.ca_plane.specs.Bytes.{is_blank, is_line_end, is_word_byte, is_end_or, Every, words_of, IsWord, AreDigits, IsInteger}
+use Rattle.ca_plane.specs.Prelude.{is_blank, is_line_end, is_word_byte, is_end_or, Every, words_of, IsWord, AreDigits, IsInteger}
 use Rattle.ca_plane.proofs.Lines.{words_ahead, words_next}
-use Rattle.ca_rle.specs.Header.{IsSpaced, size_parts, rule_parts, IsHeader, is_front_line, words_after_cxrle, extended_words, CxrleWord, Corner, Generation, WordSays}
-use Rattle.ca_rle.specs.File.{IsLine, corner_of, generation_of}
-use Rattle.ca_rle.specs.Tidy.{generation_text, corner_line, header_line}
+use Rattle.ca_rle.specs.Prelude.{IsSpaced, size_parts, rule_parts, IsHeader, is_front_line, words_after_cxrle, extended_words, CxrleWord, Corner, Generation, WordSays, IsLine, corner_of}
+use Rattle.ca_rle.specs.Prelude.{generation_of, generation_text, corner_line, header_line}
 use Rattle.ca_plane.proofs.Fronts.{every_append, every_wider, digits_in_word}
 use Rattle.ca_rle.proofs.Headers.{spaced, digits_are_line, word_is_line}
 use Rattle.ca_plane.proofs.Decimals.{decimal_writes, IsNear, signed_writes}

@@ -4,15 +4,10 @@ use Rattle.std.specs.List.{All, AllByRecursion}
 use Rattle.std.proofs.lemmas.List.Elements.{All-contains}
 use Rattle.std.proofs.lemmas.Int.{ints}
 use Rattle.ca_plane.specs.declared.point.Point.{Point}
-use Rattle.ca_plane.specs.Bytes.{IsWord}
-use Rattle.ca_plane.specs.Plane.{Picture, cell}
+use Rattle.ca_plane.specs.Prelude.{IsWord, Picture, cell, IsInRange}
 use Rattle.ca_plane.proofs.Pictures.{Contains-cell, cell-first}
 use Rattle.ca_rle.specs.declared.item.Item.{Item}
-use Rattle.ca_rle.specs.File.{RleFile, IsRleFile}
-use Rattle.ca_rle.specs.Limits.{IsRleWithinRange, IsWithinLimits}
-use Rattle.ca_plane.specs.Limits.{IsInRange}
-use Rattle.ca_rle.specs.Shown.{picture_of_items}
-use Rattle.ca_rle.specs.Tidy.{IsFrame, IsTidyRle}
+use Rattle.ca_rle.specs.Prelude.{RleFile, IsRleFile, IsRleWithinRange, IsWithinLimits, picture_of_items, IsFrame, IsTidyRle}
 use Rattle.ca_rle.proofs.OneFile.{one_file}
 use Rattle.ca_rle.proofs.TidyCells.{live_after, cells_at, next, drawn, picture_drawn}
 use Rattle.ca_rle.proofs.TidyReach.{AreNear, IsFrameNear, frame_near, live_states, tidy_counts_near}

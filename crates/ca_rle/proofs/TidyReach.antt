@@ -4,12 +4,10 @@ use Rattle.std.specs.List.{AllByRecursion}
 use Rattle.std.proofs.lemmas.Bool.{cases_Bool, eqb-false}
 use Rattle.std.proofs.lemmas.Int.{ints}
 use Rattle.ca_plane.specs.declared.point.Point.{Point}
-use Rattle.ca_plane.specs.Plane.{Picture, cell, IsSame}
-use Rattle.ca_rle.specs.declared.item.Item.{Item}
-use Rattle.ca_rle.specs.declared.item.Tag.{Tag}
+use Rattle.ca_plane.specs.Prelude.{Picture, cell, IsSame}
+use Rattle.ca_rle.specs.declared.item.{Item.Item, Tag.Tag}
 use Rattle.ca_rle.specs.declared.item.Tag.TheVariants.{Cell, RowEnd}
-use Rattle.ca_rle.specs.Shown.{tag_state, picture_of_items}
-use Rattle.ca_rle.specs.Tidy.{AreTidy, IsFrame}
+use Rattle.ca_rle.specs.Prelude.{tag_state, picture_of_items, AreTidy, IsFrame}
 use Rattle.ca_rle.proofs.CellRuns.{all_run}
 use Rattle.ca_plane.proofs.Decimals.{IsNear}
 use Rattle.ca_rle.proofs.TidyCells.{live_after, cells_at, next, drawn, picture_drawn, tidy_counts, tidy_tail, reach}

@@ -2,14 +2,11 @@
 use Rattle.std.proofs.Common.{◌≡◌, ℕ, ◌-◌, ◌<◌, ◌^◌, min, eqb, ne_eqb, eqb-true, Bool, true, false, cond, ◌==◌, List, [], ◌∷◌, ◌++◌, length, Some, None, is_some, refl, sym, ap, ◌∙◌, arith}
 use Rattle.std.proofs.lemmas.Option.{none-some}
 use Rattle.std.proofs.lemmas.List.{nil_from_length}
-use Rattle.ca_plane.specs.Bytes.{is_digit, front, rest, value}
+use Rattle.ca_plane.specs.Prelude.{is_digit, front, rest, value}
 use Rattle.ca_plane.proofs.Fronts.{front_then_rest}
-use Rattle.ca_rle.specs.declared.fault.RleFault.{RleFault}
+use Rattle.ca_rle.specs.declared.{fault.RleFault.RleFault, item.Item.Item, item.Tag.Tag}
 use Rattle.ca_rle.specs.declared.fault.RleFault.TheVariants.{Syntax}
-use Rattle.ca_rle.specs.declared.item.Item.{Item}
-use Rattle.ca_rle.specs.declared.item.Tag.{Tag}
-use Rattle.ca_rle.specs.Items.{InLine, is_prefix, tag_of, IsEnd}
-use Rattle.ca_rle.specs.Faults.{after_white, letter_fault, tag_fault, count_fault, item_fault}
+use Rattle.ca_rle.specs.Prelude.{InLine, is_prefix, tag_of, IsEnd, after_white, letter_fault, tag_fault, count_fault, item_fault}
 use Rattle.ca_rle.specs.inner.BodyFaults.{IsItemAtFront}
 use Rattle.ca_rle.specs.inner.ItemParts.{IsSplit}
 use Rattle.ca_rle.proofs.ItemAt.{item_at, count_of, tag_at_is, after_is_tag}

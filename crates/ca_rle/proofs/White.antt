@@ -1,9 +1,8 @@
 -- White space among the items: two runs of it are one, and what stands after it.
 use Rattle.std.proofs.Common.{◌≡◌, ℕ, ◌<◌, Bool, true, false, cond, not, ◌||◌, ◌==◌, IsTrue, List, [], ◌∷◌, ◌++◌, refl, arith}
 use Rattle.std.proofs.lemmas.Bool.Decides.{nat_tests}
-use Rattle.ca_plane.specs.Bytes.{is_blank, is_line_end, is_digit, is_end_or}
-use Rattle.ca_rle.specs.Items.{Place, AtStart, InLine, InComment, is_white_from, IsWhite}
-use Rattle.ca_rle.specs.Faults.{after_white}
+use Rattle.ca_plane.specs.Prelude.{is_blank, is_line_end, is_digit, is_end_or}
+use Rattle.ca_rle.specs.Prelude.{Place, AtStart, InLine, InComment, is_white_from, IsWhite, after_white}
 
 -- a byte that ends white space: no LF, no blank and no `#`
 pub record Stops (b : ℕ) : Type 0 where

@@ -3,12 +3,9 @@ use Rattle.std.proofs.Common.{◌≡◌, ℕ, List, [], ◌∷◌, ◌++◌, len
 use Rattle.std.specs.List.{flat_map, concat}
 use Rattle.std.proofs.lemmas.List.{take_more, take_all, map-append}
 use Rattle.ca_plane.specs.declared.point.Point.{Point}
-use Rattle.ca_plane.specs.Plane.{Picture, cell}
-use Rattle.ca_plane.specs.Puts.{Puts}
+use Rattle.ca_plane.specs.Prelude.{Picture, cell, Puts}
 use Rattle.ca_rle.specs.declared.item.Item.{Item}
-use Rattle.ca_rle.specs.File.{line_with_lf}
-use Rattle.ca_rle.specs.Shown.{picture_of_items}
-use Rattle.ca_rle.specs.Tidy.{AreTidy, HaveStates, IsFrame, corner_line, header_line, item_text, IsTidyRle}
+use Rattle.ca_rle.specs.Prelude.{line_with_lf, picture_of_items, AreTidy, HaveStates, IsFrame, corner_line, header_line, item_text, IsTidyRle}
 use Rattle.ca_rle.specs.inner.Written.{IsPlaced, PutsLines, IsLaid}
 use Rattle.ca_rle.proofs.LineLayouts.{laid_more, laid_end}
 

@@ -4,11 +4,10 @@ use Rattle.std.specs.List.{AllZip, starts_with, list_all}
 use Rattle.std.proofs.lemmas.Bool.{cases_Bool, cases_lt}
 use Rattle.std.proofs.lemmas.List.{append_cancel_left}
 use Rattle.std.proofs.lemmas.Slice.Eq.{bytes_eq-Decides}
-use Rattle.ca_plane.specs.Bytes.{is_digit, is_end_or, front, rest, AreDigits, IsInteger, value}
+use Rattle.ca_plane.specs.Prelude.{is_digit, is_end_or, front, rest, AreDigits, IsInteger, value}
 use Rattle.ca_rle.specs.declared.fault.RleFault.{RleFault}
 use Rattle.ca_rle.specs.declared.fault.RleFault.TheVariants.{Syntax, GenTooLarge}
-use Rattle.ca_rle.specs.Header.{CxrleWord, Corner, Generation, Nothing, WordSays}
-use Rattle.ca_rle.specs.Faults.{IsBadWord, HasBadWordAmong}
+use Rattle.ca_rle.specs.Prelude.{CxrleWord, Corner, Generation, Nothing, WordSays, IsBadWord, HasBadWordAmong}
 use Rattle.ca_rle.proofs.OneHeader.{no_comma, integer_has_no_comma}
 use Rattle.ca_plane.proofs.Fronts.{front_append, rest_append, front_then_rest}
 

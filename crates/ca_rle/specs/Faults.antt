@@ -3,13 +3,11 @@
 use Rattle.std.specs.Prelude.{◌≡◌, ℕ, ◌≤◌, ℤ, List, [], ◌∷◌, ◌++◌, Bool, true, false, ◌||◌, ◌==◌, nat_le, Option, Some, None, is_some, codes, ◌⊎◌, if◌then◌else◌}
 use Rattle.std.specs.Bool.{nat_eq}
 use Rattle.std.specs.List.{AllZip, starts_with}
-use Rattle.ca_plane.specs.Bytes.{letter, is_blank, is_line_end, is_digit, front, rest, AreDigits, value}
-use Rattle.ca_rle.specs.declared.fault.RleFault.{RleFault}
+use Rattle.ca_plane.specs.Prelude.{letter, is_blank, is_line_end, is_digit, front, rest, AreDigits, value, generation_limit}
+use Rattle.ca_rle.specs.declared.{fault.RleFault.RleFault, item.Item.Item}
 use Rattle.ca_rle.specs.declared.fault.RleFault.TheVariants.{Syntax, Header, XlifeRule, NoEnd, BadState, GenTooLarge, Range, TooManyCells, Memory}
-use Rattle.ca_rle.specs.declared.item.Item.{Item}
 use Rattle.ca_rle.specs.Items.{is_letter, is_prefix, prefixed_state, tag_of, Place, AtStart, InLine, InComment, Run}
 use Rattle.ca_rle.specs.Header.{IsHeader, is_front_line, extended_words, CxrleWord, Corner, WordSays, IsXlifeLine}
-use Rattle.ca_plane.specs.Limits.{generation_limit}
 use Rattle.ca_rle.specs.File.{RleFile, FollowsPreamble, IsHeaded, IsRleFile}
 use Rattle.ca_rle.specs.Limits.{IsRleOutOfRange, HasTooManyRleCells}
 

@@ -2,7 +2,7 @@
 -- its first byte after the white space before it, and what is missing at the end of the text.
 use Rattle.std.specs.Prelude.{◌≡◌, ℕ, ◌+◌, ◌-◌, max, List, length, take, ◌++◌, Option, MatchOption, ◌⊎◌}
 use Rattle.std.specs.List.{count_by}
-use Rattle.ca_plane.specs.Bytes.{is_line_end}
+use Rattle.ca_plane.specs.Prelude.{is_line_end}
 use Rattle.ca_rle.specs.declared.fault.RleFault.{RleFault}
 use Rattle.ca_rle.specs.declared.fault.RleFault.TheVariants.{Syntax, Header, XlifeRule, NoEnd, BadState, GenTooLarge}
 use Rattle.ca_rle.specs.Items.{InLine}

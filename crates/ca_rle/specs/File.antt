@@ -2,8 +2,7 @@
 use Rattle.std.specs.Prelude.{◌≡◌, ℕ, pos, List, [], ◌∷◌, ◌++◌, not, IsTrue, Option, unwrap_or, is_some, true, ◌⊎◌}
 use Rattle.std.specs.List.{flat_map, AllZip, AllByRecursion}
 use Rattle.ca_plane.specs.declared.point.Point.{Point}
-use Rattle.ca_plane.specs.Limits.{default_rule}
-use Rattle.ca_plane.specs.Bytes.{is_line_end, is_end_or, Every}
+use Rattle.ca_plane.specs.Prelude.{default_rule, is_line_end, is_end_or, Every}
 use Rattle.ca_rle.specs.declared.item.Item.{Item}
 use Rattle.ca_rle.specs.Items.{Items}
 use Rattle.ca_rle.specs.Header.{IsHeader, is_front_line, extended_words, CxrleWord, Corner, Generation, Nothing, WordSays, IsXlifeLine}

@@ -3,8 +3,7 @@ use Rattle.std.specs.Prelude.{◌≡◌, ℕ, ◌<◌, ℤ, List, [], ◌∷◌,
 use Rattle.std.specs.Str.{bytes_eq}
 use Rattle.std.specs.List.{starts_with}
 use Rattle.std.specs.Bool.{nat_eq}
-use Rattle.ca_plane.specs.Limits.{generation_limit}
-use Rattle.ca_plane.specs.Bytes.{letter, is_blank, Every, AreDigits, IsInteger, IsWord, value, rest, is_end_or, words_of, without_cr}
+use Rattle.ca_plane.specs.Prelude.{generation_limit, letter, is_blank, Every, AreDigits, IsInteger, IsWord, value, rest, is_end_or, words_of, without_cr}
 
 -- a part of a header: these very bytes, or a number
 pub data Part : Type 0 where

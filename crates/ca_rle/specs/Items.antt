@@ -1,8 +1,7 @@
 -- The items of an extended RLE text (Golly Help, File Formats: Extended RLE format).
 use Rattle.std.specs.Prelude.{◌≡◌, ℕ, ◌+◌, ◌-◌, ◌*◌, ◌<◌, List, [], ◌∷◌, ◌++◌, Bool, true, false, ◌&&◌, ◌||◌, ◌==◌, nat_le, IsTrue, Option, Some, None, if◌then◌else◌}
-use Rattle.ca_plane.specs.Bytes.{letter, is_blank, is_line_end, AreDigits, value}
-use Rattle.ca_rle.specs.declared.item.Item.{Item}
-use Rattle.ca_rle.specs.declared.item.Tag.{Tag}
+use Rattle.ca_plane.specs.Prelude.{letter, is_blank, is_line_end, AreDigits, value}
+use Rattle.ca_rle.specs.declared.item.{Item.Item, Tag.Tag}
 use Rattle.ca_rle.specs.declared.item.Tag.TheVariants.{Cell, RowEnd}
 
 -- `A` to `X`

@@ -1,11 +1,7 @@
 -- Texts that are told of by their items, without a plane of their cells.
 use Rattle.std.specs.Prelude.{◌≡◌, ◌≢◌, ℕ, ◌<◌, ◌≤◌, ℤ, List, unwrap_or, MatchOption}
 use Rattle.std.specs.Option.{option_copied}
-use Rattle.ca_plane.specs.Bytes.{IsWord}
-use Rattle.ca_plane.specs.Limits.{default_rule, generation_limit}
-use Rattle.ca_plane.specs.Plane.{IsPicture, IsLive, cell}
-use Rattle.ca_plane.specs.Box.{IsLeastBox}
-use Rattle.ca_plane.specs.Population.{HasPopulation}
+use Rattle.ca_plane.specs.Prelude.{IsWord, default_rule, generation_limit, IsPicture, IsLive, cell, IsLeastBox, HasPopulation}
 use Rattle.ca_rle.specs.declared.rle_text.RleText.{RleText}
 use Rattle.ca_rle.specs.File.{RleFile, IsRleFile}
 use Rattle.ca_rle.specs.Items.{Items}

@@ -1,7 +1,7 @@
 -- The limits of an RLE text (our own): what is out of range, and how many live cells are too many.
 use Rattle.std.specs.Prelude.{◌<◌, ◌≤◌, length}
 use Rattle.std.specs.List.{AllByRecursion}
-use Rattle.ca_plane.specs.Limits.{longest_count, most_cells, IsInRange}
+use Rattle.ca_plane.specs.Prelude.{longest_count, most_cells, IsInRange}
 use Rattle.ca_rle.specs.File.{RleFile}
 use Rattle.ca_rle.specs.Shown.{picture_of_items}
 

@@ -1,14 +1,9 @@
 -- Texts that are read and the patterns that they hold, and planes that can be written as texts.
 use Rattle.std.specs.Prelude.{◌≡◌, ℕ, ◌<◌, ◌≤◌, ℤ, List, length}
 use Rattle.std.specs.List.{All}
-use Rattle.ca_plane.specs.Bytes.{IsWord}
-use Rattle.ca_plane.specs.BitPlane.{bit_cell}
-use Rattle.ca_plane.specs.Plane.{Picture, IsPicture, cell}
-use Rattle.ca_plane.specs.Sparse.{IsSparse}
-use Rattle.ca_plane.specs.Limits.{IsInRange, generation_limit, most_cells}
-use Rattle.ca_rle.specs.declared.pattern.PackedCells.{PackedCells}
+use Rattle.ca_plane.specs.Prelude.{IsWord, bit_cell, Picture, IsPicture, cell, IsSparse, IsInRange, generation_limit, most_cells}
+use Rattle.ca_rle.specs.declared.pattern.{PackedCells.PackedCells, Pattern.Pattern}
 use Rattle.ca_rle.specs.declared.pattern.PackedCells.TheVariants.{Words, States}
-use Rattle.ca_rle.specs.declared.pattern.Pattern.{Pattern}
 use Rattle.ca_rle.specs.File.{RleFile, IsRleFile}
 use Rattle.ca_rle.specs.Limits.{IsRleWithinRange, IsWithinLimits}
 use Rattle.ca_rle.specs.Shown.{picture_of_items}

@@ -2,9 +2,8 @@
 use Rattle.std.specs.Prelude.{ℕ, max, pos, ◌+ℤ◌, List, [], ◌∷◌, ◌++◌, map, Bool, true, false, ◌==◌, if◌then◌else◌}
 use Rattle.std.specs.List.{sum_by, after_last, range_with_len}
 use Rattle.ca_plane.specs.declared.point.Point.{Point}
-use Rattle.ca_plane.specs.Plane.{Picture}
-use Rattle.ca_rle.specs.declared.item.Item.{Item}
-use Rattle.ca_rle.specs.declared.item.Tag.{Tag}
+use Rattle.ca_plane.specs.Prelude.{Picture}
+use Rattle.ca_rle.specs.declared.item.{Item.Item, Tag.Tag}
 use Rattle.ca_rle.specs.declared.item.Tag.TheVariants.{Cell, RowEnd}
 
 -- whether a tag ends a row

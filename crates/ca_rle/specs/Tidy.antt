@@ -3,12 +3,9 @@
 use Rattle.std.specs.Prelude.{◌≡◌, ◌≢◌, ℕ, ◌+◌, ◌-◌, ◌<◌, ◌≤◌, pos, ◌+ℤ◌, ◌-ℤ◌, List, [], ◌∷◌, ◌++◌, map, length, ◌==◌, nat_le, codes, decimal, ◌⊎◌, if◌then◌else◌, ◌/◌, ◌%◌}
 use Rattle.std.specs.Fmt.{signed_decimal}
 use Rattle.std.specs.List.{flat_map, concat, AllByRecursion}
-use Rattle.ca_plane.specs.declared.point.Point.{Point}
-use Rattle.ca_plane.specs.declared.point.Bounds.{Bounds}
-use Rattle.ca_plane.specs.Plane.{Picture, IsSame, IsLive}
-use Rattle.ca_plane.specs.Box.{IsLeastBox}
-use Rattle.ca_rle.specs.declared.item.Item.{Item}
-use Rattle.ca_rle.specs.declared.item.Tag.{Tag}
+use Rattle.ca_plane.specs.declared.point.{Point.Point, Bounds.Bounds}
+use Rattle.ca_plane.specs.Prelude.{Picture, IsSame, IsLive, IsLeastBox}
+use Rattle.ca_rle.specs.declared.item.{Item.Item, Tag.Tag}
 use Rattle.ca_rle.specs.declared.item.Tag.TheVariants.{Cell, RowEnd}
 use Rattle.ca_rle.specs.Shown.{tag_state, picture_of_items}
 use Rattle.ca_rle.specs.File.{line_with_lf}

@@ -1,16 +1,12 @@
 //! The cells of items, drawn one after another.
 
 ghost use Rattle.std.specs.Prelude.{◌≡◌, ◌≢◌, ℕ, ℤ, ◌<◌, ◌≤◌, ⊤, List, Some, MatchOption, OnOk, IfOk};
-ghost use Rattle.ca_plane.specs.BitPlane.{bit_cell};
-ghost use Rattle.ca_plane.specs.Plane.{IsPicture, cell};
-ghost use Rattle.ca_plane.specs.Sparse.{IsSparse};
-ghost use Rattle.ca_rle.specs.declared.item.Item.{Item};
-ghost use Rattle.ca_rle.specs.declared.fault.RleFault.{RleFault};
+ghost use Rattle.ca_plane.specs.Prelude.{bit_cell, IsPicture, cell, IsSparse, IsInRange};
+ghost use Rattle.ca_rle.specs.declared.{item.Item.Item, fault.RleFault.RleFault};
 ghost use Rattle.ca_rle.specs.Items.{IsEnd, Items};
 ghost use Rattle.ca_rle.specs.Faults.{item_fault};
 ghost use Rattle.ca_rle.specs.Shown.{tag_state, greatest_state, run_of, picture_of_items};
 ghost use Rattle.ca_rle.specs.Limits.{IsRleWithinRange};
-ghost use Rattle.ca_plane.specs.Limits.{IsInRange};
 ghost use Rattle.ca_rle.specs.inner.BodyFaults.{IsItemAtFront, bare_file};
 ghost use Rattle.ca_rle.specs.inner.Extent.{point_from, HasRoomRight, cells_from, drawn_over};
 

@@ -3,8 +3,7 @@
 ghost use Rattle.std.specs.Prelude.{◌≡◌, [], ◌∷◌, pos, negsuc, codes};
 ghost use Rattle.ca_plane.specs.declared.point.Point.{Point};
 ghost use Rattle.ca_rle.specs.declared.item.Tag.TheVariants.{Cell, RowEnd};
-ghost use Rattle.ca_rle.specs.declared.fault.RleFault.TheVariants.{Syntax, Header, XlifeRule, NoEnd};
-ghost use Rattle.ca_rle.specs.declared.fault.RleFault.TheVariants.{BadState, GenTooLarge};
+ghost use Rattle.ca_rle.specs.declared.fault.RleFault.TheVariants.{Syntax, Header, XlifeRule, NoEnd, BadState, GenTooLarge};
 ghost use Rattle.ca_rle.specs.Faults.{IsFirstRleFault};
 ghost use Rattle.ca_rle.specs.FaultyLine.{IsFirstRleFaultOn};
 ghost use Rattle.ca_rle.specs.Items.{Items};

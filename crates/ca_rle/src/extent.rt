@@ -1,18 +1,15 @@
 //! How far the items of an RLE text reach, which is judged before anything is drawn. Nothing here takes
 //! memory.
 
-ghost use Rattle.std.specs.Prelude.{◌≡◌, ◌≢◌, ℕ, ◌+◌, ◌-◌, ◌≤◌, min, max, pos, neg_ℤ, ◌+ℤ◌, ◌≤ℤ◌, ◌<ℤ◌, List, [], Some};
-ghost use Rattle.std.specs.Prelude.{None, IfSome, ◌==◌, IsTrue, ◌↔◌, IfOk, IfErr, MatchOption, MatchResult, if◌then◌else◌};
-ghost use Rattle.ca_rle.specs.declared.item.Item.{Item};
-ghost use Rattle.ca_rle.specs.declared.extent.Span.{Span};
+ghost use Rattle.std.specs.Prelude.{◌≡◌, ◌≢◌, ℕ, ◌+◌, ◌-◌, ◌≤◌, min, max, pos, neg_ℤ, ◌+ℤ◌, ◌≤ℤ◌, ◌<ℤ◌, List, [], Some, None};
+ghost use Rattle.std.specs.Prelude.{IfSome, ◌==◌, IsTrue, ◌↔◌, IfOk, IfErr, MatchOption, MatchResult, if◌then◌else◌};
+ghost use Rattle.ca_rle.specs.declared.{item.Item.Item, extent.Span.Span};
 ghost use Rattle.ca_rle.specs.Items.{InLine, IsEnd, Items};
 ghost use Rattle.ca_rle.specs.Faults.{after_white, item_fault};
 ghost use Rattle.ca_rle.specs.Shown.{ends_row, tag_state};
-ghost use Rattle.ca_plane.specs.Limits.{IsInRange, range};
+ghost use Rattle.ca_plane.specs.Prelude.{IsInRange, range, nearest_u64};
 ghost use Rattle.ca_rle.specs.inner.BodyFaults.{IsItemAtFront, HasBadUnitAt};
-ghost use Rattle.ca_plane.specs.Bytes.{nearest_u64};
-ghost use Rattle.ca_rle.specs.inner.Extent.{live_count_of_item, point_from};
-ghost use Rattle.ca_rle.specs.inner.Extent.{IsOffsetOf, IsItemsExtent, IsExtentInRange};
+ghost use Rattle.ca_rle.specs.inner.Extent.{live_count_of_item, point_from, IsOffsetOf, IsItemsExtent, IsExtentInRange};
 ghost use Rattle.ca_rle.specs.inner.Boxes.{IsBoxInRange, IsSpanOf, IsSpanWith, bounds_at, box_at};
 
 use crate::faulty::FaultPlace;

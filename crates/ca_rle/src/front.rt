@@ -6,7 +6,7 @@ mod words;
 
 ghost use Rattle.std.specs.Prelude.{◌≡◌, ℕ, List, ◌++◌, true, false, not, IfOk, IfErr};
 ghost use Rattle.std.specs.List.{flat_map};
-ghost use Rattle.ca_plane.specs.Bytes.{Every, is_line_end, is_end_or};
+ghost use Rattle.ca_plane.specs.Prelude.{Every, is_line_end, is_end_or};
 ghost use Rattle.ca_rle.specs.Header.{CxrleWord, is_front_line};
 ghost use Rattle.ca_rle.specs.File.{line_with_lf};
 ghost use Rattle.ca_rle.specs.FaultyLine.{IsFirstFaultAt};

@@ -2,9 +2,8 @@
 
 ghost use Rattle.std.specs.Prelude.{◌≡◌, ◌≢◌, ◌⊎◌, ℕ, ◌+◌, ◌<◌, max, List, [], ◌∷◌, ◌++◌, length, None};
 ghost use Rattle.std.specs.List.{flat_map, AllByRecursion};
-ghost use Rattle.ca_plane.specs.Bytes.{lines_of};
-ghost use Rattle.ca_rle.specs.declared.item.Item.{Item};
-ghost use Rattle.ca_rle.specs.declared.fault.RleFault.{RleFault};
+ghost use Rattle.ca_plane.specs.Prelude.{lines_of};
+ghost use Rattle.ca_rle.specs.declared.{item.Item.Item, fault.RleFault.RleFault};
 ghost use Rattle.ca_rle.specs.declared.fault.RleFault.TheVariants.{Memory};
 ghost use Rattle.ca_rle.specs.Items.{Items, IsEnd, Run};
 ghost use Rattle.ca_rle.specs.Faults.{item_fault, IsFirstRleFault, IsRleFault};

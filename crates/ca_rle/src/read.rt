@@ -2,7 +2,7 @@
 
 ghost use Rattle.std.specs.Prelude.{◌≡◌, unwrap_or, IfOk, IfErr, IsErrOf};
 ghost use Rattle.std.specs.Option.{option_copied};
-ghost use Rattle.ca_plane.specs.Limits.{default_rule};
+ghost use Rattle.ca_plane.specs.Prelude.{default_rule};
 ghost use Rattle.ca_rle.specs.declared.fault.RleFault.TheVariants.{Memory};
 ghost use Rattle.ca_rle.specs.Faults.{IsRleFault};
 ghost use Rattle.ca_rle.specs.FaultyLine.{IsRleFaultOn};

@@ -1,7 +1,7 @@
 //! Texts that were judged and whose cells aren't kept: what is told of a text goes by its items.
 
 ghost use Rattle.std.specs.Prelude.{◌≡◌, ◌≢◌, ℕ, ℤ, List, IfOk, IfErr};
-ghost use Rattle.ca_plane.specs.Plane.{cell};
+ghost use Rattle.ca_plane.specs.Prelude.{cell};
 ghost use Rattle.ca_rle.specs.declared.fault.RleFault.TheVariants.{Memory};
 ghost use Rattle.ca_rle.specs.FaultyLine.{IsRleFaultOn};
 ghost use Rattle.ca_rle.specs.Judged.{IsRleText};

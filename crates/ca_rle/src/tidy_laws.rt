@@ -1,10 +1,7 @@
 //! Laws of tidy texts: what a tidy text says, and that a plane has one at most.
 
 ghost use Rattle.std.specs.Prelude.{◌≡◌, ◌≢◌, ℕ, ◌<◌, ℤ, List};
-ghost use Rattle.ca_plane.specs.Bytes.{IsWord};
-ghost use Rattle.ca_plane.specs.Plane.{Picture, cell, IsSame};
-ghost use Rattle.ca_plane.specs.Sparse.{IsInPlane};
-ghost use Rattle.ca_plane.specs.Limits.{IsInRange, generation_limit};
+ghost use Rattle.ca_plane.specs.Prelude.{IsWord, Picture, cell, IsSame, IsInPlane, IsInRange, generation_limit};
 ghost use Rattle.ca_rle.specs.File.{RleFile, IsRleFile};
 ghost use Rattle.ca_rle.specs.Limits.{IsRleWithinRange};
 ghost use Rattle.ca_rle.specs.Shown.{picture_of_items};

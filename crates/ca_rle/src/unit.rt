@@ -2,7 +2,7 @@
 
 ghost use Rattle.std.specs.Prelude.{◌≡◌, ℕ, ◌<◌, ◌≤◌, ◌-◌, List, [], ◌∷◌, ◌++◌, Some, false, not};
 ghost use Rattle.std.specs.Prelude.{length, MatchOption, MatchResult, IsTrue};
-ghost use Rattle.ca_plane.specs.Bytes.{is_blank, is_digit, is_end_or, nearest_u64, Every, value};
+ghost use Rattle.ca_plane.specs.Prelude.{is_blank, is_digit, is_end_or, nearest_u64, Every, value};
 ghost use Rattle.ca_rle.specs.declared.item.Item.{Item};
 ghost use Rattle.ca_rle.specs.Items.{AtStart, InLine, is_prefix, tag_of, IsEnd};
 ghost use Rattle.ca_rle.specs.Faults.{after_white, letter_fault, tag_fault, item_fault};

@@ -7,8 +7,7 @@ use Rattle.std.proofs.lemmas.Bool.Decides.{nat_tests}
 use Rattle.std.proofs.lemmas.List.{length-map}
 use Rattle.std.proofs.lemmas.List.Folds.{list_all-append}
 use Rattle.ca_rule.specs.declared.table.slot.Slot.{Slot}
-use Rattle.ca_rule.specs.TableOrders.{every_order}
-use Rattle.ca_rule.specs.TableNext.{States, Transition, SlotCell, admits, is_variable, take_one_cell, fits}
+use Rattle.ca_rule.specs.Prelude.{every_order, States, Transition, SlotCell, admits, is_variable, take_one_cell, fits}
 use Rattle.ca_rule.specs.declared.table.slot.Slot.TheVariants.{Number, Variable}
 use Rattle.std.proofs.lemmas.List.Sums.{sum_by-cons}
 use Rattle.ca_rule.specs.inner.TablePlaces.{taken_at}

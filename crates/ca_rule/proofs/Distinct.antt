@@ -11,7 +11,7 @@ use Rattle.std.proofs.lemmas.List.Folds.{list_all-append}
 use Rattle.std.proofs.lemmas.Nat.Bits.{bit_at_or, bit_at-pow_same, bit_at-lt}
 use Rattle.ca_rule.specs.declared.table.slot.Slot.{Slot}
 use Rattle.ca_rule.specs.declared.table.slot.Slot.TheVariants.{Number, Variable}
-use Rattle.ca_rule.specs.TableNext.{SlotCell, is_variable, take_one_cell}
+use Rattle.ca_rule.specs.Prelude.{SlotCell, is_variable, take_one_cell}
 use Rattle.ca_rule.specs.inner.TableDistinct.{are_distinct}
 
 -- slots that aren't the variable take any cell beside it

@@ -5,9 +5,9 @@ use Rattle.std.proofs.lemmas.Bool.{and_parts, cases_Bool}
 use Rattle.std.proofs.lemmas.Bool.Decides.{nat_tests}
 use Rattle.std.proofs.lemmas.List.{append-nil}
 use Rattle.std.proofs.lemmas.List.Folds.{list_any-append}
-use Rattle.ca_plane.specs.Bytes.{Every}
+use Rattle.ca_plane.specs.Prelude.{Every}
 use Rattle.ca_rule.specs.inner.TextParts.{is_rule_letter, hood_at, hood_of, body_of}
-use Rattle.ca_rule.specs.Spelling.{IsLetter, IsSuffix, has_colon}
+use Rattle.ca_rule.specs.Prelude.{IsLetter, IsSuffix, has_colon}
 use Rattle.ca_rule.specs.declared.hood.Hood.{Hood}
 use Rattle.ca_rule.specs.declared.hood.Hood.TheVariants.{Moore, VonNeumann, Hex}
 

@@ -6,10 +6,9 @@ use Rattle.std.proofs.lemmas.Bool.{cases_Bool}
 use Rattle.std.proofs.lemmas.List.Sums.{sum_by-cons}
 use Rattle.std.proofs.lemmas.Bool.Decides.{nat_tests}
 use Rattle.std.proofs.lemmas.List.{map-append, length-map}
-use Rattle.ca_rule.specs.TableOrders.{every_order, picks}
+use Rattle.ca_rule.specs.Prelude.{every_order, picks, States, Transition, fits}
 use Rattle.std.specs.Option.{option_or}
 use Rattle.ca_rule.proofs.OrderSearches.{drop-picks}
-use Rattle.ca_rule.specs.TableNext.{States, Transition, fits}
 use Rattle.ca_rule.specs.inner.TablePlaces.{taken_at, outcome_at}
 use Rattle.ca_rule.specs.inner.TableSearch.{least_outcome, picked_outcome, LeadToNone}
 use Rattle.ca_rule.proofs.RingOrders.{every_order-map}

@@ -3,7 +3,7 @@ use Rattle.std.proofs.Common.{◌≡◌, ◌≤◌, ℕ, true, List, [], ◌∷�
 use Rattle.std.specs.List.{list_all, AllZip}
 use Rattle.std.proofs.lemmas.Bool.{and_parts, false≢true}
 use Rattle.ca_rule.specs.declared.table.slot.Slot.{Slot}
-use Rattle.ca_rule.specs.TableLines.{is_field}
+use Rattle.ca_rule.specs.Prelude.{is_field}
 use Rattle.ca_rule.specs.inner.TableNames.{IsSlot, AreSlots}
 
 -- one more pair of two lists

@@ -1,8 +1,8 @@
 -- The fields of a line.
 use Rattle.std.proofs.Common.{◌≡◌, ◌==◌, ◌≤◌, ℕ, not, List, [], ◌∷◌, length, map, take, drop, refl, ap, arith, inl, inr}
 use Rattle.std.proofs.lemmas.Bool.{cases_Bool}
-use Rattle.ca_plane.specs.Bytes.{front, rest, trimmed, with_front}
-use Rattle.ca_rule.specs.TableLines.{comma_parts, fields_between}
+use Rattle.ca_plane.specs.Prelude.{front, rest, trimmed, with_front}
+use Rattle.ca_rule.specs.Prelude.{comma_parts, fields_between}
 
 -- one part follows the last comma
 last-part : (bytes : List ℕ) → rest (λ b. not (b == 44)) bytes ≡ [] → comma_parts bytes ≡ front (λ b. not (b == 44)) bytes ∷ []

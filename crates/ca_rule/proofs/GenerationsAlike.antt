@@ -4,9 +4,8 @@ use Rattle.std.specs.List.{All, list_any}
 use Rattle.std.proofs.lemmas.Bool.{cases_Bool}
 use Rattle.std.proofs.lemmas.Bool.Decides.{nat_tests}
 use Rattle.std.proofs.lemmas.List.Elements.{All-get_or, All-from_recursion}
-use Rattle.ca_rule.specs.Counts.{is_count}
-use Rattle.ca_plane.specs.Ageing.{liveness, older}
-use Rattle.ca_rule.specs.Generations.{live_count, generations_next_state, generations_next}
+use Rattle.ca_rule.specs.Prelude.{is_count, live_count, generations_next_state, generations_next}
+use Rattle.ca_plane.specs.Prelude.{liveness, older}
 use Rattle.ca_rule.specs.Next as bs
 use Rattle.ca_rule.specs.declared.counts.Counts.{Counts}
 use Rattle.ca_rule.specs.declared.hood.Hood.TheVariants.{Moore}

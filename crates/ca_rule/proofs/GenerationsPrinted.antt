@@ -3,15 +3,11 @@ use Rattle.std.proofs.Common.{◌≡◌, ◌≤◌, ℕ, List, [], ◌∷◌, �
 use Rattle.std.specs.List.{list_all}
 use Rattle.std.proofs.lemmas.Bool.{and_from}
 use Rattle.std.proofs.lemmas.Bool.Decides.{nat_tests}
-use Rattle.ca_plane.specs.Bytes.{AreDigits, Every, is_digit, is_word_byte, IsWord, value}
+use Rattle.ca_plane.specs.Prelude.{AreDigits, Every, is_digit, is_word_byte, IsWord, value}
 use Rattle.ca_plane.proofs.Decimals.{decimal_writes}
 use Rattle.ca_plane.proofs.Fronts.{every_append, every_digit, every_wider}
-use Rattle.ca_rule.specs.Counts.{is_count}
-use Rattle.ca_rule.specs.Digits.{are_digits, state_count}
-use Rattle.ca_rule.specs.Generations.{NamesGenerationsRule, printed_generations_rule}
-use Rattle.ca_rule.specs.Spelling.{digits_of}
-use Rattle.ca_rule.specs.declared.counts.Counts.{Counts}
-use Rattle.ca_rule.specs.declared.gen_rule.GenRule.{GenRule}
+use Rattle.ca_rule.specs.Prelude.{is_count, are_digits, state_count, NamesGenerationsRule, printed_generations_rule, digits_of}
+use Rattle.ca_rule.specs.declared.{counts.Counts.Counts, gen_rule.GenRule.GenRule}
 use Rattle.ca_rule.specs.declared.hood.Hood.TheVariants.{Moore}
 use Rattle.ca_rule.proofs.PrintedRules.{numbers, digits-fit, digit_counts, counts-printed}
 use Rattle.ca_rule.proofs.PrintedWords.{digits_in_word}

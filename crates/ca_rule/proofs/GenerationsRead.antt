@@ -4,16 +4,13 @@ use Rattle.std.specs.List.{list_all, All}
 use Rattle.std.proofs.lemmas.Bool.{and_parts, and_from, false≢true}
 use Rattle.std.proofs.lemmas.List.Sums.{AllPass-from_list_all}
 use Rattle.std.proofs.lemmas.Option.{same_Some, none-some}
-use Rattle.ca_plane.specs.Bytes.{Every, is_digit, value}
+use Rattle.ca_plane.specs.Prelude.{Every, is_digit, value}
 use Rattle.ca_plane.proofs.Fronts.{every_append, every_right}
-use Rattle.ca_rule.specs.Counts.{has_digit, counts_of, are_digits_up_to}
-use Rattle.ca_rule.specs.Digits.{are_digits, state_count}
-use Rattle.ca_rule.specs.Generations.{SpellsGenerationsRule, SpellsNoGenerationsRule, NamesGenerationsRule, IsGenerationsRuleFault}
+use Rattle.ca_rule.specs.Prelude.{has_digit, counts_of, are_digits_up_to, are_digits, state_count, SpellsGenerationsRule, SpellsNoGenerationsRule, NamesGenerationsRule, IsGenerationsRuleFault}
 use Rattle.ca_rule.specs.Spelling as bs
 use Rattle.ca_rule.specs.inner.TextParts.{lists_around_slash, lists_of, swapped_lists}
-use Rattle.ca_rule.specs.declared.fault.RuleFault.{RuleFault}
+use Rattle.ca_rule.specs.declared.{fault.RuleFault.RuleFault, gen_rule.GenRule.GenRule}
 use Rattle.ca_rule.specs.declared.fault.RuleFault.TheVariants.{Unknown}
-use Rattle.ca_rule.specs.declared.gen_rule.GenRule.{GenRule}
 use Rattle.ca_rule.specs.declared.hood.Hood.TheVariants.{Moore}
 use Rattle.ca_rule.proofs.Ends.{is_plain, split, no_colon}
 use Rattle.ca_rule.proofs.SpelledDigits.{around_slash-from, first_list}

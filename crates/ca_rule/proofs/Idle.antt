@@ -5,10 +5,8 @@ use Rattle.std.specs.Int.{bit_at}
 use Rattle.std.specs.List.{count_by}
 use Rattle.std.proofs.lemmas.Bool.{cases_Bool, false≢true}
 use Rattle.std.proofs.lemmas.Bool.Decides.{nat_tests}
-use Rattle.ca_rule.specs.declared.table.slot.Slot.{Slot}
-use Rattle.ca_rule.specs.declared.table.neighbourhood.Neighbourhood.{Neighbourhood}
-use Rattle.ca_rule.specs.TableOrders.{ring, ring_size, picks, every_order}
-use Rattle.ca_rule.specs.TableNext.{States, Transition, admits, fits, result_state}
+use Rattle.ca_rule.specs.declared.table.{slot.Slot.Slot, neighbourhood.Neighbourhood.Neighbourhood}
+use Rattle.ca_rule.specs.Prelude.{ring, ring_size, picks, every_order, States, Transition, admits, fits, result_state}
 use Rattle.ca_rule.specs.inner.TablePlaces.{slots_admit, taken_at, outcome_at}
 use Rattle.ca_rule.specs.inner.TransitionIndices.{first_inputs, takable, HasIdle, GivesNone}
 use Rattle.ca_rule.proofs.PermutedLists.{Alike, count-cons, length-alike, orders-alike, each-more}

@@ -10,7 +10,7 @@ use Rattle.std.proofs.lemmas.Bool.{cases_Bool, false≢true}
 use Rattle.std.proofs.lemmas.Bool.Decides.{nat_tests}
 use Rattle.std.proofs.lemmas.Nat.Bits.{bit_at_and, bit_at_or, bit_at_ones, bit_at-pow_same}
 use Rattle.ca_rule.specs.declared.table.slot.Slot.{Slot}
-use Rattle.ca_rule.specs.TableNext.{States, Transition, SlotCell, admits, fits}
+use Rattle.ca_rule.specs.Prelude.{States, Transition, SlotCell, admits, fits}
 use Rattle.ca_rule.specs.inner.TablePlaces.{slots_admit, begins_at_centre, outcome_at}
 use Rattle.ca_rule.specs.inner.TransitionIndices.{first_inputs, inputs_at, TellsBefore, TellsSlot, IsIndex, FitNowhere, GivesNone}
 use Rattle.ca_rule.proofs.SlotFits.{fits_halved}

@@ -1,11 +1,7 @@
 -- A text names one rule at most, and no rule where it has a fault.
 use Rattle.std.proofs.Common.{◌≡◌, ℕ, List, false, Some, ap, sym, ◌∙◌, rules}
-use Rattle.ca_rule.specs.Counts.{has_digit, counts_of}
-use Rattle.ca_rule.specs.Spelling.{has_colon, NamesCounts, IsSpellingFault, SpellsBsRule, NamesBsRule, IsBsRuleFault}
-use Rattle.ca_rule.specs.declared.bs_rule.BsRule.{BsRule}
-use Rattle.ca_rule.specs.declared.counts.Counts.{Counts}
-use Rattle.ca_rule.specs.declared.hood.Hood.{Hood}
-use Rattle.ca_rule.specs.declared.fault.RuleFault.{RuleFault}
+use Rattle.ca_rule.specs.Prelude.{has_digit, counts_of, has_colon, NamesCounts, IsSpellingFault, SpellsBsRule, NamesBsRule, IsBsRuleFault}
+use Rattle.ca_rule.specs.declared.{bs_rule.BsRule.BsRule, counts.Counts.Counts, hood.Hood.Hood, fault.RuleFault.RuleFault}
 use Rattle.ca_rule.specs.declared.fault.RuleFault.TheVariants.{Bounded, Wakes, Unknown}
 use Rattle.ca_rule.proofs.SpelledDigits.{first_list, second_list}
 use Rattle.ca_rule.proofs.ReadInwards.{read}

@@ -3,10 +3,10 @@ use Rattle.std.proofs.Common.{◌≡◌, ℕ, Bool, true, false, ◌&&◌, ◌||
 use Rattle.std.specs.List.{list_all, list_any}
 use Rattle.std.proofs.lemmas.Bool.{cases_Bool, or_cases, and_parts, and_from, or_from, or_left, or_right, false≢true, cond-true, cond-false}
 use Rattle.std.proofs.lemmas.Bool.Decides.{nat_tests}
-use Rattle.ca_plane.specs.Bytes.{is_blank, is_digit, front, rest, without_last_blanks, trimmed, with_front}
+use Rattle.ca_plane.specs.Prelude.{is_blank, is_digit, front, rest, without_last_blanks, trimmed, with_front}
 use Rattle.ca_plane.proofs.Fronts.{front_then_rest, every_right, every_wider}
-use Rattle.ca_rule.specs.Digits.{are_digits}
-use Rattle.ca_rule.specs.TableLines.{NumberedLine, tail_after, setting, setting_words, is_setting, begins_with, begins_section, begins_variable, is_name_byte, is_name, is_field, comma_parts, fields_between, fields_of, IsVariableLine, IsTransitionLine}
+use Rattle.ca_rule.specs.Prelude.{are_digits, NumberedLine, tail_after, setting, setting_words, is_setting, begins_with, begins_section, begins_variable, is_name_byte, is_name, is_field, comma_parts}
+use Rattle.ca_rule.specs.Prelude.{fields_between, fields_of, IsVariableLine, IsTransitionLine}
 use Rattle.ca_rule.specs.inner.TableFields.{after_brace}
 use Rattle.ca_rule.proofs.TextTails.{tail_after-whole}
 use Rattle.ca_rule.proofs.VariableLines.{parts-of-line, line-of-parts, opened-braced, braced-opened}

@@ -3,15 +3,12 @@ use Rattle.std.proofs.Common.{◌≡◌, ℕ, ◌<◌, ◌≤◌, ◌⊎◌, Boo
 use Rattle.std.specs.List.{list_all, AllZip}
 use Rattle.std.proofs.lemmas.Bool.{cases_Bool, and_parts, false_from_ne_true}
 use Rattle.std.proofs.lemmas.Bool.Decides.{nat_tests}
-use Rattle.ca_plane.specs.Bytes.{is_digit, value}
-use Rattle.ca_rule.specs.declared.table.fault.TableFault.{TableFault}
+use Rattle.ca_plane.specs.Prelude.{is_digit, value}
+use Rattle.ca_rule.specs.declared.table.{fault.TableFault.TableFault, slot.Slot.Slot}
 use Rattle.ca_rule.specs.declared.table.fault.TableFault.TheVariants as faults
-use Rattle.ca_rule.specs.declared.table.slot.Slot.{Slot}
 use Rattle.ca_rule.specs.declared.table.slot.Slot.TheVariants.{Number, Variable}
-use Rattle.ca_rule.specs.Digits.{are_digits}
-use Rattle.ca_rule.specs.TableLines.{NumberedLine, begins_section, is_setting, is_name, is_field, IsVariableLine, IsTransitionLine}
-use Rattle.ca_rule.specs.TableText.{Settings, SaidStatements, number_of, StandsFor, is_bound, field_count, SaysVariable, SaysTransition}
-use Rattle.ca_rule.specs.TableFaults.{IsMisspelled, HasFields, HasBadState, HasUnknownName, HasUnbound}
+use Rattle.ca_rule.specs.Prelude.{are_digits, NumberedLine, begins_section, is_setting, is_name, is_field, IsVariableLine, IsTransitionLine, Settings, SaidStatements, number_of, StandsFor, is_bound}
+use Rattle.ca_rule.specs.Prelude.{field_count, SaysVariable, SaysTransition, IsMisspelled, HasFields, HasBadState, HasUnknownName, HasUnbound}
 use Rattle.ca_rule.specs.inner.TableSaid.{with_variable}
 use Rattle.ca_rule.proofs.OneSpelling.{map-some, some_if, some-if, variable_of, variable-is-of, variable-of-is, transition_of, transition-is-of, transition-of-is, transition-no-section, variable-no-section, variable-no-setting, transition-no-setting}
 

@@ -8,8 +8,7 @@ use Rattle.std.proofs.lemmas.List.{map-append, drop-map, length-map}
 use Rattle.std.proofs.lemmas.List.Folds.{list_all-append}
 use Rattle.ca_rule.specs.declared.table.slot.Slot.{Slot}
 use Rattle.ca_rule.specs.declared.table.slot.Slot.TheVariants.{Number, Variable}
-use Rattle.ca_rule.specs.TableOrders.{picks, every_order}
-use Rattle.ca_rule.specs.TableNext.{States, Transition, SlotCell, admits, is_variable, take_one_cell, fits}
+use Rattle.ca_rule.specs.Prelude.{picks, every_order, States, Transition, SlotCell, admits, is_variable, take_one_cell, fits}
 use Rattle.ca_rule.specs.inner.TablePlaces.{taken_at, outcome_at}
 use Rattle.ca_rule.specs.inner.TableSearch.{least_outcome, picked_outcome}
 

@@ -6,7 +6,7 @@ use Rattle.std.proofs.lemmas.Bool.Decides.{nat_tests}
 use Rattle.std.proofs.lemmas.List.{drop-drop, drop_all, at_drop_more}
 use Rattle.std.proofs.lemmas.Nat.{and_le_l}
 use Rattle.std.proofs.lemmas.Nat.Bits.{bit_at-zero, bit_at_clear_same, bit_at_clear_other}
-use Rattle.ca_rule.specs.TableNext.{States, Transition}
+use Rattle.ca_rule.specs.Prelude.{States, Transition}
 use Rattle.ca_rule.specs.inner.TablePlaces.{outcome_at, next_at}
 use Rattle.ca_rule.specs.inner.TransitionIndices.{GivesNone, PassesOver, IsIndex, AreIndices}
 

@@ -5,7 +5,7 @@ use Rattle.std.specs.List.{AllByRecursion, count_by}
 use Rattle.std.proofs.lemmas.Bool.{cases_Bool}
 use Rattle.std.proofs.lemmas.List.Sums.{sum_by-cons}
 use Rattle.std.proofs.lemmas.Bool.Decides.{nat_tests}
-use Rattle.ca_rule.specs.TableOrders.{picks, every_order}
+use Rattle.ca_rule.specs.Prelude.{picks, every_order}
 
 pub record Alike (xs ys : List ℕ) : Type 0 where
   pub counts : (p : ℕ → Bool) → count_by p xs ≡ count_by p ys

@@ -3,12 +3,10 @@ use Rattle.std.proofs.Common.{◌≡◌, ℕ, ◌+◌, List, [], ◌∷◌, ◌+
 use Rattle.std.specs.List.{list_all}
 use Rattle.std.proofs.lemmas.Bool.{and_parts, and_from, cases_Bool}
 use Rattle.std.proofs.lemmas.Bool.Decides.{nat_tests}
-use Rattle.ca_plane.specs.Bytes.{Every, is_word_byte, IsWord}
+use Rattle.ca_plane.specs.Prelude.{Every, is_word_byte, IsWord}
 use Rattle.ca_plane.proofs.Fronts.{every_append}
-use Rattle.ca_rule.specs.Counts.{is_count}
-use Rattle.ca_rule.specs.Spelling.{digits_of, suffix_of, printed_bs_rule}
-use Rattle.ca_rule.specs.declared.counts.Counts.{Counts}
-use Rattle.ca_rule.specs.declared.hood.Hood.{Hood}
+use Rattle.ca_rule.specs.Prelude.{is_count, digits_of, suffix_of, printed_bs_rule}
+use Rattle.ca_rule.specs.declared.{counts.Counts.Counts, hood.Hood.Hood}
 use Rattle.ca_rule.specs.declared.hood.Hood.TheVariants.{Moore, VonNeumann, Hex}
 use Rattle.ca_rule.proofs.PrintedRules.{numbers}
 

@@ -3,11 +3,10 @@ use Rattle.std.proofs.Common.{◌≡◌, ◌&&◌, ℕ, ◌+◌, ◌≤◌, List
 use Rattle.std.specs.List.{list_all}
 use Rattle.std.proofs.lemmas.Bool.{and_parts, and_from}
 use Rattle.std.proofs.lemmas.Bool.Decides.{nat_tests}
-use Rattle.ca_plane.specs.Bytes.{Every, is_digit, is_end_or, rest}
+use Rattle.ca_plane.specs.Prelude.{Every, is_digit, is_end_or, rest}
 use Rattle.ca_plane.proofs.Fronts.{front_append, rest_append, every_append, every_wider}
-use Rattle.ca_rule.specs.Counts.{most_of, are_digits_up_to}
+use Rattle.ca_rule.specs.Prelude.{most_of, are_digits_up_to, IsLetter, IsSuffix, IsOptionalSlash, IsLettered, IsUnlettered, SpellsBsRule, has_colon}
 use Rattle.ca_rule.specs.inner.TextParts.{is_rule_letter, hood_of, body_of, without_slash, tail_after_letter, tail_after_slash, both_lists, swapped_lists, lists_around, lists_around_slash, lists_of}
-use Rattle.ca_rule.specs.Spelling.{IsLetter, IsSuffix, IsOptionalSlash, IsLettered, IsUnlettered, SpellsBsRule, has_colon}
 use Rattle.ca_rule.specs.declared.hood.Hood.{Hood}
 use Rattle.ca_rule.specs.declared.hood.Hood.TheVariants.{Moore, VonNeumann, Hex}
 use Rattle.ca_rule.proofs.Ends.{is_rule_letter-from, is_plain, IsSplit, split, no_colon}

@@ -3,10 +3,8 @@ use Rattle.std.proofs.Common.{◌≡◌, ℕ, zero, suc, slice_index, Bool, true
 use Rattle.std.specs.Int.{bit_at}
 use Rattle.std.proofs.Math.ListN.{get_or-map}
 use Rattle.std.proofs.lemmas.Bool.Decides.{nat_tests}
-use Rattle.ca_plane.specs.Ageing.{liveness, older, aged, GoesByAgeing}
-use Rattle.ca_rule.specs.Counts.{is_count}
-use Rattle.ca_rule.specs.Generations.{live_count, generations_next_state, generations_next, ageing_by_counts}
-use Rattle.ca_rule.specs.Masks.{mask_of}
+use Rattle.ca_plane.specs.Prelude.{liveness, older, aged, GoesByAgeing}
+use Rattle.ca_rule.specs.Prelude.{is_count, live_count, generations_next_state, generations_next, ageing_by_counts, mask_of}
 use Rattle.ca_rule.specs.declared.counts.Counts.{Counts}
 use Rattle.ca_rule.proofs.RuleMasks.{mask_bit}
 

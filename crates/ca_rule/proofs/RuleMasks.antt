@@ -3,12 +3,9 @@ use Rattle.std.proofs.Common.{◌≡◌, ℕ, zero, suc, ◌+◌, ◌*◌, ◌/�
 use Rattle.std.specs.Int.{bit_at}
 use Rattle.std.proofs.lemmas.List.Elements.{All-get_or}
 use Rattle.std.proofs.lemmas.Nat.Bits.{bit_at-zero, bit_at_lowest, bit_at-suc}
-use Rattle.ca_plane.specs.Counting.{counted_sum, GoesByCounting}
-use Rattle.ca_plane.specs.Moore.{eight_sum, IsMoore}
-use Rattle.ca_rule.specs.Masks.{mask_of, neighbourhood_of, counting_by_hood}
-use Rattle.ca_rule.specs.Next.{neighbour_count, bs_next_state, bs_next}
-use Rattle.ca_rule.specs.declared.counts.Counts.{Counts}
-use Rattle.ca_rule.specs.declared.hood.Hood.{Hood}
+use Rattle.ca_plane.specs.Prelude.{counted_sum, GoesByCounting, eight_sum, IsMoore}
+use Rattle.ca_rule.specs.Prelude.{mask_of, neighbourhood_of, counting_by_hood, neighbour_count, bs_next_state, bs_next}
+use Rattle.ca_rule.specs.declared.{counts.Counts.Counts, hood.Hood.Hood}
 use Rattle.ca_rule.specs.declared.hood.Hood.TheVariants.{Moore, VonNeumann, Hex}
 
 lowest : (held : Bool) (more : ℕ) → ((if held then 1 else 0) + 2 * more) % 2 ≡ (if held then 1 else 0)

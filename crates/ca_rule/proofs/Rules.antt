@@ -6,17 +6,11 @@ use mathlib.Core.HLevel.{is_prop→PathP}
 use Rattle.std.proofs.lemmas.Bool.{cases_Bool}
 use Rattle.std.proofs.Props.{props}
 use Rattle.std.proofs.lemmas.Slice.Eq.{bytes_eq-Decides}
-use Rattle.ca_rule.specs.Rule.{RuleValue, Bs, Gen, Tab, next_of, IsSameRule, first_named, NamesRule, IsRuleFault, printed_form}
-use Rattle.ca_rule.specs.Counts.{is_count, FitsHood}
+use Rattle.ca_rule.specs.Prelude.{RuleValue, Bs, Gen, Tab, next_of, IsSameRule, first_named, NamesRule, IsRuleFault, printed_form, is_count, FitsHood, has_colon, NamesBsRule, printed_bs_rule}
+use Rattle.ca_rule.specs.Prelude.{TableRule}
 use Rattle.ca_rule.specs.Generations as generations
 use Rattle.ca_rule.specs.Next as bs
-use Rattle.ca_rule.specs.Spelling.{has_colon, NamesBsRule, printed_bs_rule}
-use Rattle.ca_rule.specs.TableNext.{TableRule}
-use Rattle.ca_rule.specs.declared.bs_rule.BsRule.{BsRule}
-use Rattle.ca_rule.specs.declared.counts.Counts.{Counts}
-use Rattle.ca_rule.specs.declared.hood.Hood.{Hood}
-use Rattle.ca_rule.specs.declared.gen_rule.GenRule.{GenRule}
-use Rattle.ca_rule.specs.declared.fault.RuleFault.{RuleFault}
+use Rattle.ca_rule.specs.declared.{bs_rule.BsRule.BsRule, counts.Counts.Counts, hood.Hood.Hood, gen_rule.GenRule.GenRule, fault.RuleFault.RuleFault}
 use Rattle.ca_rule.specs.declared.fault.RuleFault.TheVariants.{Bounded, Wakes, Unknown}
 use Rattle.ca_rule.proofs.GenerationsPrinted as generations_printed
 use Rattle.ca_rule.proofs.GenerationsRead as generations_read

@@ -2,9 +2,9 @@
 use Rattle.std.proofs.Common.{◌≡◌, ◌==◌, ◌≤◌, ℕ, ◌+◌, Bool, not, List, [], ◌∷◌, length, refl, ap, ◌∙◌, inl, inr}
 use Rattle.std.specs.List.{list_all}
 use Rattle.std.proofs.lemmas.Bool.{cases_Bool, and_parts, and_from}
-use Rattle.ca_plane.specs.Bytes.{is_blank, is_line_end, Every, front, rest, without_last_blanks}
+use Rattle.ca_plane.specs.Prelude.{is_blank, is_line_end, Every, front, rest, without_last_blanks}
 use Rattle.ca_plane.proofs.Fronts.{front_then_rest, every_left, every_rest}
-use Rattle.ca_rule.specs.TableLines.{content_of}
+use Rattle.ca_rule.specs.Prelude.{content_of}
 use Rattle.ca_rule.specs.declared.table.said_lines.SaidLines.{SaidLines}
 use Rattle.ca_rule.specs.inner.TableReading.{said_from, left_of}
 

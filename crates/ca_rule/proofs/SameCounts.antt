@@ -7,7 +7,7 @@ use Rattle.std.specs.Cmp.Lexicographic.{pointwise}
 use Rattle.std.proofs.Math.Bool.{beq}
 use Rattle.std.proofs.lemmas.Slice.Eq.{slice_eq-Decides}
 use Rattle.std.proofs.lemmas.Bool.Decides.{Decides-like}
-use Rattle.ca_rule.specs.Counts.{is_count}
+use Rattle.ca_rule.specs.Prelude.{is_count}
 use Rattle.ca_rule.specs.declared.counts.Counts.{Counts}
 use Rattle.ca_rule.proofs.PrintedRules.{numbers, nine_cells, map_same}
 

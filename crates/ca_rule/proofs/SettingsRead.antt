@@ -6,11 +6,9 @@ use Rattle.std.proofs.lemmas.Bool.{and_parts, and_from}
 use Rattle.std.proofs.lemmas.Result.{err_from_is_err_and}
 use Rattle.std.specs.Option.{option_or}
 use Rattle.std.proofs.lemmas.List.{append-nil}
-use Rattle.ca_rule.specs.declared.table.settings.SettingValues.{SettingValues}
-use Rattle.ca_rule.specs.declared.table.fault.TableFault.{TableFault}
-use Rattle.ca_rule.specs.TableLines.{NumberedLine, setting, is_setting, value_of}
-use Rattle.ca_rule.specs.TableText.{HasTable, Settings, SettingsMean, sets_again, are_settings}
-use Rattle.ca_rule.specs.TableFaults.{number_at, follows_settings, SetsAgain, HaveEnd, IsTableTextFault}
+use Rattle.ca_rule.specs.declared.table.{settings.SettingValues.SettingValues, fault.TableFault.TableFault}
+use Rattle.ca_rule.specs.Prelude.{NumberedLine, setting, is_setting, value_of, HasTable, Settings, SettingsMean, sets_again, are_settings, number_at, follows_settings, SetsAgain, HaveEnd}
+use Rattle.ca_rule.specs.Prelude.{IsTableTextFault}
 use Rattle.ca_rule.specs.inner.TableSettings.{bytes_of, AreValuesOf, AreGivenBy, has_some, have_one, joined_settings, IsBehindSettings, IsBehindMeant}
 
 -- a value that is matched is that of the bytes

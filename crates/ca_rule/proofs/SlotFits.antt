@@ -2,7 +2,7 @@
 use Rattle.std.proofs.Common.{◌≡◌, List, [], ◌∷◌, Bool, ◌&&◌, refl, inl, inr}
 use Rattle.std.specs.List.{list_all}
 use Rattle.std.proofs.lemmas.Bool.{cases_Bool}
-use Rattle.ca_rule.specs.TableNext.{States, SlotCell, admits, take_one_cell, fits}
+use Rattle.ca_rule.specs.Prelude.{States, SlotCell, admits, take_one_cell, fits}
 
 both_lists : (p q : SlotCell → Bool) (xs : List SlotCell) → list_all (λ t. p t && q t) xs ≡ (list_all p xs && list_all q xs)
 both_lists p q [] = refl

@@ -3,11 +3,10 @@ use Rattle.std.proofs.Common.{◌≡◌, ◌==◌, ℕ, List, [], ◌∷◌, ◌
 use Rattle.std.specs.Option.{IfNone}
 use Rattle.std.proofs.lemmas.Bool.{cases_Bool}
 use Rattle.std.proofs.lemmas.Bool.Decides.{nat_tests}
-use Rattle.ca_plane.specs.Bytes.{is_digit, front, rest}
+use Rattle.ca_plane.specs.Prelude.{is_digit, front, rest}
 use Rattle.ca_plane.proofs.Fronts.{front_then_rest}
-use Rattle.ca_rule.specs.Counts.{most_of, are_digits_up_to}
+use Rattle.ca_rule.specs.Prelude.{most_of, are_digits_up_to, IsLetter, IsSuffix, IsOptionalSlash, IsLettered, IsUnlettered, SpellsBsRule}
 use Rattle.ca_rule.specs.inner.TextParts.{is_rule_letter, hood_of, body_of, without_slash, tail_after_letter, tail_after_slash, both_lists, swapped_lists, lists_around, lists_around_slash, lists_of}
-use Rattle.ca_rule.specs.Spelling.{IsLetter, IsSuffix, IsOptionalSlash, IsLettered, IsUnlettered, SpellsBsRule}
 use Rattle.ca_rule.specs.declared.hood.Hood.{Hood}
 use Rattle.ca_rule.proofs.Ends.{IsLetter-from_test, has_suffix}
 use Rattle.ca_rule.proofs.ReadInwards.{read}

@@ -1,14 +1,11 @@
 -- The statements of a rule table, a line at a time.
 use Rattle.std.proofs.Common.{◌≡◌, ℕ, ◌≤◌, true, false, List, [], ◌∷◌, ◌++◌, Option, ◌⊎◌, refl, sym, ap, subst, ◌∙◌, append_assoc, inl, inr}
 use Rattle.std.specs.List.{AllZip}
-use Rattle.ca_plane.specs.Bytes.{value}
-use Rattle.ca_rule.specs.declared.table.slot.Slot.{Slot}
-use Rattle.ca_rule.specs.declared.table.statement_fault.StatementFault.{StatementFault}
+use Rattle.ca_plane.specs.Prelude.{value}
+use Rattle.ca_rule.specs.declared.table.{slot.Slot.Slot, statement_fault.StatementFault.StatementFault, statements.Statements.Statements}
 use Rattle.ca_rule.specs.declared.table.statement_fault.StatementFault.TheVariants.{Syntax, State, Name, Unbound, Memory}
-use Rattle.ca_rule.specs.declared.table.statements.Statements.{Statements}
-use Rattle.ca_rule.specs.TableLines.{NumberedLine, begins_section, IsVariableLine, IsTransitionLine}
-use Rattle.ca_rule.specs.TableText.{HasTable, Settings, SettingsMean, SaidStatements, no_statements, StandsFor, number_of, SaysVariable, is_bound, field_count, SaysTransition, LinesSay}
-use Rattle.ca_rule.specs.TableFaults.{follows_settings, HasStatement, HasFields, HasBadField, IsTableTextFault}
+use Rattle.ca_rule.specs.Prelude.{NumberedLine, begins_section, IsVariableLine, IsTransitionLine, HasTable, Settings, SettingsMean, SaidStatements, no_statements, StandsFor, number_of, SaysVariable}
+use Rattle.ca_rule.specs.Prelude.{is_bound, field_count, SaysTransition, LinesSay, follows_settings, HasStatement, HasFields, HasBadField, IsTableTextFault}
 use Rattle.ca_rule.specs.inner.TableNames.{HasNoSlot, IsFaultAmong, IsFaultOfTransition}
 use Rattle.ca_rule.specs.inner.TableSaid.{KeepsStatements, with_variable, with_transition}
 use Rattle.ca_rule.specs.inner.TableSaying.{fault_at, IsKeptBehind, IsFaultOfLine, IsBehindSaid, AreAllSaid}

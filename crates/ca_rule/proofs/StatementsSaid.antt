@@ -6,13 +6,11 @@ use Rattle.std.specs.Option.{option_or}
 use Rattle.std.specs.Str.{bytes_eq}
 use Rattle.std.proofs.lemmas.Bool.{cases_Bool}
 use Rattle.std.proofs.lemmas.List.{map-append, length-map}
-use Rattle.ca_rule.specs.declared.table.slot.Slot.{Slot}
+use Rattle.ca_rule.specs.declared.table.{slot.Slot.Slot, statements.Statements.Statements}
 use Rattle.ca_rule.specs.declared.table.slot.Slot.TheVariants.{Number, Variable}
-use Rattle.ca_rule.specs.TableNext.{States}
-use Rattle.ca_rule.specs.TableText.{Settings, SaidStatements, StandsFor, number_of, states_said, states_among}
+use Rattle.ca_rule.specs.Prelude.{States, Settings, SaidStatements, StandsFor, number_of, states_said, states_among}
 use Rattle.ca_rule.specs.inner.TableNames.{number_in, IsSlot}
 use Rattle.ca_rule.specs.inner.TableSaid.{KeepsStatements, with_variable, with_transition}
-use Rattle.ca_rule.specs.declared.table.statements.Statements.{Statements}
 use Rattle.ca_rule.proofs.AmongStates.{zero-plus}
 
 -- the number of a name, with one more variable

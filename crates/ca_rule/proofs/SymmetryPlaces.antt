@@ -3,12 +3,9 @@ use Rattle.std.proofs.Common.{◌≡◌, ℕ, List, [], ◌∷◌, map, zip, sli
 use Rattle.std.specs.List.{list_all}
 use Rattle.std.proofs.lemmas.Bool.{cases_Bool}
 use Rattle.std.proofs.lemmas.Bool.Decides.{nat_tests}
-use Rattle.ca_rule.specs.declared.table.slot.Slot.{Slot}
+use Rattle.ca_rule.specs.declared.table.{slot.Slot.Slot, neighbourhood.Neighbourhood.Neighbourhood, neighbourhood.Symmetry.Symmetry}
 use Rattle.std.specs.Prelude.{if◌then◌else◌}
-use Rattle.ca_rule.specs.declared.table.neighbourhood.Neighbourhood.{Neighbourhood}
-use Rattle.ca_rule.specs.declared.table.neighbourhood.Symmetry.{Symmetry}
-use Rattle.ca_rule.specs.TableOrders.{ring, orders}
-use Rattle.ca_rule.specs.TableNext.{States, Transition, admits, cells_in_order, fits, result_state, outcome, next_by, table_next}
+use Rattle.ca_rule.specs.Prelude.{ring, orders, States, Transition, admits, cells_in_order, fits, result_state, outcome, next_by, table_next}
 use Rattle.ca_rule.specs.inner.TableStored.{stored_table}
 use Rattle.ca_rule.specs.inner.TablePlaces.{places, begins_at_centre, slots_admit, admits_centre, outcome_at, next_at}
 

@@ -3,8 +3,7 @@ use Rattle.std.proofs.Common.{◌≡◌, ℕ, Bool, true, false, List, [], ◌�
 use Rattle.std.proofs.lemmas.Bool.{cases_Bool}
 use Rattle.std.specs.List.{list_any}
 use Rattle.ca_rule.specs.declared.table.fault.TableFault.TheVariants.{NoRuleLine}
-use Rattle.ca_rule.specs.TableLines.{NumberedLine, lines_said, begins_table}
-use Rattle.ca_rule.specs.TableFaults.{number_at, HasNoRuleLine, IsTableTextFault}
+use Rattle.ca_rule.specs.Prelude.{NumberedLine, lines_said, begins_table, number_at, HasNoRuleLine, IsTableTextFault}
 use Rattle.ca_rule.specs.inner.TableReading.{IsBehindSkipped, IsBehindTable}
 
 -- the lines that are left are all lines of the text, and the first of them is no `@RULE` with a name

@@ -3,19 +3,15 @@ use Rattle.std.proofs.Common.{◌≡◌, ◌≢◌, ℕ, ◌≤◌, ◌⊎◌, B
 use Rattle.std.specs.List.{list_all, list_any, AllZip}
 use Rattle.std.proofs.lemmas.Bool.{cases_Bool, cases_eq, and_parts, or_from, or_parts}
 use Rattle.std.proofs.lemmas.Bool.Decides.{nat_tests}
-use Rattle.ca_plane.specs.Bytes.{value}
-use Rattle.ca_rule.specs.declared.table.fault.TableFault.{TableFault}
+use Rattle.ca_plane.specs.Prelude.{value}
+use Rattle.ca_rule.specs.declared.table.{fault.TableFault.TableFault, neighbourhood.Neighbourhood.Neighbourhood, neighbourhood.Symmetry.Symmetry, slot.Slot.Slot}
 use Rattle.ca_rule.specs.declared.table.fault.TableFault.TheVariants.{NoRuleLine, NoTable, Syntax, States, Neighborhood, Symmetries, Unbound, Wakes, Memory}
 use Rattle.ca_rule.specs.declared.table.fault.TableFault.TheVariants as faults
-use Rattle.ca_rule.specs.declared.table.neighbourhood.Neighbourhood.{Neighbourhood}
-use Rattle.ca_rule.specs.declared.table.neighbourhood.Symmetry.{Symmetry}
-use Rattle.ca_rule.specs.declared.table.slot.Slot.{Slot}
 use Rattle.ca_rule.specs.declared.table.slot.Slot.TheVariants.{Number, Variable}
-use Rattle.ca_rule.specs.TableNext.{TableRule, table_next}
-use Rattle.ca_rule.specs.Digits.{are_digits}
-use Rattle.ca_rule.specs.TableLines.{NumberedLine, lines_said, last_line, rule_name, begins_table, begins_section, is_setting, states_set, neighbourhood_set, symmetry_set, is_name, is_field, IsVariableLine, IsTransitionLine}
-use Rattle.ca_rule.specs.TableText.{HasTable, sets_again, are_settings, Settings, SettingsMean, SaidStatements, no_statements, number_of, StandsFor, is_bound, field_count, LinesSay, table_from, is_end_of_section, IsTable}
-use Rattle.ca_rule.specs.TableFaults.{number_at, follows_settings, HasNoRuleLine, HasNoTable, HaveEnd, HasStatement, IsMisspelled, HasFields, HasBadField, HasBadState, HasUnknownName, HasUnbound, IsTableTextFault}
+use Rattle.ca_rule.specs.Prelude.{TableRule, table_next, are_digits, NumberedLine, lines_said, last_line, rule_name, begins_table, begins_section, is_setting, states_set, neighbourhood_set}
+use Rattle.ca_rule.specs.Prelude.{symmetry_set, is_name, is_field, IsVariableLine, IsTransitionLine, HasTable, sets_again, are_settings, Settings, SettingsMean, SaidStatements, no_statements}
+use Rattle.ca_rule.specs.Prelude.{number_of, StandsFor, is_bound, field_count, LinesSay, table_from, is_end_of_section, IsTable, number_at, follows_settings, HasNoRuleLine, HasNoTable, HaveEnd}
+use Rattle.ca_rule.specs.Prelude.{HasStatement, IsMisspelled, HasFields, HasBadField, HasBadState, HasUnknownName, HasUnbound, IsTableTextFault}
 use Rattle.ca_rule.specs.inner.TableSaid.{with_variable}
 use Rattle.ca_rule.proofs.OneSpelling.{some_if, variable_of, variable-is-of, variable-of-is, transition_of, transition-is-of, transition-of-is}
 use Rattle.ca_rule.proofs.OneStatement.{slot_if, slot_of, slot-stands, inputs_of, result_of, with_transition, Says}

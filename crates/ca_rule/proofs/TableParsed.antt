@@ -3,12 +3,9 @@ use Rattle.std.proofs.Common.{◌≡◌, ℕ, true, List, [], ◌∷◌, ◌++�
 use Rattle.std.specs.List.{list_all, AllZip}
 use Rattle.std.proofs.lemmas.Bool.Decides.{nat_tests}
 use Rattle.std.proofs.lemmas.List.Folds.{list_all-append}
-use Rattle.ca_rule.specs.declared.table.slot.Slot.{Slot}
+use Rattle.ca_rule.specs.declared.table.{slot.Slot.Slot, statements.Statements.Statements}
 use Rattle.ca_rule.specs.declared.table.slot.Slot.TheVariants.{Number, Variable}
-use Rattle.ca_rule.specs.declared.table.statements.Statements.{Statements}
-use Rattle.ca_rule.specs.TableNext.{Transition}
-use Rattle.ca_rule.specs.TableLines.{NumberedLine}
-use Rattle.ca_rule.specs.TableText.{HasTable, Settings, SaidStatements, no_statements, StandsFor, SaysVariable, SaysTransition, LinesSay, IsTable}
+use Rattle.ca_rule.specs.Prelude.{Transition, NumberedLine, HasTable, Settings, SaidStatements, no_statements, StandsFor, SaysVariable, SaysTransition, LinesSay, IsTable}
 use Rattle.ca_rule.specs.inner.TableSaying.{AreAllSaid}
 use Rattle.ca_rule.specs.inner.TableSettings.{IsBehindMeant}
 use Rattle.ca_rule.specs.inner.TableStored.{stored_table, is_below}

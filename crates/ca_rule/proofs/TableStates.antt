@@ -4,11 +4,9 @@ use Rattle.std.specs.Prelude.{All}
 use Rattle.std.specs.List.{list_all}
 use Rattle.std.proofs.lemmas.Bool.{cases_Bool}
 use Rattle.std.proofs.lemmas.Bool.Decides.{nat_tests}
-use Rattle.ca_rule.specs.declared.table.neighbourhood.Neighbourhood.{Neighbourhood}
-use Rattle.ca_rule.specs.declared.table.slot.Slot.{Slot}
+use Rattle.ca_rule.specs.declared.table.{neighbourhood.Neighbourhood.Neighbourhood, slot.Slot.Slot}
 use Rattle.ca_rule.specs.declared.table.slot.Slot.TheVariants.{Number, Variable}
-use Rattle.ca_rule.specs.TableOrders.{ring, orders}
-use Rattle.ca_rule.specs.TableNext.{States, Transition, TableRule, cells_in_order, is_variable, fits, taken_cell, result_state, outcome, next_by, table_next}
+use Rattle.ca_rule.specs.Prelude.{ring, orders, States, Transition, TableRule, cells_in_order, is_variable, fits, taken_cell, result_state, outcome, next_by, table_next}
 use Rattle.ca_rule.specs.inner.TableStored.{is_below}
 
 -- each cell of nine is below the count, and so is what follows them

@@ -2,7 +2,7 @@
 use Rattle.std.proofs.Common.{◌≡◌, ◌≢◌, ◌==◌, ℕ, List, [], ◌∷◌, ◌++◌, Option, Some, None, MatchOption, eq-eqb, unwrap_or, refl, ap, ◌∙◌, arith, inl, inr, Bor}
 use Rattle.std.proofs.lemmas.Bool.{cases_Bool}
 use Rattle.std.proofs.lemmas.Bool.Decides.{nat_tests}
-use Rattle.ca_rule.specs.TableLines.{tail_after}
+use Rattle.ca_rule.specs.Prelude.{tail_after}
 
 pub tail_after-is : (text more : List ℕ) → tail_after text (text ++ more) ≡ Some more
 tail_after-is [] more = refl

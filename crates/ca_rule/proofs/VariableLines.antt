@@ -4,9 +4,9 @@ use Rattle.std.specs.Prelude.{option_and_then, MatchOption}
 use Rattle.std.specs.List.{list_all}
 use Rattle.std.proofs.lemmas.List.{append_cancel_right, length_push}
 use Rattle.std.proofs.lemmas.Bool.{and_parts, cases_Bool}
-use Rattle.ca_plane.specs.Bytes.{is_blank, Every, front, rest, is_end_or}
+use Rattle.ca_plane.specs.Prelude.{is_blank, Every, front, rest, is_end_or}
 use Rattle.ca_plane.proofs.Fronts.{front_then_rest, every_front, front_append, rest_append}
-use Rattle.ca_rule.specs.TableLines.{NumberedLine, tail_after, begins_variable, is_name_byte, is_name, is_field, fields_between, IsVariableLine}
+use Rattle.ca_rule.specs.Prelude.{NumberedLine, tail_after, begins_variable, is_name_byte, is_name, is_field, fields_between, IsVariableLine}
 use Rattle.ca_rule.specs.inner.TableFields.{after_brace, IsBraced}
 use Rattle.ca_rule.proofs.TextTails.{tail_after-is, tail_after-whole}
 

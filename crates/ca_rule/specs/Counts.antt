@@ -1,9 +1,8 @@
 -- Counts of live neighbours, as the digits of a B/S rule give them, and which neighbours are counted (Golly Help, QuickLife).
 use Rattle.std.specs.Prelude.{ℕ, ◌+◌, List, [], ◌∷◌, Bool, false, map, ◌==◌, ◌&&◌, nat_le, slice_index_or, ◌||◌, not, IsTrue}
 use Rattle.std.specs.List.{list_any, list_all}
-use Rattle.ca_plane.specs.Bytes.{letter}
-use Rattle.ca_rule.specs.declared.counts.Counts.{Counts}
-use Rattle.ca_rule.specs.declared.hood.Hood.{Hood}
+use Rattle.ca_plane.specs.Prelude.{letter}
+use Rattle.ca_rule.specs.declared.{counts.Counts.Counts, hood.Hood.Hood}
 use Rattle.ca_rule.specs.declared.hood.Hood.TheVariants.{Moore, VonNeumann, Hex}
 
 -- how many neighbours are counted: all eight, the four that share a side, or six of them

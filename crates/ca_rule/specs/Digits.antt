@@ -1,7 +1,7 @@
 -- The number of states that digits write, in rule texts and in rule files.
 use Rattle.std.specs.Prelude.{ℕ, List, length, Bool, ◌&&◌, nat_le, Option, Some, None, if◌then◌else◌}
 use Rattle.std.specs.List.{list_all}
-use Rattle.ca_plane.specs.Bytes.{is_digit, value}
+use Rattle.ca_plane.specs.Prelude.{is_digit, value}
 
 -- one or more digits
 abbrev pub are_digits : List ℕ → Bool

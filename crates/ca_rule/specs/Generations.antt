@@ -1,16 +1,14 @@
 -- Rules of the family Generations (Golly Help, Algorithms: Generations): what a cell is next, and how a rule is spelled and
 -- printed. State 0 is a dead cell, state 1 a live one, and a cell of state 2 or more is dying.
 use Rattle.std.specs.Prelude.{◌≡◌, ℕ, ◌≤◌, List, ◌++◌, map, false, ◌==◌, ◌&&◌, IsTrue, Some, codes, decimal, slice_index, if◌then◌else◌}
-use Rattle.ca_plane.specs.Ageing.{liveness, older}
+use Rattle.ca_plane.specs.Prelude.{liveness, older}
 use Rattle.ca_plane.specs.declared.counting.Ageing.{Ageing}
 use Rattle.ca_rule.specs.Counts.{is_count, are_digits_up_to}
 use Rattle.ca_rule.specs.Digits.{state_count}
 use Rattle.ca_rule.specs.Masks.{counting_by_hood}
 use Rattle.ca_rule.specs.Next.{neighbour_count}
 use Rattle.ca_rule.specs.Spelling.{NamesCounts, SpellsNone, IsSpellingFault, digits_of}
-use Rattle.ca_rule.specs.declared.counts.Counts.{Counts}
-use Rattle.ca_rule.specs.declared.fault.RuleFault.{RuleFault}
-use Rattle.ca_rule.specs.declared.gen_rule.GenRule.{GenRule}
+use Rattle.ca_rule.specs.declared.{counts.Counts.Counts, fault.RuleFault.RuleFault, gen_rule.GenRule.GenRule}
 use Rattle.ca_rule.specs.declared.hood.Hood.TheVariants.{Moore}
 
 -- ---- cells

@@ -1,10 +1,8 @@
 -- The counts of B/S rules as masks, and which neighbours are counted (ca_plane's Moore rules and countings).
 use Rattle.std.specs.Prelude.{ℕ, ◌+◌, ◌*◌, List, [], ◌∷◌, Bool, Option, Some, None, if◌then◌else◌}
-use Rattle.ca_plane.specs.declared.counting.Counting.{Counting}
-use Rattle.ca_plane.specs.declared.counting.Neighbourhood.{Neighbourhood}
+use Rattle.ca_plane.specs.declared.counting.{Counting.Counting, Neighbourhood.Neighbourhood}
 use Rattle.ca_plane.specs.declared.counting.Neighbourhood.TheVariants as counted
-use Rattle.ca_rule.specs.declared.counts.Counts.{Counts}
-use Rattle.ca_rule.specs.declared.hood.Hood.{Hood}
+use Rattle.ca_rule.specs.declared.{counts.Counts.Counts, hood.Hood.Hood}
 use Rattle.ca_rule.specs.declared.hood.Hood.TheVariants.{Moore, VonNeumann, Hex}
 
 -- a mask whose bits, the lowest first, are 1 where these are true

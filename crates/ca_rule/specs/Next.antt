@@ -1,7 +1,6 @@
 -- The next state of a cell under a B/S rule (Golly Help, QuickLife: birth and survival by the number of live neighbours).
 use Rattle.std.specs.Prelude.{ℕ, ◌+◌, List, ◌==◌, slice_index, if◌then◌else◌}
-use Rattle.ca_rule.specs.declared.counts.Counts.{Counts}
-use Rattle.ca_rule.specs.declared.hood.Hood.{Hood}
+use Rattle.ca_rule.specs.declared.{counts.Counts.Counts, hood.Hood.Hood}
 use Rattle.ca_rule.specs.declared.hood.Hood.TheVariants.{Moore, VonNeumann, Hex}
 use Rattle.ca_rule.specs.Counts.{is_count}
 

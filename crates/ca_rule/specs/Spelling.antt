@@ -1,14 +1,11 @@
 -- How a B/S rule is spelled (Golly Help, QuickLife; which texts are accepted besides `B3/S23` and `23/3` is our own),
 -- how it is printed (our own), and what is wrong with a text that spells none.
 use Rattle.std.specs.Prelude.{◌≡◌, ℕ, ◌+◌, List, [], ◌∷◌, ◌++◌, Bool, true, false, ◌==◌, IsTrue, ◌⊎◌, filter, map, codes}
-use Rattle.ca_plane.specs.Bytes.{letter}
+use Rattle.ca_plane.specs.Prelude.{letter}
 use Rattle.std.specs.List.{list_any}
 use Rattle.ca_rule.specs.Counts.{most_of, is_count, has_digit, counts_of, are_digits_up_to}
-use Rattle.ca_rule.specs.declared.bs_rule.BsRule.{BsRule}
-use Rattle.ca_rule.specs.declared.counts.Counts.{Counts}
-use Rattle.ca_rule.specs.declared.hood.Hood.{Hood}
+use Rattle.ca_rule.specs.declared.{bs_rule.BsRule.BsRule, counts.Counts.Counts, hood.Hood.Hood, fault.RuleFault.RuleFault}
 use Rattle.ca_rule.specs.declared.hood.Hood.TheVariants.{Moore, VonNeumann, Hex}
-use Rattle.ca_rule.specs.declared.fault.RuleFault.{RuleFault}
 use Rattle.ca_rule.specs.declared.fault.RuleFault.TheVariants.{Bounded, Wakes, Unknown}
 
 -- the byte is this letter, which is given in upper case, in either case

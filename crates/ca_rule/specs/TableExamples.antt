@@ -1,13 +1,10 @@
 -- Small rule tables, and cells under them and under other rules, for the worked examples.
 use Rattle.std.specs.Prelude.{◌≡◌, ℕ, ◌-◌, List, [], ◌∷◌, ◌++◌, map, codes}
-use Rattle.ca_rule.specs.declared.table.neighbourhood.Neighbourhood.{Neighbourhood}
+use Rattle.ca_rule.specs.declared.{table.neighbourhood.Neighbourhood.Neighbourhood, table.neighbourhood.Symmetry.Symmetry, table.slot.Slot.Slot, hood.Hood.Hood}
 use Rattle.ca_rule.specs.declared.table.neighbourhood.Neighbourhood.TheVariants.{VonNeumann}
-use Rattle.ca_rule.specs.declared.table.neighbourhood.Symmetry.{Symmetry}
 use Rattle.ca_rule.specs.declared.table.neighbourhood.Symmetry.TheVariants.{Identity}
-use Rattle.ca_rule.specs.declared.table.slot.Slot.{Slot}
 use Rattle.ca_rule.specs.declared.table.slot.Slot.TheVariants.{Number, Variable}
-use Rattle.ca_plane.specs.Bytes.{text_of, words_of}
-use Rattle.ca_rule.specs.declared.hood.Hood.{Hood}
+use Rattle.ca_plane.specs.Prelude.{text_of, words_of}
 use Rattle.ca_rule.specs.Counts.{counts_of}
 use Rattle.ca_rule.specs.Next as bs
 use Rattle.ca_rule.specs.Generations as generations

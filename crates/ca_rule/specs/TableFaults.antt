@@ -1,11 +1,9 @@
 -- What is wrong with the text of a rule table: the first faulty line (our own order).
 use Rattle.std.specs.Prelude.{◌≡◌, ◌≢◌, ℕ, ◌≤◌, List, [], ◌∷◌, ◌++◌, replicate, Bool, true, false, not, Some, None, ◌⊎◌}
 use Rattle.std.specs.List.{list_any, AllZip}
-use Rattle.ca_plane.specs.Bytes.{value}
-use Rattle.ca_rule.specs.declared.table.fault.TableFault.{TableFault}
+use Rattle.ca_plane.specs.Prelude.{value}
+use Rattle.ca_rule.specs.declared.table.{fault.TableFault.TableFault, neighbourhood.Neighbourhood.Neighbourhood, slot.Slot.Slot}
 use Rattle.ca_rule.specs.declared.table.fault.TableFault.TheVariants.{NoRuleLine, NoTable, Syntax, States, Neighborhood, Symmetries, Variable, Unbound, Wakes, Memory}
-use Rattle.ca_rule.specs.declared.table.neighbourhood.Neighbourhood.{Neighbourhood}
-use Rattle.ca_rule.specs.declared.table.slot.Slot.{Slot}
 use Rattle.ca_rule.specs.TableNext.{TableRule, table_next}
 use Rattle.ca_rule.specs.Digits.{are_digits}
 use Rattle.ca_rule.specs.TableLines.{NumberedLine, lines_said, last_line, rule_name, begins_table, begins_section, is_setting, states_set, neighbourhood_set, symmetry_set, is_name, IsVariableLine, IsTransitionLine}

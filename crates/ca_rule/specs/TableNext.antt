@@ -2,9 +2,7 @@
 -- that it takes under the least fitting order is our own).
 use Rattle.std.specs.Prelude.{ℕ, List, [], ◌∷◌, Bool, true, false, not, ◌&&◌, ◌||◌, ◌==◌, ◌≡◌, ◌≤◌, ◌<◌, replicate, length, All, Option, Some, None, slice_index, slice_index_or, map, zip, if◌then◌else◌, unwrap_or}
 use Rattle.std.specs.List.{list_all, list_any}
-use Rattle.ca_rule.specs.declared.table.neighbourhood.Neighbourhood.{Neighbourhood}
-use Rattle.ca_rule.specs.declared.table.neighbourhood.Symmetry.{Symmetry}
-use Rattle.ca_rule.specs.declared.table.slot.Slot.{Slot}
+use Rattle.ca_rule.specs.declared.table.{neighbourhood.Neighbourhood.Neighbourhood, neighbourhood.Symmetry.Symmetry, slot.Slot.Slot}
 use Rattle.ca_rule.specs.declared.table.slot.Slot.TheVariants.{Number, Variable}
 use Rattle.ca_rule.specs.TableOrders.{ring, orders}
 

@@ -2,9 +2,8 @@
 -- symmetry are taken in lexicographic order, and which orders the hexagonal symmetries have, is our own).
 use Rattle.std.specs.Prelude.{ℕ, zero, suc, ◌+◌, ◌-◌, ◌%◌, List, [], ◌∷◌, ◌++◌, Bool, true, false, ◌==◌, nat_lt, map, length, flat_map, if◌then◌else◌}
 use Rattle.std.specs.List.{range_with_len}
-use Rattle.ca_rule.specs.declared.table.neighbourhood.Neighbourhood.{Neighbourhood}
+use Rattle.ca_rule.specs.declared.table.neighbourhood.{Neighbourhood.Neighbourhood, Symmetry.Symmetry}
 use Rattle.ca_rule.specs.declared.table.neighbourhood.Neighbourhood.TheVariants.{VonNeumann, Moore, Hexagonal, OneDimensional}
-use Rattle.ca_rule.specs.declared.table.neighbourhood.Symmetry.{Symmetry}
 use Rattle.ca_rule.specs.declared.table.neighbourhood.Symmetry.TheVariants.{Identity, Rotate4, Rotate4Reflect, ReflectHorizontal, Rotate8, Rotate8Reflect, Rotate2, Rotate3, Rotate6, Rotate6Reflect, Reflect, Permute}
 
 -- the ring of a neighbourhood, as the slots of a transition name its cells: their places among nine cells, which stand

@@ -3,10 +3,8 @@ use Rattle.std.specs.Prelude.{◌≡◌, ℕ, ◌+◌, ◌<◌, List, [], ◌∷
 use Rattle.std.specs.List.{list_any, range_with_len, AllZip}
 use Rattle.std.specs.Option.{option_or}
 use Rattle.std.specs.Str.{bytes_eq}
-use Rattle.ca_plane.specs.Bytes.{value}
-use Rattle.ca_rule.specs.declared.table.neighbourhood.Neighbourhood.{Neighbourhood}
-use Rattle.ca_rule.specs.declared.table.neighbourhood.Symmetry.{Symmetry}
-use Rattle.ca_rule.specs.declared.table.slot.Slot.{Slot}
+use Rattle.ca_plane.specs.Prelude.{value}
+use Rattle.ca_rule.specs.declared.table.{neighbourhood.Neighbourhood.Neighbourhood, neighbourhood.Symmetry.Symmetry, slot.Slot.Slot}
 use Rattle.ca_rule.specs.declared.table.slot.Slot.TheVariants.{Number, Variable}
 use Rattle.ca_rule.specs.TableOrders.{ring_size}
 use Rattle.ca_rule.specs.TableNext.{States, admits, is_variable, Transition, TableRule}

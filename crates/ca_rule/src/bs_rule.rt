@@ -1,9 +1,7 @@
 //! Rules in B/S notation.
 
 ghost use Rattle.std.specs.Prelude.{◌≡◌, ◌↔◌, false, Some, IsTrue, IfOk, IfErr, IfSome};
-ghost use Rattle.ca_plane.specs.Bytes.{IsWord};
-ghost use Rattle.ca_plane.specs.Counting.{GoesByCounting};
-ghost use Rattle.ca_plane.specs.Moore.{IsMoore};
+ghost use Rattle.ca_plane.specs.Prelude.{IsWord, GoesByCounting, IsMoore};
 ghost use Rattle.ca_rule.specs.Counts.{is_count, FitsHood};
 ghost use Rattle.std.proofs.Common.{arith, rules};
 ghost use Rattle.std.proofs.lemmas.Bool.Decides.{nat_tests};

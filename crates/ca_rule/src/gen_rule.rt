@@ -1,8 +1,7 @@
 //! Rules of the family Generations.
 
 ghost use Rattle.std.specs.Prelude.{◌≡◌, ◌↔◌, ◌≤◌, false, Some, None, IsTrue, IfOk, IfErr, IfSome};
-ghost use Rattle.ca_plane.specs.Bytes.{IsWord};
-ghost use Rattle.ca_plane.specs.Ageing.{liveness, older, GoesByAgeing};
+ghost use Rattle.ca_plane.specs.Prelude.{IsWord, liveness, older, GoesByAgeing};
 ghost use Rattle.ca_rule.specs.Counts.{is_count};
 ghost use Rattle.std.proofs.Common.{arith};
 ghost use Rattle.std.proofs.lemmas.Bool.Decides.{nat_tests};
@@ -32,8 +31,7 @@ pub struct GenRule {
 }
 
 impl GenRule {
-    ghost use Rattle.ca_rule.specs.Generations.{NamesGenerationsRule, IsGenerationsRuleFault};
-    ghost use Rattle.ca_rule.specs.Generations.{printed_generations_rule};
+    ghost use Rattle.ca_rule.specs.Generations.{NamesGenerationsRule, IsGenerationsRuleFault, printed_generations_rule};
     ghost use Rattle.ca_rule.specs.Rule.{Gen, IsSameRule};
 
     /// The rule that the text names, as `/2/3` names Brian's Brain. Nothing here takes memory.

@@ -3,8 +3,7 @@
 
 ghost use Rattle.std.specs.Prelude.{◌≡◌, ◌↔◌, ℕ, List, [], ◌∷◌, true, false, codes, Some, None};
 ghost use Rattle.std.specs.List.{AllByRecursion};
-ghost use Rattle.ca_plane.specs.Counting.{counting_next};
-ghost use Rattle.ca_plane.specs.Moore.{moore_next};
+ghost use Rattle.ca_plane.specs.Prelude.{counting_next, moore_next};
 ghost use Rattle.ca_plane.specs.declared.counting.Neighbourhood.TheVariants as counted;
 ghost use Rattle.ca_rule.specs.Counts.{is_count, counts_of};
 ghost use Rattle.ca_rule.specs.Masks.{masks_by_hood, counting_by_hood};

@@ -1,12 +1,8 @@
 //! Rules of every kind, and the rule that a text names.
 
 ghost use Rattle.std.specs.Prelude.{◌≡◌, ◌↔◌, None, Some, IsTrue, IfOk, IfErr, MatchOption, IfSome};
-ghost use Rattle.ca_plane.specs.Bytes.{IsWord};
-ghost use Rattle.ca_plane.specs.Ageing.{GoesByAgeing};
-ghost use Rattle.ca_plane.specs.Counting.{GoesByCounting};
-ghost use Rattle.ca_plane.specs.Moore.{IsMoore};
-ghost use Rattle.ca_rule.specs.Rule.{rule_value, first_named, NamesRule, IsRuleFault, printed_form};
-ghost use Rattle.ca_rule.specs.Rule.{IsSameRule};
+ghost use Rattle.ca_plane.specs.Prelude.{IsWord, GoesByAgeing, GoesByCounting, IsMoore};
+ghost use Rattle.ca_rule.specs.Rule.{rule_value, first_named, NamesRule, IsRuleFault, printed_form, IsSameRule};
 
 use crate::bs_rule::BsRule;
 use crate::fault::RuleFault;
@@ -111,8 +107,7 @@ impl Rule<'_> {
 impl Automaton for Rule<'_> {
     ghost use Rattle.std.proofs.Common.{arith, rules};
     ghost use Rattle.std.proofs.lemmas.Bool.Decides.{nat_tests};
-    ghost use Rattle.ca_rule.specs.Rule.{rule_value, states_of, next_of, IsSoundRule};
-    ghost use Rattle.ca_rule.specs.Rule.{masks_of, counting_of, ageing_of};
+    ghost use Rattle.ca_rule.specs.Rule.{rule_value, states_of, next_of, IsSoundRule, masks_of, counting_of, ageing_of};
     ghost use Rattle.ca_rule.specs.declared.rule.Rule.TheVariants.{Bs, Gen, Tab};
 
     ghost state_count = { λ rule. states_of (rule_value rule) };

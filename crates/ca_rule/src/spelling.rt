@@ -2,8 +2,7 @@
 
 ghost use Rattle.std.specs.Prelude.{◌≡◌, ◌≤◌, None, Some, MatchOption};
 ghost use Rattle.ca_rule.specs.Counts.{are_digits_up_to};
-ghost use Rattle.ca_rule.specs.inner.TextParts.{is_rule_letter, hood_of, body_of};
-ghost use Rattle.ca_rule.specs.inner.TextParts.{without_slash, tail_after_letter};
+ghost use Rattle.ca_rule.specs.inner.TextParts.{is_rule_letter, hood_of, body_of, without_slash, tail_after_letter};
 ghost use Rattle.ca_rule.specs.inner.TextParts.{tail_after_slash, lists_around, lists_around_slash, lists_of};
 ghost use Rattle.ca_rule.specs.Spelling.{SpellsBsRule};
 

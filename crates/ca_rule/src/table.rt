@@ -71,7 +71,7 @@ impl Model for Table {
 impl Table {
     ghost use Rattle.std.specs.Prelude.{◌≡◌, ◌≢◌, ◌≤◌, true, replicate, IfOk, IfErr};
     ghost use Rattle.std.specs.List.{list_all};
-    ghost use Rattle.ca_plane.specs.Bytes.{IsWord};
+    ghost use Rattle.ca_plane.specs.Prelude.{IsWord};
     ghost use Rattle.ca_rule.specs.TableNext.{Transition as TransitionValue, table_next};
     ghost use Rattle.ca_rule.specs.TableText.{IsTable};
     ghost use Rattle.ca_rule.specs.TableFaults.{IsTableTextFault};

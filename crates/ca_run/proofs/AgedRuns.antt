@@ -1,10 +1,10 @@
 -- What grids of cells that age cost.
 use Rattle.std.proofs.Common.{◌≡◌, ℕ, suc, ◌+◌, ◌-◌, ◌*◌, ◌<◌, ◌≤◌, ◌^◌, refl, arith}
 use Rattle.std.proofs.Math.Nat.{mul-le-mul}
-use Rattle.ca_quad.specs.Sound.{IsSoundStore}
+use Rattle.ca_quad.specs.Prelude.{IsSoundStore}
 use Rattle.ca_quad.proofs.Growth.{grows_same}
-use Rattle.ca_run.specs.Leaping.{LeaperView}
-use Rattle.ca_work.specs.Spending.{Spent, Spends}
+use Rattle.ca_run.specs.Prelude.{LeaperView}
+use Rattle.ca_work.specs.Prelude.{Spent, Spends}
 use Rattle.ca_run.specs.inner.AtCost.{GoesOnAtCost}
 use Rattle.ca_run.proofs.Costs.{at_cost_more, at_both_costs}
 use Rattle.ca_work.proofs.Powers.{power_more, power_suc}

@@ -11,11 +11,10 @@ use Rattle.std.proofs.lemmas.Nat.Bits.{bit_at-zero, bit_at_lowest, bit_at_above,
 use Rattle.std.proofs.Math.Nat.{mul-le-mul_right, mod-eq_of_lt}
 use Rattle.std.proofs.Math.Pow.{pow_mono}
 use Rattle.ca_quad.specs.declared.node.Node.{Node}
-use Rattle.ca_quad.specs.Trees.{AreCorners}
+use Rattle.ca_quad.specs.Prelude.{AreCorners}
 use Rattle.ca_plane.proofs.Numbers.{below_or_not}
 use Rattle.ca_run.specs.inner.Shown.{ShowsAt}
-use Rattle.ca_bricks.specs.Overlaps.{side}
-use Rattle.ca_bricks.specs.Words.{WordShows}
+use Rattle.ca_bricks.specs.Prelude.{side, WordShows}
 
 -- ---- bits that are put into a word above those so far
 

@@ -2,13 +2,10 @@
 use Rattle.std.proofs.Common.{◌≡◌, ℕ, zero, suc, ◌+◌, ◌≤◌, ◌^◌, Result, Ok, Err, IfOk, List, [], ◌∷◌, slice_index, refl, sym, ap, ap₂, subst, ◌∙◌, arith}
 use Rattle.std.specs.Prelude.{ℤ, pos, negsuc, ◌+ℤ◌, replicate}
 use Rattle.std.proofs.lemmas.Int.{ints}
-use Rattle.ca_plane.specs.Generations.{cells_after}
+use Rattle.ca_plane.specs.Prelude.{cells_after, from_corner, ShowsPlane}
 use Rattle.ca_quad.specs.declared.node.Node.{Node}
-use Rattle.ca_quad.specs.Squares.{IsOf, one_cell, joined_cells, cell_of}
-use Rattle.ca_quad.specs.Sound.{IsSoundStore, Grows}
-use Rattle.ca_quad.specs.Trees.{ShowsSquare, AreFour, AreCorners, IsEmpty}
-use Rattle.ca_plane.specs.Shown.{from_corner, ShowsPlane}
-use Rattle.ca_run.specs.Centre.{IsCentre, IsLeap}
+use Rattle.ca_quad.specs.Prelude.{IsOf, one_cell, joined_cells, cell_of, IsSoundStore, Grows, ShowsSquare, AreFour, AreCorners, IsEmpty}
+use Rattle.ca_run.specs.Prelude.{IsCentre, IsLeap}
 use Rattle.ca_run.specs.inner.Shown.{ShowsAt, FourShow, sixteen}
 use Rattle.ca_plane.proofs.After.{after_same, after_none}
 use Rattle.ca_run.proofs.ShowsPlane.{looks_together, looks_centre}

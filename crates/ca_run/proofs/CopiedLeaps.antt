@@ -3,17 +3,12 @@ use Rattle.std.proofs.Common.{◌≡◌, ℕ, suc, ◌-◌, ◌^◌, false, Resu
 use Rattle.std.proofs.lemmas.Bool.{false≢true}
 use Rattle.std.specs.Result.{is_err}
 use Rattle.std.specs.Prelude.{pos, ◌+ℤ◌}
-use Rattle.ca_quad.specs.declared.node.Node.{Node}
-use Rattle.ca_quad.specs.declared.tree.Tree.{Tree}
-use Rattle.ca_quad.specs.Squares.{level_of, cell_of}
-use Rattle.ca_quad.specs.Sound.{IsSoundStore, Grows}
-use Rattle.ca_quad.specs.Trees.{ShowsSquare}
-use Rattle.ca_plane.specs.Shown.{from_corner}
-use Rattle.ca_quad.specs.Added.{IsCopy}
+use Rattle.ca_quad.specs.declared.{node.Node.Node, tree.Tree.Tree}
+use Rattle.ca_quad.specs.Prelude.{level_of, cell_of, IsSoundStore, Grows, ShowsSquare, IsCopy}
+use Rattle.ca_plane.specs.Prelude.{from_corner}
 use Rattle.ca_quad.proofs.ShownSquares.{shows_stays}
 use Rattle.ca_quad.proofs.Cells.{cells_stay, of_stays}
-use Rattle.ca_run.specs.Centre.{centre, IsCentre}
-use Rattle.ca_run.specs.Leaping.{LeaperView, LeaperGrows}
+use Rattle.ca_run.specs.Prelude.{centre, IsCentre, LeaperView, LeaperGrows}
 use Rattle.ca_run.specs.declared.leaper.full_leap.FullLeap.{FullLeap}
 use Rattle.ca_run.specs.inner.OwnStore.{IsCopyOfTree}
 use Rattle.ca_run.specs.inner.InUse.{IsTrueLeap}

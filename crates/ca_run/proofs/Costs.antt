@@ -3,8 +3,8 @@ use Rattle.std.proofs.Common.{◌≡◌, ℕ, suc, ◌+◌, ◌-◌, ◌*◌, �
 use Rattle.std.proofs.Math.Nat.{one-le-pow, div-eq_of_lt, mod-le, mod-lt, mul-le-mul, mul-le-mul_right}
 use Rattle.std.proofs.Math.Pow.{pow_mono}
 use Rattle.ca_plane.proofs.Numbers.{below_or_not}
-use Rattle.ca_quad.specs.Sound.{IsSoundStore}
-use Rattle.ca_run.specs.Leaping.{LeaperView, Costs}
+use Rattle.ca_quad.specs.Prelude.{IsSoundStore}
+use Rattle.ca_run.specs.Prelude.{LeaperView, Costs}
 use Rattle.ca_run.specs.inner.AtCost.{GoesOnAtCost}
 use Rattle.ca_run.proofs.LeaperGrowth.{goes_on_same, goes_on_again}
 use Rattle.ca_work.proofs.Powers.{power_suc, power_some, power_more}

@@ -1,18 +1,15 @@
 -- What a run has reached, as its squares grow.
 use Rattle.std.proofs.Common.{◌≡◌, ℕ, ◌+◌, ◌-◌, ◌*◌, ◌<◌, ◌≤◌, ◌^◌, ◌⊎◌, inl, inr, min, Result, Ok, Err, IfOk, List, refl, sym, ap, ◌∙◌, arith}
 use Rattle.std.specs.Prelude.{ℤ, replicate}
-use Rattle.ca_plane.specs.Generations.{cells_after}
-use Rattle.ca_quad.specs.declared.node.Node.{Node}
-use Rattle.ca_quad.specs.declared.tree.Tree.{Tree}
-use Rattle.ca_quad.specs.Sound.{IsSoundStore, Grows}
-use Rattle.ca_quad.specs.Trees.{IsTree, cell, IsTrimmed}
+use Rattle.ca_plane.specs.Prelude.{cells_after}
+use Rattle.ca_quad.specs.declared.{node.Node.Node, tree.Tree.Tree}
+use Rattle.ca_quad.specs.Prelude.{IsSoundStore, Grows, IsTree, cell, IsTrimmed}
 use Rattle.ca_quad.proofs.Cells.{of_stays}
 use Rattle.ca_quad.proofs.Growth.{grows_same}
 use Rattle.ca_run.specs.declared.leaper.dense.ReachedTree.{ReachedTree}
 use Rattle.ca_work.specs.declared.fault.LeapFault.{LeapFault}
-use Rattle.ca_run.specs.Advanced.{IsAdvanced}
-use Rattle.ca_run.specs.Leaping.{Costs, LeaperView}
-use Rattle.ca_work.specs.Spending.{Spent, Spends}
+use Rattle.ca_run.specs.Prelude.{IsAdvanced, Costs, LeaperView}
+use Rattle.ca_work.specs.Prelude.{Spent, Spends}
 use Rattle.ca_run.specs.inner.OwnStore.{IsCopyOfTree}
 use Rattle.ca_run.specs.inner.AtCost.{GoesOnAtCost}
 use Rattle.ca_run.specs.inner.Dense.{HasReached, IsIdle, IsDense, HasLeapt, HasParted}

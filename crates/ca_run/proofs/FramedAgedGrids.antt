@@ -3,12 +3,10 @@ use Rattle.std.proofs.Common.{◌≡◌, ℕ, ◌+◌, ◌<◌, ◌≤◌, ◌^�
 use Rattle.std.specs.Prelude.{ℤ}
 use Rattle.std.specs.List.{All}
 use Rattle.std.proofs.lemmas.List.Elements.{All-weaker}
-use Rattle.ca_plane.specs.Ageing.{liveness}
-use Rattle.ca_bricks.specs.declared.aged.AgedGrid.{AgedGrid}
+use Rattle.ca_plane.specs.Prelude.{liveness}
+use Rattle.ca_bricks.specs.declared.{aged.AgedGrid.AgedGrid, grid.BrickGrid.BrickGrid}
 use Rattle.ca_run.specs.declared.bricks.frame.Frame.{Frame}
-use Rattle.ca_bricks.specs.declared.grid.BrickGrid.{BrickGrid}
-use Rattle.ca_bricks.specs.Aged.{AgedGridShows, IsBeside, dying_digit}
-use Rattle.ca_bricks.specs.Bricks.{GridShows}
+use Rattle.ca_bricks.specs.Prelude.{AgedGridShows, IsBeside, dying_digit, GridShows}
 use Rattle.ca_run.specs.inner.Frames.{IsFramed, IsOfFrame}
 
 -- what holds of a grid where one is found holds of the one found

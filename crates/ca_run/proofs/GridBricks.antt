@@ -7,15 +7,12 @@ use Rattle.std.proofs.Math.Seq.{get_or-append_seam}
 use Rattle.std.proofs.Math.Nat.{mul_comm, mul_assoc, two-pow-succ, div-mul-le_self, mul-le-mul_right}
 use Rattle.ca_plane.proofs.Numbers.{below_or_not}
 use Rattle.ca_quad.specs.declared.node.Node.{Node}
-use Rattle.ca_quad.specs.Squares.{cell_of}
-use Rattle.ca_quad.specs.Trees.{IsEmpty}
-use Rattle.ca_run.specs.declared.bricks.frame.Span.{Span}
-use Rattle.ca_run.specs.declared.bricks.frame.Frame.{Frame}
+use Rattle.ca_quad.specs.Prelude.{cell_of, IsEmpty}
+use Rattle.ca_run.specs.declared.bricks.frame.{Span.Span, Frame.Frame}
 use Rattle.ca_bricks.specs.declared.grid.BrickGrid.{BrickGrid}
 use Rattle.ca_run.specs.inner.Beyond.{DiesBeyond}
 use Rattle.ca_run.specs.inner.Shown.{ShowsAt}
-use Rattle.ca_bricks.specs.Words.{WordShows}
-use Rattle.ca_bricks.specs.Bricks.{BrickShows, GridShows, LiesNearOrigin, IsAligned}
+use Rattle.ca_bricks.specs.Prelude.{WordShows, BrickShows, GridShows, LiesNearOrigin, IsAligned}
 use Rattle.ca_run.specs.inner.Frames.{IsOutOf, IsGridFrame, IsFramed, piece_start, row_start}
 use Rattle.ca_bricks.proofs.BrickLists.{zeros_blank}
 use Rattle.ca_bricks.proofs.Words.{side_words, word_from}

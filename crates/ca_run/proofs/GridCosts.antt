@@ -1,7 +1,7 @@
 -- What squares made of grids cost: so many units for each word at most.
 use Rattle.std.proofs.Common.{◌≡◌, ℕ, suc, ◌+◌, ◌-◌, ◌*◌, ◌^◌, ◌≤◌, ap, subst, ◌∙◌, arith}
 use Rattle.std.proofs.Math.Nat.{mul-le-mul, mul-le-mul_left, mul_left_comm}
-use Rattle.ca_run.specs.Leaping.{LeaperView}
+use Rattle.ca_run.specs.Prelude.{LeaperView}
 use Rattle.ca_run.specs.inner.AtCost.{GoesOnAtCost}
 use Rattle.ca_run.proofs.Costs.{at_cost_more, at_both_costs, at_paid_cost}
 use Rattle.ca_work.proofs.Powers.{power_suc, power_some}

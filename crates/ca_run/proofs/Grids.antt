@@ -3,15 +3,12 @@ use Rattle.std.proofs.Common.{◌≡◌, ℕ, suc, ◌+◌, ◌-◌, ◌≤◌, 
 use Rattle.std.specs.Prelude.{ℤ, pos, neg_ℤ, ◌+ℤ◌}
 use Rattle.std.proofs.lemmas.Int.{ints}
 use Rattle.std.proofs.Math.Pow.{pow_mono}
-use Rattle.ca_quad.specs.declared.node.Node.{Node}
-use Rattle.ca_quad.specs.declared.tree.Tree.{Tree}
-use Rattle.ca_quad.specs.Trees.{cell}
-use Rattle.ca_bricks.specs.declared.grid.BrickGrid.{BrickGrid}
-use Rattle.ca_bricks.specs.declared.grid.WordPlace.{WordPlace}
+use Rattle.ca_quad.specs.declared.{node.Node.Node, tree.Tree.Tree}
+use Rattle.ca_quad.specs.Prelude.{cell}
+use Rattle.ca_bricks.specs.declared.grid.{BrickGrid.BrickGrid, WordPlace.WordPlace}
 use Rattle.ca_run.specs.inner.Shown.{ShowsAt}
-use Rattle.ca_bricks.specs.Words.{eight}
+use Rattle.ca_bricks.specs.Prelude.{eight, HasMargin, IsNearGrid, LiesWithin}
 use Rattle.ca_run.specs.inner.Beyond.{DiesBeyond}
-use Rattle.ca_bricks.specs.Bricks.{HasMargin, IsNearGrid, LiesWithin}
 use Rattle.ca_run.proofs.ShownPlanes.{at_from}
 use Rattle.ca_run.proofs.Trees.{tree_at}
 use Rattle.ca_bricks.proofs.Grids.{dies_beyond}

@@ -1,17 +1,13 @@
 -- Squares that are read as words and made of them, and their centres.
 use Rattle.std.proofs.Common.{◌≡◌, ℕ, suc, ◌^◌, List, Option, Some, None, Result, Ok, Err, IfOk, IfSome, sym, subst, ◌∙◌, arith}
 use Rattle.std.specs.Prelude.{ℤ, pos, ◌+ℤ◌, MatchOption}
-use Rattle.ca_plane.specs.Generations.{cells_after}
+use Rattle.ca_plane.specs.Prelude.{cells_after, from_corner, word_cells}
 use Rattle.ca_quad.specs.declared.node.Node.{Node}
-use Rattle.ca_quad.specs.Squares.{cell_of}
-use Rattle.ca_quad.specs.Sound.{IsSoundStore, Grows}
-use Rattle.ca_quad.specs.Trees.{HasMoreStates}
-use Rattle.ca_plane.specs.Shown.{from_corner, word_cells}
-use Rattle.ca_run.specs.Centre.{IsCentre}
+use Rattle.ca_quad.specs.Prelude.{cell_of, IsSoundStore, Grows, HasMoreStates}
+use Rattle.ca_run.specs.Prelude.{IsCentre}
 use Rattle.ca_run.specs.inner.Centres.{HasCentre}
 use Rattle.ca_run.specs.inner.Shown.{ShowsAt}
-use Rattle.ca_bricks.specs.Overlaps.{side}
-use Rattle.ca_bricks.specs.Words.{WordShows}
+use Rattle.ca_bricks.specs.Prelude.{side, WordShows}
 use Rattle.ca_run.proofs.ShownPlanes.{is_centre_at, at_corner}
 
 -- the word of a square that shows a plane shows it

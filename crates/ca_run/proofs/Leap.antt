@@ -1,20 +1,15 @@
 -- The steps of a leap by nine squares: which squares show which places.
 use Rattle.std.proofs.Common.{◌≡◌, ℕ, suc, ◌+◌, ◌≤◌, ◌^◌, Result, Ok, Err, IfOk, List, sym, ap, subst, ◌∙◌}
 use Rattle.std.specs.Prelude.{ℤ, pos, ◌+ℤ◌}
-use Rattle.ca_plane.specs.Generations.{cells_after}
+use Rattle.ca_plane.specs.Prelude.{cells_after, from_corner}
 use Rattle.ca_quad.specs.declared.node.Node.{Node}
-use Rattle.ca_quad.specs.Squares.{IsOf, cell_of}
-use Rattle.ca_quad.specs.Sound.{IsSoundStore, Grows}
-use Rattle.ca_quad.specs.Trees.{AreFour}
-use Rattle.ca_plane.specs.Shown.{from_corner}
+use Rattle.ca_quad.specs.Prelude.{IsOf, cell_of, IsSoundStore, Grows, AreFour}
 use Rattle.ca_quad.proofs.Growth.{grows_on}
 use Rattle.ca_quad.proofs.Cells.{of_stays}
-use Rattle.ca_bricks.specs.declared.trio.Trio.{Trio}
-use Rattle.ca_bricks.specs.declared.trio.Rows.{Rows}
-use Rattle.ca_run.specs.Centre.{IsCentre, IsLeap}
-use Rattle.ca_run.specs.Leaping.{LeaperView, LeaperGrows}
+use Rattle.ca_bricks.specs.declared.trio.{Trio.Trio, Rows.Rows}
+use Rattle.ca_run.specs.Prelude.{IsCentre, IsLeap, LeaperView, LeaperGrows}
 use Rattle.ca_run.specs.inner.Shown.{ShowsAt, FourShow, AreThree, ThreeShow, TwoShow, AreNine, NineShow}
-use Rattle.ca_bricks.specs.Overlaps.{side}
+use Rattle.ca_bricks.specs.Prelude.{side}
 use Rattle.ca_bricks.proofs.Overlaps.{pair_lies, trio_lies, rows_lie, four_lie}
 use Rattle.ca_run.proofs.ShownPlanes.{two_stay, at_stays, three_stay, three_are, four_was, four_stay, four_go, centre_at, is_centre_at, at_corner}
 

@@ -6,13 +6,10 @@ use Rattle.std.proofs.lemmas.List.Elements.{Contains-append_left, Contains-appen
 use Rattle.lru.proofs.Splits.{Contains-head, Contains-tail, Contains-cons, Contains-nil}
 use Rattle.ca_bricks.specs.declared.cell_rule.CellRule.{CellRule}
 use Rattle.ca_quad.specs.declared.node.Node.{Node}
-use Rattle.ca_memo.specs.declared.key.Key.{Key}
+use Rattle.ca_memo.specs.declared.{key.Key.Key, page.Page.Page}
 use Rattle.ca_memo.specs.declared.key.Key.TheVariants.{Page as OfPage, Single}
-use Rattle.ca_memo.specs.declared.page.Page.{Page}
-use Rattle.ca_run.specs.Centre.{IsCentre, IsLeap}
-use Rattle.ca_run.specs.Memo.{LeapResult, FullLeap, Centre, LeapOfFour, IsTrueResult}
-use Rattle.ca_memo.specs.Pages.{MemoView, HasPageKey, HasSlot, HasFullLeap, HasSingle}
-use Rattle.ca_memo.specs.SlotResults.{SlotsView, HasRecent}
+use Rattle.ca_run.specs.Prelude.{IsCentre, IsLeap, LeapResult, FullLeap, Centre, LeapOfFour, IsTrueResult}
+use Rattle.ca_memo.specs.Prelude.{MemoView, HasPageKey, HasSlot, HasFullLeap, HasSingle, SlotsView, HasRecent}
 use Rattle.ca_run.specs.inner.Tables.{slot_results, page_results, single_result, centre_result, leap_result, results_of, AreBounded, IsLeaper}
 
 -- ---- lists

@@ -1,9 +1,9 @@
 -- Leapers that go on: one call after another, or none.
 use Rattle.std.proofs.Common.{refl, ◌∙◌}
-use Rattle.ca_quad.specs.Sound.{IsSoundStore}
+use Rattle.ca_quad.specs.Prelude.{IsSoundStore}
 use Rattle.ca_quad.proofs.Growth.{grows_on, grows_same}
 use Rattle.ca_work.proofs.Spent.{spends_again, spends_same}
-use Rattle.ca_run.specs.Leaping.{LeaperView, LeaperGrows}
+use Rattle.ca_run.specs.Prelude.{LeaperView, LeaperGrows}
 
 -- one call after another
 pub goes_on_again : (Rule : Type 0) (old mid new : LeaperView Rule) → LeaperGrows Rule old mid → LeaperGrows Rule mid new → LeaperGrows Rule old new

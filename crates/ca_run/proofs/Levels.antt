@@ -3,15 +3,14 @@ use Rattle.std.proofs.Common.{◌≡◌, ℕ, suc, ◌+◌, ◌-◌, ◌/◌, �
 use Rattle.std.specs.Prelude.{ℤ, pos, ◌+ℤ◌, replicate}
 use Rattle.std.proofs.Math.Nat.{mul-le-mul_right}
 use Rattle.std.proofs.lemmas.Int.{ints}
-use Rattle.ca_plane.specs.Generations.{cells_after}
-use Rattle.ca_quad.specs.declared.node.Node.{Node}
-use Rattle.ca_quad.specs.declared.tree.Tree.{Tree}
-use Rattle.ca_quad.specs.Trees.{cell, IsWithinLevel, HoldsAll, IsTrimmed}
+use Rattle.ca_plane.specs.Prelude.{cells_after}
+use Rattle.ca_quad.specs.declared.{node.Node.Node, tree.Tree.Tree}
+use Rattle.ca_quad.specs.Prelude.{cell, IsWithinLevel, HoldsAll, IsTrimmed}
 use Rattle.ca_quad.proofs.FilledSquares.{place_on}
 use Rattle.ca_plane.proofs.Numbers.{below_or_not}
 use Rattle.ca_quad.proofs.Reach.{tree_holds}
 use Rattle.ca_run.specs.inner.Beyond.{IsBeyond, DiesBeyond}
-use Rattle.ca_run.specs.Leaping.{Costs, LeaperView}
+use Rattle.ca_run.specs.Prelude.{Costs, LeaperView}
 use Rattle.ca_run.specs.inner.Dense.{IsLow, HasLeapt}
 use Rattle.ca_run.proofs.Costs.{costs_then, costs_more, digit_below, rising_cost, level_cost, first_digits, all_digits}
 use Rattle.ca_work.proofs.Powers.{power_more}

@@ -5,9 +5,8 @@ use Rattle.std.specs.Int.{w128}
 use Rattle.std.proofs.lemmas.Int.{ints, to_z-of_z}
 use Rattle.std.proofs.lemmas.Bool.{cases_eq}
 use Rattle.ca_quad.specs.declared.tree.WideBounds.{WideBounds}
-use Rattle.ca_quad.specs.Boxes.{IsLeastWideBox, IsInWideBox}
-use Rattle.ca_run.specs.declared.bricks.frame.Span.{Span}
-use Rattle.ca_run.specs.declared.bricks.frame.Frame.{Frame}
+use Rattle.ca_quad.specs.Prelude.{IsLeastWideBox, IsInWideBox}
+use Rattle.ca_run.specs.declared.bricks.frame.{Span.Span, Frame.Frame}
 use Rattle.ca_run.specs.inner.Frames.{IsOutOf, Spans, IsFramed, IsNearBox, piece_start}
 use Rattle.ca_run.specs.inner.Beyond.{IsBeyond, DiesBeyond}
 

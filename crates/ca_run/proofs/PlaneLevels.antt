@@ -3,13 +3,10 @@ use Rattle.std.proofs.Common.{◌≡◌, ◌≤◌, inl, inr, List, ◌∙◌, a
 use Rattle.std.specs.Prelude.{ℤ, neg_ℤ, ◌≤ℤ◌, Result, Ok, Err, IfOk}
 use Rattle.std.proofs.lemmas.Int.{ints}
 use Rattle.std.proofs.lemmas.List.Elements.{All-contains}
-use Rattle.ca_plane.specs.Plane.{Picture, cell as plane_cell}
-use Rattle.ca_plane.specs.Limits.{reach}
-use Rattle.ca_plane.specs.Sparse.{IsInPlane, IsSparse}
+use Rattle.ca_plane.specs.Prelude.{Picture, cell as plane_cell, reach, IsInPlane, IsSparse}
 use Rattle.ca_plane.proofs.Pictures.{Contains-cell}
-use Rattle.ca_quad.specs.declared.node.Node.{Node}
-use Rattle.ca_quad.specs.declared.tree.Tree.{Tree}
-use Rattle.ca_quad.specs.Trees.{cell, IsWithinLevel, IsTrimmed}
+use Rattle.ca_quad.specs.declared.{node.Node.Node, tree.Tree.Tree}
+use Rattle.ca_quad.specs.Prelude.{cell, IsWithinLevel, IsTrimmed}
 use Rattle.ca_plane.proofs.Numbers.{below_or_not}
 
 -- a coordinate of a plane lies within a tree of level 64

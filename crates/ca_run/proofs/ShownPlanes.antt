@@ -5,22 +5,16 @@ use Rattle.std.proofs.lemmas.Int.{ints}
 use Rattle.std.proofs.lemmas.List.{get_or_default}
 use Rattle.std.proofs.Math.Nat.{two-pow-succ}
 use Rattle.std.proofs.Math.Pow.{pow_mono}
-use Rattle.ca_plane.specs.Generations.{cells_after}
-use Rattle.ca_bricks.specs.declared.cell_rule.CellRule.{CellRule}
+use Rattle.ca_plane.specs.Prelude.{cells_after, from_corner, ShowsPlane}
+use Rattle.ca_bricks.specs.declared.{cell_rule.CellRule.CellRule, trio.Trio.Trio}
 use Rattle.ca_quad.specs.declared.node.Node.{Node}
-use Rattle.ca_quad.specs.Squares.{IsOf, joined_cells, cell_of}
-use Rattle.ca_quad.specs.Sound.{IsSoundStore, Grows}
-use Rattle.ca_quad.specs.Trees.{ShowsSquare, AreFour, AreQuarters}
-use Rattle.ca_plane.specs.Shown.{from_corner, ShowsPlane}
+use Rattle.ca_quad.specs.Prelude.{IsOf, joined_cells, cell_of, IsSoundStore, Grows, ShowsSquare, AreFour, AreQuarters}
 use Rattle.ca_quad.proofs.Growth.{grows_on}
 use Rattle.ca_quad.proofs.Cells.{cells_stay, of_stays}
-use Rattle.ca_bricks.specs.declared.trio.Trio.{Trio}
-use Rattle.ca_run.specs.Centre.{centre, IsCentre, IsLeap}
+use Rattle.ca_run.specs.Prelude.{centre, IsCentre, IsLeap, LeapResult, FullLeap, Centre, LeapOfFour, IsTrueResult}
 use Rattle.ca_run.specs.inner.Shown.{ShowsAt, FourShow, ThreeShow, TwoShow, AreThree}
-use Rattle.ca_bricks.specs.Overlaps.{side}
-use Rattle.ca_memo.specs.Pages.{MemoView, HasFullLeap, HasSingle, RemembersNoMore, IsBoundedMemo}
-use Rattle.ca_memo.specs.SlotResults.{SlotsView, HasRecent}
-use Rattle.ca_run.specs.Memo.{LeapResult, FullLeap, Centre, LeapOfFour, IsTrueResult}
+use Rattle.ca_bricks.specs.Prelude.{side}
+use Rattle.ca_memo.specs.Prelude.{MemoView, HasFullLeap, HasSingle, RemembersNoMore, IsBoundedMemo, SlotsView, HasRecent}
 use Rattle.ca_run.specs.inner.Tables.{IsLeaper}
 use Rattle.ca_run.proofs.LeapResults.{AreFullLeaps, AreSingles, AreRecentCentres, AreRecentLeaps, full_leaps_of, singles_of, centres_of, leaps_of, leaper_with}
 use Rattle.ca_plane.proofs.After.{after_again}

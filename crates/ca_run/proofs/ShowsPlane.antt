@@ -2,13 +2,11 @@
 use Rattle.std.proofs.Common.{◌≡◌, ℕ, ◌+◌, ◌-◌, ◌<◌, ◌≤◌, inl, inr, List, sym, ap, ap₂, ◌∙◌, arith}
 use Rattle.std.specs.Prelude.{ℤ, pos, negsuc, ◌+ℤ◌}
 use Rattle.std.proofs.lemmas.Int.{ints}
-use Rattle.ca_plane.specs.Generations.{cells_after}
-use Rattle.ca_plane.specs.Shown.{ShowsPlane, from_corner}
-use Rattle.ca_quad.specs.Squares.{joined_cells}
+use Rattle.ca_plane.specs.Prelude.{cells_after, ShowsPlane, from_corner, IsWithin}
+use Rattle.ca_quad.specs.Prelude.{joined_cells}
 use Rattle.ca_plane.proofs.Numbers.{below_or_not}
 use Rattle.ca_quad.proofs.Cells.{in_nw, in_ne, in_sw, in_se, at_nw, at_ne, at_sw, at_se}
-use Rattle.ca_plane.specs.Box.{IsWithin}
-use Rattle.ca_run.specs.Centre.{centre}
+use Rattle.ca_run.specs.Prelude.{centre}
 use Rattle.ca_plane.proofs.After.{after_near, after_seen}
 
 module _ (s : ℕ) (nw ne sw se : ℕ → ℕ → ℕ) (p : ℤ → ℤ → ℕ) (a b : ℤ) where

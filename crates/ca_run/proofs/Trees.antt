@@ -5,19 +5,15 @@ use Rattle.std.proofs.lemmas.Int.{ints}
 use Rattle.std.proofs.Math.Nat.{two-pow-succ, pow-le-pow_right}
 use Rattle.std.proofs.Math.Pow.{pow_mono}
 use Rattle.std.proofs.lemmas.Nat.{mod-pow-add}
-use Rattle.ca_plane.specs.Generations.{cells_after}
-use Rattle.ca_quad.specs.declared.node.Node.{Node}
-use Rattle.ca_quad.specs.declared.tree.Tree.{Tree}
-use Rattle.ca_quad.specs.Squares.{cell_of}
-use Rattle.ca_quad.specs.Sound.{IsSoundStore, Grows}
-use Rattle.ca_quad.specs.Trees.{IsTree, cell}
-use Rattle.ca_plane.specs.Shown.{from_corner}
+use Rattle.ca_plane.specs.Prelude.{cells_after, from_corner}
+use Rattle.ca_quad.specs.declared.{node.Node.Node, tree.Tree.Tree}
+use Rattle.ca_quad.specs.Prelude.{cell_of, IsSoundStore, Grows, IsTree, cell}
 use Rattle.ca_plane.proofs.Numbers.{below_or_not}
 use Rattle.ca_quad.proofs.Cells.{cell_ends, cells_stay}
 use Rattle.ca_quad.proofs.Edges.{outside_x, outside_y}
-use Rattle.ca_run.specs.Centre.{IsCentre}
+use Rattle.ca_run.specs.Prelude.{IsCentre}
 use Rattle.ca_run.specs.inner.Shown.{ShowsAt}
-use Rattle.ca_bricks.specs.Overlaps.{side}
+use Rattle.ca_bricks.specs.Prelude.{side}
 use Rattle.ca_run.specs.inner.Padded.{IsPadded}
 use Rattle.ca_run.specs.inner.Beyond.{IsBeyond, DiesBeyond}
 use Rattle.ca_plane.proofs.After.{after_same, after_dead}

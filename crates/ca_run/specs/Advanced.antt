@@ -1,13 +1,11 @@
 -- Trees some generations on.
 use Rattle.std.specs.Prelude.{◌≡◌, ℕ, ◌+◌, ◌*◌, ◌<◌, ◌≤◌, ◌^◌, ℤ, List, Result, Ok, IfOk}
-use Rattle.ca_plane.specs.Generations.{cells_after}
-use Rattle.ca_plane.specs.Limits.{most_generations}
-use Rattle.ca_quad.specs.declared.node.Node.{Node}
-use Rattle.ca_quad.specs.declared.tree.Tree.{Tree}
-use Rattle.ca_quad.specs.Trees.{IsTree, cell}
+use Rattle.ca_plane.specs.Prelude.{cells_after, most_generations}
+use Rattle.ca_quad.specs.declared.{node.Node.Node, tree.Tree.Tree}
+use Rattle.ca_quad.specs.Prelude.{IsTree, cell}
 use Rattle.ca_work.specs.declared.fault.LeapFault.{LeapFault}
 use Rattle.ca_run.specs.Leaping.{Costs, LeaperView, LeaperGrows}
-use Rattle.ca_work.specs.Spending.{EndsAtLimit}
+use Rattle.ca_work.specs.Prelude.{EndsAtLimit}
 
 -- a tree that can be advanced by n generations: of at most 2^64 cells a side, by at most 2^60 generations
 pub record CanAdvance (nodes : List Node) (tree : Tree) (n : ℕ) : Type 0 where

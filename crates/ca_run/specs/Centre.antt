@@ -1,12 +1,10 @@
 -- What is in the middle of squares after some generations (Gosper, "Exploiting regularities in large cellular spaces").
 use Rattle.std.specs.Prelude.{◌≡◌, ℕ, suc, ◌+◌, ◌≤◌, ◌<◌, ◌^◌, ℤ, pos, ◌+ℤ◌, List}
-use Rattle.ca_plane.specs.Generations.{cells_after}
+use Rattle.ca_plane.specs.Prelude.{cells_after, from_corner}
 use Rattle.ca_quad.specs.declared.node.Node.{Node}
-use Rattle.ca_quad.specs.Squares.{IsOf, cell_of}
-use Rattle.ca_quad.specs.Trees.{AreFour}
-use Rattle.ca_plane.specs.Shown.{from_corner}
+use Rattle.ca_quad.specs.Prelude.{IsOf, cell_of, AreFour}
 use Rattle.ca_run.specs.inner.Shown.{ShowsAt, FourShow}
-use Rattle.ca_bricks.specs.Overlaps.{side}
+use Rattle.ca_bricks.specs.Prelude.{side}
 
 -- the centre of a square after n generations, counted from the centre's own corner: the square lies with its upper left
 -- cell at (0, 0), all else is empty, and the centre begins a quarter of the side further in

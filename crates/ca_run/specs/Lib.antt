@@ -1,3 +1,4 @@
+pub mod Prelude
 pub mod Centre
 pub mod Leaping
 pub mod Advanced

@@ -1,16 +1,14 @@
 //! Leaps by powers of two over shared squares (Gosper, "Exploiting regularities in large cellular spaces").
 
 ghost use Rattle.std.specs.Prelude.{◌≡◌, ℕ, suc, ◌+◌, ◌≤◌, ◌/◌, ℤ, max, OnOk, IsOk, IfOk, IfErr, IfSome};
-ghost use Rattle.ca_quad.specs.Squares.{IsOf, one_cell, joined_cells};
-ghost use Rattle.ca_quad.specs.Sound.{IsSoundStore};
-ghost use Rattle.ca_quad.specs.Trees.{AreFour, ShowsSquare};
+ghost use Rattle.ca_quad.specs.Prelude.{IsOf, one_cell, joined_cells, IsSoundStore, AreFour, ShowsSquare};
 ghost use Rattle.ca_run.specs.Centre.{IsCentre, IsLeap};
 ghost use Rattle.ca_run.specs.Leaping.{LeaperGrows};
-ghost use Rattle.ca_work.specs.Spending.{EndsAtLimit};
+ghost use Rattle.ca_work.specs.Prelude.{EndsAtLimit};
 ghost use Rattle.ca_run.specs.inner.AtCost.{GoesOnAtCost};
-ghost use Rattle.ca_bricks.specs.CellRules.{GoesByCells};
+ghost use Rattle.ca_bricks.specs.Prelude.{GoesByCells};
 ghost use Rattle.ca_run.specs.inner.Shown.{ShowsAt, FourShow};
-ghost use Rattle.ca_plane.specs.Limits.{most_memo};
+ghost use Rattle.ca_plane.specs.Prelude.{most_memo};
 
 mod advance;
 mod aged;

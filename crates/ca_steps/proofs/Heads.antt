@@ -8,8 +8,7 @@ use Rattle.std.proofs.lemmas.Cmp.{int_eq_equiv}
 use Rattle.std.proofs.lemmas.List.Elements.{All-tail}
 use Rattle.std.proofs.lemmas.Map.Keys.{sorted_head, sorted_tail}
 use Rattle.ca_plane.specs.declared.point.Point.{Point}
-use Rattle.ca_plane.specs.Plane.{Picture, cell}
-use Rattle.ca_plane.specs.Sparse.{point_cmp, IsInPlane, IsSparse}
+use Rattle.ca_plane.specs.Prelude.{Picture, cell, point_cmp, IsInPlane, IsSparse}
 use Rattle.ca_plane.proofs.Pictures.{point_cmp_total, apart-Less, place-from_true, cell-first, point-same}
 use Rattle.ca_steps.specs.inner.Order.{NoneBefore, IsFirstPlace}
 use Rattle.ca_steps.specs.inner.CellsAhead.{IsWithout}

@@ -4,12 +4,9 @@ use Rattle.std.specs.Prelude.{ℤ, Result, Ok, Err, IsErrAnd}
 use Rattle.std.specs.List.{All, AllByRecursion}
 use Rattle.std.proofs.lemmas.List.Elements.{All-contains, All-cons, All-nil}
 use Rattle.ca_plane.specs.declared.point.Point.{Point}
-use Rattle.ca_plane.specs.Plane.{Picture, cell}
-use Rattle.ca_plane.specs.Generations.{around, IsAfter}
-use Rattle.ca_plane.specs.Sparse.{IsSparse}
+use Rattle.ca_plane.specs.Prelude.{Picture, cell, around, IsAfter, IsSparse}
 use Rattle.ca_plane.proofs.Pictures.{IsListed, Contains-cell, cell-listed, cell-All}
-use Rattle.ca_steps.specs.Reach.{IsInReach, LeavesReach, LeavesReachBefore}
-use Rattle.ca_steps.specs.Stepped.{HasStates, IsStepped, Steps}
+use Rattle.ca_steps.specs.Prelude.{IsInReach, LeavesReach, LeavesReachBefore, HasStates, IsStepped, Steps}
 use Rattle.ca_steps.specs.declared.fault.RunFault.{RunFault}
 use Rattle.ca_steps.specs.declared.fault.RunFault.TheVariants.{Range}
 use Rattle.ca_steps.specs.inner.OutOfReach.{IsOutOfReach}

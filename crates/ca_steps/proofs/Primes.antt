@@ -4,7 +4,7 @@ use Rattle.std.specs.Int.{◌∣◌}
 use Rattle.std.proofs.Math.Nat.{dvd_refl, dvd_trans, le_of_dvd, pos_of_dvd_of_pos, dvd_of_mod-eq-zero, dvd_iff_mod-eq-zero, emod_pos_of_not-dvd, dvd-add_iff_right, dvd-mul_left, dvd-mul_right, dvd-mul_left_of_dvd, dvd-mul_right_of_dvd, div-add-mod, div-mul_cancel, mul-div_cancel, mod-lt, mul_comm, mul_assoc, mul-le-mul_right, add-mul, one-mul}
 use Rattle.std.proofs.lemmas.Nat.{le-div}
 use Rattle.std.proofs.lemmas.Bool.{cases_eq, cases_lt}
-use Rattle.ca_steps.specs.Primes.{IsPrime}
+use Rattle.ca_steps.specs.Prelude.{IsPrime}
 
 -- a divisor below which no number above 1 is one is a prime
 pub prime_at : (n d : ℕ) → 1 < d → d ∣ n → ((e : ℕ) → 1 < e → e < d → e ∣ n → ⊥) → IsPrime d

@@ -4,7 +4,7 @@ use Rattle.std.specs.Prelude.{ℤ, ◌+ℤ◌, ◌-ℤ◌, ◌<ℤ◌, ◌≤ℤ
 use Rattle.std.specs.Ordering.{is_lt, ord_min}
 use Rattle.std.proofs.lemmas.Int.{ints}
 use Rattle.ca_plane.specs.declared.point.Point.{Point}
-use Rattle.ca_plane.specs.Sparse.{point_cmp}
+use Rattle.ca_plane.specs.Prelude.{point_cmp}
 use Rattle.ca_steps.specs.inner.Order.{IsBefore, IsFirstOrNone, IsFirstPlace, IsUpTo, IsEarlier}
 
 -- of two numbers one is less, or they are the same

@@ -7,12 +7,9 @@ use Rattle.std.proofs.lemmas.Bool.{cases_lt}
 use Rattle.std.proofs.lemmas.Cmp.{int_ranked}
 use Rattle.std.proofs.lemmas.Int.{ints}
 use Rattle.ca_plane.specs.declared.point.Bounds.{Bounds}
-use Rattle.ca_plane.specs.Plane.{Picture, cell, shifted}
-use Rattle.ca_plane.specs.Generations.{after, IsAfter}
-use Rattle.ca_plane.specs.Box.{IsInBox, IsLeastBox}
+use Rattle.ca_plane.specs.Prelude.{Picture, cell, shifted, after, IsAfter, IsInBox, IsLeastBox}
 use Rattle.ca_plane.proofs.Shifts.{cell-shifted}
-use Rattle.ca_steps.specs.Later.{IsBackAnywhere}
-use Rattle.ca_steps.specs.Reach.{grown_box, IsWiderByAtMost}
+use Rattle.ca_steps.specs.Prelude.{IsBackAnywhere, grown_box, IsWiderByAtMost}
 use Rattle.ca_steps.proofs.Returns.{after_stands, after_back, back_times}
 use Rattle.ca_steps.proofs.Spreading.{spread}
 

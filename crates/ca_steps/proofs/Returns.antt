@@ -7,11 +7,9 @@ use Rattle.std.proofs.lemmas.Nat.{le-div}
 use Rattle.std.proofs.Math.IntN.{suc_ℤ-*ℤ, zero-*ℤ}
 use Rattle.std.proofs.lemmas.Bool.{cases_eq, cases_lt}
 use Rattle.std.proofs.lemmas.Int.{ints}
-use Rattle.ca_plane.specs.Plane.{Picture, cell, IsSame, shifted, IsLive}
-use Rattle.ca_plane.specs.Generations.{after, IsAfter}
+use Rattle.ca_plane.specs.Prelude.{Picture, cell, IsSame, shifted, IsLive, after, IsAfter}
 use Rattle.ca_plane.proofs.Shifts.{cell-shifted}
-use Rattle.ca_steps.specs.Later.{IsBackInPlace, IsBackAnywhere, IsLeast}
-use Rattle.ca_steps.specs.Primes.{IsPrime}
+use Rattle.ca_steps.specs.Prelude.{IsBackInPlace, IsBackAnywhere, IsLeast, IsPrime}
 use Rattle.ca_steps.proofs.Primes.{times_by_prime}
 use Rattle.ca_plane.proofs.After.{after_same, after_seen, after_again}
 use Rattle.ca_steps.proofs.Vectors.{no_vector}

@@ -4,11 +4,9 @@ use Rattle.std.specs.Prelude.{ℤ, replicate}
 use Rattle.std.proofs.lemmas.Bool.{cases_eq}
 use Rattle.std.proofs.lemmas.Int.{ints}
 use Rattle.ca_plane.specs.declared.point.Bounds.{Bounds}
-use Rattle.ca_plane.specs.Plane.{Picture, cell, IsLive}
-use Rattle.ca_plane.specs.Generations.{after}
-use Rattle.ca_plane.specs.Box.{IsInBox, IsWithin}
+use Rattle.ca_plane.specs.Prelude.{Picture, cell, IsLive, after, IsInBox, IsWithin}
 use Rattle.ca_plane.proofs.Pictures.{cell-from_not_live}
-use Rattle.ca_steps.specs.Reach.{grown_box}
+use Rattle.ca_steps.specs.Prelude.{grown_box}
 use Rattle.ca_plane.proofs.After.{after_dead}
 
 -- a picture that isn't live shows 0 after n generations too

@@ -6,8 +6,7 @@ use Rattle.std.proofs.lemmas.Int.{ints, by_lt_z}
 use Rattle.std.proofs.lemmas.List.Elements.{All-nil, All-cons, All-weaker, All-contains}
 use borrow.Author.Differences.{up, down}
 use Rattle.ca_plane.specs.declared.point.Point.{Point}
-use Rattle.ca_plane.specs.Plane.{Picture, cell, IsSame, shifted, IsLive}
-use Rattle.ca_plane.specs.Box.{moved}
+use Rattle.ca_plane.specs.Prelude.{Picture, cell, IsSame, shifted, IsLive, moved}
 use Rattle.ca_plane.proofs.Pictures.{Contains-cell}
 use Rattle.ca_plane.proofs.Shifts.{cell-shifted}
 

@@ -6,13 +6,10 @@ use Rattle.std.proofs.lemmas.Int.{ints}
 use Rattle.std.proofs.lemmas.Bool.{cases_eq}
 use Rattle.std.proofs.lemmas.List.Elements.{All-contains}
 use Rattle.ca_plane.specs.declared.point.Point.{Point}
-use Rattle.ca_plane.specs.Plane.{Picture, cell}
-use Rattle.ca_plane.specs.Generations.{around}
-use Rattle.ca_plane.specs.Sparse.{IsInPlane}
+use Rattle.ca_plane.specs.Prelude.{Picture, cell, around, IsInPlane}
 use Rattle.ca_plane.proofs.Pictures.{cell-Sets, cell-Sets-other, Contains-cell}
-use Rattle.ca_steps.specs.Reach.{IsInReach}
-use Rattle.ca_steps.specs.declared.row.Row.{Row}
-use Rattle.ca_steps.specs.declared.window.MovingWindow.{MovingWindow}
+use Rattle.ca_steps.specs.Prelude.{IsInReach}
+use Rattle.ca_steps.specs.declared.{row.Row.Row, window.MovingWindow.MovingWindow}
 use Rattle.ca_steps.specs.inner.Order.{IsBefore, NoneBefore, IsFirstOrNone, IsFirstPlace, IsEarlier}
 use Rattle.ca_steps.specs.inner.CellsAhead.{AreCellsAhead}
 use Rattle.ca_steps.specs.inner.Row.{ShowsRow, IsQuietRow, IsLiveRow, MovesOn}

@@ -4,13 +4,10 @@ use Rattle.std.specs.Prelude.{ℤ, pos, neg_ℤ, ◌+ℤ◌, ◌-ℤ◌, ◌-◌
 use Rattle.std.specs.List.{All}
 use Rattle.std.proofs.lemmas.Int.{ints}
 use Rattle.ca_plane.specs.declared.point.Point.{Point}
-use Rattle.ca_plane.specs.Plane.{Picture, cell}
-use Rattle.ca_plane.specs.Generations.{around, after, IsAfter}
-use Rattle.ca_plane.specs.Change.{Sets}
+use Rattle.ca_plane.specs.Prelude.{Picture, cell, around, after, IsAfter, Sets}
 use Rattle.ca_plane.proofs.Pictures.{place-from_true, cell-Sets, cell-Sets-other}
-use Rattle.ca_steps.specs.Reach.{IsInReach}
-use Rattle.ca_steps.specs.declared.row.Row.{Row}
-use Rattle.ca_steps.specs.declared.window.MovingWindow.{MovingWindow}
+use Rattle.ca_steps.specs.Prelude.{IsInReach}
+use Rattle.ca_steps.specs.declared.{row.Row.Row, window.MovingWindow.MovingWindow}
 use Rattle.ca_steps.specs.inner.Order.{IsBefore}
 use Rattle.ca_steps.specs.inner.Row.{ShowsRow, IsLiveRow, MovesOn}
 use Rattle.ca_steps.specs.inner.Window.{nine_states, ShowsWindow, east_of, IsNextPlace, MovesTo}

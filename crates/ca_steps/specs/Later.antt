@@ -1,8 +1,6 @@
 -- Pictures over the generations: which cells a later cell depends on, and when a picture is back (our own).
 use Rattle.std.specs.Prelude.{◌≡◌, ℕ, ◌≤◌, ℤ, List}
-use Rattle.ca_plane.specs.Plane.{Picture, cell, shifted}
-use Rattle.ca_plane.specs.Generations.{IsAfter}
-use Rattle.ca_plane.specs.Box.{IsWithin}
+use Rattle.ca_plane.specs.Prelude.{Picture, cell, shifted, IsAfter, IsWithin}
 
 -- the two pictures show the same cells at all places within n of (x, y)
 abbrev pub AgreeWithin : ℕ → ℤ → ℤ → Picture → Picture → Type 0

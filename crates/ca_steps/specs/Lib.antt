@@ -1,3 +1,4 @@
+pub mod Prelude
 pub mod Reach
 pub mod Later
 pub mod Primes

@@ -1,8 +1,7 @@
 -- How far live cells may lie from the origin for a step, and the box that generations can't leave (our own).
 use Rattle.std.specs.Prelude.{◌≢◌, ℕ, ◌-◌, ◌<◌, ◌^◌, ℤ, pos, neg_ℤ, ◌+ℤ◌, ◌-ℤ◌, ◌≤ℤ◌, List}
 use Rattle.ca_plane.specs.declared.point.Bounds.{Bounds}
-use Rattle.ca_plane.specs.Plane.{Picture}
-use Rattle.ca_plane.specs.Generations.{after}
+use Rattle.ca_plane.specs.Prelude.{Picture, after}
 
 -- both coordinates are from -(2^62 - 2) to 2^62 - 2: a cell from which a step is taken
 abbrev pub IsInReach : ℤ → ℤ → Type 0

@@ -1,9 +1,7 @@
 -- Planes some generations on, by steps.
 use Rattle.std.specs.Prelude.{ℕ, ◌<◌, List, Result, IfOk, IsErrOf}
 use Rattle.std.specs.List.{All}
-use Rattle.ca_plane.specs.Plane.{Picture}
-use Rattle.ca_plane.specs.Sparse.{IsSparse}
-use Rattle.ca_plane.specs.Generations.{IsAfter}
+use Rattle.ca_plane.specs.Prelude.{Picture, IsSparse, IsAfter}
 use Rattle.ca_steps.specs.declared.fault.RunFault.{RunFault}
 use Rattle.ca_steps.specs.declared.fault.RunFault.TheVariants.{Range}
 use Rattle.ca_steps.specs.Reach.{LeavesReach, LeavesReachBefore}

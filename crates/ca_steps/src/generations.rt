@@ -2,7 +2,7 @@
 
 ghost use Rattle.std.specs.Prelude.{◌-◌, ◌^◌, pos, neg_ℤ, ◌≤ℤ◌, IsTrue, IsFalse, IfOk, ◌↔◌};
 ghost use Rattle.std.specs.List.{All};
-ghost use Rattle.ca_plane.specs.Sparse.{IsSparse};
+ghost use Rattle.ca_plane.specs.Prelude.{IsSparse};
 ghost use Rattle.ca_steps.specs.Reach.{IsInReach};
 ghost use Rattle.ca_steps.specs.Stepped.{HasStates, IsStepped, Steps};
 ghost use Rattle.ca_steps.specs.inner.OutOfReach.{IsOutOfReach};

@@ -3,9 +3,7 @@
 ghost use Rattle.std.specs.Prelude.{◌≡◌, ◌≢◌, ℕ, ◌+◌, ◌-◌, ◌*◌, ◌/◌, ℤ, pos, ◌+ℤ◌, ◌*ℤ◌};
 ghost use Rattle.std.specs.Int.{◌∣◌};
 ghost use Rattle.ca_plane.specs.declared.point.Bounds.{Bounds};
-ghost use Rattle.ca_plane.specs.Plane.{Picture, cell, IsSame, shifted, IsLive};
-ghost use Rattle.ca_plane.specs.Generations.{after, IsAfter};
-ghost use Rattle.ca_plane.specs.Box.{IsInBox, IsLeastBox};
+ghost use Rattle.ca_plane.specs.Prelude.{Picture, cell, IsSame, shifted, IsLive, after, IsAfter, IsInBox, IsLeastBox};
 ghost use Rattle.ca_steps.specs.Later.{AgreeWithin, IsBackInPlace, IsBackAnywhere, IsLeast};
 ghost use Rattle.ca_steps.specs.Primes.{IsPrime};
 ghost use Rattle.ca_steps.specs.Reach.{grown_box, IsWiderByAtMost};

@@ -1,7 +1,7 @@
 //! Points and coordinates side by side.
 
 ghost use Rattle.std.specs.Prelude.{◌≡◌, pos, neg_ℤ, ◌+ℤ◌, ◌-ℤ◌, ◌≤ℤ◌};
-ghost use Rattle.ca_plane.specs.Limits.{reach};
+ghost use Rattle.ca_plane.specs.Prelude.{reach};
 ghost use Rattle.ca_steps.specs.inner.Order.{IsEarlier};
 
 use ca_plane::Point;

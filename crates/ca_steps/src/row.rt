@@ -1,8 +1,7 @@
 //! One row of a window, and the cells of a plane that are still to come there.
 
 ghost use Rattle.std.specs.Prelude.{◌≡◌, ◌≢◌, ℤ, pos, negsuc, ◌+ℤ◌, ◌≤ℤ◌, [], ◌∷◌, IsTrue, IsFalse, IfSome};
-ghost use Rattle.ca_plane.specs.Plane.{cell};
-ghost use Rattle.ca_plane.specs.Sparse.{IsInPlane, IsSparse};
+ghost use Rattle.ca_plane.specs.Prelude.{cell, IsInPlane, IsSparse};
 ghost use Rattle.ca_steps.specs.inner.Order.{NoneBefore, IsFirstOrNone};
 ghost use Rattle.ca_steps.specs.inner.CellsAhead.{IsWithout};
 
@@ -16,8 +15,7 @@ struct CellsAhead<'a> {
 }
 
 impl<'a> Model for CellsAhead<'a> {
-    ghost use Rattle.ca_plane.specs.Plane.{Picture};
-    ghost use Rattle.ca_plane.specs.Sparse.{IsSparse};
+    ghost use Rattle.ca_plane.specs.Prelude.{Picture, IsSparse};
 
     ghost Value = { Picture };
 

@@ -2,7 +2,7 @@
 
 ghost use Rattle.std.specs.Prelude.{◌≡◌, pos, ◌+ℤ◌, ◌-ℤ◌, IsTrue, IsFalse};
 ghost use Rattle.std.specs.List.{All};
-ghost use Rattle.ca_plane.specs.Sparse.{IsInPlane, IsSparse};
+ghost use Rattle.ca_plane.specs.Prelude.{IsInPlane, IsSparse};
 ghost use Rattle.ca_steps.specs.Reach.{IsInReach};
 ghost use Rattle.ca_steps.specs.inner.Order.{NoneBefore, IsFirstOrNone};
 
@@ -30,8 +30,7 @@ pub(crate) struct MovingWindow<'a> {
 }
 
 impl<'a> MovingWindow<'a> {
-    ghost use Rattle.ca_steps.specs.inner.Window.{nine_states, ShowsWindow, IsQuiet, StaysLive, SeesAhead};
-    ghost use Rattle.ca_steps.specs.inner.Window.{IsNextPlace, MovesTo};
+    ghost use Rattle.ca_steps.specs.inner.Window.{nine_states, ShowsWindow, IsQuiet, StaysLive, SeesAhead, IsNextPlace, MovesTo};
 
     /// A window that comes before all the cells.
     pub(crate) fn new(cells: &'a [(Point, u8)]) -> MovingWindow<'a>

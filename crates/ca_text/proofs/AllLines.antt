@@ -3,12 +3,10 @@ use Rattle.std.proofs.Common.{◌≡◌, ℕ, ◌+◌, ◌<◌, ◌≤◌, List,
 use Rattle.std.specs.Result.{IfErr, IsErrAnd}
 use Rattle.std.proofs.lemmas.Result.{err_from_is_err_and}
 use Rattle.std.proofs.lemmas.List.{length_push}
-use Rattle.ca_plane.specs.Bytes.{lines_of, words_of}
-use Rattle.ca_text.specs.declared.reading.Reading.{Reading}
-use Rattle.ca_text.specs.declared.fault.ClaimFault.{ClaimFault}
+use Rattle.ca_plane.specs.Prelude.{lines_of, words_of}
+use Rattle.ca_text.specs.declared.{reading.Reading.Reading, fault.ClaimFault.ClaimFault}
 use Rattle.ca_text.specs.declared.fault.ClaimFault.TheVariants.{Syntax, Number, UnknownName, NameTaken, Memory}
-use Rattle.ca_text.specs.Text.{ClaimTextLine, ClaimLinesSay, said_lines}
-use Rattle.ca_text.specs.TextFaults.{HasClaimLine, AreMisspelledClaimWords, HaveBadNumber, AskUnknown, LoadTaken, NeedMemory, IsFirstClaimFault}
+use Rattle.ca_text.specs.Prelude.{ClaimTextLine, ClaimLinesSay, said_lines, HasClaimLine, AreMisspelledClaimWords, HaveBadNumber, AskUnknown, LoadTaken, NeedMemory, IsFirstClaimFault}
 use Rattle.ca_text.specs.inner.Reading.{IsClaimReading, SaysNext, HasClaimFault}
 use Rattle.ca_text.proofs.LinesSaid.{ClaimLinesSay-push, length_said}
 

@@ -2,13 +2,8 @@
 use Rattle.std.proofs.Common.{◌≡◌, ℕ, ◌<◌, List, map, length, get_or, option_map, slice_get, Some, sym, ap, subst, ◌∙◌}
 use Rattle.std.proofs.lemmas.List.{length-map}
 use Rattle.std.proofs.lemmas.Option.{same_Some, slice_get-map, slice_get_read}
-use Rattle.ca_text.specs.declared.line.Claim.{Claim as ClaimOf}
-use Rattle.ca_text.specs.declared.line.ClaimLine.{ClaimLine}
-use Rattle.ca_text.specs.declared.line.NamePlace.{NamePlace}
-use Rattle.ca_text.specs.declared.line.NamedPath.{NamedPath}
-use Rattle.ca_text.specs.Both.{map_both}
-use Rattle.ca_text.specs.Text.{Claim, map_patterns, by_path, named_patterns}
-use Rattle.ca_text.specs.Places.{path_at, claim_with_paths, named_at, claim_with_names, named_path}
+use Rattle.ca_text.specs.declared.line.{Claim.Claim as ClaimOf, ClaimLine.ClaimLine, NamePlace.NamePlace, NamedPath.NamedPath}
+use Rattle.ca_text.specs.Prelude.{map_both, Claim, map_patterns, by_path, named_patterns, path_at, claim_with_paths, named_at, claim_with_names, named_path}
 
 module _ (names paths : List (List ℕ)) (claims : List (ClaimLine NamePlace)) where
   -- there are as many

@@ -3,7 +3,7 @@ use Rattle.std.proofs.Common.{◌≡◌, ℕ, ◌-◌, ◌^◌, ◌<◌, min, re
 use Rattle.std.specs.Prelude.{ℤ, FitsSigned}
 use Rattle.std.proofs.lemmas.Int.{ints, to_z-of_z}
 use Rattle.ca_text.specs.declared.kind.Kind.{Kind}
-use Rattle.ca_text.specs.Kinds.{is_of_second_version, IsShift, HasGoodNumbers}
+use Rattle.ca_text.specs.Prelude.{is_of_second_version, IsShift, HasGoodNumbers}
 use Rattle.ca_text.specs.inner.Reading.{IsHeldShift, IsHeldKind}
 
 -- a number below 2^61 is held as itself

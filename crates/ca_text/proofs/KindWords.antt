@@ -3,12 +3,11 @@ use Rattle.std.proofs.Common.{◌≡◌, ℕ, ℤ, List, [], ◌∷◌, get_or, 
 use Rattle.std.specs.List.{list_any}
 use Rattle.std.specs.Str.{bytes_eq}
 use Rattle.std.proofs.lemmas.Bool.{false≢true}
-use Rattle.ca_plane.specs.Bytes.{AreDigits, IsInteger, value}
+use Rattle.ca_plane.specs.Prelude.{AreDigits, IsInteger, value}
 use Rattle.ca_plane.proofs.Integers.{one_integer}
-use Rattle.ca_text.specs.declared.both.Both.{Both}
-use Rattle.ca_text.specs.declared.kind.Kind.{Kind}
+use Rattle.ca_text.specs.declared.{both.Both.Both, kind.Kind.Kind}
 use Rattle.ca_text.specs.declared.kind.Kind.TheVariants.{Still, Oscillator, Spaceship, Becomes, BecomesShifted, Dies}
-use Rattle.ca_text.specs.Kinds.{keyword_of, FollowName, WordsClaim}
+use Rattle.ca_text.specs.Prelude.{keyword_of, FollowName, WordsClaim}
 use Rattle.ca_text.specs.inner.Reading.{MakeNoClaim}
 
 -- equal words are one number

@@ -4,8 +4,8 @@ use Rattle.std.specs.Option.{option_or}
 use Rattle.std.specs.Str.{bytes_eq}
 use Rattle.std.proofs.lemmas.Bool.{cases_Bool}
 use Rattle.std.proofs.lemmas.List.{append-nil}
-use Rattle.ca_plane.specs.Bytes.{words_of}
-use Rattle.ca_text.specs.Text.{map_patterns, ClaimTextLine, Version, Rule, Load, Claims, path_of, ClaimWordsSay, IsAllowedLine, ClaimLinesSay, said_lines, rule_paths, file_paths, claims_from}
+use Rattle.ca_plane.specs.Prelude.{words_of}
+use Rattle.ca_text.specs.Prelude.{map_patterns, ClaimTextLine, Version, Rule, Load, Claims, path_of, ClaimWordsSay, IsAllowedLine, ClaimLinesSay, said_lines, rule_paths, file_paths, claims_from}
 use Rattle.ca_text.specs.inner.Reading.{SaysNext}
 
 -- what lines say and then more lines

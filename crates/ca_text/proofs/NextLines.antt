@@ -8,17 +8,10 @@ use Rattle.std.proofs.lemmas.List.{append-nil, map-append, length_push}
 use Rattle.std.proofs.lemmas.List.Elements.{All-head, All-tail, All-weaker, All-push}
 use Rattle.std.proofs.lemmas.Option.{slice_get_within}
 use Rattle.std.proofs.lemmas.Slice.Eq.{bytes_eq-Decides}
-use Rattle.ca_text.specs.declared.both.Both.{Both}
-use Rattle.ca_text.specs.declared.line.Claim.{Claim as ClaimOf}
-use Rattle.ca_text.specs.declared.line.ClaimLine.{ClaimLine}
-use Rattle.ca_text.specs.declared.line.NamePlace.{NamePlace}
-use Rattle.ca_text.specs.Both.{HoldsOfBoth}
-use Rattle.ca_text.specs.Places.{path_at, named_at, claim_with_names, IsNamed}
-use Rattle.ca_text.specs.Kinds.{HasGoodNumbers}
-use Rattle.ca_text.specs.Text.{Claim, map_patterns, ClaimTextLine, Version, Rule, Load, Claims, path_of, AreLoaded, IsAllowedLine, is_second, said_lines, rule_paths, file_paths, paths_once, claims_from}
-use Rattle.ca_text.specs.declared.version.TextVersion.{TextVersion}
+use Rattle.ca_text.specs.declared.{both.Both.Both, line.Claim.Claim as ClaimOf, line.ClaimLine.ClaimLine, line.NamePlace.NamePlace, version.TextVersion.TextVersion}
+use Rattle.ca_text.specs.Prelude.{HoldsOfBoth, path_at, named_at, claim_with_names, IsNamed, HasGoodNumbers, Claim, map_patterns, ClaimTextLine, Version, Rule, Load, Claims, path_of, AreLoaded}
+use Rattle.ca_text.specs.Prelude.{IsAllowedLine, is_second, said_lines, rule_paths, file_paths, paths_once, claims_from, with_word}
 use Rattle.ca_text.specs.declared.version.TextVersion.TheVariants.{Open, First, Second}
-use Rattle.ca_text.specs.Words.{with_word}
 use Rattle.ca_text.specs.inner.Reading.{IsVersionAfter, KeepsClaimLines, StandsAt, AreKnownNames, known_place, at_places}
 use Rattle.ca_text.proofs.PathLists.{paths_once-push, stays_before, stands_last, kept_place, no_fewer}
 use Rattle.ca_text.proofs.LinesSaid.{spoken-append, rule_paths-append, file_paths-append, path_of-append, claims_from-append}

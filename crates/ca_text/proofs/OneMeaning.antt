@@ -3,12 +3,10 @@ use Rattle.std.proofs.Common.{◌≡◌, ◌≢◌, ℕ, suc, ◌+◌, List, [],
 use Rattle.std.specs.Str.{bytes_eq}
 use Rattle.std.proofs.lemmas.Bool.{false≢true}
 use Rattle.std.proofs.lemmas.List.{append-nil}
-use Rattle.ca_plane.specs.Bytes.{lines_of, words_of}
+use Rattle.ca_plane.specs.Prelude.{lines_of, words_of}
 use Rattle.ca_text.specs.declared.fault.ClaimFault.{ClaimFault}
 use Rattle.ca_text.specs.declared.fault.ClaimFault.TheVariants.{Syntax, Number, UnknownName, NameTaken, Memory}
-use Rattle.ca_text.specs.Kinds.{HasGoodNumbers}
-use Rattle.ca_text.specs.Text.{Claim, ClaimTextLine, Version, Rule, Load, Claims, ClaimWordsSay, IsAllowedLine, ClaimLinesSay, IsClaimText, said_lines}
-use Rattle.ca_text.specs.TextFaults.{IsFirstClaimFault}
+use Rattle.ca_text.specs.Prelude.{HasGoodNumbers, Claim, ClaimTextLine, Version, Rule, Load, Claims, ClaimWordsSay, IsAllowedLine, ClaimLinesSay, IsClaimText, said_lines, IsFirstClaimFault}
 use Rattle.ca_text.specs.inner.Reading.{SaysNext, HasClaimFault}
 use Rattle.ca_text.proofs.KindWords.{same_words, begins_claim, claim_begins}
 use Rattle.ca_text.proofs.LinesSaid.{one_before}

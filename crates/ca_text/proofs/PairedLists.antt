@@ -4,8 +4,7 @@ use Rattle.std.specs.List.{All, AllByRecursion, AllZip}
 use Rattle.std.proofs.Math.Seq.{take-suc}
 use Rattle.std.proofs.lemmas.Option.{same_Some, none-some, slice_get_within, get_or_from_slice_get}
 use Rattle.indexmap.proofs.SetLemmas.{AllZip-push}
-use Rattle.ca_text.specs.SomeOf.{SomeOf}
-use Rattle.ca_text.specs.Firsts.{FirstBad}
+use Rattle.ca_text.specs.Prelude.{SomeOf, FirstBad}
 
 module _ {X Y : Type 0} (R : X → Y → Type 0) where
   -- of all on the left

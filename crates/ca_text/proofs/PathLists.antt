@@ -9,8 +9,7 @@ use Rattle.std.proofs.lemmas.List.{map-append, append-nil}
 use Rattle.std.proofs.lemmas.List.Elements.{filter-append}
 use Rattle.std.proofs.lemmas.List.Quantifiers.{position-Some}
 use Rattle.indexmap.specs.IndexSet.{insert_key}
-use Rattle.ca_text.specs.Words.{with_word}
-use Rattle.ca_text.specs.Text.{paths_once}
+use Rattle.ca_text.specs.Prelude.{with_word, paths_once}
 
 -- bytes are equal to themselves
 pub bytes_eq_self : (xs : List ℕ) → bytes_eq xs xs ≡ true

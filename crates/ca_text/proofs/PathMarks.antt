@@ -7,13 +7,8 @@ use Rattle.std.proofs.lemmas.List.{length-set, take_all, take-append-le}
 use Rattle.std.proofs.lemmas.List.Elements.{All-head, All-tail}
 use Rattle.std.proofs.lemmas.Option.{none-some, same_Some, slice_get-get_or, unwrap_or-slice_get}
 use Rattle.std.proofs.lemmas.Slice.Eq.{bytes_eq-Decides}
-use Rattle.ca_text.specs.declared.line.ClaimLine.{ClaimLine}
-use Rattle.ca_text.specs.declared.line.NamePlace.{NamePlace}
-use Rattle.ca_text.specs.Both.{HoldsOfEither}
-use Rattle.ca_text.specs.Text.{ClaimText, named_patterns}
-use Rattle.ca_text.specs.Places.{path_at, claim_with_names, IsNamed}
-use Rattle.ca_text.specs.SomeOf.{SomeOf}
-use Rattle.ca_text.specs.NeededFiles.{IsNeeded}
+use Rattle.ca_text.specs.declared.line.{ClaimLine.ClaimLine, NamePlace.NamePlace}
+use Rattle.ca_text.specs.Prelude.{HoldsOfEither, ClaimText, named_patterns, path_at, claim_with_names, IsNamed, SomeOf, IsNeeded}
 use Rattle.ca_text.specs.inner.Marks.{with_marks, claims_marked}
 
 -- ---- lists

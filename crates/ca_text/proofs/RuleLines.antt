@@ -7,11 +7,8 @@ use Rattle.std.proofs.lemmas.List.{map-append}
 use Rattle.std.proofs.lemmas.List.Elements.{All-push}
 use Rattle.std.proofs.lemmas.Option.{slice_get_within}
 use Rattle.std.proofs.lemmas.Slice.Eq.{bytes_eq-Decides}
-use Rattle.ca_text.specs.declared.line.ClaimLine.{ClaimLine}
-use Rattle.ca_text.specs.declared.line.NamePlace.{NamePlace}
-use Rattle.ca_text.specs.Places.{path_at, claim_with_names, IsNamed}
-use Rattle.ca_text.specs.Text.{ClaimText, by_path, named_patterns, paths_once, with_rule_line}
-use Rattle.ca_text.specs.Words.{with_word}
+use Rattle.ca_text.specs.declared.line.{ClaimLine.ClaimLine, NamePlace.NamePlace}
+use Rattle.ca_text.specs.Prelude.{path_at, claim_with_names, IsNamed, ClaimText, by_path, named_patterns, paths_once, with_rule_line, with_word}
 use Rattle.ca_text.proofs.PathLists.{paths_once-push}
 use Rattle.ca_text.proofs.NextLines.{grown_same, grown_path, rules_kept, places_kept, all_kept, all_there}
 

@@ -2,9 +2,9 @@
 use Rattle.std.proofs.Common.{◌≡◌, ap₂, ◌∙◌, arith, w64, to_z, of_z}
 use Rattle.std.specs.Prelude.{ℤ, pos, ◌-ℤ◌, FitsSigned}
 use Rattle.std.proofs.lemmas.Int.{ints, to_z-of_z}
-use Rattle.ca_plane.specs.Plane.{Picture, cell, shifted}
+use Rattle.ca_plane.specs.Prelude.{Picture, cell, shifted}
 use Rattle.ca_plane.proofs.Shifts.{cell-shifted}
-use Rattle.ca_text.specs.Kinds.{IsShift}
+use Rattle.ca_text.specs.Prelude.{IsShift}
 
 -- a picture that is moved by (0, 0) shows what it showed
 pub unmoved : (p : Picture) (dx dy x y : ℤ) → dx ≡ pos 0 → dy ≡ pos 0 → cell (shifted p dx dy) x y ≡ cell p x y

@@ -1,12 +1,11 @@
 -- Patterns that are back.
 use Rattle.std.proofs.Common.{ℕ, List, ◌∙◌}
 use Rattle.std.specs.Prelude.{ℤ}
-use Rattle.ca_plane.specs.Plane.{Picture, shifted}
-use Rattle.ca_plane.specs.Generations.{IsAfter}
+use Rattle.ca_plane.specs.Prelude.{Picture, shifted, IsAfter}
 use Rattle.ca_text.proofs.Shifts.{unmoved}
 use Rattle.ca_text.specs.declared.asks.Forbidden.{Forbidden}
 use Rattle.ca_text.specs.declared.asks.Forbidden.TheVariants.{Nothing, InPlace, Anywhere, EmptyPlane}
-use Rattle.ca_text.specs.Truth.{ShowsNothingForbidden, MayReturnBy}
+use Rattle.ca_text.specs.Prelude.{ShowsNothingForbidden, MayReturnBy}
 
 -- a pattern that is back by a vector that counts is back
 pub back : (next : List ℕ → ℕ) (cells : Picture) (forbidden : Forbidden) (m : ℕ) (dx dy : ℤ) → MayReturnBy forbidden dx dy → IsAfter next cells m (shifted cells dx dy) → ShowsNothingForbidden next cells forbidden m → ⊥

@@ -4,15 +4,12 @@ use Rattle.std.specs.Fmt.{signed_decimal}
 use Rattle.std.specs.List.{AllByRecursion}
 use Rattle.std.proofs.lemmas.Bool.{false≢true}
 use Rattle.std.proofs.lemmas.Bool.Decides.{nat_tests}
-use Rattle.ca_plane.specs.Bytes.{is_word_byte, is_digit, IsWord, AreDigits, IsInteger}
-use Rattle.ca_plane.specs.Limits.{greatest_shift}
+use Rattle.ca_plane.specs.Prelude.{is_word_byte, is_digit, IsWord, AreDigits, IsInteger, greatest_shift}
 use Rattle.ca_plane.proofs.Decimals.{decimal_writes, signed_writes}
 use Rattle.ca_plane.proofs.Fronts.{every_wider}
 use Rattle.ca_text.specs.declared.kind.Kind.{Kind}
 use Rattle.ca_text.specs.declared.kind.Kind.TheVariants.{Still, Oscillator, Spaceship, Becomes, BecomesShifted, Dies}
-use Rattle.ca_text.specs.Both.{twice}
-use Rattle.ca_text.specs.Kinds.{keyword_of, FollowName, words_after_name, HasGoodNumbers, IsShift}
-use Rattle.ca_text.specs.Text.{is_skipped}
+use Rattle.ca_text.specs.Prelude.{twice, keyword_of, FollowName, words_after_name, HasGoodNumbers, IsShift, is_skipped}
 
 -- a keyword is a word that begins no comment
 pub keyword_word : (kind : Kind) → IsWord (keyword_of kind)

@@ -1,9 +1,8 @@
 -- Small claim texts, for which the definitions are worked out.
 use Rattle.std.specs.Prelude.{ℕ, pos, neg_ℤ, List, [], ◌∷◌, Option, None, Some, codes}
-use Rattle.ca_plane.specs.Bytes.{text_of}
-use Rattle.ca_text.specs.declared.kind.Kind.{Kind}
+use Rattle.ca_plane.specs.Prelude.{text_of}
+use Rattle.ca_text.specs.declared.{kind.Kind.Kind, fault.ClaimFault.ClaimFault}
 use Rattle.ca_text.specs.declared.kind.Kind.TheVariants.{Still, Oscillator, Spaceship, Becomes, BecomesShifted, Dies}
-use Rattle.ca_text.specs.declared.fault.ClaimFault.{ClaimFault}
 use Rattle.ca_text.specs.Both.{twice}
 use Rattle.ca_text.specs.Text.{Claim, ClaimTextLine, Version, Rule, Load, Claims, ClaimText}
 use Rattle.ca_text.specs.TextFaults.{IsFirstClaimFault}

@@ -2,13 +2,10 @@
 use Rattle.std.specs.Prelude.{◌≡◌, ℕ, ◌≤◌, ℤ, pos, neg_ℤ, ◌≤ℤ◌, List, [], ◌∷◌, Bool, true, false, codes, decimal}
 use Rattle.std.specs.Fmt.{signed_decimal}
 use Rattle.std.specs.List.{flat_map}
-use Rattle.ca_plane.specs.Bytes.{AreDigits, IsInteger, value}
-use Rattle.ca_plane.specs.Limits.{greatest_shift, most_generations, longest_period}
-use Rattle.ca_text.specs.declared.asks.Asks.{Asks}
+use Rattle.ca_plane.specs.Prelude.{AreDigits, IsInteger, value, greatest_shift, most_generations, longest_period}
+use Rattle.ca_text.specs.declared.{asks.Asks.Asks, both.Both.Both, kind.Kind.Kind}
 use Rattle.ca_text.specs.declared.asks.Expected.TheVariants.{Own, Other, NoCells}
 use Rattle.ca_text.specs.declared.asks.Forbidden.TheVariants.{Nothing, InPlace, Anywhere, EmptyPlane}
-use Rattle.ca_text.specs.declared.both.Both.{Both}
-use Rattle.ca_text.specs.declared.kind.Kind.{Kind}
 use Rattle.ca_text.specs.declared.kind.Kind.TheVariants.{Still, Oscillator, Spaceship, Becomes, BecomesShifted, Dies}
 
 -- the keyword of each kind

@@ -1,3 +1,4 @@
+pub mod Prelude
 pub mod Words
 pub mod Text
 pub mod TextFaults

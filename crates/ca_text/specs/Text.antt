@@ -3,10 +3,8 @@ use Rattle.std.specs.Prelude.{◌≡◌, ℕ, ◌+◌, List, [], ◌∷◌, ◌+
 use Rattle.std.specs.Str.{bytes_eq}
 use Rattle.std.specs.Bool.{nat_eq}
 use Rattle.std.specs.List.{starts_with}
-use Rattle.ca_plane.specs.Bytes.{lines_of, words_of}
-use Rattle.ca_text.specs.declared.both.Both.{Both}
-use Rattle.ca_text.specs.declared.kind.Kind.{Kind}
-use Rattle.ca_text.specs.declared.line.Claim.{Claim as ClaimOf}
+use Rattle.ca_plane.specs.Prelude.{lines_of, words_of}
+use Rattle.ca_text.specs.declared.{both.Both.Both, kind.Kind.Kind, line.Claim.Claim as ClaimOf}
 use Rattle.ca_text.specs.Both.{map_both, HoldsOfBoth}
 use Rattle.ca_text.specs.Kinds.{WordsClaim, is_of_second_version, HasGoodNumbers}
 

@@ -1,6 +1,6 @@
 -- The first faulty line of a claim text (our own; docs/CLAIMS.md).
 use Rattle.std.specs.Prelude.{◌≡◌, ◌≢◌, ℕ, ◌+◌, List, [], ◌∷◌, ◌++◌, length, false, Option, IsSome}
-use Rattle.ca_plane.specs.Bytes.{lines_of, words_of}
+use Rattle.ca_plane.specs.Prelude.{lines_of, words_of}
 use Rattle.ca_text.specs.declared.fault.ClaimFault.{ClaimFault}
 use Rattle.ca_text.specs.declared.fault.ClaimFault.TheVariants.{Syntax, Number, UnknownName, NameTaken, Memory}
 use Rattle.ca_text.specs.Kinds.{HasGoodNumbers}

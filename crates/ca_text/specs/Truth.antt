@@ -1,11 +1,8 @@
 -- Which claims are true of pictures under a rule (our own; docs/CLAIMS.md).
 use Rattle.std.specs.Prelude.{◌≡◌, ◌≢◌, ℕ, ◌≤◌, ◌<◌, ℤ, pos, List, [], IsTrue}
-use Rattle.ca_plane.specs.Plane.{Picture, cell, shifted, IsLive}
-use Rattle.ca_plane.specs.Generations.{after, IsAfter, IsLiveAfter}
-use Rattle.ca_text.specs.declared.asks.Asks.{Asks}
-use Rattle.ca_text.specs.declared.asks.Expected.{Expected}
+use Rattle.ca_plane.specs.Prelude.{Picture, cell, shifted, IsLive, after, IsAfter, IsLiveAfter}
+use Rattle.ca_text.specs.declared.asks.{Asks.Asks, Expected.Expected, Forbidden.Forbidden}
 use Rattle.ca_text.specs.declared.asks.Expected.TheVariants.{Own, Other, NoCells}
-use Rattle.ca_text.specs.declared.asks.Forbidden.{Forbidden}
 use Rattle.ca_text.specs.declared.asks.Forbidden.TheVariants.{Nothing, InPlace, Anywhere, EmptyPlane}
 
 -- the cells that are expected: the pattern's own, the other's, or none

@@ -1,12 +1,10 @@
 //! The kinds of claims: the words of each, the limits of its numbers, and what it asks.
 
 ghost use Rattle.std.specs.Prelude.{◌≡◌, ◌≢◌, List, ℕ, [], ◌∷◌, not, codes, IsTrue, ◌↔◌, OnOk};
-ghost use Rattle.ca_plane.specs.Bytes.{Every, is_line_end, words_of};
-ghost use Rattle.ca_plane.specs.Puts.{Puts};
+ghost use Rattle.ca_plane.specs.Prelude.{Every, is_line_end, words_of, Puts};
 ghost use Rattle.ca_text.specs.declared.kind.Kind.TheVariants as kinds;
 ghost use Rattle.ca_text.specs.Both.{twice};
-ghost use Rattle.ca_text.specs.Kinds.{is_of_second_version, HasGoodNumbers, asks_of};
-ghost use Rattle.ca_text.specs.Kinds.{keyword_of, words_after_name, spaced};
+ghost use Rattle.ca_text.specs.Kinds.{is_of_second_version, HasGoodNumbers, asks_of, keyword_of, words_after_name, spaced};
 ghost use Rattle.ca_text.specs.inner.Reading.{IsClaimOfWords};
 
 use crate::asks::{Asks, Expected, Forbidden};

@@ -2,9 +2,7 @@
 
 ghost use Rattle.std.specs.Prelude.{◌≡◌, ◌≤◌, ℤ, pos, [], ◌∷◌, IsTrue, ◌↔◌, decimal, OnOk, MatchOption};
 ghost use Rattle.std.specs.Fmt.{signed_decimal};
-ghost use Rattle.ca_plane.specs.Bytes.{IsInteger};
-ghost use Rattle.ca_plane.specs.Limits.{longest_period};
-ghost use Rattle.ca_plane.specs.Puts.{Puts};
+ghost use Rattle.ca_plane.specs.Prelude.{IsInteger, longest_period, Puts};
 ghost use Rattle.ca_text.specs.Kinds.{IsShift, spaced};
 ghost use Rattle.ca_text.specs.inner.Reading.{IsHeldShift};
 

@@ -1,16 +1,15 @@
 //! A claim text read, a line at a time.
 
-ghost use Rattle.std.specs.Prelude.{◌≡◌, ℕ, ◌+◌, ◌∷◌, [], ◌++◌, List, Option, Some, None, not, codes, length};
-ghost use Rattle.std.specs.Prelude.{is_some, OnOk, IfOk, IfErr, MatchOption};
-ghost use Rattle.ca_plane.specs.Bytes.{Every, is_line_end, words_of};
+ghost use Rattle.std.specs.Prelude.{◌≡◌, ℕ, ◌+◌, ◌∷◌, [], ◌++◌, List, Option, Some, None, not, codes, length, is_some, OnOk};
+ghost use Rattle.std.specs.Prelude.{IfOk, IfErr, MatchOption};
+ghost use Rattle.ca_plane.specs.Prelude.{Every, is_line_end, words_of};
 ghost use Rattle.ca_text.specs.Kinds.{HasGoodNumbers};
-ghost use Rattle.ca_text.specs.Text.{ClaimTextLine, Rule, Load, Claims as Claiming, IsAllowedLine};
-ghost use Rattle.ca_text.specs.Text.{IsClaimText, said_lines, asked_by};
+ghost use Rattle.ca_text.specs.Text.{ClaimTextLine, Rule, Load, Claims as Claiming, IsAllowedLine, IsClaimText, said_lines};
+ghost use Rattle.ca_text.specs.Text.{asked_by};
 ghost use Rattle.ca_text.specs.TextFaults.{IsFirstClaimFault};
 ghost use Rattle.ca_text.specs.declared.line_kind.LineKind.TheVariants as kind;
-ghost use Rattle.ca_text.specs.inner.Reading.{IsKind, IsClaimReading, SaysNext};
-ghost use Rattle.ca_text.specs.inner.Reading.{HasClaimFault, place_of, claim_of};
-ghost use Rattle.ca_text.specs.inner.Reading.{AreKnownNames, at_places};
+ghost use Rattle.ca_text.specs.inner.Reading.{IsKind, IsClaimReading, SaysNext, HasClaimFault, place_of, claim_of, AreKnownNames};
+ghost use Rattle.ca_text.specs.inner.Reading.{at_places};
 
 use crate::both::Both;
 use crate::claims::Claims;

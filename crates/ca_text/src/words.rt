@@ -1,7 +1,7 @@
 //! The words of a line of a claim text.
 
 ghost use Rattle.std.specs.Prelude.{◌≡◌, ◌≢◌, ◌-◌, ◌^◌, min, List, ℕ, [], ◌∷◌, not, codes, MatchOption};
-ghost use Rattle.ca_plane.specs.Bytes.{Every, is_line_end, words_of, AreDigits, value};
+ghost use Rattle.ca_plane.specs.Prelude.{Every, is_line_end, words_of, AreDigits, value};
 
 use ca_plane::bytes::{next_word, whole_number};
 

@@ -5,19 +5,15 @@ use Rattle.std.specs.Io.KnownBytes.{Appends}
 use Rattle.std.proofs.lemmas.List.{append-nil, map-append, length-map}
 use Rattle.std.proofs.lemmas.List.Concat.{flat_map-append}
 use Rattle.std.proofs.lemmas.Slice.Zip.{AllZip-long}
-use Rattle.ca_plane.specs.Device.{AppendsPrefix}
+use Rattle.ca_plane.specs.Prelude.{AppendsPrefix}
 use Rattle.ca_plane.proofs.Sends.{sent_both, prefix_of_first, prefix_of_second}
 use Rattle.ca_text.specs.declared.both.Both.{Both}
-use Rattle.ca_text.specs.Text.{Claim}
-use Rattle.ca_answers.specs.declared.verdict.Answer.{Answer}
-use Rattle.ca_answers.specs.declared.note.Note.{Note}
-use Rattle.ca_answers.specs.Answers.{AreWithinWork, IsWithinWork, AreTrueAnswers, IsTrueAnswer}
-use Rattle.ca_answers.specs.Notes.{IsNote, HasItsNote}
-use Rattle.ca_answers.specs.Judging.{Judging, JudgesAndNotes}
-use Rattle.ca_verdict_lines.specs.declared.finding.ReportStyle.{ReportStyle}
-use Rattle.ca_verdict_lines.specs.declared.finding.Finding.{Finding}
-use Rattle.ca_verdict_lines.specs.Verdicts.{answer_line, answer_lines, note_text, second_line, verdict_remedy_line, last_line, finding_text, findings_text, status_of}
-use Rattle.ca_verdict_lines.specs.Reports.{answers_of, AreTrueNotes, AreFindings, IsPlainReport, IsReport, IsReportOnFirst}
+use Rattle.ca_text.specs.Prelude.{Claim}
+use Rattle.ca_answers.specs.declared.{verdict.Answer.Answer, note.Note.Note}
+use Rattle.ca_answers.specs.Prelude.{AreWithinWork, IsWithinWork, AreTrueAnswers, IsTrueAnswer, IsNote, HasItsNote, Judging, JudgesAndNotes}
+use Rattle.ca_verdict_lines.specs.declared.finding.{ReportStyle.ReportStyle, Finding.Finding}
+use Rattle.ca_verdict_lines.specs.Prelude.{answer_line, answer_lines, note_text, second_line, verdict_remedy_line, last_line, finding_text, findings_text, status_of, answers_of, AreTrueNotes}
+use Rattle.ca_verdict_lines.specs.Prelude.{AreFindings, IsPlainReport, IsReport, IsReportOnFirst}
 use Rattle.ca_tool.specs.inner.Judged.{WereJudged, NoneLeft, IsReportUpTo, IsReportPart, WereAllJudged}
 use Rattle.ca_plane.proofs.Elements.{all_append}
 

@@ -1,8 +1,8 @@
 -- Runs that write one text of several.
 use Rattle.std.proofs.Common.{ℕ, List, Option, Result, Ok, Err}
-use Rattle.ca_plane.specs.Device.{Counted, AppendsPrefix}
+use Rattle.ca_plane.specs.Prelude.{Counted, AppendsPrefix}
 use Rattle.ca_report.specs.declared.fault.ToolFault.{ToolFault}
-use Rattle.ca_report.specs.Writing.{WritesOneOf}
+use Rattle.ca_report.specs.Prelude.{WritesOneOf}
 
 -- one of other texts too, where each whole text is one of those, and a first part is one of those begun
 pub writes_weaker : {W : Type 0} (contents : W → Option (List ℕ)) (old new : Counted W) (IsText IsOther : List ℕ → ℕ → Type 0) (IsBegun IsOtherBegun : List ℕ → Type 0) (IsFault : ToolFault → Type 0) (result : Result ℕ ToolFault)

@@ -7,15 +7,13 @@ use Rattle.ca_pattern.specs.declared.convert_fault.ConvertFault.{ConvertFault}
 use Rattle.ca_pattern.specs.declared.convert_fault.ConvertFault.TheVariants as converts
 use Rattle.ca_tool.specs.declared.fault.Fault.{Fault}
 use Rattle.ca_tool.specs.declared.fault.Fault.TheVariants as faults
-use Rattle.ca_report.specs.declared.fault.InputFault.{InputFault}
+use Rattle.ca_report.specs.declared.fault.{InputFault.InputFault, ToolFault.ToolFault}
 use Rattle.ca_report.specs.declared.fault.InputFault.TheVariants as inputs
 use Rattle.ca_draw.specs.declared.view.WindowFault.{WindowFault}
 use Rattle.ca_draw.specs.declared.view.WindowFault.TheVariants as windows
-use Rattle.ca_report.specs.declared.fault.ToolFault.{ToolFault}
 use Rattle.ca_report.specs.declared.fault.ToolFault.TheVariants as tools
-use Rattle.ca_report.specs.Escaped.{escaped}
-use Rattle.ca_pattern.specs.FaultTexts.{rule_fault_text, table_text}
-use Rattle.ca_pattern.specs.Formats.{pattern_fault_text}
+use Rattle.ca_report.specs.Prelude.{escaped}
+use Rattle.ca_pattern.specs.Prelude.{rule_fault_text, table_text, pattern_fault_text}
 
 -- why the `--rule` file is no good table
 abbrev pub rule_file_text : TableFault → List ℕ

@@ -4,13 +4,11 @@ use Rattle.std.specs.declared.alloc.Global.{Global}
 use Rattle.ca_text.specs.declared.fault.ClaimFault.{ClaimFault}
 use Rattle.ca_text.specs.declared.fault.ClaimFault.TheVariants as claims
 use Rattle.ca_pattern.specs.declared.file.File.{File}
-use Rattle.ca_report.specs.declared.detailed_fault.DetailedFault.{DetailedFault as RefusedFor}
-use Rattle.ca_report.specs.declared.fault.ToolFault.{ToolFault}
+use Rattle.ca_report.specs.declared.{detailed_fault.DetailedFault.DetailedFault as RefusedFor, fault.ToolFault.ToolFault}
 use Rattle.ca_report.specs.declared.fault.ToolFault.TheVariants as tools
 use Rattle.ca_tool.specs.declared.explanation.RunFiles.{RunFiles}
-use Rattle.ca_report.specs.Remedies.{run_remedy, remedy_line, begins, file_word}
-use Rattle.ca_catalog.specs.Names.{is_claim_path}
-use Rattle.ca_report.specs.FileLines.{pattern_line, rule_file_line}
+use Rattle.ca_report.specs.Prelude.{run_remedy, remedy_line, begins, file_word, pattern_line, rule_file_line}
+use Rattle.ca_catalog.specs.Prelude.{is_claim_path}
 
 -- the line that explains a fault of a run over a pattern file: it names the rule file or the pattern file, with what is known of the fault. A fault
 -- that names its file, or is about none, has no such line

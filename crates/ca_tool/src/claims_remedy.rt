@@ -2,8 +2,7 @@
 
 ghost use Rattle.std.specs.Prelude.{◌≡◌};
 ghost use Rattle.ca_tool.specs.Explanations.{seems_pattern, claims_remedy_line};
-ghost use Rattle.ca_report.specs.Writing.{Sends};
-ghost use Rattle.ca_report.specs.Pieces.{pieces_text};
+ghost use Rattle.ca_report.specs.Prelude.{Sends, pieces_text};
 
 use ca_catalog::is_claim_path;
 use ca_pattern::File;

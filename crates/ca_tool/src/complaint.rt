@@ -3,8 +3,7 @@
 ghost use Rattle.std.specs.Prelude.{◌≡◌};
 ghost use Rattle.ca_tool.specs.Complaints.{input_fault_text, claim_fault_text, rule_file_text};
 ghost use Rattle.ca_tool.specs.Complaints.{convert_fault_text, fault_text, complaint, complaint_of};
-ghost use Rattle.ca_report.specs.Writing.{Sends};
-ghost use Rattle.ca_report.specs.Pieces.{pieces_text};
+ghost use Rattle.ca_report.specs.Prelude.{Sends, pieces_text};
 
 use crate::fault::Fault;
 use ca_draw::WindowFault;

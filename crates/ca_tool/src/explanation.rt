@@ -2,8 +2,7 @@
 
 ghost use Rattle.std.specs.Prelude.{◌≡◌};
 ghost use Rattle.ca_tool.specs.Explanations.{fault_line, run_remedy_line, has_explanation, explanation};
-ghost use Rattle.ca_report.specs.Writing.{Sends};
-ghost use Rattle.ca_report.specs.Pieces.{pieces_text};
+ghost use Rattle.ca_report.specs.Prelude.{Sends, pieces_text};
 
 use ca_pattern::File;
 use ca_plane::{Dev, WriteFault};

@@ -1,12 +1,10 @@
 //! Runs of `verify`: claims in, the lines of their answers out, each before the next claim is judged.
 
 ghost use Rattle.std.specs.Prelude.{MatchOption, ◌∷◌, []};
-ghost use Rattle.ca_answers.specs.Files.{contents};
-ghost use Rattle.ca_answers.specs.Judging.{IsDone};
-ghost use Rattle.ca_pattern.specs.Limited.{AreGoodLimits};
-ghost use Rattle.ca_report.specs.Writing.{WritesOneOf};
-ghost use Rattle.ca_verdict_lines.specs.Reports.{all_claims, IsReport, NeedsMemory, WritesReport};
-ghost use Rattle.ca_verdict_lines.specs.Reports.{WritesPlainReport};
+ghost use Rattle.ca_answers.specs.Prelude.{contents, IsDone};
+ghost use Rattle.ca_pattern.specs.Prelude.{AreGoodLimits};
+ghost use Rattle.ca_report.specs.Prelude.{WritesOneOf};
+ghost use Rattle.ca_verdict_lines.specs.Prelude.{all_claims, IsReport, NeedsMemory, WritesReport, WritesPlainReport};
 ghost use Rattle.ca_tool.specs.inner.Judged.{WereJudged, IsReportPart, WereAllJudged};
 
 use ca_evolution::Observer;

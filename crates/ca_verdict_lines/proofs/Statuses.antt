@@ -2,7 +2,7 @@
 use Rattle.std.proofs.Common.{◌≡◌, List, [], ◌∷◌, ◌++◌, Bool, true, false, ◌||◌, max, if◌then◌else◌, refl, ap, ◌∙◌}
 use Rattle.std.specs.List.{list_any}
 use Rattle.ca_answers.specs.declared.verdict.Answer.{Answer}
-use Rattle.ca_verdict_lines.specs.Verdicts.{status_of, is_refusal, is_no}
+use Rattle.ca_verdict_lines.specs.Prelude.{status_of, is_refusal, is_no}
 use Rattle.ca_report.proofs.OneMore.{any_more}
 
 -- the greater of two statuses, each of them by whether something is refused and whether something is false

@@ -1,19 +1,16 @@
 -- What a run on claims writes.
 use Rattle.std.specs.Prelude.{◌≡◌, ◌≢◌, ℕ, List, [], map, take, Option, Result}
 use Rattle.std.specs.List.{AllZip, AllByRecursion}
-use Rattle.ca_plane.specs.Device.{Counted}
+use Rattle.ca_plane.specs.Prelude.{Counted}
 use Rattle.ca_text.specs.declared.both.Both.{Both}
-use Rattle.ca_text.specs.Text.{ClaimText, Claim}
-use Rattle.ca_answers.specs.Judging.{Judging}
-use Rattle.ca_answers.specs.Notes.{IsNote, HasItsNote}
-use Rattle.ca_answers.specs.Answers.{AreWithinWork, AreTrueAnswers}
+use Rattle.ca_text.specs.Prelude.{ClaimText, Claim}
+use Rattle.ca_answers.specs.Prelude.{Judging, IsNote, HasItsNote, AreWithinWork, AreTrueAnswers}
 use Rattle.ca_answers.specs.declared.verdict.Answer.{Answer}
 use Rattle.ca_report.specs.declared.fault.ToolFault.{ToolFault}
 use Rattle.ca_report.specs.declared.fault.ToolFault.TheVariants.{Memory}
-use Rattle.ca_verdict_lines.specs.declared.finding.ReportStyle.{ReportStyle}
-use Rattle.ca_verdict_lines.specs.declared.finding.Finding.{Finding}
+use Rattle.ca_verdict_lines.specs.declared.finding.{ReportStyle.ReportStyle, Finding.Finding}
 use Rattle.ca_verdict_lines.specs.Verdicts.{answer_lines, findings_text, status_of}
-use Rattle.ca_report.specs.Writing.{WritesOneOf}
+use Rattle.ca_report.specs.Prelude.{WritesOneOf}
 
 -- some claims with their patterns, over the files and the rule lines of others, and with as much work
 abbrev pub with_claims : Judging → List (ℕ × Claim) → List (Both (List ℕ × List ℕ)) → Judging

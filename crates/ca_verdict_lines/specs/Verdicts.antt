@@ -4,27 +4,17 @@ use Rattle.std.specs.declared.alloc.Global.{Global}
 use Rattle.std.specs.Fmt.{signed_decimal}
 use Rattle.std.specs.List.{flat_map, list_any}
 use Rattle.std.specs.Str.{bytes_eq}
-use Rattle.ca_answers.specs.declared.verdict.Answer.{Answer}
-use Rattle.ca_answers.specs.declared.verdict.Verdict.{Verdict}
+use Rattle.ca_answers.specs.declared.{verdict.Answer.Answer, verdict.Verdict.Verdict, verdict.Refutation.Refutation, cause.Cause.Cause, note.Note.Note}
 use Rattle.ca_answers.specs.declared.verdict.Verdict.TheVariants.{Yes, No, Refused}
-use Rattle.ca_answers.specs.declared.verdict.Refutation.{Refutation}
 use Rattle.ca_answers.specs.declared.verdict.Refutation.TheVariants.{Empty, Differs, Earlier, Died}
-use Rattle.ca_answers.specs.declared.cause.Cause.{Cause}
 use Rattle.ca_answers.specs.declared.cause.Cause.TheVariants as causes
 use Rattle.ca_pattern.specs.declared.file.File.{File}
-use Rattle.ca_answers.specs.declared.note.Note.{Note}
 use Rattle.ca_answers.specs.declared.note.Note.TheVariants as notes
-use Rattle.ca_report.specs.declared.rule_folder.FaultyRule.{FaultyRule}
-use Rattle.ca_report.specs.declared.absence.MissingFile.{MissingFile}
-use Rattle.ca_verdict_lines.specs.declared.finding.ReportStyle.{ReportStyle}
-use Rattle.ca_verdict_lines.specs.declared.finding.Finding.{Finding}
-use Rattle.ca_report.specs.declared.remedy.Remedy.{Remedy}
-use Rattle.ca_report.specs.Escaped.{escaped}
-use Rattle.ca_report.specs.Remedies.{cause_remedy, bytes_of, remedy_line}
-use Rattle.ca_pattern.specs.FaultTexts.{table_line, table_text}
-use Rattle.ca_answers.specs.Answers.{cause_text}
-use Rattle.ca_report.specs.Counts.{generations_word}
-use Rattle.ca_report.specs.FileLines.{at_line, missing_words, file_line, rule_words}
+use Rattle.ca_report.specs.declared.{rule_folder.FaultyRule.FaultyRule, absence.MissingFile.MissingFile, remedy.Remedy.Remedy}
+use Rattle.ca_verdict_lines.specs.declared.finding.{ReportStyle.ReportStyle, Finding.Finding}
+use Rattle.ca_report.specs.Prelude.{escaped, cause_remedy, bytes_of, remedy_line, generations_word, at_line, missing_words, file_line, rule_words}
+use Rattle.ca_pattern.specs.Prelude.{table_line, table_text}
+use Rattle.ca_answers.specs.Prelude.{cause_text}
 
 -- an earlier return of a pattern
 abbrev pub return_text : ℕ → ℤ → ℤ → List ℕ

@@ -1,13 +1,10 @@
 //! What is printed for a claim: the line of its answer, a second line that explains it, and one that says what helps.
 
 ghost use Rattle.std.specs.Prelude.{◌≡◌, ◌||◌, ◌++◌, Some, OnOk};
-ghost use Rattle.ca_report.specs.Counts.{generations_word};
-ghost use Rattle.ca_verdict_lines.specs.Verdicts.{cell_line, faulty_named, faulty_words, faulty_rule_words};
-ghost use Rattle.ca_verdict_lines.specs.Verdicts.{noted_line, cause_line, note_text, is_noted_refusal};
-ghost use Rattle.ca_verdict_lines.specs.Verdicts.{noted_remedy, verdict_remedy_line, second_line, last_line};
-ghost use Rattle.ca_verdict_lines.specs.Verdicts.{finding_text};
-ghost use Rattle.ca_report.specs.Writing.{Sends};
-ghost use Rattle.ca_report.specs.Pieces.{pieces_text};
+ghost use Rattle.ca_report.specs.Prelude.{generations_word, Sends, pieces_text};
+ghost use Rattle.ca_verdict_lines.specs.Verdicts.{cell_line, faulty_named, faulty_words, faulty_rule_words, noted_line};
+ghost use Rattle.ca_verdict_lines.specs.Verdicts.{cause_line, note_text, is_noted_refusal, noted_remedy, verdict_remedy_line};
+ghost use Rattle.ca_verdict_lines.specs.Verdicts.{second_line, last_line, finding_text};
 
 use crate::printing::answer_pieces;
 use ca_answers::{Answer, Cause, Note, Refutation, Verdict};

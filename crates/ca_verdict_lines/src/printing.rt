@@ -6,7 +6,7 @@ ghost use Rattle.ca_answers.specs.declared.verdict.Answer.{Answer as AnswerValue
 ghost use Rattle.ca_answers.specs.declared.verdict.Verdict.TheVariants.{No, Refused};
 ghost use Rattle.ca_verdict_lines.specs.Verdicts.{return_text, refutation_text, verdict_text, answer_line};
 ghost use Rattle.ca_verdict_lines.specs.Verdicts.{answer_lines, status_of, is_refusal, is_no};
-ghost use Rattle.ca_report.specs.Pieces.{pieces_text};
+ghost use Rattle.ca_report.specs.Prelude.{pieces_text};
 
 use ca_answers::{Answer, Cause, Refutation, Verdict};
 use ca_plane::Memory;

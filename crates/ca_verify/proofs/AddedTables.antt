@@ -4,23 +4,17 @@ use Rattle.std.specs.List.{AllByRecursion}
 use Rattle.std.specs.Str.{bytes_eq}
 use Rattle.std.specs.Option.{option_or}
 use Rattle.std.proofs.lemmas.List.Folds.{find-append}
-use Rattle.ca_plane.specs.Plane.{Picture}
-use Rattle.ca_rule.specs.TableNext.{TableRule}
-use Rattle.ca_rule.specs.Rule.{RuleValue, Bs, Gen, Tab, NamesRule, IsRuleFault, first_named}
+use Rattle.ca_plane.specs.Prelude.{Picture}
+use Rattle.ca_rule.specs.Prelude.{TableRule, RuleValue, Bs, Gen, Tab, NamesRule, IsRuleFault, first_named}
 use Rattle.ca_rule.specs.declared.fault.RuleFault.{RuleFault}
 use Rattle.ca_rule.specs.declared.fault.RuleFault.TheVariants.{Bounded, Wakes, Unknown}
-use Rattle.ca_text.specs.declared.asks.Asks.{Asks}
-use Rattle.ca_answers.specs.declared.verdict.Verdict.{Verdict}
+use Rattle.ca_text.specs.declared.{asks.Asks.Asks, both.Both.Both}
+use Rattle.ca_answers.specs.declared.{verdict.Verdict.Verdict, cause.Cause.Cause}
 use Rattle.ca_answers.specs.declared.verdict.Verdict.TheVariants.{Yes, No, Refused}
-use Rattle.ca_answers.specs.declared.cause.Cause.{Cause}
 use Rattle.ca_answers.specs.declared.cause.Cause.TheVariants.{NoFile, BadTable, BadPattern, BadRule, StateTooLarge, MixedRules, TooManyCells, Work, Memory}
-use Rattle.ca_text.specs.Text.{Claim}
-use Rattle.ca_text.specs.Kinds.{asks_of}
-use Rattle.ca_text.specs.declared.both.Both.{Both}
-use Rattle.ca_text.specs.Both.{HoldsOfBoth, HoldsOfEither, FirstBadOfBoth}
-use Rattle.ca_text.specs.SomeOf.{SomeOf}
-use Rattle.ca_answers.specs.Answers.{AreTables, IsRuled, IsMissing, IsThere, HoldsTable, HasRule, IsSmall, HaveOtherRules, FilesAreThere, AgreeOn, HasCause, IsGoodPattern, AreGood, IsJudged, IsBadTable, IsUnnamed, IsLarge, IsTrueVerdict}
-use Rattle.ca_text.specs.Firsts.{FirstBad}
+use Rattle.ca_text.specs.Prelude.{Claim, asks_of, HoldsOfBoth, HoldsOfEither, FirstBadOfBoth, SomeOf, FirstBad}
+use Rattle.ca_answers.specs.Prelude.{AreTables, IsRuled, IsMissing, IsThere, HoldsTable, HasRule, IsSmall, HaveOtherRules, FilesAreThere, AgreeOn, HasCause, IsGoodPattern, AreGood, IsJudged}
+use Rattle.ca_answers.specs.Prelude.{IsBadTable, IsUnnamed, IsLarge, IsTrueVerdict}
 
 -- ---- lists
 

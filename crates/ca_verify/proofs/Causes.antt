@@ -4,56 +4,35 @@ use Rattle.std.specs.Prelude.{IfSome}
 use Rattle.std.specs.Option.{option_copied}
 use Rattle.std.specs.Result.{MatchResult, IsErrAnd}
 use Rattle.std.proofs.lemmas.Result.{err_from_is_err_and}
-use Rattle.ca_plane.specs.Plane.{Picture, cell}
-use Rattle.ca_plane.specs.Population.{HasFewCells, HasTooManyCells}
-use Rattle.ca_quad.specs.declared.node.Node.{Node}
-use Rattle.ca_quad.specs.declared.tree.Tree.{Tree}
-use Rattle.ca_quad.specs.Sound.{IsSoundStore}
+use Rattle.ca_plane.specs.Prelude.{Picture, cell, HasFewCells, HasTooManyCells}
+use Rattle.ca_quad.specs.declared.{node.Node.Node, tree.Tree.Tree}
+use Rattle.ca_quad.specs.Prelude.{IsSoundStore}
 use Rattle.ca_quad.specs.Trees as trees
-use Rattle.ca_rule.specs.TableNext.{TableRule}
-use Rattle.ca_rule.specs.Rule.{RuleValue, rule_value, next_of, IsSameRule}
-use Rattle.ca_pattern.specs.declared.pattern.Loaded.{Loaded}
-use Rattle.ca_text.specs.declared.kind.Kind.{Kind}
-use Rattle.ca_text.specs.declared.asks.Asks.{Asks}
-use Rattle.ca_text.specs.declared.asks.Expected.{Expected}
+use Rattle.ca_rule.specs.Prelude.{TableRule, RuleValue, rule_value, next_of, IsSameRule}
+use Rattle.ca_pattern.specs.declared.{pattern.Loaded.Loaded, pattern_fault.PatternFault.PatternFault, limits.Limits.Limits, ruled.RuledPattern.RuledPattern, ruled.UnnamedRule.UnnamedRule}
+use Rattle.ca_text.specs.declared.{kind.Kind.Kind, asks.Asks.Asks, asks.Expected.Expected, both.Both.Both}
 use Rattle.ca_text.specs.declared.asks.Expected.TheVariants.{Own, Other, NoCells}
 use Rattle.ca_answers.specs.declared.cause.Cause.TheVariants.{NoFile, BadPattern, BadRule, StateTooLarge, Work, Memory}
 use Rattle.ca_answers.specs.declared.verdict.Verdict.{Verdict}
 use Rattle.ca_answers.specs.declared.verdict.Verdict.TheVariants.{Yes, No, Refused}
-use Rattle.ca_text.specs.declared.both.Both.{Both}
-use Rattle.ca_verify.specs.declared.verifier.prepared.PreparedClaim.{PreparedClaim}
-use Rattle.ca_verify.specs.declared.verifier.agreement.Disagreement.{Disagreement}
+use Rattle.ca_verify.specs.declared.{verifier.prepared.PreparedClaim.PreparedClaim, verifier.agreement.Disagreement.Disagreement, refusal.WhichPattern.WhichPattern, refusal.Refusal.Refusal}
+use Rattle.ca_verify.specs.declared.{decide.ClaimTrees.ClaimTrees}
 use Rattle.ca_verify.specs.declared.verifier.agreement.Disagreement.TheVariants.{Large, Mixed}
 use Rattle.ca_verify.specs.declared.verifier.agreement.Disagreement.TheVariants as disagreement
-use Rattle.ca_pattern.specs.declared.pattern_fault.PatternFault.{PatternFault}
 use Rattle.ca_pattern.specs.declared.pattern_fault.PatternFault.TheVariants as pattern_fault
 use Rattle.ca_verify.specs.declared.refusal.About.TheVariants as about
-use Rattle.ca_verify.specs.declared.refusal.WhichPattern.{WhichPattern}
 use Rattle.ca_verify.specs.declared.refusal.WhichPattern.TheVariants.{First, Second}
-use Rattle.ca_verify.specs.declared.refusal.Refusal.{Refusal}
-use Rattle.ca_verify.specs.declared.decide.ClaimTrees.{ClaimTrees}
-use Rattle.ca_pattern.specs.declared.limits.Limits.{Limits}
-use Rattle.ca_pattern.specs.declared.ruled.RuledPattern.{RuledPattern}
-use Rattle.ca_pattern.specs.declared.ruled.UnnamedRule.{UnnamedRule}
-use Rattle.ca_text.specs.Kinds.{HasGoodNumbers, asks_of}
-use Rattle.ca_text.specs.Text.{Claim}
-use Rattle.ca_text.specs.Places.{path_at}
-use Rattle.ca_answers.specs.Files.{bytes_at}
-use Rattle.ca_pattern.specs.Means.{IsReadable, MayWantMemory}
-use Rattle.ca_text.specs.Truth.{expected_cells}
+use Rattle.ca_text.specs.Prelude.{HasGoodNumbers, asks_of, Claim, path_at, expected_cells, map_both, HoldsOfBoth, ZipBoth}
+use Rattle.ca_answers.specs.Prelude.{bytes_at, IsNoMoreThan, IsBadPatternOn, AreTables, IsMissing, IsThere, IsReadableFile, HasRule, IsSmall, HaveOtherRules, HasCause, IsGoodPattern, AreGood}
+use Rattle.ca_answers.specs.Prelude.{IsJudged, IsTrueVerdict, IsBadPattern, IsUnnamed, IsUnnamedBy, IsLarge, IsCrowded, WantsMemory}
+use Rattle.ca_pattern.specs.Prelude.{IsReadable, MayWantMemory, IsPatternFaultOn, IsPattern, IsReadFrom, IsUnreadFor, IsUnnamedFor, rule_of, IsRuledAs, ShowsLarge, ShowsSmall}
 use Rattle.ca_verify.specs.inner.Decided.{IsBounded, IsDecided}
-use Rattle.ca_answers.specs.Work.{IsNoMoreThan}
-use Rattle.ca_pattern.specs.Formats.{IsPatternFaultOn}
-use Rattle.ca_answers.specs.Answers.{IsBadPatternOn, AreTables, IsMissing, IsThere, IsReadableFile, HasRule, IsSmall, HaveOtherRules, HasCause, IsGoodPattern, AreGood, IsJudged, IsTrueVerdict, IsBadPattern, IsUnnamed, IsUnnamedBy, IsLarge, IsCrowded, WantsMemory}
-use Rattle.ca_pattern.specs.PatternTrees.{IsPattern}
 use Rattle.ca_verify.specs.inner.Subjects.{AreShown, IsSubject}
 use Rattle.ca_verify.specs.inner.PreparedClaim.{IsPrepared, IsFit, AreFewCounted, IsCountRefused, expected_tree, expected_part, refusal_for, disagreement_refusal}
 use Rattle.ca_verify.specs.inner.Found.{IsFound}
-use Rattle.ca_evolution.specs.Spending.{HasLimits}
+use Rattle.ca_evolution.specs.Prelude.{HasLimits}
 use Rattle.ca_verify.specs.inner.Refusals.{IsRefusal, IsOnVerdict, IsJudgedOn}
-use Rattle.ca_text.specs.Both.{map_both, HoldsOfBoth, ZipBoth}
 use Rattle.ca_verify.specs.inner.Patterns.{FirstBadAt, HasName, AreOfOneRule, AreMixed, Disagree, trees_of}
-use Rattle.ca_pattern.specs.Patterns.{IsReadFrom, IsUnreadFor, IsUnnamedFor, rule_of, IsRuledAs, ShowsLarge, ShowsSmall}
 use Rattle.ca_verify.proofs.ClaimKinds.{asks_bounded}
 use Rattle.ca_pattern.proofs.PatternsRead.{fault_on, reads_may_want}
 use Rattle.ca_verify.proofs.PatternsRead.{IsReadAt, IsRuledAt, path_has_fault, path_has_rule, path_is_unnamed, path_reads, ruled_path_reads, ruled_at, ruled_has_rule, ruled_is_good, ruled_is_large, ruled_is_small, ruled_picture, ruled_reads, tree_shows}

@@ -2,13 +2,11 @@
 use Rattle.std.proofs.Common.{◌≡◌, ◌≤◌, refl, sym, subst, ◌∙◌, arith}
 use Rattle.std.specs.Prelude.{pos}
 use Rattle.std.proofs.lemmas.Int.{ints}
-use Rattle.ca_text.specs.declared.kind.Kind.{Kind}
+use Rattle.ca_text.specs.declared.{kind.Kind.Kind, asks.Asks.Asks, asks.Forbidden.Forbidden}
 use Rattle.ca_text.specs.declared.kind.Kind.TheVariants.{Still, Oscillator, Spaceship, Becomes, BecomesShifted, Dies}
-use Rattle.ca_text.specs.declared.asks.Asks.{Asks}
-use Rattle.ca_text.specs.declared.asks.Forbidden.{Forbidden}
 use Rattle.ca_text.specs.declared.asks.Forbidden.TheVariants.{Nothing, InPlace, Anywhere, EmptyPlane}
-use Rattle.ca_plane.specs.Limits.{most_generations}
-use Rattle.ca_text.specs.Kinds.{IsShift, HasGoodNumbers, asks_of}
+use Rattle.ca_plane.specs.Prelude.{most_generations}
+use Rattle.ca_text.specs.Prelude.{IsShift, HasGoodNumbers, asks_of}
 use Rattle.ca_verify.specs.inner.Decided.{ForbidsReturns, IsBounded}
 
 -- (0, 0) is a shift

@@ -4,11 +4,10 @@ use Rattle.std.specs.Prelude.{ℤ, ◌-ℤ◌}
 use Rattle.std.proofs.lemmas.Int.{ints}
 use Rattle.ca_quad.specs.declared.tree.WideBounds.{WideBounds}
 use Rattle.ca_quad.specs.Boxes as wide
-use Rattle.ca_quad.specs.Expanded.{HasCellOutsidePlane}
-use Rattle.ca_quad.specs.Shifted.{shifted_cells}
-use Rattle.ca_macro.specs.Pattern.{AreInRange}
-use Rattle.ca_plane.specs.Limits.{IsInRange}
-use Rattle.ca_text.specs.Kinds.{IsShift}
+use Rattle.ca_quad.specs.Prelude.{HasCellOutsidePlane, shifted_cells}
+use Rattle.ca_macro.specs.Prelude.{AreInRange}
+use Rattle.ca_plane.specs.Prelude.{IsInRange}
+use Rattle.ca_text.specs.Prelude.{IsShift}
 
 -- no cell in range leaves the square of a plane by a shift
 pub leaves_none : (p : ℤ → ℤ → ℕ) (dx dy : ℤ) → AreInRange p → IsShift dx → IsShift dy → HasCellOutsidePlane (shifted_cells p dx dy) → ⊥

@@ -2,8 +2,7 @@
 use Rattle.std.proofs.Common.{◌≡◌, ◌≢◌, List, [], ◌∷◌, length, refl, sym, arith, rules}
 use Rattle.std.specs.List.{AllByRecursion}
 use Rattle.ca_plane.specs.declared.point.Point.{Point}
-use Rattle.ca_plane.specs.Plane.{cell}
-use Rattle.ca_plane.specs.Population.{AreLivePlaces, HasFewCells, HasTooManyCells}
+use Rattle.ca_plane.specs.Prelude.{cell, AreLivePlaces, HasFewCells, HasTooManyCells}
 
 -- no cell of an empty picture is live
 none_live : AreLivePlaces (cell []) []

@@ -4,23 +4,21 @@ use Rattle.std.specs.Prelude.{ℤ, pos, ◌-ℤ◌, ◌*ℤ◌}
 use Rattle.std.specs.Int.{◌∣◌}
 use Rattle.std.proofs.Math.Nat.{dvd_refl, dvd_trans, dvd-mul_right, dvd_of_mod-eq-zero, dvd_iff_mod-eq-zero, dvd_of_mul-dvd-mul_right, eq-one_of_dvd-one, eq-zero_of_zero-dvd, div-mul_cancel, mul-div_cancel, div-lt_self}
 use Rattle.std.proofs.lemmas.Bool.{cases_eq}
-use Rattle.ca_plane.specs.Plane.{Picture, cell, shifted}
-use Rattle.ca_plane.specs.Generations.{after, IsAfter}
+use Rattle.ca_plane.specs.Prelude.{Picture, cell, shifted, after, IsAfter}
 use Rattle.ca_plane.proofs.Shifts.{cell-shifted}
-use Rattle.ca_quad.specs.declared.node.Node.{Node}
-use Rattle.ca_quad.specs.declared.tree.Tree.{Tree}
+use Rattle.ca_quad.specs.declared.{node.Node.Node, tree.Tree.Tree}
 use Rattle.ca_quad.specs.Trees as trees
-use Rattle.ca_steps.specs.Primes.{IsPrime}
+use Rattle.ca_steps.specs.Prelude.{IsPrime}
 use Rattle.ca_steps.proofs.Primes.{quotient_some, swapped}
 use Rattle.ca_steps.proofs.Returns.{back_times}
 use Rattle.ca_answers.specs.declared.verdict.Refutation.TheVariants.{Earlier}
 use Rattle.ca_text.specs.declared.asks.Forbidden.{Forbidden}
 use Rattle.ca_text.specs.declared.asks.Forbidden.TheVariants.{Nothing, InPlace, Anywhere, EmptyPlane}
-use Rattle.ca_text.specs.Truth.{ShowsNothingForbidden, MayReturnBy}
+use Rattle.ca_text.specs.Prelude.{ShowsNothingForbidden, MayReturnBy}
 use Rattle.ca_verify.specs.inner.Decided.{ForbidsReturns}
 use Rattle.ca_verify.specs.inner.Returns.{IsSparedBefore, IsFirstReturn}
 use Rattle.ca_verify.specs.declared.decide.Case.{Case}
-use Rattle.ca_pattern.specs.PatternTrees.{ShowsTree, IsEndTree, IsMove, IsNoMove}
+use Rattle.ca_pattern.specs.Prelude.{ShowsTree, IsEndTree, IsMove, IsNoMove}
 use Rattle.ca_verify.specs.inner.Subjects.{ForbidsReturn, IsBackBy, IsNarrowed}
 use Rattle.ca_text.proofs.Shifts.{unmoved}
 use Rattle.ca_verify.proofs.ReturnsAtDivisors.{changed_once, changed_before, nowhere_before}

@@ -10,7 +10,7 @@ use Rattle.std.proofs.Math.Seq.{take-suc}
 use Rattle.std.proofs.lemmas.List.{length-map, map-append}
 use Rattle.std.proofs.lemmas.Slice.Eq.{bytes_eq-Decides}
 use Rattle.ca_pattern.specs.declared.file.File.{File}
-use Rattle.ca_answers.specs.Files.{contents, bytes_at}
+use Rattle.ca_answers.specs.Prelude.{contents, bytes_at}
 use Rattle.ca_text.proofs.PathLists.{bytes_eq_self}
 
 -- bytes that differ are told apart

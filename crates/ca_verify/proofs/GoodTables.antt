@@ -1,11 +1,9 @@
 -- The tables of rule lines, or that there are none.
 use Rattle.std.proofs.Common.{◌≡◌, ℕ, List, Vec, Global, refl}
-use Rattle.ca_rule.specs.TableNext.{TableRule}
-use Rattle.ca_verify.specs.declared.verifier.tables.FaultyTable.{FaultyTable}
-use Rattle.ca_text.specs.Places.{path_at}
-use Rattle.ca_answers.specs.Answers.{IsTableAt, AreTables, IsThere, IsMissing, HoldsTable}
-use Rattle.ca_text.specs.Firsts.{FirstBad}
-use Rattle.ca_verify.specs.declared.verifier.tables.Tables.{Tables}
+use Rattle.ca_rule.specs.Prelude.{TableRule}
+use Rattle.ca_verify.specs.declared.verifier.tables.{FaultyTable.FaultyTable, Tables.Tables}
+use Rattle.ca_text.specs.Prelude.{path_at, FirstBad}
+use Rattle.ca_answers.specs.Prelude.{IsTableAt, AreTables, IsThere, IsMissing, HoldsTable}
 use Rattle.ca_verify.specs.declared.verifier.tables.Tables.TheVariants.{Missing, Faulty, Read}
 use Rattle.ca_verify.specs.NeededFiles.{IsFaultyAt, AreRead}
 use Rattle.ca_verify.proofs.Verdicts.{tables_there, there_or_none, all_or_some, table_or_fault}

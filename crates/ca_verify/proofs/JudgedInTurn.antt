@@ -4,11 +4,9 @@ use Rattle.std.proofs.Math.Seq.{drop-cons}
 use Rattle.std.proofs.lemmas.List.{append_assoc}
 use Rattle.std.proofs.lemmas.Option.{slice_get_within, get_or_from_slice_get}
 use Rattle.indexmap.proofs.SetLemmas.{AllZip-push}
-use Rattle.ca_answers.specs.declared.verdict.Answer.{Answer}
-use Rattle.ca_text.specs.Text.{Claim, ClaimText}
-use Rattle.ca_answers.specs.Answers.{IsTrueAnswer, AreTrueAnswers, IsWithinWork, AreWithinWork}
-use Rattle.ca_answers.specs.Judging.{Judging, Judges, JudgesAndNotes}
-use Rattle.ca_answers.specs.declared.note.Note.{Note}
+use Rattle.ca_answers.specs.declared.{verdict.Answer.Answer, note.Note.Note}
+use Rattle.ca_text.specs.Prelude.{Claim, ClaimText}
+use Rattle.ca_answers.specs.Prelude.{IsTrueAnswer, AreTrueAnswers, IsWithinWork, AreWithinWork, Judging, Judges, JudgesAndNotes}
 use Rattle.ca_verify.specs.inner.Kept.{left_from, IsAnswerTo}
 
 -- some of the claims have true answers, out of work only within what each may take, and the others are left

@@ -1,26 +1,19 @@
 -- What is judged as a leaper goes on: it stays so; and what the pictures that trees show have after some generations.
 use Rattle.std.proofs.Common.{◌≡◌, ℕ, List, Option, Some, None, MatchOption, refl, sym, subst, ◌∙◌}
 use Rattle.std.specs.Prelude.{ℤ, ◌-ℤ◌, IsNone}
-use Rattle.ca_plane.specs.Plane.{Picture, shifted}
+use Rattle.ca_plane.specs.Prelude.{Picture, shifted, after, IsAfter}
 use Rattle.ca_plane.specs.Plane as plane
 use Rattle.ca_plane.proofs.Shifts.{cell-shifted}
-use Rattle.ca_plane.specs.Generations.{after, IsAfter}
-use Rattle.ca_quad.specs.declared.node.Node.{Node}
-use Rattle.ca_quad.specs.declared.tree.Tree.{Tree}
-use Rattle.ca_quad.specs.declared.tree.Spot.{Spot}
-use Rattle.ca_quad.specs.Sound.{IsSoundStore, Grows}
-use Rattle.ca_quad.specs.Trees.{IsTree, cell}
-use Rattle.ca_quad.specs.Shifted.{shifted_cells}
+use Rattle.ca_quad.specs.declared.{node.Node.Node, tree.Tree.Tree, tree.Spot.Spot}
+use Rattle.ca_quad.specs.Prelude.{IsSoundStore, Grows, IsTree, cell, shifted_cells}
 use Rattle.ca_quad.proofs.Trims.{trees_stay}
 use Rattle.ca_plane.proofs.After.{after_same}
-use Rattle.ca_text.specs.declared.asks.Asks.{Asks}
-use Rattle.ca_text.specs.declared.asks.Expected.{Expected}
-use Rattle.ca_verify.specs.declared.decide.ClaimTrees.{ClaimTrees}
-use Rattle.ca_verify.specs.declared.decide.Case.{Case}
+use Rattle.ca_text.specs.declared.asks.{Asks.Asks, Expected.Expected}
+use Rattle.ca_verify.specs.declared.decide.{ClaimTrees.ClaimTrees, Case.Case}
 use Rattle.ca_answers.specs.declared.verdict.Refutation.{Refutation}
 use Rattle.ca_answers.specs.declared.verdict.Refutation.TheVariants.{Empty, Differs, Earlier, Died}
-use Rattle.ca_text.specs.Truth.{expected_cells, claimed_cells}
-use Rattle.ca_pattern.specs.PatternTrees.{ShowsTree, HasLive, IsEndTree}
+use Rattle.ca_text.specs.Prelude.{expected_cells, claimed_cells}
+use Rattle.ca_pattern.specs.Prelude.{ShowsTree, HasLive, IsEndTree}
 use Rattle.ca_verify.specs.inner.Subjects.{IsCase, ForbidsReturn, ForbidsDeath, AreShown, IsDifference}
 use Rattle.ca_pattern.proofs.LeaptTrees.{pattern_stays, shows_stays}
 

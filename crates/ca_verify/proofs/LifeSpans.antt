@@ -1,16 +1,12 @@
 -- After how many generations a live pattern is dead, found between a time at which it lives and one at which it is dead.
 use Rattle.std.proofs.Common.{◌≡◌, ℕ, ◌-◌, ◌≤◌, ◌<◌, List, [], sym, ap, subst, ◌∙◌, arith}
 use Rattle.std.specs.Prelude.{ℤ, replicate}
-use Rattle.ca_plane.specs.Plane.{Picture}
-use Rattle.ca_plane.specs.Generations.{after, IsAfter}
-use Rattle.ca_quad.specs.declared.node.Node.{Node}
-use Rattle.ca_quad.specs.declared.tree.Tree.{Tree}
-use Rattle.ca_quad.specs.Boxes.{IsDead}
-use Rattle.ca_quad.specs.Sound.{IsSoundStore, Grows}
-use Rattle.ca_quad.specs.Trees.{cell}
+use Rattle.ca_plane.specs.Prelude.{Picture, after, IsAfter}
+use Rattle.ca_quad.specs.declared.{node.Node.Node, tree.Tree.Tree}
+use Rattle.ca_quad.specs.Prelude.{IsDead, IsSoundStore, Grows, cell}
 use Rattle.ca_verify.specs.declared.decide.Case.{Case}
 use Rattle.ca_pattern.specs.inner.LifeSpans.{IsLifeSpan}
-use Rattle.ca_pattern.specs.PatternTrees.{ShowsTree, HasLive, IsEndTree}
+use Rattle.ca_pattern.specs.Prelude.{ShowsTree, HasLive, IsEndTree}
 use Rattle.ca_verify.specs.inner.Subjects.{ForbidsDeath, AreLifeBounds}
 use Rattle.ca_pattern.proofs.Deaths.{live_at_all}
 use Rattle.ca_verify.proofs.LeaptTrees.{shows_after}

@@ -2,15 +2,13 @@
 use Rattle.std.proofs.Common.{◌≡◌, ℕ, ◌<◌, List, sym, ap, subst, ◌∙◌, inl, inr}
 use Rattle.std.specs.Prelude.{ℤ}
 use Rattle.std.proofs.lemmas.Bool.{cases_order}
-use Rattle.ca_plane.specs.Plane.{Picture, IsSame, shifted}
-use Rattle.ca_plane.specs.Generations.{after, IsAfter}
+use Rattle.ca_plane.specs.Prelude.{Picture, IsSame, shifted, after, IsAfter}
 use Rattle.ca_answers.specs.declared.verdict.Refutation.{Refutation}
 use Rattle.ca_answers.specs.declared.verdict.Refutation.TheVariants.{Empty, Differs, Earlier, Died}
-use Rattle.ca_text.specs.declared.asks.Asks.{Asks}
-use Rattle.ca_text.specs.declared.asks.Forbidden.{Forbidden}
+use Rattle.ca_text.specs.declared.asks.{Asks.Asks, Forbidden.Forbidden}
 use Rattle.ca_text.specs.declared.asks.Forbidden.TheVariants.{EmptyPlane}
-use Rattle.ca_text.specs.Truth.{claimed_cells, MayReturnBy}
-use Rattle.ca_answers.specs.Refutations.{IsReason, IsSameReason}
+use Rattle.ca_text.specs.Prelude.{claimed_cells, MayReturnBy}
+use Rattle.ca_answers.specs.Prelude.{IsReason, IsSameReason}
 use Rattle.ca_text.proofs.Truths.{back}
 use Rattle.ca_verify.proofs.Verdicts.{dead}
 use Rattle.ca_evolution.proofs.Vectors.{one_vector}

@@ -1,7 +1,7 @@
 -- One of a claim's patterns, which is bad, after one that is good; and what belongs to both.
 use Rattle.std.proofs.Common.{inl, inr}
 use Rattle.ca_text.specs.declared.both.Both.{Both}
-use Rattle.ca_text.specs.Both.{HoldsOfBoth, HoldsOfEither, FirstBadOfBoth, ZipBoth}
+use Rattle.ca_text.specs.Prelude.{HoldsOfBoth, HoldsOfEither, FirstBadOfBoth, ZipBoth}
 use Rattle.ca_verify.specs.declared.refusal.WhichPattern.{WhichPattern}
 use Rattle.ca_verify.specs.declared.refusal.WhichPattern.TheVariants.{First, Second}
 use Rattle.ca_verify.specs.inner.Patterns.{FirstBadAt}

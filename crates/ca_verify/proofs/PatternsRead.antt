@@ -1,24 +1,17 @@
 -- The patterns of files that were read into a store, and what they say of the files' paths.
 use Rattle.std.proofs.Common.{◌≡◌, ℕ, List, Some, Vec, Global, sym, subst, ◌∙◌}
 use Rattle.std.specs.Prelude.{ℤ}
-use Rattle.ca_plane.specs.Plane.{Picture, cell}
+use Rattle.ca_plane.specs.Prelude.{Picture, cell}
 use Rattle.ca_quad.specs.declared.node.Node.{Node}
-use Rattle.ca_quad.specs.Sound.{IsSoundStore, Grows}
+use Rattle.ca_quad.specs.Prelude.{IsSoundStore, Grows, IsTrimmed}
 use Rattle.ca_quad.specs.Trees as trees
-use Rattle.ca_quad.specs.Trees.{IsTrimmed}
 use Rattle.ca_quad.proofs.Cells.{of_stays}
 use Rattle.ca_quad.proofs.Trims.{trees_stay}
-use Rattle.ca_rule.specs.TableNext.{TableRule}
+use Rattle.ca_rule.specs.Prelude.{TableRule, RuleValue, NamesRule, IsRuleFault}
 use Rattle.ca_rule.specs.declared.fault.RuleFault.{RuleFault}
-use Rattle.ca_rule.specs.Rule.{RuleValue, NamesRule, IsRuleFault}
-use Rattle.ca_pattern.specs.declared.pattern.Loaded.{Loaded}
-use Rattle.ca_pattern.specs.declared.ruled.RuledPattern.{RuledPattern}
-use Rattle.ca_pattern.specs.declared.ruled.UnnamedRule.{UnnamedRule}
-use Rattle.ca_answers.specs.Files.{bytes_at}
-use Rattle.ca_pattern.specs.Means.{HoldsPattern}
-use Rattle.ca_answers.specs.Answers.{IsRuled, IsReadableFile, HasRule, IsSmall, IsLarge, IsUnnamed, IsUnnamedBy, IsGoodPattern}
-use Rattle.ca_pattern.specs.States.{HasSmallStates}
-use Rattle.ca_pattern.specs.Patterns.{IsReadFrom, IsUnnamedFor, rule_of, IsRuledAs, ShowsLarge, ShowsSmall}
+use Rattle.ca_pattern.specs.declared.{pattern.Loaded.Loaded, ruled.RuledPattern.RuledPattern, ruled.UnnamedRule.UnnamedRule}
+use Rattle.ca_answers.specs.Prelude.{bytes_at, IsRuled, IsReadableFile, HasRule, IsSmall, IsLarge, IsUnnamed, IsUnnamedBy, IsGoodPattern}
+use Rattle.ca_pattern.specs.Prelude.{HoldsPattern, HasSmallStates, IsReadFrom, IsUnnamedFor, rule_of, IsRuledAs, ShowsLarge, ShowsSmall}
 use Rattle.ca_verify.specs.inner.Patterns.{HasName}
 use Rattle.ca_pattern.proofs.EqualCells.{small_shown, large_shown}
 

@@ -4,7 +4,7 @@ use Rattle.std.specs.Int.{◌∣◌}
 use Rattle.std.proofs.Math.Nat.{mul-le-mul, mul-le-mul_left, mul_comm, div-mul_cancel, div-lt_self, dvd-mul_right, dvd_refl, dvd_trans, dvd_iff_mod-eq-zero}
 use Rattle.std.proofs.lemmas.Nat.{le-div}
 use Rattle.std.proofs.lemmas.Bool.{cases_eq, cases_lt}
-use Rattle.ca_steps.specs.Primes.{IsPrime}
+use Rattle.ca_steps.specs.Prelude.{IsPrime}
 use Rattle.ca_steps.proofs.Primes.{prime_at}
 
 -- a quotient divides too

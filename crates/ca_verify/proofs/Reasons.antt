@@ -1,24 +1,21 @@
 -- What is told of a claim by the cells that differ and by the first return.
 use Rattle.std.proofs.Common.{◌≡◌, ◌≢◌, ℕ, List, [], Option, Some, None, MatchOption, refl, sym, ap, subst, ◌∙◌}
 use Rattle.std.specs.Prelude.{ℤ, Result, IfOk, IsTrue}
-use Rattle.ca_plane.specs.Plane.{Picture, cell, shifted, IsLive}
-use Rattle.ca_plane.specs.Generations.{after, IsAfter}
-use Rattle.ca_quad.specs.declared.node.Node.{Node}
-use Rattle.ca_quad.specs.declared.tree.Tree.{Tree}
-use Rattle.ca_quad.specs.Sound.{IsSoundStore, Grows}
+use Rattle.ca_plane.specs.Prelude.{Picture, cell, shifted, IsLive, after, IsAfter}
+use Rattle.ca_quad.specs.declared.{node.Node.Node, tree.Tree.Tree}
+use Rattle.ca_quad.specs.Prelude.{IsSoundStore, Grows}
 use Rattle.ca_quad.specs.Trees as trees
 use Rattle.ca_answers.specs.declared.verdict.Refutation.{Refutation}
 use Rattle.ca_answers.specs.declared.verdict.Refutation.TheVariants.{Empty, Differs, Earlier, Died}
-use Rattle.ca_text.specs.declared.asks.Asks.{Asks}
+use Rattle.ca_text.specs.declared.asks.{Asks.Asks, Forbidden.Forbidden}
 use Rattle.ca_text.specs.declared.asks.Expected.TheVariants.{Own, NoCells}
-use Rattle.ca_text.specs.declared.asks.Forbidden.{Forbidden}
 use Rattle.ca_text.specs.declared.asks.Forbidden.TheVariants.{Nothing, InPlace, Anywhere, EmptyPlane}
 use Rattle.ca_verify.specs.declared.decide.Case.{Case}
-use Rattle.ca_text.specs.Truth.{expected_cells, claimed_cells, ShowsNothingForbidden, MayReturnBy, IsTrueClaim}
-use Rattle.ca_answers.specs.Refutations.{IsReason}
+use Rattle.ca_text.specs.Prelude.{expected_cells, claimed_cells, ShowsNothingForbidden, MayReturnBy, IsTrueClaim}
+use Rattle.ca_answers.specs.Prelude.{IsReason}
 use Rattle.ca_verify.specs.inner.Decided.{ForbidsReturns}
 use Rattle.ca_verify.specs.inner.Returns.{IsSparedBefore, IsFirstReturn, IsFirstDeath}
-use Rattle.ca_pattern.specs.PatternTrees.{ShowsTree, HasLive}
+use Rattle.ca_pattern.specs.Prelude.{ShowsTree, HasLive}
 use Rattle.ca_verify.specs.inner.Subjects.{IsCase, AreShown, IsDifference}
 use Rattle.ca_pattern.proofs.LeaptTrees.{shows_stays, ok_as}
 

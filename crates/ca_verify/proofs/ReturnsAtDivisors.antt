@@ -4,11 +4,10 @@ use Rattle.std.specs.Prelude.{ℤ, pos, ◌-ℤ◌, ◌*ℤ◌}
 use Rattle.std.specs.Int.{◌∣◌}
 use Rattle.std.proofs.Math.Nat.{div-add-mod, dvd_of_mod-eq-zero, mod-lt, suc-mul, zero-mul, mul_comm}
 use Rattle.std.proofs.lemmas.Bool.{cases_eq}
-use Rattle.ca_plane.specs.Plane.{Picture, cell, shifted}
-use Rattle.ca_plane.specs.Generations.{after, IsAfter}
+use Rattle.ca_plane.specs.Prelude.{Picture, cell, shifted, after, IsAfter}
 use Rattle.ca_plane.proofs.After.{after_again, after_near}
 use Rattle.ca_steps.proofs.Returns.{back_times, moved_between}
-use Rattle.ca_text.specs.Truth.{IsChanged, IsNowhere}
+use Rattle.ca_text.specs.Prelude.{IsChanged, IsNowhere}
 use Rattle.ca_pattern.proofs.Searches.{search_within}
 
 -- a number is so many times a smaller one, and a rest that is less than that

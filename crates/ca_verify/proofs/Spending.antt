@@ -1,19 +1,16 @@
 -- How what calls take of a leaper's work adds up.
 use Rattle.std.proofs.Common.{◌≡◌, ◌≢◌, ℕ, zero, suc, ◌+◌, ◌-◌, ◌*◌, ◌<◌, ◌≤◌, ◌^◌, List, refl, sym, ap, arith}
 use Rattle.std.proofs.Math.Nat.{mul-le-mul_left, mul-le-mul_right, two-pow-succ}
-use Rattle.ca_plane.specs.Limits.{most_generations}
-use Rattle.ca_plane.specs.Plane.{Picture, cell}
-use Rattle.ca_quad.specs.declared.node.Node.{Node}
-use Rattle.ca_quad.specs.declared.tree.Tree.{Tree}
-use Rattle.ca_quad.specs.Trees.{IsTrimmed}
-use Rattle.ca_work.specs.Spending.{Spent}
+use Rattle.ca_plane.specs.Prelude.{most_generations, Picture, cell}
+use Rattle.ca_quad.specs.declared.{node.Node.Node, tree.Tree.Tree}
+use Rattle.ca_quad.specs.Prelude.{IsTrimmed}
+use Rattle.ca_work.specs.Prelude.{Spent}
 use Rattle.ca_work.proofs.Powers.{power_more}
-use Rattle.ca_text.specs.declared.asks.Asks.{Asks}
-use Rattle.ca_text.specs.declared.asks.Forbidden.{Forbidden}
+use Rattle.ca_text.specs.declared.asks.{Asks.Asks, Forbidden.Forbidden}
 use Rattle.ca_text.specs.declared.asks.Forbidden.TheVariants.{Nothing, InPlace, Anywhere, EmptyPlane}
-use Rattle.ca_answers.specs.Work.{most_runs, IsNoMoreThan, MayBeUsedUp}
-use Rattle.ca_pattern.specs.PatternTrees.{ShowsTree}
-use Rattle.ca_evolution.specs.Spending.{Takes}
+use Rattle.ca_answers.specs.Prelude.{most_runs, IsNoMoreThan, MayBeUsedUp}
+use Rattle.ca_pattern.specs.Prelude.{ShowsTree}
+use Rattle.ca_evolution.specs.Prelude.{Takes}
 use Rattle.ca_verify.specs.inner.Spending.{TakesHalves, most_halvings, most_looks}
 use Rattle.ca_pattern.proofs.CellsNearMiddle.{trimmed_low}
 

@@ -1,10 +1,8 @@
 -- Trees of planes that are looked at, and what their planes show some generations on.
 use Rattle.std.proofs.Common.{List, arith}
 use Rattle.std.proofs.lemmas.Int.{ints}
-use Rattle.ca_quad.specs.declared.node.Node.{Node}
-use Rattle.ca_quad.specs.declared.tree.Tree.{Tree}
-use Rattle.ca_pattern.specs.LaterTrees.{IsStart}
-use Rattle.ca_pattern.specs.PatternTrees.{IsPattern, IsNearTree}
+use Rattle.ca_quad.specs.declared.{node.Node.Node, tree.Tree.Tree}
+use Rattle.ca_pattern.specs.Prelude.{IsStart, IsPattern, IsNearTree}
 use Rattle.ca_pattern.proofs.Starts.{near_start}
 
 -- that of a pattern is one

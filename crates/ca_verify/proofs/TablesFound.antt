@@ -2,17 +2,12 @@
 use Rattle.std.proofs.Common.{◌≡◌, ℕ, ◌<◌, List, [], ◌∷◌, map, length, get_or, Bor, Option, Some, None, ap, subst, inl, inr}
 use Rattle.std.specs.List.{AllByRecursion, AllZip}
 use Rattle.std.specs.Option.{option_copied}
-use Rattle.ca_rule.specs.TableNext.{TableRule}
+use Rattle.ca_rule.specs.Prelude.{TableRule}
 use Rattle.ca_verify.specs.declared.verifier.tables.FaultyTable.{FaultyTable}
 use Rattle.ca_answers.specs.declared.cause.Cause.TheVariants.{NoFile, BadTable}
-use Rattle.ca_text.specs.declared.asks.Asks.{Asks}
-use Rattle.ca_text.specs.Places.{path_at}
-use Rattle.ca_answers.specs.Files.{bytes_at}
-use Rattle.ca_text.specs.declared.both.Both.{Both}
-use Rattle.ca_text.specs.Both.{HoldsOfBoth}
-use Rattle.ca_text.specs.SomeOf.{SomeOf}
-use Rattle.ca_answers.specs.Answers.{IsMissing, IsThere, HoldsTable, AreTables, IsBadTable}
-use Rattle.ca_text.specs.Firsts.{FirstBad}
+use Rattle.ca_text.specs.declared.{asks.Asks.Asks, both.Both.Both}
+use Rattle.ca_text.specs.Prelude.{path_at, HoldsOfBoth, SomeOf, FirstBad}
+use Rattle.ca_answers.specs.Prelude.{bytes_at, IsMissing, IsThere, HoldsTable, AreTables, IsBadTable}
 use Rattle.ca_verify.specs.inner.Found.{IsFound, IsTableFound, IsFaultFound}
 use Rattle.ca_verify.specs.NeededFiles.{IsFaultyAt}
 use Rattle.ca_verify.specs.declared.refusal.About.TheVariants as about

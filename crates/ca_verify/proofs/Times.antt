@@ -3,9 +3,9 @@ use Rattle.std.proofs.Common.{◌≡◌, refl, sym, subst, arith, w64, to_z, of_
 use Rattle.std.specs.Int.{w128}
 use Rattle.std.specs.Prelude.{ℤ, pos}
 use Rattle.std.proofs.lemmas.Int.{ints}
-use Rattle.ca_plane.specs.Plane.{Picture, cell, shifted}
-use Rattle.ca_text.specs.Kinds.{IsShift}
-use Rattle.ca_pattern.specs.PatternTrees.{IsBroad, IsWide}
+use Rattle.ca_plane.specs.Prelude.{Picture, cell, shifted}
+use Rattle.ca_text.specs.Prelude.{IsShift}
+use Rattle.ca_pattern.specs.Prelude.{IsBroad, IsWide}
 use Rattle.ca_text.proofs.Shifts.{unmoved, shift_reads}
 use Rattle.ca_pattern.proofs.Times.{wide_reads, broad_wide}
 

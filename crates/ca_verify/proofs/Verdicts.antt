@@ -3,34 +3,22 @@ use Rattle.std.proofs.Common.{◌≡◌, ◌≢◌, ℕ, zero, suc, ◌+◌, ◌
 use Rattle.std.specs.List.{AllByRecursion}
 use Rattle.std.proofs.lemmas.Bool.{cases_order}
 use Rattle.std.proofs.lemmas.Option.{same_Some, none-some}
-use Rattle.ca_plane.specs.Plane.{Picture, cell}
-use Rattle.ca_plane.specs.Generations.{after, IsAfter}
-use Rattle.ca_rule.specs.TableNext.{TableRule}
-use Rattle.ca_rule.specs.declared.table.fault.TableFault.{TableFault}
-use Rattle.ca_rule.specs.declared.fault.RuleFault.{RuleFault}
-use Rattle.ca_rule.specs.Rule.{RuleValue, next_of, IsSameRule}
+use Rattle.ca_plane.specs.Prelude.{Picture, cell, after, IsAfter}
+use Rattle.ca_rule.specs.Prelude.{TableRule, RuleValue, next_of, IsSameRule}
+use Rattle.ca_rule.specs.declared.{table.fault.TableFault.TableFault, fault.RuleFault.RuleFault}
 use Rattle.ca_rule.proofs.OneTable.{one_table, none_of_a_table, one_fault as one_table_fault}
 use Rattle.ca_plane.proofs.Populations.{not_both}
-use Rattle.ca_answers.specs.declared.verdict.Refutation.{Refutation}
+use Rattle.ca_answers.specs.declared.{verdict.Refutation.Refutation, cause.Cause.Cause}
 use Rattle.ca_answers.specs.declared.verdict.Refutation.TheVariants.{Empty, Differs, Earlier, Died}
 use Rattle.ca_pattern.specs.declared.pattern_fault.PatternFault.{PatternFault}
-use Rattle.ca_answers.specs.declared.cause.Cause.{Cause}
 use Rattle.ca_answers.specs.declared.cause.Cause.TheVariants.{NoFile, BadTable, BadPattern, BadRule, StateTooLarge, MixedRules, TooManyCells, Work, Memory}
-use Rattle.ca_text.specs.declared.asks.Asks.{Asks}
-use Rattle.ca_text.specs.declared.asks.Forbidden.{Forbidden}
+use Rattle.ca_text.specs.declared.{asks.Asks.Asks, asks.Forbidden.Forbidden, both.Both.Both}
 use Rattle.ca_text.specs.declared.asks.Forbidden.TheVariants.{EmptyPlane}
-use Rattle.ca_pattern.specs.Means.{IsReadable, HoldsRuledPattern, HasRuleFault}
-use Rattle.ca_text.specs.Text.{Claim}
-use Rattle.ca_text.specs.Kinds.{asks_of}
-use Rattle.ca_text.specs.Truth.{expected_cells, ShowsNothingForbidden, IsTrueClaim}
-use Rattle.ca_answers.specs.Refutations.{IsReason}
-use Rattle.ca_text.specs.declared.both.Both.{Both}
-use Rattle.ca_text.specs.Both.{HoldsOfBoth, HoldsOfEither, FirstBadOfBoth}
-use Rattle.ca_text.specs.SomeOf.{SomeOf}
-use Rattle.ca_pattern.specs.Formats.{IsPatternFault}
-use Rattle.ca_pattern.specs.NamedTables.{IsQuietTable, IsTableFault}
-use Rattle.ca_answers.specs.Answers.{HoldsOfFile, IsTableAt, AreTables, IsRuled, IsMissing, IsThere, HoldsTable, IsReadableFile, HasRule, IsSmall, HaveOtherRules, FilesAreThere, TablesAreGood, PatternsAreRead, PatternsHaveRules, StatesAreSmall, AgreeOn, HasFewCounted, HasTooManyCounted, HasCause, IsCauseFor, IsGoodPattern, AreGood, IsJudged, IsBadTable, IsBadPattern, IsUnnamed, IsLarge}
-use Rattle.ca_text.specs.Firsts.{FirstBad}
+use Rattle.ca_pattern.specs.Prelude.{IsReadable, HoldsRuledPattern, HasRuleFault, IsPatternFault, IsQuietTable, IsTableFault}
+use Rattle.ca_text.specs.Prelude.{Claim, asks_of, expected_cells, ShowsNothingForbidden, IsTrueClaim, HoldsOfBoth, HoldsOfEither, FirstBadOfBoth, SomeOf, FirstBad}
+use Rattle.ca_answers.specs.Prelude.{IsReason, HoldsOfFile, IsTableAt, AreTables, IsRuled, IsMissing, IsThere, HoldsTable, IsReadableFile, HasRule, IsSmall, HaveOtherRules, FilesAreThere}
+use Rattle.ca_answers.specs.Prelude.{TablesAreGood, PatternsAreRead, PatternsHaveRules, StatesAreSmall, AgreeOn, HasFewCounted, HasTooManyCounted, HasCause, IsCauseFor, IsGoodPattern, AreGood}
+use Rattle.ca_answers.specs.Prelude.{IsJudged, IsBadTable, IsBadPattern, IsUnnamed, IsLarge}
 use Rattle.ca_verify.proofs.PatternsRead.{ruled_path_reads}
 use Rattle.ca_text.proofs.PairedLists.{zip_left}
 use Rattle.ca_text.proofs.Truths.{back}

@@ -1,8 +1,7 @@
 -- Small patterns, for which the definitions are worked out.
 use Rattle.std.specs.Prelude.{ℕ, pos, List, [], ◌∷◌, codes}
-use Rattle.ca_plane.specs.Plane.{Picture}
-use Rattle.ca_rule.specs.Counts.{counts_of}
-use Rattle.ca_rule.specs.Next.{bs_next}
+use Rattle.ca_plane.specs.Prelude.{Picture}
+use Rattle.ca_rule.specs.Prelude.{counts_of, bs_next}
 use Rattle.ca_rule.specs.declared.hood.Hood.TheVariants.{Moore}
 
 -- the next state under Conway's Life, `B3/S23`

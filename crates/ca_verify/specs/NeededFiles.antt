@@ -2,15 +2,11 @@
 use Rattle.std.specs.Prelude.{◌≡◌, ℕ, List, map, Option, ◌<◌, length}
 use Rattle.std.specs.Borrow.{Bor}
 use Rattle.std.specs.Option.{option_copied}
-use Rattle.ca_verify.specs.declared.verifier.tables.Tables.{Tables}
-use Rattle.ca_text.specs.Text.{ClaimText}
-use Rattle.ca_answers.specs.Files.{bytes_at}
+use Rattle.ca_verify.specs.declared.verifier.tables.{Tables.Tables, FaultyTable.FaultyTable}
+use Rattle.ca_text.specs.Prelude.{ClaimText, path_at, FirstBad}
+use Rattle.ca_answers.specs.Prelude.{bytes_at, IsBadTable, IsMissing, IsThere, HoldsTable, AreTables}
 use Rattle.std.specs.List.{AllByRecursion}
-use Rattle.ca_verify.specs.declared.verifier.tables.FaultyTable.{FaultyTable}
 use Rattle.ca_verify.specs.declared.verifier.tables.Tables.TheVariants.{Missing, Faulty, Read}
-use Rattle.ca_text.specs.Places.{path_at}
-use Rattle.ca_answers.specs.Answers.{IsBadTable, IsMissing, IsThere, HoldsTable, AreTables}
-use Rattle.ca_text.specs.Firsts.{FirstBad}
 
 -- this path is the first whose file is no good table, which has this fault
 abbrev pub IsFaultyAt : List (List ℕ × List ℕ) → List (List ℕ) → FaultyTable → List ℕ → Type 0

@@ -1,23 +1,18 @@
 //! Whether a claim is true of patterns that stand in a leaper's store, by leaps.
 
 ghost use Rattle.std.specs.Prelude.{◌≡◌, ◌≢◌, ◌⊎◌, ℤ, None, IfOk, IfSome, IsTrue, IsFalse, MatchOption};
-ghost use Rattle.ca_plane.specs.Plane.{Picture, cell as plane_cell};
-ghost use Rattle.ca_plane.specs.Generations.{after, IsAfter};
-ghost use Rattle.ca_quad.specs.Boxes.{IsDead};
-ghost use Rattle.ca_quad.specs.Sound.{IsSoundStore};
-ghost use Rattle.ca_quad.specs.Trees.{cell};
-ghost use Rattle.ca_run.specs.Leaping.{LeaperGrows};
-ghost use Rattle.ca_work.specs.Spending.{EndsAtLimit};
+ghost use Rattle.ca_plane.specs.Prelude.{Picture, cell as plane_cell, after, IsAfter};
+ghost use Rattle.ca_quad.specs.Prelude.{IsDead, IsSoundStore, cell};
+ghost use Rattle.ca_run.specs.Prelude.{LeaperGrows};
+ghost use Rattle.ca_work.specs.Prelude.{EndsAtLimit};
 ghost use Rattle.ca_work.specs.declared.fault.LeapFault.TheVariants as leap_fault;
-ghost use Rattle.ca_answers.specs.Work.{most_runs, IsNoMoreThan};
-ghost use Rattle.ca_text.specs.Kinds.{IsShift};
-ghost use Rattle.ca_text.specs.Truth.{claimed_cells, IsTrueClaim};
-ghost use Rattle.ca_answers.specs.Refutations.{IsReason};
+ghost use Rattle.ca_answers.specs.Prelude.{most_runs, IsNoMoreThan, IsReason};
+ghost use Rattle.ca_text.specs.Prelude.{IsShift, claimed_cells, IsTrueClaim};
 ghost use Rattle.ca_answers.specs.declared.cause.Cause.TheVariants.{Work, Memory as NoMemory};
 ghost use Rattle.ca_answers.specs.declared.verdict.Verdict.TheVariants.{Refused};
-ghost use Rattle.ca_evolution.specs.Spending.{Takes};
+ghost use Rattle.ca_evolution.specs.Prelude.{Takes};
 ghost use Rattle.ca_verify.specs.inner.Decided.{IsDecided};
-ghost use Rattle.ca_pattern.specs.PatternTrees.{ShowsTree, IsPattern, IsNearTree, HasLive, IsMoved};
+ghost use Rattle.ca_pattern.specs.Prelude.{ShowsTree, IsPattern, IsNearTree, HasLive, IsMoved};
 ghost use Rattle.ca_verify.specs.inner.Subjects.{IsCase, AreShown, IsDifference};
 
 mod deaths;

@@ -1,12 +1,9 @@
 //! The claims of a text, judged one after another.
 
-ghost use Rattle.std.specs.Prelude.{◌≡◌, ◌≢◌, ℕ, ◌<◌, List, [], map, length, IfOk, IfSome, OnErr};
-ghost use Rattle.std.specs.Prelude.{MatchOption};
+ghost use Rattle.std.specs.Prelude.{◌≡◌, ◌≢◌, ℕ, ◌<◌, List, [], map, length, IfOk, IfSome, OnErr, MatchOption};
 ghost use Rattle.std.specs.Option.{option_copied};
-ghost use Rattle.ca_answers.specs.Files.{contents, bytes_at};
-ghost use Rattle.ca_answers.specs.Judging.{Judges, JudgesAndNotes, IsDone};
-ghost use Rattle.ca_pattern.specs.Limited.{AreGoodLimits};
-ghost use Rattle.ca_answers.specs.Notes.{HasItsNote};
+ghost use Rattle.ca_answers.specs.Prelude.{contents, bytes_at, Judges, JudgesAndNotes, IsDone, HasItsNote};
+ghost use Rattle.ca_pattern.specs.Prelude.{AreGoodLimits};
 ghost use Rattle.ca_verify.specs.NeededFiles.{AreFound, AreRead};
 ghost use Rattle.ca_verify.specs.inner.Kept.{IsAnswerTo};
 
@@ -35,8 +32,7 @@ pub struct Judge<'a> {
 }
 
 impl<'a> Model for Judge<'a> {
-    ghost use Rattle.ca_answers.specs.Files.{contents};
-    ghost use Rattle.ca_answers.specs.Judging.{Judging};
+    ghost use Rattle.ca_answers.specs.Prelude.{contents, Judging};
     ghost use Rattle.ca_verify.specs.inner.Kept.{IsKeptOf, left_from};
 
     ghost Value = { Judging };

@@ -1,9 +1,8 @@
 //! Notes on verdicts.
 
 ghost use Rattle.std.specs.Prelude.{◌≡◌, ℕ, ◌<◌, List, length};
-ghost use Rattle.ca_text.specs.Places.{path_at, named_path};
-ghost use Rattle.ca_answers.specs.Notes.{IsNote, HasItsNote};
-ghost use Rattle.ca_text.specs.Both.{map_both, HoldsOfBoth};
+ghost use Rattle.ca_text.specs.Prelude.{path_at, named_path, map_both, HoldsOfBoth};
+ghost use Rattle.ca_answers.specs.Prelude.{IsNote, HasItsNote};
 ghost use Rattle.ca_verify.specs.inner.Patterns.{part_of};
 ghost use Rattle.ca_verify.specs.inner.Refusals.{IsOnVerdict};
 

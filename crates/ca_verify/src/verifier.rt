@@ -2,20 +2,17 @@
 
 ghost use Rattle.std.specs.Prelude.{◌≡◌, ◌≢◌, ℕ, List, [], map, IfOk, OnErr, MatchResult};
 ghost use Rattle.std.specs.Option.{option_copied};
-ghost use Rattle.ca_text.specs.Text.{Claim as TextClaim, map_patterns};
-ghost use Rattle.ca_text.specs.Places.{path_at};
-ghost use Rattle.ca_answers.specs.Files.{contents, bytes_at};
+ghost use Rattle.ca_text.specs.Prelude.{Claim as TextClaim, map_patterns, path_at};
+ghost use Rattle.ca_answers.specs.Prelude.{contents, bytes_at, AreTrueAnswers, AreWithinWork, IsNoMoreThan};
 ghost use Rattle.ca_verify.specs.declared.refusal.About.TheVariants as abouts;
 ghost use Rattle.ca_answers.specs.declared.verdict.Verdict.TheVariants.{Refused};
 ghost use Rattle.ca_answers.specs.declared.cause.Cause.TheVariants.{Work};
-ghost use Rattle.ca_answers.specs.Answers.{AreTrueAnswers, AreWithinWork};
-ghost use Rattle.ca_pattern.specs.Limited.{AreGoodLimits};
-ghost use Rattle.ca_answers.specs.Work.{IsNoMoreThan};
-ghost use Rattle.ca_plane.specs.Plane.{Picture};
-ghost use Rattle.ca_rule.specs.Rule.{rule_value, next_of};
+ghost use Rattle.ca_pattern.specs.Prelude.{AreGoodLimits};
+ghost use Rattle.ca_plane.specs.Prelude.{Picture};
+ghost use Rattle.ca_rule.specs.Prelude.{rule_value, next_of};
 ghost use Rattle.ca_verify.specs.inner.Decided.{IsDecided};
 ghost use Rattle.ca_verify.specs.inner.Subjects.{IsSubject, AreShown};
-ghost use Rattle.ca_evolution.specs.Spending.{HasLimits};
+ghost use Rattle.ca_evolution.specs.Prelude.{HasLimits};
 ghost use Rattle.ca_verify.specs.inner.Refusals.{IsJudgedOn};
 ghost use Rattle.ca_verify.specs.inner.Tasks.{CanBeJudged, IsOnFiles};
 

@@ -1,7 +1,7 @@
 //! What a run is asked for besides claims or patterns, and how much each of these may take.
 
 ghost use Rattle.std.specs.Prelude.{◌≡◌, codes};
-ghost use Rattle.ca_pattern.specs.Limited.{AreGoodLimits};
+ghost use Rattle.ca_pattern.specs.Prelude.{AreGoodLimits};
 ghost use Rattle.ca_words.specs.Words.{IsNumberAfter, memo_of, work_of, squares_of};
 
 use crate::arguments::{MOST_MEMORY, flag_word, memo_word, memory_word, work_word};

@@ -1,6 +1,6 @@
 -- Work that is done, in one step or more.
 use Rattle.std.proofs.Common.{refl, ◌∙◌, arith}
-use Rattle.ca_work.specs.Spending.{Spent, Spends}
+use Rattle.ca_work.specs.Prelude.{Spent, Spends}
 
 -- work is done, and then more
 pub spends_again : {old mid new : Spent} → Spends old mid → Spends mid new → Spends old new

@@ -1,10 +1,9 @@
 -- The line that says why a text of another format isn't imported (our own; docs/CLAIMS.md).
 use Rattle.std.specs.Prelude.{ℕ, List, [], ◌∷◌, ◌++◌, codes, decimal, Option, None, Some}
-use Rattle.ca_import.specs.declared.fault.ImportFault.{ImportFault}
+use Rattle.ca_import.specs.declared.{fault.ImportFault.ImportFault, text_fault.ImportTextFault.ImportTextFault}
 use Rattle.ca_import.specs.declared.fault.ImportFault.TheVariants as faults
-use Rattle.ca_import.specs.declared.text_fault.ImportTextFault.{ImportTextFault}
 use Rattle.ca_import.specs.declared.text_fault.ImportTextFault.TheVariants as texts
-use Rattle.ca_pattern.specs.FaultTexts.{rule_fault_text}
+use Rattle.ca_pattern.specs.Prelude.{rule_fault_text}
 
 -- what is wrong with a text or with one of its lines
 abbrev pub import_fault_name : ImportFault → List ℕ

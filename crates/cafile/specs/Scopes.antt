@@ -1,6 +1,6 @@
 -- How far a pattern is looked at by the words of `identify`.
 use Rattle.std.specs.Prelude.{ℕ, min, max, Option, None, Some}
-use Rattle.ca_plane.specs.Limits.{longest_period}
+use Rattle.ca_plane.specs.Prelude.{longest_period}
 use Rattle.ca_answers.specs.declared.scope.Scope.{Scope}
 
 -- how many units of work a look at a pattern may take where no number of generations is set

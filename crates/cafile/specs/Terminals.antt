@@ -2,10 +2,8 @@
 use Rattle.std.specs.Prelude.{ℕ, ◌-◌, ◌<◌, min, max, List, Option, None, Some}
 use Rattle.std.specs.Option.{option_or}
 use Rattle.ca_quad.specs.declared.tree.Spot.{Spot}
-use Rattle.ca_draw.specs.declared.drawing.ImageFormat.{ImageFormat}
+use Rattle.ca_draw.specs.declared.{drawing.ImageFormat.ImageFormat, view.Size.Size, view.View.View}
 use Rattle.ca_draw.specs.declared.drawing.ImageFormat.TheVariants.{Text, Pgm}
-use Rattle.ca_draw.specs.declared.view.Size.{Size}
-use Rattle.ca_draw.specs.declared.view.View.{View}
 use Rattle.ca_words.specs.Words.{IsNumberText}
 
 -- the word is so many columns or lines: a number above 0

@@ -1,7 +1,7 @@
 //! The command `identify`.
 
 ghost use Rattle.std.specs.Prelude.{◌≡◌, ◌≤◌};
-ghost use Rattle.ca_plane.specs.Limits.{longest_period};
+ghost use Rattle.ca_plane.specs.Prelude.{longest_period};
 ghost use Rattle.cafile.specs.Scopes.{scope_of};
 
 use crate::FAULT;

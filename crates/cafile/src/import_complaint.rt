@@ -1,10 +1,8 @@
 //! The line that says why a text of another format isn't imported.
 
 ghost use Rattle.std.specs.Prelude.{◌≡◌};
-ghost use Rattle.ca_report.specs.Pieces.{pieces_text};
-ghost use Rattle.ca_report.specs.Writing.{Sends};
-ghost use Rattle.cafile.specs.ImportFaults.{import_fault_name, line_fault_text, import_fault_text};
-ghost use Rattle.cafile.specs.ImportFaults.{import_complaint};
+ghost use Rattle.ca_report.specs.Prelude.{pieces_text, Sends};
+ghost use Rattle.cafile.specs.ImportFaults.{import_fault_name, line_fault_text, import_fault_text, import_complaint};
 
 use ca_import::{ImportFault, ImportTextFault, LineFault};
 use ca_pattern::rule_fault_text;

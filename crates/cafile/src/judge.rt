@@ -1,7 +1,7 @@
 //! The command `verify`.
 
 ghost use Rattle.std.specs.Prelude.{◌≡◌, ◌++◌, [], codes, IfOk, OnErr, IsTrue, if◌then◌else◌};
-ghost use Rattle.ca_report.specs.Escaped.{escaped};
+ghost use Rattle.ca_report.specs.Prelude.{escaped};
 
 use crate::FAULT;
 use crate::named_rules::with_named_rules;

@@ -1,7 +1,7 @@
 -- Parts of a representation that are put after a text.
 use Rattle.std.specs.Prelude.{ℕ, List}
 use Rattle.std.specs.List.{flat_map}
-use Rattle.ca_plane.specs.Puts.{Puts}
+use Rattle.ca_plane.specs.Prelude.{Puts}
 use Rattle.ca_apgcode.specs.Representation.{Step, IsStrip, step_text}
 
 -- new is old with the text of the five rows from this one down at its end

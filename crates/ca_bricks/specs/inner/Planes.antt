@@ -1,8 +1,7 @@
 -- Several states for each cell of a brick or of a tile, each as sixteen rows of bits.
 use Rattle.std.specs.Prelude.{ℕ, List, map}
-use Rattle.ca_plane.specs.Shown.{row_cells}
-use Rattle.ca_bricks.specs.declared.kernel.bits.Bits.{Bits}
-use Rattle.ca_bricks.specs.declared.diagram_rows.Column.{Column}
+use Rattle.ca_plane.specs.Prelude.{row_cells}
+use Rattle.ca_bricks.specs.declared.{kernel.bits.Bits.Bits, diagram_rows.Column.Column}
 use Rattle.ca_bricks.specs.declared.diagram_rows.Column.TheVariants.{West, Here, East}
 
 -- those of the cell at (x, y)

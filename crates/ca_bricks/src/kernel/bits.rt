@@ -1,7 +1,7 @@
 //! A bit for each cell of a tile.
 
 ghost use Rattle.std.specs.Prelude.{◌≡◌, ◌+◌, ◌-◌, ◌%◌, ◌<◌, ℕ, suc, min, max, length, ◌==◌, if◌then◌else◌};
-ghost use Rattle.ca_plane.specs.Shown.{row_cells};
+ghost use Rattle.ca_plane.specs.Prelude.{row_cells};
 
 use std::simd::prelude::*;
 

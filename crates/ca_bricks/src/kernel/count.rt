@@ -3,7 +3,7 @@
 ghost use Rattle.std.specs.Prelude.{◌≡◌, ◌+◌, ◌*◌, ◌<◌, ℕ, suc};
 ghost use Rattle.ca_plane.specs.declared.counting.Neighbourhood.{Neighbourhood};
 ghost use Rattle.ca_plane.specs.declared.counting.Neighbourhood.TheVariants.{Moore, VonNeumann, Hexagonal};
-ghost use Rattle.ca_plane.specs.Shown.{row_cells};
+ghost use Rattle.ca_plane.specs.Prelude.{row_cells};
 ghost use Rattle.ca_bricks.specs.Tiles.{number, sum_round};
 
 use super::bits::Bits;

@@ -1,13 +1,9 @@
 -- What is found of a plane, and its code.
 use Rattle.std.specs.Prelude.{◌≡◌, ℕ, List, Option, None, Some, Vec, Bool, true, false}
 use Rattle.std.specs.declared.alloc.Global.{Global}
-use Rattle.ca_plane.specs.Plane.{Picture}
-use Rattle.ca_plane.specs.Generations.{IsAfter}
-use Rattle.ca_answers.specs.declared.identity.Identity.{Identity}
-use Rattle.ca_answers.specs.declared.scope.Scope.{Scope}
-use Rattle.ca_answers.specs.Identified.{IsLook}
-use Rattle.ca_answers.specs.declared.coded_look.CodedLook.{CodedLook}
-use Rattle.ca_answers.specs.Codes.{IsCodeOf, IsNoObject}
+use Rattle.ca_plane.specs.Prelude.{Picture, IsAfter}
+use Rattle.ca_answers.specs.declared.{identity.Identity.Identity, scope.Scope.Scope, coded_look.CodedLook.CodedLook}
+use Rattle.ca_answers.specs.Prelude.{IsLook, IsCodeOf, IsNoObject}
 
 -- where codes are looked for, the code of cells that are this object under a rule; else none
 abbrev pub IsFoundCode : (List ℕ → ℕ) → Picture → Identity → (coded : Bool) → Option (Vec ℕ Global) → Type 0

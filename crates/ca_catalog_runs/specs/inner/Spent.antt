@@ -1,7 +1,7 @@
 -- What work it takes to find the code of a plane.
 use Rattle.std.specs.Prelude.{ℕ, ◌+◌, ◌*◌, ◌^◌, ◌≤◌, ◌<◌, ℤ}
-use Rattle.ca_quad.specs.Trees.{HoldsAll}
-use Rattle.ca_pattern.specs.Evolved.{run_work}
+use Rattle.ca_quad.specs.Prelude.{HoldsAll}
+use Rattle.ca_pattern.specs.Prelude.{run_work}
 
 -- from the old count of work to the new one it is at most a run of n generations of a tree of this level, and then twice so many steps, each of a tree of a level that
 -- holds the live cells before it

@@ -3,7 +3,7 @@ use Rattle.std.specs.Prelude.{◌≡◌, ◌↔◌, ℕ, ◌<◌, List, get_or, 
 use Rattle.std.specs.Borrow.{Bor}
 use Rattle.std.specs.List.{list_any}
 use Rattle.std.specs.Str.{bytes_eq}
-use Rattle.ca_rule.specs.TableNext.{TableRule}
+use Rattle.ca_rule.specs.Prelude.{TableRule}
 use Rattle.ca_claims.specs.Unknown.{HoldsUnknownRule}
 
 -- the file is needed and was found, and its rule text is this name of no rule

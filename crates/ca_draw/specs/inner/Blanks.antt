@@ -1,7 +1,7 @@
 -- Squares in a square.
 use Rattle.std.specs.Prelude.{◌≡◌, ℕ, suc, ◌-◌, ◌/◌, ◌^◌, ◌<◌, ◌↔◌, List}
 use Rattle.ca_quad.specs.declared.node.Node.{Node}
-use Rattle.ca_quad.specs.Squares.{IsOf, cell_of}
+use Rattle.ca_quad.specs.Prelude.{IsOf, cell_of}
 use Rattle.ca_draw.specs.declared.squares.PartPlace.{PartPlace}
 
 -- every cell is 0 in the square of 2^scale cells a side at this column and row, counted from the corner of a larger one

@@ -1,32 +1,20 @@
 -- What a live pattern's plane shows some generations on, and what work it takes to see it.
 use Rattle.std.specs.Prelude.{◌≡◌, ℕ, ◌+◌, ◌-◌, ◌*◌, ◌^◌, ◌≤◌, ◌<◌, ℤ, List, Option, Some, None, slice_get}
 use Rattle.ca_plane.specs.declared.point.Bounds.{Bounds}
-use Rattle.ca_plane.specs.Plane.{Picture, IsLive, shifted}
+use Rattle.ca_plane.specs.Prelude.{Picture, IsLive, shifted, cells_after, IsAfter}
 use Rattle.ca_plane.specs.Plane as plane
-use Rattle.ca_plane.specs.Generations.{cells_after, IsAfter}
-use Rattle.ca_quad.specs.declared.node.Node.{Node}
-use Rattle.ca_quad.specs.declared.tree.Tree.{Tree}
-use Rattle.ca_quad.specs.declared.tree.WideBounds.{WideBounds}
-use Rattle.ca_quad.specs.Boxes.{IsDead, IsLeastWideBox, AreSquareBoxes}
-use Rattle.ca_quad.specs.Shifted.{shifted_cells}
-use Rattle.ca_quad.specs.Trees.{cell, HoldsAll}
-use Rattle.ca_identify.specs.declared.identification.ending.Ending.{Ending}
+use Rattle.ca_quad.specs.declared.{node.Node.Node, tree.Tree.Tree, tree.WideBounds.WideBounds}
+use Rattle.ca_quad.specs.Prelude.{IsDead, IsLeastWideBox, AreSquareBoxes, shifted_cells, cell, HoldsAll}
+use Rattle.ca_identify.specs.declared.identification.{ending.Ending.Ending, ending.Recurrence.Recurrence, stage.First.First, stage.Stage.Stage, strides.Stride.Stride, walk.Walk.Walk}
 use Rattle.ca_identify.specs.declared.identification.ending.Ending.TheVariants.{Death, Return}
-use Rattle.ca_identify.specs.declared.identification.ending.Recurrence.{Recurrence}
-use Rattle.ca_identify.specs.declared.identification.stage.First.{First}
-use Rattle.ca_identify.specs.declared.identification.stage.Stage.{Stage}
 use Rattle.ca_identify.specs.declared.identification.stage.Stage.TheVariants.{Empty, Back, Other}
-use Rattle.ca_identify.specs.declared.identification.strides.Stride.{Stride}
 use Rattle.ca_identify.specs.declared.identification.strides.Stride.TheVariants.{On, End, Never, Dead}
-use Rattle.ca_identify.specs.declared.identification.walk.Walk.{Walk}
 use Rattle.ca_answers.specs.declared.identity.Growth.{Growth}
-use Rattle.ca_answers.specs.Identified.{IsGrowth}
-use Rattle.ca_evolution.specs.Steps.{step_work}
-use Rattle.ca_text.specs.Kinds.{IsShift}
-use Rattle.ca_text.specs.Truth.{IsChanged, IsNowhere}
-use Rattle.ca_pattern.specs.PatternTrees.{IsBroad, IsWide, ShowsTree, HasLive}
+use Rattle.ca_answers.specs.Prelude.{IsGrowth}
+use Rattle.ca_evolution.specs.Prelude.{step_work}
+use Rattle.ca_text.specs.Prelude.{IsShift, IsChanged, IsNowhere}
+use Rattle.ca_pattern.specs.Prelude.{IsBroad, IsWide, ShowsTree, HasLive, IsStart, IsLaterTree}
 use Rattle.ca_pattern.specs.inner.LifeSpans.{IsLifeSpan}
-use Rattle.ca_pattern.specs.LaterTrees.{IsStart, IsLaterTree}
 
 -- the tree of a live plane that is looked at, and the least box round its cells
 pub record IsFirst (nodes : List Node) (first : First) : Type 0 where

@@ -1,10 +1,9 @@
 //! The planes of a pattern's first generations, with which later ones are compared.
 
 ghost use Rattle.std.specs.Prelude.{◌≡◌, ◌≤◌, ◌++◌, ◌∷◌, [], OnOk, IfOk, IfSome};
-ghost use Rattle.ca_plane.specs.Limits.{longest_period};
-ghost use Rattle.ca_quad.specs.Boxes.{AreSquareBoxes};
-ghost use Rattle.ca_quad.specs.Trees.{IsTree, IsTrimmed, cell};
-ghost use Rattle.ca_run.specs.Leaping.{LeaperGrows};
+ghost use Rattle.ca_plane.specs.Prelude.{longest_period};
+ghost use Rattle.ca_quad.specs.Prelude.{AreSquareBoxes, IsTree, IsTrimmed, cell};
+ghost use Rattle.ca_run.specs.Prelude.{LeaperGrows};
 ghost use Rattle.ca_identify.specs.inner.Stages.{IsFirst, AreEarly};
 
 use super::stage::First;

@@ -1,9 +1,8 @@
 //! How a pattern ends: its plane is dead, or the pattern is there again.
 
 ghost use Rattle.std.specs.Prelude.{ℕ, ◌≤◌, List};
-ghost use Rattle.ca_plane.specs.Plane.{Picture};
-ghost use Rattle.ca_plane.specs.Limits.{longest_period};
-ghost use Rattle.ca_answers.specs.Identified.{IsIdentity};
+ghost use Rattle.ca_plane.specs.Prelude.{Picture, longest_period};
+ghost use Rattle.ca_answers.specs.Prelude.{IsIdentity};
 ghost use Rattle.ca_identify.specs.inner.Stages.{IsReturn, IsEnding, generations_of};
 
 use ca_answers::Identity;

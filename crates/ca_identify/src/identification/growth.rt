@@ -1,8 +1,8 @@
 //! How far a live plane has grown.
 
 ghost use Rattle.std.specs.Prelude.{IfOk};
-ghost use Rattle.ca_quad.specs.Trees.{cell};
-ghost use Rattle.ca_pattern.specs.PatternTrees.{IsLowTree, HasLive};
+ghost use Rattle.ca_quad.specs.Prelude.{cell};
+ghost use Rattle.ca_pattern.specs.Prelude.{IsLowTree, HasLive};
 ghost use Rattle.ca_identify.specs.inner.Stages.{IsGrowthOf};
 
 use ca_answers::Growth;

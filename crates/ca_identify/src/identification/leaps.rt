@@ -1,18 +1,15 @@
 //! What leaps show of a pattern that isn't back soon: that it isn't within the limit, and how far it has grown.
 
 ghost use Rattle.std.specs.Prelude.{◌≡◌, ◌+◌, ◌-◌, ◌*◌, ◌≤◌, None, IfOk, IfSome, IsTrue};
-ghost use Rattle.ca_plane.specs.Plane.{Picture};
-ghost use Rattle.ca_plane.specs.Limits.{longest_period, most_generations};
-ghost use Rattle.ca_quad.specs.Trees.{cell};
-ghost use Rattle.ca_run.specs.Leaping.{LeaperGrows};
-ghost use Rattle.ca_work.specs.Spending.{EndsAtLimit};
-ghost use Rattle.ca_steps.specs.Reach.{IsWiderByAtMost};
-ghost use Rattle.ca_answers.specs.Identified.{IsIdentity};
+ghost use Rattle.ca_plane.specs.Prelude.{Picture, longest_period, most_generations};
+ghost use Rattle.ca_quad.specs.Prelude.{cell};
+ghost use Rattle.ca_run.specs.Prelude.{LeaperGrows};
+ghost use Rattle.ca_work.specs.Prelude.{EndsAtLimit};
+ghost use Rattle.ca_steps.specs.Prelude.{IsWiderByAtMost};
+ghost use Rattle.ca_answers.specs.Prelude.{IsIdentity};
 ghost use Rattle.ca_answers.specs.declared.identity.Identity.TheVariants.{Unknown};
-ghost use Rattle.ca_identify.specs.inner.Stages.{IsFirst, IsLater, IsFirstBox, box_of};
-ghost use Rattle.ca_pattern.specs.PatternTrees.{IsWideBox};
-ghost use Rattle.ca_identify.specs.inner.Stages.{HasNoReturn, EndsWithin, leap_work};
-ghost use Rattle.ca_pattern.specs.PatternTrees.{ShowsTree};
+ghost use Rattle.ca_identify.specs.inner.Stages.{IsFirst, IsLater, IsFirstBox, box_of, HasNoReturn, EndsWithin, leap_work};
+ghost use Rattle.ca_pattern.specs.Prelude.{IsWideBox, ShowsTree};
 
 use super::growth::growth_of;
 use super::stage::First;

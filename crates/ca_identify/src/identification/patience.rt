@@ -2,15 +2,13 @@
 //! the units of work that are allowed for them last.
 
 ghost use Rattle.std.specs.Prelude.{◌≡◌, ◌+◌, ◌≤◌, ℕ, None, IfOk, IfSome};
-ghost use Rattle.ca_plane.specs.Plane.{Picture};
-ghost use Rattle.ca_plane.specs.Generations.{cells_after};
-ghost use Rattle.ca_plane.specs.Limits.{longest_period};
-ghost use Rattle.ca_quad.specs.Trees.{cell};
-ghost use Rattle.ca_run.specs.Leaping.{LeaperGrows};
-ghost use Rattle.ca_work.specs.Spending.{EndsAtLimit};
-ghost use Rattle.ca_answers.specs.Identified.{IsIdentity, IsLook};
+ghost use Rattle.ca_plane.specs.Prelude.{Picture, cells_after, longest_period};
+ghost use Rattle.ca_quad.specs.Prelude.{cell};
+ghost use Rattle.ca_run.specs.Prelude.{LeaperGrows};
+ghost use Rattle.ca_work.specs.Prelude.{EndsAtLimit};
+ghost use Rattle.ca_answers.specs.Prelude.{IsIdentity, IsLook};
 ghost use Rattle.ca_identify.specs.inner.Stages.{IsFirst, IsWalk, IsHalted, TakesSearch, TakesSearchFrom};
-ghost use Rattle.ca_pattern.specs.PatternTrees.{ShowsTree};
+ghost use Rattle.ca_pattern.specs.Prelude.{ShowsTree};
 
 use super::ending::identity_of;
 use super::growth::growth_of;

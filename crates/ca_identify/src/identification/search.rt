@@ -3,16 +3,14 @@
 //! one. Where it fails, it's known up to which generation the pattern was looked at.
 
 ghost use Rattle.std.specs.Prelude.{◌≡◌, ◌+◌, ◌≤◌, None, IfOk, IfSome, OnErr};
-ghost use Rattle.ca_plane.specs.Plane.{Picture};
-ghost use Rattle.ca_plane.specs.Generations.{cells_after};
-ghost use Rattle.ca_plane.specs.Limits.{longest_period};
-ghost use Rattle.ca_quad.specs.Trees.{cell};
-ghost use Rattle.ca_run.specs.Leaping.{LeaperGrows};
-ghost use Rattle.ca_work.specs.Spending.{EndsAtLimit};
-ghost use Rattle.ca_answers.specs.Identified.{IsIdentity};
+ghost use Rattle.ca_plane.specs.Prelude.{Picture, cells_after, longest_period};
+ghost use Rattle.ca_quad.specs.Prelude.{cell};
+ghost use Rattle.ca_run.specs.Prelude.{LeaperGrows};
+ghost use Rattle.ca_work.specs.Prelude.{EndsAtLimit};
+ghost use Rattle.ca_answers.specs.Prelude.{IsIdentity};
 ghost use Rattle.ca_identify.specs.inner.Stages.{IsFirst, IsWalk, IsHalted, IsEnding, generations_of};
 ghost use Rattle.ca_identify.specs.inner.Stages.{AreEarly, TakesEarly, TakesSearchFrom, early_work};
-ghost use Rattle.ca_pattern.specs.PatternTrees.{ShowsTree};
+ghost use Rattle.ca_pattern.specs.Prelude.{ShowsTree};
 
 use super::early::early_planes;
 use super::ending::{Ending, identity_of};

@@ -1,14 +1,11 @@
 //! What a pattern's plane shows some generations on.
 
 ghost use Rattle.std.specs.Prelude.{◌≡◌, ◌≤◌, ℕ, ℤ, IfOk, IsFalse, OnOk, MatchOption};
-ghost use Rattle.ca_quad.specs.Boxes.{IsLeastWideBox, AreSquareBoxes};
-ghost use Rattle.ca_quad.specs.Trees.{IsTree, cell};
-ghost use Rattle.ca_run.specs.Leaping.{LeaperGrows};
-ghost use Rattle.ca_work.specs.Spending.{EndsAtLimit};
-ghost use Rattle.ca_pattern.specs.PatternTrees.{IsNearTree};
-ghost use Rattle.ca_identify.specs.inner.Stages.{IsFirst, IsFirstBox, IsStage, ending_of};
-ghost use Rattle.ca_pattern.specs.PatternTrees.{IsWideBox};
-ghost use Rattle.ca_identify.specs.inner.Stages.{AreMovedNowhere, AreMovedOnlyBy};
+ghost use Rattle.ca_quad.specs.Prelude.{IsLeastWideBox, AreSquareBoxes, IsTree, cell};
+ghost use Rattle.ca_run.specs.Prelude.{LeaperGrows};
+ghost use Rattle.ca_work.specs.Prelude.{EndsAtLimit};
+ghost use Rattle.ca_pattern.specs.Prelude.{IsNearTree, IsWideBox};
+ghost use Rattle.ca_identify.specs.inner.Stages.{IsFirst, IsFirstBox, IsStage, ending_of, AreMovedNowhere, AreMovedOnlyBy};
 
 use super::ending::{Ending, Recurrence};
 use ca_evolution::{distance, vector_if_back};

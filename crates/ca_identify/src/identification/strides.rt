@@ -2,20 +2,16 @@
 //! plane at the stride's end is one of the first planes, moved, and which one tells when it is back: so one leap, or
 //! two, and some comparisons stand for a look at each of its generations.
 
-ghost use Rattle.std.specs.Prelude.{◌≡◌, ◌+◌, ◌≤◌, ◌<◌, ℕ, length, slice_get, Some, IfOk, IfSome, OnOk};
-ghost use Rattle.std.specs.Prelude.{MatchOption};
-ghost use Rattle.ca_plane.specs.Plane.{Picture};
-ghost use Rattle.ca_plane.specs.Generations.{cells_after};
-ghost use Rattle.ca_plane.specs.Limits.{longest_period};
-ghost use Rattle.ca_quad.specs.Boxes.{AreSquareBoxes};
-ghost use Rattle.ca_quad.specs.Trees.{cell};
-ghost use Rattle.ca_run.specs.Leaping.{LeaperGrows};
-ghost use Rattle.ca_work.specs.Spending.{EndsAtLimit};
-ghost use Rattle.ca_answers.specs.Identified.{IsIdentity};
+ghost use Rattle.std.specs.Prelude.{◌≡◌, ◌+◌, ◌≤◌, ◌<◌, ℕ, length, slice_get, Some, IfOk, IfSome, OnOk, MatchOption};
+ghost use Rattle.ca_plane.specs.Prelude.{Picture, cells_after, longest_period};
+ghost use Rattle.ca_quad.specs.Prelude.{AreSquareBoxes, cell};
+ghost use Rattle.ca_run.specs.Prelude.{LeaperGrows};
+ghost use Rattle.ca_work.specs.Prelude.{EndsAtLimit};
+ghost use Rattle.ca_answers.specs.Prelude.{IsIdentity};
 ghost use Rattle.ca_identify.specs.declared.identification.stage.First.{First};
-ghost use Rattle.ca_identify.specs.inner.Stages.{IsFirst, AreEarly, AreMovedNowhere, IsLastMovedFrom, IsStage};
-ghost use Rattle.ca_identify.specs.inner.Stages.{IsStride, IsWalk, HasNoReturn, leap_work};
-ghost use Rattle.ca_pattern.specs.PatternTrees.{IsNearTree, HasLive, ShowsTree};
+ghost use Rattle.ca_identify.specs.inner.Stages.{IsFirst, AreEarly, AreMovedNowhere, IsLastMovedFrom, IsStage, IsStride, IsWalk};
+ghost use Rattle.ca_identify.specs.inner.Stages.{HasNoReturn, leap_work};
+ghost use Rattle.ca_pattern.specs.Prelude.{IsNearTree, HasLive, ShowsTree};
 
 use super::ending::{Ending, identity_of};
 use super::leaps::growth_after;

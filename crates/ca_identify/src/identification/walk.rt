@@ -2,17 +2,13 @@
 
 ghost use Rattle.std.specs.Prelude.{◌≡◌, ◌+◌, ◌-◌, ◌≤◌, ◌<◌, List, None, IfOk, OnOk, OnErr, IfSome};
 ghost use Rattle.ca_quad.specs.declared.node.Node.{Node};
-ghost use Rattle.ca_plane.specs.Plane.{Picture};
-ghost use Rattle.ca_plane.specs.Generations.{cells_after};
-ghost use Rattle.ca_plane.specs.Limits.{longest_period};
-ghost use Rattle.ca_quad.specs.Boxes.{AreSquareBoxes};
-ghost use Rattle.ca_quad.specs.Trees.{cell};
-ghost use Rattle.ca_run.specs.Leaping.{LeaperGrows};
-ghost use Rattle.ca_work.specs.Spending.{EndsAtLimit};
+ghost use Rattle.ca_plane.specs.Prelude.{Picture, cells_after, longest_period};
+ghost use Rattle.ca_quad.specs.Prelude.{AreSquareBoxes, cell};
+ghost use Rattle.ca_run.specs.Prelude.{LeaperGrows};
+ghost use Rattle.ca_work.specs.Prelude.{EndsAtLimit};
 ghost use Rattle.ca_identify.specs.inner.Stages.{IsFirst, IsStage, IsWalk, IsHalted, IsEnding, generations_of};
-ghost use Rattle.ca_pattern.specs.LaterTrees.{IsLaterTree};
-ghost use Rattle.ca_evolution.specs.Steps.{TakesSteps, step_work};
-ghost use Rattle.ca_pattern.specs.PatternTrees.{ShowsTree};
+ghost use Rattle.ca_pattern.specs.Prelude.{IsLaterTree, ShowsTree};
+ghost use Rattle.ca_evolution.specs.Prelude.{TakesSteps, step_work};
 
 use super::ending::Ending;
 use super::stage::{First, Stage, stage_of};

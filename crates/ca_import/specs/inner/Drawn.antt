@@ -1,10 +1,8 @@
 -- Cells of a grid that are drawn column by column.
 use Rattle.std.specs.Prelude.{◌≡◌, ℕ, ◌<◌, ◌≤◌, ℤ, pos, negsuc, List}
 use Rattle.ca_plane.specs.declared.bit_plane.CellWord.{CellWord}
-use Rattle.ca_plane.specs.BitPlane.{bit_cell}
-use Rattle.ca_plane.specs.Shown.{from_corner}
-use Rattle.ca_apgcode.specs.Grids.{GridCells, cell}
-use Rattle.ca_apgcode.specs.Representation.{IsCode}
+use Rattle.ca_plane.specs.Prelude.{bit_cell, from_corner}
+use Rattle.ca_apgcode.specs.Prelude.{GridCells, cell, IsCode}
 
 -- the cells of the columns before one are drawn, and those of this one above a row; nothing else is live
 pub record IsDrawnTo (cells : ℕ → ℕ → ℕ) (column row : ℕ) (words : List CellWord) : Type 0 where

@@ -1,11 +1,9 @@
 -- What a line says, as the code has it.
 use Rattle.std.specs.Prelude.{ℕ, List, Option}
 use Rattle.ca_plane.specs.declared.point.Point.{Point}
-use Rattle.ca_plane.specs.Bytes.{IsInteger}
-use Rattle.ca_plane.specs.Limits.{IsInRange}
-use Rattle.ca_import.specs.declared.cell_line.Line.{Line}
+use Rattle.ca_plane.specs.Prelude.{IsInteger, IsInRange}
+use Rattle.ca_import.specs.declared.{cell_line.Line.Line, fault.ImportFault.ImportFault}
 use Rattle.ca_import.specs.declared.cell_line.Line.TheVariants as line
-use Rattle.ca_import.specs.declared.fault.ImportFault.{ImportFault}
 use Rattle.ca_import.specs.declared.fault.ImportFault.TheVariants.{Syntax, Range}
 use Rattle.ca_import.specs.CellLines.{CellLine, Nothing, LiveCell, Row, Corner, Rule, HasPlace, IsLineInRange}
 

@@ -1,14 +1,10 @@
 -- How a text is read, line by line.
 use Rattle.std.specs.Prelude.{◌≡◌, ℕ, ◌+◌, ◌<◌, ◌≤◌, ℤ, pos, neg_ℤ, ◌≤ℤ◌, ◌<ℤ◌, List, if◌then◌else◌, Option, None, Some}
 use Rattle.ca_plane.specs.declared.point.Point.{Point}
-use Rattle.ca_plane.specs.BitPlane.{bit_cell}
-use Rattle.ca_plane.specs.Limits.{range, most_cells}
-use Rattle.ca_import.specs.declared.fault.ImportFault.{ImportFault}
+use Rattle.ca_plane.specs.Prelude.{bit_cell, range, most_cells, lines_of}
+use Rattle.ca_import.specs.declared.{fault.ImportFault.ImportFault, reading.Reading.Reading, format.LineFormat.LineFormat}
 use Rattle.ca_import.specs.declared.fault.ImportFault.TheVariants.{UnknownFormat, Syntax, NoCorner, Range, TooManyCells, Memory}
-use Rattle.ca_import.specs.declared.reading.Reading.{Reading}
 use Rattle.ca_import.specs.CellLines.{CellLine, next_row, row_after, said_state, next_rule, last_said_rule, is_live_in_line, live_count, said_count, HasPlace, IsLineInRange}
-use Rattle.ca_plane.specs.Bytes.{lines_of}
-use Rattle.ca_import.specs.declared.format.LineFormat.{LineFormat}
 use Rattle.ca_import.specs.Import.{IsGoodLine, LinesSay, first_row}
 
 -- a row may begin here: in the range of a file, or just south of it

@@ -1,17 +1,13 @@
 -- How a pattern is written: its rule text, and its cells.
 use Rattle.std.specs.Prelude.{◌≡◌, ℕ, ◌≤◌, ℤ, List, Option, None}
-use Rattle.ca_plane.specs.Bytes.{IsWord}
-use Rattle.ca_plane.specs.BitPlane.{bit_cell}
-use Rattle.ca_plane.specs.Population.{HasTooManyCells}
+use Rattle.ca_plane.specs.Prelude.{IsWord, bit_cell, HasTooManyCells}
 use Rattle.ca_rule.specs.declared.bs_rule.BsRule.{BsRule}
-use Rattle.ca_rule.specs.Rule.{RuleValue, states_of, printed_form}
+use Rattle.ca_rule.specs.Prelude.{RuleValue, states_of, printed_form}
 use Rattle.ca_pattern.specs.declared.format.Format.{Format}
 use Rattle.ca_pattern.specs.declared.format.Format.TheVariants.{Rle}
-use Rattle.ca_pattern.specs.Written.{IsTidyTextOf}
-use Rattle.ca_import.specs.declared.text_fault.ImportTextFault.{ImportTextFault}
+use Rattle.ca_pattern.specs.Prelude.{IsTidyTextOf}
+use Rattle.ca_import.specs.declared.{text_fault.ImportTextFault.ImportTextFault, import.ImportedPattern.ImportedPattern, rule_text.RuleText.RuleText}
 use Rattle.ca_import.specs.declared.text_fault.ImportTextFault.TheVariants.{Rule, TooManyCells, Memory}
-use Rattle.ca_import.specs.declared.import.ImportedPattern.{ImportedPattern}
-use Rattle.ca_import.specs.declared.rule_text.RuleText.{RuleText}
 use Rattle.ca_import.specs.Written.{IsAskedRule, IsAskedRuleFault, IsWrittenRule}
 
 -- ---- rule texts

@@ -2,7 +2,7 @@
 -- cells whose centre changes, and one for each dying state.
 use Rattle.std.specs.Prelude.{ℕ, ◌+◌, ◌-◌, List, [], ◌∷◌, ◌++◌, map, ◌==◌, nat_lt, slice_index, codes, decimal, if◌then◌else◌}
 use Rattle.std.specs.List.{flat_map, range_with_len}
-use Rattle.ca_plane.specs.Ageing.{older}
+use Rattle.ca_plane.specs.Prelude.{older}
 use Rattle.ca_isotropic.specs.inner.WrittenTables.{lines_by}
 
 -- the lines before the variables

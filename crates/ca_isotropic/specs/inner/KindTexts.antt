@@ -1,7 +1,7 @@
 -- A text of an isotropic rule read from its start: each part is determined, so this is what a text spells if it spells a rule
 -- (our own).
 use Rattle.std.specs.Prelude.{ℕ, List, [], ◌∷◌, Bool, not, ◌==◌, ◌||◌, Option, None, if◌then◌else◌}
-use Rattle.ca_plane.specs.Bytes.{front, rest}
+use Rattle.ca_plane.specs.Prelude.{front, rest}
 use Rattle.ca_rule.specs.inner.TextParts.{is_rule_letter, without_slash, tail_after_letter, tail_after_slash, both_lists, swapped_lists}
 
 -- the byte is a `/`, or one of the letters B and S

@@ -7,7 +7,7 @@ use Rattle.ca_macro.specs.Nodes as nodes
 use Rattle.ca_macro.specs.File.{Adds, MacrocellWordsSay}
 use Rattle.ca_macro.specs.inner.Comments.{said_of}
 use Rattle.ca_macro.specs.inner.Leaves.{leaf_bits}
-use Rattle.ca_plane.specs.Bytes.{nearest_u64}
+use Rattle.ca_plane.specs.Prelude.{nearest_u64}
 
 -- what is read of a line of these words is what they say: of a leaf the bits of its rows, and of the numbers of nodes what is kept
 abbrev pub ReadsLines : List (List ℕ) → Line → Type 0

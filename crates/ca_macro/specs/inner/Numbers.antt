@@ -1,7 +1,7 @@
 -- The numbers of a line, read word by word.
 use Rattle.std.specs.Prelude.{◌≡◌, ℕ, List, length}
 use Rattle.std.specs.List.{AllZip}
-use Rattle.ca_plane.specs.Bytes.{AreDigits, value, nearest_u64}
+use Rattle.ca_plane.specs.Prelude.{AreDigits, value, nearest_u64}
 use Rattle.ca_macro.specs.declared.line.numbers.Numbers.{Numbers}
 use Rattle.ca_macro.specs.File.{IsNumber, AreNumbers}
 

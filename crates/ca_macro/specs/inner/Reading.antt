@@ -2,20 +2,11 @@
 use Rattle.std.specs.Prelude.{◌≡◌, ℕ, suc, ◌-◌, ◌<◌, ◌≤◌, ℤ, List, [], ◌∷◌, length, slice_index, Option, None, Some, IfSome, MatchOption, unwrap_or}
 use Rattle.std.specs.List.{flat_map}
 use Rattle.std.specs.Option.{option_copied}
-use Rattle.ca_plane.specs.Bytes.{nearest_u64, IsWord}
-use Rattle.ca_plane.specs.Limits.{generation_limit, default_rule}
-use Rattle.ca_plane.specs.Plane.{Picture, IsPicture, cell}
-use Rattle.ca_quad.specs.declared.node.Node.{Node as Kept}
-use Rattle.ca_quad.specs.declared.tree.Tree.{Tree}
-use Rattle.ca_quad.specs.Squares.{cell_of}
-use Rattle.ca_quad.specs.Sound.{IsSoundStore}
-use Rattle.ca_quad.specs.Trees.{ShowsSquare, IsTree}
-use Rattle.ca_plane.specs.Shown.{from_corner}
-use Rattle.ca_macro.specs.declared.fault.MacroFault.{MacroFault}
+use Rattle.ca_plane.specs.Prelude.{nearest_u64, IsWord, generation_limit, default_rule, Picture, IsPicture, cell, from_corner}
+use Rattle.ca_quad.specs.declared.{node.Node.Node as Kept, tree.Tree.Tree}
+use Rattle.ca_quad.specs.Prelude.{cell_of, IsSoundStore, ShowsSquare, IsTree}
+use Rattle.ca_macro.specs.declared.{fault.MacroFault.MacroFault, line.numbers.Numbers.Numbers, read.reading.Reading.Reading, read.squares.Squares.Squares}
 use Rattle.ca_macro.specs.declared.fault.MacroFault.TheVariants.{Forward, Level, Memory}
-use Rattle.ca_macro.specs.declared.line.numbers.Numbers.{Numbers}
-use Rattle.ca_macro.specs.declared.read.reading.Reading.{Reading}
-use Rattle.ca_macro.specs.declared.read.squares.Squares.{Squares}
 use Rattle.ca_macro.specs.Nodes.{Node, Parts, node_level, NamesPart, MayFollow}
 use Rattle.ca_macro.specs.File.{MacrocellLine, MacrocellFile, IsMacrocellFile, added_nodes, last_rule, last_line_generation}
 use Rattle.ca_macro.specs.Shown.{numbered_square, squares_of}

@@ -1,12 +1,10 @@
 -- The nodes that a writer has gathered from a store of squares, and the numbers of their squares.
 use Rattle.std.specs.Prelude.{◌≡◌, ◌≢◌, ℕ, zero, suc, ◌-◌, ◌<◌, ◌≤◌, ◌/◌, ◌%◌, ◌==◌, ℤ, List, [], ◌∷◌, ◌++◌, map, length, Bool, false, Some, if◌then◌else◌, slice_index}
 use Rattle.std.specs.List.{AllByRecursion, AllPairs, range_with_len}
-use Rattle.ca_plane.specs.Plane.{Picture, cell}
+use Rattle.ca_plane.specs.Prelude.{Picture, cell, from_corner}
 use Rattle.ca_quad.specs.declared.node.Node.{Node as Kept}
 use Rattle.ca_quad.specs.Squares as squares
-use Rattle.ca_quad.specs.SquareValues.{square_value}
-use Rattle.ca_quad.specs.Trees.{AreQuarters}
-use Rattle.ca_plane.specs.Shown.{from_corner}
+use Rattle.ca_quad.specs.Prelude.{square_value, AreQuarters}
 use Rattle.ca_macro.specs.declared.write.written.WrittenNode.{WrittenNode}
 use Rattle.ca_macro.specs.declared.write.written.WrittenNode.TheVariants.{Leaf, Cells, Parts}
 use Rattle.ca_macro.specs.Nodes.{Node, node_level, NamesPart, MayFollow}

@@ -3,7 +3,7 @@
 ghost use Rattle.std.specs.Prelude.{◌≡◌, not, List, ◌∷◌, true, codes, IfOk, IfErr};
 ghost use Rattle.std.specs.Bool.{nat_eq};
 ghost use Rattle.std.specs.List.{starts_with};
-ghost use Rattle.ca_plane.specs.Bytes.{is_line_end, Every, words_of};
+ghost use Rattle.ca_plane.specs.Prelude.{is_line_end, Every, words_of};
 ghost use Rattle.ca_macro.specs.File.{MacrocellWordsSay};
 ghost use Rattle.ca_macro.specs.Nodes.{Node};
 ghost use Rattle.ca_macro.specs.Faults.{AreFaulty};

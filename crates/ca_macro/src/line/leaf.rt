@@ -1,7 +1,7 @@
 //! The line of a leaf: rows of `.` and `*`, with `$` after each.
 
 ghost use Rattle.std.specs.Prelude.{◌≡◌, ◌<◌, ◌≤◌, ◌^◌, List, Bool, length, map, true, IfOk, IfErr};
-ghost use Rattle.ca_plane.specs.Bytes.{is_end_or};
+ghost use Rattle.ca_plane.specs.Prelude.{is_end_or};
 ghost use Rattle.ca_macro.specs.Nodes.{IsLeaf, leaf_rows};
 ghost use Rattle.ca_macro.specs.Faults.{is_leaf_byte};
 ghost use Rattle.ca_macro.specs.inner.Leaves.{is_mark, is_live, has_room, leaf_fault, IsLeafFault, row_bits};

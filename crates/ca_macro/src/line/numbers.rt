@@ -2,7 +2,7 @@
 
 ghost use Rattle.std.specs.Prelude.{◌≡◌, not, ℕ, true, false, length, MatchOption};
 ghost use Rattle.std.specs.List.{AllZip};
-ghost use Rattle.ca_plane.specs.Bytes.{is_line_end, Every, words_of};
+ghost use Rattle.ca_plane.specs.Prelude.{is_line_end, Every, words_of};
 ghost use Rattle.ca_macro.specs.File.{AreNumbers};
 ghost use Rattle.ca_macro.specs.inner.Numbers.{KeepsNumberOf, AreKept, AreNoNumbers};
 

@@ -1,8 +1,7 @@
 //! The empty squares of a store, made as they are needed.
 
 ghost use Rattle.std.specs.Prelude.{◌≡◌, [], ◌+◌, ◌<◌, ◌≤◌, length, IfOk, OnOk};
-ghost use Rattle.ca_quad.specs.Sound.{IsSoundStore, Grows};
-ghost use Rattle.ca_quad.specs.Trees.{ShowsSquare};
+ghost use Rattle.ca_quad.specs.Prelude.{IsSoundStore, Grows, ShowsSquare};
 ghost use Rattle.ca_macro.specs.inner.Reading.{AreEmpties};
 
 use ca_plane::Memory;

@@ -1,9 +1,8 @@
 //! Whether the live cells of a tree are in range.
 
 ghost use Rattle.std.specs.Prelude.{◌≡◌, ◌⊎◌, ◌↔◌, ◌≤ℤ◌, ◌<ℤ◌, ℤ, pos, neg_ℤ, IsTrue, IfOk, OnOk, IfErr};
-ghost use Rattle.ca_plane.specs.Limits.{range};
-ghost use Rattle.ca_quad.specs.Sound.{Grows};
-ghost use Rattle.ca_quad.specs.Trees.{IsTree, cell, IsTrimmed};
+ghost use Rattle.ca_plane.specs.Prelude.{range};
+ghost use Rattle.ca_quad.specs.Prelude.{Grows, IsTree, cell, IsTrimmed};
 ghost use Rattle.ca_macro.specs.declared.fault.MacroFault.TheVariants.{Range, Memory};
 ghost use Rattle.ca_macro.specs.Pattern.{AreInRange};
 

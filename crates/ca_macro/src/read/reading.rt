@@ -2,9 +2,9 @@
 
 ghost use Rattle.std.specs.Prelude.{ℕ, List, [], ◌∷◌, ◌++◌, not, OnOk, IfErr};
 ghost use Rattle.std.specs.List.{flat_map};
-ghost use Rattle.ca_plane.specs.Bytes.{Every, is_line_end, words_of};
+ghost use Rattle.ca_plane.specs.Prelude.{Every, is_line_end, words_of};
 ghost use Rattle.ca_quad.specs.declared.node.Node.{Node as Kept};
-ghost use Rattle.ca_quad.specs.Sound.{IsSoundStore, Grows};
+ghost use Rattle.ca_quad.specs.Prelude.{IsSoundStore, Grows};
 ghost use Rattle.ca_macro.specs.File.{MacrocellLine, MacrocellWordsSay, IsAllowedNode, added_nodes};
 ghost use Rattle.ca_macro.specs.inner.Comments.{said_of};
 ghost use Rattle.ca_macro.specs.inner.Reading.{IsMacrocellReading, HasNodeFault};

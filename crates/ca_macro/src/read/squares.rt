@@ -3,16 +3,13 @@
 ghost use Rattle.std.specs.Prelude.{◌≡◌, ℕ, ℤ, List, [], ◌∷◌, ◌++◌, ◌≤◌, length, IfOk, OnOk, IfErr, Bool};
 ghost use Rattle.std.specs.List.{AllByRecursion};
 ghost use Rattle.ca_quad.specs.declared.node.Node.{Node as Kept};
-ghost use Rattle.ca_quad.specs.Sound.{IsSoundStore, Grows};
-ghost use Rattle.ca_quad.specs.Trees.{IsTree, cell};
-ghost use Rattle.ca_plane.specs.Plane.{cell as plane_cell};
+ghost use Rattle.ca_quad.specs.Prelude.{IsSoundStore, Grows, IsTree, cell};
+ghost use Rattle.ca_plane.specs.Prelude.{cell as plane_cell, nearest_u64};
 ghost use Rattle.ca_macro.specs.Nodes.{Node, Leaf, Cells, Parts, IsLevel, MayFollow};
 ghost use Rattle.ca_macro.specs.Shown.{picture_of_nodes};
 ghost use Rattle.ca_macro.specs.Faults.{HasBadPart};
 ghost use Rattle.ca_macro.specs.inner.Leaves.{leaf_bits};
-ghost use Rattle.ca_plane.specs.Bytes.{nearest_u64};
-ghost use Rattle.ca_macro.specs.inner.Reading.{AreSquares, IsNodePart, IsBadNumber, KeepsParts};
-ghost use Rattle.ca_macro.specs.inner.Reading.{HaveNumberFault};
+ghost use Rattle.ca_macro.specs.inner.Reading.{AreSquares, IsNodePart, IsBadNumber, KeepsParts, HaveNumberFault};
 
 use crate::fault::MacroFault;
 use crate::line::Numbers;

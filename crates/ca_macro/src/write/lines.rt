@@ -2,7 +2,7 @@
 
 ghost use Rattle.std.specs.Prelude.{◌≡◌, ◌++◌, ◌∷◌, [], map, codes, decimal, OnOk};
 ghost use Rattle.std.specs.List.{flat_map};
-ghost use Rattle.ca_plane.specs.Puts.{Puts};
+ghost use Rattle.ca_plane.specs.Prelude.{Puts};
 ghost use Rattle.ca_macro.specs.Nodes.{leaf_mark};
 ghost use Rattle.ca_macro.specs.Tidy.{numbers_text, node_text, generation_lines, tidy_lines};
 ghost use Rattle.ca_macro.specs.inner.Written.{row_marks, node_of};

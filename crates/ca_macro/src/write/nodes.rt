@@ -1,15 +1,12 @@
 //! The nodes of a tree, each square once, its parts before it.
 
-ghost use Rattle.std.specs.Prelude.{◌≡◌, ◌≢◌, ◌+◌, ◌<◌, ◌≤◌, ◌++◌, ◌∷◌, [], ℕ, ℤ, List, map, length};
-ghost use Rattle.std.specs.Prelude.{slice_index, OnOk, IfOk, MatchOption, Some, None};
-ghost use Rattle.ca_quad.specs.Squares.{level_of};
-ghost use Rattle.ca_quad.specs.SquareValues.{square_value};
-ghost use Rattle.ca_quad.specs.Trees.{IsIn, IsTree, IsEmpty, cell};
+ghost use Rattle.std.specs.Prelude.{◌≡◌, ◌≢◌, ◌+◌, ◌<◌, ◌≤◌, ◌++◌, ◌∷◌, [], ℕ, ℤ, List, map, length, slice_index, OnOk, IfOk};
+ghost use Rattle.std.specs.Prelude.{MatchOption, Some, None};
+ghost use Rattle.ca_quad.specs.Prelude.{level_of, square_value, IsIn, IsTree, IsEmpty, cell};
 ghost use Rattle.ca_macro.specs.Nodes.{Node, Leaf, Cells};
 ghost use Rattle.ca_macro.specs.Tidy.{IsLeastLevel, AreTidyNodes, node_parts};
-ghost use Rattle.ca_macro.specs.inner.Written.{row_marks, node_of, kept_cells, leaf_level, empty_root};
-ghost use Rattle.ca_macro.specs.inner.Written.{HasFitParts, IsWrittenNumber, IsNodeOf, IsGathered};
-ghost use Rattle.ca_macro.specs.inner.Written.{Extends, KeepsFirstOrder};
+ghost use Rattle.ca_macro.specs.inner.Written.{row_marks, node_of, kept_cells, leaf_level, empty_root, HasFitParts};
+ghost use Rattle.ca_macro.specs.inner.Written.{IsWrittenNumber, IsNodeOf, IsGathered, Extends, KeepsFirstOrder};
 
 use super::written::WrittenNode;
 use ca_plane::Memory;

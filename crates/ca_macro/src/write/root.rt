@@ -1,8 +1,7 @@
 //! The root of a tidy text.
 
 ghost use Rattle.std.specs.Prelude.{◌≡◌, ◌<◌, ◌≤◌, ℤ, IfOk};
-ghost use Rattle.ca_quad.specs.Sound.{Grows};
-ghost use Rattle.ca_quad.specs.Trees.{IsTree, cell, IsTrimmed};
+ghost use Rattle.ca_quad.specs.Prelude.{Grows, IsTree, cell, IsTrimmed};
 ghost use Rattle.ca_macro.specs.Tidy.{lowest_level, IsLeastLevel};
 
 use ca_plane::Memory;

@@ -1,11 +1,10 @@
 -- Planes' cells that are put into boxes.
 use Rattle.std.specs.Prelude.{◌≡◌, ◌≢◌, ℕ, ◌≤◌, ◌⊎◌, ℤ, pos, ◌+ℤ◌, ◌<ℤ◌, ◌≤ℤ◌, List, length}
 use Rattle.ca_plane.specs.declared.point.Point.{Point}
-use Rattle.ca_plane.specs.Plane.{Picture}
+use Rattle.ca_plane.specs.Prelude.{Picture}
 use Rattle.ca_plane.specs.Plane as plane
 use Rattle.ca_quad.specs.declared.tree.WideBounds.{WideBounds}
-use Rattle.ca_apgcode.specs.Grids.{GridCells, IsGrid, MakesLive, cell}
-use Rattle.ca_apgcode.specs.Objects.{live, IsTurnedText}
+use Rattle.ca_apgcode.specs.Prelude.{GridCells, IsGrid, MakesLive, cell, live, IsTurnedText}
 use Rattle.ca_object_code.specs.declared.drawing.Window.{Window}
 
 -- in no orientation the plane has a text, since its least box is larger than 40 by 40, or there is none

@@ -1,6 +1,6 @@
 -- Objects that are too large for any of their phases to fit into 40 by 40 cells.
 use Rattle.std.specs.Prelude.{◌≡◌, ℕ, ◌+◌, ◌-◌, ◌*◌, ◌⊎◌, ℤ, pos, ◌+ℤ◌, ◌-ℤ◌, ◌≤ℤ◌, List}
-use Rattle.ca_plane.specs.Generations.{cells_after}
+use Rattle.ca_plane.specs.Prelude.{cells_after}
 use Rattle.ca_quad.specs.declared.tree.WideBounds.{WideBounds}
 
 -- after so many generations the cells are back, moved by (dx, dy)

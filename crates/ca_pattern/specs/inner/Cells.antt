@@ -1,14 +1,9 @@
 -- What is judged of cells, and trees that are made planes.
 use Rattle.std.specs.Prelude.{◌≡◌, ℤ, pos, neg_ℤ, ◌≤ℤ◌, ◌<ℤ◌, List, ◌⊎◌}
-use Rattle.ca_plane.specs.Plane.{Picture}
+use Rattle.ca_plane.specs.Prelude.{Picture, range, IsSparse, HasFewCells}
 use Rattle.ca_plane.specs.Plane as plane
-use Rattle.ca_plane.specs.Limits.{range}
-use Rattle.ca_plane.specs.Sparse.{IsSparse}
-use Rattle.ca_plane.specs.Population.{HasFewCells}
-use Rattle.ca_quad.specs.declared.node.Node.{Node}
-use Rattle.ca_quad.specs.declared.tree.Tree.{Tree}
-use Rattle.ca_quad.specs.declared.tree.WideBounds.{WideBounds}
-use Rattle.ca_quad.specs.Trees.{cell}
+use Rattle.ca_quad.specs.declared.{node.Node.Node, tree.Tree.Tree, tree.WideBounds.WideBounds}
+use Rattle.ca_quad.specs.Prelude.{cell}
 
 -- a sparse plane shows the tree's cells, which aren't too many
 pub record IsPlaneOf (nodes : List Node) (tree : Tree) (picture : Picture) : Type 0 where

@@ -1,8 +1,8 @@
 -- Trees that are ready to be written and told of.
 use Rattle.std.specs.Prelude.{ℕ, ◌<◌}
-use Rattle.ca_plane.specs.Limits.{generation_limit}
-use Rattle.ca_quad.specs.Trees.{IsTree, cell}
-use Rattle.ca_rule.specs.Rule.{RuleValue}
+use Rattle.ca_plane.specs.Prelude.{generation_limit}
+use Rattle.ca_quad.specs.Prelude.{IsTree, cell}
+use Rattle.ca_rule.specs.Prelude.{RuleValue}
 use Rattle.ca_pattern.specs.declared.pattern.StoredTree.{StoredTree}
 use Rattle.ca_pattern.specs.States.{HasSmallStates}
 

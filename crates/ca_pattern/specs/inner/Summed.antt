@@ -1,10 +1,7 @@
 -- What is told of a pattern.
 use Rattle.std.specs.Prelude.{◌≡◌, ℕ, ℤ, neg_ℤ, ◌≤ℤ◌, MatchOption}
-use Rattle.ca_plane.specs.Plane.{Picture, IsLive}
+use Rattle.ca_plane.specs.Prelude.{Picture, IsLive, IsLeastBox, HasPopulation, reach}
 use Rattle.ca_plane.specs.Plane as plane
-use Rattle.ca_plane.specs.Box.{IsLeastBox}
-use Rattle.ca_plane.specs.Population.{HasPopulation}
-use Rattle.ca_plane.specs.Limits.{reach}
 use Rattle.ca_quad.specs.declared.tree.WideBounds.{WideBounds}
 use Rattle.ca_pattern.specs.declared.cells.Extent.{Extent}
 

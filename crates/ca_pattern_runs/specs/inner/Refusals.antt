@@ -1,12 +1,11 @@
 -- What a run answers where a part of it failed.
 use Rattle.std.specs.Prelude.{ℕ, ℤ, List, Option}
-use Rattle.ca_report.specs.declared.fault.ToolFault.{ToolFault}
+use Rattle.ca_report.specs.declared.{fault.ToolFault.ToolFault, form.DrawRequest.DrawRequest}
 use Rattle.ca_report.specs.declared.fault.ToolFault.TheVariants.{Input, Window, Memory}
 use Rattle.ca_pattern_runs.specs.Runs.{IsInputFault}
-use Rattle.ca_report.specs.declared.form.DrawRequest.{DrawRequest}
 use Rattle.ca_pattern_runs.specs.Drawn.{HasNoWindow, HasNoWindowAfter}
-use Rattle.ca_rule.specs.TableNext.{TableRule}
-use Rattle.ca_pattern.specs.Means.{MayWantMemory}
+use Rattle.ca_rule.specs.Prelude.{TableRule}
+use Rattle.ca_pattern.specs.Prelude.{MayWantMemory}
 
 -- why the file isn't read
 abbrev pub IsReadingFault : Option (List ℕ) → Option (List ℕ) → ToolFault → Type 0

@@ -1,14 +1,9 @@
 -- Words of cells of two states that are gathered into squares.
 use Rattle.std.specs.Prelude.{◌≡◌, ℕ, ◌+◌, ◌*◌, ◌<◌, max, ℤ, ◌⊎◌, pos, ◌+ℤ◌, ◌≤ℤ◌, List, [], ◌∷◌}
 use Rattle.std.specs.Int.{bit_at}
-use Rattle.ca_plane.specs.declared.bit_plane.CellWord.{CellWord}
-use Rattle.ca_plane.specs.declared.point.Bounds.{Bounds}
-use Rattle.ca_plane.specs.BitPlane.{bit_cell}
-use Rattle.ca_plane.specs.Limits.{reach}
-use Rattle.ca_quad.specs.declared.store.quarters.Quarters.{Quarters}
-use Rattle.ca_quad.specs.declared.store.to_plane.Corners.{Corners}
-use Rattle.ca_quad.specs.declared.tree.Spot.{Spot}
-use Rattle.ca_plane.specs.Shown.{row_cells}
+use Rattle.ca_plane.specs.declared.{bit_plane.CellWord.CellWord, point.Bounds.Bounds}
+use Rattle.ca_plane.specs.Prelude.{bit_cell, reach, row_cells}
+use Rattle.ca_quad.specs.declared.{store.quarters.Quarters.Quarters, store.to_plane.Corners.Corners, tree.Spot.Spot}
 use Rattle.ca_quad.specs.inner.Filled.{cells_from}
 
 -- the cells of one word

@@ -1,7 +1,7 @@
 -- The states of a block of cells: 32 rows of 32, from the top.
 use Rattle.std.specs.Prelude.{◌≡◌, ℕ, ◌+◌, ◌*◌, ◌<◌, pos, ◌+ℤ◌, List, slice_index, Option, MatchOption}
 use Rattle.ca_plane.specs.declared.point.Point.{Point}
-use Rattle.ca_plane.specs.Plane.{Picture, cell}
+use Rattle.ca_plane.specs.Prelude.{Picture, cell}
 use Rattle.ca_quad.specs.declared.tree.Spot.{Spot}
 use Rattle.ca_quad.specs.inner.Filled.{cells_from}
 

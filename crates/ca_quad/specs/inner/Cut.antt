@@ -1,13 +1,11 @@
 -- Squares that are cut out of four that lie together.
 use Rattle.std.specs.Prelude.{◌≡◌, ℕ, ◌+◌, ◌*◌, ◌<◌, ◌^◌, ◌%◌, nat_lt, if◌then◌else◌, List, slice_index, Option, Some}
 use Rattle.std.specs.Map.{lookup}
-use Rattle.ca_quad.specs.declared.neighbours.Neighbours.{Neighbours}
-use Rattle.ca_quad.specs.declared.node.Node.{Node}
-use Rattle.ca_quad.specs.declared.store.cut.Offset.{Offset}
+use Rattle.ca_quad.specs.declared.{neighbours.Neighbours.Neighbours, node.Node.Node, store.cut.Offset.Offset}
 use Rattle.ca_quad.specs.contracts.neighbours.NeighboursPartialEq.TheImpl.{eq-value}
 use Rattle.ca_quad.specs.Squares.{joined_cells, cell_of}
 use Rattle.ca_quad.specs.Trees.{AreFour}
-use Rattle.ca_plane.specs.Shown.{word_cells}
+use Rattle.ca_plane.specs.Prelude.{word_cells}
 use Rattle.ca_quad.specs.inner.Window.{ShowsFrom}
 
 -- they are squares of this level

@@ -1,14 +1,9 @@
 -- Live cells that are collected, square by square.
 use Rattle.std.specs.Prelude.{◌≡◌, ◌≢◌, ℕ, ◌-◌, ◌^◌, ◌⊎◌, ℤ, pos, neg_ℤ, ◌+ℤ◌, ◌-ℤ◌, ◌≤ℤ◌, List, [], ◌∷◌}
 use Rattle.std.specs.List.{All}
-use Rattle.ca_plane.specs.Plane.{Picture, cell}
-use Rattle.ca_quad.specs.declared.node.Node.{Node}
-use Rattle.ca_quad.specs.declared.store.draw.Halves.{Halves}
-use Rattle.ca_quad.specs.declared.store.draw.PlacedSquare.{PlacedSquare}
-use Rattle.ca_quad.specs.declared.store.to_plane.Corners.{Corners}
-use Rattle.ca_quad.specs.declared.tree.Spot.{Spot}
+use Rattle.ca_plane.specs.Prelude.{Picture, cell, from_corner}
+use Rattle.ca_quad.specs.declared.{node.Node.Node, store.draw.Halves.Halves, store.draw.PlacedSquare.PlacedSquare, store.to_plane.Corners.Corners, tree.Spot.Spot}
 use Rattle.ca_quad.specs.Squares.{level_of, IsOf, cell_of}
-use Rattle.ca_plane.specs.Shown.{from_corner}
 use Rattle.ca_quad.specs.Expanded.{FitsPlane}
 
 -- the cells of an id's square

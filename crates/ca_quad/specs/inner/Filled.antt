@@ -1,11 +1,8 @@
 -- Cells of a plane that are gathered into squares.
 use Rattle.std.specs.Prelude.{ℕ, ◌≤◌, ℤ, ◌^◌, pos, neg_ℤ, ◌+ℤ◌, ◌<ℤ◌, ◌≤ℤ◌, List}
 use Rattle.ca_plane.specs.declared.point.Bounds.{Bounds}
-use Rattle.ca_plane.specs.Plane.{Picture}
-use Rattle.ca_plane.specs.Sparse.{IsSparse}
-use Rattle.ca_quad.specs.declared.node.Node.{Node}
-use Rattle.ca_quad.specs.declared.store.rows.Row.{Row}
-use Rattle.ca_quad.specs.declared.tree.Spot.{Spot}
+use Rattle.ca_plane.specs.Prelude.{Picture, IsSparse}
+use Rattle.ca_quad.specs.declared.{node.Node.Node, store.rows.Row.Row, tree.Spot.Spot}
 use Rattle.ca_quad.specs.Trees.{ShowsSquare}
 use Rattle.ca_quad.specs.inner.Ring.{no_cells}
 use Rattle.ca_quad.specs.inner.Rows.{AreRows, HoldCells}

@@ -1,6 +1,6 @@
 -- Boxes, and the square in which a plane keeps its cells.
 use Rattle.std.specs.Prelude.{◌⊎◌, neg_ℤ, ◌≤ℤ◌, ◌<ℤ◌}
-use Rattle.ca_plane.specs.Limits.{reach}
+use Rattle.ca_plane.specs.Prelude.{reach}
 use Rattle.ca_quad.specs.declared.tree.WideBounds.{WideBounds}
 
 -- the box lies in it

@@ -2,10 +2,8 @@
 use Rattle.std.specs.Prelude.{◌≡◌, ℕ, ◌<◌, ◌≤◌, ◌⊎◌, ℤ, pos, ◌+ℤ◌, ◌<ℤ◌, ◌≤ℤ◌, List, [], ◌∷◌, length, slice_index_or}
 use Rattle.std.specs.List.{All}
 use Rattle.ca_plane.specs.declared.point.Point.{Point}
-use Rattle.ca_plane.specs.Plane.{Picture}
-use Rattle.ca_quad.specs.declared.store.quarters.Quarters.{Quarters}
-use Rattle.ca_quad.specs.declared.store.rows.Row.{Row}
-use Rattle.ca_quad.specs.declared.tree.Spot.{Spot}
+use Rattle.ca_plane.specs.Prelude.{Picture}
+use Rattle.ca_quad.specs.declared.{store.quarters.Quarters.Quarters, store.rows.Row.Row, tree.Spot.Spot}
 
 -- the point at a place of the list
 abbrev pub point_at : Picture → ℕ → Point

@@ -1,9 +1,6 @@
 -- Trees with room to be moved in.
 use Rattle.std.specs.Prelude.{◌≡◌, ℕ, ◌-◌, ◌≤◌, ◌^◌, ℤ, pos, neg_ℤ, ◌+ℤ◌, ◌≤ℤ◌, List}
-use Rattle.ca_quad.specs.declared.node.Node.{Node}
-use Rattle.ca_quad.specs.declared.tree.Spot.{Spot}
-use Rattle.ca_quad.specs.declared.tree.Tree.{Tree}
-use Rattle.ca_quad.specs.declared.tree.WideBounds.{WideBounds}
+use Rattle.ca_quad.specs.declared.{node.Node.Node, tree.Spot.Spot, tree.Tree.Tree, tree.WideBounds.WideBounds}
 use Rattle.ca_quad.specs.Trees.{IsTree, cell, HoldsAll}
 
 -- no more than the way in either direction

@@ -1,7 +1,6 @@
 -- What every square of a store has.
 use Rattle.std.specs.Prelude.{ℕ, List}
-use Rattle.ca_quad.specs.declared.node.Node.{Node}
-use Rattle.ca_quad.specs.declared.square.Square.{Square}
+use Rattle.ca_quad.specs.declared.{node.Node.Node, square.Square.Square}
 use Rattle.ca_quad.specs.declared.square.Square.TheVariants.{Four, Parts}
 use Rattle.ca_quad.specs.Sound.{HasParts}
 

@@ -1,13 +1,10 @@
 //! Squares of 64 by 64 cells of two states, which are read at once from words.
 
-ghost use Rattle.std.specs.Prelude.{◌≡◌, ℕ, ◌+◌, ◌*◌, ◌<◌, ◌≤◌, ◌^◌, pos};
-ghost use Rattle.std.specs.Prelude.{neg_ℤ, ◌+ℤ◌, ◌<ℤ◌, IfOk, MatchOption};
+ghost use Rattle.std.specs.Prelude.{◌≡◌, ℕ, ◌+◌, ◌*◌, ◌<◌, ◌≤◌, ◌^◌, pos, neg_ℤ, ◌+ℤ◌, ◌<ℤ◌, IfOk, MatchOption};
 ghost use Rattle.std.proofs.Common.{arith};
 ghost use Rattle.std.specs.Int.{bit_at};
-ghost use Rattle.ca_plane.specs.BitPlane.{bit_cell};
-ghost use Rattle.ca_plane.specs.Limits.{reach};
+ghost use Rattle.ca_plane.specs.Prelude.{bit_cell, reach, row_cells};
 ghost use Rattle.ca_quad.specs.Sound.{Grows};
-ghost use Rattle.ca_plane.specs.Shown.{row_cells};
 ghost use Rattle.ca_quad.specs.inner.BitParts.{AddsCells, AreShiftedBits};
 ghost use Rattle.ca_quad.specs.inner.Filled.{cells_from, LiesNear};
 ghost use Rattle.ca_quad.specs.inner.Window.{ShowsFrom};

@@ -2,8 +2,7 @@
 
 ghost use Rattle.std.specs.Prelude.{◌≡◌, ℕ, ◌+◌, ◌<◌, ◌≤◌, ◌^◌, pos, neg_ℤ, ◌+ℤ◌, ◌≤ℤ◌, IfOk, MatchOption};
 ghost use Rattle.std.proofs.Common.{arith};
-ghost use Rattle.ca_plane.specs.Plane.{cell};
-ghost use Rattle.ca_plane.specs.Sparse.{IsSparse};
+ghost use Rattle.ca_plane.specs.Prelude.{cell, IsSparse};
 ghost use Rattle.ca_quad.specs.Sound.{Grows};
 ghost use Rattle.ca_quad.specs.inner.Block.{block_cells, IsCell, TellsPlace, IsPut, IsRight};
 ghost use Rattle.ca_quad.specs.inner.Filled.{cells_from, LiesNear, AreRowsOf};

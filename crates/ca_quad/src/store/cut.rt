@@ -2,9 +2,8 @@
 
 ghost use Rattle.std.specs.Prelude.{◌≡◌, ℕ, suc, ◌+◌, ◌*◌, ◌<◌, ◌≤◌, ◌^◌, ◌%◌, IfOk, OnOk};
 ghost use Rattle.ca_quad.specs.Sound.{Grows};
-ghost use Rattle.ca_quad.specs.inner.Cut.{AreNeighbours, cells_of_four, half_of, overlapping_fours};
-ghost use Rattle.ca_quad.specs.inner.Cut.{neighbours_at};
-ghost use Rattle.ca_quad.specs.inner.Cut.{IsCut, AreCuts, AreSixteen, AreSixteenCells};
+ghost use Rattle.ca_quad.specs.inner.Cut.{AreNeighbours, cells_of_four, half_of, overlapping_fours, neighbours_at, IsCut};
+ghost use Rattle.ca_quad.specs.inner.Cut.{AreCuts, AreSixteen, AreSixteenCells};
 ghost use Rattle.ca_quad.specs.inner.Window.{ShowsFrom};
 
 use super::Store;

@@ -1,7 +1,7 @@
 //! Squares of 8 by 8 cells of two states that are cut out of four, as words.
 
 ghost use Rattle.std.specs.Prelude.{◌≡◌, ℕ, ◌+◌, ◌-◌, ◌*◌, ◌/◌, ◌<◌, ◌≤◌, ◌^◌, IfSome};
-ghost use Rattle.ca_plane.specs.Shown.{word_cells};
+ghost use Rattle.ca_plane.specs.Prelude.{word_cells};
 ghost use Rattle.ca_quad.specs.inner.Cut.{AreNeighbours, IsCutWord};
 
 use super::Store;

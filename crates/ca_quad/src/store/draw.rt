@@ -4,10 +4,8 @@ ghost use Rattle.std.specs.Prelude.{◌≡◌, ℕ, ◌-◌, ◌≤◌, ℤ, pos
 ghost use Rattle.ca_quad.specs.Squares.{one_cell};
 ghost use Rattle.ca_quad.specs.Trees.{IsIn, IsTree, cell};
 ghost use Rattle.ca_quad.specs.Expanded.{FitsPlane};
-ghost use Rattle.ca_plane.specs.Plane.{cell as plane_cell};
-ghost use Rattle.ca_plane.specs.Sparse.{IsSparse};
-ghost use Rattle.ca_quad.specs.inner.Drawn.{cells_at_corner, CanDraw, Agrees, IsLiveAt};
-ghost use Rattle.ca_quad.specs.inner.Drawn.{IsReadyToDraw, AreReady, placed_cells};
+ghost use Rattle.ca_plane.specs.Prelude.{cell as plane_cell, IsSparse};
+ghost use Rattle.ca_quad.specs.inner.Drawn.{cells_at_corner, CanDraw, Agrees, IsLiveAt, IsReadyToDraw, AreReady, placed_cells};
 ghost use Rattle.ca_quad.specs.inner.Drawn.{IsLiveIn, IsLiveInRow, Paints, IsAdded, ArePushed, AreHalves};
 
 use super::Store;

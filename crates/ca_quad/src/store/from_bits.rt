@@ -1,7 +1,7 @@
 //! Planes of two states, kept in words, that are made trees.
 
 ghost use Rattle.std.specs.Prelude.{◌≡◌, ◌-◌, ◌<◌, ◌≤◌, ◌*◌, ◌^◌, ℤ, IsTrue, IsFalse, IfOk};
-ghost use Rattle.ca_plane.specs.BitPlane.{bit_cell, AreNearWords, IsNearWord};
+ghost use Rattle.ca_plane.specs.Prelude.{bit_cell, AreNearWords, IsNearWord};
 ghost use Rattle.ca_quad.specs.Sound.{Grows};
 ghost use Rattle.ca_quad.specs.Trees.{IsTree, cell, HoldsAll, IsTrimmed};
 ghost use Rattle.ca_quad.specs.inner.BitParts.{AreApart, AreWordQuarters, HasNoCell, HaveCells, IsBoxOfWord};

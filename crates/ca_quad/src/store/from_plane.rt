@@ -1,7 +1,7 @@
 //! Planes that are made trees.
 
 ghost use Rattle.std.specs.Prelude.{◌≡◌, ◌-◌, ◌≤◌, ◌^◌, ℤ, IsTrue, IsFalse, IfOk};
-ghost use Rattle.ca_plane.specs.Plane.{cell as plane_cell};
+ghost use Rattle.ca_plane.specs.Prelude.{cell as plane_cell};
 ghost use Rattle.ca_quad.specs.Sound.{Grows};
 ghost use Rattle.ca_quad.specs.Trees.{IsTree, cell, HoldsAll, IsTrimmed};
 ghost use Rattle.ca_quad.specs.inner.Filled.{cells_from, AreRowsOf, HoldsBox, IsEmptyOf};

@@ -4,7 +4,7 @@ ghost use Rattle.std.specs.Prelude.{◌≡◌, ℕ, ◌+◌, ◌<◌, ◌≤◌,
 ghost use Rattle.ca_quad.specs.Squares.{level_of, cell_of};
 ghost use Rattle.ca_quad.specs.Sound.{Grows, AddsOnly};
 ghost use Rattle.ca_quad.specs.Trees.{IsIn, ShowsSquare};
-ghost use Rattle.ca_plane.specs.Shown.{row_cells};
+ghost use Rattle.ca_plane.specs.Prelude.{row_cells};
 
 use super::Store;
 use crate::id::Id;

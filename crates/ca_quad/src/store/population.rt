@@ -1,7 +1,7 @@
 //! How many cells are live.
 
 ghost use Rattle.std.specs.Prelude.{◌≡◌, ◌+◌, ◌-◌, ◌≤◌, ◌^◌, min, IfOk};
-ghost use Rattle.ca_plane.specs.Population.{HasPopulation};
+ghost use Rattle.ca_plane.specs.Prelude.{HasPopulation};
 ghost use Rattle.ca_quad.specs.Trees.{IsIn, IsTree, cell};
 ghost use Rattle.ca_quad.specs.inner.Population.{cell_population, IsPopulationIn, IsCountOf};
 

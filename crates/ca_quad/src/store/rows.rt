@@ -1,11 +1,8 @@
 //! Rows of a plane's cells, and those of their cells that lie in smaller squares.
 
-ghost use Rattle.std.specs.Prelude.{◌≡◌, ℕ, ◌+◌, ◌-◌, ◌<◌, ◌≤◌, ◌⊎◌, ◌≤ℤ◌, ◌<ℤ◌, length, IsTrue, IsFalse};
-ghost use Rattle.std.specs.Prelude.{IfOk, OnOk};
-ghost use Rattle.ca_plane.specs.Plane.{Picture};
-ghost use Rattle.ca_plane.specs.Sparse.{IsSparse};
-ghost use Rattle.ca_quad.specs.inner.Rows.{point_at, ComesBefore, IsInRow};
-ghost use Rattle.ca_quad.specs.inner.Rows.{IsPictureRow, AreRows, HaveRowAt, IsPartOfRows};
+ghost use Rattle.std.specs.Prelude.{◌≡◌, ℕ, ◌+◌, ◌-◌, ◌<◌, ◌≤◌, ◌⊎◌, ◌≤ℤ◌, ◌<ℤ◌, length, IsTrue, IsFalse, IfOk, OnOk};
+ghost use Rattle.ca_plane.specs.Prelude.{Picture, IsSparse};
+ghost use Rattle.ca_quad.specs.inner.Rows.{point_at, ComesBefore, IsInRow, IsPictureRow, AreRows, HaveRowAt, IsPartOfRows};
 ghost use Rattle.ca_quad.specs.inner.Rows.{AreParts, IsWest, IsEast, IsNorth, IsSouth};
 
 use super::quarters::Quarters;

@@ -1,10 +1,9 @@
 //! Trees that are made planes.
 
 ghost use Rattle.std.specs.Prelude.{◌≡◌, ◌≤◌, ◌^◌, pos, neg_ℤ, IsTrue, IsFalse, IfOk, IfErr, OnOk};
-ghost use Rattle.ca_plane.specs.Sparse.{IsInPlane, IsSparse};
+ghost use Rattle.ca_plane.specs.Prelude.{IsInPlane, IsSparse, HasFewCells};
 ghost use Rattle.ca_quad.specs.Trees.{IsTree, cell};
 ghost use Rattle.ca_quad.specs.Expanded.{FitsPlane, IsExpanded, IsRefused};
-ghost use Rattle.ca_plane.specs.Population.{HasFewCells};
 ghost use Rattle.ca_quad.specs.inner.Drawn.{IsNearSpot, ArePartCorners};
 ghost use Rattle.ca_quad.specs.inner.Reach.{IsBoxInReach, IsBoxOutOfReach};
 

@@ -4,7 +4,7 @@ ghost use Rattle.std.specs.Prelude.{◌≡◌, ℕ, ◌+◌, ◌≤◌, length, 
 ghost use Rattle.ca_quad.specs.Squares.{level_of, cell_of};
 ghost use Rattle.ca_quad.specs.Sound.{Grows, AddsOnly};
 ghost use Rattle.ca_quad.specs.Trees.{IsIn, ShowsSquare, HasMoreStates};
-ghost use Rattle.ca_plane.specs.Shown.{word_cells};
+ghost use Rattle.ca_plane.specs.Prelude.{word_cells};
 
 use super::Store;
 use super::bits::{corners, rows};

@@ -1,7 +1,7 @@
 //! The least box round the live cells of 8 by 8 cells of two states.
 
 ghost use Rattle.std.specs.Prelude.{◌<◌};
-ghost use Rattle.ca_plane.specs.Shown.{word_cells};
+ghost use Rattle.ca_plane.specs.Prelude.{word_cells};
 ghost use Rattle.ca_quad.specs.inner.Extent.{IsSquareExtent};
 ghost use Rattle.ca_quad.specs.inner.WordExtent.{AreEnds, AreColumns};
 

@@ -1,13 +1,10 @@
 -- How an RLE text is read: what stands after its header, and the corner as the reader keeps it.
 use Rattle.std.specs.Prelude.{◌≡◌, ℕ, List, [], ◌∷◌, Some, ◌⊎◌}
 use Rattle.ca_plane.specs.declared.point.Point.{Point}
-use Rattle.ca_plane.specs.Bytes.{nearest_u64}
-use Rattle.ca_plane.specs.Sparse.{IsInPlane}
-use Rattle.ca_rle.specs.declared.fault.RleFault.{RleFault}
-use Rattle.ca_rle.specs.declared.item.Item.{Item}
+use Rattle.ca_plane.specs.Prelude.{nearest_u64, IsInPlane, IsInRange}
+use Rattle.ca_rle.specs.declared.{fault.RleFault.RleFault, item.Item.Item}
 use Rattle.ca_rle.specs.Items.{Run}
 use Rattle.ca_rle.specs.File.{RleFile}
-use Rattle.ca_plane.specs.Limits.{IsInRange}
 use Rattle.ca_rle.specs.Faults.{item_fault}
 
 -- the item as the code keeps it: its count is at most 2^64 - 1

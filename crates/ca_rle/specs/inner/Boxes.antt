@@ -1,13 +1,8 @@
 -- The least box round the cells of items, item by item.
 use Rattle.std.specs.Prelude.{◌≡◌, ℕ, min, max, pos, ◌+ℤ◌, ◌≤ℤ◌, List, Option, Some, None, MatchOption}
-use Rattle.ca_plane.specs.declared.point.Point.{Point}
-use Rattle.ca_plane.specs.declared.point.Bounds.{Bounds}
-use Rattle.ca_plane.specs.Box.{IsLeastBox}
-use Rattle.ca_plane.specs.Limits.{IsInRange}
-use Rattle.ca_plane.specs.Plane.{Picture, IsLive}
-use Rattle.ca_rle.specs.declared.item.Item.{Item}
-use Rattle.ca_rle.specs.declared.extent.Offset.{Offset}
-use Rattle.ca_rle.specs.declared.extent.Span.{Span}
+use Rattle.ca_plane.specs.declared.point.{Point.Point, Bounds.Bounds}
+use Rattle.ca_plane.specs.Prelude.{IsLeastBox, IsInRange, Picture, IsLive}
+use Rattle.ca_rle.specs.declared.{item.Item.Item, extent.Offset.Offset, extent.Span.Span}
 use Rattle.ca_rle.specs.Limits.{IsRleWithinRange}
 use Rattle.ca_rle.specs.Shown.{picture_of_items}
 use Rattle.ca_rle.specs.inner.BodyFaults.{bare_file}

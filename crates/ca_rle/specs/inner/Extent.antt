@@ -3,13 +3,9 @@ use Rattle.std.specs.Prelude.{◌≡◌, ℕ, ◌+◌, ◌≤◌, max, ℤ, pos,
 use Rattle.std.specs.List.{sum_by}
 use Rattle.std.specs.Ordering.{int_eq}
 use Rattle.ca_plane.specs.declared.point.Point.{Point}
-use Rattle.ca_plane.specs.Bytes.{nearest_u64}
-use Rattle.ca_plane.specs.Plane.{Picture}
-use Rattle.ca_rle.specs.declared.item.Item.{Item}
-use Rattle.ca_rle.specs.declared.extent.Extent.{Extent}
-use Rattle.ca_rle.specs.declared.extent.Offset.{Offset}
+use Rattle.ca_plane.specs.Prelude.{nearest_u64, Picture, longest_count, IsInRange, range}
+use Rattle.ca_rle.specs.declared.{item.Item.Item, extent.Extent.Extent, extent.Offset.Offset}
 use Rattle.ca_rle.specs.Shown.{tag_state, greatest_state, row_count, columns_of, run_of}
-use Rattle.ca_plane.specs.Limits.{longest_count, IsInRange, range}
 
 -- ---- what items show
 

@@ -3,12 +3,8 @@ use Rattle.std.specs.Prelude.{◌≡◌, ℕ, ℤ, ◌≤ℤ◌, ◌<ℤ◌, pos
 use Rattle.std.specs.Option.{option_copied}
 use Rattle.std.specs.List.{AllZip, AllByRecursion}
 use Rattle.ca_plane.specs.declared.point.Point.{Point}
-use Rattle.ca_plane.specs.Bytes.{IsInteger}
-use Rattle.ca_plane.specs.Limits.{reach, range, default_rule}
-use Rattle.ca_rle.specs.declared.front.words.Start.{Start}
-use Rattle.ca_rle.specs.declared.front.lines.Preamble.{Preamble}
-use Rattle.ca_rle.specs.declared.front.Front.{Front}
-use Rattle.ca_rle.specs.declared.fault_line.GoodText.{GoodText}
+use Rattle.ca_plane.specs.Prelude.{IsInteger, reach, range, default_rule}
+use Rattle.ca_rle.specs.declared.{front.words.Start.Start, front.lines.Preamble.Preamble, front.Front.Front, fault_line.GoodText.GoodText}
 use Rattle.ca_rle.specs.Header.{CxrleWord, WordSays, extended_words, IsXlifeLine}
 use Rattle.ca_rle.specs.File.{RleFile, IsRleFile, IsPreamble, IsHeaded, corner_of, generation_of}
 use Rattle.ca_rle.specs.Items.{Items}

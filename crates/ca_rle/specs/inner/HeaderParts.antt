@@ -1,7 +1,7 @@
 -- The parts of a header, read one after another from the front of bytes.
 use Rattle.std.specs.Prelude.{ℕ, List, [], ◌∷◌, ◌==◌, Option, Some, None, if◌then◌else◌}
 use Rattle.std.specs.Option.{option_and_then}
-use Rattle.ca_plane.specs.Bytes.{is_blank, is_digit, front, rest}
+use Rattle.ca_plane.specs.Prelude.{is_blank, is_digit, front, rest}
 use Rattle.ca_rle.specs.Header.{Part, Exactly, Number}
 
 -- what is left after a text

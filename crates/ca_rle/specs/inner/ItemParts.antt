@@ -1,6 +1,6 @@
 -- The parts of an item, as the reader splits them off.
 use Rattle.std.specs.Prelude.{◌≡◌, ℕ, List}
-use Rattle.ca_plane.specs.Bytes.{is_digit, front, rest}
+use Rattle.ca_plane.specs.Prelude.{is_digit, front, rest}
 use Rattle.ca_rle.specs.Items.{InLine}
 use Rattle.ca_rle.specs.Faults.{after_white}
 

@@ -1,12 +1,9 @@
 -- Tidy items that are written run by run: those that are written, and the run that isn't yet.
 use Rattle.std.specs.Prelude.{◌≡◌, ◌≢◌, ℕ, ◌<◌, ◌≤◌, ℤ, pos, ◌+ℤ◌, ◌≤ℤ◌, List, [], ◌∷◌, ◌++◌, map, codes, ◌⊎◌}
 use Rattle.ca_plane.specs.declared.point.Point.{Point}
-use Rattle.ca_plane.specs.Plane.{Picture, cell}
-use Rattle.ca_rle.specs.declared.item.Item.{Item}
-use Rattle.ca_rle.specs.declared.item.Tag.{Tag}
+use Rattle.ca_plane.specs.Prelude.{Picture, cell}
+use Rattle.ca_rle.specs.declared.{item.Item.Item, item.Tag.Tag, write.runs.Run.Run, write.again.Pending.Pending}
 use Rattle.ca_rle.specs.declared.item.Tag.TheVariants.{Cell, RowEnd}
-use Rattle.ca_rle.specs.declared.write.runs.Run.{Run}
-use Rattle.ca_rle.specs.declared.write.again.Pending.{Pending}
 use Rattle.ca_rle.specs.Shown.{place_after, run_of, picture_of_items}
 use Rattle.ca_rle.specs.Tidy.{AreTidy, item_text}
 use Rattle.ca_rle.specs.inner.Written.{some_of, IsItemGap, IsLaid, PutsLines}

@@ -2,7 +2,7 @@
 
 ghost use Rattle.std.specs.Prelude.{◌≡◌, ℕ, List, [], ◌∷◌, codes, not, Option, None, Some, MatchOption};
 ghost use Rattle.std.specs.Option.{option_copied};
-ghost use Rattle.ca_plane.specs.Bytes.{Every, is_line_end};
+ghost use Rattle.ca_plane.specs.Prelude.{Every, is_line_end};
 ghost use Rattle.ca_rle.specs.Header.{Exactly, Number, size_parts, rule_parts, IsHeader};
 ghost use Rattle.ca_rle.specs.inner.HeaderParts.{parts_left};
 

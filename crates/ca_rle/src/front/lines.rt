@@ -1,7 +1,7 @@
 //! The lines before the header.
 
 ghost use Rattle.std.specs.Prelude.{◌≡◌, [], true, not, IsTrue, IsFalse, MatchOption, IfSome, IfOk, IfErr};
-ghost use Rattle.ca_plane.specs.Bytes.{Every, is_line_end, words_of, without_cr};
+ghost use Rattle.ca_plane.specs.Prelude.{Every, is_line_end, words_of, without_cr};
 ghost use Rattle.ca_rle.specs.Header.{is_front_line, extended_words, IsXlifeLine};
 ghost use Rattle.ca_rle.specs.Faults.{HasBadWordAmong};
 ghost use Rattle.ca_rle.specs.inner.FrontParts.{WordsLead, IsPreambleOf, LeadsPreamble};

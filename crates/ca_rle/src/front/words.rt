@@ -1,7 +1,7 @@
 //! The words of a line before the header, and where they let a pattern start.
 
 ghost use Rattle.std.specs.Prelude.{◌≡◌, ℕ, List, [], ◌∷◌, ◌++◌, not, codes, MatchOption, IfOk, IfErr, ℤ};
-ghost use Rattle.ca_plane.specs.Bytes.{Every, is_line_end, IsInteger, words_of};
+ghost use Rattle.ca_plane.specs.Prelude.{Every, is_line_end, IsInteger, words_of};
 ghost use Rattle.ca_rle.specs.Header.{WordSays, Generation as SaidGeneration};
 ghost use Rattle.ca_rle.specs.Faults.{IsBadWord, HasBadWordAmong};
 ghost use Rattle.ca_rle.specs.inner.FrontParts.{Writes, WritesPair, WordsLead};

@@ -1,7 +1,7 @@
 //! The tidy items of a text, run by run, without a list of cells or of items.
 
 ghost use Rattle.std.specs.Prelude.{◌≡◌, ◌≢◌, ℕ, ◌≤◌, ◌≤ℤ◌, List, OnOk, IfOk};
-ghost use Rattle.ca_plane.specs.Limits.{IsInRange};
+ghost use Rattle.ca_plane.specs.Prelude.{IsInRange};
 ghost use Rattle.ca_rle.specs.declared.item.Item.{Item};
 ghost use Rattle.ca_rle.specs.declared.item.Tag.TheVariants.{Cell};
 ghost use Rattle.ca_rle.specs.Items.{Items};

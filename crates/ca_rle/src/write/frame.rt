@@ -1,7 +1,7 @@
 //! The corner and the size that a tidy text tells.
 
 ghost use Rattle.std.specs.Prelude.{◌≡◌, ◌≤ℤ◌, ◌+ℤ◌, pos, IfSome};
-ghost use Rattle.ca_plane.specs.Plane.{Picture};
+ghost use Rattle.ca_plane.specs.Prelude.{Picture};
 ghost use Rattle.ca_rle.specs.Tidy.{IsFrame};
 ghost use Rattle.ca_rle.specs.inner.Boxes.{IsBoxInRange, AreBounds};
 

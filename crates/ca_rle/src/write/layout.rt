@@ -1,7 +1,7 @@
 //! The items' texts, in lines of at most 70 characters.
 
 ghost use Rattle.std.specs.Prelude.{◌≡◌, ℕ, ◌≤◌, ◌++◌, ◌∷◌, [], List, map, length, codes, OnOk, IfOk};
-ghost use Rattle.ca_plane.specs.Puts.{Puts};
+ghost use Rattle.ca_plane.specs.Prelude.{Puts};
 ghost use Rattle.ca_rle.specs.Tidy.{letters_of, tag_text, count_text, item_text};
 ghost use Rattle.ca_rle.specs.inner.Written.{IsPlaced, PutsLines};
 

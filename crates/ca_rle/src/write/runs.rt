@@ -1,15 +1,13 @@
 //! The tidy items of a plane, run by run.
 
-ghost use Rattle.std.specs.Prelude.{◌≡◌, ◌≢◌, ℕ, ℤ, ◌<◌, ◌≤ℤ◌, ◌+ℤ◌, pos, ◌++◌, List, OnOk, IfOk};
-ghost use Rattle.std.specs.Prelude.{IsTrue, IsFalse};
+ghost use Rattle.std.specs.Prelude.{◌≡◌, ◌≢◌, ℕ, ℤ, ◌<◌, ◌≤ℤ◌, ◌+ℤ◌, pos, ◌++◌, List, OnOk, IfOk, IsTrue, IsFalse};
 ghost use Rattle.std.specs.List.{All};
 ghost use Rattle.ca_rle.specs.declared.item.Item.{Item};
 ghost use Rattle.ca_rle.specs.declared.item.Tag.TheVariants.{Cell};
 ghost use Rattle.ca_rle.specs.Shown.{picture_of_items};
 ghost use Rattle.ca_rle.specs.Tidy.{AreTidy, HaveStates};
 ghost use Rattle.ca_rle.specs.inner.Written.{some_of, IsItemGap};
-ghost use Rattle.ca_plane.specs.Plane.{cell};
-ghost use Rattle.ca_plane.specs.Limits.{reach};
+ghost use Rattle.ca_plane.specs.Prelude.{cell, reach};
 
 use super::frame::distance;
 use crate::item::{Item, Tag};

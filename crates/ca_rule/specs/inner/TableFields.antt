@@ -1,7 +1,7 @@
 -- How the fields of a line are read, one after another.
 use Rattle.std.specs.Prelude.{◌≡◌, ◌≤◌, ℕ, List, [], ◌∷◌, ◌++◌, length, map, true, codes, Option, option_and_then}
 use Rattle.std.specs.List.{list_all}
-use Rattle.ca_plane.specs.Bytes.{is_blank, Every, rest}
+use Rattle.ca_plane.specs.Prelude.{is_blank, Every, rest}
 use Rattle.ca_rule.specs.declared.table.fields.FieldsLeft.{FieldsLeft}
 use Rattle.ca_rule.specs.declared.table.fields.FieldsLeft.TheVariants.{Between, Bytes}
 use Rattle.ca_rule.specs.TableLines.{tail_after, is_field, fields_between}

@@ -4,11 +4,9 @@ use Rattle.std.specs.Borrow.{Bor}
 use Rattle.std.specs.HashMap.{get_by}
 use Rattle.std.specs.List.{AllZip}
 use Rattle.std.specs.Str.{bytes_eq}
-use Rattle.ca_plane.specs.Bytes.{value}
-use Rattle.ca_rule.specs.declared.table.names.Names.{Names}
-use Rattle.ca_rule.specs.declared.table.slot.Slot.{Slot}
+use Rattle.ca_plane.specs.Prelude.{value}
+use Rattle.ca_rule.specs.declared.table.{names.Names.Names, slot.Slot.Slot, statement_fault.StatementFault.StatementFault}
 use Rattle.ca_rule.specs.declared.table.slot.Slot.TheVariants.{Number, Variable}
-use Rattle.ca_rule.specs.declared.table.statement_fault.StatementFault.{StatementFault}
 use Rattle.ca_rule.specs.declared.table.statement_fault.StatementFault.TheVariants.{State, Name, Unbound, Memory}
 use Rattle.ca_rule.specs.Digits.{are_digits}
 use Rattle.ca_rule.specs.TableLines.{is_name}

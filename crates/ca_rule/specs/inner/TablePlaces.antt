@@ -1,8 +1,6 @@
 -- Where the slots of a transition take their cells.
 use Rattle.std.specs.Prelude.{◌≡◌, ℕ, Bool, true, false, ◌==◌, List, [], ◌∷◌, Option, Some, None, unwrap_or, slice_index, map, zip, if◌then◌else◌}
-use Rattle.ca_rule.specs.declared.table.neighbourhood.Neighbourhood.{Neighbourhood}
-use Rattle.ca_rule.specs.declared.table.neighbourhood.Symmetry.{Symmetry}
-use Rattle.ca_rule.specs.declared.table.slot.Slot.{Slot}
+use Rattle.ca_rule.specs.declared.table.{neighbourhood.Neighbourhood.Neighbourhood, neighbourhood.Symmetry.Symmetry, slot.Slot.Slot}
 use Rattle.ca_rule.specs.TableOrders.{ring, orders}
 use Rattle.ca_rule.specs.TableNext.{States, Transition, SlotCell, admits, fits, result_state}
 

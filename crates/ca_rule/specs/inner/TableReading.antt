@@ -1,9 +1,8 @@
 -- How a rule file is read, a line at a time.
 use Rattle.std.specs.Prelude.{◌≡◌, ℕ, ◌+◌, List, ◌∷◌, ◌++◌, map, filter, true, false, Some}
 use Rattle.std.specs.List.{list_any, enumerate_from}
-use Rattle.ca_plane.specs.Bytes.{lines_of}
-use Rattle.ca_rule.specs.declared.table.said_lines.SaidLine.{SaidLine}
-use Rattle.ca_rule.specs.declared.table.said_lines.SaidLines.{SaidLines}
+use Rattle.ca_plane.specs.Prelude.{lines_of}
+use Rattle.ca_rule.specs.declared.table.said_lines.{SaidLine.SaidLine, SaidLines.SaidLines}
 use Rattle.ca_rule.specs.TableLines.{NumberedLine, content_of, says_something, lines_said, rule_name, begins_table}
 
 -- the lines of these bytes that say something, where the first of all has the number n

@@ -1,7 +1,6 @@
 -- What the statements of a rule table have said, as it is kept.
 use Rattle.std.specs.Prelude.{◌≡◌, ℕ, List, [], ◌∷◌, ◌++◌}
-use Rattle.ca_rule.specs.declared.table.slot.Slot.{Slot}
-use Rattle.ca_rule.specs.declared.table.statements.Statements.{Statements}
+use Rattle.ca_rule.specs.declared.table.{slot.Slot.Slot, statements.Statements.Statements}
 use Rattle.ca_rule.specs.TableText.{Settings, SaidStatements, states_said, number_of, states_among}
 use Rattle.ca_rule.specs.inner.TableNames.{number_in}
 

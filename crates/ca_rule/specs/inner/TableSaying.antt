@@ -1,10 +1,8 @@
 -- How the statements of a rule table are read, one after another.
 use Rattle.std.specs.Prelude.{◌≡◌, ℕ, List, ◌++◌, true, ◌⊎◌}
-use Rattle.ca_rule.specs.declared.table.fault.TableFault.{TableFault}
+use Rattle.ca_rule.specs.declared.table.{fault.TableFault.TableFault, statement_fault.StatementFault.StatementFault, statements.Statements.Statements}
 use Rattle.ca_rule.specs.declared.table.fault.TableFault.TheVariants as table_fault
-use Rattle.ca_rule.specs.declared.table.statement_fault.StatementFault.{StatementFault}
 use Rattle.ca_rule.specs.declared.table.statement_fault.StatementFault.TheVariants.{Syntax, State, Name, Unbound, Memory}
-use Rattle.ca_rule.specs.declared.table.statements.Statements.{Statements}
 use Rattle.ca_rule.specs.TableLines.{NumberedLine}
 use Rattle.ca_rule.specs.TableText.{Settings, SaidStatements, no_statements, SaysVariable, SaysTransition, LinesSay, is_end_of_section}
 use Rattle.ca_rule.specs.TableFaults.{IsMisspelled, HasBadState, HasUnknownName, HasUnbound, SaysMore}

@@ -2,8 +2,7 @@
 use Rattle.std.specs.Prelude.{◌≡◌, ℕ, List, [], ◌++◌, Bool, true, ◌&&◌, ◌||◌, Option, is_some, option_map, codes}
 use Rattle.std.specs.Option.{option_or}
 use Rattle.std.specs.Borrow.{Bor}
-use Rattle.ca_rule.specs.declared.table.settings.SettingValues.{SettingValues}
-use Rattle.ca_rule.specs.declared.table.settings.TableSettings.{TableSettings}
+use Rattle.ca_rule.specs.declared.table.settings.{SettingValues.SettingValues, TableSettings.TableSettings}
 use Rattle.ca_rule.specs.TableLines.{NumberedLine, setting, value_of}
 use Rattle.ca_rule.specs.TableText.{Settings, SettingsMean, are_settings}
 

@@ -1,7 +1,6 @@
 -- The slots of a transition while its fields are read.
 use Rattle.std.specs.Prelude.{List, take}
-use Rattle.ca_rule.specs.declared.table.slot.Slot.{Slot}
-use Rattle.ca_rule.specs.declared.table.transition_slots.TransitionSlots.{TransitionSlots}
+use Rattle.ca_rule.specs.declared.table.{slot.Slot.Slot, transition_slots.TransitionSlots.TransitionSlots}
 
 -- the slots that have been read
 abbrev pub slots_of : TransitionSlots → List Slot

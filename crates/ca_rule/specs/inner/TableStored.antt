@@ -1,11 +1,8 @@
 -- A rule table as its fields keep it.
 use Rattle.std.specs.Prelude.{◌≡◌, ℕ, List, Bool, true, nat_lt, replicate}
-use Rattle.ca_rule.specs.declared.table.neighbourhood.Neighbourhood.{Neighbourhood}
-use Rattle.ca_rule.specs.declared.table.neighbourhood.Symmetry.{Symmetry}
-use Rattle.ca_rule.specs.declared.table.slot.Slot.{Slot}
+use Rattle.ca_rule.specs.declared.table.{neighbourhood.Neighbourhood.Neighbourhood, neighbourhood.Symmetry.Symmetry, slot.Slot.Slot, parts_fault.PartsFault.PartsFault}
 use Rattle.ca_rule.specs.declared.table.slot.Slot.TheVariants.{Number, Variable}
-use Rattle.ca_plane.specs.Bytes.{IsWord}
-use Rattle.ca_rule.specs.declared.table.parts_fault.PartsFault.{PartsFault}
+use Rattle.ca_plane.specs.Prelude.{IsWord}
 use Rattle.ca_rule.specs.declared.table.parts_fault.PartsFault.TheVariants.{Wakes, Memory}
 use Rattle.ca_rule.specs.TableNext.{States, Transition, TableRule, table_next, IsSoundTable}
 use Rattle.ca_rule.specs.TableFaults.{DoesWake}

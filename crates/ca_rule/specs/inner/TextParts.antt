@@ -1,6 +1,6 @@
 -- A rule text read from its ends inwards: each part is determined, so this is what a text spells if it spells a rule (our own).
 use Rattle.std.specs.Prelude.{ℕ, ◌+◌, List, [], ◌∷◌, Bool, ◌==◌, ◌||◌, Option, Some, None, if◌then◌else◌}
-use Rattle.ca_plane.specs.Bytes.{is_digit, front, rest}
+use Rattle.ca_plane.specs.Prelude.{is_digit, front, rest}
 use Rattle.ca_rule.specs.declared.hood.Hood.{Hood}
 use Rattle.ca_rule.specs.declared.hood.Hood.TheVariants.{Moore, VonNeumann, Hex}
 

@@ -1,7 +1,6 @@
 //! The places that the slots of a transition take, slot by slot.
 
-ghost use Rattle.std.specs.Prelude.{◌≡◌, ◌==◌, ◌<◌, ◌≤◌, ◌+◌, [], ◌∷◌, ◌++◌, length, take, get_or};
-ghost use Rattle.std.specs.Prelude.{slice_index, remove};
+ghost use Rattle.std.specs.Prelude.{◌≡◌, ◌==◌, ◌<◌, ◌≤◌, ◌+◌, [], ◌∷◌, ◌++◌, length, take, get_or, slice_index, remove};
 ghost use Rattle.std.specs.List.{list_any};
 ghost use Rattle.ca_rule.specs.TableOrders.{ring};
 

@@ -2,7 +2,7 @@
 
 ghost use Rattle.std.specs.Prelude.{◌≡◌, false, IfSome, IfOk, IfErr, MatchOption};
 ghost use Rattle.std.specs.List.{list_any};
-ghost use Rattle.ca_plane.specs.Bytes.{IsWord};
+ghost use Rattle.ca_plane.specs.Prelude.{IsWord};
 ghost use Rattle.ca_rule.specs.TableLines.{lines_said, begins_table};
 ghost use Rattle.ca_rule.specs.TableText.{HasTable};
 ghost use Rattle.ca_rule.specs.TableFaults.{IsTableTextFault};

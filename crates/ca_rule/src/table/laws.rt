@@ -3,29 +3,22 @@
 
 ghost use Rattle.std.specs.Prelude.{◌≡◌, [], ◌∷◌, ◌++◌, true, false, Some, codes};
 ghost use Rattle.ca_rule.specs.TableOrders.{orders};
-ghost use Rattle.ca_rule.specs.TableLines.{lines_said, setting, is_setting, begins_variable, is_name};
-ghost use Rattle.ca_rule.specs.TableLines.{fields_of, IsVariableLine};
+ghost use Rattle.ca_rule.specs.TableLines.{lines_said, setting, is_setting, begins_variable, is_name, fields_of, IsVariableLine};
 ghost use Rattle.ca_rule.specs.TableText.{IsTable};
 ghost use Rattle.ca_rule.specs.TableFaults.{IsTableTextFault};
-ghost use Rattle.ca_rule.specs.declared.table.fault.TableFault.TheVariants.{NoRuleLine, NoTable, States};
-ghost use Rattle.ca_rule.specs.declared.table.fault.TableFault.TheVariants.{Neighborhood, Symmetries};
+ghost use Rattle.ca_rule.specs.declared.table.fault.TableFault.TheVariants.{NoRuleLine, NoTable, States, Neighborhood};
+ghost use Rattle.ca_rule.specs.declared.table.fault.TableFault.TheVariants.{Symmetries};
 ghost use Rattle.ca_rule.specs.TableNext.{TableRule};
-ghost use Rattle.ca_plane.specs.Bytes.{text_of};
-ghost use Rattle.ca_rule.specs.TableExamples.{file_with, file_of, digits, digit_lists, table_cells};
-ghost use Rattle.ca_rule.specs.TableExamples.{HasOrders, unturned_cells};
-ghost use Rattle.ca_rule.specs.TableExamples.{cells_by_one, cells_by_two, cells_south};
-ghost use Rattle.ca_rule.specs.TableExamples.{one_neighbour, like_neighbours, north_of_one};
-ghost use Rattle.ca_rule.specs.TableExamples.{second_of_eight, second_of_six, second_of_two};
-ghost use Rattle.ca_rule.specs.declared.table.neighbourhood.Neighbourhood.TheVariants.{VonNeumann, Moore};
-ghost use Rattle.ca_rule.specs.declared.table.neighbourhood.Neighbourhood.TheVariants.{Hexagonal};
+ghost use Rattle.ca_plane.specs.Prelude.{text_of};
+ghost use Rattle.ca_rule.specs.TableExamples.{file_with, file_of, digits, digit_lists, table_cells, HasOrders, unturned_cells};
+ghost use Rattle.ca_rule.specs.TableExamples.{cells_by_one, cells_by_two, cells_south, one_neighbour, like_neighbours};
+ghost use Rattle.ca_rule.specs.TableExamples.{north_of_one, second_of_eight, second_of_six, second_of_two};
+ghost use Rattle.ca_rule.specs.declared.table.neighbourhood.Neighbourhood.TheVariants.{VonNeumann, Moore, Hexagonal};
 ghost use Rattle.ca_rule.specs.declared.table.neighbourhood.Neighbourhood.TheVariants.{OneDimensional};
-ghost use Rattle.ca_rule.specs.declared.table.neighbourhood.Symmetry.TheVariants.{Identity, Rotate4};
-ghost use Rattle.ca_rule.specs.declared.table.neighbourhood.Symmetry.TheVariants.{Rotate4Reflect};
-ghost use Rattle.ca_rule.specs.declared.table.neighbourhood.Symmetry.TheVariants.{ReflectHorizontal, Rotate8};
-ghost use Rattle.ca_rule.specs.declared.table.neighbourhood.Symmetry.TheVariants.{Rotate8Reflect, Rotate2};
-ghost use Rattle.ca_rule.specs.declared.table.neighbourhood.Symmetry.TheVariants.{Rotate3, Rotate6};
-ghost use Rattle.ca_rule.specs.declared.table.neighbourhood.Symmetry.TheVariants.{Rotate6Reflect, Reflect};
-ghost use Rattle.ca_rule.specs.declared.table.neighbourhood.Symmetry.TheVariants.{Permute};
+ghost use Rattle.ca_rule.specs.declared.table.neighbourhood.Symmetry.TheVariants.{Identity, Rotate4, Rotate4Reflect};
+ghost use Rattle.ca_rule.specs.declared.table.neighbourhood.Symmetry.TheVariants.{ReflectHorizontal, Rotate8, Rotate8Reflect};
+ghost use Rattle.ca_rule.specs.declared.table.neighbourhood.Symmetry.TheVariants.{Rotate2, Rotate3, Rotate6, Rotate6Reflect};
+ghost use Rattle.ca_rule.specs.declared.table.neighbourhood.Symmetry.TheVariants.{Reflect, Permute};
 
 /// The orders of each symmetry.
 pub fn worked_orders()

@@ -2,7 +2,7 @@
 
 ghost use Rattle.std.specs.Prelude.{◌≡◌, ◌==◌, ℕ, not, None, Some, IfSome, MatchOption};
 ghost use Rattle.std.specs.List.{list_all, prefix_len};
-ghost use Rattle.ca_plane.specs.Bytes.{Every, IsWord, is_blank, is_line_end};
+ghost use Rattle.ca_plane.specs.Prelude.{Every, IsWord, is_blank, is_line_end};
 ghost use Rattle.ca_rule.specs.TableLines.{content_of, rule_name, begins_section, begins_table, tail_after};
 ghost use Rattle.ca_rule.specs.TableLines.{setting, begins_variable, is_name_byte, is_name};
 

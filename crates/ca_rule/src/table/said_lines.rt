@@ -1,7 +1,7 @@
 //! The lines of a rule file, one after another.
 
 ghost use Rattle.std.specs.Prelude.{◌≡◌, ◌+◌, ◌<◌, ◌^◌, ◌∷◌, [], length, not, MatchOption, IfSome};
-ghost use Rattle.ca_plane.specs.Bytes.{Every, is_line_end};
+ghost use Rattle.ca_plane.specs.Prelude.{Every, is_line_end};
 ghost use Rattle.ca_rule.specs.TableLines.{lines_said, last_line};
 ghost use Rattle.ca_rule.specs.TableFaults.{number_at};
 

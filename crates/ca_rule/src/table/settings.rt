@@ -4,9 +4,7 @@ ghost use Rattle.std.specs.Prelude.{◌≡◌, ◌&&◌, ℕ, [], List, true, is
 ghost use Rattle.ca_rule.specs.inner.TableReading.{said_text, left_of};
 ghost use Rattle.ca_rule.specs.inner.TableSettings.{IsBehindSettings, IsBehindMeant, meaning_of};
 ghost use Rattle.ca_rule.specs.Digits.{state_count};
-ghost use Rattle.ca_rule.specs.TableLines.{NumberedLine, neighbourhood_name};
-ghost use Rattle.ca_rule.specs.TableLines.{neighbourhood_named, symmetry_name};
-ghost use Rattle.ca_rule.specs.TableLines.{symmetry_named};
+ghost use Rattle.ca_rule.specs.TableLines.{NumberedLine, neighbourhood_name, neighbourhood_named, symmetry_name, symmetry_named};
 ghost use Rattle.ca_rule.specs.TableOrders.{symmetries_of};
 ghost use Rattle.ca_rule.specs.TableText.{HasTable, SettingsMean, are_settings};
 ghost use Rattle.ca_rule.specs.TableFaults.{follows_settings, HaveEnd, IsTableTextFault};
@@ -35,8 +33,8 @@ pub(crate) struct TableSettings {
 }
 
 impl<'a> SettingValues<'a> {
-    ghost use Rattle.ca_rule.specs.inner.TableSettings.{bytes_of, meaning_of, AreValuesOf, AreGivenBy};
-    ghost use Rattle.ca_rule.specs.inner.TableSettings.{has_some, have_one, joined_settings};
+    ghost use Rattle.ca_rule.specs.inner.TableSettings.{bytes_of, meaning_of, AreValuesOf, AreGivenBy, has_some, have_one};
+    ghost use Rattle.ca_rule.specs.inner.TableSettings.{joined_settings};
 
     /// Before the first line.
     fn none() -> SettingValues<'a>

@@ -1,13 +1,11 @@
 //! Transitions of rule tables.
 
-ghost use Rattle.std.specs.Prelude.{◌≡◌, ◌<◌, ◌==◌, ◌||◌, ◌%◌, ℕ, [], ◌∷◌, true};
-ghost use Rattle.std.specs.Prelude.{false, not, length, map, zip, slice_index};
+ghost use Rattle.std.specs.Prelude.{◌≡◌, ◌<◌, ◌==◌, ◌||◌, ◌%◌, ℕ, [], ◌∷◌, true, false, not, length, map, zip, slice_index};
 ghost use Rattle.std.specs.Prelude.{IfSome, MatchOption};
 ghost use Rattle.std.specs.Int.{bit_at};
 ghost use Rattle.std.specs.List.{list_all, list_any};
 ghost use Rattle.ca_rule.specs.inner.TableDistinct.{are_distinct};
-ghost use Rattle.ca_rule.specs.TableNext.{SlotCell, is_variable, admits};
-ghost use Rattle.ca_rule.specs.TableNext.{take_one_cell, taken_cell, fits, result_state};
+ghost use Rattle.ca_rule.specs.TableNext.{SlotCell, is_variable, admits, take_one_cell, taken_cell, fits, result_state};
 
 use crate::table::choice::{Choice, cell_at};
 use crate::table::crowd::has_crowd;
@@ -36,8 +34,7 @@ impl Transition {
     ghost use Rattle.std.specs.Prelude.{◌≡◌, map, length, drop, true, None};
     ghost use Rattle.ca_rule.specs.TableNext.{fits};
     ghost use Rattle.std.specs.List.{list_all};
-    ghost use Rattle.ca_rule.specs.inner.TablePlaces.{begins_at_centre, slots_admit, admits_centre, taken_at};
-    ghost use Rattle.ca_rule.specs.inner.TablePlaces.{outcome_at};
+    ghost use Rattle.ca_rule.specs.inner.TablePlaces.{begins_at_centre, slots_admit, admits_centre, taken_at, outcome_at};
     ghost use Rattle.ca_rule.specs.inner.TableSearch.{least_outcome, placements_of};
     ghost use Rattle.ca_rule.specs.inner.TableChoice.{taken_of, free_of};
 

@@ -1,7 +1,6 @@
 //! Indices of transitions: bits that tell at once which of many transitions can't fit.
 
-ghost use Rattle.std.specs.Prelude.{◌≡◌, ◌<◌, ◌≤◌, ◌*◌, ◌%◌, ◌^◌, ℕ, List, length, false, cond, IfOk, map, zip};
-ghost use Rattle.std.specs.Prelude.{slice_index};
+ghost use Rattle.std.specs.Prelude.{◌≡◌, ◌<◌, ◌≤◌, ◌*◌, ◌%◌, ◌^◌, ℕ, List, length, false, cond, IfOk, map, zip, slice_index};
 ghost use Rattle.std.specs.List.{list_all};
 ghost use Rattle.std.specs.Int.{bit_at};
 ghost use Rattle.ca_rule.specs.TableNext.{States, SlotCell, Transition as TransitionValue, admits};
@@ -32,15 +31,13 @@ impl Model for TransitionIndex {
 }
 
 impl TransitionIndex {
-    ghost use Rattle.std.specs.Prelude.{◌≡◌, ◌<◌, ℕ, List, length, true, false, drop, map, zip, slice_index};
-    ghost use Rattle.std.specs.Prelude.{IfOk};
+    ghost use Rattle.std.specs.Prelude.{◌≡◌, ◌<◌, ℕ, List, length, true, false, drop, map, zip, slice_index, IfOk};
     ghost use Rattle.std.specs.List.{list_all};
     ghost use Rattle.std.specs.Int.{bit_at};
     ghost use Rattle.ca_rule.specs.TableNext.{States, SlotCell, Transition as TransitionValue, admits};
     ghost use Rattle.ca_rule.specs.inner.TablePlaces.{begins_at_centre};
     ghost use Rattle.ca_rule.specs.inner.TableSearch.{placements_of};
-    ghost use Rattle.ca_rule.specs.inner.TransitionIndices.{inputs_at, takable, IsIndex, HasIdle, FitNowhere};
-    ghost use Rattle.ca_rule.specs.inner.TransitionIndices.{PassesOver};
+    ghost use Rattle.ca_rule.specs.inner.TransitionIndices.{inputs_at, takable, IsIndex, HasIdle, FitNowhere, PassesOver};
 
     /// The index of the first 64 of the transitions of a table with this many states.
     ///

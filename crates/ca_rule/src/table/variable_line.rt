@@ -2,7 +2,7 @@
 
 ghost use Rattle.std.specs.Prelude.{◌≡◌, ◌≢◌, ℕ, List, ◌++◌, codes, None, Some, MatchOption};
 ghost use Rattle.std.specs.List.{prefix_len};
-ghost use Rattle.ca_plane.specs.Bytes.{front, rest};
+ghost use Rattle.ca_plane.specs.Prelude.{front, rest};
 ghost use Rattle.ca_rule.specs.TableLines.{is_name_byte, fields_between, IsVariableLine};
 ghost use Rattle.ca_rule.specs.inner.TableFields.{after_brace, IsBraced};
 

@@ -1,14 +1,12 @@
 -- Centres that are worked out on words (our own).
 use Rattle.std.specs.Prelude.{◌≡◌, ℕ, suc, ◌≤◌, ◌^◌, ℤ, ◌+ℤ◌, List}
-use Rattle.ca_plane.specs.Generations.{cells_after}
+use Rattle.ca_plane.specs.Prelude.{cells_after}
 use Rattle.ca_quad.specs.declared.node.Node.{Node}
-use Rattle.ca_quad.specs.Squares.{IsOf}
+use Rattle.ca_quad.specs.Prelude.{IsOf}
 use Rattle.ca_run.specs.declared.leaper.lanes.CentreWords.{CentreWords}
 use Rattle.ca_run.specs.declared.leaper.lanes.CentreWords.TheVariants.{One, Four}
 use Rattle.ca_run.specs.inner.Shown.{ShowsAt}
-use Rattle.ca_bricks.specs.Overlaps.{side}
-use Rattle.ca_bricks.specs.WordSquares.{WordSquareShows}
-use Rattle.ca_bricks.specs.Words.{WordShows}
+use Rattle.ca_bricks.specs.Prelude.{side, WordSquareShows, WordShows}
 
 -- a square of level k + 2, whose centre after 2 ^ j generations is known from its own cells
 pub record HasCentre (nodes : List Node) (id k j : ℕ) : Type 0 where

@@ -1,17 +1,14 @@
 -- What a run over generations has reached by steps (our own).
 use Rattle.std.specs.Prelude.{◌≡◌, ℕ, ◌+◌, ◌*◌, ◌<◌, ◌≤◌, ◌^◌, min, max, ℤ, List, length, Result, IfOk}
-use Rattle.ca_plane.specs.Ageing.{GoesByAgeing}
-use Rattle.ca_plane.specs.Generations.{cells_after}
+use Rattle.ca_plane.specs.Prelude.{GoesByAgeing, cells_after}
 use Rattle.ca_plane.specs.declared.counting.Ageing.{Ageing}
-use Rattle.ca_quad.specs.declared.node.Node.{Node}
-use Rattle.ca_quad.specs.Trees.{IsTree, cell, HoldsAll}
-use Rattle.ca_quad.specs.declared.tree.Tree.{Tree}
+use Rattle.ca_quad.specs.declared.{node.Node.Node, tree.Tree.Tree}
+use Rattle.ca_quad.specs.Prelude.{IsTree, cell, HoldsAll}
 use Rattle.ca_work.specs.declared.fault.LeapFault.{LeapFault}
 use Rattle.ca_run.specs.Leaping.{Costs, LeaperView}
-use Rattle.ca_bricks.specs.CellRules.{GoesByCells}
-use Rattle.ca_run.specs.declared.leaper.dense.DenseRule.{DenseRule}
+use Rattle.ca_bricks.specs.Prelude.{GoesByCells}
+use Rattle.ca_run.specs.declared.leaper.dense.{DenseRule.DenseRule, ReachedTree.ReachedTree}
 use Rattle.ca_run.specs.declared.leaper.dense.DenseRule.TheVariants.{ByCells, ByAgeing}
-use Rattle.ca_run.specs.declared.leaper.dense.ReachedTree.{ReachedTree}
 
 -- the rule's cells age so, and have two states at least
 pub record AgesBy (next : List ℕ → ℕ) (ageing : Ageing) : Type 0 where

@@ -1,14 +1,11 @@
 -- Where the bricks of a box lie on the plane (our own). Each side is cut into pieces of 64 cells, which are counted from -2^62 on: a piece of
 -- 64 by 64 cells has four rows of one brick.
 use Rattle.std.specs.Prelude.{◌≡◌, ℕ, suc, ◌+◌, ◌*◌, ◌^◌, ◌≤◌, ◌⊎◌, ℤ, pos, neg_ℤ, ◌+ℤ◌, ◌-ℤ◌, ◌<ℤ◌, ◌≤ℤ◌, List, length}
-use Rattle.ca_quad.specs.declared.node.Node.{Node}
-use Rattle.ca_quad.specs.declared.tree.Tree.{Tree}
-use Rattle.ca_quad.specs.declared.tree.WideBounds.{WideBounds}
-use Rattle.ca_quad.specs.Trees.{IsTree}
-use Rattle.ca_run.specs.declared.bricks.frame.Span.{Span}
-use Rattle.ca_run.specs.declared.bricks.frame.Frame.{Frame}
+use Rattle.ca_quad.specs.declared.{node.Node.Node, tree.Tree.Tree, tree.WideBounds.WideBounds}
+use Rattle.ca_quad.specs.Prelude.{IsTree}
+use Rattle.ca_run.specs.declared.bricks.frame.{Span.Span, Frame.Frame}
 use Rattle.ca_bricks.specs.declared.grid.BrickGrid.{BrickGrid}
-use Rattle.ca_bricks.specs.Bricks.{HasMargin}
+use Rattle.ca_bricks.specs.Prelude.{HasMargin}
 
 -- where a piece begins, and so a column of bricks
 abbrev pub piece_start : ℕ → ℤ

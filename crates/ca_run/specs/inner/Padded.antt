@@ -1,8 +1,7 @@
 -- Trees that are made wider (our own).
 use Rattle.std.specs.Prelude.{◌≡◌, ℕ, ℤ, List}
-use Rattle.ca_quad.specs.declared.node.Node.{Node}
-use Rattle.ca_quad.specs.declared.tree.Tree.{Tree}
-use Rattle.ca_quad.specs.Trees.{IsTree, cell}
+use Rattle.ca_quad.specs.declared.{node.Node.Node, tree.Tree.Tree}
+use Rattle.ca_quad.specs.Prelude.{IsTree, cell}
 
 -- the wide tree has this level, and shows the same cells as the narrow one
 pub record IsPadded (old : List Node) (narrow : Tree) (level : ℕ) (new : List Node)

@@ -1,11 +1,10 @@
 -- Squares that show a plane from some place on (our own).
 use Rattle.std.specs.Prelude.{ℕ, ◌≤◌, ◌^◌, ℤ, List, [], ◌∷◌, Option, Some, None}
-use Rattle.ca_plane.specs.Shown.{ShowsPlane}
+use Rattle.ca_plane.specs.Prelude.{ShowsPlane}
 use Rattle.ca_quad.specs.declared.node.Node.{Node}
-use Rattle.ca_quad.specs.Squares.{IsOf, cell_of}
-use Rattle.ca_bricks.specs.declared.trio.Trio.{Trio}
-use Rattle.ca_bricks.specs.declared.trio.Rows.{Rows}
-use Rattle.ca_bricks.specs.Overlaps.{side, QuartersShow, PairShows, TrioShows, RowsShow}
+use Rattle.ca_quad.specs.Prelude.{IsOf, cell_of}
+use Rattle.ca_bricks.specs.declared.trio.{Trio.Trio, Rows.Rows}
+use Rattle.ca_bricks.specs.Prelude.{side, QuartersShow, PairShows, TrioShows, RowsShow}
 
 -- the id names a square of this level, which shows the plane from (a, b) on
 pub record ShowsAt (nodes : List Node) (id level : ℕ) (p : ℤ → ℤ → ℕ) (a b : ℤ) : Type 0 where

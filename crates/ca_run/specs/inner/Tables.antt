@@ -2,15 +2,13 @@
 use Rattle.std.specs.Prelude.{ℕ, zero, suc, ◌+◌, ◌*◌, ◌≤◌, List, [], ◌∷◌, ◌++◌, length, Option, Some, None, IfSome}
 use Rattle.std.specs.List.{filter_map}
 use Rattle.ca_quad.specs.declared.node.Node.{Node}
-use Rattle.ca_quad.specs.Sound.{IsSoundStore}
-use Rattle.ca_memo.specs.declared.key.Key.{Key}
+use Rattle.ca_quad.specs.Prelude.{IsSoundStore}
+use Rattle.ca_memo.specs.declared.{key.Key.Key, page.Page.Page}
 use Rattle.ca_memo.specs.declared.key.Key.TheVariants.{Page as OfPage, Single}
-use Rattle.ca_memo.specs.declared.page.Page.{Page}
-use Rattle.ca_bricks.specs.CellRules.{GoesByCells}
+use Rattle.ca_bricks.specs.Prelude.{GoesByCells}
 use Rattle.ca_bricks.specs.declared.cell_rule.CellRule.{CellRule}
 use Rattle.ca_run.specs.Memo.{LeapResult, FullLeap, Centre, LeapOfFour, Remembers}
-use Rattle.ca_memo.specs.Pages.{MemoView, IsBoundedMemo}
-use Rattle.ca_memo.specs.SlotResults.{SlotsView}
+use Rattle.ca_memo.specs.Prelude.{MemoView, IsBoundedMemo, SlotsView}
 
 -- the results in so many slots, of squares from one on
 abbrev pub slot_results : ℕ → ℕ → List (Option ℕ) → List LeapResult

@@ -1,11 +1,10 @@
 //! Generations of a grid of cells that age.
 
 ghost use Rattle.std.specs.Prelude.{◌≡◌, ◌+◌, ◌*◌, ◌≤◌, length, IfOk};
-ghost use Rattle.ca_plane.specs.Generations.{cells_after};
-ghost use Rattle.ca_plane.specs.Limits.{most_generations};
-ghost use Rattle.ca_bricks.specs.Aged.{AgedGridShows, CanAgeFor, IsBeside};
-ghost use Rattle.ca_quad.specs.Trees.{cell};
-ghost use Rattle.ca_work.specs.Spending.{Spends, EndsAtLimit};
+ghost use Rattle.ca_plane.specs.Prelude.{cells_after, most_generations};
+ghost use Rattle.ca_bricks.specs.Prelude.{AgedGridShows, CanAgeFor, IsBeside};
+ghost use Rattle.ca_quad.specs.Prelude.{cell};
+ghost use Rattle.ca_work.specs.Prelude.{Spends, EndsAtLimit};
 
 use super::run::count_steps;
 use crate::leaper::{Leaper, Milestone};

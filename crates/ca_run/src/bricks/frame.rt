@@ -1,7 +1,7 @@
 //! Where the bricks of a box lie on the plane.
 
 ghost use Rattle.std.specs.Prelude.{◌≡◌, ◌+◌, ◌≤◌, ◌^◌, pos, ◌-ℤ◌, false, IfSome};
-ghost use Rattle.ca_plane.specs.Limits.{most_generations};
+ghost use Rattle.ca_plane.specs.Prelude.{most_generations};
 ghost use Rattle.ca_run.specs.inner.Frames.{IsSpan, IsGridFrame, IsNearBox, Spans, piece_start};
 
 use ca_quad::WideBounds;

@@ -1,11 +1,10 @@
 //! Generations of a grid.
 
 ghost use Rattle.std.specs.Prelude.{◌≡◌, ◌+◌, ◌*◌, ◌<◌, ◌≤◌, ◌^◌, length, min, IfOk, OnOk};
-ghost use Rattle.ca_plane.specs.Generations.{cells_after};
-ghost use Rattle.ca_plane.specs.Limits.{most_generations};
-ghost use Rattle.ca_bricks.specs.Bricks.{GridShows, CanStepFor, IsInPlace};
-ghost use Rattle.ca_quad.specs.Trees.{cell};
-ghost use Rattle.ca_work.specs.Spending.{Spends, EndsAtLimit};
+ghost use Rattle.ca_plane.specs.Prelude.{cells_after, most_generations};
+ghost use Rattle.ca_bricks.specs.Prelude.{GridShows, CanStepFor, IsInPlace};
+ghost use Rattle.ca_quad.specs.Prelude.{cell};
+ghost use Rattle.ca_work.specs.Prelude.{Spends, EndsAtLimit};
 
 use crate::leaper::{Leaper, Milestone};
 use crate::watch::Watch;

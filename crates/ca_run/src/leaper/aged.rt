@@ -1,13 +1,11 @@
 //! Planes of cells that age, which are stepped brick by brick.
 
 ghost use Rattle.std.specs.Prelude.{◌≡◌, ◌+◌, ◌*◌, ◌<◌, ◌≤◌, ◌^◌, length, Ok, None, IfOk, IfSome};
-ghost use Rattle.ca_plane.specs.Generations.{cells_after};
-ghost use Rattle.ca_plane.specs.Limits.{most_generations};
-ghost use Rattle.ca_quad.specs.Trees.{IsTree, cell};
-ghost use Rattle.ca_work.specs.Spending.{EndsAtLimit};
+ghost use Rattle.ca_plane.specs.Prelude.{cells_after, most_generations};
+ghost use Rattle.ca_quad.specs.Prelude.{IsTree, cell};
+ghost use Rattle.ca_work.specs.Prelude.{EndsAtLimit};
 ghost use Rattle.ca_run.specs.inner.AtCost.{GoesOnAtCost};
-ghost use Rattle.ca_bricks.specs.Aged.{AgedGridShows, IsBeside};
-ghost use Rattle.ca_bricks.specs.Bricks.{LiesNearOrigin, IsAligned};
+ghost use Rattle.ca_bricks.specs.Prelude.{AgedGridShows, IsBeside, LiesNearOrigin, IsAligned};
 ghost use Rattle.ca_run.specs.inner.Dense.{HasReached, AgesBy};
 
 use super::Leaper;

@@ -2,10 +2,9 @@
 
 ghost use Rattle.std.specs.Prelude.{◌≡◌, ℕ, suc, ◌<◌, ℤ, pos, ◌+ℤ◌, IfSome, if◌then◌else◌};
 ghost use Rattle.std.specs.Int.{bit_at};
-ghost use Rattle.ca_quad.specs.Squares.{IsOf};
+ghost use Rattle.ca_quad.specs.Prelude.{IsOf};
 ghost use Rattle.ca_run.specs.inner.Shown.{ShowsAt};
-ghost use Rattle.ca_bricks.specs.Overlaps.{side};
-ghost use Rattle.ca_bricks.specs.Words.{WordShows};
+ghost use Rattle.ca_bricks.specs.Prelude.{side, WordShows};
 ghost use Rattle.ca_run.specs.inner.AgedPlanes.{aged_bit};
 
 use super::Leaper;

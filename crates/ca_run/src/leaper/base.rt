@@ -1,8 +1,7 @@
 //! Four squares of 2 by 2 cells, and squares of 4 by 4.
 
 ghost use Rattle.std.specs.Prelude.{◌≡◌, IfOk};
-ghost use Rattle.ca_quad.specs.Squares.{IsOf, cell_of, joined_cells};
-ghost use Rattle.ca_quad.specs.Trees.{AreFour};
+ghost use Rattle.ca_quad.specs.Prelude.{IsOf, cell_of, joined_cells, AreFour};
 ghost use Rattle.ca_run.specs.Centre.{IsCentre, IsLeap};
 ghost use Rattle.ca_run.specs.inner.AtCost.{GoesOnAtCost};
 ghost use Rattle.ca_run.specs.inner.Shown.{sixteen};

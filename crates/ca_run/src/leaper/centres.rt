@@ -1,16 +1,15 @@
 //! The centres of squares after 2^j generations.
 
 ghost use Rattle.std.specs.Prelude.{◌≡◌, ℕ, suc, ◌≤◌, ◌^◌, ℤ, ◌+ℤ◌, List, Option, IfOk, IfSome, ◌*◌, ◌-◌};
-ghost use Rattle.ca_plane.specs.Generations.{cells_after};
-ghost use Rattle.ca_quad.specs.Squares.{IsOf};
-ghost use Rattle.ca_quad.specs.Trees.{AreFour};
+ghost use Rattle.ca_plane.specs.Prelude.{cells_after};
+ghost use Rattle.ca_quad.specs.Prelude.{IsOf, AreFour};
 ghost use Rattle.ca_run.specs.Centre.{IsCentre, IsLeap};
-ghost use Rattle.ca_work.specs.Spending.{EndsAtLimit};
+ghost use Rattle.ca_work.specs.Prelude.{EndsAtLimit};
 ghost use Rattle.ca_run.specs.inner.AtCost.{GoesOnAtCost};
 ghost use Rattle.ca_run.specs.inner.Centres.{HasCentre};
 ghost use Rattle.ca_run.specs.inner.Shown.{ShowsAt, FourShow, TwoShow, ThreeShow, NineShow, AreThree};
 ghost use Rattle.ca_run.specs.inner.Shown.{AreNine, generations, IsTimely};
-ghost use Rattle.ca_bricks.specs.Overlaps.{side};
+ghost use Rattle.ca_bricks.specs.Prelude.{side};
 
 use super::Leaper;
 use crate::watch::Watch;

@@ -1,14 +1,12 @@
 //! Planes that are stepped brick by brick: those of squares that hardly repeat.
 
 ghost use Rattle.std.specs.Prelude.{◌≡◌, ◌+◌, ◌*◌, ◌<◌, ◌≤◌, ◌^◌, ◌⊎◌, length, Ok, None, IfOk, IsOk, IfSome};
-ghost use Rattle.ca_plane.specs.Generations.{cells_after};
-ghost use Rattle.ca_plane.specs.Limits.{most_generations};
-ghost use Rattle.ca_quad.specs.Trees.{IsTree, cell};
+ghost use Rattle.ca_plane.specs.Prelude.{cells_after, most_generations};
+ghost use Rattle.ca_quad.specs.Prelude.{IsTree, cell};
 ghost use Rattle.ca_run.specs.Leaping.{LeaperGrows};
-ghost use Rattle.ca_work.specs.Spending.{EndsAtLimit};
+ghost use Rattle.ca_work.specs.Prelude.{EndsAtLimit};
 ghost use Rattle.ca_run.specs.inner.AtCost.{GoesOnAtCost};
-ghost use Rattle.ca_bricks.specs.CellRules.{GoesByCells};
-ghost use Rattle.ca_bricks.specs.Bricks.{GridShows, IsInPlace, LiesNearOrigin, IsAligned};
+ghost use Rattle.ca_bricks.specs.Prelude.{GoesByCells, GridShows, IsInPlace, LiesNearOrigin, IsAligned};
 ghost use Rattle.ca_run.specs.inner.Dense.{HasReached, IsIdle, IsDense, GoesDensely};
 ghost use Rattle.ca_run.specs.inner.Frames.{IsReadByBricks, IsGridFrame, IsFramed};
 

@@ -1,11 +1,10 @@
 //! Squares of several states made of grids of cells that age.
 
 ghost use Rattle.std.specs.Prelude.{◌≡◌, true, ℕ, ◌+◌, ◌-◌, ◌*◌, ◌<◌, ◌≤◌, ◌%◌, ℤ, ◌+ℤ◌, IfOk};
-ghost use Rattle.ca_quad.specs.Squares.{IsOf};
+ghost use Rattle.ca_quad.specs.Prelude.{IsOf};
 ghost use Rattle.ca_run.specs.inner.AtCost.{GoesOnAtCost};
 ghost use Rattle.ca_run.specs.inner.Shown.{ShowsAt};
-ghost use Rattle.ca_bricks.specs.States.{StatesShow};
-ghost use Rattle.ca_bricks.specs.Aged.{AgedGridShows, IsAgedGrid};
+ghost use Rattle.ca_bricks.specs.Prelude.{StatesShow, AgedGridShows, IsAgedGrid};
 
 use super::Leaper;
 use super::from_grid::SquareGrid;

@@ -1,16 +1,13 @@
 //! Squares and trees made of grids of bricks.
 
-ghost use Rattle.std.specs.Prelude.{◌≡◌, true, ℕ, suc, ◌+◌, ◌-◌, ◌*◌, ◌<◌, ◌≤◌, ◌^◌};
-ghost use Rattle.std.specs.Prelude.{ℤ, pos, neg_ℤ, ◌+ℤ◌, ◌<ℤ◌, ◌≤ℤ◌, IfOk};
-ghost use Rattle.ca_quad.specs.Squares.{IsOf};
-ghost use Rattle.ca_quad.specs.Trees.{IsTree, cell};
-ghost use Rattle.ca_work.specs.Spending.{EndsAtLimit};
+ghost use Rattle.std.specs.Prelude.{◌≡◌, true, ℕ, suc, ◌+◌, ◌-◌, ◌*◌, ◌<◌, ◌≤◌, ◌^◌, ℤ, pos, neg_ℤ, ◌+ℤ◌, ◌<ℤ◌, ◌≤ℤ◌, IfOk};
+ghost use Rattle.ca_quad.specs.Prelude.{IsOf, IsTree, cell};
+ghost use Rattle.ca_work.specs.Prelude.{EndsAtLimit};
 ghost use Rattle.ca_run.specs.inner.AtCost.{GoesOnAtCost};
 ghost use Rattle.ca_run.specs.inner.Shown.{ShowsAt};
 ghost use Rattle.ca_bricks.specs.declared.grid.BrickGrid.{BrickGrid};
-ghost use Rattle.ca_bricks.specs.Aged.{AgedGridShows, IsAgedGrid};
-ghost use Rattle.ca_bricks.specs.Bricks.{IsGrid, GridShows, HasMargin, IsNearGrid, LiesWithin, IsAligned};
-ghost use Rattle.ca_bricks.specs.Words.{eight};
+ghost use Rattle.ca_bricks.specs.Prelude.{AgedGridShows, IsAgedGrid, IsGrid, GridShows, HasMargin, IsNearGrid, LiesWithin};
+ghost use Rattle.ca_bricks.specs.Prelude.{IsAligned, eight};
 
 use super::Leaper;
 use ca_bricks::{AgedGrid, BrickGrid, QuarterPlaces, WordPlace};

@@ -2,15 +2,12 @@
 //! collected from time to time: all squares are dropped but those of the tree and, where the run repeats, of
 //! results in use.
 
-ghost use Rattle.std.specs.Prelude.{◌≡◌, ◌+◌, ◌-◌, ◌*◌, ◌/◌, ◌≤◌, ◌<◌, ◌^◌, true, length, take};
-ghost use Rattle.std.specs.Prelude.{IfOk, OnOk, OnErr};
-ghost use Rattle.ca_quad.specs.Sound.{Grows};
-ghost use Rattle.ca_quad.specs.Trees.{IsTree};
+ghost use Rattle.std.specs.Prelude.{◌≡◌, ◌+◌, ◌-◌, ◌*◌, ◌/◌, ◌≤◌, ◌<◌, ◌^◌, true, length, take, IfOk, OnOk, OnErr};
+ghost use Rattle.ca_quad.specs.Prelude.{Grows, IsTree};
 ghost use Rattle.ca_run.specs.Advanced.{CanAdvance, IsAdvanced};
 ghost use Rattle.ca_run.specs.Leaping.{LeaperGrows};
-ghost use Rattle.ca_work.specs.Spending.{EndsAtLimit};
+ghost use Rattle.ca_work.specs.Prelude.{EndsAtLimit, tries};
 ghost use Rattle.ca_run.specs.inner.OwnStore.{IsCopyOfTree, KeepsOn, IsNearer};
-ghost use Rattle.ca_work.specs.Tries.{tries};
 ghost use Rattle.ca_run.specs.inner.Dense.{HasReached};
 ghost use Rattle.ca_run.specs.inner.InUse.{AreTrueLeaps};
 

@@ -1,8 +1,7 @@
 //! Results that are in use, and how they are kept where a run goes over to another store.
 
 ghost use Rattle.std.specs.Prelude.{◌≡◌, IfOk, IfSome, OnOk};
-ghost use Rattle.ca_quad.specs.Trees.{IsIn, IsTree};
-ghost use Rattle.ca_quad.specs.Added.{IsCopy, AreCopies};
+ghost use Rattle.ca_quad.specs.Prelude.{IsIn, IsTree, IsCopy, AreCopies};
 ghost use Rattle.ca_run.specs.Leaping.{LeaperGrows};
 ghost use Rattle.ca_run.specs.inner.OwnStore.{IsCopyOfTree};
 ghost use Rattle.ca_run.specs.inner.InUse.{IsTrueLeap, AreTrueLeaps};

@@ -4,7 +4,7 @@ ghost use Rattle.std.specs.Prelude.{◌≡◌, ℕ, ◌+◌, ◌≤◌, ◌^◌,
 ghost use Rattle.ca_run.specs.Centre.{IsCentre};
 ghost use Rattle.ca_run.specs.inner.AtCost.{GoesOnAtCost};
 ghost use Rattle.ca_run.specs.inner.Centres.{HasCentre, ShowsCentre};
-ghost use Rattle.ca_bricks.specs.CellRules.{GoesByCells};
+ghost use Rattle.ca_bricks.specs.Prelude.{GoesByCells};
 
 use super::Leaper;
 use ca_bricks::{CellRule, WordSquare};

@@ -1,10 +1,9 @@
 //! How far a run of generations has come.
 
 ghost use Rattle.std.specs.Prelude.{◌≡◌, ℤ};
-ghost use Rattle.ca_plane.specs.Generations.{cells_after};
-ghost use Rattle.ca_quad.specs.Trees.{cell};
-ghost use Rattle.ca_bricks.specs.Aged.{AgedGridShows};
-ghost use Rattle.ca_bricks.specs.Bricks.{GridShows};
+ghost use Rattle.ca_plane.specs.Prelude.{cells_after};
+ghost use Rattle.ca_quad.specs.Prelude.{cell};
+ghost use Rattle.ca_bricks.specs.Prelude.{AgedGridShows, GridShows};
 
 use super::Leaper;
 use ca_bricks::{AgedGrid, BrickGrid};

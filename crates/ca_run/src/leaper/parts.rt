@@ -1,12 +1,10 @@
 //! Parts of squares, and squares that lie between others.
 
 ghost use Rattle.std.specs.Prelude.{ℕ, suc, ℤ, ◌+ℤ◌, IfOk};
-ghost use Rattle.ca_quad.specs.Squares.{IsOf};
-ghost use Rattle.ca_quad.specs.Sound.{IsSoundStore};
-ghost use Rattle.ca_quad.specs.Trees.{AreFour};
+ghost use Rattle.ca_quad.specs.Prelude.{IsOf, IsSoundStore, AreFour};
 ghost use Rattle.ca_run.specs.inner.AtCost.{GoesOnAtCost};
 ghost use Rattle.ca_run.specs.inner.Shown.{ShowsAt, FourShow};
-ghost use Rattle.ca_bricks.specs.Overlaps.{side};
+ghost use Rattle.ca_bricks.specs.Prelude.{side};
 
 use super::Leaper;
 use ca_plane::{Automaton, Memory};

@@ -1,10 +1,8 @@
 //! Planes that are made trees, trees that are moved, and where trees differ.
 
 ghost use Rattle.std.specs.Prelude.{◌≡◌, ◌≢◌, ◌≤◌, ◌↔◌, ℤ, ◌-ℤ◌, IfOk, IfErr, IsNone, IfSome};
-ghost use Rattle.ca_plane.specs.Plane.{cell as plane_cell};
-ghost use Rattle.ca_quad.specs.Trees.{IsTree, cell, IsTrimmed};
-ghost use Rattle.ca_quad.specs.Expanded.{FitsPlane};
-ghost use Rattle.ca_quad.specs.Shifted.{shifted_cells, IsShiftRefused};
+ghost use Rattle.ca_plane.specs.Prelude.{cell as plane_cell};
+ghost use Rattle.ca_quad.specs.Prelude.{IsTree, cell, IsTrimmed, FitsPlane, shifted_cells, IsShiftRefused};
 ghost use Rattle.ca_run.specs.Leaping.{LeaperGrows};
 
 use super::Leaper;

@@ -1,11 +1,10 @@
 //! Squares of two states, read as words and made of them.
 
 ghost use Rattle.std.specs.Prelude.{ℕ, ℤ, IfOk, IfSome};
-ghost use Rattle.ca_quad.specs.Squares.{IsOf};
+ghost use Rattle.ca_quad.specs.Prelude.{IsOf};
 ghost use Rattle.ca_run.specs.inner.AtCost.{GoesOnAtCost};
 ghost use Rattle.ca_run.specs.inner.Shown.{ShowsAt};
-ghost use Rattle.ca_bricks.specs.WordSquares.{WordSquareShows, WideSquareShows};
-ghost use Rattle.ca_bricks.specs.Words.{WordShows};
+ghost use Rattle.ca_bricks.specs.Prelude.{WordSquareShows, WideSquareShows, WordShows};
 
 use super::Leaper;
 use ca_bricks::{WideSquare, WordSquare};

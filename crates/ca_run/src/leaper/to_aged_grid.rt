@@ -1,9 +1,8 @@
 //! Trees of several states as grids of cells that age.
 
 ghost use Rattle.std.specs.Prelude.{◌≡◌, ℕ, ◌+◌, ◌<◌, ◌≤◌, ◌^◌, ℤ, length, IfOk, IfSome};
-ghost use Rattle.ca_quad.specs.Trees.{cell};
-ghost use Rattle.ca_bricks.specs.Aged.{AgedGridShows};
-ghost use Rattle.ca_bricks.specs.Bricks.{LiesNearOrigin, IsAligned};
+ghost use Rattle.ca_quad.specs.Prelude.{cell};
+ghost use Rattle.ca_bricks.specs.Prelude.{AgedGridShows, LiesNearOrigin, IsAligned};
 ghost use Rattle.ca_run.specs.inner.Frames.{IsReadByBricks, IsGridFrame, IsFramed};
 
 use super::Leaper;

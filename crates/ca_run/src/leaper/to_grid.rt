@@ -2,11 +2,9 @@
 
 ghost use Rattle.std.specs.Prelude.{◌≡◌, ℕ, suc, ◌+◌, ◌*◌, ◌-◌, ◌<◌, ◌≤◌, ◌^◌, ◌⊎◌};
 ghost use Rattle.std.specs.Prelude.{MatchOption, ℤ, pos, ◌+ℤ◌, slice_index, length, IfOk, IfSome};
-ghost use Rattle.ca_quad.specs.Squares.{IsOf};
-ghost use Rattle.ca_quad.specs.Trees.{cell};
+ghost use Rattle.ca_quad.specs.Prelude.{IsOf, cell};
 ghost use Rattle.ca_run.specs.inner.Shown.{ShowsAt};
-ghost use Rattle.ca_bricks.specs.Words.{WordShows, eight};
-ghost use Rattle.ca_bricks.specs.Bricks.{BrickShows, GridShows, LiesNearOrigin, IsAligned};
+ghost use Rattle.ca_bricks.specs.Prelude.{WordShows, eight, BrickShows, GridShows, LiesNearOrigin, IsAligned};
 ghost use Rattle.ca_run.specs.inner.Frames.{IsReadByBricks, IsGridFrame, IsFramed, IsOfFrame, piece_start, row_start};
 
 use super::Leaper;

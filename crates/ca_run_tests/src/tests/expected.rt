@@ -1,7 +1,7 @@
 //! What the tests expect. All else answers yes or no, since an assertion costs more proof than a comparison.
 
 ghost use Rattle.std.specs.Prelude.{IsTrue};
-ghost use Rattle.ca_plane.specs.Sparse.{IsInPlane};
+ghost use Rattle.ca_plane.specs.Prelude.{IsInPlane};
 
 use ca_plane::{Memory, Plane, Point};
 use std::alloc::Global;

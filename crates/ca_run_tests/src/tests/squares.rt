@@ -1,7 +1,7 @@
 //! Trees of the highest levels, trees that are moved, and squares that are copied from one store to another.
 
 ghost use Rattle.std.specs.Prelude.{IsTrue, IfOk};
-ghost use Rattle.ca_quad.specs.Trees.{IsIn, IsTree};
+ghost use Rattle.ca_quad.specs.Prelude.{IsIn, IsTree};
 
 use super::expected::{Cell, FAR, GLIDER, expect, plane_of, shows};
 use ca_plane::{Memory, MoveFault, Plane};

@@ -1,8 +1,7 @@
 -- The cells of a picture that are still to come (our own).
 use Rattle.std.specs.Prelude.{◌≡◌, ◌≢◌, ◌<◌, ◌≤◌, ℤ, length}
 use Rattle.ca_plane.specs.declared.point.Point.{Point}
-use Rattle.ca_plane.specs.Plane.{Picture, cell}
-use Rattle.ca_plane.specs.Change.{Sets}
+use Rattle.ca_plane.specs.Prelude.{Picture, cell, Sets}
 use Rattle.ca_steps.specs.inner.Order.{IsBefore}
 
 -- new is old without its cell at the point, if there is one

@@ -1,7 +1,7 @@
 -- The order in which a plane is read: row by row from the top, and in a row by rising x (our own).
 use Rattle.std.specs.Prelude.{◌≡◌, ℤ, ◌<ℤ◌, Option, Some, None, ◌⊎◌}
 use Rattle.ca_plane.specs.declared.point.Point.{Point}
-use Rattle.ca_plane.specs.Plane.{Picture, cell}
+use Rattle.ca_plane.specs.Prelude.{Picture, cell}
 
 -- (u, v) is read before (x, y)
 abbrev pub IsBefore : ℤ → ℤ → ℤ → ℤ → Type 0

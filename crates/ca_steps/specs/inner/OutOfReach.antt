@@ -1,6 +1,6 @@
 -- Live cells from which no step is taken (our own).
 use Rattle.std.specs.Prelude.{◌≢◌, ℤ}
-use Rattle.ca_plane.specs.Plane.{Picture, cell}
+use Rattle.ca_plane.specs.Prelude.{Picture, cell}
 use Rattle.ca_steps.specs.Reach.{IsInReach}
 
 -- some live cell lies where no step is taken from it

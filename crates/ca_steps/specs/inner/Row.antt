@@ -1,7 +1,7 @@
 -- One row of a window: three cells side by side, and the cells that come after them (our own).
 use Rattle.std.specs.Prelude.{◌≡◌, ◌≢◌, ℤ, pos, ◌+ℤ◌, ◌-ℤ◌, ◌⊎◌}
 use Rattle.ca_plane.specs.declared.point.Point.{Point}
-use Rattle.ca_plane.specs.Plane.{Picture, cell}
+use Rattle.ca_plane.specs.Prelude.{Picture, cell}
 use Rattle.ca_steps.specs.declared.row.Row.{Row}
 use Rattle.ca_steps.specs.inner.CellsAhead.{IsWithout, AreCellsAhead}
 

@@ -1,7 +1,7 @@
 -- A window of three by three cells that moves over a plane (our own).
 use Rattle.std.specs.Prelude.{◌≡◌, ◌≢◌, ℕ, ℤ, pos, ◌+ℤ◌, ◌-ℤ◌, List, [], ◌∷◌, Option, Some, ◌⊎◌}
 use Rattle.ca_plane.specs.declared.point.Point.{Point}
-use Rattle.ca_plane.specs.Plane.{Picture, cell}
+use Rattle.ca_plane.specs.Prelude.{Picture, cell}
 use Rattle.ca_steps.specs.declared.window.MovingWindow.{MovingWindow}
 use Rattle.ca_steps.specs.inner.Order.{IsFirstOrNone}
 use Rattle.ca_steps.specs.inner.Row.{ShowsRow, IsQuietRow, IsLiveRow, MovesOn}

@@ -1,7 +1,6 @@
 -- A picture that is written place by place, in the order in which a plane is read (our own).
 use Rattle.std.specs.Prelude.{◌≡◌, ℕ, ℤ, List}
-use Rattle.ca_plane.specs.Plane.{Picture, cell}
-use Rattle.ca_plane.specs.Generations.{after}
+use Rattle.ca_plane.specs.Prelude.{Picture, cell, after}
 use Rattle.ca_steps.specs.inner.Order.{IsBefore}
 
 -- new shows the next generation of p up to (a, b), and nothing after

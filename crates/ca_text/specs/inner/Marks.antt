@@ -1,8 +1,6 @@
 -- Marks of paths, by their indices.
 use Rattle.std.specs.Prelude.{ℕ, List, [], ◌∷◌, set, Bool, true}
-use Rattle.ca_text.specs.declared.both.Both.{Both}
-use Rattle.ca_text.specs.declared.line.ClaimLine.{ClaimLine}
-use Rattle.ca_text.specs.declared.line.NamePlace.{NamePlace}
+use Rattle.ca_text.specs.declared.{both.Both.Both, line.ClaimLine.ClaimLine, line.NamePlace.NamePlace}
 
 -- the marks, with those at these indices set
 abbrev pub with_marks : List Bool → List ℕ → List Bool

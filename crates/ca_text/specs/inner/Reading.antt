@@ -3,16 +3,10 @@ use Rattle.std.specs.Prelude.{◌≡◌, ℕ, ◌<◌, ◌^◌, ℤ, pos, neg_�
 use Rattle.std.specs.Borrow.{Bor}
 use Rattle.std.specs.HashMap.{HashMap, get_by}
 use Rattle.std.specs.Str.{bytes_eq}
-use Rattle.ca_text.specs.declared.line.Claim.{Claim as ClaimOf}
-use Rattle.ca_text.specs.declared.line.ClaimLine.{ClaimLine}
-use Rattle.ca_text.specs.declared.kind.Kind.{Kind}
-use Rattle.ca_text.specs.declared.line.NamePlace.{NamePlace}
-use Rattle.ca_text.specs.declared.reading.Reading.{Reading}
-use Rattle.ca_text.specs.declared.line_kind.LineKind.{LineKind}
+use Rattle.ca_text.specs.declared.{line.Claim.Claim as ClaimOf, line.ClaimLine.ClaimLine, kind.Kind.Kind, line.NamePlace.NamePlace, reading.Reading.Reading, line_kind.LineKind.LineKind}
+use Rattle.ca_text.specs.declared.{version.TextVersion.TextVersion, fault.ClaimFault.ClaimFault}
 use Rattle.ca_text.specs.declared.line_kind.LineKind.TheVariants.{Skipped, Version, Rule, Load, Claim, OutsideLimits, Misspelled}
-use Rattle.ca_text.specs.declared.version.TextVersion.{TextVersion}
 use Rattle.ca_text.specs.declared.version.TextVersion.TheVariants.{Open, First, Second}
-use Rattle.ca_text.specs.declared.fault.ClaimFault.{ClaimFault}
 use Rattle.ca_text.specs.declared.fault.ClaimFault.TheVariants.{Syntax, Number, UnknownName, NameTaken, Memory}
 use Rattle.ca_text.specs.Both.{HoldsOfBoth}
 use Rattle.ca_text.specs.Kinds.{WordsClaim, is_of_second_version, IsShift, HasGoodNumbers}

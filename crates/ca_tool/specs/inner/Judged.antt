@@ -1,12 +1,10 @@
 -- What a loop over claims judged and reported.
 use Rattle.std.specs.Prelude.{◌≡◌, ℕ, List, [], ◌++◌}
 use Rattle.ca_text.specs.declared.both.Both.{Both}
-use Rattle.ca_text.specs.Text.{Claim}
-use Rattle.ca_answers.specs.Judging.{Judging}
-use Rattle.ca_verdict_lines.specs.declared.finding.ReportStyle.{ReportStyle}
-use Rattle.ca_verdict_lines.specs.declared.finding.Finding.{Finding}
-use Rattle.ca_verdict_lines.specs.Verdicts.{findings_text, status_of}
-use Rattle.ca_verdict_lines.specs.Reports.{with_claims, answers_of, AreFindings}
+use Rattle.ca_text.specs.Prelude.{Claim}
+use Rattle.ca_answers.specs.Prelude.{Judging}
+use Rattle.ca_verdict_lines.specs.declared.finding.{ReportStyle.ReportStyle, Finding.Finding}
+use Rattle.ca_verdict_lines.specs.Prelude.{findings_text, status_of, with_claims, answers_of, AreFindings}
 
 -- the first claims left were judged, with these findings, and the others are left
 pub record WereJudged (old new : Judging) (findings : List Finding) : Type 0 where

@@ -2,8 +2,8 @@
 
 ghost use Rattle.std.specs.Prelude.{◌<◌, ℤ, IfOk, IsTrue};
 ghost use Rattle.std.specs.List.{All};
-ghost use Rattle.ca_plane.specs.Limits.{IsInRange};
-ghost use Rattle.ca_quad.specs.Trees.{IsTree, cell};
+ghost use Rattle.ca_plane.specs.Prelude.{IsInRange};
+ghost use Rattle.ca_quad.specs.Prelude.{IsTree, cell};
 
 use ca_macro::write_macro_to;
 use ca_pattern::read_pattern;

@@ -1,17 +1,14 @@
 -- What a verdict says of a claim about cells that are at hand.
 use Rattle.std.specs.Prelude.{◌≡◌, ◌≢◌, ℕ, ◌≤◌, List, IsTrue, ◌⊎◌}
-use Rattle.ca_plane.specs.Plane.{Picture}
+use Rattle.ca_plane.specs.Prelude.{Picture, most_generations, longest_period}
 use Rattle.ca_answers.specs.declared.verdict.Verdict.{Verdict}
 use Rattle.ca_answers.specs.declared.verdict.Verdict.TheVariants.{Yes, No, Refused}
 use Rattle.ca_answers.specs.declared.cause.Cause.TheVariants.{Work, Memory}
-use Rattle.ca_text.specs.declared.asks.Asks.{Asks}
-use Rattle.ca_text.specs.declared.asks.Forbidden.{Forbidden}
+use Rattle.ca_text.specs.declared.asks.{Asks.Asks, Forbidden.Forbidden}
 use Rattle.ca_text.specs.declared.asks.Forbidden.TheVariants.{Nothing, InPlace, Anywhere, EmptyPlane}
 use Rattle.ca_text.specs.declared.asks.Expected.TheVariants.{Own, NoCells}
-use Rattle.ca_plane.specs.Limits.{most_generations, longest_period}
-use Rattle.ca_text.specs.Kinds.{IsShift}
-use Rattle.ca_text.specs.Truth.{MayReturnBy, IsTrueClaim}
-use Rattle.ca_answers.specs.Refutations.{IsReason}
+use Rattle.ca_text.specs.Prelude.{IsShift, MayReturnBy, IsTrueClaim}
+use Rattle.ca_answers.specs.Prelude.{IsReason}
 
 -- a return of the pattern is forbidden, in its place or anywhere
 abbrev pub ForbidsReturns : Forbidden → Type 0

@@ -1,9 +1,9 @@
 -- What is found at the places of paths: the bytes of their files.
 use Rattle.std.specs.Prelude.{◌≡◌, ℕ, List, get_or, Option, Some, None}
 use Rattle.std.specs.Borrow.{Bor}
-use Rattle.ca_rule.specs.TableNext.{TableRule}
+use Rattle.ca_rule.specs.Prelude.{TableRule}
 use Rattle.ca_verify.specs.declared.verifier.tables.FaultyTable.{FaultyTable}
-use Rattle.ca_pattern.specs.NamedTables.{IsQuietTable, IsTableFault}
+use Rattle.ca_pattern.specs.Prelude.{IsQuietTable, IsTableFault}
 
 -- a file is found at a place
 abbrev pub IsFound : List (Option (Bor (List ℕ))) → ℕ → Type 0

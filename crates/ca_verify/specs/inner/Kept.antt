@@ -3,14 +3,11 @@ use Rattle.std.specs.Prelude.{◌≡◌, ◌≢◌, ℕ, ◌≤◌, List, [], dr
 use Rattle.std.specs.Borrow.{Bor}
 use Rattle.ca_text.specs.declared.both.Both.{Both}
 use Rattle.ca_verify.specs.declared.verifier.tables.Tables.{Tables}
-use Rattle.ca_answers.specs.declared.verdict.Answer.{Answer}
+use Rattle.ca_answers.specs.declared.{verdict.Answer.Answer, note.Note.Note}
 use Rattle.ca_pattern.specs.declared.limits.Limits.{Limits}
-use Rattle.ca_pattern.specs.Limited.{AreGoodLimits}
-use Rattle.ca_text.specs.Text.{ClaimText, Claim}
-use Rattle.ca_answers.specs.Answers.{IsTrueAnswer, IsWithinWork}
-use Rattle.ca_answers.specs.Judging.{Judging}
-use Rattle.ca_answers.specs.Notes.{IsNote, HasItsNote}
-use Rattle.ca_answers.specs.declared.note.Note.{Note}
+use Rattle.ca_pattern.specs.Prelude.{AreGoodLimits}
+use Rattle.ca_text.specs.Prelude.{ClaimText, Claim}
+use Rattle.ca_answers.specs.Prelude.{IsTrueAnswer, IsWithinWork, Judging, IsNote, HasItsNote}
 use Rattle.ca_verify.specs.NeededFiles.{AreFound}
 
 -- these are kept, if the text makes a claim; the claim with this index is the next, or all are judged; and the limits are good

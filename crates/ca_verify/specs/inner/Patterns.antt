@@ -1,19 +1,15 @@
 -- Both patterns of a claim, which of them is bad, and whether they agree.
 use Rattle.std.specs.Prelude.{◌≡◌, List}
-use Rattle.ca_pattern.specs.declared.ruled.RuledPattern.{RuledPattern}
+use Rattle.ca_pattern.specs.declared.{ruled.RuledPattern.RuledPattern, pattern.Loaded.Loaded}
 use Rattle.ca_quad.specs.declared.node.Node.{Node}
-use Rattle.ca_rule.specs.TableNext.{TableRule}
-use Rattle.ca_rule.specs.Rule.{RuleValue, IsSameRule, NamesRule}
-use Rattle.ca_pattern.specs.declared.pattern.Loaded.{Loaded}
+use Rattle.ca_rule.specs.Prelude.{TableRule, RuleValue, IsSameRule, NamesRule}
 use Rattle.ca_text.specs.declared.both.Both.{Both}
-use Rattle.ca_text.specs.Both.{HoldsOfBoth}
-use Rattle.ca_verify.specs.declared.decide.ClaimTrees.{ClaimTrees}
-use Rattle.ca_verify.specs.declared.refusal.WhichPattern.{WhichPattern}
+use Rattle.ca_text.specs.Prelude.{HoldsOfBoth}
+use Rattle.ca_verify.specs.declared.{decide.ClaimTrees.ClaimTrees, refusal.WhichPattern.WhichPattern, verifier.agreement.Disagreement.Disagreement}
 use Rattle.ca_verify.specs.declared.refusal.WhichPattern.TheVariants.{First, Second}
-use Rattle.ca_verify.specs.declared.verifier.agreement.Disagreement.{Disagreement}
 use Rattle.ca_verify.specs.declared.verifier.agreement.Disagreement.TheVariants.{Large, Mixed}
 use Rattle.ca_verify.specs.declared.verifier.agreement.Disagreement.TheVariants as disagreement
-use Rattle.ca_pattern.specs.Patterns.{rule_of, ShowsLarge, ShowsSmall}
+use Rattle.ca_pattern.specs.Prelude.{rule_of, ShowsLarge, ShowsSmall}
 
 -- this one of both
 abbrev pub part_of : {X : Type 0} → WhichPattern → Both X → X

@@ -1,35 +1,25 @@
 -- What a claim is judged on, once its patterns are read.
 use Rattle.std.specs.Prelude.{◌≡◌, ℕ, List, Bool, true, false, Option, Some, None, IfSome, ◌⊎◌}
-use Rattle.ca_plane.specs.Plane.{Picture}
-use Rattle.ca_plane.specs.Population.{HasFewCells, HasTooManyCells}
-use Rattle.ca_quad.specs.declared.node.Node.{Node}
-use Rattle.ca_quad.specs.declared.tree.Tree.{Tree}
-use Rattle.ca_quad.specs.Sound.{IsSoundStore}
+use Rattle.ca_plane.specs.Prelude.{Picture, HasFewCells, HasTooManyCells}
+use Rattle.ca_quad.specs.declared.{node.Node.Node, tree.Tree.Tree}
+use Rattle.ca_quad.specs.Prelude.{IsSoundStore}
 use Rattle.ca_quad.specs.Trees as trees
-use Rattle.ca_rule.specs.Rule.{rule_value}
-use Rattle.ca_text.specs.declared.asks.Asks.{Asks}
-use Rattle.ca_text.specs.declared.asks.Expected.{Expected}
+use Rattle.ca_rule.specs.Prelude.{rule_value}
+use Rattle.ca_text.specs.declared.{asks.Asks.Asks, asks.Expected.Expected, both.Both.Both}
 use Rattle.ca_text.specs.declared.asks.Expected.TheVariants.{Own, Other, NoCells}
-use Rattle.ca_text.specs.declared.both.Both.{Both}
-use Rattle.ca_verify.specs.declared.decide.ClaimTrees.{ClaimTrees}
-use Rattle.ca_pattern.specs.declared.limits.Limits.{Limits}
+use Rattle.ca_verify.specs.declared.{decide.ClaimTrees.ClaimTrees, refusal.WhichPattern.WhichPattern, refusal.Refusal.Refusal, verifier.agreement.Disagreement.Disagreement}
+use Rattle.ca_verify.specs.declared.{verifier.patterns.BadPart.BadPart, verifier.prepared.PreparedClaim.PreparedClaim}
+use Rattle.ca_pattern.specs.declared.{limits.Limits.Limits, pattern_fault.PatternFault.PatternFault, read.BadPattern.BadPattern as Unread}
 use Rattle.ca_verify.specs.declared.refusal.About.TheVariants as about
-use Rattle.ca_verify.specs.declared.refusal.WhichPattern.{WhichPattern}
 use Rattle.ca_verify.specs.declared.refusal.WhichPattern.TheVariants.{First, Second}
-use Rattle.ca_verify.specs.declared.refusal.Refusal.{Refusal}
-use Rattle.ca_pattern.specs.declared.pattern_fault.PatternFault.{PatternFault}
 use Rattle.ca_pattern.specs.declared.pattern_fault.PatternFault.TheVariants as pattern_fault
 use Rattle.ca_answers.specs.declared.cause.Cause.TheVariants.{BadPattern, StateTooLarge, MixedRules, TooManyCells}
 use Rattle.ca_answers.specs.declared.cause.Cause.TheVariants as cause
-use Rattle.ca_verify.specs.declared.verifier.agreement.Disagreement.{Disagreement}
 use Rattle.ca_verify.specs.declared.verifier.agreement.Disagreement.TheVariants.{Large, Mixed}
 use Rattle.ca_verify.specs.declared.verifier.agreement.Disagreement.TheVariants as disagreement
-use Rattle.ca_pattern.specs.declared.read.BadPattern.{BadPattern as Unread}
-use Rattle.ca_verify.specs.declared.verifier.patterns.BadPart.{BadPart}
-use Rattle.ca_verify.specs.declared.verifier.prepared.PreparedClaim.{PreparedClaim}
-use Rattle.ca_answers.specs.Answers.{AgreeOn, IsCounted, HasFewCounted}
-use Rattle.ca_evolution.specs.Spending.{HasLimits}
-use Rattle.ca_pattern.specs.PatternTrees.{IsPattern}
+use Rattle.ca_answers.specs.Prelude.{AgreeOn, IsCounted, HasFewCounted}
+use Rattle.ca_evolution.specs.Prelude.{HasLimits}
+use Rattle.ca_pattern.specs.Prelude.{IsPattern}
 use Rattle.ca_verify.specs.inner.Subjects.{AreShown}
 
 -- the trees show what the files of these paths mean, under one rule, and not too many cells where they are counted; the claim asks this

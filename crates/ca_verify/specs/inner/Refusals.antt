@@ -1,17 +1,13 @@
 -- What the cause of a refusal is about.
 use Rattle.std.specs.Prelude.{◌≢◌, ℕ, ◌<◌, List, length}
-use Rattle.ca_text.specs.declared.asks.Asks.{Asks}
-use Rattle.ca_text.specs.declared.both.Both.{Both}
-use Rattle.ca_verify.specs.declared.refusal.About.{About}
+use Rattle.ca_text.specs.declared.{asks.Asks.Asks, both.Both.Both}
+use Rattle.ca_verify.specs.declared.refusal.{About.About, Refusal.Refusal}
 use Rattle.ca_verify.specs.declared.refusal.About.TheVariants as about
-use Rattle.ca_verify.specs.declared.refusal.Refusal.{Refusal}
-use Rattle.ca_answers.specs.declared.cause.Cause.{Cause}
+use Rattle.ca_answers.specs.declared.{cause.Cause.Cause, verdict.Verdict.Verdict}
 use Rattle.ca_answers.specs.declared.cause.Cause.TheVariants.{Work}
-use Rattle.ca_answers.specs.declared.verdict.Verdict.{Verdict}
 use Rattle.ca_answers.specs.declared.verdict.Verdict.TheVariants.{Yes, No, Refused}
-use Rattle.ca_text.specs.Text.{Claim}
-use Rattle.ca_text.specs.Places.{path_at}
-use Rattle.ca_answers.specs.Answers.{HasCause, IsOfClaim, IsOfPattern, IsOfRuleFile, IsTrueVerdict, IsWithinWork}
+use Rattle.ca_text.specs.Prelude.{Claim, path_at}
+use Rattle.ca_answers.specs.Prelude.{HasCause, IsOfClaim, IsOfPattern, IsOfRuleFile, IsTrueVerdict, IsWithinWork}
 use Rattle.ca_verify.specs.inner.Patterns.{FirstBadAt}
 
 -- the cause of a refusal is about this; `paths` are all paths of the text, `rules` those of its rule lines, and `patterns` those of the

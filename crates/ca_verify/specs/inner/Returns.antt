@@ -1,12 +1,11 @@
 -- When a pattern is back, or dead, before a claim's generations are over.
 use Rattle.std.specs.Prelude.{ℕ, ◌≤◌, ◌<◌, List, []}
-use Rattle.ca_plane.specs.Plane.{Picture, shifted}
-use Rattle.ca_plane.specs.Generations.{IsAfter}
+use Rattle.ca_plane.specs.Prelude.{Picture, shifted, IsAfter}
 use Rattle.ca_answers.specs.declared.verdict.Refutation.{Refutation}
 use Rattle.ca_answers.specs.declared.verdict.Refutation.TheVariants.{Earlier, Died}
 use Rattle.ca_text.specs.declared.asks.Forbidden.{Forbidden}
 use Rattle.ca_text.specs.declared.asks.Forbidden.TheVariants.{EmptyPlane}
-use Rattle.ca_text.specs.Truth.{ShowsNothingForbidden, MayReturnBy}
+use Rattle.ca_text.specs.Prelude.{ShowsNothingForbidden, MayReturnBy}
 
 -- at no time from 1 on before n is what is forbidden shown
 abbrev pub IsSparedBefore : (List ℕ → ℕ) → Picture → Forbidden → ℕ → Type 0

@@ -1,6 +1,6 @@
 -- What it takes of a leaper's work to find a death (our own).
 use Rattle.std.specs.Prelude.{ℕ, ◌+◌, ◌-◌, ◌≤◌, ◌^◌, min}
-use Rattle.ca_evolution.specs.Spending.{Takes}
+use Rattle.ca_evolution.specs.Prelude.{Takes}
 
 -- how often generations are halved at most until one is left, where there are no more than 2^60
 abbrev pub most_halvings : ℕ

@@ -1,21 +1,17 @@
 -- What a claim is judged on: squares of a leaper's store, and how the verdict follows from them.
 use Rattle.std.specs.Prelude.{◌≡◌, ◌≢◌, ◌⊎◌, ℕ, ◌*◌, ◌≤◌, ◌<◌, ℤ, List, [], Option, MatchOption}
 use Rattle.std.specs.Int.{◌∣◌}
-use Rattle.ca_plane.specs.Plane.{Picture, shifted}
-use Rattle.ca_plane.specs.Generations.{IsAfter, IsLiveAfter}
+use Rattle.ca_plane.specs.Prelude.{Picture, shifted, IsAfter, IsLiveAfter}
 use Rattle.ca_quad.specs.declared.node.Node.{Node}
-use Rattle.ca_quad.specs.Sound.{IsSoundStore}
-use Rattle.ca_quad.specs.Trees.{cell}
-use Rattle.ca_text.specs.declared.asks.Asks.{Asks}
-use Rattle.ca_text.specs.declared.asks.Forbidden.{Forbidden}
+use Rattle.ca_quad.specs.Prelude.{IsSoundStore, cell}
+use Rattle.ca_text.specs.declared.asks.{Asks.Asks, Forbidden.Forbidden}
 use Rattle.ca_text.specs.declared.asks.Forbidden.TheVariants.{EmptyPlane}
-use Rattle.ca_verify.specs.declared.decide.ClaimTrees.{ClaimTrees}
-use Rattle.ca_verify.specs.declared.decide.Case.{Case}
+use Rattle.ca_verify.specs.declared.decide.{ClaimTrees.ClaimTrees, Case.Case}
 use Rattle.ca_answers.specs.declared.verdict.Refutation.{Refutation}
 use Rattle.ca_answers.specs.declared.verdict.Refutation.TheVariants.{Differs}
-use Rattle.ca_text.specs.Truth.{MayReturnBy, ShowsNothingForbidden}
+use Rattle.ca_text.specs.Prelude.{MayReturnBy, ShowsNothingForbidden}
 use Rattle.ca_verify.specs.inner.Decided.{ForbidsReturns, IsBounded}
-use Rattle.ca_pattern.specs.PatternTrees.{IsPattern, ShowsTree, HasLive}
+use Rattle.ca_pattern.specs.Prelude.{IsPattern, ShowsTree, HasLive}
 
 -- what a claim that asks this is judged on, as the squares of a sound store show it
 pub record IsSubject (nodes : List Node) (asks : Asks) (subject : ClaimTrees) : Type 0 where

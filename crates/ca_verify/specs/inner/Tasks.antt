@@ -2,10 +2,9 @@
 use Rattle.std.specs.Prelude.{◌≡◌, ℕ, ◌<◌, List, map, length}
 use Rattle.std.specs.Option.{option_copied}
 use Rattle.ca_verify.specs.declared.verifier.task.Task.{Task}
-use Rattle.ca_text.specs.Both.{HoldsOfBoth}
-use Rattle.ca_text.specs.Kinds.{HasGoodNumbers}
-use Rattle.ca_answers.specs.Files.{bytes_at}
-use Rattle.ca_pattern.specs.Limited.{AreGoodLimits}
+use Rattle.ca_text.specs.Prelude.{HoldsOfBoth, HasGoodNumbers}
+use Rattle.ca_answers.specs.Prelude.{bytes_at}
+use Rattle.ca_pattern.specs.Prelude.{AreGoodLimits}
 use Rattle.ca_verify.specs.NeededFiles.{AreRead}
 
 -- a claim of a text that was read, whose paths all have a place, within good limits

@@ -1,16 +1,15 @@
 //! When a pattern is dead before a claim's generations are over.
 
 ghost use Rattle.std.specs.Prelude.{◌≡◌, ◌+◌, ◌/◌, ◌≤◌, [], IfOk, MatchOption};
-ghost use Rattle.ca_plane.specs.Plane.{Picture};
-ghost use Rattle.ca_plane.specs.Generations.{IsAfter};
+ghost use Rattle.ca_plane.specs.Prelude.{Picture, IsAfter};
 ghost use Rattle.ca_text.specs.declared.asks.Forbidden.TheVariants.{EmptyPlane};
-ghost use Rattle.ca_run.specs.Leaping.{LeaperGrows};
-ghost use Rattle.ca_work.specs.Spending.{EndsAtLimit};
-ghost use Rattle.ca_evolution.specs.Spending.{Takes};
+ghost use Rattle.ca_run.specs.Prelude.{LeaperGrows};
+ghost use Rattle.ca_work.specs.Prelude.{EndsAtLimit};
+ghost use Rattle.ca_evolution.specs.Prelude.{Takes};
 ghost use Rattle.ca_verify.specs.inner.Spending.{most_looks};
 ghost use Rattle.ca_verify.specs.inner.Returns.{IsSparedBefore, IsFirstDeath};
 ghost use Rattle.ca_pattern.specs.inner.LifeSpans.{IsLifeSpan};
-ghost use Rattle.ca_pattern.specs.PatternTrees.{ShowsTree};
+ghost use Rattle.ca_pattern.specs.Prelude.{ShowsTree};
 ghost use Rattle.ca_verify.specs.inner.Subjects.{ForbidsDeath};
 
 use super::Case;

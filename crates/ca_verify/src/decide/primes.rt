@@ -2,7 +2,7 @@
 
 ghost use Rattle.std.specs.Prelude.{◌≤◌, ◌<◌, ◌^◌, ℕ};
 ghost use Rattle.std.specs.Int.{◌∣◌};
-ghost use Rattle.ca_steps.specs.Primes.{IsPrime};
+ghost use Rattle.ca_steps.specs.Prelude.{IsPrime};
 
 /// A prime that divides n: the largest one. Here n is less than 2^32.
 pub(super) fn prime_factor(n: u64) -> u64

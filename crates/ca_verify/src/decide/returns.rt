@@ -1,18 +1,15 @@
 //! When a pattern is there again before a claim's generations are over.
 
 ghost use Rattle.std.specs.Prelude.{◌≡◌, ◌-◌, ◌≤◌, ℤ, ◌-ℤ◌, IfOk, MatchOption};
-ghost use Rattle.ca_plane.specs.Plane.{Picture, shifted};
-ghost use Rattle.ca_plane.specs.Generations.{IsAfter};
-ghost use Rattle.ca_plane.specs.Limits.{most_generations};
-ghost use Rattle.ca_quad.specs.Trees.{cell};
-ghost use Rattle.ca_run.specs.Leaping.{LeaperGrows};
-ghost use Rattle.ca_work.specs.Spending.{EndsAtLimit};
-ghost use Rattle.ca_evolution.specs.Spending.{Takes};
-ghost use Rattle.ca_text.specs.Truth.{MayReturnBy, ShowsNothingForbidden};
+ghost use Rattle.ca_plane.specs.Prelude.{Picture, shifted, IsAfter, most_generations};
+ghost use Rattle.ca_quad.specs.Prelude.{cell};
+ghost use Rattle.ca_run.specs.Prelude.{LeaperGrows};
+ghost use Rattle.ca_work.specs.Prelude.{EndsAtLimit};
+ghost use Rattle.ca_evolution.specs.Prelude.{Takes};
+ghost use Rattle.ca_text.specs.Prelude.{MayReturnBy, ShowsNothingForbidden};
 ghost use Rattle.ca_verify.specs.inner.Returns.{IsSparedBefore, IsFirstReturn};
-ghost use Rattle.ca_pattern.specs.PatternTrees.{ShowsTree, IsNearTree, IsPattern, HasLive};
+ghost use Rattle.ca_pattern.specs.Prelude.{ShowsTree, IsNearTree, IsPattern, HasLive, IsMove, IsNoMove, IsOnlyMove};
 ghost use Rattle.ca_verify.specs.inner.Subjects.{ForbidsReturn, IsBackBy};
-ghost use Rattle.ca_pattern.specs.PatternTrees.{IsMove, IsNoMove, IsOnlyMove};
 
 use super::Case;
 use super::primes::{prime_factor, without_prime};

@@ -1,11 +1,11 @@
 //! The one rule of a claim's patterns, under which their states are small.
 
 ghost use Rattle.std.specs.Prelude.{◌≡◌, IfOk, IfErr, IsTrue, IsFalse, MatchOption};
-ghost use Rattle.ca_quad.specs.Trees.{IsTree};
-ghost use Rattle.ca_rule.specs.Rule.{rule_value, states_of};
-ghost use Rattle.ca_text.specs.Both.{HoldsOfBoth};
+ghost use Rattle.ca_quad.specs.Prelude.{IsTree};
+ghost use Rattle.ca_rule.specs.Prelude.{rule_value, states_of};
+ghost use Rattle.ca_text.specs.Prelude.{HoldsOfBoth};
 ghost use Rattle.ca_verify.specs.inner.Patterns.{FirstBadAt, AreOfOneRule, AreMixed, Disagree};
-ghost use Rattle.ca_pattern.specs.Patterns.{rule_of, ShowsLarge, ShowsSmall};
+ghost use Rattle.ca_pattern.specs.Prelude.{rule_of, ShowsLarge, ShowsSmall};
 
 use crate::refusal::WhichPattern;
 use ca_pattern::{RuledPattern, has_large_state};

@@ -4,7 +4,7 @@ ghost use Rattle.std.specs.Prelude.{◌≡◌, OnOk, IfErr, Some};
 ghost use Rattle.ca_verify.specs.inner.Patterns.{trees_of};
 ghost use Rattle.ca_verify.specs.inner.PreparedClaim.{AreFewCounted, IsCountRefused, expected_part};
 ghost use Rattle.ca_verify.specs.inner.PreparedClaim.{expected_tree, refusal_for_count};
-ghost use Rattle.ca_pattern.specs.PatternTrees.{IsPattern};
+ghost use Rattle.ca_pattern.specs.Prelude.{IsPattern};
 
 use crate::decide::ClaimTrees;
 use crate::refusal::{About, Refusal, WhichPattern};

@@ -1,9 +1,8 @@
 //! The patterns that were last read, for later claims on the same files.
 
-ghost use Rattle.std.specs.Prelude.{◌≡◌, ◌≤◌, ◌<◌, ◌↔◌, [], length, Some, IsTrue, IfSome, MatchResult};
-ghost use Rattle.std.specs.Prelude.{slice_get};
-ghost use Rattle.ca_quad.specs.Sound.{Grows};
-ghost use Rattle.ca_pattern.specs.Patterns.{IsReadFrom, IsUnread};
+ghost use Rattle.std.specs.Prelude.{◌≡◌, ◌≤◌, ◌<◌, ◌↔◌, [], length, Some, IsTrue, IfSome, MatchResult, slice_get};
+ghost use Rattle.ca_quad.specs.Prelude.{Grows};
+ghost use Rattle.ca_pattern.specs.Prelude.{IsReadFrom, IsUnread};
 
 use ca_pattern::{BadPattern, Loaded, OUT_OF_MEMORY, read_with_line};
 use ca_quad::Store;
@@ -31,7 +30,7 @@ struct KeptPattern<'a> {
 
 impl<'a> Model for KeptPattern<'a> {
     ghost use Rattle.std.specs.Prelude.{ℕ, List};
-    ghost use Rattle.ca_pattern.specs.Patterns.{IsReadFrom};
+    ghost use Rattle.ca_pattern.specs.Prelude.{IsReadFrom};
 
     ghost Value = { List ℕ };
 

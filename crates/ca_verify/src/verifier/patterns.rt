@@ -2,11 +2,10 @@
 
 ghost use Rattle.std.specs.Prelude.{◌≡◌, ℕ, List, OnOk, IfOk, IfErr, IsTrue, MatchResult, Ok, Err};
 ghost use Rattle.ca_quad.specs.declared.node.Node.{Node};
-ghost use Rattle.ca_quad.specs.Sound.{IsSoundStore};
-ghost use Rattle.ca_pattern.specs.Means.{IsReadable};
-ghost use Rattle.ca_text.specs.Both.{ZipBoth};
+ghost use Rattle.ca_quad.specs.Prelude.{IsSoundStore};
+ghost use Rattle.ca_pattern.specs.Prelude.{IsReadable, IsReadFrom, IsUnread, IsUnnamedFor, IsRuledAs};
+ghost use Rattle.ca_text.specs.Prelude.{ZipBoth};
 ghost use Rattle.ca_verify.specs.inner.Patterns.{FirstBadAt, HasName};
-ghost use Rattle.ca_pattern.specs.Patterns.{IsReadFrom, IsUnread, IsUnnamedFor, IsRuledAs};
 
 use super::pattern_cache::PatternCache;
 use crate::refusal::WhichPattern;

@@ -2,18 +2,15 @@
 
 ghost use Rattle.std.specs.Prelude.{◌≡◌, ℕ, ◌<◌, List, map, length, get_or, Some, None, IfOk, IsTrue, MatchResult};
 ghost use Rattle.std.specs.Option.{option_copied};
-ghost use Rattle.ca_text.specs.Places.{path_at};
-ghost use Rattle.ca_answers.specs.Files.{bytes_at};
-ghost use Rattle.ca_answers.specs.Answers.{AreTables};
-ghost use Rattle.ca_pattern.specs.Limited.{AreGoodLimits};
+ghost use Rattle.ca_text.specs.Prelude.{path_at, map_both, HoldsOfBoth, ZipBoth};
+ghost use Rattle.ca_answers.specs.Prelude.{bytes_at, AreTables};
+ghost use Rattle.ca_pattern.specs.Prelude.{AreGoodLimits};
 ghost use Rattle.ca_verify.specs.declared.refusal.About.TheVariants as abouts;
 ghost use Rattle.ca_answers.specs.declared.cause.Cause.TheVariants as causes;
 ghost use Rattle.ca_verify.specs.inner.Found.{IsFound};
 ghost use Rattle.ca_text.specs.declared.both.Both.{Both as BothOf};
-ghost use Rattle.ca_text.specs.Both.{map_both, HoldsOfBoth, ZipBoth};
 ghost use Rattle.ca_verify.specs.inner.Patterns.{FirstBadAt};
-ghost use Rattle.ca_verify.specs.inner.PreparedClaim.{IsPrepared, IsFit, reading_refusal};
-ghost use Rattle.ca_verify.specs.inner.PreparedClaim.{disagreement_refusal};
+ghost use Rattle.ca_verify.specs.inner.PreparedClaim.{IsPrepared, IsFit, reading_refusal, disagreement_refusal};
 ghost use Rattle.ca_verify.specs.inner.Refusals.{IsRefusal};
 ghost use Rattle.ca_verify.specs.NeededFiles.{AreRead};
 

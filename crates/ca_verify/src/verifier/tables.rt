@@ -1,18 +1,13 @@
 //! The tables of a text's rule lines.
 
-ghost use Rattle.std.specs.Prelude.{◌≡◌, ◌≢◌, ℕ, ◌<◌, List, map, length, get_or, Some, None, All, IfOk};
-ghost use Rattle.std.specs.Prelude.{IfErr, MatchOption};
+ghost use Rattle.std.specs.Prelude.{◌≡◌, ◌≢◌, ℕ, ◌<◌, List, map, length, get_or, Some, None, All, IfOk, IfErr, MatchOption};
 ghost use Rattle.std.specs.List.{AllByRecursion, AllZip};
 ghost use Rattle.std.specs.Option.{option_copied};
-ghost use Rattle.ca_rule.specs.TableNext.{TableRule};
+ghost use Rattle.ca_rule.specs.Prelude.{TableRule};
 ghost use Rattle.ca_rule.specs.declared.table.fault.TableFault.TheVariants as table_fault;
-ghost use Rattle.ca_text.specs.declared.asks.Asks.{Asks};
-ghost use Rattle.ca_text.specs.declared.both.Both.{Both};
-ghost use Rattle.ca_text.specs.Both.{HoldsOfBoth};
-ghost use Rattle.ca_text.specs.Places.{path_at};
-ghost use Rattle.ca_answers.specs.Files.{bytes_at};
-ghost use Rattle.ca_answers.specs.Answers.{IsThere, AreTables};
-ghost use Rattle.ca_text.specs.Firsts.{FirstBad};
+ghost use Rattle.ca_text.specs.declared.{asks.Asks.Asks, both.Both.Both};
+ghost use Rattle.ca_text.specs.Prelude.{HoldsOfBoth, path_at, FirstBad};
+ghost use Rattle.ca_answers.specs.Prelude.{bytes_at, IsThere, AreTables};
 ghost use Rattle.ca_verify.specs.inner.Found.{IsFound, IsTableFound, IsFaultFound};
 ghost use Rattle.ca_verify.specs.inner.Refusals.{IsRefusal};
 

@@ -1,7 +1,7 @@
 //! What commands on pattern files share: words for rules, generations and limits, and help on these.
 
 ghost use Rattle.std.specs.Prelude.{◌≡◌, ◌≤◌, codes, IfOk};
-ghost use Rattle.ca_plane.specs.Limits.{most_generations};
+ghost use Rattle.ca_plane.specs.Prelude.{most_generations};
 ghost use Rattle.ca_words.specs.Words.{IsTextAfter, IsNumberAfter, generations_of};
 
 use crate::arguments::{flag_word, memo_word, memory_word, value_word, with_rule_words, work_word};

@@ -1,5 +1,5 @@
 use Rattle.std.proofs.Common.{[], ◌∷◌, refl, arith}
-use Rattle.ca_apgcode.specs.Grids.{GridCells}
+use Rattle.ca_apgcode.specs.Prelude.{GridCells}
 use Rattle.ca_apgcode.proofs.WorkedCodes.{step, one_strip, two_strips}
 use Rattle.ca_apgcode.proofs.examples.worked_examples.Goals as goal
 

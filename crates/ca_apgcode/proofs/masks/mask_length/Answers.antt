@@ -1,5 +1,5 @@
 use Rattle.std.proofs.Common.{sym, subst}
-use Rattle.ca_apgcode.specs.Grids.{cell}
+use Rattle.ca_apgcode.specs.Prelude.{cell}
 use Rattle.ca_apgcode.specs.inner.Lengths.{IsStripLength}
 use Rattle.ca_apgcode.proofs.MaskLengths.{IsStripLength-mask}
 use Rattle.ca_apgcode.proofs.masks.mask_length.Goals as goal

@@ -1,5 +1,5 @@
 use Rattle.std.proofs.Common.{sym, subst}
-use Rattle.ca_apgcode.specs.Grids.{cell}
+use Rattle.ca_apgcode.specs.Prelude.{cell}
 use Rattle.ca_apgcode.specs.inner.Lengths.{IsStripLength}
 use Rattle.ca_apgcode.proofs.MirroredLengths.{IsStripLength-mirrored}
 use Rattle.ca_apgcode.proofs.masks.mirrored_length.Goals as goal

@@ -1,5 +1,5 @@
 use Rattle.std.proofs.Common.{◌≡◌, ℕ, ◌∷◌, map, Vec, Global, sym, ap, subst, ◌∙◌}
-use Rattle.ca_apgcode.specs.Order.{IsLeastText}
+use Rattle.ca_apgcode.specs.Prelude.{IsLeastText}
 use Rattle.ca_apgcode.specs.inner.Least.{least_from}
 use Rattle.ca_apgcode.proofs.Leasts.{IsLeastText-from}
 use Rattle.ca_apgcode.proofs.order.least.Goals as goal

@@ -1,6 +1,6 @@
 use Rattle.std.proofs.Common.{◌≡◌, ◌≢◌, ◌<◌, length, ap, sym, inl, inr, arith}
 use Rattle.std.proofs.lemmas.Bool.{eqb-true, eqb-false}
-use Rattle.ca_apgcode.specs.Grids.{GridCells}
+use Rattle.ca_apgcode.specs.Prelude.{GridCells}
 use Rattle.ca_apgcode.proofs.Drawn.{IsDrawn-none, IsDrawn-step}
 use Rattle.ca_apgcode.proofs.ReadTexts.{Reads-none, Reads-end, Reads-step}
 use Rattle.ca_apgcode.proofs.ReadCells.{IsCode-read, IsLeastOf-code, reads_all, one_least_of, low_columns}

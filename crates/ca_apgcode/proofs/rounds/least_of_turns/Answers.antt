@@ -1,5 +1,5 @@
 use Rattle.std.proofs.Common.{◌≡◌, ℤ, neg_ℤ, ap}
-use Rattle.ca_apgcode.specs.Orientations.{turned}
+use Rattle.ca_apgcode.specs.Prelude.{turned}
 use Rattle.ca_apgcode.specs.declared.orientation.Orientation.TheVariants.{QuarterTurn, HalfTurn, ThreeQuarterTurn, EastWest, NorthSouth, Diagonal}
 use Rattle.ca_apgcode.proofs.EightTexts.{neg_twice, least_of_eight, least_of_turns}
 use Rattle.ca_apgcode.proofs.PlaneBoxes.{box_as, text_as}

@@ -1,5 +1,5 @@
 use Rattle.std.proofs.Common.{◌≡◌, ◌*◌, ◌≤◌, sym, ◌∙◌, arith}
-use Rattle.ca_apgcode.specs.Grids.{cell}
+use Rattle.ca_apgcode.specs.Prelude.{cell}
 use Rattle.ca_apgcode.specs.inner.Sides.{seen_width}
 use Rattle.ca_apgcode.proofs.Heights.{pow_most}
 use Rattle.ca_apgcode.proofs.Lengths.{MeasuresStrips-none, MeasuresStrips-more, joint_length, whole_length}

@@ -1,5 +1,5 @@
 use Rattle.std.proofs.Common.{◌*◌, ◌≤◌}
-use Rattle.ca_apgcode.specs.Grids.{GridCells, cell}
+use Rattle.ca_apgcode.specs.Prelude.{GridCells, cell}
 use Rattle.ca_apgcode.specs.inner.Turned.{IsMirrored}
 use Rattle.ca_apgcode.specs.inner.Sides.{IsSeenFrom}
 use Rattle.ca_apgcode.proofs.Lengths.{MeasuresStrips}

@@ -1,5 +1,5 @@
 use Rattle.std.proofs.Common.{◌*◌, ◌-◌, ◌<◌, sym, subst}
-use Rattle.ca_apgcode.specs.Grids.{GridCells, cell}
+use Rattle.ca_apgcode.specs.Prelude.{GridCells, cell}
 use Rattle.ca_apgcode.specs.inner.Sides.{IsSeenFrom, seen_height, AreLiveBefore, IsStripMask}
 use Rattle.ca_apgcode.proofs.SeenBoxes.{north_mask, west_mask, south_mask, east_mask}
 use Rattle.ca_apgcode.proofs.sides.strip_mask.Goals as goal

@@ -1,6 +1,6 @@
 use Rattle.std.proofs.Common.{arith}
 use Rattle.std.proofs.lemmas.List.{get_or_past}
-use Rattle.ca_apgcode.specs.Grids.{cell}
+use Rattle.ca_apgcode.specs.Prelude.{cell}
 use Rattle.ca_apgcode.proofs.Columns.{five_dead}
 use Rattle.ca_apgcode.proofs.Steps.{BeginsStrip-none, BeginsStrip-more, BeginsStrip-all}
 use Rattle.ca_apgcode.proofs.writing.push_strip.Goals as goal

@@ -1,4 +1,4 @@
-use Rattle.ca_apgcode.specs.Grids.{cell}
+use Rattle.ca_apgcode.specs.Prelude.{cell}
 use Rattle.ca_apgcode.proofs.Steps.{BeginsStrip}
 use Rattle.ca_apgcode.proofs.writing.push_strip.Given as goal
 

@@ -1,5 +1,5 @@
 use Rattle.std.proofs.Common.{◌≡◌, length, arith}
-use Rattle.ca_apgcode.specs.Grids.{cell}
+use Rattle.ca_apgcode.specs.Prelude.{cell}
 use Rattle.ca_apgcode.proofs.Strips.{BeginsStrips-none, BeginsStrips-more}
 use Rattle.ca_apgcode.proofs.writing.representation.Goals as goal
 

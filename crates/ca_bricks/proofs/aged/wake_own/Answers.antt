@@ -2,8 +2,8 @@ use Rattle.std.proofs.Common.{inl, inr, subst, ap, ◌∙◌, arith, length, get
 use Rattle.std.specs.Int.{bit_at}
 use Rattle.std.proofs.lemmas.Bool.{cases_eq}
 use Rattle.std.proofs.lemmas.Nat.Bits.{bit_at-zero}
-use Rattle.ca_plane.specs.Shown.{row_cells}
-use Rattle.ca_bricks.specs.Bricks.{HasNeighbours, IsNotIn}
+use Rattle.ca_plane.specs.Prelude.{row_cells}
+use Rattle.ca_bricks.specs.Prelude.{HasNeighbours, IsNotIn}
 use Rattle.ca_bricks.proofs.BrickLists.{zeros_blank}
 use Rattle.ca_bricks.proofs.BrickQueues.{grows_by_none, grows_again}
 use Rattle.ca_bricks.proofs.aged.wake_own.Goals as goal

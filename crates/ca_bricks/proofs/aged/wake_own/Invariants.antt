@@ -1,5 +1,5 @@
 use Rattle.std.proofs.Common.{ℕ, ◌<◌, length, get_or, []}
-use Rattle.ca_bricks.specs.Bricks.{HasNeighbours, IsNotIn, IsBlank, QueueGrows}
+use Rattle.ca_bricks.specs.Prelude.{HasNeighbours, IsNotIn, IsBlank, QueueGrows}
 use Rattle.ca_bricks.proofs.aged.wake_own.Given as goal
 
 -- those of the bricks so far that aren't in the queue are blank

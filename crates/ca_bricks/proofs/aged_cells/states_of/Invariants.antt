@@ -1,6 +1,6 @@
 use Rattle.std.proofs.Common.{◌≡◌, ℕ, ◌<◌, length, slice_index}
 use Rattle.std.specs.Int.{bit_at}
-use Rattle.ca_bricks.specs.States.{told_state}
+use Rattle.ca_bricks.specs.Prelude.{told_state}
 use Rattle.ca_bricks.proofs.aged_cells.states_of.Given as goal
 
 -- the states so far

@@ -1,7 +1,7 @@
 use Rattle.std.proofs.Common.{max, ◌∙◌, arith, slice_index}
 use Rattle.std.proofs.lemmas.List.{length-set}
 use Rattle.std.proofs.lemmas.Nat.Bits.{bit_at_or}
-use Rattle.ca_plane.specs.Shown.{row_cells}
+use Rattle.ca_plane.specs.Prelude.{row_cells}
 use Rattle.ca_bricks.proofs.BrickRows.{rows_grow}
 use Rattle.ca_bricks.proofs.aged_step.bits_of_both.Goals as goal
 

@@ -1,6 +1,6 @@
 use Rattle.std.proofs.Common.{◌-◌, ◌∙◌, arith}
 use Rattle.std.proofs.lemmas.List.{length-set}
-use Rattle.ca_plane.specs.Shown.{row_cells}
+use Rattle.ca_plane.specs.Prelude.{row_cells}
 use Rattle.ca_bricks.proofs.BrickRows.{rows_grow}
 use Rattle.ca_bricks.proofs.aged_step.bits_without.Goals as goal
 

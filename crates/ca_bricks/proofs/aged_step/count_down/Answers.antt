@@ -4,10 +4,9 @@ use Rattle.std.proofs.lemmas.Bool.{cases_eq}
 use Rattle.std.proofs.lemmas.Grind.{get_or-set_at}
 use Rattle.std.proofs.lemmas.List.{get_or-set_other, get_or_default, length-set}
 use Rattle.std.proofs.lemmas.Nat.Bits.{bit_at_or}
-use Rattle.ca_plane.specs.Shown.{row_cells}
+use Rattle.ca_plane.specs.Prelude.{row_cells}
 use Rattle.ca_bricks.specs.declared.grid.BrickGrid.{BrickGrid}
-use Rattle.ca_bricks.specs.Bricks.{IsInPlace}
-use Rattle.ca_bricks.specs.Aged.{number_at}
+use Rattle.ca_bricks.specs.Prelude.{IsInPlace, number_at}
 use Rattle.ca_bricks.proofs.AgedNumbers.{borrowed_at, one_less_digit, digit_at, put_here, put_elsewhere, put_size, in_place_again}
 use Rattle.ca_bricks.proofs.aged_step.count_down.Goals as goal
 

@@ -1,10 +1,9 @@
 use Rattle.std.proofs.Common.{◌≡◌, ℕ, ◌<◌, ◌≤◌, length, get_or, []}
 use Rattle.std.specs.List.{All}
 use Rattle.std.specs.Int.{bit_at}
-use Rattle.ca_plane.specs.Shown.{row_cells}
+use Rattle.ca_plane.specs.Prelude.{row_cells}
 use Rattle.ca_bricks.specs.declared.grid.BrickGrid.{BrickGrid}
-use Rattle.ca_bricks.specs.Aged.{number_at, aged_digit}
-use Rattle.ca_bricks.specs.Bricks.{IsInPlace}
+use Rattle.ca_bricks.specs.Prelude.{number_at, aged_digit, IsInPlace}
 use Rattle.ca_bricks.proofs.AgedNumbers.{borrowed_at}
 use Rattle.ca_bricks.proofs.aged_step.count_down.Given as goal
 

@@ -1,8 +1,8 @@
 use Rattle.std.proofs.Common.{◌≡◌, suc, ◌+◌, min, max, length, take, sym, ap, ap₂, ◌∙◌, arith, get_or, []}
 use Rattle.std.proofs.Math.Seq.{take-length}
 use Rattle.std.proofs.lemmas.List.{get_or_default}
-use Rattle.ca_plane.specs.Shown.{row_cells}
-use Rattle.ca_bricks.specs.Aged.{number_at}
+use Rattle.ca_plane.specs.Prelude.{row_cells}
+use Rattle.ca_bricks.specs.Prelude.{number_at}
 use Rattle.ca_bricks.proofs.AgedNumbers.{some_more}
 use Rattle.ca_bricks.proofs.aged_step.dying_cells.Goals as goal
 

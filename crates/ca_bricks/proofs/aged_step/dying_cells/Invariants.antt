@@ -1,6 +1,6 @@
 use Rattle.std.proofs.Common.{◌≡◌, ℕ, ◌<◌, min, take}
-use Rattle.ca_plane.specs.Shown.{row_cells}
-use Rattle.ca_bricks.specs.Aged.{number_at}
+use Rattle.ca_plane.specs.Prelude.{row_cells}
+use Rattle.ca_bricks.specs.Prelude.{number_at}
 use Rattle.ca_bricks.proofs.aged_step.dying_cells.Given as goal
 
 -- the cells whose digits so far aren't all 0

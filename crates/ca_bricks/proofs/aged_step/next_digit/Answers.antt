@@ -3,7 +3,7 @@ use Rattle.std.specs.Prelude.{bit_and, bit_or, bit_xor}
 use Rattle.std.specs.Int.{bit_at}
 use Rattle.std.proofs.lemmas.List.{length-set}
 use Rattle.std.proofs.lemmas.Nat.Bits.{bit_at_or, bit_at_and, bit_at_xor, bit_at-lt}
-use Rattle.ca_plane.specs.Shown.{row_cells}
+use Rattle.ca_plane.specs.Prelude.{row_cells}
 use Rattle.ca_bricks.proofs.BrickRows.{rows_grow}
 use Rattle.ca_bricks.proofs.aged_step.next_digit.Goals as goal
 

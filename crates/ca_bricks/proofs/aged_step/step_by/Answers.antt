@@ -4,9 +4,8 @@ use Rattle.std.proofs.lemmas.Bool.{cases_eq}
 use Rattle.std.proofs.lemmas.Grind.{get_or-set_at}
 use Rattle.std.proofs.lemmas.List.{get_or-set_other, get_or_default}
 use Rattle.std.proofs.lemmas.Nat.Bits.{bit_at-zero, bit_at-lt}
-use Rattle.ca_plane.specs.Shown.{row_cells}
-use Rattle.ca_bricks.specs.Aged.{IsNextAged, lives_at, begins_at, number_at, aged_digit}
-use Rattle.ca_bricks.specs.Bricks.{HasNeighbours, IsNotIn, IsUnseen, IsSameRound, QueueGrows, round_at, round_cells}
+use Rattle.ca_plane.specs.Prelude.{row_cells}
+use Rattle.ca_bricks.specs.Prelude.{IsNextAged, lives_at, begins_at, number_at, aged_digit, HasNeighbours, IsNotIn, IsUnseen, IsSameRound, QueueGrows, round_at, round_cells}
 use Rattle.ca_bricks.proofs.AgedRounds.{AreSameBut, aged_more, same_aged_again}
 use Rattle.ca_bricks.proofs.BrickQueues.{grows_by_none, grows_again}
 use Rattle.ca_bricks.specs.declared.cell_rule.CellRule.TheVariants.{ByCounting}

@@ -1,7 +1,6 @@
 use Rattle.std.proofs.Common.{◌≡◌, ℕ, ◌<◌, length, get_or, []}
 use Rattle.ca_bricks.specs.declared.grid.BrickGrid.{BrickGrid}
-use Rattle.ca_bricks.specs.Aged.{AreAlike, IsNextAged, IsSameAged}
-use Rattle.ca_bricks.specs.Bricks.{HasNeighbours, IsNotIn, IsNotAhead, QueueGrows}
+use Rattle.ca_bricks.specs.Prelude.{AreAlike, IsNextAged, IsSameAged, HasNeighbours, IsNotIn, IsNotAhead, QueueGrows}
 use Rattle.ca_bricks.proofs.aged_step.step_by.Given as goal
 
 -- bricks that aren't to come are one generation on, and those that aren't in the queue see and have what they did

@@ -1,5 +1,5 @@
 use Rattle.std.proofs.Common.{◌∙◌, sym, ap}
-use Rattle.ca_bricks.specs.Diagrams.{node_state}
+use Rattle.ca_bricks.specs.Prelude.{node_state}
 use Rattle.ca_bricks.specs.inner.Planes.{cells_at}
 use Rattle.ca_bricks.proofs.Planes.{read, chosen}
 use Rattle.ca_bricks.proofs.diagram_rows.node_rows.Goals as goal

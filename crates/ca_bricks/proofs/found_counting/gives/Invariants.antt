@@ -1,5 +1,5 @@
 use Rattle.std.proofs.Common.{◌≡◌, ℕ, ◌<◌, slice_index}
-use Rattle.ca_plane.specs.Counting.{counting_next}
+use Rattle.ca_plane.specs.Prelude.{counting_next}
 use Rattle.ca_bricks.specs.inner.Neighbourhoods.{neighbourhood}
 use Rattle.ca_bricks.proofs.found_counting.gives.Given as goal
 

@@ -1,6 +1,6 @@
 use Rattle.std.proofs.Common.{◌∙◌, ap, subst, min}
-use Rattle.ca_plane.specs.Shown.{row_cells}
-use Rattle.ca_bricks.specs.Lanes.{IsNextTile}
+use Rattle.ca_plane.specs.Prelude.{row_cells}
+use Rattle.ca_bricks.specs.Prelude.{IsNextTile}
 use Rattle.ca_bricks.proofs.TileCells.{cut_within, next_edge}
 use Rattle.ca_bricks.proofs.kernel.kernel16.Goals as goal
 

@@ -1,7 +1,7 @@
 use Rattle.std.proofs.Common.{slice_index, refl}
 use Rattle.std.proofs.lemmas.Nat.Bits.{bit_at-lt}
-use Rattle.ca_plane.specs.Shown.{row_cells}
-use Rattle.ca_bricks.specs.Tiles.{lives_next, next_by_count, number}
+use Rattle.ca_plane.specs.Prelude.{row_cells}
+use Rattle.ca_bricks.specs.Prelude.{lives_next, next_by_count, number}
 use Rattle.ca_bricks.proofs.NextStates.{told_decided, next_by_count-lt, all_told, few_told}
 use Rattle.ca_bricks.proofs.kernel.next_bits.Goals as goal
 

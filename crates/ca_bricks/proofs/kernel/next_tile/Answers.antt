@@ -1,6 +1,6 @@
 use Rattle.std.proofs.Common.{◌∙◌, ap}
-use Rattle.ca_plane.specs.Shown.{row_cells}
-use Rattle.ca_bricks.specs.Tiles.{number, sum_round}
+use Rattle.ca_plane.specs.Prelude.{row_cells}
+use Rattle.ca_bricks.specs.Prelude.{number, sum_round}
 use Rattle.ca_bricks.proofs.TileCells.{next_within}
 use Rattle.ca_bricks.proofs.kernel.next_tile.Goals as goal
 

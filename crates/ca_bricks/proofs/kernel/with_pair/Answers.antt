@@ -1,7 +1,7 @@
 use Rattle.std.proofs.Common.{◌+◌, slice_index}
 use Rattle.std.proofs.lemmas.Nat.Bits.{bit_at-lt}
-use Rattle.ca_plane.specs.Shown.{row_cells}
-use Rattle.ca_bricks.specs.Tiles.{lives_next, next_by_count}
+use Rattle.ca_plane.specs.Prelude.{row_cells}
+use Rattle.ca_bricks.specs.Prelude.{lives_next, next_by_count}
 use Rattle.ca_bricks.proofs.NextStates.{told_decided, pair_told}
 use Rattle.ca_bricks.proofs.kernel.with_pair.Goals as goal
 

@@ -1,6 +1,6 @@
 use Rattle.std.proofs.Common.{◌≡◌, arith, subst, sym, ap, ◌∙◌, length, get_or, []}
 use Rattle.std.proofs.lemmas.List.{with_items_is}
-use Rattle.ca_bricks.specs.Bricks.{HasNeighbours, IsSameRound, IsBlank}
+use Rattle.ca_bricks.specs.Prelude.{HasNeighbours, IsSameRound, IsBlank}
 use Rattle.ca_bricks.proofs.BrickRounds.{next_again}
 use Rattle.ca_bricks.proofs.step.generation.Goals as goal
 

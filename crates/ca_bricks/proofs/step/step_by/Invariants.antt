@@ -1,5 +1,5 @@
 use Rattle.std.proofs.Common.{◌≡◌, ℕ, length, get_or, []}
-use Rattle.ca_bricks.specs.Bricks.{HasNeighbours, IsNotIn, IsNotAhead, QueueGrows, IsSameRound, IsNextBrick}
+use Rattle.ca_bricks.specs.Prelude.{HasNeighbours, IsNotIn, IsNotAhead, QueueGrows, IsSameRound, IsNextBrick}
 use Rattle.ca_bricks.specs.declared.cell_rule.CellRule.TheVariants.{ByCounting}
 use Rattle.ca_bricks.proofs.step.step_by.Given as goal
 

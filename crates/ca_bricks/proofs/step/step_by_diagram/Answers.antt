@@ -1,6 +1,6 @@
 use Rattle.std.proofs.Common.{◌<◌, refl, sym, subst, ◌∙◌, arith, length, slice_index, []}
 use Rattle.std.proofs.lemmas.List.{length-set, get_or-set_other}
-use Rattle.ca_bricks.specs.Bricks.{HasNeighbours}
+use Rattle.ca_bricks.specs.Prelude.{HasNeighbours}
 use Rattle.ca_bricks.specs.declared.cell_rule.CellRule.TheVariants.{ByDiagram}
 use Rattle.ca_bricks.proofs.BrickQueues.{grows_by_none, grows_again}
 use Rattle.ca_bricks.proofs.BrickRounds.{next_of_round, next_more, same_where_unseen, same_again}

@@ -1,7 +1,7 @@
 use Rattle.std.proofs.Common.{◌≡◌, suc, ◌+◌, subst, arith}
 use Rattle.std.proofs.lemmas.Bool.Decides.{nat_tests}
-use Rattle.ca_plane.specs.Generations.{cells_after}
-use Rattle.ca_bricks.specs.WordSquares.{TileShows}
+use Rattle.ca_plane.specs.Prelude.{cells_after}
+use Rattle.ca_bricks.specs.Prelude.{TileShows}
 use Rattle.ca_bricks.specs.declared.cell_rule.CellRule.TheVariants.{ByCounting}
 use Rattle.ca_bricks.proofs.Tiles.{tile_goes_on}
 use Rattle.ca_bricks.proofs.tile.later_counted.Goals as goal

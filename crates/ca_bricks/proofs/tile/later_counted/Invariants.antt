@@ -1,8 +1,7 @@
 use Rattle.std.proofs.Common.{ℕ, List}
 use Rattle.std.specs.Prelude.{ℤ}
-use Rattle.ca_plane.specs.Generations.{cells_after}
-use Rattle.ca_bricks.specs.WordSquares.{TileShows}
-use Rattle.ca_bricks.specs.CellRules.{GoesByCells}
+use Rattle.ca_plane.specs.Prelude.{cells_after}
+use Rattle.ca_bricks.specs.Prelude.{TileShows, GoesByCells}
 use Rattle.ca_bricks.specs.declared.cell_rule.CellRule.TheVariants.{ByCounting}
 use Rattle.ca_bricks.proofs.tile.later_counted.Given as goal
 

@@ -1,5 +1,5 @@
 use Rattle.std.proofs.Common.{subst}
-use Rattle.ca_bricks.specs.CellRules.{GoesByCells}
+use Rattle.ca_bricks.specs.Prelude.{GoesByCells}
 use Rattle.ca_bricks.proofs.tile.later_tile.Goals as goal
 
 pub returns-in-ByDiagram : goal.returns-in-ByDiagram

@@ -1,5 +1,5 @@
 use Rattle.std.proofs.Common.{sym, subst, length}
-use Rattle.ca_bricks.specs.Bricks.{AllHaveNeighbours, IsNotIn}
+use Rattle.ca_bricks.specs.Prelude.{AllHaveNeighbours, IsNotIn}
 use Rattle.ca_bricks.proofs.LaterGrids.{queue_inside}
 use Rattle.ca_bricks.proofs.waking.first_bricks.Goals as goal
 

@@ -1,5 +1,5 @@
 use Rattle.std.proofs.Common.{◌≡◌, ℕ, ◌<◌, slice_index}
-use Rattle.ca_bricks.specs.Bricks.{HasNeighbours, IsNotIn, QueueGrows}
+use Rattle.ca_bricks.specs.Prelude.{HasNeighbours, IsNotIn, QueueGrows}
 use Rattle.ca_bricks.proofs.waking.wake_again.Given as goal
 
 -- the bricks so far are in the queue

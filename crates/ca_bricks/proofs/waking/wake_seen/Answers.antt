@@ -1,7 +1,7 @@
 use Rattle.std.proofs.Common.{inl, inr, sym, subst, arith, get_or, []}
 use Rattle.std.specs.Prelude.{replicate}
 use Rattle.std.proofs.lemmas.Bool.{cases_eq}
-use Rattle.ca_bricks.specs.Bricks.{IsUnseen}
+use Rattle.ca_bricks.specs.Prelude.{IsUnseen}
 use Rattle.ca_bricks.proofs.BrickBlanks.{blank_round}
 use Rattle.ca_bricks.proofs.BrickQueues.{grows_by_none, grows_again}
 use Rattle.ca_bricks.proofs.waking.wake_seen.Goals as goal

@@ -1,6 +1,6 @@
 use Rattle.std.proofs.Common.{ℕ, ◌<◌, length, get_or, []}
 use Rattle.std.specs.Prelude.{replicate}
-use Rattle.ca_bricks.specs.Bricks.{HasNeighbours, IsNotIn, IsUnseen, QueueGrows}
+use Rattle.ca_bricks.specs.Prelude.{HasNeighbours, IsNotIn, IsUnseen, QueueGrows}
 use Rattle.ca_bricks.proofs.waking.wake_seen.Given as goal
 
 -- a brick that isn't in the queue sees nothing of the bricks so far

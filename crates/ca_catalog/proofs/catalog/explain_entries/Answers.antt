@@ -1,5 +1,5 @@
 use Rattle.std.proofs.Common.{◌∙◌, refl, arith}
-use Rattle.ca_catalog.specs.Catalog.{entry_explanation}
+use Rattle.ca_catalog.specs.Prelude.{entry_explanation}
 use Rattle.ca_report.proofs.InPieces.{sent_next, sends_at}
 use Rattle.ca_catalog.proofs.catalog.explain_entries.Goals as goal
 

@@ -1,6 +1,6 @@
 use Rattle.std.proofs.Common.{◌≡◌, take}
 use Rattle.std.specs.Io.KnownBytes.{Appends}
-use Rattle.ca_catalog.specs.Catalog.{catalog_explanation}
+use Rattle.ca_catalog.specs.Prelude.{catalog_explanation}
 use Rattle.ca_catalog.proofs.catalog.explain_entries.Given as goal
 
 -- the lines on the entries so far were sent, and no write failed

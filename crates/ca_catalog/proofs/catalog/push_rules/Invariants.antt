@@ -1,6 +1,6 @@
 use Rattle.std.proofs.Common.{take}
-use Rattle.ca_plane.specs.Puts.{Puts}
-use Rattle.ca_catalog.specs.Catalog.{rule_lines}
+use Rattle.ca_plane.specs.Prelude.{Puts}
+use Rattle.ca_catalog.specs.Prelude.{rule_lines}
 use Rattle.ca_catalog.proofs.catalog.push_rules.Given as goal
 
 -- the lines so far were put

@@ -1,6 +1,6 @@
 use Rattle.std.proofs.Common.{rules, w64, subst, ◌∙◌}
 use Rattle.std.proofs.lemmas.Int.{to_z-of_z}
-use Rattle.ca_plane.specs.Puts.{Puts}
+use Rattle.ca_plane.specs.Prelude.{Puts}
 use Rattle.ca_report.proofs.After.{puts_then}
 use Rattle.ca_catalog.proofs.growth.push_growth.Goals as goal
 

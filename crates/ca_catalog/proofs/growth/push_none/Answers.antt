@@ -1,5 +1,5 @@
 use Rattle.std.proofs.Common.{subst}
-use Rattle.ca_plane.specs.Puts.{Puts}
+use Rattle.ca_plane.specs.Prelude.{Puts}
 use Rattle.ca_report.proofs.After.{puts_then}
 use Rattle.ca_catalog.proofs.growth.push_none.Goals as goal
 

@@ -1,5 +1,5 @@
 use Rattle.std.proofs.Common.{◌≡◌, length}
-use Rattle.ca_catalog.specs.Names.{last_component}
+use Rattle.ca_catalog.specs.Prelude.{last_component}
 use Rattle.ca_catalog.proofs.names.last_component.Given as goal
 
 -- what is left has the same last component

@@ -1,6 +1,6 @@
 use Rattle.std.proofs.Common.{map, take}
-use Rattle.ca_plane.specs.Puts.{Puts}
-use Rattle.ca_catalog.specs.Names.{name_byte}
+use Rattle.ca_plane.specs.Prelude.{Puts}
+use Rattle.ca_catalog.specs.Prelude.{name_byte}
 use Rattle.ca_catalog.proofs.names.push_name_bytes.Given as goal
 
 -- the bytes so far were put

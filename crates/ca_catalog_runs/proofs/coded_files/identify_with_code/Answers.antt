@@ -1,9 +1,9 @@
 use Rattle.std.proofs.Common.{sym, subst, ◌∙◌}
 use Rattle.ca_plane.specs.Plane as plane
-use Rattle.ca_plane.specs.Generations.{cells_after}
-use Rattle.ca_quad.specs.Trees.{cell}
-use Rattle.ca_rule.specs.Rule.{rule_value, next_of}
-use Rattle.ca_pattern.specs.PatternTrees.{ShowsTree, IsPattern}
+use Rattle.ca_plane.specs.Prelude.{cells_after}
+use Rattle.ca_quad.specs.Prelude.{cell}
+use Rattle.ca_rule.specs.Prelude.{rule_value, next_of}
+use Rattle.ca_pattern.specs.Prelude.{ShowsTree, IsPattern}
 use Rattle.ca_pattern.proofs.OpenedFiles.{first_in_range, pattern_of_tree}
 use Rattle.ca_catalog_runs.specs.inner.CodedLooks.{IsCodedLook}
 use Rattle.ca_catalog_runs.specs.inner.Spent.{TakesRunAndTwice}

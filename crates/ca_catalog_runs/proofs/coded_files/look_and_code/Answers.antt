@@ -1,12 +1,11 @@
 use Rattle.std.proofs.Common.{None, Some, refl, sym, subst, ◌∙◌}
 use Rattle.std.specs.Prelude.{MatchOption}
-use Rattle.ca_plane.specs.Generations.{cells_after}
-use Rattle.ca_quad.specs.Trees.{cell}
-use Rattle.ca_evolution.specs.Steps.{TakesSteps}
-use Rattle.ca_pattern.specs.LaterTrees.{IsStart}
-use Rattle.ca_pattern.specs.PatternTrees.{ShowsTree}
+use Rattle.ca_plane.specs.Prelude.{cells_after}
+use Rattle.ca_quad.specs.Prelude.{cell}
+use Rattle.ca_evolution.specs.Prelude.{TakesSteps}
+use Rattle.ca_pattern.specs.Prelude.{IsStart, ShowsTree}
 use Rattle.ca_pattern.proofs.Starts.{near_start}
-use Rattle.ca_answers.specs.Codes.{IsNoObject, IsCodeOf, steps_of}
+use Rattle.ca_answers.specs.Prelude.{IsNoObject, IsCodeOf, steps_of}
 use Rattle.ca_catalog_runs.specs.inner.CodedLooks.{IsFoundCode}
 use Rattle.ca_object_code.proofs.FrameShows.{later_by}
 use Rattle.ca_catalog_runs.proofs.CodedFiles.{found_period, found_steps, found_shows, found_code, look_alone, look_then_quick, look_then_steps}

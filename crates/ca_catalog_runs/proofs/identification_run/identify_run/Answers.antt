@@ -1,7 +1,7 @@
 use Rattle.std.proofs.Common.{rules, refl, ap, subst, ◌∙◌, ◌++◌}
 use Rattle.std.specs.Io.KnownBytes.{Appends}
-use Rattle.ca_plane.specs.Device.{AppendsPrefix}
-use Rattle.ca_catalog.specs.Catalog.{version_line}
+use Rattle.ca_plane.specs.Prelude.{AppendsPrefix}
+use Rattle.ca_catalog.specs.Prelude.{version_line}
 use Rattle.ca_catalog_runs.proofs.CatalogWrites.{head_in_part, ends_catalog}
 use Rattle.ca_catalog_runs.proofs.identification_run.identify_run.Goals as goal
 

@@ -1,7 +1,7 @@
 use Rattle.std.proofs.Common.{rules, ◌≡◌, ◌+◌, [], ◌∷◌, ◌++◌, if◌then◌else◌, refl, ap, ◌∙◌}
 use Rattle.std.specs.List.{flat_map}
 use Rattle.std.proofs.lemmas.Option.{slice_get-get_or}
-use Rattle.ca_catalog.specs.Catalog.{entry_lines}
+use Rattle.ca_catalog.specs.Prelude.{entry_lines}
 use Rattle.ca_catalog_runs.proofs.Entries.{entries_next, lines_next, lines_in_part, entry_within}
 use Rattle.ca_catalog_runs.proofs.identification_run.write_entries.Goals as goal
 

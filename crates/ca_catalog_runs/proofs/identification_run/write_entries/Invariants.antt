@@ -1,7 +1,7 @@
 use Rattle.std.proofs.Common.{◌≡◌, [], take}
 use Rattle.std.specs.List.{flat_map}
 use Rattle.std.specs.Io.KnownBytes.{Appends}
-use Rattle.ca_catalog.specs.Catalog.{entry_lines, AreEntries}
+use Rattle.ca_catalog.specs.Prelude.{entry_lines, AreEntries}
 use Rattle.ca_catalog_runs.proofs.Entries.{names_of}
 use Rattle.ca_catalog_runs.proofs.identification_run.write_entries.Given as goal
 

@@ -1,6 +1,6 @@
 use Rattle.std.proofs.Common.{◌∙◌, ap, subst, sym}
 use Rattle.std.proofs.lemmas.Option.{same_Some}
-use Rattle.ca_text.specs.Words.{with_word}
+use Rattle.ca_text.specs.Prelude.{with_word}
 use Rattle.ca_claims.specs.inner.Unknown.{AddsAsked}
 use Rattle.ca_claims.specs.Unknown.{HoldsUnknownRule}
 use Rattle.ca_claims.proofs.UnknownRules.{adds_none, adds_name}

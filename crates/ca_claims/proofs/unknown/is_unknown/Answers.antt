@@ -1,5 +1,5 @@
 use Rattle.std.proofs.lemmas.Bool.{false≢true}
-use Rattle.ca_rule.specs.Rule.{rule_value}
+use Rattle.ca_rule.specs.Prelude.{rule_value}
 use Rattle.ca_rule.specs.declared.fault.RuleFault.TheVariants.{Unknown}
 use Rattle.ca_rule.proofs.Rules.{named-faultless, one-rule-fault}
 use Rattle.ca_claims.proofs.unknown.is_unknown.Goals as goal

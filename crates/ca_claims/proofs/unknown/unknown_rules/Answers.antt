@@ -1,11 +1,9 @@
 use Rattle.std.proofs.Common.{◌≡◌, ◌≢◌, ℕ, List, [], map, length, IsTrue, ◌↔◌, sym, ap, subst, ◌∙◌}
 use Rattle.std.specs.List.{AllZip}
 use Rattle.std.specs.Option.{MatchOption, option_copied}
-use Rattle.ca_rule.specs.TableNext.{TableRule}
-use Rattle.ca_answers.specs.Files.{contents, bytes_at}
-use Rattle.ca_text.specs.NeededFiles.{IsNeeded}
-use Rattle.ca_text.specs.Text.{ClaimText}
-use Rattle.ca_answers.specs.Answers.{AreTables}
+use Rattle.ca_rule.specs.Prelude.{TableRule}
+use Rattle.ca_answers.specs.Prelude.{contents, bytes_at, AreTables}
+use Rattle.ca_text.specs.Prelude.{IsNeeded, ClaimText}
 use Rattle.ca_verify.specs.NeededFiles.{AreFound}
 use Rattle.ca_claims.specs.Unknown.{AreUnknownRules}
 use Rattle.ca_claims.proofs.UnknownRules.{asked_are_unknown, as_many_marks, none_without_tables, if_ok_as}

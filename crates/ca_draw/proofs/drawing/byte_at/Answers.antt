@@ -1,8 +1,7 @@
 use Rattle.std.proofs.Common.{ap, ap₂, ◌∙◌, arith}
 use Rattle.std.proofs.lemmas.Int.{ints}
-use Rattle.ca_quad.specs.Trees.{cell}
-use Rattle.ca_draw.specs.Marks.{mark_of}
-use Rattle.ca_draw.specs.Drawings.{byte_of_mark}
+use Rattle.ca_quad.specs.Prelude.{cell}
+use Rattle.ca_draw.specs.Prelude.{mark_of, byte_of_mark}
 use Rattle.ca_draw.proofs.drawing.byte_at.Goals as goal
 
 pub returns : goal.returns

@@ -1,6 +1,6 @@
 use Rattle.std.proofs.Common.{◌≡◌, ◌*◌, ◌++◌}
-use Rattle.ca_quad.specs.Trees.{cell}
-use Rattle.ca_draw.specs.Drawings.{drawing_front, drawing_row, repeated, texts_below}
+use Rattle.ca_quad.specs.Prelude.{cell}
+use Rattle.ca_draw.specs.Prelude.{drawing_front, drawing_row, repeated, texts_below}
 use Rattle.ca_draw.proofs.drawing.draw.Given as goal
 
 -- the rows so far follow what stands before them

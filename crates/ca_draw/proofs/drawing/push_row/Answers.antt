@@ -1,8 +1,8 @@
 use Rattle.std.proofs.Common.{[], ◌∷◌, ap, arith}
 use Rattle.std.proofs.lemmas.Result.{on_ok_weaker}
-use Rattle.ca_plane.specs.Puts.{Puts}
-use Rattle.ca_quad.specs.Trees.{cell}
-use Rattle.ca_draw.specs.Drawings.{drawing_row, repeated, row_end}
+use Rattle.ca_plane.specs.Prelude.{Puts}
+use Rattle.ca_quad.specs.Prelude.{cell}
+use Rattle.ca_draw.specs.Prelude.{drawing_row, repeated, row_end}
 use Rattle.ca_draw.proofs.Rows.{texts_more, texts_all}
 use Rattle.ca_draw.proofs.drawing.push_row.Goals as goal
 

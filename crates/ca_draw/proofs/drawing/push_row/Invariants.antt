@@ -1,8 +1,7 @@
 use Rattle.std.proofs.Common.{[], ◌∷◌, pos, ◌+ℤ◌}
-use Rattle.ca_plane.specs.Puts.{Puts}
-use Rattle.ca_quad.specs.Trees.{cell}
-use Rattle.ca_draw.specs.Marks.{mark_of}
-use Rattle.ca_draw.specs.Drawings.{byte_of_mark, repeated, texts_below}
+use Rattle.ca_plane.specs.Prelude.{Puts}
+use Rattle.ca_quad.specs.Prelude.{cell}
+use Rattle.ca_draw.specs.Prelude.{mark_of, byte_of_mark, repeated, texts_below}
 use Rattle.ca_draw.proofs.drawing.push_row.Given as goal
 
 -- the bytes of the columns so far follow the text

@@ -1,6 +1,6 @@
-use Rattle.ca_plane.specs.Puts.{Puts}
-use Rattle.ca_quad.specs.Trees.{cell}
-use Rattle.ca_draw.specs.Drawings.{drawing_row, repeated}
+use Rattle.ca_plane.specs.Prelude.{Puts}
+use Rattle.ca_quad.specs.Prelude.{cell}
+use Rattle.ca_draw.specs.Prelude.{drawing_row, repeated}
 use Rattle.ca_draw.proofs.drawing.push_rows.Given as goal
 
 -- the row so many times follows the text

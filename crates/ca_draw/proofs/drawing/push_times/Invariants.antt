@@ -1,6 +1,6 @@
 use Rattle.std.proofs.Common.{[], ◌∷◌}
-use Rattle.ca_plane.specs.Puts.{Puts}
-use Rattle.ca_draw.specs.Drawings.{repeated}
+use Rattle.ca_plane.specs.Prelude.{Puts}
+use Rattle.ca_draw.specs.Prelude.{repeated}
 use Rattle.ca_draw.proofs.drawing.push_times.Given as goal
 
 -- the byte so many times follows the text

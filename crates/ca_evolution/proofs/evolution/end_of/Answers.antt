@@ -1,7 +1,7 @@
 use Rattle.std.proofs.Common.{◌≡◌, ◌<◌, ap, subst, sym, ◌∙◌, arith}
 use Rattle.std.specs.Prelude.{ℤ}
-use Rattle.ca_plane.specs.Generations.{cells_after}
-use Rattle.ca_quad.specs.Trees.{cell}
+use Rattle.ca_plane.specs.Prelude.{cells_after}
+use Rattle.ca_quad.specs.Prelude.{cell}
 use Rattle.ca_pattern.proofs.LaterPlanes.{later_is_low, later_small}
 use Rattle.ca_pattern.proofs.Nearby.{end_outside}
 use Rattle.ca_evolution.proofs.evolution.end_of.Goals as goal

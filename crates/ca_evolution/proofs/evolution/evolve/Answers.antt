@@ -1,12 +1,8 @@
 use Rattle.std.proofs.Common.{◌<◌, refl, sym, subst, ◌∙◌, arith}
-use Rattle.ca_plane.specs.Generations.{cells_after}
-use Rattle.ca_plane.specs.Limits.{generation_limit}
+use Rattle.ca_plane.specs.Prelude.{cells_after, generation_limit}
 use Rattle.ca_quad.specs.Trees as trees
-use Rattle.ca_rule.specs.Rule.{rule_value, next_of}
-use Rattle.ca_pattern.specs.PatternCells.{IsPatternOf}
-use Rattle.ca_pattern.specs.PatternTrees.{IsPattern}
-use Rattle.ca_pattern.specs.States.{HasSmallStates}
-use Rattle.ca_pattern.specs.LaterTrees.{IsLaterTree}
+use Rattle.ca_rule.specs.Prelude.{rule_value, next_of}
+use Rattle.ca_pattern.specs.Prelude.{IsPatternOf, IsPattern, HasSmallStates, IsLaterTree}
 use Rattle.ca_pattern.proofs.EqualCells.{small_shown}
 use Rattle.ca_pattern.proofs.OpenedFiles.{pattern_of_tree}
 use Rattle.ca_evolution.proofs.EvolvedPatterns.{later_pattern, needs_run}

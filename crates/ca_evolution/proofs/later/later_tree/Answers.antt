@@ -1,11 +1,10 @@
 use Rattle.std.proofs.Common.{◌+◌, ◌≤◌, refl, sym, subst, ◌∙◌, arith}
 use Rattle.std.specs.Prelude.{pos}
-use Rattle.ca_quad.specs.Shifted.{shifted_cells, IsShiftRefused}
-use Rattle.ca_plane.specs.Generations.{cells_after}
-use Rattle.ca_quad.specs.Trees.{cell}
-use Rattle.ca_work.specs.Spending.{Spent}
-use Rattle.ca_pattern.specs.LaterTrees.{IsWithinPlane, IsLaterTree}
-use Rattle.ca_evolution.specs.Steps.{step_work}
+use Rattle.ca_quad.specs.Prelude.{shifted_cells, IsShiftRefused, cell}
+use Rattle.ca_plane.specs.Prelude.{cells_after}
+use Rattle.ca_work.specs.Prelude.{Spent}
+use Rattle.ca_pattern.specs.Prelude.{IsWithinPlane, IsLaterTree}
+use Rattle.ca_evolution.specs.Prelude.{step_work}
 use Rattle.ca_pattern.proofs.Corners.{fits_near}
 use Rattle.ca_evolution.proofs.Spending.{takes_one}
 use Rattle.ca_evolution.proofs.Spending.{takes_before}

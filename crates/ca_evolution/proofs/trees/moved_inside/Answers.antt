@@ -1,8 +1,7 @@
 use Rattle.std.proofs.Common.{◌≡◌, sym, ap, subst, ◌∙◌, arith, w64, to_z}
 use Rattle.std.specs.Prelude.{pos}
 use Rattle.std.proofs.lemmas.Int.{to_z-of_z}
-use Rattle.ca_quad.specs.Shifted.{shifted_cells, IsShiftRefused}
-use Rattle.ca_quad.specs.Trees.{cell}
+use Rattle.ca_quad.specs.Prelude.{shifted_cells, IsShiftRefused, cell}
 use Rattle.ca_pattern.proofs.Corners.{fits_near}
 use Rattle.ca_pattern.proofs.Times.{moved_nowhere}
 use Rattle.ca_evolution.proofs.trees.moved_inside.Goals as goal

@@ -1,4 +1,4 @@
-use Rattle.ca_quad.specs.Trees.{cell}
+use Rattle.ca_quad.specs.Prelude.{cell}
 use Rattle.ca_pattern.proofs.Nearby.{end_outside}
 use Rattle.ca_evolution.proofs.trees.tree_after.Goals as goal
 

@@ -1,9 +1,7 @@
 use Rattle.std.proofs.Common.{◌≡◌, refl, sym, subst, ◌∙◌, w64, to_z, of_z}
 use Rattle.std.specs.Prelude.{ℤ}
 use Rattle.std.proofs.lemmas.Int.{to_z-of_z}
-use Rattle.ca_quad.specs.Expanded.{HasCellOutsidePlane}
-use Rattle.ca_quad.specs.Shifted.{shifted_cells}
-use Rattle.ca_quad.specs.Trees.{cell}
+use Rattle.ca_quad.specs.Prelude.{HasCellOutsidePlane, shifted_cells, cell}
 use Rattle.ca_quad.proofs.Trims.{trees_stay}
 use Rattle.ca_run.proofs.LeaperGrowth.{goes_on_again}
 use Rattle.ca_pattern.proofs.Corners.{not_leaves, no_move}

@@ -1,13 +1,12 @@
 use Rattle.std.proofs.Common.{Ok, subst, ◌∙◌, arith}
-use Rattle.ca_plane.specs.Generations.{cells_after}
-use Rattle.ca_quad.specs.Boxes.{IsDead, IsLeastWideBox}
-use Rattle.ca_quad.specs.Trees.{cell}
+use Rattle.ca_plane.specs.Prelude.{cells_after}
+use Rattle.ca_quad.specs.Prelude.{IsDead, IsLeastWideBox, cell}
 use Rattle.ca_answers.specs.declared.identity.Identity.TheVariants.{Empty}
 use Rattle.ca_identify.specs.declared.tree_look.TreeLook.{TreeLook}
-use Rattle.ca_answers.specs.Identified.{IsLook}
+use Rattle.ca_answers.specs.Prelude.{IsLook}
 use Rattle.ca_identify.specs.inner.Stages.{TakesSearch}
 use Rattle.ca_identify.proofs.Identities.{found_later, whole_look}
-use Rattle.ca_pattern.specs.PatternTrees.{ShowsTree}
+use Rattle.ca_pattern.specs.Prelude.{ShowsTree}
 use Rattle.ca_pattern.proofs.LeaptTrees.{shows_stays}
 use Rattle.ca_pattern.proofs.Nearby.{later_outside}
 use Rattle.ca_identify.proofs.Stages.{run_alone, run_then_steps}

@@ -1,8 +1,7 @@
 use Rattle.std.proofs.Common.{◌+◌, List, sym, subst, arith}
-use Rattle.ca_plane.specs.declared.point.Point.{Point}
-use Rattle.ca_plane.specs.declared.bit_plane.CellWord.{CellWord}
-use Rattle.ca_plane.specs.BitPlane.{AddsRun}
-use Rattle.ca_apgcode.specs.Grids.{cell}
+use Rattle.ca_plane.specs.declared.{point.Point.Point, bit_plane.CellWord.CellWord}
+use Rattle.ca_plane.specs.Prelude.{AddsRun}
+use Rattle.ca_apgcode.specs.Prelude.{cell}
 use Rattle.ca_import.specs.inner.Drawn.{IsDrawnTo}
 use Rattle.ca_import.proofs.DrawnColumns.{draws_live, draws_dead, dead_cell, draws_column}
 use Rattle.ca_import.proofs.code_cells.draw_column.Goals as goal

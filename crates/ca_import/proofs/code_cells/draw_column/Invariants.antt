@@ -1,4 +1,4 @@
-use Rattle.ca_apgcode.specs.Grids.{cell}
+use Rattle.ca_apgcode.specs.Prelude.{cell}
 use Rattle.ca_import.specs.inner.Drawn.{IsDrawnTo}
 use Rattle.ca_import.proofs.code_cells.draw_column.Given as goal
 

@@ -1,7 +1,7 @@
 use Rattle.std.proofs.Common.{[], ◌∷◌, codes, refl, arith}
 use Rattle.ca_import.specs.declared.format.ImportFormat.TheVariants.{Lines}
 use Rattle.ca_import.specs.declared.format.LineFormat.TheVariants.{Life105}
-use Rattle.ca_import.specs.CellLines.{Nothing, Row}
+use Rattle.ca_import.specs.Prelude.{Nothing, Row}
 use Rattle.ca_import.proofs.examples.worked_faults.Goals as goal
 
 pub returns : goal.returns

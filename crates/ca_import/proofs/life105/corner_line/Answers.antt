@@ -1,7 +1,7 @@
 use Rattle.std.proofs.Common.{◌≡◌, [], ◌∷◌, codes, inl, refl, sym, subst, arith}
 use Rattle.std.proofs.lemmas.Int.{ints}
-use Rattle.ca_plane.specs.Bytes.{words_of}
-use Rattle.ca_import.specs.Life105.{corner_numbers, Life105WordsSay}
+use Rattle.ca_plane.specs.Prelude.{words_of}
+use Rattle.ca_import.specs.Prelude.{corner_numbers, Life105WordsSay}
 use Rattle.ca_import.specs.inner.Lines.{IsAloneFault}
 use Rattle.ca_import.proofs.Faults.{passed_on}
 use Rattle.ca_import.proofs.Life105Lines.{corner_fault}

@@ -1,6 +1,6 @@
 use Rattle.std.proofs.Common.{◌≡◌, ◌∷◌, sym, ◌∙◌}
-use Rattle.ca_plane.specs.Bytes.{words_of}
-use Rattle.ca_import.specs.Life105.{Life105WordsSay, Life105Says}
+use Rattle.ca_plane.specs.Prelude.{words_of}
+use Rattle.ca_import.specs.Prelude.{Life105WordsSay, Life105Says}
 use Rattle.ca_import.specs.inner.Lines.{IsAloneFault}
 use Rattle.ca_import.proofs.Faults.{other_fault}
 use Rattle.ca_import.proofs.Life105Lines.{line_fault}

@@ -1,5 +1,5 @@
 use Rattle.std.proofs.Common.{◌∷◌, codes}
-use Rattle.ca_plane.specs.Bytes.{words_of}
+use Rattle.ca_plane.specs.Prelude.{words_of}
 use Rattle.ca_import.proofs.Life105Lines.{unnamed_life, rule_fault}
 use Rattle.ca_import.proofs.life105.life_line.Goals as goal
 

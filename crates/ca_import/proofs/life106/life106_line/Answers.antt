@@ -1,6 +1,6 @@
 use Rattle.std.proofs.Common.{◌≡◌, [], ◌∷◌, sym, ◌∙◌}
-use Rattle.ca_plane.specs.Bytes.{words_of}
-use Rattle.ca_import.specs.Life106.{Life106WordsSay}
+use Rattle.ca_plane.specs.Prelude.{words_of}
+use Rattle.ca_import.specs.Prelude.{Life106WordsSay}
 use Rattle.ca_import.specs.inner.Lines.{IsAloneFault}
 use Rattle.ca_import.proofs.Faults.{passed_on}
 use Rattle.ca_import.proofs.Life106Lines.{cell_fault}

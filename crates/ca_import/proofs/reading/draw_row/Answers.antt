@@ -1,8 +1,7 @@
 use Rattle.std.proofs.Common.{◌≡◌, ◌∷◌, sym, subst, ◌∙◌}
-use Rattle.ca_plane.specs.declared.point.Point.{Point}
-use Rattle.ca_plane.specs.declared.bit_plane.CellWord.{CellWord}
+use Rattle.ca_plane.specs.declared.{point.Point.Point, bit_plane.CellWord.CellWord}
 use Rattle.std.specs.Prelude.{List}
-use Rattle.ca_import.specs.CellLines.{east}
+use Rattle.ca_import.specs.Prelude.{east}
 use Rattle.ca_import.proofs.DrawnRows.{IsDrawn, drawn_live, drawn_dead}
 use Rattle.ca_import.proofs.reading.draw_row.Goals as goal
 use Rattle.ca_import.proofs.reading.draw_row.Goals.{then-is_live_byte+in_ok-add_run, else-is_live_byte}

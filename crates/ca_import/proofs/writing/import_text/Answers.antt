@@ -1,4 +1,4 @@
-use Rattle.ca_plane.specs.BitPlane.{bit_cell}
+use Rattle.ca_plane.specs.Prelude.{bit_cell}
 use Rattle.ca_import.proofs.InRange.{import_in_range}
 use Rattle.ca_import.proofs.writing.import_text.Goals as goal
 

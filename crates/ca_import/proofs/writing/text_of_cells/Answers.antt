@@ -1,10 +1,9 @@
 use Rattle.std.proofs.Common.{ℤ, ◌≡◌, ◌≤◌, ◌<◌, sym, subst, arith}
-use Rattle.ca_plane.specs.Bytes.{IsWord}
-use Rattle.ca_plane.specs.BitPlane.{bit_cell}
-use Rattle.ca_quad.specs.Trees.{cell}
+use Rattle.ca_plane.specs.Prelude.{IsWord, bit_cell}
+use Rattle.ca_quad.specs.Prelude.{cell}
 use Rattle.ca_macro.proofs.Ranges.{range_as}
 use Rattle.ca_pattern.specs.declared.located_fault.LocatedFault.TheVariants.{TooManyCells}
-use Rattle.ca_pattern.specs.Written.{AreUnwritten}
+use Rattle.ca_pattern.specs.Prelude.{AreUnwritten}
 use Rattle.ca_pattern.proofs.EqualCells.{many_shown}
 use Rattle.ca_import.proofs.WrittenCells.{bits_low}
 use Rattle.ca_import.proofs.writing.text_of_cells.Goals as goal

@@ -1,6 +1,6 @@
 use Rattle.std.proofs.Common.{◌-◌, ◌++◌, ap, ◌∙◌}
-use Rattle.ca_plane.specs.Bytes.{text_of}
-use Rattle.ca_rule.specs.Generations.{generations_next}
+use Rattle.ca_plane.specs.Prelude.{text_of}
+use Rattle.ca_rule.specs.Prelude.{generations_next}
 use Rattle.ca_isotropic.specs.inner.GenerationsTables.{generations_head, variable_lines, live_lines, dying_lines}
 use Rattle.ca_isotropic.proofs.GenerationsFiles.{writes}
 use Rattle.ca_isotropic.proofs.generations.generations_file.Goals as goal

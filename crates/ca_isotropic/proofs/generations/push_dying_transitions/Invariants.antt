@@ -1,6 +1,5 @@
 use Rattle.std.proofs.Common.{◌≤◌, ◌-◌}
-use Rattle.ca_plane.specs.Bytes.{text_of}
-use Rattle.ca_plane.specs.Puts.{Puts}
+use Rattle.ca_plane.specs.Prelude.{text_of, Puts}
 use Rattle.ca_isotropic.specs.inner.GenerationsTables.{dying_lines}
 use Rattle.ca_isotropic.proofs.generations.push_dying_transitions.Given as goal
 

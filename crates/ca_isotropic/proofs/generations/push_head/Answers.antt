@@ -1,5 +1,5 @@
 use Rattle.std.proofs.Common.{[], ◌∷◌, ◌++◌, codes, decimal, sym, ap, ◌∙◌, append_assoc}
-use Rattle.ca_plane.specs.Bytes.{text_of}
+use Rattle.ca_plane.specs.Prelude.{text_of}
 use Rattle.ca_isotropic.specs.inner.GenerationsTables.{generations_head}
 use Rattle.ca_isotropic.proofs.PutTexts.{then-puts}
 use Rattle.ca_isotropic.proofs.generations.push_head.Goals as goal

@@ -1,6 +1,5 @@
-use Rattle.ca_plane.specs.Bytes.{text_of}
-use Rattle.ca_plane.specs.Puts.{Puts}
-use Rattle.ca_rule.specs.Generations.{generations_next}
+use Rattle.ca_plane.specs.Prelude.{text_of, Puts}
+use Rattle.ca_rule.specs.Prelude.{generations_next}
 use Rattle.ca_isotropic.specs.inner.GenerationsTables.{live_lines}
 use Rattle.ca_isotropic.proofs.generations.push_live_transitions.Given as goal
 

@@ -1,7 +1,7 @@
 use Rattle.std.proofs.Common.{◌∙◌, sym, ap}
 use Rattle.std.proofs.lemmas.Bool.{false≢true}
 use Rattle.ca_rule.proofs.SpelledDigits.{IfNone-from}
-use Rattle.ca_isotropic.specs.Isotropic.{is_kind_list}
+use Rattle.ca_isotropic.specs.Prelude.{is_kind_list}
 use Rattle.ca_isotropic.proofs.KindTexts.{spelled, spells-none, spells-read}
 use Rattle.ca_isotropic.proofs.isotropic.spelled_lists.Goals as goal
 

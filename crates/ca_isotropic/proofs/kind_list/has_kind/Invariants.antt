@@ -1,5 +1,5 @@
 use Rattle.std.proofs.Common.{◌≡◌, length}
-use Rattle.ca_isotropic.specs.Isotropic.{has_kind}
+use Rattle.ca_isotropic.specs.Prelude.{has_kind}
 use Rattle.ca_isotropic.proofs.kind_list.has_kind.Given as goal
 
 -- the whole list has the kind where what is left has it

@@ -1,5 +1,5 @@
 use Rattle.std.proofs.Common.{◌≡◌, length}
-use Rattle.ca_isotropic.specs.Isotropic.{is_kind_list}
+use Rattle.ca_isotropic.specs.Prelude.{is_kind_list}
 use Rattle.ca_isotropic.proofs.kind_list.is_kind_list.Given as goal
 
 -- all is a list of kinds where what is left is one

@@ -1,7 +1,7 @@
 use Rattle.std.proofs.Common.{ap, ◌∙◌}
 use Rattle.std.specs.List.{list_any}
 use Rattle.std.specs.Str.{bytes_eq}
-use Rattle.ca_isotropic.specs.Kinds.{mirrored, turns, neighbours}
+use Rattle.ca_isotropic.specs.Prelude.{mirrored, turns, neighbours}
 use Rattle.ca_isotropic.proofs.PutTexts.{first-any, later-any}
 use Rattle.ca_isotropic.proofs.kinds.is_of_kind.Goals as goal
 

@@ -1,6 +1,6 @@
 use Rattle.std.proofs.Common.{subst}
-use Rattle.ca_rule.specs.Spelling.{IsBsRuleFault}
-use Rattle.ca_isotropic.specs.TextRules.{Bs, Isotropic, Map, Generations}
+use Rattle.ca_rule.specs.Prelude.{IsBsRuleFault}
+use Rattle.ca_isotropic.specs.Prelude.{Bs, Isotropic, Map, Generations}
 use Rattle.ca_isotropic.proofs.Names.{table-name, bs-text, isotropic-text, map-text, generations-text}
 use Rattle.ca_isotropic.proofs.texts.rule_file.Goals as goal
 

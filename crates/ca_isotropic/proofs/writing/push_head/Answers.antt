@@ -1,5 +1,5 @@
 use Rattle.std.proofs.Common.{[], ◌∷◌, ◌++◌, codes, sym, ap, ◌∙◌, append_assoc}
-use Rattle.ca_plane.specs.Bytes.{text_of}
+use Rattle.ca_plane.specs.Prelude.{text_of}
 use Rattle.ca_isotropic.proofs.PutTexts.{then-puts}
 use Rattle.ca_isotropic.proofs.writing.push_head.Goals as goal
 

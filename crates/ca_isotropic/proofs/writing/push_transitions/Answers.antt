@@ -2,7 +2,7 @@ use Rattle.std.proofs.Common.{◌≡◌, ◌==◌, true, false, ◌++◌, sym, a
 use Rattle.std.proofs.lemmas.List.{append-nil}
 use Rattle.std.proofs.lemmas.Bool.Decides.{nat_tests}
 use Rattle.std.specs.Prelude.{slice_index}
-use Rattle.ca_plane.specs.Bytes.{text_of}
+use Rattle.ca_plane.specs.Prelude.{text_of}
 use Rattle.ca_isotropic.specs.inner.WrittenTables.{transition_line}
 use Rattle.ca_isotropic.proofs.WrittenFiles.{no-lines, one-more, none-more}
 use Rattle.ca_isotropic.proofs.writing.push_transitions.Goals as goal

@@ -1,5 +1,4 @@
-use Rattle.ca_plane.specs.Bytes.{text_of}
-use Rattle.ca_plane.specs.Puts.{Puts}
+use Rattle.ca_plane.specs.Prelude.{text_of, Puts}
 use Rattle.ca_isotropic.specs.inner.WrittenTables.{transition_lines}
 use Rattle.ca_isotropic.proofs.writing.push_transitions.Given as goal
 

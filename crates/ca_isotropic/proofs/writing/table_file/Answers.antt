@@ -1,5 +1,5 @@
 use Rattle.std.proofs.Common.{◌<◌, All, ◌++◌, sym, ap, subst, ◌∙◌}
-use Rattle.ca_plane.specs.Bytes.{text_of}
+use Rattle.ca_plane.specs.Prelude.{text_of}
 use Rattle.ca_isotropic.specs.inner.WrittenTables.{head_lines, transition_lines}
 use Rattle.ca_isotropic.proofs.WrittenFiles.{IsOfTwoStates, writes}
 use Rattle.ca_isotropic.proofs.writing.table_file.Goals as goal

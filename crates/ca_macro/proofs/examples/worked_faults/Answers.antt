@@ -1,9 +1,8 @@
 use Rattle.std.proofs.Common.{◌≡◌, ◌≢◌, ℕ, ◌≤◌, List, [], ◌∷◌, ◌++◌, Option, Some, not, inl, inr, lit≤, lit<, codes, refl, arith}
 use Rattle.std.proofs.lemmas.Option.{same_Some}
 use Rattle.ca_macro.specs.declared.fault.MacroFault.TheVariants.{Timeline, Syntax, Forward, Level, LeafSize, GenTooLarge}
-use Rattle.ca_macro.specs.Faults.{is_leaf_byte, AreFaulty}
-use Rattle.ca_plane.specs.Bytes.{text_of}
-use Rattle.ca_macro.specs.Examples.{after_first, cut_numbers_text}
+use Rattle.ca_macro.specs.Prelude.{is_leaf_byte, AreFaulty, after_first, cut_numbers_text}
+use Rattle.ca_plane.specs.Prelude.{text_of}
 use Rattle.ca_macro.specs.inner.Leaves.{leaf_cells}
 use Rattle.ca_macro.proofs.Leaves.{leaf_found}
 use Rattle.ca_macro.proofs.WorkedExamples.{numbers_found, faulty, faulty_after_leaf, own_number, four_numbers, bad_byte}

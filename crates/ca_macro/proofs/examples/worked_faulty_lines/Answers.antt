@@ -1,9 +1,7 @@
 use Rattle.std.proofs.Common.{[], ◌∷◌, codes, refl}
 use Rattle.ca_macro.specs.declared.fault.MacroFault.TheVariants.{NotMacro, Syntax, Forward}
-use Rattle.ca_macro.specs.File.{Nothing, Rule}
-use Rattle.ca_macro.specs.Faults.{AreFaulty}
-use Rattle.ca_plane.specs.Bytes.{text_of}
-use Rattle.ca_macro.specs.Examples.{after_first, cut_numbers_text}
+use Rattle.ca_macro.specs.Prelude.{Nothing, Rule, AreFaulty, after_first, cut_numbers_text}
+use Rattle.ca_plane.specs.Prelude.{text_of}
 use Rattle.ca_macro.proofs.WorkedExamples.{faulty, faulty_after_leaf, own_number, four_numbers}
 use Rattle.ca_macro.proofs.examples.worked_faulty_lines.Goals as goal
 

@@ -1,7 +1,5 @@
 use Rattle.std.proofs.Common.{[], ◌∷◌, lit≤, lit<, codes, refl}
-use Rattle.ca_macro.specs.Nodes.{Cells, Parts}
-use Rattle.ca_macro.specs.File.{Nothing, Rule, Generation, Adds}
-use Rattle.ca_macro.specs.Examples.{glider_leaf, cut_leaf, golly_leaf, mixed_leaf}
+use Rattle.ca_macro.specs.Prelude.{Cells, Parts, Nothing, Rule, Generation, Adds, glider_leaf, cut_leaf, golly_leaf, mixed_leaf}
 use Rattle.ca_macro.proofs.FileOrFault.{said_file}
 use Rattle.ca_macro.proofs.Leaves.{leaf_found}
 use Rattle.ca_macro.proofs.WorkedExamples.{numbers_found}

@@ -1,11 +1,9 @@
 use Rattle.std.proofs.Common.{ℕ, zero, suc, ◌≤◌, pos, [], ◌∷◌, inl, inr, lit≤, lit<, codes, refl, arith}
 use Rattle.std.specs.List.{AllByRecursion}
 use Rattle.std.proofs.lemmas.Int.{ints}
-use Rattle.ca_plane.specs.Plane.{cell}
-use Rattle.ca_quad.specs.Trees.{IsWithinLevel}
-use Rattle.ca_macro.specs.Nodes.{Cells, Parts}
-use Rattle.ca_macro.specs.Tidy.{Fits}
-use Rattle.ca_macro.specs.Examples.{glider_file, glider, cross_file, cross}
+use Rattle.ca_plane.specs.Prelude.{cell}
+use Rattle.ca_quad.specs.Prelude.{IsWithinLevel}
+use Rattle.ca_macro.specs.Prelude.{Cells, Parts, Fits, glider_file, glider, cross_file, cross}
 use Rattle.ca_macro.proofs.WorkedExamples.{fits_found, spelled_by, tidy_found}
 use Rattle.ca_macro.proofs.examples.worked_tidy_texts.Goals as goal
 

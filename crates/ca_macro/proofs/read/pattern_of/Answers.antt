@@ -1,10 +1,8 @@
 use Rattle.std.proofs.Common.{inl, inr, sym, ◌∙◌, rules}
 use Rattle.std.specs.List.{flat_map}
-use Rattle.ca_plane.specs.Limits.{default_rule}
-use Rattle.ca_plane.specs.Plane.{cell}
-use Rattle.ca_quad.specs.Trees.{cell as tree_cell}
-use Rattle.ca_macro.specs.File.{added_nodes}
-use Rattle.ca_macro.specs.Shown.{picture_of_nodes}
+use Rattle.ca_plane.specs.Prelude.{default_rule, cell}
+use Rattle.ca_quad.specs.Prelude.{cell as tree_cell}
+use Rattle.ca_macro.specs.Prelude.{added_nodes, picture_of_nodes}
 use Rattle.ca_macro.proofs.KeptSquares.{picture_states}
 use Rattle.ca_macro.proofs.Ranges.{entries_in_range, cells_in_range, range_as}
 use Rattle.ca_macro.proofs.Saying.{passed_on}

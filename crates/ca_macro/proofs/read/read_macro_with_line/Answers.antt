@@ -1,4 +1,4 @@
-use Rattle.ca_macro.specs.Faults.{IsMacrocellFaultOn}
+use Rattle.ca_macro.specs.Prelude.{IsMacrocellFaultOn}
 use Rattle.ca_macro.proofs.OneMeaning.{reading_fault, refused}
 use Rattle.ca_macro.proofs.Saying.{passed_on}
 use Rattle.ca_macro.proofs.read.read_macro_with_line.Goals as goal

@@ -1,5 +1,5 @@
 use Rattle.std.proofs.Common.{sym, arith}
-use Rattle.ca_quad.specs.Trees.{cell}
+use Rattle.ca_quad.specs.Prelude.{cell}
 use Rattle.ca_macro.proofs.Roots.{least_as, level_in_range}
 use Rattle.ca_macro.proofs.TidyFiles.{tidy_file, file_of_tidy, tidy_holds, tidy_within, tidy_text}
 use Rattle.ca_macro.proofs.write.write_macro.Goals as goal

@@ -1,16 +1,15 @@
 use Rattle.std.proofs.Common.{refl, sym, subst, ap, ◌∙◌}
 use Rattle.ca_plane.specs.Plane as plane
-use Rattle.ca_plane.specs.Generations.{after, cells_after}
-use Rattle.ca_plane.specs.Population.{HasPopulation}
+use Rattle.ca_plane.specs.Prelude.{after, cells_after, HasPopulation}
 use Rattle.ca_plane.proofs.After.{after_same}
-use Rattle.ca_quad.specs.Trees.{cell}
-use Rattle.ca_apgcode.specs.Objects.{IsObjectCode}
+use Rattle.ca_quad.specs.Prelude.{cell}
+use Rattle.ca_apgcode.specs.Prelude.{IsObjectCode}
 use Rattle.ca_apgcode.specs.declared.object.ObjectKind.TheVariants as kind
 use Rattle.ca_apgcode.proofs.Copies.{code_of_same}
-use Rattle.ca_evolution.specs.Steps.{TakesSteps}
+use Rattle.ca_evolution.specs.Prelude.{TakesSteps}
 use Rattle.ca_evolution.proofs.Steps.{no_step}
 use Rattle.ca_answers.specs.declared.identity.Identity.TheVariants.{Claim}
-use Rattle.ca_answers.specs.Codes.{IsCodeOf, steps_of}
+use Rattle.ca_answers.specs.Prelude.{IsCodeOf, steps_of}
 use Rattle.ca_object_code.proofs.Populations.{population_as}
 use Rattle.ca_object_code.proofs.code.code_of_tree.Goals as goal
 

@@ -1,6 +1,6 @@
 use Rattle.std.proofs.Common.{sym, subst, ◌∙◌, arith}
 use Rattle.std.specs.List.{All}
-use Rattle.ca_plane.specs.Plane.{Picture}
+use Rattle.ca_plane.specs.Prelude.{Picture}
 use Rattle.ca_plane.proofs.Pictures.{IsListed-turn, cells_end}
 use Rattle.ca_object_code.specs.inner.Drawn.{IsLiveAt}
 use Rattle.ca_object_code.proofs.Drawings.{all_live, no_other_still, IsDrawn-all}

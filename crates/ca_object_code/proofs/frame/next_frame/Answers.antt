@@ -1,5 +1,5 @@
 use Rattle.std.proofs.Common.{sym, subst, inl, inr, arith}
-use Rattle.ca_bricks.specs.Bricks.{HasNeighbours}
+use Rattle.ca_bricks.specs.Prelude.{HasNeighbours}
 use Rattle.ca_object_code.proofs.FrameRounds.{dark_rests}
 use Rattle.ca_object_code.proofs.frame.next_frame.Goals as goal
 

@@ -1,17 +1,15 @@
 use Rattle.std.proofs.Common.{◌≡◌, ℕ, ◌+◌, ◌-◌, Vec, Global, refl, sym, ap, subst, ◌∙◌, arith}
 use Rattle.std.specs.Prelude.{option_map}
-use Rattle.ca_plane.specs.Generations.{cells_after}
-use Rattle.ca_quad.specs.Boxes.{AreSquareBoxes}
-use Rattle.ca_quad.specs.Trees.{cell}
+use Rattle.ca_plane.specs.Prelude.{cells_after}
+use Rattle.ca_quad.specs.Prelude.{AreSquareBoxes, cell}
 use Rattle.ca_quad.proofs.Measures.{boxes_stay}
 use Rattle.ca_run.proofs.LeaperGrowth.{goes_on_same}
 use Rattle.ca_run.proofs.LeaperGrowth.{goes_on_again}
-use Rattle.ca_apgcode.specs.Objects.{IsLeastOfPhases}
+use Rattle.ca_apgcode.specs.Prelude.{IsLeastOfPhases}
 use Rattle.ca_apgcode.proofs.PhaseTexts.{least_none}
-use Rattle.ca_evolution.specs.Steps.{CanGoOn}
+use Rattle.ca_evolution.specs.Prelude.{CanGoOn}
 use Rattle.ca_evolution.proofs.Steps.{first_tree, later_next, near_next, no_step, one_more_step, fewer_steps}
-use Rattle.ca_pattern.specs.PatternTrees.{IsNearTree}
-use Rattle.ca_pattern.specs.LaterTrees.{IsLaterTree}
+use Rattle.ca_pattern.specs.Prelude.{IsNearTree, IsLaterTree}
 use Rattle.ca_pattern.proofs.Starts.{near_start}
 use Rattle.ca_object_code.proofs.phases.least_of_phases.Goals as goal
 

@@ -1,12 +1,11 @@
 use Rattle.std.proofs.Common.{ℕ, ◌+◌, ◌-◌, Vec, Global}
 use Rattle.std.specs.Prelude.{option_map}
-use Rattle.ca_plane.specs.Generations.{cells_after}
-use Rattle.ca_quad.specs.Boxes.{AreSquareBoxes}
-use Rattle.ca_quad.specs.Trees.{cell}
-use Rattle.ca_run.specs.Leaping.{LeaperGrows}
-use Rattle.ca_apgcode.specs.Objects.{IsLeastOfPhases}
-use Rattle.ca_evolution.specs.Steps.{TakesSteps}
-use Rattle.ca_pattern.specs.LaterTrees.{IsLaterTree}
+use Rattle.ca_plane.specs.Prelude.{cells_after}
+use Rattle.ca_quad.specs.Prelude.{AreSquareBoxes, cell}
+use Rattle.ca_run.specs.Prelude.{LeaperGrows}
+use Rattle.ca_apgcode.specs.Prelude.{IsLeastOfPhases}
+use Rattle.ca_evolution.specs.Prelude.{TakesSteps}
+use Rattle.ca_pattern.specs.Prelude.{IsLaterTree}
 use Rattle.ca_object_code.proofs.phases.least_of_phases.Given as goal
 
 -- the tree that is reached, the least text of the phases up to it, and what it took

@@ -1,6 +1,6 @@
 use Rattle.std.proofs.Common.{ℕ, Vec, Global}
 use Rattle.std.specs.Prelude.{option_map}
-use Rattle.ca_quad.specs.Trees.{cell}
+use Rattle.ca_quad.specs.Prelude.{cell}
 use Rattle.ca_apgcode.proofs.Copies.{same_copy, turned_text_of_copy}
 use Rattle.ca_apgcode.proofs.PhaseTexts.{least_same}
 use Rattle.ca_apgcode.proofs.PlaneBoxes.{box_as}

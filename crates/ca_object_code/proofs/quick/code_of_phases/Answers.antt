@@ -1,7 +1,6 @@
 use Rattle.std.proofs.Common.{None, Some, refl, ap, subst, ◌∙◌}
-use Rattle.ca_quad.specs.Boxes.{AreSquareBoxes, IsLeastWideBox}
-use Rattle.ca_quad.specs.Trees.{cell}
-use Rattle.ca_apgcode.specs.Objects.{code_text}
+use Rattle.ca_quad.specs.Prelude.{AreSquareBoxes, IsLeastWideBox, cell}
+use Rattle.ca_apgcode.specs.Prelude.{code_text}
 use Rattle.ca_pattern.proofs.Corners.{far_corner_wide}
 use Rattle.ca_pattern.proofs.Corners.{corner_wide}
 use Rattle.ca_object_code.specs.Countings.{MayGoBy}

@@ -1,9 +1,8 @@
 use Rattle.std.proofs.Common.{IfOk, IfSome, pos, ◌≤◌, ◌+◌, ◌*◌, sym, subst, ap, ◌∙◌}
-use Rattle.ca_quad.specs.Trees.{cell}
+use Rattle.ca_quad.specs.Prelude.{cell}
 use Rattle.ca_apgcode.specs.declared.object.ObjectKind.TheVariants as kind
 use Rattle.ca_answers.specs.declared.identity.Identity.TheVariants.{Claim}
-use Rattle.ca_answers.specs.Identified.{IsIdentity}
-use Rattle.ca_answers.specs.Codes.{IsCodeOf, steps_of}
+use Rattle.ca_answers.specs.Prelude.{IsIdentity, IsCodeOf, steps_of}
 use Rattle.ca_object_code.proofs.LargeObjects.{back_by, shown_code}
 use Rattle.ca_object_code.proofs.quick.quick_code.Goals as goal
 

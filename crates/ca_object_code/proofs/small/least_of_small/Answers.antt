@@ -1,14 +1,13 @@
 use Rattle.std.proofs.Common.{◌≡◌, ◌+◌, Some, refl, sym, subst, ◌∙◌, arith}
-use Rattle.ca_plane.specs.Generations.{cells_after}
-use Rattle.ca_quad.specs.Boxes.{AreSquareBoxes}
-use Rattle.ca_quad.specs.Trees.{cell}
+use Rattle.ca_plane.specs.Prelude.{cells_after}
+use Rattle.ca_quad.specs.Prelude.{AreSquareBoxes, cell}
 use Rattle.ca_plane.proofs.After.{after_again}
 use Rattle.ca_run.proofs.LeaperGrowth.{goes_on_same}
 use Rattle.ca_run.proofs.LeaperGrowth.{goes_on_again}
-use Rattle.ca_apgcode.specs.Objects.{IsBoxRound, IsLeastOfPhases}
+use Rattle.ca_apgcode.specs.Prelude.{IsBoxRound, IsLeastOfPhases}
 use Rattle.ca_apgcode.proofs.PhaseTexts.{least_none}
 use Rattle.ca_apgcode.proofs.PlaneBoxes.{box_as}
-use Rattle.ca_pattern.specs.PatternTrees.{IsNearTree}
+use Rattle.ca_pattern.specs.Prelude.{IsNearTree}
 use Rattle.ca_object_code.proofs.FrameShows.{two_after}
 use Rattle.ca_object_code.proofs.small.least_of_small.Goals as goal
 

@@ -1,10 +1,10 @@
 use Rattle.std.proofs.Common.{◌≡◌, ◌≤◌, ◌+◌, ◌*◌, ℕ, List, Some}
 use Rattle.std.specs.Prelude.{replicate}
-use Rattle.ca_plane.specs.Generations.{cells_after}
-use Rattle.ca_bricks.specs.Counting.{GoesBy}
-use Rattle.ca_quad.specs.Trees.{cell}
-use Rattle.ca_run.specs.Leaping.{LeaperGrows}
-use Rattle.ca_apgcode.specs.Objects.{IsBoxRound, IsLeastOfPhases}
+use Rattle.ca_plane.specs.Prelude.{cells_after}
+use Rattle.ca_bricks.specs.Prelude.{GoesBy}
+use Rattle.ca_quad.specs.Prelude.{cell}
+use Rattle.ca_run.specs.Prelude.{LeaperGrows}
+use Rattle.ca_apgcode.specs.Prelude.{IsBoxRound, IsLeastOfPhases}
 use Rattle.ca_object_code.specs.Countings.{HasTwoStates}
 use Rattle.ca_object_code.proofs.small.least_of_small.Given as goal
 

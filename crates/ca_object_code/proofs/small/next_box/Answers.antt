@@ -1,6 +1,6 @@
 use Rattle.std.proofs.Common.{◌≡◌, ℕ, ◌+◌, ◌*◌, ◌/◌, ◌%◌, ◌<◌, [], slice_index, get_or, pos, ◌+ℤ◌, subst}
-use Rattle.ca_plane.specs.Generations.{cells_after}
-use Rattle.ca_apgcode.specs.Objects.{IsBoxRound}
+use Rattle.ca_plane.specs.Prelude.{cells_after}
+use Rattle.ca_apgcode.specs.Prelude.{IsBoxRound}
 use Rattle.ca_apgcode.proofs.PlaneBoxes.{box_as}
 use Rattle.ca_object_code.proofs.FrameRounds.{dark_beside}
 use Rattle.ca_object_code.proofs.FrameShows.{frame_x, frame_y, next_shows, are_columns, turned_after}

@@ -1,7 +1,6 @@
 use Rattle.std.proofs.Common.{subst}
 use Rattle.std.specs.Option.{MatchOption}
-use Rattle.ca_quad.specs.Boxes.{IsDead, IsLeastWideBox}
-use Rattle.ca_quad.specs.Trees.{cell}
+use Rattle.ca_quad.specs.Prelude.{IsDead, IsLeastWideBox, cell}
 use Rattle.ca_pattern.proofs.LaterPlanes.{box_out_of_range}
 use Rattle.ca_pattern.proofs.cells.are_in_range.Goals as goal
 

@@ -1,6 +1,5 @@
 use Rattle.std.proofs.Common.{subst}
-use Rattle.ca_pattern.specs.Converted.{IsConvertFault}
-use Rattle.ca_pattern.specs.LocatedFaults.{convert_fault_of}
+use Rattle.ca_pattern.specs.Prelude.{IsConvertFault, convert_fault_of}
 use Rattle.ca_pattern.proofs.OneFault.{opening_alone, alone_is}
 use Rattle.ca_pattern.proofs.OpenedFiles.{unconverted}
 use Rattle.ca_pattern.proofs.conversion.convert.Goals as goal

@@ -1,7 +1,7 @@
 use Rattle.std.proofs.Common.{refl, sym}
-use Rattle.ca_macro.specs.Shown.{picture_of_nodes}
+use Rattle.ca_macro.specs.Prelude.{picture_of_nodes}
 use Rattle.ca_pattern.specs.declared.format.Format.TheVariants.{Mc}
-use Rattle.ca_pattern.specs.Formats.{MeansAs, IsReadableAs}
+use Rattle.ca_pattern.specs.Prelude.{MeansAs, IsReadableAs}
 use Rattle.ca_pattern.proofs.FilesRead.{in_format, shown_in_range}
 use Rattle.ca_pattern.proofs.format.load_macro.Goals as goal
 

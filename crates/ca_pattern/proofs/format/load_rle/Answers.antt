@@ -1,10 +1,8 @@
 use Rattle.std.proofs.Common.{◌≡◌, ◌<◌, ℤ, sym, subst, ◌∙◌}
 use Rattle.ca_quad.specs.Trees as trees
-use Rattle.ca_plane.specs.Bytes.{IsWord}
-use Rattle.ca_plane.specs.Plane.{cell}
-use Rattle.ca_rle.specs.Shown.{picture_of_items}
-use Rattle.ca_pattern.specs.Means.{HoldsPattern}
-use Rattle.ca_plane.specs.Limits.{generation_limit}
+use Rattle.ca_plane.specs.Prelude.{IsWord, cell, generation_limit}
+use Rattle.ca_rle.specs.Prelude.{picture_of_items}
+use Rattle.ca_pattern.specs.Prelude.{HoldsPattern}
 use Rattle.ca_pattern.proofs.OpenedCells.{text_cells, text_in_range}
 use Rattle.ca_pattern.proofs.RleFiles.{text_holds}
 use Rattle.ca_pattern.proofs.format.load_rle.Goals as goal

@@ -1,8 +1,8 @@
 use Rattle.std.proofs.Common.{subst, sym}
 use Rattle.std.specs.Result.{IfOk, IfErr}
-use Rattle.ca_quad.specs.Trees.{cell}
+use Rattle.ca_quad.specs.Prelude.{cell}
 use Rattle.ca_pattern.specs.declared.format.Format.TheVariants.{Rle}
-use Rattle.ca_pattern.specs.Written.{IsTidyTextOf, AreUnwritten}
+use Rattle.ca_pattern.specs.Prelude.{IsTidyTextOf, AreUnwritten}
 use Rattle.ca_pattern.proofs.WrittenMeanings.{plane_is, plane_is_short, plane_is_writable, written_ok, unwritten_err, written_macro}
 use Rattle.ca_pattern.proofs.format.text_of_tree.Goals as goal
 

@@ -1,7 +1,6 @@
 use Rattle.std.proofs.Common.{sym, ap, subst}
-use Rattle.ca_rule.specs.Rule.{NamesRule, IsRuleFault}
-use Rattle.ca_pattern.specs.Means.{HoldsRuleText}
-use Rattle.ca_pattern.specs.Patterns.{IsReadFrom, rule_of}
+use Rattle.ca_rule.specs.Prelude.{NamesRule, IsRuleFault}
+use Rattle.ca_pattern.specs.Prelude.{HoldsRuleText, IsReadFrom, rule_of}
 use Rattle.ca_pattern.proofs.OpenedFiles.{squares_opened}
 use Rattle.ca_pattern.proofs.opening.open_squares.Goals as goal
 

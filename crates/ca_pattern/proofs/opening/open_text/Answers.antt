@@ -1,7 +1,7 @@
 use Rattle.std.proofs.Common.{◌<◌, sym, subst, ◌∙◌, arith}
-use Rattle.ca_rule.specs.Rule.{rule_value, states_of, NamesRule, IsRuleFault}
-use Rattle.ca_rle.specs.Shown.{picture_of_items}
-use Rattle.ca_pattern.specs.Means.{HoldsPattern}
+use Rattle.ca_rule.specs.Prelude.{rule_value, states_of, NamesRule, IsRuleFault}
+use Rattle.ca_rle.specs.Prelude.{picture_of_items}
+use Rattle.ca_pattern.specs.Prelude.{HoldsPattern}
 use Rattle.ca_pattern.proofs.OpenedFiles.{text_opened}
 use Rattle.ca_pattern.proofs.RleFiles.{text_holds, text_large}
 use Rattle.ca_pattern.proofs.opening.open_text.Goals as goal

@@ -1,7 +1,7 @@
 use Rattle.std.proofs.Common.{sym, subst, ◌∙◌}
-use Rattle.ca_rle.specs.Shown.{picture_of_items}
+use Rattle.ca_rle.specs.Prelude.{picture_of_items}
 use Rattle.ca_pattern.specs.declared.pattern_fault.PatternFault.TheVariants as pattern_fault
-use Rattle.ca_pattern.specs.Means.{HoldsPattern}
+use Rattle.ca_pattern.specs.Prelude.{HoldsPattern}
 use Rattle.ca_pattern.proofs.RleFiles.{text_holds}
 use Rattle.ca_pattern.proofs.read.rule_text_of.Goals as goal
 

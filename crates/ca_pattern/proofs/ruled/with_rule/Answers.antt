@@ -1,5 +1,5 @@
 use Rattle.std.proofs.Common.{refl, subst}
-use Rattle.ca_rule.specs.Rule.{IsRuleFault}
+use Rattle.ca_rule.specs.Prelude.{IsRuleFault}
 use Rattle.ca_pattern.proofs.ruled.with_rule.Goals as goal
 
 pub returns-in-Err : goal.returns-in-Err

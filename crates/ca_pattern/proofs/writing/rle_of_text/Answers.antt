@@ -1,7 +1,7 @@
 use Rattle.std.proofs.Common.{◌<◌, ◌≤◌, ◌^◌, length, sym, subst, ◌∙◌}
-use Rattle.ca_plane.specs.Plane.{cell}
-use Rattle.ca_rle.specs.Shown.{picture_of_items}
-use Rattle.ca_rule.specs.Rule.{rule_value}
+use Rattle.ca_plane.specs.Prelude.{cell}
+use Rattle.ca_rle.specs.Prelude.{picture_of_items}
+use Rattle.ca_rule.specs.Prelude.{rule_value}
 use Rattle.ca_pattern.proofs.OpenedCells.{greatest_small}
 use Rattle.ca_pattern.specs.declared.format.Format.TheVariants.{Rle}
 use Rattle.ca_pattern.proofs.WrittenMeanings.{written_rle, printed_text}

@@ -1,6 +1,6 @@
 use Rattle.std.proofs.Common.{◌∙◌}
-use Rattle.ca_quad.specs.Trees.{cell}
-use Rattle.ca_rule.specs.Rule.{rule_value}
+use Rattle.ca_quad.specs.Prelude.{cell}
+use Rattle.ca_rule.specs.Prelude.{rule_value}
 use Rattle.ca_pattern.proofs.WrittenMeanings.{printed_ok}
 use Rattle.ca_pattern.proofs.writing.text_of_squares.Goals as goal
 

@@ -1,4 +1,4 @@
-use Rattle.ca_draw.specs.Views.{size_of}
+use Rattle.ca_draw.specs.Prelude.{size_of}
 use Rattle.ca_draw.proofs.AskedWindows.{within_limits}
 use Rattle.ca_pattern_runs.proofs.drawing.picture_of.Goals as goal
 

@@ -1,9 +1,6 @@
 use Rattle.std.proofs.Common.{subst, sym}
-use Rattle.ca_report.specs.declared.detailed_fault.DetailedFault.{DetailedFault}
-use Rattle.ca_report.specs.declared.fault.ToolFault.{ToolFault}
-use Rattle.ca_report.specs.declared.form.Form.{Form}
-use Rattle.ca_pattern_runs.specs.Details.{HasRunDetail}
-use Rattle.ca_pattern_runs.specs.Runs.{IsFormFaultAfter}
+use Rattle.ca_report.specs.declared.{detailed_fault.DetailedFault.DetailedFault, fault.ToolFault.ToolFault, form.Form.Form}
+use Rattle.ca_pattern_runs.specs.Prelude.{HasRunDetail, IsFormFaultAfter}
 use Rattle.ca_pattern_runs.proofs.DrawnFiles.{undrawn_told, text_detail}
 use Rattle.ca_pattern_runs.proofs.form_run.form_text.Goals as goal
 

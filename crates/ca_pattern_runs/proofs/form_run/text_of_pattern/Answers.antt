@@ -3,7 +3,7 @@ use Rattle.std.specs.Result.{IfOk}
 use Rattle.ca_pattern.proofs.OpenedFiles.{pattern_told}
 use Rattle.ca_report.specs.declared.form.Form.TheVariants.{Text}
 use Rattle.ca_report.specs.declared.form.TextForm.{TextForm}
-use Rattle.ca_pattern_runs.specs.Runs.{IsShownAfter, IsFormAfter}
+use Rattle.ca_pattern_runs.specs.Prelude.{IsShownAfter, IsFormAfter}
 use Rattle.ca_pattern_runs.proofs.DrawnFiles.{written_after}
 use Rattle.ca_pattern_runs.proofs.form_run.text_of_pattern.Goals as goal
 

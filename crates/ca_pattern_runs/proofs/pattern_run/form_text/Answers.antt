@@ -1,6 +1,6 @@
 use Rattle.std.proofs.Common.{subst, sym}
 use Rattle.ca_report.specs.declared.form.TextForm.{TextForm}
-use Rattle.ca_pattern_runs.specs.Runs.{IsShown, IsFormOf}
+use Rattle.ca_pattern_runs.specs.Prelude.{IsShown, IsFormOf}
 use Rattle.ca_pattern_runs.proofs.pattern_run.form_text.Goals as goal
 
 -- the lines of a summary are one form

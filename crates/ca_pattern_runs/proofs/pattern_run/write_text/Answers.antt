@@ -1,5 +1,5 @@
 use Rattle.std.proofs.Common.{◌≡◌, inr}
-use Rattle.ca_pattern_runs.specs.Runs.{IsFormFault}
+use Rattle.ca_pattern_runs.specs.Prelude.{IsFormFault}
 use Rattle.ca_pattern_runs.proofs.OfFiles.{of_tables, convert_told, convert_not_write, told_only, no_table, table_told, text_written}
 use Rattle.ca_pattern_runs.proofs.pattern_run.write_text.Goals as goal
 

@@ -1,6 +1,6 @@
 use Rattle.std.proofs.Common.{refl, inl, inr}
 use Rattle.std.specs.Prelude.{pos, neg_ℤ}
-use Rattle.ca_plane.specs.Bytes.{value}
+use Rattle.ca_plane.specs.Prelude.{value}
 use Rattle.ca_plane.proofs.Numbers.{nearest_plus, nearest_minus}
 use Rattle.ca_plane.proofs.bytes.integer.Goals as goal
 

@@ -1,6 +1,6 @@
 use Rattle.std.proofs.Common.{◌≡◌, [], ◌∷◌, ◌++◌, not, sym, ap, ◌∙◌, inl, inr}
 use Rattle.std.specs.List.{list_all}
-use Rattle.ca_plane.specs.Bytes.{is_line_end, lines_of}
+use Rattle.ca_plane.specs.Prelude.{is_line_end, lines_of}
 use Rattle.ca_plane.proofs.Fronts.{every_front}
 use Rattle.std.proofs.lemmas.List.{nil_from_length}
 use Rattle.ca_plane.proofs.FirstWords.{line_before, line_alone, line_then_more, line_then_none, fewer_behind_line}

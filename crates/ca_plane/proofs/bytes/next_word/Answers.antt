@@ -2,7 +2,7 @@ use Rattle.std.proofs.Common.{◌≡◌, ◌<◌, [], ◌∷◌, ◌++◌, not, 
 use Rattle.std.specs.List.{list_all}
 use Rattle.std.proofs.lemmas.Bool.{eqb-true, eqb-false}
 use Rattle.std.proofs.lemmas.List.{nil_from_length}
-use Rattle.ca_plane.specs.Bytes.{front, rest, is_blank, is_word_byte, is_line_end, words_of}
+use Rattle.ca_plane.specs.Prelude.{front, rest, is_blank, is_word_byte, is_line_end, words_of}
 use Rattle.ca_plane.proofs.Fronts.{front_then_rest, every_front}
 use Rattle.ca_plane.proofs.FirstWords.{no_word, word_before, word_from, line_after, fewer_behind_word}
 use Rattle.ca_plane.proofs.bytes.next_word.Goals as goal

@@ -1,5 +1,5 @@
 use Rattle.std.proofs.Common.{◌≡◌, ◌-◌, ◌^◌, min, take}
-use Rattle.ca_plane.specs.Bytes.{value}
+use Rattle.ca_plane.specs.Prelude.{value}
 use Rattle.ca_plane.proofs.bytes.number.Given as goal
 
 abbrev pub invariant-digits : goal.invariant-digits

@@ -1,5 +1,5 @@
 use Rattle.std.proofs.Common.{◌≡◌, length}
-use Rattle.ca_plane.specs.Bytes.{is_blank, rest, without_last_blanks}
+use Rattle.ca_plane.specs.Prelude.{is_blank, rest, without_last_blanks}
 use Rattle.ca_plane.proofs.bytes.trim_blanks.Given as goal
 
 abbrev pub invariant-blanks : goal.invariant-blanks

@@ -1,6 +1,5 @@
 use Rattle.std.proofs.Common.{refl, sym, subst, ◌≡◌, ℕ}
-use Rattle.ca_quad.specs.Squares.{level_of, cell_of}
-use Rattle.ca_quad.specs.Trees.{AreSame}
+use Rattle.ca_quad.specs.Prelude.{level_of, cell_of, AreSame}
 use Rattle.ca_quad.proofs.Cells.{same_cells}
 use Rattle.ca_quad.proofs.laws.one_id.Goals as goal
 

@@ -1,6 +1,6 @@
 use Rattle.std.proofs.Common.{◌≡◌, ℕ, ◌*◌, ◌/◌, ◌%◌, ◌^◌, [], ◌∷◌, ap, sym, ◌∙◌}
 use Rattle.std.proofs.Math.Nat.{div-one, mul-one, pow-zero, pow-succ'}
-use Rattle.ca_quad.specs.Squares.{digit}
+use Rattle.ca_quad.specs.Prelude.{digit}
 use Rattle.ca_quad.proofs.store.four_digits.Goals as goal
 
 -- the places' values, multiplied out

@@ -1,5 +1,5 @@
 use Rattle.std.proofs.Common.{◌≡◌, drop}
-use Rattle.ca_report.specs.FileLines.{missing_at}
+use Rattle.ca_report.specs.Prelude.{missing_at}
 use Rattle.ca_report.proofs.absence.missing_at.Given as goal
 
 -- it is the first with this path among those that are left

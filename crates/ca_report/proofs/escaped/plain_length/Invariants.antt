@@ -1,5 +1,5 @@
 use Rattle.std.proofs.Common.{◌≡◌, ◌++◌, take, drop}
-use Rattle.ca_report.specs.Escaped.{escaped}
+use Rattle.ca_report.specs.Prelude.{escaped}
 use Rattle.ca_report.proofs.escaped.plain_length.Given as goal
 
 -- the bytes so far are written as they are

@@ -1,5 +1,5 @@
 use Rattle.std.proofs.Common.{◌≡◌, ◌++◌, length}
-use Rattle.ca_report.specs.Escaped.{escaped}
+use Rattle.ca_report.specs.Prelude.{escaped}
 use Rattle.ca_report.proofs.escaped.push_escaped.Given as goal
 
 -- with what is left it will be the whole text

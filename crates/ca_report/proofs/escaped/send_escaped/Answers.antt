@@ -1,6 +1,6 @@
 use Rattle.std.proofs.Common.{◌∙◌, ◌++◌, ap, sym, append_assoc}
 use Rattle.ca_plane.proofs.Sends.{sent_both}
-use Rattle.ca_report.specs.Escaped.{escaped}
+use Rattle.ca_report.specs.Prelude.{escaped}
 use Rattle.ca_report.specs.inner.Parts.{part_text}
 use Rattle.ca_report.proofs.Escaping.{sends_next}
 use Rattle.ca_report.proofs.escaped.send_escaped.Goals as goal

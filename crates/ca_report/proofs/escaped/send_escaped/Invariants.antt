@@ -1,6 +1,6 @@
 use Rattle.std.proofs.Common.{◌≡◌, ◌++◌, List, ℕ, length}
 use Rattle.std.specs.Io.KnownBytes.{Appends}
-use Rattle.ca_report.specs.Escaped.{escaped}
+use Rattle.ca_report.specs.Prelude.{escaped}
 use Rattle.ca_report.proofs.escaped.send_escaped.Given as goal
 
 -- a first part of the text was sent, what is left follows it, and no write failed

@@ -1,5 +1,5 @@
 use Rattle.std.proofs.Common.{◌≡◌, length}
-use Rattle.ca_report.specs.Outside.{has_later_parent}
+use Rattle.ca_report.specs.Prelude.{has_later_parent}
 use Rattle.ca_report.proofs.outside.has_later_parent.Given as goal
 
 -- a later part is `..` exactly where one of what is left is

@@ -1,6 +1,6 @@
 use Rattle.std.proofs.Common.{take}
-use Rattle.ca_plane.specs.Puts.{Puts}
-use Rattle.ca_report.specs.Pieces.{pieces_text}
+use Rattle.ca_plane.specs.Prelude.{Puts}
+use Rattle.ca_report.specs.Prelude.{pieces_text}
 use Rattle.ca_report.proofs.pieces.push_pieces.Given as goal
 
 -- the pieces so far were put

@@ -1,5 +1,5 @@
 use Rattle.std.proofs.Common.{refl, arith}
-use Rattle.ca_report.specs.Pieces.{piece_text}
+use Rattle.ca_report.specs.Prelude.{piece_text}
 use Rattle.ca_report.proofs.InPieces.{sends_at}
 use Rattle.ca_report.proofs.pieces.send_pieces.Goals as goal
 

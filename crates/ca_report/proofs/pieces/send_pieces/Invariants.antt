@@ -1,6 +1,6 @@
 use Rattle.std.proofs.Common.{◌≡◌, take}
 use Rattle.std.specs.Io.KnownBytes.{Appends}
-use Rattle.ca_report.specs.Pieces.{pieces_text}
+use Rattle.ca_report.specs.Prelude.{pieces_text}
 use Rattle.ca_report.proofs.pieces.send_pieces.Given as goal
 
 -- the pieces so far were sent, and no write failed

@@ -1,6 +1,6 @@
 use Rattle.std.proofs.Common.{rules, ◌<◌, ◌≤◌, ◌+◌}
 use Rattle.std.proofs.lemmas.List.{length-take}
-use Rattle.ca_report.specs.Reading.{max_file}
+use Rattle.ca_report.specs.Prelude.{max_file}
 use Rattle.ca_report.proofs.Taken.{with_piece, with_some}
 use Rattle.ca_report.proofs.read.read_all.Goals as goal
 

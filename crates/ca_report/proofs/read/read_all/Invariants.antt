@@ -1,6 +1,6 @@
 use Rattle.std.proofs.Common.{◌≡◌, ◌≤◌, ◌+◌, ◌-◌, vec_len}
 use Rattle.std.specs.Io.KnownBytes.{Consumes}
-use Rattle.ca_report.specs.Reading.{max_file}
+use Rattle.ca_report.specs.Prelude.{max_file}
 use Rattle.ca_report.proofs.read.read_all.Given as goal
 
 -- what came so far is what the reader lost, it is no more than a file may have, and no read failed

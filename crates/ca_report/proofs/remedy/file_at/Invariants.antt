@@ -1,5 +1,5 @@
 use Rattle.std.proofs.Common.{◌≡◌, drop}
-use Rattle.ca_report.specs.Remedies.{file_at}
+use Rattle.ca_report.specs.Prelude.{file_at}
 use Rattle.ca_report.proofs.remedy.file_at.Given as goal
 
 -- it is the first with this path among those that are left

@@ -1,5 +1,5 @@
 use Rattle.std.proofs.Common.{◌≡◌, length}
-use Rattle.ca_report.specs.RulePaths.{has_two_dots}
+use Rattle.ca_report.specs.Prelude.{has_two_dots}
 use Rattle.ca_report.proofs.rule_folder.has_two_dots.Given as goal
 
 -- it has two dots side by side exactly where what is left has

@@ -1,5 +1,5 @@
 use Rattle.std.proofs.Common.{◌≡◌, ℕ, Bool, true, List, [], ◌++◌, ◌∷◌, Some, None, inl, inr, lit<, lit≤, true≢false, false, ◌==◌, codes, refl, sym, ap, ◌∙◌}
-use Rattle.ca_rle.specs.Header.{size_parts}
+use Rattle.ca_rle.specs.Prelude.{size_parts}
 use Rattle.std.specs.List.{list_any}
 use Rattle.std.proofs.lemmas.Bool.{or_left, or_right}
 use Rattle.std.proofs.lemmas.List.{append_cancel_left}

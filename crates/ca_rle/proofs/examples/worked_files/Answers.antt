@@ -1,5 +1,5 @@
 use Rattle.std.proofs.Common.{[], ◌∷◌, pos, negsuc, Some, None, inl, inr, lit<, codes, refl}
-use Rattle.ca_rle.specs.Header.{Corner, Generation}
+use Rattle.ca_rle.specs.Prelude.{Corner, Generation}
 use Rattle.ca_rle.proofs.ReadItems.{items_found}
 use Rattle.ca_rle.proofs.FileParts.{headed_is_file}
 use Rattle.ca_rle.proofs.ExampleHeaders.{some_lines, plain_header, ruled_header}

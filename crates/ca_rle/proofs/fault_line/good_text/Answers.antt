@@ -1,5 +1,5 @@
 use Rattle.std.proofs.Common.{ap, unwrap_or}
-use Rattle.ca_plane.specs.Limits.{default_rule}
+use Rattle.ca_plane.specs.Prelude.{default_rule}
 use Rattle.ca_rle.proofs.FaultAt.{body_fault_at}
 use Rattle.ca_rle.proofs.TextJudgements.{file, is_file, too_far, same_corner, too_many, cell_count, box_near, file_bounds, within_limits}
 use Rattle.ca_rle.proofs.fault_line.good_text.Goals as goal

@@ -1,8 +1,7 @@
 use Rattle.std.proofs.Common.{◌≡◌, ◌++◌, length}
 use Rattle.std.specs.Prelude.{ℕ, List}
 use Rattle.std.specs.List.{flat_map}
-use Rattle.ca_rle.specs.Header.{CxrleWord}
-use Rattle.ca_rle.specs.File.{line_with_lf}
+use Rattle.ca_rle.specs.Prelude.{CxrleWord, line_with_lf}
 use Rattle.ca_rle.specs.inner.FrontParts.{IsPreambleOf}
 use Rattle.ca_rle.proofs.front.read_front.Given as goal
 

@@ -1,5 +1,5 @@
 use Rattle.std.proofs.Common.{sym, ap, ◌∙◌, not, length, arith}
-use Rattle.ca_plane.specs.Bytes.{is_blank, is_line_end, is_end_or}
+use Rattle.ca_plane.specs.Prelude.{is_blank, is_line_end, is_end_or}
 use Rattle.ca_plane.proofs.Fronts.{rest_ends}
 use Rattle.ca_rle.proofs.SkippedSpace.{line_start, comment_start, no_blank_at_end, rest_length}
 use Rattle.ca_rle.proofs.unit.after_line_start.Goals as goal

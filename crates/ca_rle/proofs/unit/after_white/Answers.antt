@@ -1,8 +1,7 @@
 use Rattle.std.proofs.Common.{not, ap, sym, ◌∙◌}
-use Rattle.ca_plane.specs.Bytes.{is_blank, is_end_or}
+use Rattle.ca_plane.specs.Prelude.{is_blank, is_end_or}
 use Rattle.ca_plane.proofs.Fronts.{rest_ends}
-use Rattle.ca_rle.specs.Items.{InLine}
-use Rattle.ca_rle.specs.Faults.{after_white}
+use Rattle.ca_rle.specs.Prelude.{InLine, after_white}
 use Rattle.ca_rle.proofs.SkippedSpace.{line_blanks}
 use Rattle.ca_rle.proofs.unit.after_white.Goals as goal
 

@@ -1,7 +1,6 @@
 use Rattle.std.proofs.Common.{◌≡◌, not, length, IsTrue}
-use Rattle.ca_plane.specs.Bytes.{is_blank, is_end_or}
-use Rattle.ca_rle.specs.Items.{InLine}
-use Rattle.ca_rle.specs.Faults.{after_white}
+use Rattle.ca_plane.specs.Prelude.{is_blank, is_end_or}
+use Rattle.ca_rle.specs.Prelude.{InLine, after_white}
 use Rattle.ca_rle.proofs.unit.after_white.Given as goal
 
 -- white space was skipped, and then blanks

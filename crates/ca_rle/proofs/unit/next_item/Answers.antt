@@ -1,9 +1,8 @@
 use Rattle.std.proofs.Common.{sym, ◌∙◌}
 use Rattle.std.proofs.lemmas.Result.{err_from_is_err_and}
-use Rattle.ca_plane.specs.Bytes.{is_digit}
+use Rattle.ca_plane.specs.Prelude.{is_digit}
 use Rattle.ca_plane.proofs.Fronts.{every_front}
-use Rattle.ca_rle.specs.Items.{InLine}
-use Rattle.ca_rle.specs.Faults.{after_white}
+use Rattle.ca_rle.specs.Prelude.{InLine, after_white}
 use Rattle.ca_rle.proofs.Units.{plain_item, plain_end, plain_fault, counted_item, counted_end, zero_fault, counted_tag_fault}
 use Rattle.ca_rle.proofs.unit.next_item.Goals as goal
 

@@ -1,8 +1,7 @@
 use Rattle.std.proofs.Common.{◌<◌, ◌^◌, List, refl, sym, subst}
 use Rattle.ca_rle.specs.declared.item.Item.{Item}
-use Rattle.ca_rle.specs.Pattern.{IsWrittenRle}
+use Rattle.ca_rle.specs.Prelude.{IsWrittenRle, picture_of_items}
 use Rattle.ca_rle.specs.inner.RunByRun.{IsCorner}
-use Rattle.ca_rle.specs.Shown.{picture_of_items}
 use Rattle.ca_rle.proofs.Frames.{bounds_in_range, frame_corner}
 use Rattle.ca_rle.proofs.JudgedTexts.{sparse, text_bounds, listed_in_range, listed_below}
 use Rattle.ca_rle.proofs.OneList.{one_list}

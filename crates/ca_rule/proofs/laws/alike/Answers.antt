@@ -1,5 +1,5 @@
 use Rattle.std.proofs.Common.{subst}
-use Rattle.ca_rule.specs.Spelling.{NamesBsRule, printed_bs_rule}
+use Rattle.ca_rule.specs.Prelude.{NamesBsRule, printed_bs_rule}
 use Rattle.ca_rule.proofs.Meaning.{names-once}
 use Rattle.ca_rule.proofs.laws.alike.Goals as goal
 

@@ -1,5 +1,5 @@
 use Rattle.std.proofs.Common.{◌≡◌, length}
-use Rattle.ca_rule.specs.Rule.{first_named}
+use Rattle.ca_rule.specs.Prelude.{first_named}
 use Rattle.ca_rule.proofs.rule.first_named.Given as goal
 
 -- it is the first of this name among those that are left

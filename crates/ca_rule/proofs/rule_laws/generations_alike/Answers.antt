@@ -1,5 +1,5 @@
 use Rattle.std.proofs.Common.{subst}
-use Rattle.ca_rule.specs.Generations.{NamesGenerationsRule, printed_generations_rule}
+use Rattle.ca_rule.specs.Prelude.{NamesGenerationsRule, printed_generations_rule}
 use Rattle.ca_rule.proofs.GenerationsRead.{names-once}
 use Rattle.ca_rule.proofs.rule_laws.generations_alike.Goals as goal
 

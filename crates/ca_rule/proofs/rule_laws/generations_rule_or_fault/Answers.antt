@@ -1,5 +1,5 @@
 use Rattle.ca_rule.proofs.GenerationsRead.{names-faultless, other-notation}
-use Rattle.ca_rule.specs.Generations.{SpellsGenerationsRule}
+use Rattle.ca_rule.specs.Prelude.{SpellsGenerationsRule}
 use Rattle.ca_rule.proofs.Meaning.{one-fault}
 use Rattle.ca_rule.proofs.rule_laws.generations_rule_or_fault.Goals as goal
 

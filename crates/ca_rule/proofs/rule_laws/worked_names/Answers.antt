@@ -1,5 +1,5 @@
 use Rattle.std.proofs.Common.{codes, refl, inl, inr, []}
-use Rattle.ca_rule.specs.Spelling.{SpellsNoBsRule}
+use Rattle.ca_rule.specs.Prelude.{SpellsNoBsRule}
 use Rattle.ca_rule.specs.declared.hood.Hood.TheVariants.{Moore}
 use Rattle.ca_rule.proofs.SpelledDigits.{spells-no_lists, spells-birth}
 use Rattle.ca_rule.proofs.GenerationsRead.{read-spelled, read-named, none-spelled as generations-none}

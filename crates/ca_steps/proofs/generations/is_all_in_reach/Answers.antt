@@ -1,9 +1,9 @@
 use Rattle.std.proofs.Common.{refl, ◌∙◌, sym, subst}
 use Rattle.std.specs.List.{All}
-use Rattle.ca_plane.specs.Plane.{Picture}
+use Rattle.ca_plane.specs.Prelude.{Picture}
 use Rattle.std.proofs.lemmas.List.Elements.{All-push}
 use Rattle.ca_plane.proofs.Pictures.{IsListed-turn, cells_end}
-use Rattle.ca_steps.specs.Reach.{IsInReach}
+use Rattle.ca_steps.specs.Prelude.{IsInReach}
 use Rattle.ca_steps.proofs.OutOfReach.{IsOutOfReach-listed}
 use Rattle.ca_steps.proofs.generations.is_all_in_reach.Goals as goal
 

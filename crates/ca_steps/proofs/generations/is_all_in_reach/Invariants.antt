@@ -1,5 +1,5 @@
 use Rattle.std.specs.List.{All}
-use Rattle.ca_steps.specs.Reach.{IsInReach}
+use Rattle.ca_steps.specs.Prelude.{IsInReach}
 use Rattle.ca_steps.proofs.generations.is_all_in_reach.Given as goal
 
 -- the cells so far are in reach

@@ -1,4 +1,4 @@
-use Rattle.ca_plane.specs.Sparse.{IsSparse}
+use Rattle.ca_plane.specs.Prelude.{IsSparse}
 use Rattle.ca_steps.specs.inner.Window.{ShowsWindow}
 use Rattle.ca_steps.specs.inner.Written.{IsWritten}
 use Rattle.ca_steps.proofs.WrittenGenerations.{moves_left}

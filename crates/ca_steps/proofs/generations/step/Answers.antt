@@ -1,6 +1,6 @@
 use Rattle.std.proofs.Common.{refl, subst}
 use Rattle.ca_steps.specs.declared.fault.RunFault.TheVariants.{Memory}
-use Rattle.ca_steps.specs.Stepped.{IsStepped}
+use Rattle.ca_steps.specs.Prelude.{IsStepped}
 use Rattle.ca_steps.proofs.OutOfReach.{not_IsOutOfReach, leaves_at_once, Steps-ok, Steps-err}
 use Rattle.ca_steps.proofs.generations.step.Goals as goal
 

@@ -1,7 +1,6 @@
 use Rattle.std.proofs.Common.{◌≡◌, ◌<◌, ap, subst, arith}
 use Rattle.std.specs.Prelude.{Err}
-use Rattle.ca_steps.specs.Reach.{LeavesReachBefore}
-use Rattle.ca_steps.specs.Stepped.{IsStepped}
+use Rattle.ca_steps.specs.Prelude.{LeavesReachBefore, IsStepped}
 use Rattle.ca_steps.proofs.OutOfReach.{after_one_more, LeavesReach-from_after, within_one_more, LeavesReachBefore-after, Steps-ok, Steps-err}
 use Rattle.ca_steps.proofs.generations.steps.Goals as goal
 

@@ -1,5 +1,4 @@
-use Rattle.ca_steps.specs.Reach.{LeavesReachBefore}
-use Rattle.ca_steps.specs.Stepped.{IsStepped}
+use Rattle.ca_steps.specs.Prelude.{LeavesReachBefore, IsStepped}
 use Rattle.ca_steps.proofs.generations.steps.Given as goal
 
 -- as many generations on as were counted

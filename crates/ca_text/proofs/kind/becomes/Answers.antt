@@ -1,5 +1,5 @@
 use Rattle.std.proofs.Common.{[], ◌∷◌, refl, ap, codes, arith}
-use Rattle.ca_plane.specs.Bytes.{value}
+use Rattle.ca_plane.specs.Prelude.{value}
 use Rattle.ca_text.specs.declared.kind.Kind.TheVariants.{Becomes}
 use Rattle.ca_text.proofs.HeldNumbers.{held_kind}
 use Rattle.ca_text.proofs.kind.becomes.Goals as goal

@@ -1,10 +1,9 @@
 use Rattle.std.proofs.Common.{◌≡◌, ℕ, List, [], ◌∷◌, codes, refl, ap, subst, arith}
 use Rattle.std.specs.Prelude.{ℤ}
-use Rattle.ca_plane.specs.Bytes.{IsInteger, words_of, value}
-use Rattle.ca_text.specs.declared.both.Both.{Both}
-use Rattle.ca_text.specs.declared.kind.Kind.{Kind}
+use Rattle.ca_plane.specs.Prelude.{IsInteger, words_of, value}
+use Rattle.ca_text.specs.declared.{both.Both.Both, kind.Kind.Kind}
 use Rattle.ca_text.specs.declared.kind.Kind.TheVariants.{Still, Becomes, BecomesShifted}
-use Rattle.ca_text.specs.Kinds.{WordsClaim}
+use Rattle.ca_text.specs.Prelude.{WordsClaim}
 use Rattle.ca_text.proofs.HeldNumbers.{held_move}
 use Rattle.ca_text.proofs.kind.becomes_shifted.Goals as goal
 

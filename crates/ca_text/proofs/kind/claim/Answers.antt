@@ -2,7 +2,7 @@ use Rattle.std.proofs.Common.{◌≡◌, ℕ, true, List, ◌∷◌, Bor, Option
 use Rattle.ca_text.specs.declared.line.Claim.{Claim as ClaimOf}
 use Rattle.std.specs.Str.{bytes_eq}
 use Rattle.std.proofs.lemmas.Slice.Eq.{bytes_eq-Decides}
-use Rattle.ca_plane.specs.Bytes.{words_of}
+use Rattle.ca_plane.specs.Prelude.{words_of}
 use Rattle.ca_text.specs.inner.Reading.{IsClaimOfWords}
 use Rattle.ca_text.proofs.kind.claim.Goals as goal
 

@@ -1,5 +1,5 @@
 use Rattle.std.proofs.Common.{[], ◌∷◌, codes, refl, ap, arith}
-use Rattle.ca_plane.specs.Bytes.{words_of, value}
+use Rattle.ca_plane.specs.Prelude.{words_of, value}
 use Rattle.ca_text.specs.declared.kind.Kind.TheVariants.{Oscillator}
 use Rattle.ca_text.proofs.HeldNumbers.{held_kind}
 use Rattle.ca_text.proofs.KindWords.{not_numbered}

@@ -1,5 +1,5 @@
 use Rattle.std.proofs.Common.{[]}
-use Rattle.ca_plane.specs.Bytes.{lines_of}
+use Rattle.ca_plane.specs.Prelude.{lines_of}
 use Rattle.ca_text.proofs.OneMeaning.{same_said}
 use Rattle.ca_text.proofs.laws.one_meaning.Goals as goal
 

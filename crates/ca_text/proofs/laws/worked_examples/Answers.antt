@@ -3,15 +3,11 @@ use Rattle.std.specs.Prelude.{pos, neg_ℤ}
 use Rattle.std.specs.Str.{bytes_eq}
 use Rattle.std.proofs.lemmas.Bool.{false≢true}
 use Rattle.std.proofs.lemmas.Int.{ints}
-use Rattle.ca_plane.specs.Bytes.{AreDigits, lines_of, words_of, text_of}
-use Rattle.ca_text.specs.declared.both.Both.{Both}
-use Rattle.ca_text.specs.declared.kind.Kind.{Kind}
+use Rattle.ca_plane.specs.Prelude.{AreDigits, lines_of, words_of, text_of}
+use Rattle.ca_text.specs.declared.{both.Both.Both, kind.Kind.Kind}
 use Rattle.ca_text.specs.declared.kind.Kind.TheVariants.{Still, Oscillator, Spaceship, Becomes, BecomesShifted, Dies}
-use Rattle.ca_text.specs.Examples.{of_one, still_of, becomes_of}
-use Rattle.ca_text.specs.Both.{twice}
-use Rattle.ca_text.specs.Kinds.{WordsClaim, HasGoodNumbers}
-use Rattle.ca_text.specs.Text.{ClaimTextLine, Version, Rule, Load, Claims, is_second, IsKindAfter, ClaimWordsSay, ClaimLinesSay, said_lines}
-use Rattle.ca_text.specs.TextFaults.{HasClaimLine, AreMisspelledClaimWords, HaveBadNumber, AskUnknown, LoadTaken}
+use Rattle.ca_text.specs.Prelude.{of_one, still_of, becomes_of, twice, WordsClaim, HasGoodNumbers, ClaimTextLine, Version, Rule, Load, Claims, is_second, IsKindAfter, ClaimWordsSay, ClaimLinesSay}
+use Rattle.ca_text.specs.Prelude.{said_lines, HasClaimLine, AreMisspelledClaimWords, HaveBadNumber, AskUnknown, LoadTaken}
 use Rattle.ca_text.proofs.KindWords.{claim_begins, not_numbered}
 use Rattle.ca_text.proofs.OneMeaning.{not_version}
 use Rattle.ca_text.proofs.laws.worked_examples.Goals as goal

@@ -2,7 +2,7 @@ use Rattle.std.proofs.Common.{◌≡◌, ℕ, Bool, true, false, not, List, [], 
 use Rattle.std.specs.Str.{bytes_eq}
 use Rattle.std.proofs.lemmas.Bool.{true≢false}
 use Rattle.std.proofs.lemmas.Slice.Eq.{bytes_eq-Decides}
-use Rattle.ca_plane.specs.Bytes.{words_of}
+use Rattle.ca_plane.specs.Prelude.{words_of}
 use Rattle.ca_text.proofs.OneMeaning.{not_version}
 use Rattle.ca_text.proofs.line_kind.claims.Goals as goal
 

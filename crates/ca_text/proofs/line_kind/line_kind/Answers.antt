@@ -2,9 +2,8 @@ use Rattle.std.proofs.Common.{◌≡◌, ℕ, true, false, List, ◌∷◌, code
 use Rattle.std.specs.Str.{bytes_eq}
 use Rattle.std.proofs.lemmas.Bool.{true≢false}
 use Rattle.std.proofs.lemmas.Slice.Eq.{bytes_eq-Decides}
-use Rattle.ca_plane.specs.Bytes.{words_of}
-use Rattle.ca_text.specs.Kinds.{WordsClaim, HasGoodNumbers}
-use Rattle.ca_text.specs.Text.{Claim, ClaimTextLine, Version, Rule, Load, Claims, IsKindAfter, ClaimWordsSay}
+use Rattle.ca_plane.specs.Prelude.{words_of}
+use Rattle.ca_text.specs.Prelude.{WordsClaim, HasGoodNumbers, Claim, ClaimTextLine, Version, Rule, Load, Claims, IsKindAfter, ClaimWordsSay}
 use Rattle.ca_text.specs.inner.Reading.{claim_of}
 use Rattle.ca_text.proofs.KindWords.{same_words}
 use Rattle.ca_text.proofs.line_kind.line_kind.Goals as goal

@@ -1,5 +1,5 @@
 use Rattle.std.proofs.Common.{◌≡◌, drop}
-use Rattle.ca_verdict_lines.specs.Verdicts.{faulty_named}
+use Rattle.ca_verdict_lines.specs.Prelude.{faulty_named}
 use Rattle.ca_verdict_lines.proofs.finding.faulty_named.Given as goal
 
 -- it is the first with this name among those that are left

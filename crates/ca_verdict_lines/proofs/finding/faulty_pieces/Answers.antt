@@ -1,8 +1,8 @@
 use Rattle.std.proofs.Common.{rules, ◌++◌, [], codes, ap, sym, ◌∙◌}
 use Rattle.std.specs.Fmt.{decimal}
 use Rattle.std.proofs.lemmas.List.{append-nil}
-use Rattle.ca_report.specs.Escaped.{escaped}
-use Rattle.ca_pattern.specs.FaultTexts.{table_line}
+use Rattle.ca_report.specs.Prelude.{escaped}
+use Rattle.ca_pattern.specs.Prelude.{table_line}
 use Rattle.ca_verdict_lines.proofs.finding.faulty_pieces.Goals as goal
 
 -- what is wrong stands behind the line

@@ -1,6 +1,5 @@
 use Rattle.std.proofs.Common.{rules, ap, ap₂, ◌∙◌, ◌++◌, ◌∷◌, [], codes}
-use Rattle.ca_report.specs.Escaped.{escaped}
-use Rattle.ca_report.specs.Pieces.{piece_text}
+use Rattle.ca_report.specs.Prelude.{escaped, piece_text}
 use Rattle.ca_report.proofs.InPieces.{each_all}
 use Rattle.ca_verdict_lines.proofs.finding.noted_pieces.Goals as goal
 

@@ -1,6 +1,6 @@
 use Rattle.std.proofs.Common.{rules, ap, ◌∙◌, ◌++◌, ◌∷◌, [], codes}
 use Rattle.std.specs.Fmt.{decimal}
-use Rattle.ca_report.specs.Pieces.{piece_text}
+use Rattle.ca_report.specs.Prelude.{piece_text}
 use Rattle.ca_report.proofs.InPieces.{each_all}
 use Rattle.ca_verdict_lines.proofs.printing.answer_pieces.Goals as goal
 

@@ -1,5 +1,5 @@
 use Rattle.std.proofs.Common.{◌≡◌, take}
-use Rattle.ca_verdict_lines.specs.Verdicts.{answer_lines}
+use Rattle.ca_verdict_lines.specs.Prelude.{answer_lines}
 use Rattle.ca_verdict_lines.proofs.printing.lines.Given as goal
 
 -- the lines of the answers so far

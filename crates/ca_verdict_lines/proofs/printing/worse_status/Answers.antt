@@ -1,5 +1,5 @@
 use Rattle.std.proofs.Common.{◌∙◌, ◌∷◌, [], sym, ap, max}
-use Rattle.ca_verdict_lines.specs.Verdicts.{status_of}
+use Rattle.ca_verdict_lines.specs.Prelude.{status_of}
 use Rattle.ca_verdict_lines.proofs.Statuses.{status_more}
 use Rattle.ca_verdict_lines.proofs.printing.worse_status.Goals as goal
 

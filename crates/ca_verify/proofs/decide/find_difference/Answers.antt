@@ -1,9 +1,9 @@
 use Rattle.std.proofs.Common.{◌≡◌, ◌≢◌, sym, ap, subst, ◌∙◌}
 use Rattle.std.specs.Prelude.{ℤ}
-use Rattle.ca_quad.specs.Trees.{cell}
+use Rattle.ca_quad.specs.Prelude.{cell}
 use Rattle.ca_quad.proofs.Trims.{trees_stay}
 use Rattle.ca_run.proofs.Trees.{some_as}
-use Rattle.ca_pattern.specs.PatternTrees.{IsNearTree}
+use Rattle.ca_pattern.specs.Prelude.{IsNearTree}
 use Rattle.ca_pattern.proofs.LeaptTrees.{near_stays}
 use Rattle.ca_verify.proofs.LeaptTrees.{difference_told}
 use Rattle.ca_verify.proofs.decide.find_difference.Goals as goal

@@ -1,4 +1,4 @@
-use Rattle.ca_quad.specs.Trees.{cell}
+use Rattle.ca_quad.specs.Prelude.{cell}
 use Rattle.ca_verify.proofs.Corners.{leaves_none}
 use Rattle.ca_verify.proofs.Starts.{near_pattern}
 use Rattle.ca_verify.proofs.Times.{shift_again}

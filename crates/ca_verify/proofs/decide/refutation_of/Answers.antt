@@ -1,7 +1,7 @@
 use Rattle.std.proofs.Common.{◌+◌, ◌-◌, ◌≤◌, refl, sym, subst}
 use Rattle.ca_verify.proofs.LeaptTrees.{forbids_stays, death_stays}
 use Rattle.ca_verify.proofs.Reasons.{live_case, death_is_some, forbids_returns, difference_reason, true_at_once, by_death, by_return}
-use Rattle.ca_answers.specs.Work.{most_runs}
+use Rattle.ca_answers.specs.Prelude.{most_runs}
 use Rattle.ca_verify.specs.inner.Spending.{most_looks}
 use Rattle.ca_verify.proofs.Spending.{takes_fewer, takes_then, some_runs, all_runs, death_runs}
 use Rattle.ca_verify.proofs.decide.refutation_of.Goals as goal

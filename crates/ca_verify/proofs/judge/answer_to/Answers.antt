@@ -1,7 +1,5 @@
 use Rattle.std.proofs.Common.{◌<◌, refl, sym, subst}
-use Rattle.ca_text.specs.Both.{map_both, HoldsOfBoth}
-use Rattle.ca_text.specs.Text.{map_patterns}
-use Rattle.ca_text.specs.Places.{path_at, named_path}
+use Rattle.ca_text.specs.Prelude.{map_both, HoldsOfBoth, map_patterns, path_at, named_path}
 use Rattle.ca_verify.specs.inner.Refusals.{IsOnVerdict}
 use Rattle.ca_verify.proofs.judge.answer_to.Goals as goal
 

@@ -1,11 +1,10 @@
 use Rattle.std.proofs.Common.{◌≡◌, ◌≢◌, ℕ, List, refl, sym, ap, ◌∙◌}
 use Rattle.std.specs.Prelude.{ℤ, pos, ◌↔◌}
-use Rattle.ca_plane.specs.Plane.{Picture, cell, shifted}
-use Rattle.ca_plane.specs.Generations.{after, IsAfter}
+use Rattle.ca_plane.specs.Prelude.{Picture, cell, shifted, after, IsAfter}
 use Rattle.ca_text.specs.declared.kind.Kind.{Kind}
 use Rattle.ca_text.specs.declared.kind.Kind.TheVariants.{Still, Dies}
 use Rattle.ca_text.specs.declared.asks.Forbidden.TheVariants.{EmptyPlane}
-use Rattle.ca_text.specs.Kinds.{asks_of}
+use Rattle.ca_text.specs.Prelude.{asks_of}
 use Rattle.ca_verify.proofs.Times.{cell_shifted_0}
 use Rattle.ca_text.proofs.Shifts.{unmoved}
 use Rattle.ca_verify.proofs.verdict_laws.false_claims.Goals as goal

@@ -1,4 +1,4 @@
-use Rattle.ca_text.specs.Kinds.{asks_of}
+use Rattle.ca_text.specs.Prelude.{asks_of}
 use Rattle.ca_verify.proofs.Verdicts.{false_from_reason}
 use Rattle.ca_verify.proofs.verdict_laws.no_is_false.Goals as goal
 

@@ -1,5 +1,5 @@
 use Rattle.ca_answers.specs.declared.cause.Cause.TheVariants.{Work}
-use Rattle.ca_text.specs.Kinds.{asks_of}
+use Rattle.ca_text.specs.Prelude.{asks_of}
 use Rattle.ca_verify.proofs.Verdicts.{yes_or_no, judged_or_cause, one_cause, no_file_or_memory, bad_table_or_memory}
 use Rattle.ca_verify.proofs.verdict_laws.one_kind_of_verdict.Goals as goal
 

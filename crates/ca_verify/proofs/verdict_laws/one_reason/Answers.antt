@@ -1,4 +1,4 @@
-use Rattle.ca_text.specs.Kinds.{asks_of}
+use Rattle.ca_text.specs.Prelude.{asks_of}
 use Rattle.ca_verify.proofs.OneReason.{one_reason}
 use Rattle.ca_verify.proofs.verdict_laws.one_reason.Goals as goal
 

@@ -1,7 +1,6 @@
 use Rattle.std.proofs.Common.{ℕ, List, refl, sym, ◌∙◌}
 use Rattle.std.specs.Prelude.{pos}
-use Rattle.ca_plane.specs.Plane.{Picture, shifted}
-use Rattle.ca_plane.specs.Generations.{IsAfter}
+use Rattle.ca_plane.specs.Prelude.{Picture, shifted, IsAfter}
 use Rattle.ca_verify.proofs.Times.{cell_shifted_0}
 use Rattle.ca_verify.proofs.verdict_laws.true_claims.Goals as goal
 

@@ -2,7 +2,7 @@ use Rattle.std.proofs.Common.{rules, ◌≡◌, map, ◌<◌, length, take, repl
 use Rattle.std.specs.Option.{option_copied}
 use Rattle.std.proofs.lemmas.Option.{slice_get_within}
 use Rattle.std.proofs.lemmas.List.{map-set}
-use Rattle.ca_answers.specs.Files.{contents, bytes_at}
+use Rattle.ca_answers.specs.Prelude.{contents, bytes_at}
 use Rattle.ca_verify.proofs.FoundFiles.{found-put, found-same, found-none, found-nothing, found-length, found-at, copied-nothing, copied-none, copied-some, contents-more}
 use Rattle.ca_verify.proofs.verifier.find_files.Goals as goal
 use Rattle.ca_verify.proofs.verifier.find_files.Goals.{in-Some+then-is_none, in-Some+else-is_none, in_default}

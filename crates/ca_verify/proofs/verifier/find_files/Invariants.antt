@@ -1,6 +1,6 @@
 use Rattle.std.proofs.Common.{◌≡◌, map, take}
 use Rattle.std.specs.Option.{option_copied}
-use Rattle.ca_answers.specs.Files.{contents, bytes_at}
+use Rattle.ca_answers.specs.Prelude.{contents, bytes_at}
 use Rattle.ca_verify.proofs.verifier.find_files.Given as goal
 
 -- the bytes of the files so far are found

@@ -1,16 +1,11 @@
 use Rattle.std.proofs.Common.{◌≡◌, ◌<◌, length, map, sym, ap, subst, ◌∙◌}
 use Rattle.std.specs.Option.{option_copied}
-use Rattle.ca_rule.specs.Rule.{rule_value, next_of}
-use Rattle.ca_text.specs.Kinds.{asks_of}
-use Rattle.ca_text.specs.Both.{HoldsOfBoth}
-use Rattle.ca_text.specs.Text.{map_patterns}
-use Rattle.ca_text.specs.Places.{path_at}
-use Rattle.ca_answers.specs.Files.{bytes_at}
+use Rattle.ca_rule.specs.Prelude.{rule_value, next_of}
+use Rattle.ca_text.specs.Prelude.{asks_of, HoldsOfBoth, map_patterns, path_at}
+use Rattle.ca_answers.specs.Prelude.{bytes_at, IsNoMoreThan, HasCause}
 use Rattle.ca_verify.specs.declared.refusal.About.TheVariants.{Claim}
 use Rattle.ca_answers.specs.declared.verdict.Verdict.TheVariants.{Refused}
 use Rattle.ca_answers.specs.declared.cause.Cause.TheVariants.{Work}
-use Rattle.ca_answers.specs.Work.{IsNoMoreThan}
-use Rattle.ca_answers.specs.Answers.{HasCause}
 use Rattle.ca_verify.specs.inner.Refusals.{IsRefusal, IsJudgedOn}
 use Rattle.ca_verify.specs.inner.Decided.{IsDecided}
 use Rattle.ca_verify.specs.inner.PreparedClaim.{IsPrepared}

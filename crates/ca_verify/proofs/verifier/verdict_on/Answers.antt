@@ -1,5 +1,4 @@
-use Rattle.ca_text.specs.Text.{map_patterns}
-use Rattle.ca_text.specs.Places.{path_at}
+use Rattle.ca_text.specs.Prelude.{map_patterns, path_at}
 use Rattle.ca_verify.proofs.verifier.verdict_on.Goals as goal
 
 pub returns-then-is_empty : goal.returns-then-is_empty

@@ -1,5 +1,5 @@
 use Rattle.std.proofs.Common.{◌≢◌, [], subst, sym}
-use Rattle.ca_answers.specs.Files.{contents}
+use Rattle.ca_answers.specs.Prelude.{contents}
 use Rattle.ca_verify.proofs.JudgedInTurn.{IsAnswered, one_more, some_claims, on_error}
 use Rattle.ca_verify.proofs.verifier.verify.Goals as goal
 

@@ -1,5 +1,5 @@
 use Rattle.std.proofs.Common.{length}
-use Rattle.ca_answers.specs.Files.{contents}
+use Rattle.ca_answers.specs.Prelude.{contents}
 use Rattle.ca_verify.proofs.JudgedInTurn.{IsAnswered}
 use Rattle.ca_verify.proofs.verifier.verify.Given as goal
 

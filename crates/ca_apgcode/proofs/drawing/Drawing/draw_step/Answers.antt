@@ -1,5 +1,5 @@
 use Rattle.std.proofs.Common.{◌<◌, ◌+◌, length, refl, inl, arith}
-use Rattle.ca_apgcode.specs.Representation.{Step}
+use Rattle.ca_apgcode.specs.Prelude.{Step}
 use Rattle.ca_apgcode.proofs.StepsRead.{step_there}
 use Rattle.ca_apgcode.proofs.Drawn.{drawn_columns}
 use Rattle.ca_apgcode.proofs.drawing.Drawing.draw_step.Goals as goal

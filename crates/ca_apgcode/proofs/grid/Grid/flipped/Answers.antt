@@ -1,5 +1,5 @@
 use Rattle.std.proofs.Common.{◌≡◌, length, sym, ap, subst, arith}
-use Rattle.ca_apgcode.specs.Grids.{GridCells, IsGrid}
+use Rattle.ca_apgcode.specs.Prelude.{GridCells, IsGrid}
 use Rattle.ca_apgcode.specs.inner.Turned.{IsFlipped}
 use Rattle.ca_apgcode.proofs.ColumnBits.{AreFlipped, IsFlipped-all}
 use Rattle.ca_apgcode.proofs.grid.Grid.flipped.Goals as goal

@@ -1,5 +1,5 @@
 use Rattle.std.proofs.Common.{reverse, ap, subst, ◌∙◌}
-use Rattle.ca_apgcode.specs.Grids.{GridCells}
+use Rattle.ca_apgcode.specs.Prelude.{GridCells}
 use Rattle.ca_apgcode.specs.inner.Turned.{IsMirrored}
 use Rattle.ca_apgcode.proofs.RowBits.{IsMirrored-reverse}
 use Rattle.ca_apgcode.proofs.grid.Grid.mirrored.Goals as goal

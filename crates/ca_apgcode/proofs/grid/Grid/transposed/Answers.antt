@@ -1,5 +1,5 @@
 use Rattle.std.proofs.Common.{◌≡◌, sym, ap, subst, arith}
-use Rattle.ca_apgcode.specs.Grids.{GridCells, IsGrid}
+use Rattle.ca_apgcode.specs.Prelude.{GridCells, IsGrid}
 use Rattle.ca_apgcode.specs.inner.Turned.{IsTransposed}
 use Rattle.ca_apgcode.proofs.RowBits.{AreRows, IsTransposed-rows}
 use Rattle.ca_apgcode.proofs.grid.Grid.transposed.Goals as goal

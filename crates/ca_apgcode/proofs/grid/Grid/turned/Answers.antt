@@ -1,6 +1,5 @@
 use Rattle.std.proofs.Common.{IfOk, ap, sym, subst}
-use Rattle.ca_apgcode.specs.Objects.{IsBoxRound}
-use Rattle.ca_apgcode.specs.Orientations.{turned}
+use Rattle.ca_apgcode.specs.Prelude.{IsBoxRound, turned}
 use Rattle.ca_apgcode.specs.declared.orientation.Orientation.TheVariants.{Upright, ThreeQuarterTurn, EastWest, Diagonal}
 use Rattle.ca_apgcode.proofs.EightTexts.{neg_twice}
 use Rattle.ca_apgcode.proofs.TurnedBoxes.{IsBoxRound-mirrored, IsBoxRound-transposed, mirrored_if_ok, flipped_if_ok, transposed_if_ok, box_if_ok}

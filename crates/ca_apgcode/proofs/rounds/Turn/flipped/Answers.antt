@@ -1,4 +1,4 @@
-use Rattle.ca_apgcode.specs.Orientations.{turned}
+use Rattle.ca_apgcode.specs.Prelude.{turned}
 use Rattle.ca_apgcode.specs.declared.orientation.Orientation.TheVariants.{NorthSouth}
 use Rattle.ca_apgcode.proofs.TurnedBoxes.{IsBoxRound-flipped}
 use Rattle.ca_apgcode.proofs.rounds.Turn.flipped.Goals as goal

@@ -1,7 +1,6 @@
 use Rattle.std.proofs.Common.{◌≡◌, ℕ, length, get_or, []}
 use Rattle.std.specs.List.{All}
-use Rattle.ca_bricks.specs.Aged.{IsBeside}
-use Rattle.ca_bricks.specs.Bricks.{IsBlank}
+use Rattle.ca_bricks.specs.Prelude.{IsBeside, IsBlank}
 use Rattle.ca_bricks.proofs.aged.AgedGrid.blank_planes.Given as goal
 
 -- the planes so far

@@ -2,7 +2,7 @@ use Rattle.std.proofs.Common.{◌≡◌, ◌<◌, inl, inr, sym, subst, ap, ◌�
 use Rattle.std.proofs.lemmas.Bool.{cases_eq}
 use Rattle.std.proofs.lemmas.List.{get_or_default}
 use Rattle.ca_bricks.specs.declared.grid.BrickGrid.{BrickGrid}
-use Rattle.ca_bricks.specs.Bricks.{HasBlankEdge, HasNeighbours, IsBlank, QueueGrows}
+use Rattle.ca_bricks.specs.Prelude.{HasBlankEdge, HasNeighbours, IsBlank, QueueGrows}
 use Rattle.ca_bricks.proofs.BrickQueues.{grows_again}
 use Rattle.ca_bricks.proofs.aged.AgedGrid.first_bricks.Goals as goal
 

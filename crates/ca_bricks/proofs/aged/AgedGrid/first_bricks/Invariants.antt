@@ -1,6 +1,6 @@
 use Rattle.std.proofs.Common.{ℕ, ◌<◌, length, get_or, []}
 use Rattle.ca_bricks.specs.declared.grid.BrickGrid.{BrickGrid}
-use Rattle.ca_bricks.specs.Bricks.{HasNeighbours, IsNotIn, IsBlank, IsBlankRound, QueueGrows}
+use Rattle.ca_bricks.specs.Prelude.{HasNeighbours, IsNotIn, IsBlank, IsBlankRound, QueueGrows}
 use Rattle.ca_bricks.proofs.aged.AgedGrid.first_bricks.Given as goal
 
 -- those that aren't in the queue see no live cell, and have no bit in the planes so far

@@ -4,9 +4,7 @@ use Rattle.std.specs.Int.{bit_at}
 use Rattle.std.proofs.lemmas.Bool.{cases_eq}
 use Rattle.std.proofs.lemmas.Nat.Bits.{bit_at-zero}
 use Rattle.ca_bricks.specs.declared.grid.BrickGrid.{BrickGrid}
-use Rattle.ca_bricks.specs.Aged.{dying_digit}
-use Rattle.ca_bricks.specs.Bricks.{GridShows}
-use Rattle.ca_bricks.specs.Words.{WordShows, eight}
+use Rattle.ca_bricks.specs.Prelude.{dying_digit, GridShows, WordShows, eight}
 use Rattle.ca_bricks.proofs.AgedSquares.{digit_word, word_cell, live_alone, no_number}
 use Rattle.ca_bricks.proofs.aged.AgedGrid.is_without_dying.Goals as goal
 

@@ -1,7 +1,6 @@
 use Rattle.std.proofs.Common.{◌≡◌, ℕ, ◌<◌}
 use Rattle.std.specs.Prelude.{ℤ, pos, ◌+ℤ◌}
-use Rattle.ca_bricks.specs.Aged.{AgedGridShows, dying_digit}
-use Rattle.ca_bricks.specs.Words.{eight}
+use Rattle.ca_bricks.specs.Prelude.{AgedGridShows, dying_digit, eight}
 use Rattle.ca_bricks.proofs.aged.AgedGrid.is_without_dying.Given as goal
 
 -- no plane of digits so far has a bit in the word

@@ -2,12 +2,9 @@ use Rattle.std.proofs.Common.{◌≡◌, ℕ, suc, ◌+◌, ◌-◌, ◌*◌, �
 use Rattle.std.specs.Prelude.{ℤ, pos, ◌+ℤ◌}
 use Rattle.std.specs.Int.{bit_at}
 use Rattle.std.proofs.lemmas.List.{get_or-replicate}
-use Rattle.ca_plane.specs.Ageing.{liveness}
+use Rattle.ca_plane.specs.Prelude.{liveness}
 use Rattle.ca_bricks.specs.declared.grid.BrickGrid.{BrickGrid}
-use Rattle.ca_bricks.specs.Aged.{remaining}
-use Rattle.ca_bricks.specs.Bricks.{GridShows}
-use Rattle.ca_bricks.specs.States.{told_state}
-use Rattle.ca_bricks.specs.Words.{WordShows, eight}
+use Rattle.ca_bricks.specs.Prelude.{remaining, GridShows, told_state, WordShows, eight}
 use Rattle.ca_bricks.proofs.AgedSquares.{digit_word, word_cell, digits_from, none_from, number_fits, number_low, told_is}
 use Rattle.ca_bricks.proofs.aged.AgedGrid.states_at.Goals as goal
 

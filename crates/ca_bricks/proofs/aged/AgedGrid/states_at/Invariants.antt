@@ -1,7 +1,6 @@
 use Rattle.std.proofs.Common.{◌≡◌, ℕ, ◌+◌, ◌*◌, ◌/◌, ◌<◌, ◌^◌, slice_index}
 use Rattle.std.specs.Prelude.{ℤ, pos, ◌+ℤ◌}
-use Rattle.ca_bricks.specs.Aged.{AgedGridShows, remaining}
-use Rattle.ca_bricks.specs.Words.{eight}
+use Rattle.ca_bricks.specs.Prelude.{AgedGridShows, remaining, eight}
 use Rattle.ca_bricks.proofs.aged.AgedGrid.states_at.Given as goal
 
 -- the numbers by the digits so far, from the highest

@@ -1,6 +1,6 @@
 use Rattle.std.proofs.Common.{subst}
-use Rattle.ca_plane.specs.Counting.{counting_next}
-use Rattle.ca_bricks.specs.Diagrams.{diagram_next}
+use Rattle.ca_plane.specs.Prelude.{counting_next}
+use Rattle.ca_bricks.specs.Prelude.{diagram_next}
 use Rattle.ca_bricks.specs.inner.Neighbourhoods.{AreNextStates}
 use Rattle.ca_bricks.proofs.Neighbourhoods.{goes_by_counting, goes_by_diagram}
 use Rattle.ca_bricks.proofs.cell_rule.CellRule.of.Goals as goal

@@ -1,7 +1,7 @@
 use Rattle.std.proofs.Common.{◌≡◌, inl, inr, sym, ap, ◌∙◌, arith, slice_index}
 use Rattle.std.proofs.lemmas.Bool.{cases_eq}
 use Rattle.std.proofs.lemmas.Bool.Decides.{nat_tests}
-use Rattle.ca_bricks.specs.Diagrams.{diagram_next}
+use Rattle.ca_bricks.specs.Prelude.{diagram_next}
 use Rattle.ca_bricks.specs.inner.Neighbourhoods.{neighbourhood}
 use Rattle.ca_bricks.proofs.diagram.Diagram.gives.Goals as goal
 

@@ -1,5 +1,5 @@
 use Rattle.std.proofs.Common.{◌≡◌, ℕ, ◌<◌, slice_index}
-use Rattle.ca_bricks.specs.Diagrams.{diagram_next}
+use Rattle.ca_bricks.specs.Prelude.{diagram_next}
 use Rattle.ca_bricks.specs.inner.Neighbourhoods.{neighbourhood}
 use Rattle.ca_bricks.proofs.diagram.Diagram.gives.Given as goal
 

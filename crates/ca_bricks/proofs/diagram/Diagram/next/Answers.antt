@@ -1,6 +1,6 @@
 use Rattle.std.proofs.Common.{◌≡◌, false, ◌+◌, ◌-◌, [], ◌∷◌, length, get_or, sym, ap, ap₂, ◌∙◌, arith, slice_index}
 use Rattle.std.proofs.lemmas.List.{length-append}
-use Rattle.ca_bricks.specs.Diagrams.{states_of, node_state}
+use Rattle.ca_bricks.specs.Prelude.{states_of, node_state}
 use Rattle.ca_bricks.specs.declared.diagram.Node.TheVariants.{State}
 use Rattle.ca_bricks.proofs.Planes.{states_more}
 use Rattle.ca_bricks.proofs.diagram.Diagram.next.Goals as goal

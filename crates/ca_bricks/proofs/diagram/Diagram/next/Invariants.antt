@@ -1,5 +1,5 @@
 use Rattle.std.proofs.Common.{◌≡◌, length}
-use Rattle.ca_bricks.specs.Diagrams.{states_of}
+use Rattle.ca_bricks.specs.Prelude.{states_of}
 use Rattle.ca_bricks.proofs.diagram.Diagram.next.Given as goal
 
 -- the states of the nodes so far

@@ -1,9 +1,7 @@
 use Rattle.std.proofs.Common.{◌≡◌, false, ◌+◌, ◌-◌, [], ◌∷◌, length, get_or, sym, ap, ap₂, ◌∙◌, arith, slice_index}
 use Rattle.std.proofs.lemmas.List.{length-append}
-use Rattle.ca_plane.specs.Shown.{row_cells}
-use Rattle.ca_bricks.specs.Bricks.{round_cells}
-use Rattle.ca_bricks.specs.Tiles.{nine_at}
-use Rattle.ca_bricks.specs.Diagrams.{states_of, node_state}
+use Rattle.ca_plane.specs.Prelude.{row_cells}
+use Rattle.ca_bricks.specs.Prelude.{round_cells, nine_at, states_of, node_state}
 use Rattle.ca_bricks.specs.declared.diagram.Node.TheVariants.{State}
 use Rattle.ca_bricks.specs.inner.Planes.{cells_at}
 use Rattle.ca_bricks.proofs.Planes.{read, states_more, cells_more}

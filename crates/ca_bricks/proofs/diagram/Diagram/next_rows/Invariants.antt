@@ -1,7 +1,5 @@
 use Rattle.std.proofs.Common.{◌≡◌, ℕ, ◌<◌, length}
-use Rattle.ca_bricks.specs.Bricks.{round_cells}
-use Rattle.ca_bricks.specs.Tiles.{nine_at}
-use Rattle.ca_bricks.specs.Diagrams.{states_of}
+use Rattle.ca_bricks.specs.Prelude.{round_cells, nine_at, states_of}
 use Rattle.ca_bricks.specs.inner.Planes.{cells_at}
 use Rattle.ca_bricks.proofs.diagram.Diagram.next_rows.Given as goal
 

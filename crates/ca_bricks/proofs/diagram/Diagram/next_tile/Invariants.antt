@@ -1,7 +1,6 @@
 use Rattle.std.proofs.Common.{◌≡◌, ℕ, suc, ◌<◌, length}
-use Rattle.ca_plane.specs.Shown.{row_cells}
-use Rattle.ca_bricks.specs.Tiles.{nine_at}
-use Rattle.ca_bricks.specs.Diagrams.{states_of}
+use Rattle.ca_plane.specs.Prelude.{row_cells}
+use Rattle.ca_bricks.specs.Prelude.{nine_at, states_of}
 use Rattle.ca_bricks.specs.inner.Planes.{cells_at, tile_planes}
 use Rattle.ca_bricks.proofs.diagram.Diagram.next_tile.Given as goal
 

@@ -1,7 +1,7 @@
 use Rattle.std.proofs.Common.{◌+◌, ◌*◌, [], sym, subst, ◌∙◌}
 use Rattle.std.specs.Prelude.{pos, ◌+ℤ◌}
 use Rattle.std.proofs.lemmas.List.{get_or_default}
-use Rattle.ca_bricks.specs.Bricks.{BrickShows}
+use Rattle.ca_bricks.specs.Prelude.{BrickShows}
 use Rattle.ca_bricks.proofs.Grids.{brick_there, place_fits}
 use Rattle.ca_bricks.proofs.grid.BrickGrid.brick.Goals as goal
 

@@ -1,6 +1,6 @@
 use Rattle.std.proofs.Common.{ℕ, ◌*◌, ◌/◌}
 use Rattle.std.specs.Prelude.{ℤ}
-use Rattle.ca_bricks.specs.Bricks.{GridShows}
+use Rattle.ca_bricks.specs.Prelude.{GridShows}
 use Rattle.ca_bricks.proofs.Grids.{IsDeadThere}
 use Rattle.ca_bricks.proofs.grid.BrickGrid.is_blank_between.Given as goal
 

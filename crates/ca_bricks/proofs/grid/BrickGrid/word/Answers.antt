@@ -1,7 +1,7 @@
 use Rattle.std.proofs.Common.{◌≡◌, inl, inr, subst, arith, w64, to_z, of_z}
 use Rattle.std.specs.Prelude.{pos, ◌+ℤ◌, unsigned_abs}
 use Rattle.std.proofs.lemmas.Int.{ints}
-use Rattle.ca_bricks.specs.Words.{WordShows, eight}
+use Rattle.ca_bricks.specs.Prelude.{WordShows, eight}
 use Rattle.ca_bricks.proofs.Grids.{word_beyond, word_there}
 use Rattle.ca_bricks.proofs.grid.BrickGrid.word.Goals as goal
 use Rattle.ca_bricks.proofs.grid.BrickGrid.word.Goals.{then-at-lt0-via-then-at-lt0, then-at-lt0-via-else-at-lt0+then-at-lt0-2}

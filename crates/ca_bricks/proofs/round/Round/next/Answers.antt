@@ -1,7 +1,6 @@
 use Rattle.std.proofs.Common.{◌≡◌, ℕ, suc, ◌+◌, ◌<◌, sym, ap, ◌∙◌, arith, slice_index}
 use Rattle.std.proofs.lemmas.List.{length-set}
-use Rattle.ca_bricks.specs.Bricks.{round_cells, count_at, counted_cell_at}
-use Rattle.ca_bricks.specs.Tiles.{sum_round, sum_above, sum_beside, sum_below}
+use Rattle.ca_bricks.specs.Prelude.{round_cells, count_at, counted_cell_at, sum_round, sum_above, sum_beside, sum_below}
 use Rattle.ca_bricks.proofs.BrickRows.{rows_grow, row_made}
 use Rattle.ca_bricks.proofs.round.Round.next.Goals as goal
 

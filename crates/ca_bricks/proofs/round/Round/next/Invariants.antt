@@ -1,8 +1,7 @@
 use Rattle.std.proofs.Common.{◌≡◌, ℕ, suc, ◌<◌, length}
 use Rattle.ca_plane.specs.declared.counting.Counting.{Counting}
-use Rattle.ca_plane.specs.Shown.{row_cells}
-use Rattle.ca_bricks.specs.Bricks.{round_cells, pair_at, counted_cell_at}
-use Rattle.ca_bricks.specs.Tiles.{sum_above, sum_beside}
+use Rattle.ca_plane.specs.Prelude.{row_cells}
+use Rattle.ca_bricks.specs.Prelude.{round_cells, pair_at, counted_cell_at, sum_above, sum_beside}
 use Rattle.ca_bricks.proofs.round.Round.next.Given as goal
 
 -- the rows so far, and the sums of the two rows in sight

@@ -1,5 +1,5 @@
 use Rattle.std.proofs.Common.{◌≡◌, suc, ◌+◌, ap₂, ◌∙◌, arith}
-use Rattle.ca_bricks.specs.Bricks.{round_cells}
+use Rattle.ca_bricks.specs.Prelude.{round_cells}
 use Rattle.ca_bricks.proofs.round.Round.nine.Goals as goal
 
 pub returns : goal.returns

@@ -1,5 +1,5 @@
 use Rattle.std.proofs.Common.{◌≡◌, suc, ◌+◌, sym, ap, ◌∙◌, arith, slice_index}
-use Rattle.ca_bricks.specs.Bricks.{round_cells}
+use Rattle.ca_bricks.specs.Prelude.{round_cells}
 use Rattle.ca_bricks.specs.inner.Planes.{column_place}
 use Rattle.ca_bricks.proofs.round.Round.row.Goals as goal
 

@@ -1,6 +1,6 @@
 use Rattle.std.proofs.Common.{ℕ, ◌+◌, ◌∙◌, arith}
 use Rattle.std.proofs.lemmas.List.{length-set}
-use Rattle.ca_bricks.specs.Bricks.{round_cells}
+use Rattle.ca_bricks.specs.Prelude.{round_cells}
 use Rattle.ca_bricks.specs.inner.Planes.{column_place}
 use Rattle.ca_bricks.proofs.BrickRows.{rows_grow}
 use Rattle.ca_bricks.proofs.round.Round.rows_from.Goals as goal

@@ -1,6 +1,6 @@
 use Rattle.std.proofs.Common.{◌≡◌, ℕ, ◌+◌, ◌<◌, length}
-use Rattle.ca_plane.specs.Shown.{row_cells}
-use Rattle.ca_bricks.specs.Bricks.{round_cells}
+use Rattle.ca_plane.specs.Prelude.{row_cells}
+use Rattle.ca_bricks.specs.Prelude.{round_cells}
 use Rattle.ca_bricks.specs.inner.Planes.{column_place}
 use Rattle.ca_bricks.proofs.round.Round.rows_from.Given as goal
 

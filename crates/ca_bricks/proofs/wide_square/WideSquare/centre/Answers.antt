@@ -1,7 +1,7 @@
 use Rattle.std.proofs.Common.{◌+◌}
 use Rattle.std.specs.Prelude.{pos, ◌+ℤ◌}
-use Rattle.ca_plane.specs.Generations.{cells_after}
-use Rattle.ca_bricks.specs.Words.{WordShows}
+use Rattle.ca_plane.specs.Prelude.{cells_after}
+use Rattle.ca_bricks.specs.Prelude.{WordShows}
 use Rattle.ca_plane.proofs.After.{after_again}
 use Rattle.ca_bricks.proofs.Tiles.{words_of_same}
 use Rattle.ca_bricks.proofs.Overlaps.{four_lie}

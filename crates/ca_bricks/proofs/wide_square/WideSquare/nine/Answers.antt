@@ -1,6 +1,6 @@
 use Rattle.std.specs.Prelude.{pos, ◌+ℤ◌}
-use Rattle.ca_plane.specs.Generations.{cells_after}
-use Rattle.ca_bricks.specs.Words.{WordShows}
+use Rattle.ca_plane.specs.Prelude.{cells_after}
+use Rattle.ca_bricks.specs.Prelude.{WordShows}
 use Rattle.ca_bricks.proofs.Overlaps.{rows_lie}
 use Rattle.ca_bricks.proofs.wide_square.WideSquare.nine.Goals as goal
 

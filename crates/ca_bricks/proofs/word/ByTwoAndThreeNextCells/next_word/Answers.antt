@@ -1,7 +1,7 @@
 use Rattle.std.proofs.Common.{refl, arith}
 use Rattle.std.specs.Int.{bit_at}
 use Rattle.std.proofs.lemmas.Nat.Bits.{bit_at-lt, bit_at_and}
-use Rattle.ca_bricks.specs.Bricks.{count_at}
+use Rattle.ca_bricks.specs.Prelude.{count_at}
 use Rattle.ca_bricks.proofs.NextStates.{few_told}
 use Rattle.ca_bricks.proofs.word.ByTwoAndThreeNextCells.next_word.Goals as goal
 

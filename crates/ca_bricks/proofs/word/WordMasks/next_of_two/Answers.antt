@@ -1,7 +1,7 @@
 use Rattle.std.proofs.Common.{◌+◌, arith}
 use Rattle.std.specs.Int.{bit_at}
 use Rattle.std.proofs.lemmas.Nat.Bits.{bit_at-lt}
-use Rattle.ca_bricks.specs.Tiles.{next_by_count}
+use Rattle.ca_bricks.specs.Prelude.{next_by_count}
 use Rattle.ca_bricks.proofs.BrickBits.{told_by_bit}
 use Rattle.ca_bricks.proofs.word.WordMasks.next_of_two.Goals as goal
 

@@ -1,4 +1,4 @@
-use Rattle.ca_plane.specs.Generations.{cells_after}
+use Rattle.ca_plane.specs.Prelude.{cells_after}
 use Rattle.ca_bricks.proofs.Tiles.{tile_less}
 use Rattle.ca_bricks.proofs.word_square.WordSquare.centre.Goals as goal
 

@@ -1,5 +1,5 @@
 use Rattle.std.proofs.Common.{◌≡◌, false, [], ◌∷◌, ◌++◌, if◌then◌else◌, sym, ap, subst, ◌∙◌}
-use Rattle.ca_catalog.specs.Names.{is_taken}
+use Rattle.ca_catalog.specs.Prelude.{is_taken}
 use Rattle.ca_catalog.specs.inner.Tried.{AreTried}
 use Rattle.ca_catalog.proofs.TriedNames.{tried_more}
 use Rattle.ca_catalog.proofs.taken_names.TakenNames.put.Goals as goal

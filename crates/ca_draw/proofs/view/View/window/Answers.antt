@@ -1,5 +1,5 @@
 use Rattle.std.proofs.Common.{MatchResult, Some, subst, sym}
-use Rattle.ca_draw.specs.Views.{size_of, IsWindowFrom, IsNoWindowFrom}
+use Rattle.ca_draw.specs.Prelude.{size_of, IsWindowFrom, IsNoWindowFrom}
 use Rattle.ca_draw.proofs.view.View.window.Goals as goal
 
 -- the window that begins with the corner that is asked for, of the size that is

@@ -2,7 +2,7 @@ use Rattle.std.proofs.Common.{FitsSigned, ◌≤◌, pos, ◌+ℤ◌, ◌≤ℤ�
 use Rattle.std.proofs.lemmas.Bool.Decides.{nat_tests}
 use Rattle.std.specs.Int.{w128}
 use Rattle.std.proofs.lemmas.Int.{to_z-of_z}
-use Rattle.ca_draw.specs.Windows.{strip_of}
+use Rattle.ca_draw.specs.Prelude.{strip_of}
 use Rattle.ca_draw.proofs.Boxes.{first_corner, last_corner, span_x, span_y, shows_box, last_square}
 use Rattle.ca_draw.proofs.window.Window.fitting_at.Goals as goal
 

@@ -1,5 +1,5 @@
 use Rattle.std.proofs.Common.{subst}
-use Rattle.ca_rule.specs.Rule.{IsRuleFault}
+use Rattle.ca_rule.specs.Prelude.{IsRuleFault}
 use Rattle.ca_rule.specs.declared.fault.RuleFault.TheVariants.{Unknown}
 use Rattle.ca_host.proofs.rules.RuleFiles.unknown_rule.Goals as goal
 

@@ -2,15 +2,14 @@ use Rattle.std.proofs.Common.{◌≡◌, List, ◌+◌, ◌++◌, ◌∷◌, [],
 use Rattle.std.proofs.lemmas.Option.{none-some}
 use Rattle.std.specs.Prelude.{slice_get, Some}
 use Rattle.ca_quad.specs.declared.tree.Tree.{Tree}
-use Rattle.ca_quad.specs.Boxes.{AreSquareBoxes}
-use Rattle.ca_quad.specs.Trees.{cell, IsTree, IsTrimmed}
+use Rattle.ca_quad.specs.Prelude.{AreSquareBoxes, cell, IsTree, IsTrimmed}
 use Rattle.ca_quad.proofs.Measures.{boxes_stay}
 use Rattle.ca_run.proofs.LeaperGrowth.{goes_on_same}
 use Rattle.ca_run.proofs.LeaperGrowth.{goes_on_again}
 use Rattle.ca_identify.specs.declared.identification.stage.First.{First}
 use Rattle.ca_identify.specs.inner.Stages.{IsFirst, AreEarly}
-use Rattle.ca_evolution.specs.Steps.{CanGoOn}
-use Rattle.ca_pattern.specs.LaterTrees.{IsLaterTree}
+use Rattle.ca_evolution.specs.Prelude.{CanGoOn}
+use Rattle.ca_pattern.specs.Prelude.{IsLaterTree}
 use Rattle.ca_evolution.proofs.Steps.{first_tree, later_next, near_next}
 use Rattle.ca_identify.proofs.Strides.{one_more_early, early_stays}
 use Rattle.ca_identify.proofs.identification.early.early_planes.Goals as goal

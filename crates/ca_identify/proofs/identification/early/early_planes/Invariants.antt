@@ -1,8 +1,7 @@
 use Rattle.std.proofs.Common.{◌-◌, length}
-use Rattle.ca_quad.specs.Boxes.{AreSquareBoxes}
-use Rattle.ca_quad.specs.Trees.{cell}
-use Rattle.ca_run.specs.Leaping.{LeaperGrows}
-use Rattle.ca_pattern.specs.LaterTrees.{IsLaterTree}
+use Rattle.ca_quad.specs.Prelude.{AreSquareBoxes, cell}
+use Rattle.ca_run.specs.Prelude.{LeaperGrows}
+use Rattle.ca_pattern.specs.Prelude.{IsLaterTree}
 use Rattle.ca_identify.specs.inner.Stages.{AreEarly}
 use Rattle.ca_identify.proofs.identification.early.early_planes.Given as goal
 

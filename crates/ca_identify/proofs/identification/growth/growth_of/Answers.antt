@@ -1,6 +1,6 @@
 use Rattle.std.proofs.Common.{sym, ◌∙◌}
 use Rattle.ca_plane.specs.Plane as plane
-use Rattle.ca_quad.specs.Trees.{cell}
+use Rattle.ca_quad.specs.Prelude.{cell}
 use Rattle.ca_identify.proofs.LaterPlanes.{tree_picture}
 use Rattle.ca_pattern.proofs.EqualCells.{population_shown}
 use Rattle.ca_identify.proofs.identification.growth.growth_of.Goals as goal

@@ -1,10 +1,10 @@
 use Rattle.std.proofs.Common.{rules, ◌<◌, ◌≤◌, sym, subst, arith}
 use Rattle.std.specs.Prelude.{IsTrue, IfOk}
-use Rattle.ca_quad.specs.Trees.{cell}
+use Rattle.ca_quad.specs.Prelude.{cell}
 use Rattle.ca_quad.proofs.Reach.{tree_holds}
 use Rattle.ca_quad.proofs.Shifts.{some_level}
 use Rattle.ca_identify.specs.inner.Stages.{EndsWithin, HasNoReturn}
-use Rattle.ca_pattern.specs.PatternTrees.{ShowsTree}
+use Rattle.ca_pattern.specs.Prelude.{ShowsTree}
 use Rattle.ca_identify.proofs.LaterPlanes.{tree_picture}
 use Rattle.ca_pattern.proofs.LeaptTrees.{ok_as, shows_stays}
 use Rattle.ca_identify.proofs.NoReturn.{tree_ended}

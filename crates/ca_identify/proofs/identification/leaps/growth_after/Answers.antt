@@ -1,7 +1,7 @@
 use Rattle.std.proofs.Common.{◌≡◌, ℕ, List, refl, sym, subst, arith}
 use Rattle.std.specs.Prelude.{ℤ, replicate}
-use Rattle.ca_quad.specs.Trees.{cell}
-use Rattle.ca_pattern.specs.PatternTrees.{IsLowTree, HasLive}
+use Rattle.ca_quad.specs.Prelude.{cell}
+use Rattle.ca_pattern.specs.Prelude.{IsLowTree, HasLive}
 use Rattle.ca_identify.specs.inner.Stages.{IsGrowthOf}
 use Rattle.ca_identify.proofs.Identities.{found_growth}
 use Rattle.ca_identify.proofs.Stages.{start_goes_on}

@@ -1,12 +1,12 @@
 use Rattle.std.proofs.Common.{◌+◌, ◌≤◌, sym, subst, arith}
 use Rattle.std.specs.Prelude.{IfOk, IfSome}
-use Rattle.ca_plane.specs.Plane.{Picture}
-use Rattle.ca_run.specs.Leaping.{LeaperView, LeaperGrows}
+use Rattle.ca_plane.specs.Prelude.{Picture}
+use Rattle.ca_run.specs.Prelude.{LeaperView, LeaperGrows}
 use Rattle.ca_run.proofs.LeaperGrowth.{goes_on_same}
 use Rattle.ca_answers.specs.declared.identity.Identity.TheVariants.{Unknown}
-use Rattle.ca_answers.specs.Identified.{IsIdentity}
+use Rattle.ca_answers.specs.Prelude.{IsIdentity}
 use Rattle.ca_identify.specs.inner.Stages.{HasNoReturn, leap_work}
-use Rattle.ca_pattern.specs.PatternTrees.{ShowsTree}
+use Rattle.ca_pattern.specs.Prelude.{ShowsTree}
 use Rattle.ca_identify.proofs.Spending.{limited, shared_goes_on, shared_takes}
 use Rattle.ca_identify.proofs.identification.leaps.growth_by_leaps.Goals as goal
 

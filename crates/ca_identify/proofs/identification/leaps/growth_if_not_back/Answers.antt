@@ -2,7 +2,7 @@ use Rattle.std.proofs.Common.{sym, subst}
 use Rattle.std.specs.Prelude.{IfOk, IfSome}
 use Rattle.ca_run.proofs.LeaperGrowth.{goes_on_again}
 use Rattle.ca_answers.specs.declared.identity.Identity.TheVariants.{Unknown}
-use Rattle.ca_answers.specs.Identified.{IsIdentity}
+use Rattle.ca_answers.specs.Prelude.{IsIdentity}
 use Rattle.ca_identify.specs.inner.Stages.{HasNoReturn}
 use Rattle.ca_pattern.proofs.LeaptTrees.{shows_stays}
 use Rattle.ca_identify.proofs.Stages.{first_stays}

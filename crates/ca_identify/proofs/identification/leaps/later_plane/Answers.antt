@@ -1,6 +1,5 @@
 use Rattle.std.proofs.Common.{refl, subst}
-use Rattle.ca_quad.specs.Boxes.{IsDead, IsLeastWideBox}
-use Rattle.ca_quad.specs.Trees.{cell}
+use Rattle.ca_quad.specs.Prelude.{IsDead, IsLeastWideBox, cell}
 use Rattle.ca_pattern.proofs.Corners.{corner_broad, far_corner_wide}
 use Rattle.ca_pattern.proofs.Corners.{corner_wide}
 use Rattle.ca_identify.proofs.NoReturn.{tree_empty, tree_grown}

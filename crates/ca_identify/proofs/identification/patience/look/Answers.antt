@@ -1,13 +1,13 @@
 use Rattle.std.proofs.Common.{◌≡◌, ℕ, refl, sym, subst, arith}
 use Rattle.std.specs.Prelude.{ℤ}
-use Rattle.ca_plane.specs.Generations.{cells_after}
-use Rattle.ca_quad.specs.Trees.{cell}
+use Rattle.ca_plane.specs.Prelude.{cells_after}
+use Rattle.ca_quad.specs.Prelude.{cell}
 use Rattle.ca_quad.proofs.Trims.{trees_stay}
-use Rattle.ca_run.specs.Leaping.{LeaperGrows}
+use Rattle.ca_run.specs.Prelude.{LeaperGrows}
 use Rattle.ca_plane.proofs.After.{after_same}
 use Rattle.ca_run.proofs.LeaperGrowth.{goes_on_again}
-use Rattle.ca_answers.specs.Identified.{IsIdentity}
-use Rattle.ca_pattern.specs.PatternTrees.{IsLowTree, HasLive}
+use Rattle.ca_answers.specs.Prelude.{IsIdentity}
+use Rattle.ca_pattern.specs.Prelude.{IsLowTree, HasLive}
 use Rattle.ca_identify.specs.inner.Stages.{IsWalk, IsHalted, IsGrowthOf, TakesSearch, TakesSearchFrom}
 use Rattle.ca_identify.proofs.Identities.{last_live, found_none, whole_look, search_needs}
 use Rattle.ca_pattern.proofs.LeaptTrees.{shows_stays}

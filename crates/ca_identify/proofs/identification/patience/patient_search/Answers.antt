@@ -1,9 +1,9 @@
 use Rattle.std.proofs.Common.{subst}
 use Rattle.std.specs.Prelude.{IfOk}
-use Rattle.ca_plane.specs.Plane.{Picture}
-use Rattle.ca_run.specs.Leaping.{LeaperView}
-use Rattle.ca_answers.specs.Identified.{IsIdentity}
-use Rattle.ca_pattern.specs.PatternTrees.{ShowsTree}
+use Rattle.ca_plane.specs.Prelude.{Picture}
+use Rattle.ca_run.specs.Prelude.{LeaperView}
+use Rattle.ca_answers.specs.Prelude.{IsIdentity}
+use Rattle.ca_pattern.specs.Prelude.{ShowsTree}
 use Rattle.ca_identify.proofs.identification.patience.patient_search.Goals as goal
 
 pub returns-in-Ok-clause-identity : goal.returns-in-Ok-clause-identity

@@ -1,7 +1,7 @@
 use Rattle.std.proofs.Common.{◌≡◌, ◌+◌, ◌≤◌, ℕ, sym, subst, arith}
 use Rattle.std.specs.Prelude.{ℤ, IfSome}
-use Rattle.ca_plane.specs.Generations.{cells_after}
-use Rattle.ca_quad.specs.Trees.{cell}
+use Rattle.ca_plane.specs.Prelude.{cells_after}
+use Rattle.ca_quad.specs.Prelude.{cell}
 use Rattle.ca_quad.proofs.Trims.{trees_stay}
 use Rattle.ca_identify.specs.inner.Stages.{IsWalk, IsHalted, IsEnding, TakesEarly, early_work}
 use Rattle.ca_pattern.proofs.LeaptTrees.{shows_stays}

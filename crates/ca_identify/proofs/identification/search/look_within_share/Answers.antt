@@ -1,10 +1,10 @@
 use Rattle.std.proofs.Common.{sym, subst}
 use Rattle.std.specs.Prelude.{IfOk, IfSome, OnErr}
-use Rattle.ca_plane.specs.Plane.{Picture}
-use Rattle.ca_quad.specs.Trees.{cell}
-use Rattle.ca_run.specs.Leaping.{LeaperView}
+use Rattle.ca_plane.specs.Prelude.{Picture}
+use Rattle.ca_quad.specs.Prelude.{cell}
+use Rattle.ca_run.specs.Prelude.{LeaperView}
 use Rattle.ca_identify.specs.inner.Stages.{IsWalk, IsHalted, IsEnding}
-use Rattle.ca_pattern.specs.PatternTrees.{ShowsTree}
+use Rattle.ca_pattern.specs.Prelude.{ShowsTree}
 use Rattle.ca_identify.proofs.identification.search.look_within_share.Goals as goal
 
 pub returns-in_default-2-clause-ending : goal.returns-in_default-2-clause-ending

@@ -1,7 +1,7 @@
 use Rattle.std.proofs.Common.{sym, subst}
 use Rattle.std.specs.Prelude.{IfOk}
-use Rattle.ca_quad.specs.Trees.{cell}
-use Rattle.ca_run.specs.Leaping.{LeaperView}
+use Rattle.ca_quad.specs.Prelude.{cell}
+use Rattle.ca_run.specs.Prelude.{LeaperView}
 use Rattle.ca_identify.specs.inner.Stages.{AreEarly}
 use Rattle.ca_identify.proofs.identification.search.planes_within_share.Goals as goal
 

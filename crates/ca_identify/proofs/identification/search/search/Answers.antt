@@ -1,18 +1,17 @@
 use Rattle.std.proofs.Common.{◌≡◌, ℕ, ◌+◌, ◌-◌, ◌≤◌, List, refl, sym, subst, ◌∙◌, arith}
 use Rattle.std.specs.Prelude.{ℤ}
-use Rattle.ca_plane.specs.Generations.{cells_after}
-use Rattle.ca_quad.specs.Trees.{cell}
+use Rattle.ca_plane.specs.Prelude.{cells_after}
+use Rattle.ca_quad.specs.Prelude.{cell}
 use Rattle.ca_quad.proofs.Trims.{trees_stay}
-use Rattle.ca_run.specs.Leaping.{LeaperGrows}
+use Rattle.ca_run.specs.Prelude.{LeaperGrows}
 use Rattle.ca_plane.proofs.After.{after_same}
 use Rattle.ca_run.proofs.LeaperGrowth.{goes_on_again}
 use Rattle.ca_identify.specs.declared.identification.stage.First.{First}
 use Rattle.ca_answers.specs.declared.identity.Identity.TheVariants.{Unknown}
-use Rattle.ca_answers.specs.Identified.{IsIdentity}
-use Rattle.ca_pattern.specs.PatternTrees.{IsLowTree, HasLive}
+use Rattle.ca_answers.specs.Prelude.{IsIdentity}
+use Rattle.ca_pattern.specs.Prelude.{IsLowTree, HasLive, IsLaterTree}
 use Rattle.ca_identify.specs.inner.Stages.{IsWalk, IsEnding, IsGrowthOf, AreOtherUpTo, IsHalted, HasNoReturn, AreEarly, TakesEarly, TakesSearchFrom, early_work, leap_work}
-use Rattle.ca_evolution.specs.Steps.{TakesSteps}
-use Rattle.ca_pattern.specs.LaterTrees.{IsLaterTree}
+use Rattle.ca_evolution.specs.Prelude.{TakesSteps}
 use Rattle.ca_identify.proofs.Identities.{picture_nowhere, last_live, found_none}
 use Rattle.ca_pattern.proofs.LeaptTrees.{shows_stays}
 use Rattle.ca_identify.proofs.LaterPlanes.{on_err}

@@ -1,6 +1,6 @@
 use Rattle.std.proofs.Common.{arith}
 use Rattle.std.proofs.lemmas.Bool.Decides.{nat_tests}
-use Rattle.ca_quad.specs.Trees.{cell}
+use Rattle.ca_quad.specs.Prelude.{cell}
 use Rattle.ca_identify.proofs.MovedPopulations.{others_moved_nowhere}
 use Rattle.ca_identify.proofs.identification.stage.may_be_moved.Goals as goal
 

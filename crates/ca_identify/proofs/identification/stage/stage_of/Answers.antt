@@ -1,8 +1,6 @@
 use Rattle.std.proofs.Common.{rules, subst, sym, ap₂, ◌∙◌, w64, SFits}
 use Rattle.std.proofs.lemmas.Int.{to_z-of_z}
-use Rattle.ca_quad.specs.Boxes.{IsDead, IsLeastWideBox, AreSquareBoxes}
-use Rattle.ca_quad.specs.Shifted.{shifted_cells}
-use Rattle.ca_quad.specs.Trees.{cell}
+use Rattle.ca_quad.specs.Prelude.{IsDead, IsLeastWideBox, AreSquareBoxes, shifted_cells, cell}
 use Rattle.ca_quad.proofs.Measures.{boxes_stay}
 use Rattle.ca_identify.specs.inner.Stages.{AreMovedNowhere}
 use Rattle.ca_pattern.proofs.Corners.{corner_broad, far_corner_wide}

@@ -1,11 +1,11 @@
 use Rattle.std.proofs.Common.{sym, subst}
 use Rattle.std.specs.Prelude.{IfOk, IfSome}
-use Rattle.ca_plane.specs.Plane.{Picture}
-use Rattle.ca_quad.specs.Trees.{cell}
-use Rattle.ca_run.specs.Leaping.{LeaperView}
-use Rattle.ca_answers.specs.Identified.{IsIdentity}
+use Rattle.ca_plane.specs.Prelude.{Picture}
+use Rattle.ca_quad.specs.Prelude.{cell}
+use Rattle.ca_run.specs.Prelude.{LeaperView}
+use Rattle.ca_answers.specs.Prelude.{IsIdentity}
 use Rattle.ca_identify.specs.inner.Stages.{AreEarly}
-use Rattle.ca_pattern.specs.PatternTrees.{ShowsTree}
+use Rattle.ca_pattern.specs.Prelude.{ShowsTree}
 use Rattle.ca_identify.proofs.identification.strides.identity_by_strides.Goals as goal
 
 pub stride_on-found-requires-clause-early : goal.stride_on-found-requires-clause-early

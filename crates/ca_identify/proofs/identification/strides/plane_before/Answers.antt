@@ -1,6 +1,6 @@
 use Rattle.std.proofs.Common.{◌≡◌, ◌-◌, Some, slice_get, inl, inr, refl, sym, subst, ◌∙◌, arith}
 use Rattle.std.proofs.lemmas.Option.{same_Some, slice_get_read}
-use Rattle.ca_quad.specs.Trees.{cell}
+use Rattle.ca_quad.specs.Prelude.{cell}
 use Rattle.ca_plane.proofs.Numbers.{below_or_not}
 use Rattle.ca_quad.proofs.Trims.{trees_stay}
 use Rattle.ca_run.proofs.LeaperGrowth.{goes_on_again}
@@ -8,7 +8,7 @@ use Rattle.ca_identify.specs.declared.identification.stage.First.{First}
 use Rattle.ca_identify.specs.inner.Stages.{IsStage, AreMovedNowhere}
 use Rattle.ca_pattern.proofs.LeaptTrees.{near_stays}
 use Rattle.ca_identify.proofs.Stages.{first_stays}
-use Rattle.ca_pattern.specs.PatternTrees.{HasLive}
+use Rattle.ca_pattern.specs.Prelude.{HasLive}
 use Rattle.ca_identify.proofs.Strides.{nowhere_as, moved_as, not_back}
 use Rattle.ca_identify.proofs.identification.strides.plane_before.Goals as goal
 

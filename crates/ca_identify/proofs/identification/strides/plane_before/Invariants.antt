@@ -1,7 +1,6 @@
 use Rattle.std.proofs.Common.{◌≡◌, ℕ, ◌≤◌, Some, slice_get, length}
-use Rattle.ca_quad.specs.Boxes.{AreSquareBoxes}
-use Rattle.ca_quad.specs.Trees.{cell}
-use Rattle.ca_run.specs.Leaping.{LeaperGrows}
+use Rattle.ca_quad.specs.Prelude.{AreSquareBoxes, cell}
+use Rattle.ca_run.specs.Prelude.{LeaperGrows}
 use Rattle.ca_identify.specs.declared.identification.stage.First.{First}
 use Rattle.ca_identify.specs.inner.Stages.{AreMovedNowhere}
 use Rattle.ca_identify.proofs.identification.strides.plane_before.Given as goal

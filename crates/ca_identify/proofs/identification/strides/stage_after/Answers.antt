@@ -1,5 +1,5 @@
-use Rattle.ca_plane.specs.Generations.{cells_after}
-use Rattle.ca_quad.specs.Trees.{cell}
+use Rattle.ca_plane.specs.Prelude.{cells_after}
+use Rattle.ca_quad.specs.Prelude.{cell}
 use Rattle.ca_quad.proofs.Measures.{boxes_stay}
 use Rattle.ca_quad.proofs.Trims.{trees_stay}
 use Rattle.ca_run.proofs.LeaperGrowth.{goes_on_again}

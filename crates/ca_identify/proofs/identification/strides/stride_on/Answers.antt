@@ -1,12 +1,12 @@
 use Rattle.std.proofs.Common.{ℕ, List, sym, subst, arith}
 use Rattle.std.specs.Prelude.{ℤ, IfOk, IfSome}
-use Rattle.ca_quad.specs.Trees.{cell}
+use Rattle.ca_quad.specs.Prelude.{cell}
 use Rattle.ca_quad.proofs.Measures.{boxes_stay}
 use Rattle.ca_quad.proofs.Trims.{trees_stay}
-use Rattle.ca_run.specs.Leaping.{LeaperGrows}
+use Rattle.ca_run.specs.Prelude.{LeaperGrows}
 use Rattle.ca_run.proofs.LeaperGrowth.{goes_on_same}
 use Rattle.ca_run.proofs.LeaperGrowth.{goes_on_again}
-use Rattle.ca_answers.specs.Identified.{IsIdentity}
+use Rattle.ca_answers.specs.Prelude.{IsIdentity}
 use Rattle.ca_identify.specs.inner.Stages.{IsWalk, AreEarly, IsStride, HasNoReturn}
 use Rattle.ca_identify.proofs.Identities.{picture_nowhere}
 use Rattle.ca_pattern.proofs.LeaptTrees.{shows_stays}

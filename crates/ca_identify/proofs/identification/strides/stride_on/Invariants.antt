@@ -1,7 +1,6 @@
 use Rattle.std.proofs.Common.{◌-◌, ◌≤◌}
-use Rattle.ca_quad.specs.Boxes.{AreSquareBoxes}
-use Rattle.ca_quad.specs.Trees.{cell}
-use Rattle.ca_run.specs.Leaping.{LeaperGrows}
+use Rattle.ca_quad.specs.Prelude.{AreSquareBoxes, cell}
+use Rattle.ca_run.specs.Prelude.{LeaperGrows}
 use Rattle.ca_identify.specs.inner.Stages.{IsWalk, AreEarly}
 use Rattle.ca_identify.proofs.identification.strides.stride_on.Given as goal
 

@@ -1,16 +1,14 @@
 use Rattle.std.proofs.Common.{◌≡◌, ℕ, ◌+◌, ◌-◌, ◌≤◌, ◌<◌, List, take, refl, sym, subst, ◌∙◌, arith}
 use Rattle.std.specs.Prelude.{ℤ, replicate, slice_get, Some}
-use Rattle.ca_plane.specs.Generations.{cells_after}
-use Rattle.ca_quad.specs.Boxes.{IsDead}
-use Rattle.ca_quad.specs.Trees.{cell}
+use Rattle.ca_plane.specs.Prelude.{cells_after}
+use Rattle.ca_quad.specs.Prelude.{IsDead, cell}
 use Rattle.ca_quad.proofs.Measures.{boxes_stay}
 use Rattle.ca_quad.proofs.Trims.{trees_stay}
-use Rattle.ca_run.specs.Leaping.{LeaperGrows}
+use Rattle.ca_run.specs.Prelude.{LeaperGrows}
 use Rattle.ca_run.proofs.LeaperGrowth.{goes_on_again}
 use Rattle.ca_identify.specs.declared.identification.stage.First.{First}
-use Rattle.ca_pattern.specs.LaterTrees.{IsLaterTree}
+use Rattle.ca_pattern.specs.Prelude.{IsLaterTree, HasLive}
 use Rattle.ca_identify.specs.inner.Stages.{IsStage, IsWalk, IsLastMovedFrom, AreMovedNowhere, ending_of}
-use Rattle.ca_pattern.specs.PatternTrees.{HasLive}
 use Rattle.ca_identify.proofs.Identities.{found_ending, ending_time, no_ending}
 use Rattle.ca_identify.proofs.LaterPlanes.{tree_picture}
 use Rattle.ca_identify.proofs.Stages.{first_stays, later_stays, stage_to, walk_as, walk_stays}

@@ -1,11 +1,11 @@
 use Rattle.std.proofs.Common.{◌≡◌, ℕ, ◌+◌, ◌-◌, refl, sym, subst, ◌∙◌, arith}
 use Rattle.std.specs.Prelude.{ℤ}
-use Rattle.ca_plane.specs.Generations.{cells_after}
-use Rattle.ca_quad.specs.Trees.{cell}
+use Rattle.ca_plane.specs.Prelude.{cells_after}
+use Rattle.ca_quad.specs.Prelude.{cell}
 use Rattle.ca_run.proofs.LeaperGrowth.{goes_on_same}
 use Rattle.ca_run.proofs.LeaperGrowth.{goes_on_again}
 use Rattle.ca_identify.specs.inner.Stages.{IsStage, IsHalted}
-use Rattle.ca_evolution.specs.Steps.{TakesSteps}
+use Rattle.ca_evolution.specs.Prelude.{TakesSteps}
 use Rattle.ca_identify.proofs.Identities.{found_ending, ending_time, no_ending}
 use Rattle.ca_identify.proofs.LaterPlanes.{on_err}
 use Rattle.ca_identify.proofs.Stages.{first_stays, one_more_other, later_stays, step_from, step_to, stage_to}

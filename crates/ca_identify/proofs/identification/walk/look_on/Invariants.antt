@@ -1,9 +1,9 @@
 use Rattle.std.proofs.Common.{◌-◌, ◌≤◌}
-use Rattle.ca_plane.specs.Generations.{cells_after}
-use Rattle.ca_quad.specs.Trees.{cell}
-use Rattle.ca_run.specs.Leaping.{LeaperGrows}
+use Rattle.ca_plane.specs.Prelude.{cells_after}
+use Rattle.ca_quad.specs.Prelude.{cell}
+use Rattle.ca_run.specs.Prelude.{LeaperGrows}
 use Rattle.ca_identify.specs.inner.Stages.{IsWalk}
-use Rattle.ca_evolution.specs.Steps.{TakesSteps}
+use Rattle.ca_evolution.specs.Prelude.{TakesSteps}
 use Rattle.ca_identify.proofs.identification.walk.look_on.Given as goal
 
 -- the walk is at the last generation, none up to which shows the pattern or nothing, and what it took to look at them

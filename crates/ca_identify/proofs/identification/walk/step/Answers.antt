@@ -1,13 +1,13 @@
 use Rattle.std.proofs.Common.{◌+◌, ◌≤◌, refl, sym, subst, arith}
-use Rattle.ca_plane.specs.Generations.{cells_after}
-use Rattle.ca_quad.specs.Trees.{cell}
+use Rattle.ca_plane.specs.Prelude.{cells_after}
+use Rattle.ca_quad.specs.Prelude.{cell}
 use Rattle.ca_quad.proofs.Measures.{boxes_stay}
 use Rattle.ca_quad.proofs.Trims.{trees_stay}
-use Rattle.ca_work.specs.Spending.{Spent}
+use Rattle.ca_work.specs.Prelude.{Spent}
 use Rattle.ca_run.proofs.LeaperGrowth.{goes_on_again}
 use Rattle.ca_identify.proofs.Stages.{later_stays, first_stays, stage_as}
 use Rattle.ca_evolution.proofs.Steps.{near_next, later_next}
-use Rattle.ca_evolution.specs.Steps.{step_work}
+use Rattle.ca_evolution.specs.Prelude.{step_work}
 use Rattle.ca_identify.proofs.identification.walk.step.Goals as goal
 
 pub later_tree-requires : goal.later_tree-requires

@@ -1,6 +1,6 @@
 use Rattle.std.proofs.Common.{◌+◌, Some, sym, subst, arith}
 use Rattle.ca_plane.specs.declared.point.Point.{Point}
-use Rattle.ca_import.specs.CellLines.{Row}
+use Rattle.ca_import.specs.Prelude.{Row}
 use Rattle.ca_import.specs.inner.Reading.{Takes}
 use Rattle.ca_import.proofs.Taken.{row_taken}
 use Rattle.ca_import.proofs.reading.Reading.add_row.Goals as goal

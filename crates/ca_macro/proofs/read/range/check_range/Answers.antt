@@ -1,8 +1,7 @@
 use Rattle.std.proofs.Common.{refl, sym, subst, ◌∙◌, inr, arith}
 use Rattle.std.specs.Option.{MatchOption}
 use Rattle.std.proofs.lemmas.Bool.{false≢true}
-use Rattle.ca_quad.specs.Boxes.{IsDead, IsLeastWideBox}
-use Rattle.ca_quad.specs.Trees.{cell}
+use Rattle.ca_quad.specs.Prelude.{IsDead, IsLeastWideBox, cell}
 use Rattle.ca_macro.proofs.Ranges.{box_of_range, range_of_box, low_in_range}
 use Rattle.ca_macro.proofs.read.range.check_range.Goals as goal
 

@@ -1,7 +1,7 @@
 use Rattle.std.proofs.Common.{◌-◌, ◌/◌, ◌%◌, ◌==◌, ◌∷◌, [], ◌++◌, map, subst}
 use Rattle.std.proofs.lemmas.Result.{on_ok_weaker}
-use Rattle.ca_plane.specs.Puts.{Puts}
-use Rattle.ca_macro.specs.Nodes.{leaf_mark}
+use Rattle.ca_plane.specs.Prelude.{Puts}
+use Rattle.ca_macro.specs.Prelude.{leaf_mark}
 use Rattle.ca_macro.specs.inner.Written.{row_marks}
 use Rattle.ca_macro.proofs.Lines.{puts_on, row_step}
 use Rattle.ca_macro.proofs.write.lines.+push_leaf_row.Goals as goal

@@ -1,8 +1,8 @@
 use Rattle.std.proofs.Common.{◌++◌, ◌∷◌, [], codes, map, subst}
 use Rattle.std.specs.List.{flat_map}
 use Rattle.std.proofs.lemmas.Result.{on_ok_weaker}
-use Rattle.ca_plane.specs.Puts.{Puts}
-use Rattle.ca_macro.specs.Tidy.{node_text, generation_lines, tidy_lines}
+use Rattle.ca_plane.specs.Prelude.{Puts}
+use Rattle.ca_macro.specs.Prelude.{node_text, generation_lines, tidy_lines}
 use Rattle.ca_macro.specs.inner.Written.{node_of}
 use Rattle.ca_macro.proofs.Lines.{puts_five, text_whole}
 use Rattle.ca_macro.proofs.write.lines.push_lines.Goals as goal

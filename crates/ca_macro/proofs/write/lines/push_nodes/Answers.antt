@@ -1,6 +1,6 @@
 use Rattle.std.proofs.Common.{◌++◌, ◌∷◌, [], subst, arith}
-use Rattle.ca_plane.specs.Puts.{Puts}
-use Rattle.ca_macro.specs.Tidy.{node_text}
+use Rattle.ca_plane.specs.Prelude.{Puts}
+use Rattle.ca_macro.specs.Prelude.{node_text}
 use Rattle.ca_macro.specs.inner.Written.{node_of}
 use Rattle.ca_macro.proofs.Lines.{puts_all, lines_as}
 use Rattle.ca_macro.proofs.write.lines.push_nodes.Goals as goal

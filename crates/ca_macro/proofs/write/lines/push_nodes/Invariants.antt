@@ -1,7 +1,7 @@
 use Rattle.std.proofs.Common.{◌++◌, ◌∷◌, [], take}
 use Rattle.std.specs.List.{flat_map}
-use Rattle.ca_plane.specs.Puts.{Puts}
-use Rattle.ca_macro.specs.Tidy.{node_text}
+use Rattle.ca_plane.specs.Prelude.{Puts}
+use Rattle.ca_macro.specs.Prelude.{node_text}
 use Rattle.ca_macro.specs.inner.Written.{node_of}
 use Rattle.ca_macro.proofs.write.lines.push_nodes.Given as goal
 

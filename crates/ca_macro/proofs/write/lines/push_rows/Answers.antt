@@ -1,6 +1,6 @@
 use Rattle.std.proofs.Common.{ℕ, ◌++◌, ◌∷◌, [], map, subst, arith}
-use Rattle.ca_plane.specs.Puts.{Puts}
-use Rattle.ca_macro.specs.Nodes.{leaf_mark}
+use Rattle.ca_plane.specs.Prelude.{Puts}
+use Rattle.ca_macro.specs.Prelude.{leaf_mark}
 use Rattle.ca_macro.specs.inner.Written.{row_marks}
 use Rattle.ca_macro.proofs.Lines.{puts_all, rows_as}
 use Rattle.ca_macro.proofs.write.lines.push_rows.Goals as goal

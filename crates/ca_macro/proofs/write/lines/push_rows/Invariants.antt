@@ -1,7 +1,7 @@
 use Rattle.std.proofs.Common.{ℕ, ◌++◌, ◌∷◌, [], map, take}
 use Rattle.std.specs.List.{flat_map}
-use Rattle.ca_plane.specs.Puts.{Puts}
-use Rattle.ca_macro.specs.Nodes.{leaf_mark}
+use Rattle.ca_plane.specs.Prelude.{Puts}
+use Rattle.ca_macro.specs.Prelude.{leaf_mark}
 use Rattle.ca_macro.specs.inner.Written.{row_marks}
 use Rattle.ca_macro.proofs.write.lines.push_rows.Given as goal
 

@@ -1,6 +1,6 @@
 use Rattle.std.proofs.Common.{map, refl, sym, ap, ◌∙◌, arith}
 use Rattle.std.proofs.lemmas.Result.{on_ok_weaker}
-use Rattle.ca_quad.specs.Squares.{level_of}
+use Rattle.ca_quad.specs.Prelude.{level_of}
 use Rattle.ca_macro.specs.inner.Written.{node_of}
 use Rattle.ca_macro.proofs.Orders.{goes_again, goes_to_leaf, goes_to_parts, extends_on, parts_extend}
 use Rattle.ca_macro.proofs.WrittenNodes.{empty_number, part_nw, part_ne, part_sw, part_se, parts_keep, numbered_node, number_extends, goes_on_ok}

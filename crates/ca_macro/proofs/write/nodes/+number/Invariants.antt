@@ -1,4 +1,4 @@
-use Rattle.ca_quad.specs.Squares.{level_of}
+use Rattle.ca_quad.specs.Prelude.{level_of}
 use Rattle.ca_macro.proofs.write.nodes.+number.Given as goal
 
 abbrev pub decreases-number : goal.decreases-number

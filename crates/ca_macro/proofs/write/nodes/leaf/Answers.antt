@@ -1,5 +1,5 @@
 use Rattle.std.proofs.Common.{◌<◌, slice_index, sym, subst}
-use Rattle.ca_quad.specs.Squares.{cell_of}
+use Rattle.ca_quad.specs.Prelude.{cell_of}
 use Rattle.ca_macro.specs.inner.Written.{IsNodeOf}
 use Rattle.ca_macro.proofs.WrittenNodes.{two_level, one_level, leaf_node, cells_node}
 use Rattle.ca_macro.proofs.write.nodes.leaf.Goals as goal

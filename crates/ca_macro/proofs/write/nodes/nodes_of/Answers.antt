@@ -1,7 +1,6 @@
 use Rattle.std.proofs.Common.{◌≡◌, [], ◌∷◌, ◌++◌, map, refl, sym, ap, subst, ◌∙◌}
-use Rattle.ca_quad.specs.Trees.{IsEmpty, cell}
-use Rattle.ca_quad.specs.Squares.{level_of}
-use Rattle.ca_macro.specs.Tidy.{AreTidyNodes}
+use Rattle.ca_quad.specs.Prelude.{IsEmpty, cell, level_of}
+use Rattle.ca_macro.specs.Prelude.{AreTidyNodes}
 use Rattle.ca_macro.specs.inner.Written.{node_of, empty_root, kept_cells, KeepsFirstOrder}
 use Rattle.ca_macro.proofs.Roots.{empty_tree_nodes, tree_nodes, root_states}
 use Rattle.ca_macro.proofs.write.nodes.nodes_of.Goals as goal

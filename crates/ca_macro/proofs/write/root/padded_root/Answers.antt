@@ -1,5 +1,5 @@
 use Rattle.std.proofs.Common.{refl}
-use Rattle.ca_quad.specs.Trees.{cell}
+use Rattle.ca_quad.specs.Prelude.{cell}
 use Rattle.ca_macro.proofs.Roots.{padded_ok}
 use Rattle.ca_macro.proofs.write.root.padded_root.Goals as goal
 

@@ -1,4 +1,4 @@
-use Rattle.ca_quad.specs.Trees.{cell}
+use Rattle.ca_quad.specs.Prelude.{cell}
 use Rattle.ca_macro.proofs.Roots.{least_as_ok}
 use Rattle.ca_macro.proofs.write.root.root_of.Goals as goal
 

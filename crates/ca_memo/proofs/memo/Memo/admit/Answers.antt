@@ -1,5 +1,5 @@
 use Rattle.std.proofs.Common.{subst, ◌∙◌, inl, inr}
-use Rattle.ca_memo.specs.Pages.{HasSingle}
+use Rattle.ca_memo.specs.Prelude.{HasSingle}
 use Rattle.ca_memo.proofs.MemoKeys.{put-held, put-near, put-there}
 use Rattle.ca_memo.proofs.memo.Memo.admit.Goals as goal
 

@@ -1,5 +1,5 @@
 use Rattle.std.proofs.Common.{refl, subst, sym, arith, ◌/◌}
-use Rattle.ca_memo.specs.Pages.{MemoView, HasPageKey, HasFullLeap, HasSingle}
+use Rattle.ca_memo.specs.Prelude.{MemoView, HasPageKey, HasFullLeap, HasSingle}
 use Rattle.ca_memo.proofs.MemoKeys.{opened-held, opened-far, none-put}
 use Rattle.ca_memo.proofs.memo.Memo.ensure_page.Goals as goal
 

@@ -1,5 +1,5 @@
 use Rattle.std.proofs.Common.{◌≡◌, length}
-use Rattle.ca_memo.specs.Pages.{RemembersNoMore}
+use Rattle.ca_memo.specs.Prelude.{RemembersNoMore}
 use Rattle.ca_memo.proofs.memo.Memo.spare_used.Given as goal
 
 abbrev pub invariant-pages : goal.invariant-pages

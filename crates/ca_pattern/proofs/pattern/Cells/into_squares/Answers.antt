@@ -1,6 +1,6 @@
 use Rattle.std.proofs.Common.{◌≡◌, ℤ, subst, ◌∙◌}
 use Rattle.ca_quad.specs.Trees as trees
-use Rattle.ca_pattern.specs.PatternCells.{AreCells}
+use Rattle.ca_pattern.specs.Prelude.{AreCells}
 use Rattle.ca_pattern.proofs.OpenedCells.{tree_of_cells, text_in_range}
 use Rattle.ca_pattern.proofs.pattern.Cells.into_squares.Goals as goal
 

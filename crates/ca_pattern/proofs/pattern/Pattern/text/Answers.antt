@@ -1,12 +1,11 @@
 use Rattle.std.proofs.Common.{◌≡◌, sym, subst}
 use Rattle.std.specs.Result.{IfOk}
-use Rattle.ca_plane.specs.Plane.{cell as plane_cell}
-use Rattle.ca_quad.specs.Trees.{cell}
-use Rattle.ca_rle.specs.Shown.{picture_of_items}
-use Rattle.ca_rule.specs.Rule.{rule_value, printed_form, states_of}
+use Rattle.ca_plane.specs.Prelude.{cell as plane_cell}
+use Rattle.ca_quad.specs.Prelude.{cell}
+use Rattle.ca_rle.specs.Prelude.{picture_of_items}
+use Rattle.ca_rule.specs.Prelude.{rule_value, printed_form, states_of}
 use Rattle.ca_pattern.specs.declared.format.Format.TheVariants.{Rle}
-use Rattle.ca_pattern.specs.PatternCells.{AreCells, IsGenerationOf}
-use Rattle.ca_pattern.specs.Written.{IsWrittenAs}
+use Rattle.ca_pattern.specs.Prelude.{AreCells, IsGenerationOf, IsWrittenAs}
 use Rattle.ca_pattern.proofs.WrittenMeanings.{written_ok, unwritten_err}
 use Rattle.ca_pattern.proofs.pattern.Pattern.text.Goals as goal
 use Rattle.ca_pattern.proofs.pattern.Pattern.text.Goals.{in_default-via-in-Text+in-Mc-1, in_default-via-in-Squares-1}

@@ -1,7 +1,7 @@
 use Rattle.std.proofs.Common.{◌≡◌, ℕ, ◌+◌, ◌-◌, ℤ, pos, ◌+ℤ◌, FitsSigned, w64, to_z, of_z, ap, sym, ◌∙◌, arith}
 use Rattle.std.proofs.lemmas.Int.{ints, to_z-of_z}
 use Rattle.std.proofs.lemmas.Result.{err_from_is_err_and}
-use Rattle.ca_plane.specs.Limits.{reach}
+use Rattle.ca_plane.specs.Prelude.{reach}
 use Rattle.ca_plane.proofs.BitPlanes.{AddsColumns-word, AddsRun-columns}
 use Rattle.ca_plane.proofs.bit_plane.BitPlane.add_run.Goals as goal
 

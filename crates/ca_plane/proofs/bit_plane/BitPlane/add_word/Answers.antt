@@ -1,5 +1,5 @@
 use Rattle.std.proofs.Common.{◌<◌, length, slice_index_or, ap, sym, ◌∙◌, subst, max}
-use Rattle.ca_plane.specs.BitPlane.{word_state}
+use Rattle.ca_plane.specs.Prelude.{word_state}
 use Rattle.ca_plane.specs.inner.BitRuns.{HaveSameCells}
 use Rattle.ca_plane.proofs.BitPlanes.{AddsWord-at_end, AddsWord-over, joined-word}
 use Rattle.ca_plane.proofs.bit_plane.BitPlane.add_word.Goals as goal

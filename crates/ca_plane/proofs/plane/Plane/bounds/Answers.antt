@@ -1,5 +1,5 @@
 use Rattle.std.proofs.Common.{sym, subst}
-use Rattle.ca_plane.specs.Plane.{Picture}
+use Rattle.ca_plane.specs.Prelude.{Picture}
 use Rattle.ca_plane.proofs.Boxes.{IsBoxBefore, IsBoxBefore-first, IsBoxBefore-turn}
 use Rattle.ca_plane.proofs.plane.Plane.bounds.Goals as goal
 

@@ -1,6 +1,6 @@
 use Rattle.std.proofs.Common.{◌≡◌, ◌∷◌, ◌++◌, ◌∙◌, sym, subst}
 use Rattle.std.proofs.lemmas.Map.Iter.{rest_more, rest_all}
-use Rattle.ca_plane.specs.Plane.{Picture}
+use Rattle.ca_plane.specs.Prelude.{Picture}
 use Rattle.ca_plane.proofs.Pictures.{cells_turn, cells_end}
 use Rattle.ca_plane.proofs.CommonCells.{DifferAt-end, DifferAt-less, DifferAt-greater, DifferAt-states, DifferAt-longer, common_more, told}
 use Rattle.ca_plane.proofs.plane.Plane.difference.Goals as goal

@@ -1,5 +1,5 @@
 use Rattle.std.proofs.Common.{sym, subst, ◌∙◌}
-use Rattle.ca_plane.specs.Plane.{Picture}
+use Rattle.ca_plane.specs.Prelude.{Picture}
 use Rattle.ca_plane.specs.inner.Places.{ComeBefore}
 use Rattle.ca_plane.proofs.Places.{before-end, Less-from_is_lt}
 use Rattle.ca_plane.proofs.plane.Plane.ends_before.Goals as goal

@@ -5,8 +5,7 @@ use Rattle.std.proofs.lemmas.List.Elements.{All-pop}
 use Rattle.std.proofs.lemmas.List.MinMax.{ranks_by, IsStrictWeakOrder-flip}
 use Rattle.std.proofs.lemmas.List.Sorted.{All-permutation, answers_always}
 use Rattle.ca_plane.specs.declared.point.Point.{Point}
-use Rattle.ca_plane.specs.Plane.{Picture, cell}
-use Rattle.ca_plane.specs.Sparse.{IsInPlane, point_cmp}
+use Rattle.ca_plane.specs.Prelude.{Picture, cell, IsInPlane, point_cmp}
 use Rattle.ca_plane.proofs.Pictures.{IsSparse-none, IsSame-Sets, point_cmp_total}
 use Rattle.ca_plane.proofs.CellOrders.{IsSame-stable, emptied}
 use Rattle.ca_plane.proofs.plane.Plane.from_cells.Goals as goal

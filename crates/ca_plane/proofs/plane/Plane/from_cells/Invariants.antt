@@ -1,7 +1,6 @@
 use Rattle.std.proofs.Common.{◌≡◌, ◌++◌, length}
 use Rattle.std.specs.List.{All}
-use Rattle.ca_plane.specs.Plane.{Picture, IsSame}
-use Rattle.ca_plane.specs.Sparse.{IsInPlane, IsSparse}
+use Rattle.ca_plane.specs.Prelude.{Picture, IsSame, IsInPlane, IsSparse}
 use Rattle.ca_plane.proofs.plane.Plane.from_cells.Given as goal
 
 -- the plane shows the cells that were taken off the end

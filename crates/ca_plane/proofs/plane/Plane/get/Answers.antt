@@ -1,6 +1,6 @@
 use Rattle.std.proofs.Common.{◌≡◌, ℕ, sym, subst, ap, ◌∙◌}
 use Rattle.ca_plane.specs.declared.point.Point.{Point}
-use Rattle.ca_plane.specs.Plane.{Picture, cell}
+use Rattle.ca_plane.specs.Prelude.{Picture, cell}
 use Rattle.ca_plane.specs.inner.Places.{IsAt}
 use Rattle.ca_plane.proofs.Places.{cell-at_place, cell-at_gap}
 use Rattle.ca_plane.proofs.plane.Plane.get.Goals as goal

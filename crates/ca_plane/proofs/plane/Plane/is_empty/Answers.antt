@@ -1,5 +1,5 @@
 use Rattle.std.proofs.Common.{◌≡◌, ◌∙◌, vec_len, ap, subst, length}
-use Rattle.ca_plane.specs.Plane.{Picture, IsLive}
+use Rattle.ca_plane.specs.Prelude.{Picture, IsLive}
 use Rattle.ca_plane.proofs.Pictures.{live_from_nonempty}
 use Rattle.ca_plane.proofs.plane.Plane.is_empty.Goals as goal
 

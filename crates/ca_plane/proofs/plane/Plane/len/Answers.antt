@@ -1,7 +1,5 @@
 use Rattle.std.proofs.Common.{length, ap, ◌∙◌, subst, sym}
-use Rattle.ca_plane.specs.Plane.{Picture, cell}
-use Rattle.ca_plane.specs.Population.{HasPopulation}
-use Rattle.ca_plane.specs.Sparse.{IsSparse}
+use Rattle.ca_plane.specs.Prelude.{Picture, cell, HasPopulation, IsSparse}
 use Rattle.ca_plane.proofs.Populations.{sparse_population}
 use Rattle.ca_plane.proofs.plane.Plane.len.Goals as goal
 

@@ -1,5 +1,5 @@
 use Rattle.std.proofs.Common.{◌≡◌}
-use Rattle.ca_plane.specs.Plane.{shifted}
+use Rattle.ca_plane.specs.Prelude.{shifted}
 use Rattle.ca_plane.proofs.plane.Plane.moved_cells.Given as goal
 
 -- the cells so far, moved

@@ -1,8 +1,7 @@
 use Rattle.std.proofs.Common.{refl, ◌∙◌, w64, to_z, of_z}
 use Rattle.std.proofs.lemmas.Int.{to_z-of_z}
 use Rattle.std.proofs.lemmas.List.Elements.{All-push}
-use Rattle.ca_plane.specs.Sparse.{IsInPlane}
-use Rattle.ca_plane.specs.Box.{moved}
+use Rattle.ca_plane.specs.Prelude.{IsInPlane, moved}
 use Rattle.ca_plane.proofs.Pictures.{IsListed-turn}
 use Rattle.ca_plane.proofs.Shifts.{LeavesPlane-listed}
 use Rattle.ca_plane.proofs.plane.Plane.stays.Goals as goal

@@ -1,5 +1,5 @@
 use Rattle.std.proofs.Common.{◌≡◌, ◌==◌, None, Some, cond, subst}
-use Rattle.ca_quad.specs.SquareValues.{square_value}
+use Rattle.ca_quad.specs.Prelude.{square_value}
 use Rattle.ca_quad.proofs.square_map.SquareMap.put.Goals as goal
 
 pub returns-clause-ok : goal.returns-clause-ok

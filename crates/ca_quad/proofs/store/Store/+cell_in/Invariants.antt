@@ -1,4 +1,4 @@
-use Rattle.ca_quad.specs.Squares.{level_of}
+use Rattle.ca_quad.specs.Prelude.{level_of}
 use Rattle.ca_quad.proofs.store.Store.+cell_in.Given as goal
 
 abbrev pub decreases-cell_in : goal.decreases-cell_in

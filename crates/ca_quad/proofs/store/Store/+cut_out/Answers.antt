@@ -1,6 +1,6 @@
 use Rattle.std.proofs.Common.{◌≡◌, ℕ, suc, IfOk, ◌-◌, ◌≤◌, sym, subst, arith}
 use Rattle.std.proofs.lemmas.Bool.Decides.{nat_tests}
-use Rattle.ca_quad.specs.Sound.{IsSoundStore}
+use Rattle.ca_quad.specs.Prelude.{IsSoundStore}
 use Rattle.ca_quad.specs.inner.Cut.{AreNeighbours, cells_of_four, IsCut}
 use Rattle.ca_quad.specs.inner.Window.{ShowsFrom}
 use Rattle.ca_quad.proofs.Cuts.{still_cuts, cuts_stay, one_cut_more, first_cut, made_cut, are_four, rest_low, group_stays, lead_to_parts, can_join_cuts, cuts_joined}

@@ -1,4 +1,4 @@
-use Rattle.ca_quad.specs.Squares.{level_of}
+use Rattle.ca_quad.specs.Prelude.{level_of}
 use Rattle.ca_quad.proofs.store.Store.+cut_out.Given as goal
 
 abbrev pub decreases-cut_out : goal.decreases-cut_out

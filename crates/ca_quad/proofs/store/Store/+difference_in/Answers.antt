@@ -1,6 +1,6 @@
 use Rattle.std.proofs.Common.{Some, None, ℕ, ◌-◌, ◌+◌, suc, sym, ◌∙◌, arith}
 use Rattle.std.proofs.lemmas.Bool.Decides.{nat_tests}
-use Rattle.ca_quad.specs.Squares.{level_of, IsOf}
+use Rattle.ca_quad.specs.Prelude.{level_of, IsOf}
 use Rattle.ca_quad.proofs.Differ.{at_level, differ_within, differ_some, place_fits}
 use Rattle.ca_quad.proofs.store.Store.+difference_in.Goals as goal
 use Rattle.ca_quad.proofs.store.Store.+difference_in.Goals.{After-unequal_quarters}

@@ -1,4 +1,4 @@
-use Rattle.ca_quad.specs.Squares.{level_of}
+use Rattle.ca_quad.specs.Prelude.{level_of}
 use Rattle.ca_quad.proofs.store.Store.+difference_in.Given as goal
 
 abbrev pub decreases-difference_in : goal.decreases-difference_in

@@ -1,6 +1,5 @@
 use Rattle.std.proofs.Common.{◌-◌, ◌^◌, arith}
-use Rattle.ca_quad.specs.Squares.{cell_of, joined_cells}
-use Rattle.ca_quad.specs.Trees.{IsEmpty}
+use Rattle.ca_quad.specs.Prelude.{cell_of, joined_cells, IsEmpty}
 use Rattle.ca_quad.proofs.Edges.{shows_empty}
 use Rattle.ca_quad.proofs.Walks.{together_empty}
 use Rattle.ca_quad.proofs.store.Store.+empty.Goals as goal

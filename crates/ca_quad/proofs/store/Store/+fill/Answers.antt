@@ -1,10 +1,8 @@
 use Rattle.std.proofs.Common.{◌≡◌, ℕ, ◌≤◌, ◌-◌, List, get_or, length, sym, subst, ◌∙◌, arith}
 use Rattle.std.proofs.lemmas.Bool.{eqb-true}
-use Rattle.ca_plane.specs.Plane.{cell}
-use Rattle.ca_quad.specs.declared.node.Node.{Node}
-use Rattle.ca_quad.specs.declared.store.rows.Row.{Row}
-use Rattle.ca_quad.specs.declared.tree.Spot.{Spot}
-use Rattle.ca_quad.specs.Sound.{IsSoundStore, Grows}
+use Rattle.ca_plane.specs.Prelude.{cell}
+use Rattle.ca_quad.specs.declared.{node.Node.Node, store.rows.Row.Row, tree.Spot.Spot}
+use Rattle.ca_quad.specs.Prelude.{IsSoundStore, Grows}
 use Rattle.ca_quad.specs.inner.Filled.{cells_from, IsEmptyOf, AreRowsOf}
 use Rattle.ca_quad.proofs.Covers.{shows_none, rows_four}
 use Rattle.ca_quad.proofs.FilledSquares.{part_empty, grows_three, four_filled, can_join_four, four_joined}

@@ -1,9 +1,8 @@
 use Rattle.std.proofs.Common.{ℕ, ◌≤◌, ◌-◌, ◌^◌, List, get_or, subst, arith}
 use Rattle.std.proofs.lemmas.Bool.Decides.{nat_tests}
-use Rattle.ca_plane.specs.BitPlane.{bit_cell}
-use Rattle.ca_quad.specs.declared.node.Node.{Node}
-use Rattle.ca_quad.specs.declared.tree.Spot.{Spot}
-use Rattle.ca_quad.specs.Sound.{IsSoundStore, Grows}
+use Rattle.ca_plane.specs.Prelude.{bit_cell}
+use Rattle.ca_quad.specs.declared.{node.Node.Node, tree.Spot.Spot}
+use Rattle.ca_quad.specs.Prelude.{IsSoundStore, Grows}
 use Rattle.ca_quad.specs.inner.Filled.{cells_from, IsEmptyOf, LiesNear}
 use Rattle.ca_quad.proofs.BitWords.{window_of_part}
 use Rattle.ca_quad.proofs.FilledSquares.{part_empty, grows_three, near_nw, near_ne, near_sw, near_se, four_filled, can_join_four, four_joined}

@@ -1,6 +1,5 @@
 use Rattle.std.proofs.Common.{ℕ, inl, refl, rules, sym, subst}
-use Rattle.ca_quad.specs.Sound.{IsSoundStore, Grows}
-use Rattle.ca_quad.specs.Added.{IsPartOf, IsCopy, AddsCopies}
+use Rattle.ca_quad.specs.Prelude.{IsSoundStore, Grows, IsPartOf, IsCopy, AddsCopies}
 use Rattle.ca_quad.proofs.CopiedSquares.{copies_stay, still_copies, parts_four, parts_copied}
 use Rattle.ca_quad.proofs.AddedSquares.{none_added, added_on, added_in_part, ok_added, one_added, added_two, added_three, added_four}
 use Rattle.ca_quad.proofs.FilledSquares.{grows_five}

@@ -1,8 +1,7 @@
 use Rattle.std.proofs.Common.{◌≡◌, ◌-◌, ◌^◌, sym, subst, arith}
 use Rattle.std.proofs.lemmas.Bool.{eqb-true}
 use Rattle.std.proofs.lemmas.Bool.Decides.{nat_tests}
-use Rattle.ca_quad.specs.Squares.{cell_of, one_cell}
-use Rattle.ca_quad.specs.Trees.{IsEmpty}
+use Rattle.ca_quad.specs.Prelude.{cell_of, one_cell, IsEmpty}
 use Rattle.ca_quad.proofs.Walks.{four_show, parts_show, together_empty, corners_empty, dot_empty, nw_empty, parts_one}
 use Rattle.ca_quad.proofs.store.Store.+is_empty.Goals as goal
 

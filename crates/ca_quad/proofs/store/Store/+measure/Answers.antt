@@ -1,4 +1,4 @@
-use Rattle.ca_quad.specs.Trees.{IsIn}
+use Rattle.ca_quad.specs.Prelude.{IsIn}
 use Rattle.ca_quad.specs.inner.Measure.{IsMeasureOf}
 use Rattle.ca_quad.proofs.Measures.{measure_parts, one_more}
 use Rattle.ca_quad.proofs.store.Store.+measure.Goals as goal

@@ -1,9 +1,7 @@
 use Rattle.std.proofs.Common.{◌≡◌, ℕ, ◌≤◌, suc, ◌-◌, sym, subst, ◌∙◌, arith}
 use Rattle.std.proofs.lemmas.Bool.Decides.{nat_tests}
 use Rattle.ca_quad.specs.declared.tree.Tree.{Tree}
-use Rattle.ca_quad.specs.Squares.{IsOf, cell_of}
-use Rattle.ca_quad.specs.Sound.{IsSoundStore}
-use Rattle.ca_quad.specs.Trees.{cell}
+use Rattle.ca_quad.specs.Prelude.{IsOf, cell_of, IsSoundStore, cell}
 use Rattle.ca_quad.specs.inner.Ring.{TellsMiddle, HasNoRing, IsMiddleSquare}
 use Rattle.ca_quad.proofs.Rings.{ring_keeps}
 use Rattle.ca_quad.proofs.Trims.{trees_stay, trimmed_as, cells_as, no_ring}

@@ -1,5 +1,5 @@
 use Rattle.std.proofs.Common.{◌≡◌, ℕ, ◌-◌, ◌^◌, ap, subst, ◌∙◌, arith}
-use Rattle.ca_quad.specs.Squares.{cell_of}
+use Rattle.ca_quad.specs.Prelude.{cell_of}
 use Rattle.ca_quad.specs.inner.Extent.{IsSquareExtent}
 use Rattle.ca_quad.proofs.Boxes.{box_within, tree_box}
 use Rattle.ca_quad.proofs.store.Store.bounds_with.Goals as goal

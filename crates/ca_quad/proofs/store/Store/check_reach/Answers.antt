@@ -1,7 +1,6 @@
 use Rattle.std.proofs.Common.{◌≡◌, ◌≤◌, ◌∙◌, MatchOption, refl, subst, arith}
 use Rattle.std.proofs.lemmas.Bool.Decides.{nat_tests}
-use Rattle.ca_quad.specs.Trees.{cell}
-use Rattle.ca_quad.specs.Boxes.{IsDead, IsLeastWideBox}
+use Rattle.ca_quad.specs.Prelude.{cell, IsDead, IsLeastWideBox}
 use Rattle.ca_quad.proofs.Reach.{box_leaves, box_fits, low_fits}
 use Rattle.ca_quad.proofs.store.Store.check_reach.Goals as goal
 

@@ -1,10 +1,7 @@
 use Rattle.std.proofs.Common.{◌≤◌, ◌^◌, MatchOption, refl, subst, arith}
 use Rattle.std.proofs.lemmas.Bool.Decides.{nat_tests}
 use Rattle.std.proofs.lemmas.Int.{ints}
-use Rattle.ca_quad.specs.Sound.{IsSoundStore}
-use Rattle.ca_quad.specs.Trees.{cell}
-use Rattle.ca_quad.specs.Boxes.{IsDead, IsLeastWideBox}
-use Rattle.ca_quad.specs.Shifted.{shifted_cells}
+use Rattle.ca_quad.specs.Prelude.{IsSoundStore, cell, IsDead, IsLeastWideBox, shifted_cells}
 use Rattle.ca_quad.specs.inner.Shifted.{shifted_box}
 use Rattle.ca_quad.proofs.Reach.{box_leaves, box_fits}
 use Rattle.ca_quad.proofs.Shifts.{box_shifted, short_fits}

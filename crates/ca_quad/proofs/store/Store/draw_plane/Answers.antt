@@ -1,6 +1,6 @@
 use Rattle.std.proofs.Common.{◌≡◌, ℕ, ◌-◌, ◌^◌, List, [], ◌∷◌, ◌++◌, ap, ◌∙◌, arith}
 use Rattle.ca_quad.specs.declared.store.draw.PlacedSquare.{PlacedSquare}
-use Rattle.ca_quad.specs.Trees.{cell}
+use Rattle.ca_quad.specs.Prelude.{cell}
 use Rattle.ca_quad.specs.inner.Drawn.{AreReady}
 use Rattle.ca_quad.proofs.DrawnSquares.{tree_ready, tree_placed}
 use Rattle.ca_quad.proofs.PaintedCells.{ready_one, painted_all}

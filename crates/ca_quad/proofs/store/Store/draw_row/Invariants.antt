@@ -1,5 +1,5 @@
 use Rattle.std.proofs.Common.{◌≡◌, ℕ, ℤ, ◌⊎◌, drop}
-use Rattle.ca_plane.specs.Plane.{cell}
+use Rattle.ca_plane.specs.Prelude.{cell}
 use Rattle.ca_quad.specs.inner.Drawn.{AreReady, IsLiveInRow}
 use Rattle.ca_quad.proofs.store.Store.draw_row.Given as goal
 

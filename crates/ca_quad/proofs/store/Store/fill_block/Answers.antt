@@ -1,6 +1,6 @@
 use Rattle.std.proofs.Common.{ℕ, ◌≤◌, ◌^◌, arith}
 use Rattle.std.proofs.Math.Nat.{pow-le-pow_right}
-use Rattle.ca_plane.specs.Plane.{cell}
+use Rattle.ca_plane.specs.Prelude.{cell}
 use Rattle.ca_quad.specs.inner.Block.{block_cells}
 use Rattle.ca_quad.specs.inner.Filled.{cells_from}
 use Rattle.ca_quad.proofs.Windows.{window_as}

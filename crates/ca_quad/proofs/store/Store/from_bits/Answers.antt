@@ -1,7 +1,7 @@
 use Rattle.std.proofs.Common.{subst, ◌∙◌, arith}
-use Rattle.ca_plane.specs.BitPlane.{bit_cell}
+use Rattle.ca_plane.specs.Prelude.{bit_cell}
 use Rattle.ca_quad.specs.declared.tree.Tree.{Tree}
-use Rattle.ca_quad.specs.Trees.{cell, HoldsAll}
+use Rattle.ca_quad.specs.Prelude.{cell, HoldsAll}
 use Rattle.ca_quad.specs.inner.Filled.{cells_from}
 use Rattle.ca_quad.specs.inner.Window.{ShowsFrom}
 use Rattle.ca_quad.proofs.FilledSquares.{near_first, tree_filled}

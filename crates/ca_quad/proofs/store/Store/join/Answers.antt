@@ -1,7 +1,6 @@
 use Rattle.std.proofs.Common.{◌≡◌, ◌+◌, ℕ, IfOk, subst, ◌∙◌, arith}
 use Rattle.ca_quad.specs.declared.square.Square.TheVariants.{Parts}
-use Rattle.ca_quad.specs.Squares.{square_of}
-use Rattle.ca_quad.specs.Sound.{IsSoundStore}
+use Rattle.ca_quad.specs.Prelude.{square_of, IsSoundStore}
 use Rattle.ca_quad.proofs.Growth.{grows_same}
 use Rattle.ca_quad.proofs.JoinedSquares.{four_at, joined, joined_ok, sixteen, sixty_four}
 use Rattle.ca_quad.proofs.store.Store.join.Goals as goal

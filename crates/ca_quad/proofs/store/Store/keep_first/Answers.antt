@@ -1,5 +1,5 @@
 use Rattle.std.proofs.Common.{sym, subst, ◌∙◌}
-use Rattle.ca_quad.specs.Sound.{IsSoundStore}
+use Rattle.ca_quad.specs.Prelude.{IsSoundStore}
 use Rattle.ca_quad.proofs.Firsts.{firsts_sound}
 use Rattle.ca_quad.proofs.store.Store.keep_first.Goals as goal
 

@@ -1,9 +1,7 @@
 use Rattle.std.proofs.Common.{◌≡◌, ◌-◌, length, subst, arith}
 use Rattle.std.proofs.lemmas.Int.{ints}
 use Rattle.ca_quad.specs.declared.tree.Tree.{Tree}
-use Rattle.ca_quad.specs.Sound.{IsSoundStore}
-use Rattle.ca_quad.specs.Shifted.{shifted_cells}
-use Rattle.ca_quad.specs.Trees.{cell}
+use Rattle.ca_quad.specs.Prelude.{IsSoundStore, shifted_cells, cell}
 use Rattle.ca_quad.proofs.Cuts.{quarters_at}
 use Rattle.ca_quad.proofs.Growth.{grows_on}
 use Rattle.ca_quad.proofs.Shifts.{eighth, quarter_low, parts_of_tree, cut_tree, tree_moved, tree_quarters}

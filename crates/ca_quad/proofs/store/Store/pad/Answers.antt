@@ -1,5 +1,5 @@
 use Rattle.std.proofs.Common.{◌≡◌, ◌≤◌, suc, ◌+◌, subst, arith}
-use Rattle.ca_quad.specs.Squares.{IsOf}
+use Rattle.ca_quad.specs.Prelude.{IsOf}
 use Rattle.ca_quad.proofs.Rings.{ring_keeps}
 use Rattle.ca_quad.proofs.store.Store.pad.Goals as goal
 

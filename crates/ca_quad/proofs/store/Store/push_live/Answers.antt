@@ -1,5 +1,5 @@
 use Rattle.std.proofs.Common.{refl}
-use Rattle.ca_quad.specs.Squares.{level_of}
+use Rattle.ca_quad.specs.Prelude.{level_of}
 use Rattle.ca_quad.specs.inner.Drawn.{square_cells}
 use Rattle.ca_quad.proofs.PaintedCells.{none_is_live, added, added_none}
 use Rattle.ca_quad.proofs.store.Store.push_live.Goals as goal

@@ -1,5 +1,5 @@
 use Rattle.std.proofs.Common.{◌≡◌, ◌-◌, ◌^◌, sym, ap, ◌∙◌}
-use Rattle.ca_quad.specs.Squares.{level}
+use Rattle.ca_quad.specs.Prelude.{level}
 use Rattle.ca_quad.proofs.PaintedCells.{pushed}
 use Rattle.ca_quad.proofs.store.Store.push_parts.Goals as goal
 

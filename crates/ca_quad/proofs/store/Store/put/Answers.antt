@@ -1,5 +1,5 @@
 use Rattle.std.proofs.Common.{length, sym, subst}
-use Rattle.ca_quad.specs.Sound.{IsStorable, Grows, AddsOnly}
+use Rattle.ca_quad.specs.Prelude.{IsStorable, Grows, AddsOnly}
 use Rattle.ca_quad.proofs.Growth.{put_grows, put_adds, kept_shows}
 use Rattle.ca_quad.proofs.store.Store.put.Goals as goal
 

@@ -1,5 +1,5 @@
 use Rattle.std.proofs.Common.{suc, subst, arith}
-use Rattle.ca_quad.specs.Sound.{IsSoundStore}
+use Rattle.ca_quad.specs.Prelude.{IsSoundStore}
 use Rattle.ca_quad.proofs.Growth.{grows_same, grows_on}
 use Rattle.ca_quad.proofs.ShownSquares.{last_four, ring_four, ring_shows}
 use Rattle.ca_quad.proofs.store.Store.ringed_parts.Goals as goal

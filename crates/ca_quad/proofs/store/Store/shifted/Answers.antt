@@ -1,7 +1,6 @@
 use Rattle.std.proofs.Common.{◌≡◌, ◌-ℤ◌, w64, ap, ◌∙◌}
 use Rattle.std.proofs.lemmas.Int.{to_z-of_z}
-use Rattle.ca_quad.specs.Shifted.{shifted_cells}
-use Rattle.ca_quad.specs.Trees.{cell}
+use Rattle.ca_quad.specs.Prelude.{shifted_cells, cell}
 use Rattle.ca_quad.proofs.FilledSquares.{grows_three}
 use Rattle.ca_quad.proofs.Shifts.{small_level, can_move, fits_as, fits_level}
 use Rattle.ca_quad.proofs.store.Store.shifted.Goals as goal

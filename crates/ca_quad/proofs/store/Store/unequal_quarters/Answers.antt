@@ -1,6 +1,6 @@
 use Rattle.std.proofs.Common.{◌≢◌, ℕ, suc, arith}
 use Rattle.std.proofs.lemmas.Bool.Decides.{nat_tests}
-use Rattle.ca_quad.specs.Squares.{IsOf}
+use Rattle.ca_quad.specs.Prelude.{IsOf}
 use Rattle.ca_quad.specs.inner.Difference.{AreUnequal}
 use Rattle.ca_quad.proofs.Quarters.{unequal_four}
 use Rattle.ca_quad.proofs.store.Store.unequal_quarters.Goals as goal

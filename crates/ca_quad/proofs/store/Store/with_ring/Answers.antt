@@ -1,5 +1,5 @@
 use Rattle.std.proofs.Common.{◌≡◌, ◌-◌, ap, ◌∙◌, arith}
-use Rattle.ca_quad.specs.Squares.{one_cell, level, cell_of}
+use Rattle.ca_quad.specs.Prelude.{one_cell, level, cell_of}
 use Rattle.ca_quad.proofs.Walks.{four_show, parts_show}
 use Rattle.ca_quad.proofs.ShownSquares.{rings_ok}
 use Rattle.ca_quad.proofs.store.Store.with_ring.Goals as goal

@@ -1,6 +1,5 @@
 use Rattle.std.proofs.Common.{◌≡◌, ℕ, ◌<◌, take}
-use Rattle.ca_plane.specs.BitPlane.{bit_cell}
-use Rattle.ca_plane.specs.Shown.{row_cells}
+use Rattle.ca_plane.specs.Prelude.{bit_cell, row_cells}
 use Rattle.ca_quad.specs.inner.Filled.{cells_from}
 use Rattle.ca_quad.proofs.store.bit_block.rows_of.Given as goal
 

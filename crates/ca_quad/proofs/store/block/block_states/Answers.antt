@@ -2,7 +2,7 @@ use Rattle.std.proofs.Common.{inl, inr, subst, arith, pos, ◌+ℤ◌}
 use Rattle.std.proofs.lemmas.Bool.{cases_eq}
 use Rattle.std.proofs.lemmas.List.{drop_all}
 use Rattle.std.proofs.lemmas.Option.{slice_get-get_or}
-use Rattle.ca_plane.specs.Plane.{cell}
+use Rattle.ca_plane.specs.Prelude.{cell}
 use Rattle.ca_quad.specs.inner.Filled.{cells_from}
 use Rattle.ca_quad.specs.inner.Rows.{HaveRowAt}
 use Rattle.ca_quad.proofs.Blocks.{zeros_right}

@@ -1,5 +1,5 @@
 use Rattle.std.proofs.Common.{◌≡◌, ℕ, ◌⊎◌, ◌<◌, drop}
-use Rattle.ca_plane.specs.Plane.{cell}
+use Rattle.ca_plane.specs.Prelude.{cell}
 use Rattle.ca_quad.specs.inner.Block.{IsCell, IsRight}
 use Rattle.ca_quad.specs.inner.Filled.{cells_from}
 use Rattle.ca_quad.specs.inner.Rows.{point_at, HaveRowAt}

@@ -1,7 +1,7 @@
 use Rattle.std.proofs.Common.{subst, arith}
 use Rattle.std.proofs.lemmas.List.{take_all}
-use Rattle.ca_plane.specs.BitPlane.{bit_cell}
-use Rattle.ca_quad.specs.Trees.{HoldsAll}
+use Rattle.ca_plane.specs.Prelude.{bit_cell}
+use Rattle.ca_quad.specs.Prelude.{HoldsAll}
 use Rattle.ca_quad.proofs.BitWords.{holds_word, holds_taken}
 use Rattle.ca_quad.proofs.store.from_bits.level_of_words.Goals as goal
 

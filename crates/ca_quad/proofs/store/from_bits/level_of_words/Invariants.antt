@@ -1,6 +1,6 @@
 use Rattle.std.proofs.Common.{◌≤◌, take}
-use Rattle.ca_plane.specs.BitPlane.{bit_cell}
-use Rattle.ca_quad.specs.Trees.{HoldsAll}
+use Rattle.ca_plane.specs.Prelude.{bit_cell}
+use Rattle.ca_quad.specs.Prelude.{HoldsAll}
 use Rattle.ca_quad.proofs.store.from_bits.level_of_words.Given as goal
 
 -- a tree of this level holds the cells of the words so far

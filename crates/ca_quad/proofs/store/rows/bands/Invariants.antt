@@ -1,4 +1,4 @@
-use Rattle.ca_plane.specs.Plane.{Picture}
+use Rattle.ca_plane.specs.Prelude.{Picture}
 use Rattle.ca_quad.specs.inner.Rows.{AreRows, IsNorth, IsSouth}
 use Rattle.ca_quad.proofs.RowPlaces.{IsSoFar}
 use Rattle.ca_quad.proofs.store.rows.bands.Given as goal

@@ -1,6 +1,6 @@
 use Rattle.std.proofs.Common.{subst, sym, arith}
-use Rattle.ca_quad.specs.Trees.{IsEmpty}
-use Rattle.ca_plane.specs.Shown.{word_cells}
+use Rattle.ca_quad.specs.Prelude.{IsEmpty}
+use Rattle.ca_plane.specs.Prelude.{word_cells}
 use Rattle.ca_quad.proofs.WordExtents.{word_box, some_column, no_word_cells}
 use Rattle.ca_quad.proofs.store.word_extent.word_extent.Goals as goal
 

@@ -1,7 +1,6 @@
 use Rattle.std.proofs.Common.{◌++◌}
-use Rattle.ca_plane.specs.Plane.{IsSame}
-use Rattle.ca_plane.specs.Sparse.{IsSparse}
-use Rattle.ca_rle.specs.Shown.{run_of}
+use Rattle.ca_plane.specs.Prelude.{IsSame, IsSparse}
+use Rattle.ca_rle.specs.Prelude.{run_of}
 use Rattle.ca_rle.proofs.drawing.PlaneCanvas.draw_run.Given as goal
 
 abbrev pub invariant-cells : goal.invariant-cells

@@ -1,5 +1,5 @@
 use Rattle.std.proofs.Common.{[], ◌∷◌, codes, ◌∙◌}
-use Rattle.ca_rle.specs.Header.{Exactly}
+use Rattle.ca_rle.specs.Prelude.{Exactly}
 use Rattle.ca_rle.proofs.HeaderLines.{parts_then}
 use Rattle.ca_rle.proofs.front.header.after_rule_name.Goals as goal
 

@@ -1,5 +1,5 @@
 use Rattle.std.proofs.Common.{[], ◌∷◌, codes, ◌∙◌}
-use Rattle.ca_rle.specs.Header.{Exactly, Number}
+use Rattle.ca_rle.specs.Prelude.{Exactly, Number}
 use Rattle.ca_rle.proofs.HeaderLines.{parts_then}
 use Rattle.ca_rle.proofs.front.header.after_sizes.Goals as goal
 

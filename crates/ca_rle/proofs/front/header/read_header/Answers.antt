@@ -1,5 +1,5 @@
 use Rattle.std.proofs.Common.{eqb, length, Some, true, false, sym, subst, ◌≡◌, ◌∙◌}
-use Rattle.ca_rle.specs.Header.{IsHeader}
+use Rattle.ca_rle.specs.Prelude.{IsHeader}
 use Rattle.ca_rle.proofs.HeaderLines.{no_sizes, no_rule_name, sizes_alone, rule_missing, rule_there}
 use Rattle.ca_rle.proofs.front.header.read_header.Goals as goal
 

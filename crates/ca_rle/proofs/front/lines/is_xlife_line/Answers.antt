@@ -1,6 +1,6 @@
 use Rattle.std.proofs.Common.{◌∷◌, sym, ap, ◌∙◌}
 use Rattle.std.proofs.lemmas.Bool.{both_ways}
-use Rattle.ca_plane.specs.Bytes.{rest, is_blank}
+use Rattle.ca_plane.specs.Prelude.{rest, is_blank}
 use Rattle.ca_rle.proofs.Preambles.{xlife_after, xlife_from, same_blank, no_first}
 use Rattle.ca_rle.proofs.front.lines.is_xlife_line.Goals as goal
 

@@ -2,7 +2,7 @@ use Rattle.std.proofs.Common.{◌≡◌, ◌≢◌, ap, ◌∙◌, arith}
 use Rattle.std.proofs.lemmas.Int.{ints}
 use Rattle.std.proofs.lemmas.Result.{IfOk-weaker}
 use Rattle.ca_plane.specs.declared.point.Point.{Point}
-use Rattle.ca_rle.specs.Shown.{tag_state}
+use Rattle.ca_rle.specs.Prelude.{tag_state}
 use Rattle.ca_rle.specs.inner.Extent.{point_from, cells_from}
 use Rattle.ca_rle.specs.inner.RunByRun.{AddsCells, AddsRun, EndsAfter}
 use Rattle.ca_rle.proofs.MergedRuns.{adds_live}

@@ -1,5 +1,5 @@
 use Rattle.std.proofs.lemmas.Result.{IfOk-weaker}
-use Rattle.ca_rle.specs.Tidy.{item_text}
+use Rattle.ca_rle.specs.Prelude.{item_text}
 use Rattle.ca_rle.specs.inner.Written.{some_of, IsPlaced}
 use Rattle.ca_rle.specs.inner.RunByRun.{Lays}
 use Rattle.ca_rle.proofs.Gaps.{item_of}

@@ -1,9 +1,8 @@
 use Rattle.std.proofs.Common.{[], ◌∷◌, ◌++◌, List, codes}
 use Rattle.std.proofs.lemmas.Result.{on_ok_weaker}
-use Rattle.ca_plane.specs.Puts.{Puts}
+use Rattle.ca_plane.specs.Prelude.{Puts}
 use Rattle.ca_rle.specs.declared.item.Item.{Item}
-use Rattle.ca_rle.specs.Items.{Items}
-use Rattle.ca_rle.specs.Shown.{picture_of_items}
+use Rattle.ca_rle.specs.Prelude.{Items, picture_of_items}
 use Rattle.ca_rle.specs.inner.RunByRun.{PutsItemsOf}
 use Rattle.ca_rle.proofs.JudgedTexts.{text_next}
 use Rattle.ca_rle.proofs.NoFault.{no_bad_item}

@@ -1,9 +1,8 @@
 use Rattle.std.proofs.Common.{codes}
 use Rattle.std.specs.Fmt.{signed_decimal}
 use Rattle.std.proofs.lemmas.Result.{on_ok_weaker}
-use Rattle.ca_plane.specs.Puts.{Puts}
-use Rattle.ca_rle.specs.File.{line_with_lf}
-use Rattle.ca_rle.specs.Tidy.{corner_line, generation_text}
+use Rattle.ca_plane.specs.Prelude.{Puts}
+use Rattle.ca_rle.specs.Prelude.{line_with_lf, corner_line, generation_text}
 use Rattle.ca_rle.proofs.Heads.{put_corner}
 use Rattle.ca_rle.proofs.write.head.push_corner_line.Goals as goal
 

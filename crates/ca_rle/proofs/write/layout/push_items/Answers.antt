@@ -1,9 +1,9 @@
 use Rattle.std.proofs.Common.{ℕ, [], ◌∷◌, ◌++◌, map, codes, sym, subst, arith}
 use Rattle.std.specs.Prelude.{List}
 use Rattle.std.proofs.lemmas.Result.{on_ok_weaker}
-use Rattle.ca_plane.specs.Puts.{Puts}
+use Rattle.ca_plane.specs.Prelude.{Puts}
 use Rattle.ca_rle.specs.declared.item.Tag.TheVariants.{Cell}
-use Rattle.ca_rle.specs.Tidy.{item_text}
+use Rattle.ca_rle.specs.Prelude.{item_text}
 use Rattle.ca_rle.specs.inner.Written.{PutsLines, IsLaid}
 use Rattle.ca_rle.proofs.LineLayouts.{laid_more}
 use Rattle.ca_rle.proofs.WholeTexts.{texts_more, lines_end}

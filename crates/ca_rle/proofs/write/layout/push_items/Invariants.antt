@@ -1,5 +1,5 @@
 use Rattle.std.proofs.Common.{map, take}
-use Rattle.ca_rle.specs.Tidy.{item_text}
+use Rattle.ca_rle.specs.Prelude.{item_text}
 use Rattle.ca_rle.specs.inner.Written.{IsLaid}
 use Rattle.ca_rle.proofs.write.layout.push_items.Given as goal
 

@@ -1,7 +1,7 @@
 use Rattle.std.proofs.Common.{◌≡◌, ℕ, pos, ◌+ℤ◌, w64, to_z, of_z, refl, sym, subst, ap, arith}
 use Rattle.std.proofs.lemmas.Int.{ints}
 use Rattle.ca_plane.specs.declared.point.Point.{Point}
-use Rattle.ca_plane.specs.Plane.{Picture}
+use Rattle.ca_plane.specs.Prelude.{Picture}
 use Rattle.ca_rle.proofs.RunByRun.{IsReadBefore, next-first, next-turn, read-first, read-more, read-next, read-last, before-first_run, before-turn, before-end}
 use Rattle.ca_rle.proofs.StatesOf.{have_states}
 use Rattle.ca_rle.proofs.write.runs.items.Goals as goal

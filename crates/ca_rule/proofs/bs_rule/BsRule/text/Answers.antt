@@ -1,7 +1,7 @@
 use Rattle.std.proofs.Common.{◌≡◌, sym, subst, arith}
 use Rattle.std.proofs.lemmas.Grind.{common_steps}
-use Rattle.ca_plane.specs.Bytes.{IsWord}
-use Rattle.ca_rule.specs.Spelling.{printed_bs_rule}
+use Rattle.ca_plane.specs.Prelude.{IsWord}
+use Rattle.ca_rule.specs.Prelude.{printed_bs_rule}
 use Rattle.ca_rule.proofs.PrintedWords.{printed_is_word}
 use Rattle.ca_rule.proofs.bs_rule.BsRule.text.Goals as goal
 

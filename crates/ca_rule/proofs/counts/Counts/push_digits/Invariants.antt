@@ -1,5 +1,5 @@
 use Rattle.std.proofs.Common.{◌≡◌, ◌++◌}
-use Rattle.ca_rule.specs.Spelling.{digits_of}
+use Rattle.ca_rule.specs.Prelude.{digits_of}
 use Rattle.ca_rule.proofs.PrintedRules.{digits_from}
 use Rattle.ca_rule.proofs.counts.Counts.push_digits.Given as goal
 

@@ -1,6 +1,6 @@
 use Rattle.std.proofs.Common.{◌++◌, [], ◌∷◌, ap, sym, subst, ◌∙◌, append_assoc, decimal}
-use Rattle.ca_plane.specs.Bytes.{IsWord}
-use Rattle.ca_rule.specs.Spelling.{digits_of}
+use Rattle.ca_plane.specs.Prelude.{IsWord}
+use Rattle.ca_rule.specs.Prelude.{digits_of}
 use Rattle.ca_rule.proofs.GenerationsPrinted.{printed_is_word}
 use Rattle.ca_rule.proofs.gen_rule.GenRule.text.Goals as goal
 

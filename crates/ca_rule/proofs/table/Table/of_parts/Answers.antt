@@ -1,6 +1,6 @@
 use Rattle.std.proofs.Common.{◌≡◌, ◌<◌, replicate, ap, subst, sym, ◌∙◌, arith}
 use Rattle.std.proofs.lemmas.Bool.Decides.{nat_tests}
-use Rattle.ca_rule.specs.TableNext.{IsSoundTable, table_next}
+use Rattle.ca_rule.specs.Prelude.{IsSoundTable, table_next}
 use Rattle.ca_rule.specs.inner.TableSearch.{placements_of}
 use Rattle.ca_rule.specs.inner.TablePlaces.{next_at}
 use Rattle.ca_rule.specs.inner.TableStored.{stored_table, IsStoredTable}

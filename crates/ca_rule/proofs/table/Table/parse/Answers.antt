@@ -1,7 +1,6 @@
 use Rattle.std.proofs.Common.{inr, ap, subst, ◌∙◌}
 use Rattle.std.specs.List.{list_all}
-use Rattle.ca_rule.specs.TableNext.{Transition}
-use Rattle.ca_rule.specs.TableLines.{last_line}
+use Rattle.ca_rule.specs.Prelude.{Transition, last_line}
 use Rattle.ca_rule.specs.inner.TableReading.{left_of}
 use Rattle.ca_rule.specs.inner.TableSettings.{meaning_of}
 use Rattle.ca_rule.specs.inner.TableStored.{stored_table, is_below, IsPartsFault}

@@ -1,5 +1,5 @@
 use Rattle.std.proofs.Common.{◌≡◌, ◌∙◌, subst}
-use Rattle.ca_rule.specs.TableNext.{table_next}
+use Rattle.ca_rule.specs.Prelude.{table_next}
 use Rattle.ca_rule.specs.inner.TableSearch.{placements_of}
 use Rattle.ca_rule.proofs.SymmetryPlaces.{stored-next}
 use Rattle.ca_rule.proofs.table.TableAutomaton.next.Goals as goal

@@ -1,14 +1,11 @@
 use Rattle.std.proofs.Common.{ℕ, List, arith, codes, refl, inl, inr, [], ◌∷◌, ◌++◌, ◌≡◌, true}
 use Rattle.std.specs.List.{list_all}
-use Rattle.ca_plane.specs.Bytes.{is_blank, Every}
+use Rattle.ca_plane.specs.Prelude.{is_blank, Every}
 use Rattle.ca_rule.specs.declared.table.neighbourhood.Neighbourhood.TheVariants.{VonNeumann}
 use Rattle.ca_rule.specs.declared.table.neighbourhood.Symmetry.TheVariants.{Rotate4}
 use Rattle.ca_rule.specs.declared.table.slot.Slot.TheVariants.{Number}
-use Rattle.ca_rule.specs.TableLines.{NumberedLine, lines_said, begins_variable, is_field, fields_between, IsVariableLine, IsTransitionLine}
-use Rattle.ca_rule.specs.TableNext.{TableRule}
-use Rattle.ca_rule.specs.TableText.{HasTable, are_settings, Settings, SaidStatements, no_statements, SaysVariable, SaysTransition, table_from, IsTable}
-use Rattle.ca_rule.specs.TableFaults.{HaveEnd}
-use Rattle.ca_rule.specs.TableExamples.{file_with, file_of, one_neighbour, a}
+use Rattle.ca_rule.specs.Prelude.{NumberedLine, lines_said, begins_variable, is_field, fields_between, IsVariableLine, IsTransitionLine, TableRule, HasTable, are_settings, Settings, SaidStatements}
+use Rattle.ca_rule.specs.Prelude.{no_statements, SaysVariable, SaysTransition, table_from, IsTable, HaveEnd, file_with, file_of, one_neighbour, a}
 use Rattle.ca_rule.proofs.table.laws.worked_texts.Goals as goal
 
 -- the line of a variable `a`, with a blank after `var`

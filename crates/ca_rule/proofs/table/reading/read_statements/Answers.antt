@@ -1,5 +1,5 @@
 use Rattle.std.proofs.Common.{sym, subst}
-use Rattle.ca_rule.specs.TableFaults.{IsTableTextFault}
+use Rattle.ca_rule.specs.Prelude.{IsTableTextFault}
 use Rattle.ca_rule.specs.inner.TableReading.{left_of, said_line}
 use Rattle.ca_rule.specs.inner.TableSettings.{meaning_of}
 use Rattle.ca_rule.proofs.StatementsRead.{section-behind, line-fault, one-said}

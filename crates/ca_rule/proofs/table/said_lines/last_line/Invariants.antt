@@ -1,5 +1,5 @@
 use Rattle.std.proofs.Common.{◌≡◌, ◌+◌, ◌≤◌, length}
-use Rattle.ca_plane.specs.Bytes.{lines_of}
+use Rattle.ca_plane.specs.Prelude.{lines_of}
 use Rattle.ca_rule.proofs.table.said_lines.last_line.Given as goal
 
 -- the lines are those that are counted and those that are left

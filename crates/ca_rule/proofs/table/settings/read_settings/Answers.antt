@@ -1,6 +1,5 @@
 use Rattle.std.proofs.Common.{ℕ, List}
-use Rattle.ca_rule.specs.TableText.{HasTable}
-use Rattle.ca_rule.specs.TableFaults.{IsTableTextFault}
+use Rattle.ca_rule.specs.Prelude.{HasTable, IsTableTextFault}
 use Rattle.ca_rule.specs.inner.TableReading.{said_text, left_of}
 use Rattle.ca_rule.specs.inner.TableSettings.{meaning_of}
 use Rattle.ca_rule.proofs.SettingsRead.{no-settings, passed-on, all-meant, settings-fault}

@@ -1,6 +1,6 @@
 use Rattle.std.proofs.Common.{◌≡◌, length}
 use Rattle.std.specs.List.{list_any}
-use Rattle.ca_rule.specs.TableNext.{admits}
+use Rattle.ca_rule.specs.Prelude.{admits}
 use Rattle.ca_rule.proofs.table.state_set.one_admits.Given as goal
 
 -- the answer lies with the slots that are left

@@ -1,7 +1,7 @@
 use Rattle.std.proofs.Common.{◌≡◌, ◌≤◌, ◌+◌, ◌-◌, ◌*◌, ◌&&◌, Bool, ℕ, length, nat_lt, ap, ◌∙◌, arith}
 use Rattle.std.specs.Prelude.{filter}
 use Rattle.std.specs.List.{list_any, range_with_len}
-use Rattle.ca_rule.specs.TableNext.{admits}
+use Rattle.ca_rule.specs.Prelude.{admits}
 use Rattle.ca_rule.specs.inner.TableStates.{is_in}
 use Rattle.ca_rule.proofs.AmongStates.{all-below}
 use Rattle.ca_rule.proofs.table.state_set.states_among.Goals as goal

@@ -1,6 +1,6 @@
 use Rattle.std.proofs.Common.{◌≡◌, ◌<◌, ◌&&◌, ℕ, length, nat_lt}
 use Rattle.std.specs.List.{list_any}
-use Rattle.ca_rule.specs.TableNext.{admits}
+use Rattle.ca_rule.specs.Prelude.{admits}
 use Rattle.ca_rule.specs.inner.TableStates.{is_in}
 use Rattle.ca_rule.proofs.table.state_set.states_among.Given as goal
 

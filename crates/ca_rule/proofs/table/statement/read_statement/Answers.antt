@@ -1,5 +1,5 @@
 use Rattle.std.proofs.Common.{sym, subst}
-use Rattle.ca_rule.specs.TableLines.{IsTransitionLine}
+use Rattle.ca_rule.specs.Prelude.{IsTransitionLine}
 use Rattle.ca_rule.proofs.table.statement.read_statement.Goals as goal
 
 pub returns-in_default-transition_fields : goal.returns-in_default-transition_fields

@@ -3,7 +3,7 @@ use Rattle.std.specs.Int.{bit_at}
 use Rattle.std.specs.List.{list_any}
 use Rattle.std.proofs.lemmas.Nat.Bits.{bit_at-lt}
 use Rattle.ca_rule.specs.declared.table.slot.Slot.TheVariants.{Variable}
-use Rattle.ca_rule.specs.TableNext.{is_variable}
+use Rattle.ca_rule.specs.Prelude.{is_variable}
 use Rattle.ca_rule.specs.inner.TableDistinct.{are_distinct}
 use Rattle.ca_rule.proofs.Distinct.{set-bit, kept-bit, apart-front}
 use Rattle.ca_rule.proofs.table.transition.+are_distinct.Goals as goal

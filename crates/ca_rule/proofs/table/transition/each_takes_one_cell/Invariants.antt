@@ -1,7 +1,7 @@
 use Rattle.std.proofs.Common.{◌≡◌, map, length}
 use Rattle.std.specs.Prelude.{zip, slice_index}
 use Rattle.std.specs.List.{list_all}
-use Rattle.ca_rule.specs.TableNext.{SlotCell, take_one_cell}
+use Rattle.ca_rule.specs.Prelude.{SlotCell, take_one_cell}
 use Rattle.ca_rule.proofs.table.transition.each_takes_one_cell.Given as goal
 
 -- the answer lies with the slots that are left

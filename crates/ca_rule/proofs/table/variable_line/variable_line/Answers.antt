@@ -1,6 +1,6 @@
 use Rattle.std.proofs.Common.{ℕ, List, MatchOption, sym, ap, subst, ◌∙◌}
 use Rattle.std.specs.List.{list_all}
-use Rattle.ca_rule.specs.TableLines.{is_name, is_field, fields_between, IsVariableLine}
+use Rattle.ca_rule.specs.Prelude.{is_name, is_field, fields_between, IsVariableLine}
 use Rattle.ca_rule.proofs.VariableLines.{read-name, read-braces, read-fields, read-line}
 use Rattle.ca_rule.proofs.table.variable_line.variable_line.Goals as goal
 

@@ -2,11 +2,9 @@ use Rattle.std.proofs.Common.{◌≡◌, ℕ, ◌+◌, ◌-◌, ◌*◌, ◌<◌
 use Rattle.std.proofs.Math.Nat.{mul-le-mul_right}
 use Rattle.std.proofs.lemmas.Bool.{cases_eq}
 use Rattle.std.proofs.lemmas.Bool.Decides.{nat_tests}
-use Rattle.ca_plane.specs.Ageing.{GoesByAgeing}
-use Rattle.ca_plane.specs.Generations.{cells_after}
-use Rattle.ca_quad.specs.Trees.{cell}
-use Rattle.ca_bricks.specs.Aged.{AgedGridShows, AreAlike, CanAge, HasBlankEdges, IsNextAged, IsSameAged}
-use Rattle.ca_bricks.specs.Bricks.{HasNeighbours, AllHaveNeighbours}
+use Rattle.ca_plane.specs.Prelude.{GoesByAgeing, cells_after}
+use Rattle.ca_quad.specs.Prelude.{cell}
+use Rattle.ca_bricks.specs.Prelude.{AgedGridShows, AreAlike, CanAge, HasBlankEdges, IsNextAged, IsSameAged, HasNeighbours, AllHaveNeighbours}
 use Rattle.ca_bricks.proofs.AgedGrids.{aged_edges}
 use Rattle.ca_bricks.proofs.LaterAgedGrids.{aged_later, aged_less, blank_ages, blank_ages_again, aged_again, edges_stay, beside_again, alike_back, worked}
 use Rattle.ca_run.proofs.Costs.{one_more}

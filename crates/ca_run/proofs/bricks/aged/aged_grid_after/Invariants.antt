@@ -1,9 +1,8 @@
 use Rattle.std.proofs.Common.{◌≡◌, ℕ, ◌+◌, ◌-◌, ◌*◌, ◌≤◌, length, []}
-use Rattle.ca_plane.specs.Generations.{cells_after}
-use Rattle.ca_quad.specs.Trees.{cell}
-use Rattle.ca_work.specs.Spending.{Spends}
-use Rattle.ca_bricks.specs.Aged.{AgedGridShows, AreAlike, IsBeside, IsNextAged, AgedBricksRest, HasBlankEdges, IsBlankAged, IsBlankRoundAged}
-use Rattle.ca_bricks.specs.Bricks.{AllHaveNeighbours, HasNeighbours, IsNotIn}
+use Rattle.ca_plane.specs.Prelude.{cells_after}
+use Rattle.ca_quad.specs.Prelude.{cell}
+use Rattle.ca_work.specs.Prelude.{Spends}
+use Rattle.ca_bricks.specs.Prelude.{AgedGridShows, AreAlike, IsBeside, IsNextAged, AgedBricksRest, HasBlankEdges, IsBlankAged, IsBlankRoundAged, AllHaveNeighbours, HasNeighbours, IsNotIn}
 use Rattle.ca_run.proofs.bricks.aged.aged_grid_after.Given as goal
 
 -- the grid so many generations on, and which of its bricks are awake: at first those that see a live cell or have a dying one, as if the generation before were blank

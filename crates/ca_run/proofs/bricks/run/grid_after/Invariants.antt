@@ -1,8 +1,8 @@
 use Rattle.std.proofs.Common.{◌≡◌, ℕ, ◌+◌, ◌-◌, ◌*◌, ◌≤◌, length, get_or, []}
-use Rattle.ca_plane.specs.Generations.{cells_after}
-use Rattle.ca_quad.specs.Trees.{cell}
-use Rattle.ca_work.specs.Spending.{Spends}
-use Rattle.ca_bricks.specs.Bricks.{GridShows, IsInPlace, AllHaveNeighbours, HasNeighbours, IsNotIn, IsNextBrick, BricksRest, HasBlankEdge, IsBlank, IsBlankRound}
+use Rattle.ca_plane.specs.Prelude.{cells_after}
+use Rattle.ca_quad.specs.Prelude.{cell}
+use Rattle.ca_work.specs.Prelude.{Spends}
+use Rattle.ca_bricks.specs.Prelude.{GridShows, IsInPlace, AllHaveNeighbours, HasNeighbours, IsNotIn, IsNextBrick, BricksRest, HasBlankEdge, IsBlank, IsBlankRound}
 use Rattle.ca_run.proofs.bricks.run.grid_after.Given as goal
 
 -- the grid so many generations on, and which of its bricks are awake: at first those that see a live cell, as if the generation before were blank

@@ -2,10 +2,9 @@ use Rattle.std.proofs.Common.{rules, ◌≡◌, ℕ, suc, ◌+◌, ◌-◌, ◌*
 use Rattle.std.specs.Prelude.{ℤ, pos, ◌+ℤ◌}
 use Rattle.std.proofs.lemmas.Int.{ints}
 use Rattle.std.proofs.Math.Nat.{two-pow-succ}
-use Rattle.ca_quad.specs.Trees.{AreFour}
+use Rattle.ca_quad.specs.Prelude.{AreFour}
 use Rattle.ca_run.specs.inner.Shown.{ShowsAt, FourShow}
-use Rattle.ca_bricks.specs.Overlaps.{side}
-use Rattle.ca_bricks.specs.Words.{eight}
+use Rattle.ca_bricks.specs.Prelude.{side, eight}
 use Rattle.ca_run.proofs.ShownPlanes.{four_made, four_are, at_from}
 use Rattle.ca_bricks.proofs.Words.{side_words}
 use Rattle.ca_bricks.proofs.Grids.{near_grid_at, near_grid_as, blank_square}

@@ -2,16 +2,14 @@ use Rattle.std.proofs.Common.{rules, ◌≡◌, suc, ◌+◌, ◌-◌, ◌≤◌
 use Rattle.std.specs.Prelude.{◌+ℤ◌}
 use Rattle.std.proofs.lemmas.Bool.Decides.{nat_tests}
 use Rattle.std.proofs.Math.Nat.{two-pow-succ}
-use Rattle.ca_plane.specs.Generations.{cells_after}
-use Rattle.ca_quad.specs.Squares.{IsOf}
-use Rattle.ca_quad.specs.Sound.{IsSoundStore}
-use Rattle.ca_quad.specs.Trees.{AreFour}
+use Rattle.ca_plane.specs.Prelude.{cells_after}
+use Rattle.ca_quad.specs.Prelude.{IsOf, IsSoundStore, AreFour}
 use Rattle.ca_quad.proofs.Growth.{grows_on}
 use Rattle.ca_quad.proofs.Cells.{of_stays}
-use Rattle.ca_run.specs.Centre.{IsCentre, IsLeap}
+use Rattle.ca_run.specs.Prelude.{IsCentre, IsLeap}
 use Rattle.ca_run.specs.inner.Centres.{ShowsCentre}
 use Rattle.ca_run.specs.inner.Shown.{ShowsAt, FourShow, generations}
-use Rattle.ca_bricks.specs.Overlaps.{side}
+use Rattle.ca_bricks.specs.Prelude.{side}
 use Rattle.ca_run.proofs.ShownPlanes.{at_stays, three_stay, three_are, four_of, four_go, four_there, four_stay}
 use Rattle.ca_bricks.proofs.Overlaps.{west_four, east_four, four_between, four_halfway, four_inner}
 use Rattle.ca_run.proofs.Leap.{rule_on, leap_shows, leap_square, leap_of_join, centre_ok, nine_centre, trio_are, nine_are, pair_at, trio_at, nine_at, four_at}

@@ -3,7 +3,7 @@ use Rattle.std.specs.Prelude.{ℤ, ◌+ℤ◌, nat_lt, if◌then◌else◌}
 use Rattle.std.proofs.lemmas.Bool.Decides.{nat_tests}
 use Rattle.std.proofs.lemmas.Int.{ints}
 use Rattle.ca_run.specs.inner.Shown.{ShowsAt}
-use Rattle.ca_bricks.specs.Overlaps.{side}
+use Rattle.ca_bricks.specs.Prelude.{side}
 use Rattle.ca_run.proofs.ReadWords.{half_is, piece_from}
 use Rattle.ca_run.proofs.ShownPlanes.{at_from}
 use Rattle.ca_run.proofs.leaper.Leaper.+piece_at.Goals as goal

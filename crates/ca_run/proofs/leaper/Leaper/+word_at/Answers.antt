@@ -3,7 +3,7 @@ use Rattle.std.specs.Prelude.{◌+ℤ◌}
 use Rattle.std.proofs.lemmas.Bool.Decides.{nat_tests}
 use Rattle.std.proofs.lemmas.Int.{ints}
 use Rattle.ca_run.specs.inner.Shown.{ShowsAt, FourShow}
-use Rattle.ca_bricks.specs.Overlaps.{side}
+use Rattle.ca_bricks.specs.Prelude.{side}
 use Rattle.ca_run.proofs.ReadWords.{half_is, near, far, found_from}
 use Rattle.ca_run.proofs.leaper.Leaper.+word_at.Goals as goal
 use Rattle.ca_run.proofs.leaper.Leaper.+word_at.Goals.{then-j-half, else-j-half, then-i-half, else-i-half}

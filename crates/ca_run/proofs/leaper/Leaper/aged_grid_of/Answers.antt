@@ -1,10 +1,9 @@
 use Rattle.std.proofs.Common.{◌≡◌, ◌+◌, ◌<◌, ◌≤◌, ◌^◌, [], ◌∷◌, ◌++◌, length, sym, ap, subst, ◌∙◌, arith}
 use Rattle.std.specs.Prelude.{ℤ}
 use Rattle.std.proofs.lemmas.List.Elements.{All-push, All-same}
-use Rattle.ca_plane.specs.Ageing.{liveness}
-use Rattle.ca_quad.specs.Trees.{cell}
-use Rattle.ca_bricks.specs.Aged.{dying_digit}
-use Rattle.ca_bricks.specs.Bricks.{GridShows, LiesNearOrigin, IsAligned}
+use Rattle.ca_plane.specs.Prelude.{liveness}
+use Rattle.ca_quad.specs.Prelude.{cell}
+use Rattle.ca_bricks.specs.Prelude.{dying_digit, GridShows, LiesNearOrigin, IsAligned}
 use Rattle.ca_run.specs.inner.Frames.{IsOfFrame}
 use Rattle.ca_run.proofs.FramedAgedGrids.{of_found, framed_aged_grid}
 use Rattle.ca_run.proofs.GridBricks.{push_more, push_longer}

@@ -1,9 +1,8 @@
 use Rattle.std.proofs.Common.{◌≡◌, ℕ, ◌<◌, get_or, length}
 use Rattle.std.specs.List.{All}
-use Rattle.ca_quad.specs.Trees.{cell}
+use Rattle.ca_quad.specs.Prelude.{cell}
 use Rattle.ca_bricks.specs.declared.grid.BrickGrid.{BrickGrid}
-use Rattle.ca_bricks.specs.Aged.{dying_digit}
-use Rattle.ca_bricks.specs.Bricks.{GridShows}
+use Rattle.ca_bricks.specs.Prelude.{dying_digit, GridShows}
 use Rattle.ca_run.specs.inner.Frames.{IsFramed, IsOfFrame}
 use Rattle.ca_run.proofs.leaper.Leaper.aged_grid_of.Given as goal
 

@@ -2,9 +2,8 @@ use Rattle.std.proofs.Common.{◌≡◌, ℕ, ◌≤◌, ◌+◌, ◌-◌, ◌*�
 use Rattle.std.specs.Prelude.{ℤ, pos, neg_ℤ, ◌+ℤ◌}
 use Rattle.std.proofs.lemmas.Int.{ints}
 use Rattle.std.proofs.lemmas.Nat.{pow-add}
-use Rattle.ca_quad.specs.Squares.{IsOf}
-use Rattle.ca_quad.specs.Trees.{cell}
-use Rattle.ca_bricks.specs.Words.{eight}
+use Rattle.ca_quad.specs.Prelude.{IsOf, cell}
+use Rattle.ca_bricks.specs.Prelude.{eight}
 use Rattle.ca_run.specs.inner.Shown.{ShowsAt}
 use Rattle.ca_run.specs.inner.Frames.{piece_start, row_start}
 use Rattle.ca_run.proofs.Trees.{tree_dies, root_at}

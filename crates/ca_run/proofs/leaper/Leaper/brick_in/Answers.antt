@@ -1,5 +1,5 @@
 use Rattle.std.proofs.Common.{◌+◌, ◌*◌, inl, inr, refl, ap, ◌∙◌}
-use Rattle.ca_quad.specs.Trees.{cell}
+use Rattle.ca_quad.specs.Prelude.{cell}
 use Rattle.ca_run.specs.inner.Frames.{piece_start, row_start}
 use Rattle.ca_run.proofs.GridBricks.{blank_shows, column_out, row_out}
 use Rattle.ca_run.proofs.leaper.Leaper.brick_in.Goals as goal

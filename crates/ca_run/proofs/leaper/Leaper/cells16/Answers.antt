@@ -1,5 +1,5 @@
 use Rattle.std.proofs.Common.{ap, subst}
-use Rattle.ca_quad.specs.Trees.{AreCorners}
+use Rattle.ca_quad.specs.Prelude.{AreCorners}
 use Rattle.ca_run.proofs.Bases.{four_cells}
 use Rattle.ca_run.proofs.leaper.Leaper.cells16.Goals as goal
 

@@ -1,5 +1,5 @@
 use Rattle.std.proofs.Common.{refl}
-use Rattle.ca_bricks.specs.WordSquares.{WordSquareShows}
+use Rattle.ca_bricks.specs.Prelude.{WordSquareShows}
 use Rattle.ca_run.proofs.Lanes.{centre_shown}
 use Rattle.ca_run.proofs.leaper.Leaper.centre_of_words.Goals as goal
 

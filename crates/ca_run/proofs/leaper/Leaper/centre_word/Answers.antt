@@ -1,5 +1,5 @@
 use Rattle.std.proofs.Common.{refl}
-use Rattle.ca_bricks.specs.Words.{WordShows}
+use Rattle.ca_bricks.specs.Prelude.{WordShows}
 use Rattle.ca_run.proofs.Lanes.{centre_shown}
 use Rattle.ca_run.proofs.leaper.Leaper.centre_word.Goals as goal
 

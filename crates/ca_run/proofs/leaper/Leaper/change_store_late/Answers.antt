@@ -1,5 +1,5 @@
 use Rattle.std.proofs.Common.{take, subst, ◌∙◌}
-use Rattle.ca_quad.specs.Sound.{IsSoundStore}
+use Rattle.ca_quad.specs.Prelude.{IsSoundStore}
 use Rattle.ca_quad.proofs.Firsts.{firsts_sound, firsts_grow, firsts_same}
 use Rattle.ca_run.proofs.OwnStore.{keeps_then, keeps_of}
 use Rattle.ca_run.proofs.DenseRuns.{reached_now, reached_before, reached_moved}

@@ -2,8 +2,7 @@ use Rattle.std.proofs.Common.{◌-◌, ◌≤◌, ◌^◌, subst, arith}
 use Rattle.std.specs.Option.{MatchOption}
 use Rattle.std.proofs.lemmas.Option.{MatchOption-at_some}
 use Rattle.std.proofs.Math.Pow.{pow_mono}
-use Rattle.ca_quad.specs.Boxes.{IsDead, IsLeastWideBox}
-use Rattle.ca_quad.specs.Trees.{cell}
+use Rattle.ca_quad.specs.Prelude.{IsDead, IsLeastWideBox, cell}
 use Rattle.ca_run.proofs.LiveFrames.{some_framed, near_box}
 use Rattle.ca_run.proofs.Trees.{tree_dies}
 use Rattle.ca_run.proofs.leaper.Leaper.dense_frame.Goals as goal

@@ -1,5 +1,5 @@
 use Rattle.std.proofs.Common.{IfSome, subst}
-use Rattle.ca_quad.specs.Trees.{cell}
+use Rattle.ca_quad.specs.Prelude.{cell}
 use Rattle.ca_run.specs.inner.Frames.{IsReadByBricks, IsGridFrame, IsFramed}
 use Rattle.ca_run.proofs.leaper.Leaper.dense_grid.Goals as goal
 

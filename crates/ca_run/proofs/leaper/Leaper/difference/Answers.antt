@@ -1,6 +1,6 @@
 use Rattle.std.proofs.Common.{◌≢◌, sym, subst, ◌∙◌}
 use Rattle.std.specs.Prelude.{◌≡◌, ◌↔◌, ℤ, IsNone, IfSome}
-use Rattle.ca_quad.specs.Trees.{cell}
+use Rattle.ca_quad.specs.Prelude.{cell}
 use Rattle.ca_run.proofs.LeaperGrowth.{goes_on_again}
 use Rattle.ca_run.proofs.Trees.{both_padded, some_as}
 use Rattle.ca_run.proofs.leaper.Leaper.difference.Goals as goal

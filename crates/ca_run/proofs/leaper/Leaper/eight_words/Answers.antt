@@ -1,7 +1,7 @@
 use Rattle.std.proofs.Common.{◌+◌, ◌∙◌, arith}
 use Rattle.std.specs.Prelude.{pos, ◌+ℤ◌}
 use Rattle.std.proofs.lemmas.List.{length-set}
-use Rattle.ca_bricks.specs.Words.{WordShows, eight}
+use Rattle.ca_bricks.specs.Prelude.{WordShows, eight}
 use Rattle.ca_bricks.proofs.BrickLists.{set_more}
 use Rattle.ca_run.proofs.leaper.Leaper.eight_words.Goals as goal
 

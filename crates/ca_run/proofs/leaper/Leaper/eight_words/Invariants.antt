@@ -1,7 +1,7 @@
 use Rattle.std.proofs.Common.{◌≡◌, ℕ, suc, ◌+◌, ◌<◌, length, slice_index}
 use Rattle.std.specs.Prelude.{ℤ, pos, ◌+ℤ◌}
 use Rattle.ca_run.specs.inner.Shown.{ShowsAt}
-use Rattle.ca_bricks.specs.Words.{WordShows, eight}
+use Rattle.ca_bricks.specs.Prelude.{WordShows, eight}
 use Rattle.ca_run.proofs.leaper.Leaper.eight_words.Given as goal
 
 -- the words so far

@@ -1,7 +1,6 @@
 use Rattle.std.proofs.Common.{◌≡◌, suc, refl, sym, subst}
 use Rattle.std.specs.Prelude.{replicate}
-use Rattle.ca_quad.specs.Squares.{IsOf, cell_of}
-use Rattle.ca_quad.specs.Trees.{IsEmpty}
+use Rattle.ca_quad.specs.Prelude.{IsOf, cell_of, IsEmpty}
 use Rattle.ca_run.proofs.Bases.{empty_at, empty_is_centre}
 use Rattle.ca_run.proofs.leaper.Leaper.empty_centre.Goals as goal
 

@@ -1,7 +1,6 @@
 use Rattle.std.proofs.Common.{subst}
-use Rattle.ca_quad.specs.Sound.{IsSoundStore}
-use Rattle.ca_bricks.specs.WordSquares.{WordSquareShows}
-use Rattle.ca_bricks.specs.Words.{WordShows}
+use Rattle.ca_quad.specs.Prelude.{IsSoundStore}
+use Rattle.ca_bricks.specs.Prelude.{WordSquareShows, WordShows}
 use Rattle.ca_run.proofs.Lanes.{centre_made}
 use Rattle.ca_run.proofs.leaper.Leaper.from_centre_words.Goals as goal
 

@@ -1,11 +1,10 @@
 use Rattle.std.proofs.Common.{◌≡◌, ℕ, inr, List, length, take, IfOk, sym, subst, arith}
 use Rattle.std.specs.Prelude.{replicate}
 use Rattle.ca_quad.specs.declared.node.Node.{Node}
-use Rattle.ca_quad.specs.Sound.{IsSoundStore, Grows}
+use Rattle.ca_quad.specs.Prelude.{IsSoundStore, Grows}
 use Rattle.ca_quad.proofs.Firsts.{grown_firsts}
 use Rattle.ca_quad.proofs.Shifts.{some_level}
-use Rattle.ca_run.specs.Advanced.{CanAdvance, IsAdvanced}
-use Rattle.ca_run.specs.Leaping.{LeaperGrows}
+use Rattle.ca_run.specs.Prelude.{CanAdvance, IsAdvanced, LeaperGrows}
 use Rattle.ca_run.specs.inner.Dense.{HasReached, HasLeapt}
 use Rattle.ca_run.proofs.OwnStore.{keeps_then, keeps_of, back_again}
 use Rattle.ca_run.proofs.DenseRuns.{reached_level, advanced_at}

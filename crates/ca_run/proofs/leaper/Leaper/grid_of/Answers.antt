@@ -1,7 +1,7 @@
 use Rattle.std.proofs.Common.{◌≡◌, ◌+◌, ◌*◌, ◌/◌, ◌%◌, [], refl, ◌∙◌, arith}
 use Rattle.std.specs.Prelude.{ℤ}
-use Rattle.ca_quad.specs.Trees.{cell}
-use Rattle.ca_bricks.specs.Bricks.{BrickShows}
+use Rattle.ca_quad.specs.Prelude.{cell}
+use Rattle.ca_bricks.specs.Prelude.{BrickShows}
 use Rattle.ca_run.specs.inner.Frames.{piece_start, row_start}
 use Rattle.ca_run.proofs.GridBricks.{push_more, push_longer, row_of_bricks, framed_bits, framed_grid, near_grid, aligned_grid, start_reads}
 use Rattle.ca_run.proofs.leaper.Leaper.grid_of.Goals as goal

@@ -1,6 +1,6 @@
 use Rattle.std.proofs.Common.{◌≡◌, ℕ, ◌+◌, ◌*◌, ◌/◌, ◌%◌, ◌<◌, [], get_or, length}
-use Rattle.ca_quad.specs.Trees.{cell}
-use Rattle.ca_bricks.specs.Bricks.{BrickShows}
+use Rattle.ca_quad.specs.Prelude.{cell}
+use Rattle.ca_bricks.specs.Prelude.{BrickShows}
 use Rattle.ca_run.specs.inner.Frames.{IsFramed, piece_start, row_start}
 use Rattle.ca_run.proofs.leaper.Leaper.grid_of.Given as goal
 

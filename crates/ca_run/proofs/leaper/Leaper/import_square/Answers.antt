@@ -1,5 +1,5 @@
 use Rattle.std.proofs.Common.{sym, subst}
-use Rattle.ca_quad.specs.Added.{AreCopies}
+use Rattle.ca_quad.specs.Prelude.{AreCopies}
 use Rattle.ca_run.proofs.ShownPlanes.{leaper_stays}
 use Rattle.ca_run.proofs.leaper.Leaper.import_square.Goals as goal
 

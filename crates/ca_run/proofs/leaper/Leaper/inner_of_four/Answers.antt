@@ -1,9 +1,9 @@
 use Rattle.std.proofs.Common.{◌≡◌, suc, ◌-◌, IfOk, sym, subst, arith}
 use Rattle.std.specs.Prelude.{◌+ℤ◌}
 use Rattle.std.proofs.lemmas.Bool.Decides.{nat_tests}
-use Rattle.ca_quad.specs.Squares.{IsOf}
+use Rattle.ca_quad.specs.Prelude.{IsOf}
 use Rattle.ca_run.specs.inner.Shown.{ShowsAt, FourShow}
-use Rattle.ca_bricks.specs.Overlaps.{side}
+use Rattle.ca_bricks.specs.Prelude.{side}
 use Rattle.ca_run.proofs.Bases.{inner_cells_at}
 use Rattle.ca_bricks.proofs.Overlaps.{four_inner}
 use Rattle.ca_run.proofs.leaper.Leaper.inner_of_four.Goals as goal

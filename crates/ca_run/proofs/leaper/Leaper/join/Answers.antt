@@ -1,5 +1,5 @@
 use Rattle.std.proofs.Common.{suc, sym, subst}
-use Rattle.ca_quad.specs.Squares.{IsOf}
+use Rattle.ca_quad.specs.Prelude.{IsOf}
 use Rattle.ca_run.specs.inner.Shown.{FourShow}
 use Rattle.ca_run.proofs.ShownPlanes.{leaper_stays, joined_at, joined_of}
 use Rattle.ca_run.proofs.leaper.Leaper.join.Goals as goal

@@ -1,6 +1,6 @@
 use Rattle.std.proofs.Common.{sym, subst}
-use Rattle.ca_quad.specs.Added.{AreCopies}
-use Rattle.ca_run.specs.Leaping.{LeaperGrows}
+use Rattle.ca_quad.specs.Prelude.{AreCopies}
+use Rattle.ca_run.specs.Prelude.{LeaperGrows}
 use Rattle.ca_run.proofs.LeaperGrowth.{goes_on_again}
 use Rattle.ca_run.proofs.CopiedLeaps.{also_ok, leap_copied}
 use Rattle.ca_run.proofs.leaper.Leaper.keep_leap.Goals as goal

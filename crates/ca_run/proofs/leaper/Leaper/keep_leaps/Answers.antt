@@ -1,5 +1,5 @@
 use Rattle.std.proofs.Common.{◌-◌, length, sym, subst, ◌∙◌, arith}
-use Rattle.ca_quad.specs.Added.{AreCopies}
+use Rattle.ca_quad.specs.Prelude.{AreCopies}
 use Rattle.ca_run.specs.inner.InUse.{IsTrueLeap}
 use Rattle.ca_run.proofs.LeaperGrowth.{goes_on_again}
 use Rattle.ca_run.proofs.CopiedLeaps.{no_error}

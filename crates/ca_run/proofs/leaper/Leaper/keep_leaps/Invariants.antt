@@ -1,6 +1,6 @@
 use Rattle.std.proofs.Common.{◌≡◌}
-use Rattle.ca_quad.specs.Added.{AreCopies}
-use Rattle.ca_run.specs.Leaping.{LeaperGrows}
+use Rattle.ca_quad.specs.Prelude.{AreCopies}
+use Rattle.ca_run.specs.Prelude.{LeaperGrows}
 use Rattle.ca_run.proofs.leaper.Leaper.keep_leaps.Given as goal
 
 -- the copies that are known are copies

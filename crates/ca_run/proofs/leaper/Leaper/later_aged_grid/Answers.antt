@@ -1,7 +1,7 @@
 use Rattle.std.proofs.Common.{◌≡◌, refl, sym, subst}
 use Rattle.std.specs.Prelude.{replicate}
-use Rattle.ca_plane.specs.Ageing.{GoesByAgeing}
-use Rattle.ca_run.specs.Leaping.{LeaperView}
+use Rattle.ca_plane.specs.Prelude.{GoesByAgeing}
+use Rattle.ca_run.specs.Prelude.{LeaperView}
 use Rattle.ca_run.proofs.AgedRuns.{at_aging_cost}
 use Rattle.ca_run.proofs.Costs.{at_cost_as}
 use Rattle.ca_run.proofs.leaper.Leaper.later_aged_grid.Goals as goal

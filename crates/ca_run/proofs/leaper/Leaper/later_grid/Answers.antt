@@ -1,6 +1,6 @@
 use Rattle.std.proofs.Common.{◌≡◌, refl, subst}
 use Rattle.std.specs.Prelude.{replicate}
-use Rattle.ca_run.specs.Leaping.{LeaperView}
+use Rattle.ca_run.specs.Prelude.{LeaperView}
 use Rattle.ca_run.proofs.Costs.{at_cost_as}
 use Rattle.ca_run.proofs.DenseRuns.{at_stepping_cost}
 use Rattle.ca_run.proofs.leaper.Leaper.later_grid.Goals as goal

@@ -1,8 +1,8 @@
 use Rattle.std.proofs.Common.{◌≡◌, suc, ◌+◌, ◌≤◌, max, refl, sym, subst, ◌∙◌, arith}
 use Rattle.std.specs.Prelude.{replicate}
 use Rattle.ca_quad.specs.declared.tree.Tree.{Tree}
-use Rattle.ca_quad.specs.Trees.{IsTree}
-use Rattle.ca_run.specs.Centre.{IsCentre}
+use Rattle.ca_quad.specs.Prelude.{IsTree}
+use Rattle.ca_run.specs.Prelude.{IsCentre}
 use Rattle.ca_run.specs.inner.Padded.{IsPadded}
 use Rattle.ca_run.proofs.Costs.{at_cost_more, at_both_costs, at_wide_cost, wide_squares}
 use Rattle.ca_run.proofs.Trees.{leap_cells}

@@ -1,7 +1,7 @@
 use Rattle.std.proofs.Common.{subst}
-use Rattle.ca_quad.specs.Sound.{IsSoundStore}
+use Rattle.ca_quad.specs.Prelude.{IsSoundStore}
 use Rattle.ca_quad.proofs.Cells.{of_stays}
-use Rattle.ca_run.specs.Leaping.{LeaperGrows}
+use Rattle.ca_run.specs.Prelude.{LeaperGrows}
 use Rattle.ca_run.specs.inner.Dense.{HasReached}
 use Rattle.ca_run.proofs.DenseRuns.{reached_now, reached_before}
 use Rattle.ca_run.proofs.LeaperGrowth.{goes_on_same}

@@ -1,5 +1,5 @@
 use Rattle.std.proofs.Common.{◌∙◌, sym, subst, arith}
-use Rattle.ca_quad.specs.Sound.{IsSoundStore, Grows}
+use Rattle.ca_quad.specs.Prelude.{IsSoundStore, Grows}
 use Rattle.ca_run.specs.inner.Dense.{HasReached}
 use Rattle.ca_quad.proofs.Firsts.{firsts_same}
 use Rattle.ca_run.proofs.OwnStore.{keeps_then, keeps_of, firsts_again, none_made}

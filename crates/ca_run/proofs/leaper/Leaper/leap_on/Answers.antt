@@ -3,9 +3,8 @@ use Rattle.std.specs.Prelude.{ℤ, replicate}
 use Rattle.std.proofs.Math.Nat.{mod-le}
 use Rattle.std.proofs.lemmas.Bool.Decides.{nat_tests}
 use Rattle.std.proofs.lemmas.Nat.Bits.{bit_at-zero}
-use Rattle.ca_plane.specs.Generations.{cells_after}
-use Rattle.ca_quad.specs.Sound.{IsSoundStore}
-use Rattle.ca_quad.specs.Trees.{cell}
+use Rattle.ca_plane.specs.Prelude.{cells_after}
+use Rattle.ca_quad.specs.Prelude.{IsSoundStore, cell}
 use Rattle.ca_quad.proofs.Shifts.{some_level}
 use Rattle.ca_run.proofs.DenseRuns.{reached_kept, reached_level, leapt_on}
 use Rattle.ca_run.proofs.Levels.{one_leapt, leapt_more}

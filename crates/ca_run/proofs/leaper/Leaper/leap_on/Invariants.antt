@@ -1,5 +1,5 @@
 use Rattle.std.proofs.Common.{◌≡◌, ◌+◌, ◌%◌, ◌^◌}
-use Rattle.ca_run.specs.Leaping.{LeaperGrows}
+use Rattle.ca_run.specs.Prelude.{LeaperGrows}
 use Rattle.ca_run.specs.inner.Dense.{HasReached, HasLeapt}
 use Rattle.ca_run.proofs.leaper.Leaper.leap_on.Given as goal
 

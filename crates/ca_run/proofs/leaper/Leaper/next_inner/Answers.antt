@@ -1,5 +1,5 @@
 use Rattle.std.proofs.Common.{sym, subst}
-use Rattle.ca_quad.specs.Sound.{IsSoundStore}
+use Rattle.ca_quad.specs.Prelude.{IsSoundStore}
 use Rattle.ca_run.proofs.Bases.{next_inner_leap}
 use Rattle.ca_run.proofs.leaper.Leaper.next_inner.Goals as goal
 

@@ -1,5 +1,5 @@
 use Rattle.std.proofs.Common.{◌≡◌, suc, length, sym, ap, subst, arith}
-use Rattle.ca_quad.specs.Squares.{IsOf}
+use Rattle.ca_quad.specs.Prelude.{IsOf}
 use Rattle.ca_run.proofs.ShownPlanes.{quarters_at}
 use Rattle.ca_run.proofs.leaper.Leaper.quarters.Goals as goal
 

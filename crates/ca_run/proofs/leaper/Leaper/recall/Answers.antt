@@ -1,7 +1,7 @@
 use Rattle.std.proofs.Common.{arith, suc, sym, subst, IfSome}
 use Rattle.std.proofs.lemmas.Bool.Decides.{nat_tests}
-use Rattle.ca_quad.specs.Squares.{IsOf}
-use Rattle.ca_run.specs.Centre.{IsCentre}
+use Rattle.ca_quad.specs.Prelude.{IsOf}
+use Rattle.ca_run.specs.Prelude.{IsCentre}
 use Rattle.ca_run.proofs.LeapResults.{full_leaps_of, singles_of, centres_of}
 use Rattle.ca_run.proofs.ShownPlanes.{recalled, kept_recalled, full_leap_recalled, leaper_looked}
 use Rattle.ca_run.proofs.leaper.Leaper.recall.Goals as goal

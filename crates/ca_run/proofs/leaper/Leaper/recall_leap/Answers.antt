@@ -1,6 +1,6 @@
 use Rattle.std.proofs.Common.{suc, sym, subst, IfSome}
-use Rattle.ca_quad.specs.Trees.{AreFour}
-use Rattle.ca_run.specs.Centre.{IsLeap}
+use Rattle.ca_quad.specs.Prelude.{AreFour}
+use Rattle.ca_run.specs.Prelude.{IsLeap}
 use Rattle.ca_run.proofs.LeapResults.{leaps_of}
 use Rattle.ca_run.proofs.ShownPlanes.{leap_recalled}
 use Rattle.ca_run.proofs.leaper.Leaper.recall_leap.Goals as goal

@@ -1,6 +1,6 @@
 use Rattle.std.proofs.Common.{arith, sym, subst}
 use Rattle.std.proofs.lemmas.Bool.Decides.{nat_tests}
-use Rattle.ca_run.specs.Centre.{IsCentre}
+use Rattle.ca_run.specs.Prelude.{IsCentre}
 use Rattle.ca_run.proofs.LeapResults.{full_leaps_of, singles_of, centres_of, leaps_of, leaper_with}
 use Rattle.ca_run.proofs.ShownPlanes.{kept_more, full_leaps_more, singles_more}
 use Rattle.ca_run.proofs.leaper.Leaper.remember.Goals as goal

@@ -1,5 +1,5 @@
 use Rattle.std.proofs.Common.{sym, subst, arith}
-use Rattle.ca_run.specs.Centre.{IsLeap}
+use Rattle.ca_run.specs.Prelude.{IsLeap}
 use Rattle.ca_run.proofs.LeapResults.{full_leaps_of, singles_of, centres_of, leaps_of, leaper_with}
 use Rattle.ca_run.proofs.ShownPlanes.{leaps_more}
 use Rattle.ca_run.proofs.leaper.Leaper.remember_leap.Goals as goal

@@ -1,7 +1,7 @@
 use Rattle.std.proofs.Common.{◌≡◌, ◌+◌, ◌<◌, ◌≤◌, ◌^◌, length, IfSome, subst, ◌∙◌, arith}
-use Rattle.ca_plane.specs.Generations.{cells_after}
-use Rattle.ca_quad.specs.Trees.{cell}
-use Rattle.ca_bricks.specs.Aged.{AgedGridShows}
+use Rattle.ca_plane.specs.Prelude.{cells_after}
+use Rattle.ca_quad.specs.Prelude.{cell}
+use Rattle.ca_bricks.specs.Prelude.{AgedGridShows}
 use Rattle.ca_run.proofs.AgedRuns.{at_aged_grid_cost, aging_low}
 use Rattle.ca_run.proofs.Costs.{at_cost_more, at_both_costs}
 use Rattle.ca_bricks.proofs.LaterAgedGrids.{aged_as}

@@ -1,7 +1,7 @@
 use Rattle.std.proofs.Common.{◌≡◌, ◌+◌, ◌<◌, ◌≤◌, ◌^◌, length, IfSome, subst, ◌∙◌, arith}
-use Rattle.ca_plane.specs.Generations.{cells_after}
-use Rattle.ca_quad.specs.Trees.{cell}
-use Rattle.ca_bricks.specs.Bricks.{GridShows}
+use Rattle.ca_plane.specs.Prelude.{cells_after}
+use Rattle.ca_quad.specs.Prelude.{cell}
+use Rattle.ca_bricks.specs.Prelude.{GridShows}
 use Rattle.ca_bricks.proofs.BrickMargins.{grid_as}
 use Rattle.ca_run.proofs.Costs.{at_cost_more, at_both_costs}
 use Rattle.ca_run.proofs.DenseRuns.{at_grid_cost}

@@ -1,5 +1,5 @@
 use Rattle.std.proofs.Common.{◌+◌, IfSome, subst, arith}
-use Rattle.ca_quad.specs.Sound.{IsSoundStore}
+use Rattle.ca_quad.specs.Prelude.{IsSoundStore}
 use Rattle.ca_quad.proofs.Cells.{of_stays}
 use Rattle.ca_run.specs.inner.Dense.{HasReached}
 use Rattle.ca_run.proofs.DenseRuns.{reached_now, reached_before, reached_stays, grid_more, grids_done}

@@ -1,5 +1,5 @@
 use Rattle.std.proofs.Common.{◌+◌, ◌*◌, ◌^◌}
-use Rattle.ca_run.specs.Leaping.{Costs, LeaperGrows}
+use Rattle.ca_run.specs.Prelude.{Costs, LeaperGrows}
 use Rattle.ca_run.specs.inner.Dense.{HasReached}
 use Rattle.ca_run.proofs.leaper.Leaper.step_grids.Given as goal
 

@@ -1,5 +1,5 @@
 use Rattle.std.proofs.Common.{sym, subst}
-use Rattle.ca_quad.specs.Trees.{IsTree}
+use Rattle.ca_quad.specs.Prelude.{IsTree}
 use Rattle.ca_quad.proofs.Shifts.{some_level}
 use Rattle.ca_run.proofs.Levels.{trim_level}
 use Rattle.ca_run.proofs.ShownPlanes.{leaper_stays}

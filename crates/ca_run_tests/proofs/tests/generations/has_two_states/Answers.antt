@@ -1,6 +1,6 @@
 use Rattle.std.proofs.Common.{◌<◌, ◌∙◌, sym, subst}
 use Rattle.std.specs.List.{All}
-use Rattle.ca_plane.specs.Plane.{Picture}
+use Rattle.ca_plane.specs.Prelude.{Picture}
 use Rattle.ca_plane.proofs.Pictures.{cells_end}
 use Rattle.ca_run_tests.proofs.tests.generations.has_two_states.Goals as goal
 

@@ -1,5 +1,5 @@
 use Rattle.std.proofs.lemmas.List.Elements.{All-push}
-use Rattle.ca_plane.specs.Sparse.{IsInPlane}
+use Rattle.ca_plane.specs.Prelude.{IsInPlane}
 use Rattle.ca_run_tests.proofs.tests.planes.gathered.Goals as goal
 
 pub cells-preserved : goal.cells-preserved

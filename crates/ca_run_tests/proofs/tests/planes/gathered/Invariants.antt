@@ -1,5 +1,5 @@
 use Rattle.std.specs.List.{All}
-use Rattle.ca_plane.specs.Sparse.{IsInPlane}
+use Rattle.ca_plane.specs.Prelude.{IsInPlane}
 use Rattle.ca_run_tests.proofs.tests.planes.gathered.Given as goal
 
 -- the cells so far are in the square of a plane

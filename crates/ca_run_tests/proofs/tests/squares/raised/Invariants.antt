@@ -1,4 +1,4 @@
-use Rattle.ca_quad.specs.Trees.{IsTree}
+use Rattle.ca_quad.specs.Prelude.{IsTree}
 use Rattle.ca_run_tests.proofs.tests.squares.raised.Given as goal
 
 -- it is a tree of the store

@@ -1,5 +1,5 @@
 use Rattle.std.proofs.Common.{◌≡◌, ◌<◌, map, Some, length, slice_get, subst}
-use Rattle.ca_text.specs.Places.{claim_with_paths}
+use Rattle.ca_text.specs.Prelude.{claim_with_paths}
 use Rattle.ca_text.proofs.ClaimsKept.{claim_at}
 use Rattle.ca_text.proofs.claims.Claims.claim.Goals as goal
 

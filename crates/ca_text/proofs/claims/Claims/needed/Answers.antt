@@ -2,9 +2,7 @@ use Rattle.std.proofs.Common.{rules, ◌≡◌, ◌≢◌, ℕ, map, length, rep
 use Rattle.std.specs.List.{IsDistinct}
 use Rattle.std.specs.Str.{bytes_eq}
 use Rattle.std.proofs.lemmas.List.{nil_from_length}
-use Rattle.ca_text.specs.Text.{ClaimText, by_path, named_patterns}
-use Rattle.ca_text.specs.Places.{path_at, claim_with_names}
-use Rattle.ca_text.specs.NeededFiles.{IsNeeded}
+use Rattle.ca_text.specs.Prelude.{ClaimText, by_path, named_patterns, path_at, claim_with_names, IsNeeded}
 use Rattle.ca_text.specs.inner.Marks.{with_marks, claims_marked}
 use Rattle.ca_text.proofs.PathMarks.{Marks, written_over, length-marked, length-claims_marked, needed_marks, nothing_needed}
 use Rattle.ca_text.proofs.claims.Claims.needed.Goals as goal

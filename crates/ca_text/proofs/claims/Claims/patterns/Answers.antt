@@ -1,6 +1,5 @@
 use Rattle.std.proofs.Common.{◌≡◌, ◌<◌, ℕ, List, map, Some, length, slice_get, sym, ap, subst, ◌∙◌}
-use Rattle.ca_text.specs.Text.{Claim}
-use Rattle.ca_text.specs.Places.{path_at, named_path}
+use Rattle.ca_text.specs.Prelude.{Claim, path_at, named_path}
 use Rattle.ca_text.proofs.ClaimsKept.{patterns_at, patterns_claimed, looked_up}
 use Rattle.ca_text.proofs.claims.Claims.patterns.Goals as goal
 

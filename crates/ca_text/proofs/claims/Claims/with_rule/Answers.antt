@@ -1,9 +1,7 @@
 use Rattle.std.proofs.Common.{ℕ, ◌<◌, List, map, length, slice_get, All, sym, ap, subst, ◌∙◌}
 use Rattle.std.specs.List.{IsDistinct}
 use Rattle.std.specs.Str.{bytes_eq}
-use Rattle.ca_text.specs.Places.{IsNamed}
-use Rattle.ca_text.specs.Text.{with_rule_line}
-use Rattle.ca_text.specs.Words.{with_word}
+use Rattle.ca_text.specs.Prelude.{IsNamed, with_rule_line, with_word}
 use Rattle.ca_text.proofs.RuleLines.{kept_text, one_rule_more, rules_within, claims_there}
 use Rattle.ca_text.proofs.claims.Claims.with_rule.Goals as goal
 

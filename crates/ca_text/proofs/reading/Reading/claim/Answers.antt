@@ -1,5 +1,5 @@
 use Rattle.std.proofs.Common.{map, [], ◌∷◌, ◌++◌, Some, if◌then◌else◌, refl, sym, ap, subst, ◌∙◌}
-use Rattle.ca_text.specs.Text.{Claims, said_lines}
+use Rattle.ca_text.specs.Prelude.{Claims, said_lines}
 use Rattle.ca_text.specs.inner.Reading.{claim_of, KeepsClaimLines, place_of}
 use Rattle.ca_text.proofs.NextLines.{names_loaded, names_known, read_claim, version_after}
 use Rattle.ca_text.proofs.reading.Reading.claim.Goals as goal

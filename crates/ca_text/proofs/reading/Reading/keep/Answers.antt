@@ -3,7 +3,7 @@ use Rattle.std.specs.Map.{update}
 use Rattle.std.specs.Str.{bytes_eq}
 use Rattle.std.proofs.lemmas.List.{map-append, length-map}
 use Rattle.std.proofs.lemmas.Map.Text.{hash_map_updates_str}
-use Rattle.ca_text.specs.Text.{Load, said_lines}
+use Rattle.ca_text.specs.Prelude.{Load, said_lines}
 use Rattle.ca_text.specs.inner.Reading.{KeepsClaimLines, place_of}
 use Rattle.ca_text.proofs.NextLines.{read_load, version_after}
 use Rattle.ca_text.proofs.reading.Reading.keep.Goals as goal

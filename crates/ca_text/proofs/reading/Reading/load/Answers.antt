@@ -1,5 +1,5 @@
 use Rattle.std.proofs.Common.{map, refl, sym}
-use Rattle.ca_text.specs.Text.{Load}
+use Rattle.ca_text.specs.Prelude.{Load}
 use Rattle.ca_text.specs.inner.Reading.{place_of}
 use Rattle.ca_text.proofs.NextLines.{none_from, on_ok_holds, not_loaded}
 use Rattle.ca_text.proofs.reading.Reading.load.Goals as goal

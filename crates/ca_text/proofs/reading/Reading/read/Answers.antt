@@ -1,7 +1,7 @@
 use Rattle.std.proofs.Common.{◌≡◌, ℕ, List, [], ◌∷◌, ◌++◌, false, Option, None, Some, refl, sym, subst}
-use Rattle.ca_plane.specs.Bytes.{words_of}
+use Rattle.ca_plane.specs.Prelude.{words_of}
 use Rattle.ca_text.specs.declared.reading.Reading.{Reading}
-use Rattle.ca_text.specs.Text.{ClaimTextLine, Version, Rule, Load, Claims, is_skipped, ClaimWordsSay, IsAllowedLine, said_lines}
+use Rattle.ca_text.specs.Prelude.{ClaimTextLine, Version, Rule, Load, Claims, is_skipped, ClaimWordsSay, IsAllowedLine, said_lines}
 use Rattle.ca_text.specs.inner.Reading.{HasClaimFault, SaysNext, IsClaimReading, claim_of}
 use Rattle.ca_text.proofs.NextLines.{read_none, read_version, version_stays, version_told, on_ok_as, if_err_as, lines_of_version, version_of_lines}
 use Rattle.ca_text.proofs.reading.Reading.read.Goals as goal

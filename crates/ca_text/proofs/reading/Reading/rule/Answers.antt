@@ -1,6 +1,5 @@
 use Rattle.std.proofs.Common.{ℕ, List, [], ◌∷◌, ◌++◌, map, Some, slice_get, if◌then◌else◌, refl, sym, ap, subst, ◌∙◌}
-use Rattle.ca_text.specs.Text.{Rule, said_lines}
-use Rattle.ca_text.specs.Words.{with_word}
+use Rattle.ca_text.specs.Prelude.{Rule, said_lines, with_word}
 use Rattle.ca_text.specs.inner.Reading.{KeepsClaimLines, place_of}
 use Rattle.ca_text.proofs.NextLines.{read_rule, version_after}
 use Rattle.ca_text.proofs.reading.Reading.rule.Goals as goal

@@ -1,6 +1,6 @@
 use Rattle.std.proofs.Common.{ℕ, List, map, sym, ap, ◌∙◌}
 use Rattle.std.specs.Str.{bytes_eq}
-use Rattle.ca_text.specs.Words.{with_word}
+use Rattle.ca_text.specs.Prelude.{with_word}
 use Rattle.ca_text.proofs.PathLists.{with_word_there, items_insert_key, item_at}
 use Rattle.ca_text.proofs.word_set.WordSet.put.Goals as goal
 

@@ -1,8 +1,7 @@
 use Rattle.std.proofs.Common.{◌<◌, ◌∙◌, sym, subst}
 use Rattle.std.specs.List.{All}
-use Rattle.ca_plane.specs.Plane.{Picture}
+use Rattle.ca_plane.specs.Prelude.{Picture, IsInRange}
 use Rattle.ca_plane.proofs.Pictures.{cells_end}
-use Rattle.ca_plane.specs.Limits.{IsInRange}
 use Rattle.ca_tool_tests.proofs.tests.writers.fits.Goals as goal
 
 -- at the end all cells have come

@@ -1,6 +1,6 @@
 use Rattle.std.proofs.Common.{◌<◌}
 use Rattle.std.specs.List.{All}
-use Rattle.ca_plane.specs.Limits.{IsInRange}
+use Rattle.ca_plane.specs.Prelude.{IsInRange}
 use Rattle.ca_tool_tests.proofs.tests.writers.fits.Given as goal
 
 -- the cells so far may be written

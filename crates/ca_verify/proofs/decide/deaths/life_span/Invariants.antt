@@ -1,5 +1,5 @@
 use Rattle.std.proofs.Common.{◌-◌}
-use Rattle.ca_run.specs.Leaping.{LeaperGrows}
+use Rattle.ca_run.specs.Prelude.{LeaperGrows}
 use Rattle.ca_verify.specs.inner.Spending.{TakesHalves}
 use Rattle.ca_verify.specs.inner.Subjects.{AreLifeBounds}
 use Rattle.ca_verify.proofs.decide.deaths.life_span.Given as goal

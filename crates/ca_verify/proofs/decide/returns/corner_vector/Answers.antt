@@ -1,4 +1,4 @@
-use Rattle.ca_quad.specs.Trees.{cell}
+use Rattle.ca_quad.specs.Prelude.{cell}
 use Rattle.ca_pattern.proofs.Corners.{live_after, corners_moved, corner_wide}
 use Rattle.ca_verify.proofs.Corners.{corner_shift}
 use Rattle.ca_verify.proofs.Times.{shift_broad, broad_again, wide_again}

@@ -5,9 +5,9 @@ use Rattle.std.proofs.lemmas.Int.{to_z-of_z}
 use Rattle.ca_run.proofs.LeaperGrowth.{goes_on_same}
 use Rattle.ca_steps.proofs.Primes.{quotient_some}
 use Rattle.ca_run.proofs.LeaperGrowth.{goes_on_again}
-use Rattle.ca_plane.specs.Plane.{Picture}
-use Rattle.ca_text.specs.Truth.{ShowsNothingForbidden}
-use Rattle.ca_pattern.specs.PatternTrees.{ShowsTree}
+use Rattle.ca_plane.specs.Prelude.{Picture}
+use Rattle.ca_text.specs.Prelude.{ShowsNothingForbidden}
+use Rattle.ca_pattern.specs.Prelude.{ShowsTree}
 use Rattle.ca_verify.specs.inner.Subjects.{IsBackBy, IsNarrowed}
 use Rattle.ca_verify.proofs.LeaptTrees.{forbids_stays}
 use Rattle.ca_pattern.proofs.LeaptTrees.{shows_stays}

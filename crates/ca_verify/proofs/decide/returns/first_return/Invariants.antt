@@ -1,6 +1,6 @@
 use Rattle.std.proofs.Common.{◌-◌, ◌≤◌}
-use Rattle.ca_run.specs.Leaping.{LeaperGrows}
-use Rattle.ca_evolution.specs.Spending.{Takes}
+use Rattle.ca_run.specs.Prelude.{LeaperGrows}
+use Rattle.ca_evolution.specs.Prelude.{Takes}
 use Rattle.ca_verify.specs.inner.Subjects.{IsNarrowed}
 use Rattle.ca_verify.proofs.decide.returns.first_return.Given as goal
 

@@ -1,7 +1,7 @@
 use Rattle.std.proofs.Common.{rules, sym, subst, ◌∙◌, w64, SFits}
 use Rattle.std.specs.Prelude.{ℤ}
 use Rattle.std.proofs.lemmas.Int.{to_z-of_z}
-use Rattle.ca_pattern.specs.PatternTrees.{IsNoMove, IsOnlyMove}
+use Rattle.ca_pattern.specs.Prelude.{IsNoMove, IsOnlyMove}
 use Rattle.ca_verify.proofs.Starts.{near_pattern}
 use Rattle.ca_verify.proofs.decide.returns.return_anywhere.Goals as goal
 

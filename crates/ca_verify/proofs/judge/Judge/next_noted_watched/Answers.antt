@@ -1,6 +1,5 @@
 use Rattle.std.proofs.Common.{◌≡◌, ◌≢◌, ◌+◌, [], length, arith, ap, subst}
-use Rattle.ca_answers.specs.Files.{contents}
-use Rattle.ca_answers.specs.Judging.{JudgesAndNotes}
+use Rattle.ca_answers.specs.Prelude.{contents, JudgesAndNotes}
 use Rattle.ca_verify.specs.inner.Kept.{left_from}
 use Rattle.ca_verify.proofs.JudgedInTurn.{judged_and_noted}
 use Rattle.ca_verify.proofs.judge.Judge.next_noted_watched.Goals as goal

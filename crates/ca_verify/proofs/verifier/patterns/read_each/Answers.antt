@@ -1,5 +1,5 @@
 use Rattle.std.proofs.Common.{MatchResult, subst}
-use Rattle.ca_pattern.specs.Patterns.{IsReadFrom, IsUnread}
+use Rattle.ca_pattern.specs.Prelude.{IsReadFrom, IsUnread}
 use Rattle.ca_verify.proofs.PatternsRead.{read_stays}
 use Rattle.ca_verify.proofs.verifier.patterns.read_each.Goals as goal
 

@@ -1,6 +1,5 @@
 use Rattle.std.proofs.Common.{subst, sym}
-use Rattle.ca_text.specs.Places.{path_at}
-use Rattle.ca_text.specs.Both.{map_both}
+use Rattle.ca_text.specs.Prelude.{path_at, map_both}
 use Rattle.ca_verify.specs.inner.PreparedClaim.{IsPrepared}
 use Rattle.ca_verify.specs.inner.Refusals.{IsRefusal}
 use Rattle.ca_verify.proofs.Causes.{found_there, found_missing, all_there, passed_on}

@@ -1,5 +1,5 @@
 use Rattle.std.proofs.Common.{Some, sym, ap, subst, ◌∙◌}
-use Rattle.ca_rule.specs.Rule.{rule_value}
+use Rattle.ca_rule.specs.Prelude.{rule_value}
 use Rattle.ca_verify.specs.declared.verifier.prepared.PreparedClaim.{PreparedClaim}
 use Rattle.ca_verify.specs.inner.PreparedClaim.{IsPrepared}
 use Rattle.ca_verify.specs.inner.Refusals.{IsRefusal}

@@ -1,7 +1,7 @@
 use Rattle.std.proofs.Common.{◌+◌, [], ◌∷◌, ◌++◌, take, if◌then◌else◌, refl, ap, subst, sym, ◌∙◌}
 use Rattle.std.specs.List.{AllZip}
 use Rattle.std.proofs.lemmas.Option.{slice_get-get_or}
-use Rattle.ca_rule.specs.TableNext.{TableRule}
+use Rattle.ca_rule.specs.Prelude.{TableRule}
 use Rattle.ca_verify.specs.inner.Found.{IsTableFound, IsFaultFound}
 use Rattle.ca_text.proofs.PairedLists.{first_behind, zip_more}
 use Rattle.ca_verify.proofs.verifier.tables.tables_of.Goals as goal

@@ -1,6 +1,6 @@
 use Rattle.std.proofs.Common.{◌≡◌, ◌-◌, ◌∷◌, [], ◌++◌, suc, Some, length, ap, sym, subst, ◌∙◌, arith}
 use Rattle.std.specs.List.{slice_get}
-use Rattle.ca_quad.specs.Trees.{ShowsSquare}
+use Rattle.ca_quad.specs.Prelude.{ShowsSquare}
 use Rattle.ca_macro.specs.inner.Reading.{AreEmpties}
 use Rattle.ca_macro.proofs.EmptySquares.{leaf_empty, join_empty, last_empty, empties_push}
 use Rattle.ca_macro.proofs.read.empties.Empties.grow.Goals as goal

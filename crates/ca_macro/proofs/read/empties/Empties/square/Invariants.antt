@@ -1,5 +1,5 @@
 use Rattle.std.proofs.Common.{◌-◌, length}
-use Rattle.ca_quad.specs.Sound.{Grows}
+use Rattle.ca_quad.specs.Prelude.{Grows}
 use Rattle.ca_macro.specs.inner.Reading.{AreEmpties}
 use Rattle.ca_macro.proofs.read.empties.Empties.square.Given as goal
 

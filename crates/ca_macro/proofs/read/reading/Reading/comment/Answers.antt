@@ -1,7 +1,7 @@
 use Rattle.std.proofs.Common.{[], ◌∷◌, ◌++◌, Some, sym, subst}
-use Rattle.ca_plane.specs.Bytes.{words_of}
+use Rattle.ca_plane.specs.Prelude.{words_of}
 use Rattle.ca_macro.specs.declared.read.reading.Reading.{Reading}
-use Rattle.ca_macro.specs.File.{MacrocellWordsSay}
+use Rattle.ca_macro.specs.Prelude.{MacrocellWordsSay}
 use Rattle.ca_macro.specs.inner.Comments.{said_of}
 use Rattle.ca_macro.specs.inner.Reading.{IsMacrocellReading}
 use Rattle.ca_macro.proofs.Saying.{nothing_said, rule_said, generation_said}

@@ -1,10 +1,9 @@
 use Rattle.std.proofs.Common.{subst}
 use Rattle.std.specs.List.{flat_map}
-use Rattle.ca_plane.specs.Bytes.{words_of}
+use Rattle.ca_plane.specs.Prelude.{words_of}
 use Rattle.ca_macro.specs.declared.fault.MacroFault.TheVariants.{Memory}
 use Rattle.ca_macro.specs.declared.line.Line.TheVariants as line
-use Rattle.ca_macro.specs.Nodes.{Leaf, Cells, Parts}
-use Rattle.ca_macro.specs.File.{Adds, added_nodes}
+use Rattle.ca_macro.specs.Prelude.{Leaf, Cells, Parts, Adds, added_nodes}
 use Rattle.ca_macro.specs.inner.Comments.{said_of}
 use Rattle.ca_macro.specs.inner.Lines.{ReadsLines}
 use Rattle.ca_macro.proofs.Saying.{passed_on, faulty_line, comment_allowed, node_said, parts_fault, parts_ok, parts_err}

@@ -1,8 +1,6 @@
 use Rattle.std.proofs.Common.{refl, slice_index, subst}
-use Rattle.ca_quad.specs.Squares.{one_cell, joined_cells}
-use Rattle.ca_quad.specs.Trees.{ShowsSquare}
-use Rattle.ca_macro.specs.Nodes.{Cells}
-use Rattle.ca_macro.specs.Shown.{squares_of}
+use Rattle.ca_quad.specs.Prelude.{one_cell, joined_cells, ShowsSquare}
+use Rattle.ca_macro.specs.Prelude.{Cells, squares_of}
 use Rattle.ca_macro.proofs.KeptSquares.{with_square, empties_stay, cells_drawn}
 use Rattle.ca_macro.proofs.read.squares.Squares.add_cells.Goals as goal
 

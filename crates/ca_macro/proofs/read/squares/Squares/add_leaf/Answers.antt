@@ -1,5 +1,4 @@
-use Rattle.ca_macro.specs.Nodes.{Leaf}
-use Rattle.ca_macro.specs.Shown.{squares_of}
+use Rattle.ca_macro.specs.Prelude.{Leaf, squares_of}
 use Rattle.std.proofs.Common.{refl}
 use Rattle.ca_macro.proofs.KeptSquares.{with_square, empties_stay, leaf_drawn}
 use Rattle.ca_macro.proofs.read.squares.Squares.add_leaf.Goals as goal

@@ -1,8 +1,7 @@
 use Rattle.std.proofs.Common.{◌≡◌, suc, ◌-◌, [], ◌∷◌, ◌++◌, if◌then◌else◌, refl, ap, subst, ◌∙◌, arith}
 use Rattle.ca_quad.proofs.Growth.{grows_on}
 use Rattle.ca_macro.specs.declared.fault.MacroFault.TheVariants.{Memory}
-use Rattle.ca_macro.specs.Nodes.{Parts}
-use Rattle.ca_macro.specs.Shown.{node_picture, squares_of}
+use Rattle.ca_macro.specs.Prelude.{Parts, node_picture, squares_of}
 use Rattle.ca_macro.specs.inner.Reading.{Draws}
 use Rattle.ca_macro.proofs.KeptSquares.{with_square, empties_stay, parts_four, parts_joined, parts_follow}
 use Rattle.ca_macro.proofs.Saying.{passed_on, bad_parts}

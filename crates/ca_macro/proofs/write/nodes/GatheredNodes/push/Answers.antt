@@ -1,5 +1,5 @@
 use Rattle.std.proofs.Common.{◌≡◌, ◌==◌, ℕ, ◌∷◌, [], ◌++◌, map, length, Some, cond, sym, subst, arith}
-use Rattle.ca_quad.specs.SquareValues.{square_value}
+use Rattle.ca_quad.specs.Prelude.{square_value}
 use Rattle.ca_macro.specs.inner.Written.{node_of, IsWrittenNumber, IsGathered}
 use Rattle.ca_macro.proofs.Gathering.{last_number, gathered_more, written_more}
 use Rattle.ca_macro.proofs.write.nodes.GatheredNodes.push.Goals as goal

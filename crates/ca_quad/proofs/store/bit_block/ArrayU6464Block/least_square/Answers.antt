@@ -1,5 +1,5 @@
 use Rattle.std.proofs.Common.{[], ◌∷◌}
-use Rattle.ca_plane.specs.Shown.{row_cells}
+use Rattle.ca_plane.specs.Prelude.{row_cells}
 use Rattle.ca_quad.proofs.BitWords.{eight_rows, eight_shown}
 use Rattle.ca_quad.proofs.store.bit_block.ArrayU6464Block.least_square.Goals as goal
 

@@ -1,6 +1,6 @@
 use Rattle.ca_rle.proofs.StartWords.{leads_corner, leads_generation, leads_nowhere, says_nothing, bad_place}
 use Rattle.std.proofs.Common.{sym, subst}
-use Rattle.ca_rle.specs.Header.{WordSays, Generation}
+use Rattle.ca_rle.specs.Prelude.{WordSays, Generation}
 use Rattle.ca_rle.proofs.front.words.Start.after_word.Goals as goal
 
 pub returns-in_default-place-clause-fault : goal.returns-in_default-place-clause-fault

@@ -1,6 +1,6 @@
 use Rattle.std.proofs.Common.{◌≡◌, ◌++◌, not, length}
 use Rattle.std.specs.Prelude.{ℕ, List}
-use Rattle.ca_plane.specs.Bytes.{Every, is_line_end, words_of}
+use Rattle.ca_plane.specs.Prelude.{Every, is_line_end, words_of}
 use Rattle.ca_rle.specs.inner.FrontParts.{WordsLead}
 use Rattle.ca_rle.proofs.front.words.Start.after_words.Given as goal
 

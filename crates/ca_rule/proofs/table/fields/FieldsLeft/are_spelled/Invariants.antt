@@ -1,6 +1,6 @@
 use Rattle.std.proofs.Common.{◌≡◌, length}
 use Rattle.std.specs.List.{list_all}
-use Rattle.ca_rule.specs.TableLines.{is_field}
+use Rattle.ca_rule.specs.Prelude.{is_field}
 use Rattle.ca_rule.specs.inner.TableFields.{fields_left}
 use Rattle.ca_rule.proofs.table.fields.FieldsLeft.are_spelled.Given as goal
 

@@ -1,5 +1,5 @@
 use Rattle.std.proofs.Common.{[], ◌∷◌, sym, ap, ◌∙◌}
-use Rattle.ca_plane.specs.Bytes.{trimmed}
+use Rattle.ca_plane.specs.Prelude.{trimmed}
 use Rattle.ca_rule.specs.inner.TableFields.{fields_left}
 use Rattle.ca_rule.proofs.Fields.{last-field, length_zero}
 use Rattle.ca_rule.proofs.table.fields.FieldsLeft.next.Goals as goal

@@ -1,7 +1,7 @@
 use Rattle.std.proofs.Common.{◌≡◌, List, true, length}
 use Rattle.std.specs.List.{list_all}
 use Rattle.ca_rule.specs.declared.table.slot.Slot.{Slot}
-use Rattle.ca_rule.specs.TableLines.{is_field}
+use Rattle.ca_rule.specs.Prelude.{is_field}
 use Rattle.ca_rule.specs.inner.TableFields.{fields_left}
 use Rattle.ca_rule.specs.inner.TableNames.{number_in, AreSlots}
 use Rattle.ca_rule.proofs.table.names.Names.judge.Given as goal

@@ -1,5 +1,5 @@
 use Rattle.std.proofs.Common.{not, sym, subst}
-use Rattle.ca_plane.specs.Bytes.{Every, is_line_end}
+use Rattle.ca_plane.specs.Prelude.{Every, is_line_end}
 use Rattle.ca_rule.proofs.SaidLines.{content-every}
 use Rattle.ca_rule.proofs.table.said_lines.SaidLines.next.Goals as goal
 

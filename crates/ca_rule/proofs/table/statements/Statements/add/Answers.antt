@@ -1,7 +1,6 @@
 use Rattle.std.proofs.Common.{refl, subst, arith}
 use Rattle.std.proofs.lemmas.Result.{on_ok_weaker, IfErr-weaker}
-use Rattle.ca_rule.specs.TableLines.{fields_between, IsTransitionLine}
-use Rattle.ca_rule.specs.TableText.{no_statements}
+use Rattle.ca_rule.specs.Prelude.{fields_between, IsTransitionLine, no_statements}
 use Rattle.ca_rule.specs.inner.TableFields.{fields_left}
 use Rattle.ca_rule.specs.inner.TableNames.{number_in}
 use Rattle.ca_rule.specs.inner.TableSettings.{meaning_of}

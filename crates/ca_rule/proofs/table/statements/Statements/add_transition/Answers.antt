@@ -1,6 +1,6 @@
 use Rattle.std.proofs.Common.{◌≡◌, length, [], ◌∷◌, ◌++◌, if◌then◌else◌, refl, sym, ap, subst, ◌∙◌}
 use Rattle.std.specs.List.{AllZip}
-use Rattle.ca_rule.specs.TableText.{StandsFor}
+use Rattle.ca_rule.specs.Prelude.{StandsFor}
 use Rattle.ca_rule.specs.inner.TableFields.{fields_left}
 use Rattle.ca_rule.specs.inner.TableNames.{number_in}
 use Rattle.ca_rule.specs.inner.TableSlots.{slots_of}

@@ -1,9 +1,7 @@
 use Rattle.std.proofs.Common.{◌≡◌, length, [], ◌∷◌, ◌++◌, if◌then◌else◌, refl, sym, ap, subst, ◌∙◌}
 use Rattle.std.specs.Prelude.{filter}
 use Rattle.std.specs.List.{list_any, AllZip, range_with_len}
-use Rattle.ca_rule.specs.TableLines.{fields_between}
-use Rattle.ca_rule.specs.TableNext.{admits}
-use Rattle.ca_rule.specs.TableText.{StandsFor, states_among, states_said}
+use Rattle.ca_rule.specs.Prelude.{fields_between, admits, StandsFor, states_among, states_said}
 use Rattle.ca_rule.specs.inner.TableFields.{fields_left}
 use Rattle.ca_rule.specs.inner.TableNames.{number_in, IsFaultAmong}
 use Rattle.ca_rule.proofs.FieldSlots.{on-ok}

@@ -1,7 +1,7 @@
 use Rattle.std.proofs.Common.{◌≡◌, ◌+◌, ◌-◌, ◌<◌, ◌≤◌, suc, length, drop, ap, sym, ◌∙◌, arith}
 use Rattle.std.specs.Option.{option_or}
 use Rattle.std.proofs.lemmas.Bool.Decides.{nat_tests}
-use Rattle.ca_rule.specs.TableOrders.{picks, every_order}
+use Rattle.ca_rule.specs.Prelude.{picks, every_order}
 use Rattle.ca_rule.specs.inner.TableSearch.{picked_outcome}
 use Rattle.ca_rule.specs.inner.TableChoice.{taken_of, free_of}
 use Rattle.ca_rule.proofs.OrderSearches.{test-unfit, all-picks, one-pick, no-pick}

@@ -1,5 +1,5 @@
 use Rattle.std.proofs.Common.{◌≡◌, ◌-◌, drop}
-use Rattle.ca_rule.specs.TableOrders.{picks}
+use Rattle.ca_rule.specs.Prelude.{picks}
 use Rattle.ca_rule.specs.inner.TableSearch.{picked_outcome, LeadToNone}
 use Rattle.ca_rule.specs.inner.TableChoice.{taken_of, free_of}
 use Rattle.ca_rule.proofs.table.transition.Transition.+least_outcome.Given as goal

@@ -1,10 +1,9 @@
 use Rattle.std.proofs.Common.{◌≡◌, ◌∙◌, map, zip, slice_index, true, Some, ◌++◌, ap, sym}
-use Rattle.ca_rule.specs.TableOrders.{ring, ring_size, every_order}
+use Rattle.ca_rule.specs.Prelude.{ring, ring_size, every_order, fits, result_state}
 use Rattle.ca_rule.specs.inner.TablePlaces.{taken_at, outcome_at}
 use Rattle.ca_rule.specs.inner.TableSearch.{placements_of}
 use Rattle.ca_rule.specs.inner.TableChoice.{taken_of}
 use Rattle.ca_rule.proofs.OrderSearches.{least_outcome-unfit}
-use Rattle.ca_rule.specs.TableNext.{fits, result_state}
 use Rattle.ca_rule.proofs.Idle.{stands-first}
 use Rattle.ca_rule.proofs.SymmetryPlaces.{outcome-uncentred}
 use Rattle.ca_rule.proofs.table.transition.Transition.outcome.Goals as goal

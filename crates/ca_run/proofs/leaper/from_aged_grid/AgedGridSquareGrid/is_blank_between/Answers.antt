@@ -1,10 +1,9 @@
 use Rattle.std.proofs.Common.{◌≡◌, ℕ, ◌<◌, inl, inr, length, get_or, ap, subst, ◌∙◌, arith}
 use Rattle.std.specs.Prelude.{ℤ, pos, ◌+ℤ◌}
 use Rattle.std.proofs.lemmas.Bool.{cases_eq}
-use Rattle.ca_plane.specs.Ageing.{liveness}
+use Rattle.ca_plane.specs.Prelude.{liveness}
 use Rattle.ca_bricks.specs.declared.grid.BrickGrid.{BrickGrid}
-use Rattle.ca_bricks.specs.Aged.{dying_digit}
-use Rattle.ca_bricks.specs.Bricks.{GridShows}
+use Rattle.ca_bricks.specs.Prelude.{dying_digit, GridShows}
 use Rattle.ca_bricks.proofs.AgedSquares.{digit_dead, dead_there}
 use Rattle.ca_run.proofs.leaper.from_aged_grid.AgedGridSquareGrid.is_blank_between.Goals as goal
 

@@ -1,6 +1,6 @@
 use Rattle.std.proofs.Common.{◌≡◌, ℕ, ◌*◌, ◌<◌, ◌≤◌}
 use Rattle.std.specs.Prelude.{ℤ, pos, ◌+ℤ◌}
-use Rattle.ca_bricks.specs.Aged.{AgedGridShows, dying_digit}
+use Rattle.ca_bricks.specs.Prelude.{AgedGridShows, dying_digit}
 use Rattle.ca_run.proofs.leaper.from_aged_grid.AgedGridSquareGrid.is_blank_between.Given as goal
 
 -- no plane of digits so far has a bit there

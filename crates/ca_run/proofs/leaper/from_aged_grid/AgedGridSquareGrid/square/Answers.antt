@@ -1,4 +1,4 @@
-use Rattle.ca_plane.specs.Ageing.{liveness}
+use Rattle.ca_plane.specs.Prelude.{liveness}
 use Rattle.ca_run.proofs.leaper.from_aged_grid.AgedGridSquareGrid.square.Goals as goal
 
 pub returns-then-is_without_dying-clause-shows : goal.returns-then-is_without_dying-clause-shows
