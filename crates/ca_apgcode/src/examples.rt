@@ -1,7 +1,6 @@
 //! Worked examples of the definitions.
 
-ghost use Rattle.std.specs.Prelude.{ℕ, List, [], ◌∷◌, codes};
-ghost use Rattle.ca_apgcode.specs.Grids.{GridCells};
+ghost use Rattle.std.specs.Prelude.{[], ◌∷◌, codes};
 ghost use Rattle.ca_apgcode.specs.Representation.{IsCode};
 
 /// The codes of well known patterns. Their cells are written as columns from the west, each of them a binary

@@ -3,7 +3,7 @@
 ghost use Rattle.std.specs.Prelude.{◌≡◌, ◌*◌, ◌/◌, ◌+◌, ◌<◌, ◌≤◌, ◌==◌, [], ◌∷◌, IfOk, OnOk, if◌then◌else◌};
 ghost use Rattle.ca_plane.specs.Prelude.{Puts};
 ghost use Rattle.ca_apgcode.specs.Grids.{cell};
-ghost use Rattle.ca_apgcode.specs.Representation.{IsRepresentation, IsStep, digit, gap_text, step_text};
+ghost use Rattle.ca_apgcode.specs.Representation.{IsRepresentation, digit, gap_text, step_text};
 ghost use Rattle.ca_apgcode.specs.inner.Puts.{PutsStrip};
 
 use crate::grid::Grid;

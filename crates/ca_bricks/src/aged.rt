@@ -1,6 +1,6 @@
 //! Grids of cells that age before they are dead.
 
-ghost use Rattle.std.specs.Prelude.{◌≡◌, ℕ, ◌+◌, ◌*◌, ◌-◌, ◌<◌, ◌≤◌, ◌^◌, [], length, get_or, IfOk, OnOk};
+ghost use Rattle.std.specs.Prelude.{◌≡◌, ℕ, ◌+◌, ◌-◌, ◌<◌, ◌≤◌, ◌^◌, [], length, get_or, IfOk, OnOk};
 ghost use Rattle.ca_bricks.specs.Aged.{AreBeside, AreAlike, IsBeside, IsBlankAged, IsBlankRoundAged, HasBlankEdges};
 ghost use Rattle.ca_bricks.specs.Bricks.{AllHaveNeighbours, HasNeighbours, IsBlank, IsNotIn, QueueGrows};
 

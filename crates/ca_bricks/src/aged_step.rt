@@ -1,6 +1,6 @@
 //! One generation of a grid of cells that age, where bricks that rest are left as they are.
 
-ghost use Rattle.std.specs.Prelude.{◌≡◌, ◌+◌, ◌-◌, ◌*◌, ◌<◌, ◌%◌, ℕ, [], max, min, length, slice_index, slice_set};
+ghost use Rattle.std.specs.Prelude.{◌≡◌, ◌+◌, ◌-◌, ◌<◌, ◌%◌, ℕ, [], max, min, length, slice_index, slice_set};
 ghost use Rattle.std.specs.Prelude.{get_or, OnOk, if◌then◌else◌};
 ghost use Rattle.std.specs.List.{All};
 ghost use Rattle.std.specs.Int.{bit_at};

@@ -1,11 +1,11 @@
 //! Tiles one generation on by a decision diagram, all cells at once.
 
-ghost use Rattle.std.specs.Prelude.{◌≡◌, ◌<◌, ◌+◌, ℕ, suc, [], get_or, ◌==◌, if◌then◌else◌, IfOk};
+ghost use Rattle.std.specs.Prelude.{◌≡◌, ◌<◌, ℕ, suc, [], get_or, IfOk};
 ghost use Rattle.ca_plane.specs.Prelude.{row_cells};
 ghost use Rattle.ca_bricks.specs.Tiles.{nine_at};
 ghost use Rattle.ca_bricks.specs.CellRules.{IsTileNext};
 ghost use Rattle.ca_bricks.specs.declared.cell_rule.CellRule.TheVariants.{ByDiagram};
-ghost use Rattle.ca_bricks.specs.Diagrams.{node_state, diagram_next};
+ghost use Rattle.ca_bricks.specs.Diagrams.{node_state};
 ghost use Rattle.ca_bricks.specs.inner.Planes.{cells_at, tile_planes};
 
 use crate::diagram::{Diagram, Node};

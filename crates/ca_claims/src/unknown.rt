@@ -1,8 +1,6 @@
 //! The rules that a text's patterns name and that aren't known.
 
-ghost use Rattle.std.specs.Prelude.{◌≡◌, ◌≢◌, ◌↔◌, ℕ, ◌<◌, List, [], length, IsTrue, IfOk, OnOk, OnErr, MatchOption};
-ghost use Rattle.ca_rule.specs.Prelude.{IsRuleFault};
-ghost use Rattle.ca_rule.specs.declared.fault.RuleFault.TheVariants as rule_fault;
+ghost use Rattle.std.specs.Prelude.{◌≡◌, ◌≢◌, ℕ, ◌<◌, List, [], length, IfOk, OnOk, OnErr, MatchOption};
 ghost use Rattle.ca_rule.specs.declared.table.fault.TableFault.TheVariants as table_fault;
 ghost use Rattle.ca_answers.specs.Prelude.{contents};
 ghost use Rattle.ca_pattern.specs.Prelude.{MayWantMemory};
@@ -12,7 +10,7 @@ ghost use Rattle.ca_claims.specs.inner.Unknown.{AreAskedBefore, AddsAsked};
 use ca_pattern::{File, rule_text_of};
 use ca_plane::Memory;
 use ca_quad::Store;
-use ca_rule::{RuleFault, Table, TableFault, resolve};
+use ca_rule::{Table, TableFault, names_no_rule};
 use ca_text::{Claims, WordSet};
 use ca_verify::look_up;
 use std::alloc::Global;
@@ -93,21 +91,8 @@ fn unknown_rule(alloc: Global, bytes: &[u8], tables: &[Table]) -> Result<Option<
     let Some(text) = found else {
         return Ok(None);
     };
-    if is_unknown(&text, tables) {
+    if names_no_rule(&text, tables) {
         return Ok(Some(text));
     }
     Ok(None)
-}
-
-/// Whether the text names no rule, neither one of its own nor one of these tables.
-fn is_unknown(text: &[u8], tables: &[Table]) -> bool
-    ensures { IsTrue result ↔ IsRuleFault text.now tables.now rule_fault.Unknown }
-{
-    match resolve(text, tables) {
-        Ok(_) => false,
-        Err(fault) => match fault {
-            RuleFault::Unknown => true,
-            _ => false,
-        },
-    }
 }

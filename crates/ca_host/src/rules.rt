@@ -1,8 +1,7 @@
 //! The rule files of a run, and those that are looked for in a folder by the name of a rule.
 
-ghost use Rattle.std.specs.Prelude.{◌≡◌, ◌⊎◌, [], ◌∷◌, ◌++◌, IfOk, IfErr, IfSome, OnOk, OnErr, IsTrue, ◌↔◌, vec_len};
-ghost use Rattle.ca_rule.specs.Prelude.{IsRuleFault, IsTableTextFault};
-ghost use Rattle.ca_rule.specs.declared.fault.RuleFault.TheVariants as rule_fault;
+ghost use Rattle.std.specs.Prelude.{◌≡◌, ◌⊎◌, [], ◌∷◌, ◌++◌, IfOk, IfErr, IfSome, OnOk, OnErr, vec_len};
+ghost use Rattle.ca_rule.specs.Prelude.{IsTableTextFault};
 ghost use Rattle.ca_rule.specs.declared.table.fault.TableFault.TheVariants as table_fault;
 ghost use Rattle.ca_host.specs.RuleFiles.{IsNamedTable, AddsTableOf, AddsPath, AddsTableNamed, AddsTableFor};
 ghost use Rattle.ca_host.specs.RuleFiles.{IsBadTable, IsUnknownRuleOf};
@@ -12,7 +11,7 @@ use crate::files::{FaultyFile, LoadedFile, load_rule_file};
 use ca_pattern::rule_text_of;
 use ca_plane::Memory;
 use ca_report::ToolFault;
-use ca_rule::{RuleFault, Table, TableFault, resolve};
+use ca_rule::{Table, TableFault, names_no_rule};
 use std::alloc::Global;
 use std::rt::Files;
 
@@ -123,7 +122,7 @@ impl RuleFiles {
         let Some(text) = rule_text_of(alloc, pattern)? else {
             return Ok(None);
         };
-        if is_unknown(&text, &self.tables) {
+        if names_no_rule(&text, &self.tables) {
             return Ok(Some(text));
         }
         Ok(None)
@@ -165,18 +164,5 @@ impl RuleFiles {
             return Err(Memory);
         }
         Ok(())
-    }
-}
-
-// Whether the text names no rule, neither one of its own notation nor one of these tables.
-fn is_unknown(text: &[u8], tables: &[Table]) -> bool
-    ensures { IsTrue result ↔ IsRuleFault text.now tables.now rule_fault.Unknown }
-{
-    match resolve(text, tables) {
-        Ok(_) => false,
-        Err(fault) => match fault {
-            RuleFault::Unknown => true,
-            _ => false,
-        },
     }
 }

@@ -1,6 +1,6 @@
 //! The code of a plane that was identified.
 
-ghost use Rattle.std.specs.Prelude.{◌≡◌, ◌≤◌, ◌-◌, IfOk, MatchOption};
+ghost use Rattle.std.specs.Prelude.{◌≤◌, ◌-◌, IfOk, MatchOption};
 ghost use Rattle.ca_plane.specs.Prelude.{Picture, cells_after, longest_period};
 ghost use Rattle.ca_quad.specs.Prelude.{cell};
 ghost use Rattle.ca_run.specs.Prelude.{LeaperGrows};

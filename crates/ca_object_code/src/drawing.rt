@@ -2,7 +2,6 @@
 
 ghost use Rattle.std.specs.Prelude.{◌≡◌, ◌≢◌, ◌≤◌, ℤ, pos, ◌+ℤ◌, ◌<ℤ◌, ◌≤ℤ◌, IfOk};
 ghost use Rattle.ca_plane.specs.Prelude.{cell};
-ghost use Rattle.ca_apgcode.specs.Prelude.{IsGrid};
 ghost use Rattle.ca_object_code.specs.inner.Drawn.{IsInWindow, FitsWindow, PutsCell, IsDrawn};
 
 use ca_apgcode::{Grid, MOST_SIDE};

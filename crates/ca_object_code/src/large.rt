@@ -1,6 +1,6 @@
 //! Objects that are too large for any of their phases to fit into 40 by 40 cells.
 
-ghost use Rattle.std.specs.Prelude.{◌≡◌, ◌≤◌, ◌+◌, ◌-◌, ◌*◌, ◌≤ℤ◌, pos, ◌+ℤ◌, IsTrue};
+ghost use Rattle.std.specs.Prelude.{◌≤◌, ◌+◌, ◌-◌, ◌*◌, ◌≤ℤ◌, pos, ◌+ℤ◌, IsTrue};
 ghost use Rattle.ca_plane.specs.Prelude.{longest_period};
 ghost use Rattle.ca_pattern.specs.Prelude.{IsWideBox, IsWide};
 ghost use Rattle.ca_object_code.specs.inner.Large.{IsTooLarge};

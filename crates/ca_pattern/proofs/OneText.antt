@@ -43,11 +43,6 @@ module _ (p q : Picture) (same : IsSame p q) where
   }
   tidy_as Mc text rule_text generation states tidy = tidy_shown (cell p) (cell q) same text rule_text generation states tidy
 
--- the bounds of a picture are those of one that shows the same
-pub match_shown : (p q : Picture) → IsSame p q → (found : Option Bounds) → MatchOption found (IsLive p → ⊥) (IsLeastBox p) → MatchOption found (IsLive q → ⊥) (IsLeastBox q)
-match_shown p q same None dead = λ live. dead (live.0, live.1, λ e. live.2 (sym (same live.0 live.1) ∙ e))
-match_shown p q same (Some box) least = box_shown p q same box least
-
 -- a picture has one tidy text in each format
 pub one_tidy_as : (format : Format) (t u : List ℕ) (p : Picture) (rule_text : List ℕ) (generation states : ℕ) → IsTidyAs format t p rule_text generation states
     → IsTidyAs format u p rule_text generation states → t ≡ u

@@ -20,8 +20,6 @@ use Rattle.ca_pattern.specs.Prelude.{AreCells, IsTreeOf, HasSmallStates}
 use Rattle.ca_pattern.proofs.CellsNearMiddle.{range_held, trimmed_low}
 use Rattle.ca_pattern.proofs.EqualCells.{population_shown}
 use Rattle.ca_pattern.proofs.LaterPlanes.{range_shown}
-use Rattle.ca_pattern.proofs.OneText.{match_shown}
-use Rattle.ca_pattern.proofs.RleFiles.{text_population}
 
 -- they show one state at every x and y
 pub one_cells : (cells : Cells) (f g : ℤ → ℤ → ℕ) → AreCells cells f → AreCells cells g → (x y : ℤ) → f x y ≡ g x y
@@ -47,14 +45,6 @@ module _ (bytes : List ℕ) (text : RleText) (is : IsRleText bytes text) where
     pub text_in_range : AreInRange f
     text_in_range = range_shown (cell (picture_of_items is.file.corner is.file.items)) f (λ x y. sym (text_cells x y) ∙ shows x y)
         (cells_in_range (picture_of_items is.file.corner is.file.items) is.within.0.cells)
-
-    -- so many are live
-    pub cells_population : HasPopulation f text.cells
-    cells_population = population_shown (cell (picture_of_items text.corner is.file.items)) f shows text.cells (text_population bytes text is)
-
-    -- in this box
-    pub cells_bounds : (picture : Picture) → ((x y : ℤ) → f x y ≡ cell picture x y) → MatchOption text.bounds (IsLive picture → ⊥) (IsLeastBox picture)
-    cells_bounds picture same = match_shown (picture_of_items text.corner is.file.items) picture (λ x y. shows x y ∙ same x y) text.bounds (text_bounds bytes text is)
 
     -- and the greatest state is one of theirs
     pub greatest_small : (rule : RuleValue) → 2 ≤ states_of rule → HasSmallStates rule f → text.greatest < states_of rule

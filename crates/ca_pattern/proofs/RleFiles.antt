@@ -50,7 +50,3 @@ module _ (bytes : List ℕ) (text : RleText) (is : IsRleText bytes text) where
   text_large rule some high =
       let (x, y, shown) = is.greatest (omega (arith, some, high)) in
       (x, y, omega (arith, shown, high))
-
-  -- the number of its live cells, and their bounds
-  pub text_population : HasPopulation (cell (picture_of_items text.corner is.file.items)) text.cells
-  text_population = subst (λ (at : Point). HasPopulation (cell (picture_of_items at is.file.items)) text.cells) (sym is.corner) is.population

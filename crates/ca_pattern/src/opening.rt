@@ -1,6 +1,6 @@
 //! Pattern files that are opened.
 
-ghost use Rattle.std.specs.Prelude.{◌≡◌, ◌≤◌, ℕ, ℤ, IfOk, IfErr};
+ghost use Rattle.std.specs.Prelude.{◌≡◌, ℕ, ℤ, IfOk, IfErr};
 ghost use Rattle.ca_macro.specs.Prelude.{AreInRange};
 ghost use Rattle.ca_pattern.specs.declared.format.Format.TheVariants.{Rle};
 ghost use Rattle.ca_pattern.specs.Evolved.{IsPatternAfter};

@@ -19,7 +19,6 @@ use Rattle.ca_report.specs.declared.form.Form.TheVariants.{Text, Picture}
 use Rattle.ca_report.specs.declared.form.TextForm.TheVariants as forms
 use Rattle.ca_pattern_runs.specs.Prelude.{IsRunDetailOf, HasRunDetail, IsPictureOf, IsCaptionOf, HasNoWindow, IsDrawnAfter, IsCaptionAfter, IsTextFault, IsFormFaultAfter, reported}
 use Rattle.ca_draw.specs.Prelude.{IsBoxShown}
-use Rattle.ca_pattern_runs.proofs.OfFiles.{pattern_not_write}
 use Rattle.ca_pattern_runs.specs.inner.Refusals.{IsUndrawn, IsUndrawnAfter}
 
 -- ---- cells that are the same everywhere

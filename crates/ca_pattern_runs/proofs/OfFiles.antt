@@ -43,19 +43,6 @@ pub convert_not_write : (IsFault : ConvertFault → Type 0) (told : ToolFault) �
 convert_not_write IsFault Write none = absurd none
 convert_not_write IsFault told tells = λ is. cc
 
-reported_not_write : (refused : LocatedFault) → (reported refused).fault ≢ Write
-reported_not_write (Unread bad) = λ e. cc
-reported_not_write (UnnamedRule unnamed) = λ e. cc
-reported_not_write located.StateTooLarge = λ e. cc
-reported_not_write located.TooManyCells = λ e. cc
-reported_not_write located.GenTooLarge = λ e. cc
-reported_not_write located.Work = λ e. cc
-reported_not_write located.Range = λ e. cc
-reported_not_write located.Memory = λ e. cc
-
-pub pattern_not_write : (IsFault : LocatedFault → Type 0) (told : ToolFault) → TellsPattern IsFault told → told ≢ Write
-pattern_not_write IsFault told (refused, is, same) = λ write. reported_not_write refused (sym same ∙ write)
-
 -- a run that tells a fault, and writes nothing
 pub told_only : {W : Type 0} (contents : W → Option (List ℕ)) (output : Counted W) (rule : Option (List ℕ)) (IsText : List TableRule → List ℕ → Type 0)
     (IsFault : List TableRule → ToolFault → Type 0) (told : ToolFault) → told ≢ Write → IsBytesFault rule IsFault told → WritesUnder contents output output rule IsText IsFault (Err told)

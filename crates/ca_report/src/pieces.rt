@@ -1,6 +1,6 @@
 //! Texts in pieces, which are sent or pushed one after another. The pieces themselves take no memory.
 
-ghost use Rattle.std.specs.Prelude.{◌≡◌, ◌++◌, OnOk};
+ghost use Rattle.std.specs.Prelude.{◌++◌, OnOk};
 ghost use Rattle.ca_plane.specs.Prelude.{Puts};
 ghost use Rattle.ca_report.specs.Writing.{Sends};
 ghost use Rattle.ca_report.specs.Pieces.{piece_text, pieces_text};

@@ -12,7 +12,6 @@ pub use Rattle.ca_rule.specs.Spelling.{IsSpellingFault, suffix_of, printed_bs_ru
 pub use Rattle.ca_rule.specs.TableOrders.{orders, every_order, picks, ring, ring_size, forward_order}
 pub use Rattle.ca_rule.specs.TableNext.{TableRule, table_next, States, Transition, admits, SlotCell, is_variable, take_one_cell, fits, next_by, variable_states, IsSoundTable, result_state}
 pub use Rattle.ca_rule.specs.TableNext.{cells_in_order, outcome, taken_cell}
-pub use Rattle.ca_rule.specs.TableExamples.{file_with, file_of, one_neighbour, a}
 pub use Rattle.ca_rule.specs.TableLines.{rule_named, begins_with, tail_after, begins_variable, comma_parts, fields_between, is_field, is_name, IsVariableLine, IsTransitionLine, content_of}
 pub use Rattle.ca_rule.specs.TableLines.{says_something, lines_said, NumberedLine, setting, setting_words, is_setting, begins_section, is_name_byte, fields_of, last_line, rule_name, begins_table}
 pub use Rattle.ca_rule.specs.TableLines.{value_of, states_set, neighbourhood_set, symmetry_set}

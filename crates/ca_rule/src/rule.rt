@@ -2,6 +2,7 @@
 
 ghost use Rattle.std.specs.Prelude.{◌≡◌, ◌↔◌, None, Some, IsTrue, IfOk, IfErr, MatchOption, IfSome};
 ghost use Rattle.ca_plane.specs.Prelude.{IsWord, GoesByAgeing, GoesByCounting, IsMoore};
+ghost use Rattle.ca_rule.specs.declared.fault.RuleFault.TheVariants.{Unknown};
 ghost use Rattle.ca_rule.specs.Rule.{rule_value, first_named, NamesRule, IsRuleFault, printed_form, IsSameRule};
 
 use crate::bs_rule::BsRule;
@@ -47,6 +48,20 @@ pub fn resolve<'t>(text: &[u8], tables: &'t [Table]) -> Result<Rule<'t>, RuleFau
         return Err(RuleFault::Unknown);
     };
     Ok(Rule::Tab(table))
+}
+
+/// Whether the text names no rule, neither one of its own notation nor one of these tables: another table may have that
+/// name.
+pub fn names_no_rule(text: &[u8], tables: &[Table]) -> bool
+    ensures { IsTrue result ↔ IsRuleFault text.now tables.now Unknown }
+{
+    match resolve(text, tables) {
+        Ok(_) => false,
+        Err(fault) => match fault {
+            RuleFault::Unknown => true,
+            _ => false,
+        },
+    }
 }
 
 /// The first of the tables of this name.

@@ -21,6 +21,35 @@ ghost use Rattle.ca_rule.specs.declared.table.neighbourhood.Symmetry.TheVariants
 
 use crate::gen_rule::GenRule;
 
+/// The printed form of a Generations rule names that rule.
+pub fn generations_names_itself(rule: &GenRule)
+    ensures { NamesGenerationsRule (printed_form (Gen rule.now)) rule.now }
+{
+    let _ = rule.survival.places();
+    let _ = rule.birth.places();
+}
+
+/// Two Generations rules are printed alike exactly where they are equal.
+pub fn generations_alike(a: &GenRule, b: &GenRule)
+    ensures { (printed_form (Gen a.now) ≡ printed_form (Gen b.now)) ↔ IsSameRule (Gen a.now) (Gen b.now) }
+{
+    generations_names_itself(a);
+    generations_names_itself(b);
+}
+
+/// Two Generations rules have as many states, and every cell of such states is next the same under both,
+/// exactly where they are equal.
+pub fn generations_do_alike(a: &GenRule, b: &GenRule)
+    ensures { ((a.now.states ≡ b.now.states)
+        × ((nine : List ℕ) → length nine ≡ 9 → All (λ s. s < a.now.states) nine
+        → next_of (Gen a.now) nine ≡ next_of (Gen b.now) nine)) ↔ IsSameRule (Gen a.now) (Gen b.now) }
+{
+    let _ = a.survival.places();
+    let _ = a.birth.places();
+    let _ = b.survival.places();
+    let _ = b.birth.places();
+}
+
 /// A text names one rule at most among tables, or has one fault, and not both. The printed form of a rule
 /// that it names names that rule too. Two rules that are named among the same tables are the same only where
 /// they are equal.
@@ -101,35 +130,6 @@ pub fn two_states_do_as_bs()
     ensures { (survival birth : Counts) (nine : List ℕ) → length nine ≡ 9 → All (λ s. s < 2) nine
         → generations_next survival birth 2 nine ≡ bs_next Moore birth survival nine }
 {}
-
-/// The printed form of a Generations rule names that rule.
-pub fn generations_names_itself(rule: &GenRule)
-    ensures { NamesGenerationsRule (printed_form (Gen rule.now)) rule.now }
-{
-    let _ = rule.survival.places();
-    let _ = rule.birth.places();
-}
-
-/// Two Generations rules are printed alike exactly where they are equal.
-pub fn generations_alike(a: &GenRule, b: &GenRule)
-    ensures { (printed_form (Gen a.now) ≡ printed_form (Gen b.now)) ↔ IsSameRule (Gen a.now) (Gen b.now) }
-{
-    generations_names_itself(a);
-    generations_names_itself(b);
-}
-
-/// Two Generations rules have as many states, and every cell of such states is next the same under both,
-/// exactly where they are equal.
-pub fn generations_do_alike(a: &GenRule, b: &GenRule)
-    ensures { ((a.now.states ≡ b.now.states)
-        × ((nine : List ℕ) → length nine ≡ 9 → All (λ s. s < a.now.states) nine
-        → next_of (Gen a.now) nine ≡ next_of (Gen b.now) nine)) ↔ IsSameRule (Gen a.now) (Gen b.now) }
-{
-    let _ = a.survival.places();
-    let _ = a.birth.places();
-    let _ = b.survival.places();
-    let _ = b.birth.places();
-}
 
 /// Some texts that name Generations rules, and printed ones.
 pub fn worked_generations()

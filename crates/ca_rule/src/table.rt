@@ -69,7 +69,7 @@ impl Model for Table {
 }
 
 impl Table {
-    ghost use Rattle.std.specs.Prelude.{◌≡◌, ◌≢◌, ◌≤◌, true, replicate, IfOk, IfErr};
+    ghost use Rattle.std.specs.Prelude.{◌≡◌, ◌≤◌, true, replicate, IfOk, IfErr};
     ghost use Rattle.std.specs.List.{list_all};
     ghost use Rattle.ca_plane.specs.Prelude.{IsWord};
     ghost use Rattle.ca_rule.specs.TableNext.{Transition as TransitionValue, table_next};

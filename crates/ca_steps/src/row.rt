@@ -1,6 +1,6 @@
 //! One row of a window, and the cells of a plane that are still to come there.
 
-ghost use Rattle.std.specs.Prelude.{◌≡◌, ◌≢◌, ℤ, pos, negsuc, ◌+ℤ◌, ◌≤ℤ◌, [], ◌∷◌, IsTrue, IsFalse, IfSome};
+ghost use Rattle.std.specs.Prelude.{◌≡◌, ◌≢◌, pos, negsuc, ◌+ℤ◌, ◌≤ℤ◌, [], ◌∷◌, IsTrue, IsFalse, IfSome};
 ghost use Rattle.ca_plane.specs.Prelude.{cell, IsInPlane, IsSparse};
 ghost use Rattle.ca_steps.specs.inner.Order.{NoneBefore, IsFirstOrNone};
 ghost use Rattle.ca_steps.specs.inner.CellsAhead.{IsWithout};

@@ -1,6 +1,6 @@
 //! What a line of a claim text says, by its words.
 
-ghost use Rattle.std.specs.Prelude.{◌≡◌, ◌<◌, ℕ, List, [], ◌∷◌, not, length, codes};
+ghost use Rattle.std.specs.Prelude.{◌≡◌, ◌<◌, List, [], ◌∷◌, not, length, codes};
 ghost use Rattle.ca_plane.specs.Prelude.{Every, is_line_end, words_of};
 ghost use Rattle.ca_text.specs.Text.{ClaimTextLine, is_skipped};
 ghost use Rattle.ca_text.specs.inner.Reading.{IsKind, IsVersionAfter};

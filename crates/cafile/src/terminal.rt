@@ -1,6 +1,6 @@
 //! The terminal that a picture is drawn on.
 
-ghost use Rattle.std.specs.Prelude.{◌≡◌, ◌<◌, ℕ, min, max, MatchOption};
+ghost use Rattle.std.specs.Prelude.{◌≡◌, ◌<◌, ℕ, MatchOption};
 ghost use Rattle.cafile.specs.Terminals.{IsCountText, terminal_side, room_in, room_for, size_on};
 
 use ca_draw::{ImageFormat, MOST_SIDE, Size, View};

@@ -1,6 +1,6 @@
 //! Grids that are turned and reflected.
 
-ghost use Rattle.std.specs.Prelude.{◌≡◌, ℕ, ℤ, ◌-◌, ◌<◌, ◌≤◌, ◌^◌, length, IfOk, OnOk, reverse, ◌++◌, ◌∷◌, []};
+ghost use Rattle.std.specs.Prelude.{◌≡◌, ℕ, ℤ, ◌-◌, ◌<◌, ◌≤◌, ◌^◌, length, IfOk, reverse, []};
 ghost use Rattle.std.specs.Int.{bit_at};
 ghost use Rattle.ca_apgcode.specs.Grids.{cell};
 ghost use Rattle.ca_apgcode.specs.Objects.{IsBoxRound};

@@ -23,7 +23,6 @@ pub(crate) struct TransitionIndex {
 
 impl Model for TransitionIndex {
     ghost use Rattle.std.specs.Prelude.{◌≡◌, ℕ, List, length};
-    ghost use Rattle.std.specs.List.{All};
 
     ghost Value = { List (List ℕ) };
 

@@ -1,6 +1,6 @@
 //! When a pattern is there again before a claim's generations are over.
 
-ghost use Rattle.std.specs.Prelude.{◌≡◌, ◌-◌, ◌≤◌, ℤ, ◌-ℤ◌, IfOk, MatchOption};
+ghost use Rattle.std.specs.Prelude.{◌≡◌, ◌-◌, ◌≤◌, ℤ, IfOk, MatchOption};
 ghost use Rattle.ca_plane.specs.Prelude.{Picture, shifted, IsAfter, most_generations};
 ghost use Rattle.ca_quad.specs.Prelude.{cell};
 ghost use Rattle.ca_run.specs.Prelude.{LeaperGrows};

@@ -5,7 +5,8 @@ use Rattle.ca_rule.specs.declared.table.neighbourhood.Neighbourhood.TheVariants.
 use Rattle.ca_rule.specs.declared.table.neighbourhood.Symmetry.TheVariants.{Rotate4}
 use Rattle.ca_rule.specs.declared.table.slot.Slot.TheVariants.{Number}
 use Rattle.ca_rule.specs.Prelude.{NumberedLine, lines_said, begins_variable, is_field, fields_between, IsVariableLine, IsTransitionLine, TableRule, HasTable, are_settings, Settings, SaidStatements}
-use Rattle.ca_rule.specs.Prelude.{no_statements, SaysVariable, SaysTransition, table_from, IsTable, HaveEnd, file_with, file_of, one_neighbour, a}
+use Rattle.ca_rule.specs.Prelude.{no_statements, SaysVariable, SaysTransition, table_from, IsTable, HaveEnd}
+use Rattle.ca_rule.specs.TableExamples.{file_with, file_of, one_neighbour, a}
 use Rattle.ca_rule.proofs.table.laws.worked_texts.Goals as goal
 
 -- the line of a variable `a`, with a blank after `var`
