@@ -1,12 +1,16 @@
 -- A list of kinds without letters has the kinds whose numbers of live neighbours are its digits.
-use Rattle.std.proofs.Common.{◌≡◌, ℕ, zero, suc, ◌+◌, ◌<◌, List, [], ◌∷◌, map, Bool, true, false, ◌==◌, ◌&&◌, ◌||◌, nat_le, Option, refl, sym, ap, ◌∙◌, arith, slice_index, if◌then◌else◌}
+use Rattle.std.proofs.Common.{◌≡◌, ℕ, ◌+◌, ◌<◌, List, [], ◌∷◌, map, Bool, true, false, ◌==◌, ◌&&◌, ◌||◌, nat_lt, Option, refl, sym, ap, ◌∙◌, arith, slice_index, if◌then◌else◌}
 use Rattle.std.specs.List.{list_all, list_any}
 use Rattle.std.proofs.lemmas.Bool.{and_parts}
 use Rattle.std.proofs.lemmas.Bool.Decides.{nat_tests}
 use Rattle.ca_plane.specs.Prelude.{Every, is_digit, with_front}
-use Rattle.ca_plane.proofs.Fronts.{every_wider}
 use Rattle.ca_rule.specs.Prelude.{is_count, has_digit, counts_of, are_digits_up_to}
+use Rattle.ca_rule.specs.declared.hood.Hood.TheVariants.{Moore}
+use Rattle.ca_rule.proofs.PrintedRules.{below_nine}
+use Rattle.ca_rule.proofs.ReadInwards.{digits-of}
 use Rattle.ca_isotropic.specs.Prelude.{live_neighbours, letter_of, parts, part_has, has_kind, isotropic_next, AreNineCells, counted_next}
+use Rattle.ca_isotropic.specs.inner.WrittenTables.{neighbourhoods}
+use Rattle.ca_isotropic.proofs.Neighbourhoods.{each}
 
 digit-parts : (ds : List ℕ) → Every is_digit ds → parts ds ≡ map (λ d. d ∷ []) ds
 digit-parts [] all = refl
@@ -25,35 +29,18 @@ digit-among n kind [] = refl
 digit-among n kind (d ∷ ds) = ap (λ v. v || list_any (part_has n kind) (map (λ d. d ∷ []) ds)) (and-true (d == 48 + n)) ∙ ap (λ v. (d == 48 + n) || v) (digit-among n kind ds)
 
 count-read : (ds : List ℕ) (n : ℕ) → n < 9 → is_count (counts_of ds) n ≡ has_digit ds n
-count-read ds zero h = refl
-count-read ds (suc zero) h = refl
-count-read ds (suc (suc zero)) h = refl
-count-read ds (suc (suc (suc zero))) h = refl
-count-read ds (suc (suc (suc (suc zero)))) h = refl
-count-read ds (suc (suc (suc (suc (suc zero))))) h = refl
-count-read ds (suc (suc (suc (suc (suc (suc zero)))))) h = refl
-count-read ds (suc (suc (suc (suc (suc (suc (suc zero))))))) h = refl
-count-read ds (suc (suc (suc (suc (suc (suc (suc (suc zero)))))))) h = refl
-count-read ds (suc (suc (suc (suc (suc (suc (suc (suc (suc n))))))))) h = absurd (omega arith)
+count-read ds = below_nine (λ n. is_count (counts_of ds) n ≡ has_digit ds n) (refl, refl, refl, refl, refl, refl, refl, refl, refl)
+
+few-each : list_all (λ m. nat_lt (live_neighbours m) 9) (neighbourhoods 512) ≡ true
+unfolding neighbourhoods
+few-each = refl
 
 few-neighbours : (nine : List ℕ) → AreNineCells nine → live_neighbours nine < 9
-few-neighbours nine are =
-    let a : slice_index nine 0 < 2 = are.two_states 0 0 (omega (arith, are.nine_cells)) in
-    let b : slice_index nine 1 < 2 = are.two_states 1 0 (omega (arith, are.nine_cells)) in
-    let c : slice_index nine 2 < 2 = are.two_states 2 0 (omega (arith, are.nine_cells)) in
-    let d : slice_index nine 3 < 2 = are.two_states 3 0 (omega (arith, are.nine_cells)) in
-    let e : slice_index nine 5 < 2 = are.two_states 5 0 (omega (arith, are.nine_cells)) in
-    let f : slice_index nine 6 < 2 = are.two_states 6 0 (omega (arith, are.nine_cells)) in
-    let g : slice_index nine 7 < 2 = are.two_states 7 0 (omega (arith, are.nine_cells)) in
-    let h : slice_index nine 8 < 2 = are.two_states 8 0 (omega (arith, are.nine_cells)) in
-    omega arith
-
-digits-only : (ds : List ℕ) → are_digits_up_to 8 ds ≡ true → Every is_digit ds
-digits-only ds all = every_wider (λ d. nat_le 48 d && nat_le d 56) is_digit (λ d t. grind (arith, nat_tests)) ds all
+few-neighbours nine are = let t = each (λ m. nat_lt (live_neighbours m) 9) few-each nine are in grind (arith, nat_tests)
 
 kinds-counted : (ds nine : List ℕ) → are_digits_up_to 8 ds ≡ true → AreNineCells nine → has_kind ds nine ≡ is_count (counts_of ds) (live_neighbours nine)
 kinds-counted ds nine all are =
-    ap (list_any (part_has (live_neighbours nine) (letter_of nine))) (digit-parts ds (digits-only ds all))
+    ap (list_any (part_has (live_neighbours nine) (letter_of nine))) (digit-parts ds (digits-of Moore ds all))
     ∙ digit-among (live_neighbours nine) (letter_of nine) ds ∙ sym (count-read ds (live_neighbours nine) (few-neighbours nine are))
 
 -- the next state by whether the centre is born or survives

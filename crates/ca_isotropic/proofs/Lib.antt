@@ -4,10 +4,10 @@ pub mod ListBytes
 pub mod KindTexts
 pub mod Parts
 pub mod Names
+pub mod TransitionLines
+pub mod VariableLines
+pub mod TransitionNext
 pub mod WrittenFiles
-pub mod GenerationsLines
-pub mod GenerationsNext
-pub mod GenerationsFiles
 pub mod Maps
 pub mod PutTexts
 pub mod Neighbourhoods

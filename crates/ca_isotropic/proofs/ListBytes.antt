@@ -1,18 +1,19 @@
--- The bytes of lists of kinds: none of them ends a list, is a blank or a `#`, or ends a line.
-use Rattle.std.proofs.Common.{◌≡◌, ℕ, ◌+◌, ◌-◌, List, [], ◌∷◌, length, Bool, true, false, not, ◌==◌, ◌&&◌, nat_le, refl, ap, ◌∙◌, inl, inr, arith, if◌then◌else◌}
+-- The bytes of lists of kinds: each may stand in a list, and none of them is a blank or a `#`, or ends a line.
+use Rattle.std.proofs.Common.{◌≡◌, ℕ, ◌+◌, ◌-◌, List, [], ◌∷◌, length, Bool, true, false, ◌==◌, ◌&&◌, nat_le, refl, ap, ◌∙◌, inl, inr, arith, if◌then◌else◌}
 use Rattle.std.specs.List.{list_all, list_any}
 use Rattle.std.proofs.lemmas.Bool.{cases_Bool, and_parts, and_from, or_cases, false≢true}
 use Rattle.std.proofs.lemmas.Bool.Decides.{nat_tests}
-use Rattle.ca_plane.specs.Prelude.{Every, is_digit, is_end_or, with_front}
+use Rattle.ca_plane.specs.Prelude.{Every, is_digit, is_end_or}
 use Rattle.ca_plane.proofs.Fronts.{every_wider}
+use Rattle.ca_rule.specs.Prelude.{stands_in_list}
+use Rattle.ca_rule.proofs.OneSpelling.{with_front-every}
 use Rattle.ca_isotropic.specs.declared.kinds.Kind.{Kind}
 use Rattle.ca_isotropic.specs.Prelude.{kinds_of_one, kinds_of_two, kinds_of_three, kinds_of_four, kinds_with, is_letter, lettered_kinds, has_letter, are_letters, is_part, parts, is_kind_list}
-use Rattle.ca_isotropic.specs.inner.KindTexts.{ends_list}
 use Rattle.ca_isotropic.proofs.TextBytes.{is_text_byte}
 
 -- a byte that may be in a list of kinds
 abbrev pub is_list_byte : ℕ → Bool
-is_list_byte b = not (ends_list b) && is_text_byte b
+is_list_byte b = stands_in_list b && is_text_byte b
 
 -- ---- letters
 
@@ -72,13 +73,6 @@ part-stands (d ∷ letters) is =
     let digit = and_parts (nat_le 48 d) (nat_le d 56) both.0 in
     and_from (is_list_byte d) (list_all is_list_byte letters) (digit-stands d digit.0 digit.1) (after-digit (d - 48) letters both.1)
 
-with-front-stands : (b : ℕ) (ps : List (List ℕ)) → list_all (list_all is_list_byte) (with_front b ps) ≡ true → (is_list_byte b ≡ true) × (list_all (list_all is_list_byte) ps ≡ true)
-with-front-stands b [] all = ((and_parts (is_list_byte b) true (and_parts (is_list_byte b && true) true all).0).0, refl)
-with-front-stands b (p ∷ ps) all =
-    let one = and_parts (is_list_byte b && list_all is_list_byte p) (list_all (list_all is_list_byte) ps) all in
-    let two = and_parts (is_list_byte b) (list_all is_list_byte p) one.0 in
-    (two.0, and_from (list_all is_list_byte p) (list_all (list_all is_list_byte) ps) two.1 one.1)
-
 parts-stand : (list : List ℕ) → list_all (list_all is_list_byte) (parts list) ≡ true → list_all is_list_byte list ≡ true
 parts-stand [] all = refl
 parts-stand (b ∷ bs) all = elim (cases_Bool (is_end_or is_digit bs)) [
@@ -88,7 +82,7 @@ parts-stand (b ∷ bs) all = elim (cases_Bool (is_end_or is_digit bs)) [
       and_from (is_list_byte b) (list_all is_list_byte bs) (and_parts (is_list_byte b) true both.0).0 (parts-stand bs both.1)
   | inr t ↦
       let k = rw t at all in
-      let both = with-front-stands b (parts bs) k in
+      let both = with_front-every is_list_byte b (parts bs) k in
       and_from (is_list_byte b) (list_all is_list_byte bs) both.0 (parts-stand bs both.1)
 ]
 
@@ -98,11 +92,12 @@ all-parts (p ∷ ps) all =
     let both = and_parts (is_part p) (list_all is_part ps) all in
     and_from (list_all is_list_byte p) (list_all (list_all is_list_byte) ps) (part-stands p both.0) (all-parts ps both.1)
 
-pub list-bytes : (list : List ℕ) → is_kind_list list ≡ true → Every is_list_byte list
+list-bytes : (list : List ℕ) → is_kind_list list ≡ true → Every is_list_byte list
 list-bytes list is = parts-stand list (all-parts (parts list) is)
 
-pub ends-none : (list : List ℕ) → Every is_list_byte list → Every (λ b. not (ends_list b)) list
-ends-none list all = every_wider is_list_byte (λ b. not (ends_list b)) (λ b h. (and_parts (not (ends_list b)) (is_text_byte b) h).0) list all
+-- a list of kinds may stand in a text
+pub listed-kinds : (list : List ℕ) → is_kind_list list ≡ true → Every stands_in_list list
+listed-kinds list is = every_wider is_list_byte stands_in_list (λ b h. (and_parts (stands_in_list b) (is_text_byte b) h).0) list (list-bytes list is)
 
-pub text-list : (list : List ℕ) → Every is_list_byte list → Every is_text_byte list
-text-list list all = every_wider is_list_byte is_text_byte (λ b h. (and_parts (not (ends_list b)) (is_text_byte b) h).1) list all
+pub text-kinds : (list : List ℕ) → is_kind_list list ≡ true → Every is_text_byte list
+text-kinds list is = every_wider is_list_byte is_text_byte (λ b h. (and_parts (stands_in_list b) (is_text_byte b) h).1) list (list-bytes list is)

@@ -1,118 +1,262 @@
 -- A file that is written has the table's name and states, and the next cells of its rule.
-use Rattle.std.proofs.Common.{◌≡◌, ℕ, zero, suc, ◌+◌, ◌/◌, ◌%◌, ◌<◌, List, [], ◌∷◌, ◌++◌, length, map, filter, Bool, true, false, not, ◌==◌, replicate, refl, sym, ap, subst, ◌∙◌, inl, inr, arith, All, zero-add, append_assoc, lit<, lit≤, if◌then◌else◌, slice_index}
+use Rattle.std.proofs.Common.{◌≡◌, ℕ, zero, suc, ◌+◌, ◌-◌, ◌<◌, ◌≤◌, List, [], ◌∷◌, ◌++◌, length, map, filter, Bool, true, false, ◌==◌, replicate, decimal, refl, sym, ap, subst, ◌∙◌, inl, inr, arith, All, zero-add, append_assoc, lit<, lit≤, if◌then◌else◌, slice_index, true≢false}
 use Rattle.std.specs.List.{range_with_len, AllByRecursion}
 use Rattle.std.proofs.lemmas.Bool.{cases_Bool}
-use Rattle.std.proofs.lemmas.Grind.{flat_map-append}
+use Rattle.std.proofs.lemmas.Bool.Decides.{nat_tests}
+use Rattle.std.proofs.lemmas.Fmt.{decimal_digit}
 use Rattle.std.proofs.lemmas.List.{map-append, append-nil}
-use Rattle.std.proofs.lemmas.List.Elements.{All-from_recursion, All-replicate}
-use Rattle.std.proofs.lemmas.List.FromFn.{filter_of_map_range_with_len_more}
-use Rattle.ca_plane.specs.Prelude.{text_of, Puts}
-use Rattle.ca_rule.specs.Prelude.{TableRule, table_next, IsTable, table_from}
+use Rattle.std.proofs.lemmas.List.Elements.{All-replicate}
+use Rattle.std.proofs.lemmas.List.FromFn.{map-range_with_len_more}
+use Rattle.ca_plane.specs.Prelude.{liveness, older, text_of, Puts}
+use Rattle.ca_rule.specs.Prelude.{is_count, generations_next, TableRule, table_next, IsTable, table_from}
+use Rattle.ca_rule.specs.declared.{counts.Counts.Counts, table.slot.Slot.Slot}
+use Rattle.ca_rule.specs.declared.table.slot.Slot.TheVariants.{Number, Variable}
+use Rattle.ca_rule.proofs.GenerationsAlike.{liveness-below}
 use Rattle.ca_isotropic.specs.Prelude.{IsTableName, WritesRule}
-use Rattle.ca_isotropic.specs.inner.WrittenTables.{head_lines, inputs_of, transition_lines, lines_by, neighbourhood, neighbourhoods, changes}
-use Rattle.ca_isotropic.proofs.WrittenTables.{AreBits, IsInput, transition, written_settings, said_of, is-table}
-use Rattle.ca_isotropic.proofs.WrittenNext.{next-written, all-held, all-nine}
+use Rattle.ca_isotropic.specs.inner.WrittenTables.{head_lines, ring_of, inputs_of, neighbour_byte, neighbour_bytes, transition_line, transition_lines, neighbourhoods, changes}
+use Rattle.ca_isotropic.specs.inner.GenerationsTables.{listed_states, variable_line, variable_lines, dying_line, dying_lines}
+use Rattle.ca_isotropic.proofs.PutTexts.{text-both, put-more, all-append}
+use Rattle.ca_isotropic.proofs.WrittenTables.{joined, joined-more, slot_text, Written, written_line, written_transition, settings_of, said_of, IsWritable, IsGood}
+use Rattle.ca_isotropic.proofs.WrittenNext.{spread, IsOfBits, all-of-bits}
+use Rattle.ca_isotropic.proofs.TransitionLines.{kept}
+use Rattle.ca_isotropic.proofs.VariableLines.{said_variables, variables_of, letter-writable, is-written-table}
+use Rattle.ca_isotropic.proofs.TransitionNext.{AreBelow, neighbour_slot, neighbour_slots, shown, live_written, dying_written, next-written, next-shown, dying-older}
 
--- ---- the inputs are cells of two states
+-- ---- the lines of transitions are those of their slots
 
-digit-low : (n weight : ℕ) → n / weight % 2 < 2
-digit-low n weight = omega arith
+dead-text : (lettered : Bool) (v : ℕ) → slot_text (if lettered then Variable v else Number 0) ≡ (if lettered then 97 + v else 48) ∷ []
+dead-text true v = refl
+dead-text false v = decimal_digit 0 (omega arith)
 
-bits-of : (n : ℕ) → AreBits (neighbourhood n)
-bits-of n = (digit-low n 256, (digit-low n 128, (digit-low n 64, (digit-low n 32, (digit-low n 16, (digit-low n 8, (digit-low n 4, (digit-low n 2, (digit-low n 1, tt)))))))))
+neighbour-text : (lettered : Bool) (v c : ℕ) → slot_text (neighbour_slot lettered v c) ≡ neighbour_byte lettered (97 + v) c ∷ []
+neighbour-text lettered v c =
+    let slot = λ (x : Bool). slot_text (if x then (if lettered then Variable v else Number 0) else Number 1) in
+    let byte = λ (x : Bool). (if x then (if lettered then 97 + v else 48) else 49) ∷ [] in
+    elim (cases_Bool (c == 0)) [
+      | inl t ↦ ap slot t ∙ dead-text lettered v ∙ ap byte (sym t)
+      | inr t ↦ ap slot t ∙ decimal_digit 1 (omega arith) ∙ ap byte (sym t)
+    ]
 
-pub inputs-bits : (n : ℕ) → AreBits (inputs_of (neighbourhood n))
-inputs-bits n = (digit-low n 16, (digit-low n 128, (digit-low n 64, (digit-low n 8, (digit-low n 1, (digit-low n 2, (digit-low n 4, (digit-low n 32, (digit-low n 256, tt)))))))))
+ring-text : (lettered : Bool) (v : ℕ) (cells last : List ℕ) → joined (map slot_text (neighbour_slots lettered v cells)) last ≡ neighbour_bytes lettered (97 + v) cells ++ last
+ring-text lettered v [] last = refl
+ring-text lettered v (c ∷ cs) last =
+    let letter : 97 + (v + 1) ≡ 97 + v + 1 = omega arith in
+    joined-more (slot_text (neighbour_slot lettered v c)) (map slot_text (neighbour_slots lettered (v + 1) cs)) last
+    ∙ ap (λ f. f ++ 44 ∷ joined (map slot_text (neighbour_slots lettered (v + 1) cs)) last) (neighbour-text lettered v c)
+    ∙ ap (λ l. neighbour_byte lettered (97 + v) c ∷ 44 ∷ l) (ring-text lettered (v + 1) cs last ∙ ap (λ b. neighbour_bytes lettered b cs ++ last) letter)
 
-pub kept : {X : Type 0} (P : X → Type 0) (test : X → Bool) (xs : List X) → AllByRecursion P xs → AllByRecursion P (filter test xs)
-kept P test [] all = tt
-kept P test (x ∷ xs) all = elim (cases_Bool (test x)) [
-  | inl t ↦ subst (λ v. AllByRecursion P (if v then x ∷ filter test xs else filter test xs)) (sym t) (all.0, kept P test xs all.1)
-  | inr t ↦ subst (λ v. AllByRecursion P (if v then x ∷ filter test xs else filter test xs)) (sym t) (kept P test xs all.1)
-]
+live-text : (lettered : Bool) (m : List ℕ) (result : ℕ) → written_line (live_written lettered m result) ≡ transition_line lettered m result
+live-text lettered m result =
+    joined-more (decimal (slice_index m 4)) (map slot_text (neighbour_slots lettered 0 (ring_of m))) (decimal result)
+    ∙ ap (λ l. decimal (slice_index m 4) ++ 44 ∷ l) (ring-text lettered 0 (ring_of m) (decimal result))
+
+live-texts : (lettered : Bool) (next : List ℕ → ℕ) (ms : List (List ℕ)) → map written_line (map (λ m. live_written lettered m (next m)) ms) ≡ map (λ m. transition_line lettered m (next m)) ms
+live-texts lettered next [] = refl
+live-texts lettered next (m ∷ ms) = ap (λ l. l ∷ map written_line (map (λ m. live_written lettered m (next m)) ms)) (live-text lettered m (next m)) ∙ ap (λ ls. transition_line lettered m (next m) ∷ ls) (live-texts lettered next ms)
+
+dying-text : (states state : ℕ) → written_line (dying_written states state) ≡ dying_line states state
+dying-text states state = joined-more (decimal state) (map slot_text (map Variable (range_with_len 8 8))) (decimal (older states state))
+
+dying-texts : (states : ℕ) (ss : List ℕ) → map written_line (map (dying_written states) ss) ≡ map (dying_line states) ss
+dying-texts states [] = refl
+dying-texts states (s ∷ ss) = ap (λ l. l ∷ map written_line (map (dying_written states) ss)) (dying-text states s) ∙ ap (λ ls. dying_line states s ∷ ls) (dying-texts states ss)
+
+-- ---- the transitions can be written
+
+older-low : (states state : ℕ) → 2 ≤ states → older states state < states
+older-low states state low = grind (arith, nat_tests)
+
+module _ (states : ℕ) (low : 2 ≤ states) (high : states ≤ 256) where
+  -- in a file with variables or without
+  abbrev CanStand : Bool → Slot → Type 0
+  CanStand lettered = IsWritable states low high (said_variables states low high lettered)
+
+  abbrev IsGoodHere : Bool → Written → Type 0
+  IsGoodHere lettered = IsGood states low high (said_variables states low high lettered)
+
+  dead-good : (lettered : Bool) (v : ℕ) → v < 16 → CanStand lettered (if lettered then Variable v else Number 0)
+  dead-good true v few = letter-writable states low high v few
+  dead-good false v few = omega arith
+
+  slots-good : (lettered : Bool) (v : ℕ) (cells : List ℕ) → v + length cells ≤ 16 → AllByRecursion (CanStand lettered) (neighbour_slots lettered v cells)
+  slots-good lettered v [] few = tt
+  slots-good lettered v (c ∷ cs) few =
+      let here : v < 16 = omega arith in
+      let later : v + 1 + length cs ≤ 16 = omega arith in
+      let one : 1 < states = omega arith in (
+        elim (cases_Bool (c == 0)) [
+          | inl t ↦ subst (λ x. CanStand lettered (if x then (if lettered then Variable v else Number 0) else Number 1)) (sym t) (dead-good lettered v here)
+          | inr t ↦ subst (λ x. CanStand lettered (if x then (if lettered then Variable v else Number 0) else Number 1)) (sym t) one
+        ],
+        slots-good lettered (v + 1) cs later,
+      )
+
+  any-good : (from count : ℕ) → from + count ≤ 16 → AllByRecursion (CanStand true) (map Variable (range_with_len from count))
+  any-good from zero few = tt
+  any-good from (suc count) few = (letter-writable states low high from (omega arith), any-good (from + 1) count (omega arith))
+
+  all-live-good : (lettered : Bool) (next : List ℕ → ℕ) (ms : List (List ℕ)) → AllByRecursion (λ m. IsOfBits m × (next m < states)) ms → AllByRecursion (IsGoodHere lettered) (map (λ m. live_written lettered m (next m)) ms)
+  all-live-good lettered next [] all = tt
+  all-live-good lettered next (m ∷ ms) all =
+      let bit = all.0.0.1.0 in
+      (record { centre_low = omega (arith, bit); slots = slots-good lettered 0 (ring_of m) (lit≤ tt); eight = refl; result_low = all.0.1 }, all-live-good lettered next ms all.1)
+
+  all-dying-good : (from count : ℕ) → from + count ≤ states → AllByRecursion (IsGoodHere true) (map (dying_written states) (range_with_len from count))
+  all-dying-good from zero few = tt
+  all-dying-good from (suc count) few = (
+    record { centre_low = omega arith; slots = any-good 8 8 (lit≤ tt); eight = refl; result_low = older-low states from low },
+    all-dying-good (from + 1) count (omega arith),
+  )
+
+  dying-good : (lettered : Bool) → (lettered ≡ false → states ≡ 2) → AllByRecursion (IsGoodHere lettered) (map (dying_written states) (range_with_len 2 (states - 2)))
+  dying-good true two = all-dying-good 2 (states - 2) (omega arith)
+  dying-good false two = subst (λ n. AllByRecursion (IsGoodHere false) (map (dying_written states) (range_with_len 2 (n - 2)))) (sym (two refl)) tt
 
 -- ---- the table
 
--- a rule of two states that leaves the empty plane empty
-pub record IsOfTwoStates (next : List ℕ → ℕ) : Type 0 where
-  pub closed : (nine : List ℕ) → length nine ≡ 9 → All (λ s. s < 2) nine → next nine < 2
+-- a rule that a file with variables, or for two states, can write: it goes by which neighbours are live, and dying cells age
+pub record IsFileRule (lettered : Bool) (states : ℕ) (next : List ℕ → ℕ) : Type 0 where
+  pub two : lettered ≡ false → states ≡ 2
+  pub closed : (nine : List ℕ) → length nine ≡ 9 → All (λ s. s < states) nine → next nine < states
   pub quiet : next (replicate 9 0) ≡ 0
+  pub shown_is : (nine : List ℕ) → length nine ≡ 9 → All (λ s. s < states) nine → next (shown nine) ≡ next nine
+  pub dying_is : (nine : List ℕ) → 2 ≤ slice_index nine 4 → slice_index nine 4 < states → next nine ≡ older states (slice_index nine 4)
 
-module _ (next : List ℕ → ℕ) (two : IsOfTwoStates next) where
-  all-inputs : (from count : ℕ) → AllByRecursion (λ nine. IsInput (inputs_of nine) (next nine)) (map neighbourhood (range_with_len from count))
-  all-inputs from zero = tt
-  all-inputs from (suc count) = (
-    record {
-      bits = inputs-bits from;
-      low = two.closed (neighbourhood from) refl (All-from_recursion (λ s. s < 2) (neighbourhood from) (bits-of from));
-      nine = refl;
-    },
-    all-inputs (from + 1) count,
-  )
+module _ (states : ℕ) (low : 2 ≤ states) (high : states ≤ 256) (lettered : Bool) (next : List ℕ → ℕ) (rule : IsFileRule lettered states next) where
+  abbrev changed : List (List ℕ)
+  changed = filter (changes next) (neighbourhoods 512)
+
+  -- the transitions that are written
+  abbrev writtens : List Written
+  writtens = map (λ m. live_written lettered m (next m)) changed ++ map (dying_written states) (range_with_len 2 (states - 2))
+
+  inputs-closed : (ms : List (List ℕ)) → AllByRecursion IsOfBits ms → AllByRecursion (λ m. IsOfBits m × (next m < states)) ms
+  inputs-closed [] all = tt
+  inputs-closed (m ∷ ms) all =
+      let bits = all.0.2 in
+      ((all.0, rule.closed m all.0.0 (λ k d within. let bit = bits k d within in omega arith)), inputs-closed ms all.1)
+
+  all-good : AllByRecursion (IsGoodHere states low high lettered) writtens
+  all-good =
+      all-append (IsGoodHere states low high lettered) (map (λ m. live_written lettered m (next m)) changed) (map (dying_written states) (range_with_len 2 (states - 2)))
+      (all-live-good states low high lettered next changed (inputs-closed changed (kept IsOfBits (changes next) (neighbourhoods 512) (all-of-bits 512)))) (dying-good states low high lettered rule.two)
+
+  lines-written : map written_line writtens ≡ transition_lines lettered next 512 ++ dying_lines states (states - 2)
+  lines-written =
+      map-append written_line (map (λ m. live_written lettered m (next m)) changed) (map (dying_written states) (range_with_len 2 (states - 2)))
+      ∙ ap (λ ls. ls ++ map written_line (map (dying_written states) (range_with_len 2 (states - 2)))) (live-texts lettered next changed)
+      ∙ ap (λ ls. transition_lines lettered next 512 ++ ls) (dying-texts states (range_with_len 2 (states - 2)))
 
   -- the table that is written under a name
-  abbrev pub written : List ℕ → TableRule
-  written name = table_from name written_settings (said_of (map (λ nine. transition (inputs_of nine) (next nine)) (filter (changes next) (neighbourhoods 512))))
+  abbrev written : List ℕ → TableRule
+  written name = table_from name (settings_of states) (said_of (said_variables states low high lettered) (map written_transition writtens))
 
-  inputs-all : AllByRecursion (λ nine. IsInput (inputs_of nine) (next nine)) (neighbourhoods 512)
-  unfolding neighbourhoods
-  inputs-all = all-inputs 0 512
+  inputs-below : (nine : List ℕ) → length nine ≡ 9 → All (λ s. s < states) nine → AreBelow states (inputs_of nine)
+  inputs-below nine long all =
+      let cell : (k : ℕ) → k < 9 → slice_index nine k < states = λ k h. all k 0 (omega arith) in
+      (cell 4 (lit< tt), (cell 1 (lit< tt), (cell 2 (lit< tt), (cell 5 (lit< tt), (cell 8 (lit< tt), (cell 7 (lit< tt), (cell 6 (lit< tt), (cell 3 (lit< tt), (cell 0 (lit< tt), tt)))))))))
 
-  goes-on : (name nine : List ℕ) → length nine ≡ 9 → All (λ s. s < 2) nine → table_next (written name) nine ≡ next nine
-  goes-on name nine long bits = next-written next nine long (neighbourhoods 512) (all-nine 512) (inr (all-held nine long bits))
+  goes-on : (name nine : List ℕ) → length nine ≡ 9 → All (λ s. s < states) nine → table_next (written name) nine ≡ next nine
+  goes-on name nine long all =
+      let below = inputs-below nine long all in
+      next-written states low high lettered rule.two next nine below (rule.shown_is nine long all) (λ dying. rule.dying_is nine dying below.0)
 
-  nine-zeros : All (λ s. s < 2) (replicate 9 0)
-  nine-zeros = All-replicate (λ s. s < 2) 9 0 (lit< tt)
+  nine-zeros : All (λ s. s < states) (replicate 9 0)
+  nine-zeros = All-replicate (λ s. s < states) 9 0 (omega arith)
 
-  pub writes : (name file : List ℕ) → IsTableName name → file ≡ text_of (head_lines name) ++ text_of (transition_lines next 512) → WritesRule name 2 next file
-  writes name file is e = record {
+  abbrev whole_text : List ℕ → List ℕ
+  whole_text name = ((text_of (head_lines name states) ++ text_of (variables_of states low high lettered)) ++ text_of (transition_lines lettered next 512)) ++ text_of (dying_lines states (states - 2))
+
+  text-is : (name : List ℕ) → whole_text name ≡ text_of (head_lines name states ++ (variables_of states low high lettered ++ map written_line writtens))
+  text-is name =
+      let head = head_lines name states in
+      let vars = variables_of states low high lettered in
+      let live = transition_lines lettered next 512 in
+      let dying = dying_lines states (states - 2) in
+      append_assoc (text_of head ++ text_of vars) (text_of live) (text_of dying)
+      ∙ append_assoc (text_of head) (text_of vars) (text_of live ++ text_of dying)
+      ∙ ap (λ l. text_of head ++ (text_of vars ++ l)) (text-both live dying ∙ ap text_of (sym lines-written))
+      ∙ ap (λ l. text_of head ++ l) (text-both vars (map written_line writtens))
+      ∙ text-both head (vars ++ map written_line writtens)
+
+  writes-file : (name file : List ℕ) → IsTableName name → file ≡ whole_text name → WritesRule name states next file
+  writes-file name file is e = record {
     table = written name;
-    is_table = subst (λ f. IsTable f (written name)) (sym (e ∙ sym (flat_map-append (λ line. line ++ 10 ∷ []) (head_lines name) (transition_lines next 512))))
-        (is-table inputs_of next name (filter (changes next) (neighbourhoods 512)) is (kept (λ nine. IsInput (inputs_of nine) (next nine)) (changes next) (neighbourhoods 512) inputs-all));
+    is_table = subst (λ f. IsTable f (written name)) (sym (e ∙ text-is name)) (is-written-table states low high lettered name writtens is all-good);
     sound = record {
-      low = lit≤ tt;
-      high = lit≤ tt;
-      closed = λ nine long bits. subst (λ s. s < 2) (sym (goes-on name nine long bits)) (two.closed nine long bits);
-      quiet = goes-on name (replicate 9 0) refl nine-zeros ∙ two.quiet;
+      low = low;
+      high = high;
+      closed = λ nine long all. subst (λ s. s < states) (sym (goes-on name nine long all)) (rule.closed nine long all);
+      quiet = goes-on name (replicate 9 0) refl nine-zeros ∙ rule.quiet;
     };
     named = refl;
     states_are = refl;
     next_is = goes-on name;
   }
 
--- ---- one neighbourhood more
+-- ---- the rules of the family
 
--- the lines of no neighbourhoods
-pub no-lines : (line : List ℕ → ℕ → List ℕ) (next : List ℕ → ℕ) → lines_by line next 0 ≡ []
-unfolding neighbourhoods
-no-lines line next = refl
+pub writes : (survival birth : Counts) (states : ℕ) (low : 2 ≤ states) (high : states ≤ 256) → is_count birth 0 ≡ false → (name file : List ℕ) → IsTableName name
+    → file ≡ ((text_of (head_lines name states) ++ text_of (variable_lines states 16)) ++ text_of (transition_lines true (generations_next survival birth states) 512)) ++ text_of (dying_lines states (states - 2))
+    → WritesRule name states (generations_next survival birth states) file
+writes survival birth states low high stays_empty = writes-file states low high true (generations_next survival birth states) (record {
+  two = λ e. absurd (true≢false e);
+  closed = λ nine long all. grind (arith, nat_tests);
+  quiet = ap (λ v. if v then 1 else 0) stays_empty;
+  shown_is = λ nine long all. next-shown survival birth states nine long;
+  dying_is = λ nine dying below. dying-older survival birth states nine dying;
+})
 
--- its line is put, or it is left out
-module _ (line : List ℕ → ℕ → List ℕ) (next : List ℕ → ℕ) (count : ℕ) (old now : List ℕ) (before : Puts old now (text_of (lines_by line next count))) where
-  abbrev line_for : List ℕ → List ℕ
-  line_for nine = line nine (next nine)
+-- ---- rules of two states
 
-  more : (changed : Bool) → changes next (neighbourhood count) ≡ changed → lines_by line next (count + 1) ≡ lines_by line next count ++ map line_for (if changed then neighbourhood count ∷ [] else [])
-  unfolding neighbourhoods
-  more changed e =
-      ap (map line_for) (filter_of_map_range_with_len_more (changes next) neighbourhood 0 count count (zero-add count))
-      ∙ map-append line_for (filter (changes next) (neighbourhoods count)) (if changes next (neighbourhood count) then neighbourhood count ∷ [] else [])
-      ∙ ap (λ v. lines_by line next count ++ map line_for (if v then neighbourhood count ∷ [] else [])) e
+-- a rule of two states that leaves the empty plane empty
+pub record IsOfTwoStates (next : List ℕ → ℕ) : Type 0 where
+  pub closed : (nine : List ℕ) → length nine ≡ 9 → All (λ s. s < 2) nine → next nine < 2
+  pub quiet : next (replicate 9 0) ≡ 0
 
-  text-more : (changed : Bool) → changes next (neighbourhood count) ≡ changed → text_of (lines_by line next (count + 1)) ≡ text_of (lines_by line next count) ++ text_of (map line_for (if changed then neighbourhood count ∷ [] else []))
-  text-more changed e = ap text_of (more changed e) ∙ flat_map-append (λ line. line ++ 10 ∷ []) (lines_by line next count) (map line_for (if changed then neighbourhood count ∷ [] else []))
+two-shown : (nine : List ℕ) → length nine ≡ 9 → All (λ s. s < 2) nine → shown nine ≡ nine
+two-shown nine long bits =
+    let live : (k : ℕ) → k < 9 → liveness (slice_index nine k) ≡ slice_index nine k = λ k low. liveness-below (slice_index nine k) (bits k 0 (omega arith)) in
+    (λ t. live 0 (lit< tt) t ∷ live 1 (lit< tt) t ∷ live 2 (lit< tt) t ∷ live 3 (lit< tt) t ∷ slice_index nine 4 ∷ live 5 (lit< tt) t ∷ live 6 (lit< tt) t ∷ live 7 (lit< tt) t ∷ live 8 (lit< tt) t ∷ [])
+    ∙ sym (spread nine long)
 
-  pub one-more : (new nine : List ℕ) (result : ℕ) → nine ≡ neighbourhood count → result ≡ next nine → (result == slice_index nine 4) ≡ false → Puts now new (text_of (line nine result ∷ [])) → Puts old new (text_of (lines_by line next (count + 1)))
-  one-more new nine result is becomes differs put =
-      let same : line nine result ≡ line_for (neighbourhood count) = ap (line nine) becomes ∙ ap line_for is in
-      let t : changes next (neighbourhood count) ≡ true = ap (changes next) (sym is) ∙ ap (λ r. not (r == slice_index nine 4)) (sym becomes) ∙ ap not differs in
-      record {
-        whole = put.whole ∙ ap (λ l. now ++ text_of (l ∷ [])) same ∙ ap (λ l. l ++ text_of (line_for (neighbourhood count) ∷ [])) before.whole
-            ∙ append_assoc old (text_of (lines_by line next count)) (text_of (line_for (neighbourhood count) ∷ []))
-            ∙ ap (λ l. old ++ l) (sym (text-more true t));
-      }
+pub writes-two : (next : List ℕ → ℕ) → IsOfTwoStates next → (name file : List ℕ) → IsTableName name → file ≡ text_of (head_lines name 2) ++ text_of (transition_lines false next 512) → WritesRule name 2 next file
+writes-two next rule name file is e =
+    let head = text_of (head_lines name 2) in
+    let live = text_of (transition_lines false next 512) in
+    writes-file 2 (lit≤ tt) (lit≤ tt) false next (record {
+      two = λ none. refl;
+      closed = rule.closed;
+      quiet = rule.quiet;
+      shown_is = λ nine long bits. ap next (two-shown nine long bits);
+      dying_is = λ nine dying below. absurd (omega arith);
+    }) name file is (e ∙ ap (λ l. l ++ live) (sym (append-nil head)) ∙ sym (append-nil ((head ++ []) ++ live)))
 
-  pub none-more : (nine : List ℕ) (result : ℕ) → nine ≡ neighbourhood count → result ≡ next nine → (result == slice_index nine 4) ≡ true → Puts old now (text_of (lines_by line next (count + 1)))
-  none-more nine result is becomes stays =
-      let t : changes next (neighbourhood count) ≡ false = ap (changes next) (sym is) ∙ ap (λ r. not (r == slice_index nine 4)) (sym becomes) ∙ ap not stays in
-      record { whole = before.whole ∙ ap (λ l. old ++ l) (sym (text-more false t ∙ append-nil (text_of (lines_by line next count)))) }
+-- ---- one line more
+
+pub variable-more : (states count : ℕ) (old now new : List ℕ) → Puts old now (text_of (variable_lines states count)) → Puts now new (variable_line states count ++ 10 ∷ []) → Puts old new (text_of (variable_lines states (count + 1)))
+variable-more states count old now new = put-more old now new (variable_lines states count) (variable_lines states (count + 1)) (variable_line states count) (map-range_with_len_more (variable_line states) 0 count count (zero-add count))
+
+pub dying-more : (states state : ℕ) (old now new : List ℕ) → 2 ≤ state → Puts old now (text_of (dying_lines states (state - 2))) → Puts now new (dying_line states state ++ 10 ∷ []) → Puts old new (text_of (dying_lines states (state + 1 - 2)))
+dying-more states state old now new from =
+    let one : state - 2 + 1 ≡ state + 1 - 2 = omega arith in
+    put-more old now new (dying_lines states (state - 2)) (dying_lines states (state + 1 - 2)) (dying_line states state)
+    (ap (dying_lines states) (sym one) ∙ map-range_with_len_more (dying_line states) 2 (state - 2) state (omega arith))
+
+listed-more : (from count j : ℕ) → from + count ≡ j → listed_states from (suc count) ≡ listed_states from count ++ (decimal j ++ 44 ∷ [])
+listed-more from zero j e =
+    let same : from ≡ j = omega arith in
+    append-nil (decimal from ++ 44 ∷ []) ∙ ap (λ k. decimal k ++ 44 ∷ []) same
+listed-more from (suc count) j e =
+    let moved : from + 1 + count ≡ j = omega arith in
+    ap (λ l. (decimal from ++ 44 ∷ []) ++ l) (listed-more (from + 1) count j moved)
+    ∙ sym (append_assoc (decimal from ++ 44 ∷ []) (listed_states (from + 1) count) (decimal j ++ 44 ∷ []))
+
+pub state-more : (from state : ℕ) (old now new : List ℕ) → from ≤ state → Puts old now (listed_states from (state - from)) → Puts now new (decimal state ++ 44 ∷ []) → Puts old new (listed_states from (state + 1 - from))
+state-more from state old now new low before put =
+    let one : suc (state - from) ≡ state + 1 - from = omega arith in
+    let sum : from + (state - from) ≡ state = omega arith in
+    record {
+      whole = put.whole ∙ ap (λ l. l ++ (decimal state ++ 44 ∷ [])) before.whole ∙ append_assoc old (listed_states from (state - from)) (decimal state ++ 44 ∷ [])
+          ∙ ap (λ l. old ++ l) (sym (ap (listed_states from) (sym one) ∙ listed-more from (state - from) state sum));
+    }

@@ -1,40 +1,14 @@
--- A transition of nine cells fits those alone, so the written table gives each neighbourhood the next state it was written for.
-use Rattle.std.proofs.Common.{◌≡◌, ℕ, zero, suc, ◌+◌, ◌*◌, ◌/◌, ◌%◌, ◌<◌, List, [], ◌∷◌, length, map, filter, zip, Bool, true, false, ◌==◌, ◌&&◌, refl, sym, ap, ◌∙◌, inl, inr, ◌⊎◌, arith, if◌then◌else◌, slice_index, unwrap_or, Some, None, All, add-zero, zero-add, lit<}
+-- Each nine cells of two states are one of the 512 neighbourhoods. Where each neighbourhood gives its own next state to itself alone,
+-- it is given to each.
+use Rattle.std.proofs.Common.{◌≡◌, ℕ, zero, suc, ◌+◌, ◌*◌, ◌/◌, ◌%◌, ◌<◌, List, [], ◌∷◌, length, map, filter, false, refl, sym, ap, ◌∙◌, inl, inr, ◌⊎◌, arith, if◌then◌else◌, slice_index, All, add-zero, zero-add, lit<}
+use Rattle.std.proofs.lemmas.List.Elements.{All-from_recursion}
 use Rattle.std.proofs.lemmas.List.FromFn.{fill_by_all}
-use Rattle.std.specs.List.{list_all, range_with_len, AllByRecursion}
-use Rattle.std.proofs.lemmas.Bool.{cases_Bool, and_parts, and_from, false≢true}
+use Rattle.std.specs.List.{range_with_len, AllByRecursion}
+use Rattle.std.proofs.lemmas.Bool.{cases_Bool}
 use Rattle.std.proofs.lemmas.Bool.Decides.{nat_tests}
-use Rattle.ca_rule.specs.declared.table.neighbourhood.Neighbourhood.TheVariants.{Moore}
-use Rattle.ca_rule.specs.declared.table.neighbourhood.Symmetry.TheVariants.{Identity}
-use Rattle.ca_rule.specs.declared.table.slot.Slot.TheVariants.{Number}
-use Rattle.ca_rule.specs.Prelude.{SlotCell, admits, take_one_cell, fits, next_by, orders}
 use Rattle.ca_isotropic.specs.Prelude.{number_of}
 use Rattle.ca_isotropic.specs.inner.WrittenTables.{inputs_of, neighbourhood, neighbourhoods, changes}
-use Rattle.ca_isotropic.proofs.WrittenTables.{transition}
-
--- ---- which cells fit
-
--- a slot of a number takes its cell
-abbrev takes : List SlotCell → SlotCell → Bool
-takes all t = admits [] t.0 t.1 && take_one_cell all t.0 t.1
-
-same-cell : (c : ℕ) → (c == c) ≡ true
-same-cell c = grind (arith, nat_tests)
-
-fits-itself : (all : List SlotCell) (cells : List ℕ) → list_all (takes all) (zip (map Number cells) cells) ≡ true
-fits-itself all [] = refl
-fits-itself all (c ∷ cs) = and_from ((c == c) && true) (list_all (takes all) (zip (map Number cs) cs)) (and_from (c == c) true (same-cell c) refl) (fits-itself all cs)
-
-fits-only : (all : List SlotCell) (cells others : List ℕ) → length cells ≡ length others → list_all (takes all) (zip (map Number cells) others) ≡ true → cells ≡ others
-fits-only all [] [] same fit = refl
-fits-only all [] (o ∷ os) same fit = cc
-fits-only all (c ∷ cs) [] same fit = cc
-fits-only all (c ∷ cs) (o ∷ os) same fit =
-    let parts = and_parts ((o == c) && true) (list_all (takes all) (zip (map Number cs) os)) fit in
-    let test = (and_parts (o == c) true parts.0).0 in
-    let equal : c ≡ o = grind (arith, nat_tests) in
-    let more : length cs ≡ length os = omega arith in
-    ap (λ x. x ∷ cs) equal ∙ ap (λ l. o ∷ l) (fits-only all cs os more parts.1)
+use Rattle.ca_isotropic.proofs.WrittenTables.{AreBits}
 
 -- ---- nine cells by their inputs
 
@@ -46,6 +20,10 @@ pub inputs-tell : (m n : List ℕ) → length m ≡ 9 → length n ≡ 9 → inp
 inputs-tell m n lm ln e =
     let back = ap (λ l. map (slice_index l) (8 ∷ 1 ∷ 2 ∷ 7 ∷ 0 ∷ 3 ∷ 6 ∷ 5 ∷ 4 ∷ [])) e in
     spread m lm ∙ back ∙ sym (spread n ln)
+
+-- nine dead and live cells
+abbrev pub IsOfBits : List ℕ → Type 0
+IsOfBits nine = (length nine ≡ 9) × AreBits (inputs_of nine) × All (λ s. s < 2) nine
 
 -- ---- the next state
 
@@ -82,29 +60,6 @@ module _ (next : List ℕ → ℕ) (nine : List ℕ) (P : List ℕ → Type 0) (
     ]
     | inr t ↦ ap (λ v. given (if v then m ∷ filter (changes next) ms else filter (changes next) ms)) t ∙ next-given ms all.1 (passed m ms t h)
   ]
-
-module _ (next : List ℕ → ℕ) (nine : List ℕ) (long : length nine ≡ 9) where
-  -- what the transitions of these neighbourhoods give
-  abbrev given : List (List ℕ) → ℕ
-  given ms = next_by Moore [] (orders Moore Identity) nine (map (λ m. transition (inputs_of m) (next m)) ms)
-
-  -- what the transition of the first gives, else what the others give
-  first : (m : List ℕ) (ms : List (List ℕ)) → length m ≡ 9 → ((m ≡ nine) × (given (m ∷ ms) ≡ next nine)) ⊎ ((m ≡ nine → ⊥) × (given (m ∷ ms) ≡ given ms))
-  first m ms lm =
-      let all = zip (map Number (inputs_of m)) (inputs_of nine) in
-      elim (cases_Bool (fits [] all)) [
-        | inl t ↦
-            let same = inputs-tell m nine lm long (fits-only all (inputs_of m) (inputs_of nine) refl t) in
-            inl (same, ap (λ v. unwrap_or (if v then Some (next m) else None) (given ms)) t ∙ ap next same)
-        | inr t ↦ inr (
-          λ same. false≢true (sym t ∙ ap (λ l. fits [] (zip (map Number (inputs_of l)) (inputs_of nine))) same ∙ fits-itself (zip (map Number (inputs_of nine)) (inputs_of nine)) (inputs_of nine)),
-          ap (λ v. unwrap_or (if v then Some (next m) else None) (given ms)) t,
-        )
-      ]
-
-  pub next-written : (ms : List (List ℕ)) → AllByRecursion (λ m. length m ≡ 9) ms → (next nine ≡ slice_index nine 4) ⊎ Holds nine ms
-      → given (filter (changes next) ms) ≡ next nine
-  next-written = next-given next nine (λ m. length m ≡ 9) given refl first
 
 -- ---- all neighbourhoods
 
@@ -159,11 +114,20 @@ pub all-held : (nine : List ℕ) → length nine ≡ 9 → All (λ s. s < 2) nin
 unfolding neighbourhoods
 all-held nine long bits = in-range 0 512 (number_of nine) nine (number-low nine long bits) (ap neighbourhood (zero-add (number_of nine)) ∙ number-tells nine long bits)
 
--- and each of them has nine cells
-nine-in-range : (from count : ℕ) → AllByRecursion (λ m. length m ≡ 9) (map neighbourhood (range_with_len from count))
-nine-in-range from zero = tt
-nine-in-range from (suc count) = (refl, nine-in-range (from + 1) count)
+-- and each of them is of nine dead and live cells
+digit-low : (n weight : ℕ) → n / weight % 2 < 2
+digit-low n weight = omega arith
 
-pub all-nine : (count : ℕ) → AllByRecursion (λ m. length m ≡ 9) (neighbourhoods count)
+inputs-bits : (n : ℕ) → AreBits (inputs_of (neighbourhood n))
+inputs-bits n = (digit-low n 16, (digit-low n 128, (digit-low n 64, (digit-low n 8, (digit-low n 1, (digit-low n 2, (digit-low n 4, (digit-low n 32, (digit-low n 256, tt)))))))))
+
+bits-of : (n : ℕ) → AreBits (neighbourhood n)
+bits-of n = (digit-low n 256, (digit-low n 128, (digit-low n 64, (digit-low n 32, (digit-low n 16, (digit-low n 8, (digit-low n 4, (digit-low n 2, (digit-low n 1, tt)))))))))
+
+of-bits : (from count : ℕ) → AllByRecursion IsOfBits (map neighbourhood (range_with_len from count))
+of-bits from zero = tt
+of-bits from (suc count) = ((refl, inputs-bits from, All-from_recursion (λ s. s < 2) (neighbourhood from) (bits-of from)), of-bits (from + 1) count)
+
+pub all-of-bits : (count : ℕ) → AllByRecursion IsOfBits (neighbourhoods count)
 unfolding neighbourhoods
-all-nine count = nine-in-range 0 count
+all-of-bits count = of-bits 0 count

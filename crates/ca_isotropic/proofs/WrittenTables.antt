@@ -1,20 +1,25 @@
 -- The text of a written table is that of the table.
-use Rattle.std.proofs.Common.{◌≡◌, ℕ, zero, suc, ◌+◌, ◌<◌, List, [], ◌∷◌, ◌++◌, length, map, filter, Bool, true, false, not, ◌==◌, ◌&&◌, nat_le, codes, refl, sym, ap, subst, ◌∙◌, inr, append_assoc, arith, if◌then◌else◌}
-use Rattle.std.specs.List.{list_all, list_any, enumerate_from, AllByRecursion, AllZip}
-use Rattle.std.proofs.lemmas.Bool.{and_parts, and_from, not-true, false≢true}
+use Rattle.std.proofs.Common.{◌≡◌, ℕ, ◌+◌, ◌<◌, ◌≤◌, List, [], ◌∷◌, ◌++◌, length, map, filter, Bool, true, false, not, ◌==◌, ◌&&◌, nat_le, None, option_map, unwrap_or, codes, decimal, refl, sym, ap, subst, ◌∙◌, inr, append_assoc, arith, if◌then◌else◌}
+use Rattle.std.specs.List.{list_all, list_any, flat_map, enumerate_from, AllByRecursion, AllZip}
+use Rattle.std.proofs.Math.Bool.{or-true}
+use Rattle.std.proofs.lemmas.Bool.{and_parts, and_from, or_left, not-true, false≢true}
 use Rattle.std.proofs.lemmas.Bool.Decides.{nat_tests}
-use Rattle.std.proofs.lemmas.List.Folds.{list_all-append}
+use Rattle.std.proofs.lemmas.List.Folds.{list_all-append, list_any-append}
 use Rattle.std.proofs.lemmas.List.{append-nil, length-map, length-append}
-use Rattle.ca_plane.specs.Prelude.{is_blank, is_line_end, Every, front, rest, without_last_blanks, trimmed, lines_of, text_of, words_of, IsWord, is_word_byte}
-use Rattle.ca_plane.proofs.Fronts.{every_append, every_wider, front_append}
+use Rattle.ca_plane.specs.Prelude.{is_blank, is_digit, is_line_end, is_end_or, AreDigits, Every, front, rest, with_front, without_last_blanks, trimmed, lines_of, text_of, words_of, IsWord, is_word_byte}
+use Rattle.ca_plane.proofs.Decimals.{decimal_writes}
+use Rattle.ca_plane.proofs.Fronts.{every_append, every_wider, every_digit, front_append, rest_append}
 use Rattle.ca_plane.proofs.Lines.{lines_ahead, words_ahead}
 use Rattle.ca_rule.specs.declared.table.neighbourhood.Neighbourhood.TheVariants.{Moore}
 use Rattle.ca_rule.specs.declared.table.neighbourhood.Symmetry.TheVariants.{Identity}
-use Rattle.ca_rule.specs.declared.table.slot.Slot.TheVariants.{Number}
-use Rattle.ca_rule.specs.Prelude.{Transition, content_of, says_something, lines_said, rule_named, fields_between, is_field, begins_variable, IsTransitionLine, Settings, SaidStatements, StandsFor}
-use Rattle.ca_rule.specs.Prelude.{SaysTransition, LinesSay, IsTable, table_from}
+use Rattle.ca_rule.specs.declared.table.slot.Slot.{Slot}
+use Rattle.ca_rule.specs.declared.table.slot.Slot.TheVariants.{Number, Variable}
+use Rattle.ca_rule.specs.Prelude.{are_digits, state_count, States, Transition, content_of, says_something, lines_said, rule_named, begins_with, tail_after, begins_variable, comma_parts, fields_between, is_field, is_name}
+use Rattle.ca_rule.specs.Prelude.{IsTransitionLine, Settings, SaidStatements, StandsFor, SaysTransition, LinesSay, IsTable, table_from}
+use Rattle.ca_rule.proofs.GenerationsPrinted.{are_digits-of, state_count-of}
 use Rattle.ca_isotropic.specs.Prelude.{IsTableName}
-use Rattle.ca_isotropic.specs.inner.WrittenTables.{head_lines, digit_of, input_digits}
+use Rattle.ca_isotropic.specs.inner.WrittenTables.{head_lines}
+use Rattle.ca_isotropic.proofs.PutTexts.{all-append}
 
 -- ---- the lines of a text
 
@@ -81,16 +86,18 @@ keeps-end (x ∷ xs) b bs all =
 pub something-said : (b : ℕ) (bs : List ℕ) → nat_le 1 (length (b ∷ bs)) ≡ true
 something-said b bs = grind (arith, nat_tests)
 
-pub plain-said : (b : ℕ) (bs : List ℕ) → Every is_plain (b ∷ bs) → IsSaid (b ∷ bs)
-plain-said b bs all =
+trimmed-plain : (bytes : List ℕ) → Every is_plain bytes → trimmed bytes ≡ bytes
+trimmed-plain [] all = refl
+trimmed-plain (b ∷ bs) all =
     let parts = and_parts (not (is_blank b)) (list_all (λ b. not (is_blank b)) bs) (no-blanks (b ∷ bs) all) in
-    record {
-      one_line = one-line (b ∷ bs) all;
-      content = ap trimmed (front-all (λ b. not (b == 35)) (b ∷ bs) (no-comment (b ∷ bs) all))
-          ∙ ap (λ v. without_last_blanks (if v then rest is_blank bs else b ∷ bs)) (not-true (is_blank b) parts.0)
-          ∙ keeps-last (b ∷ bs) (no-blanks (b ∷ bs) all);
-      something = something-said b bs;
-    }
+    ap (λ v. without_last_blanks (if v then rest is_blank bs else b ∷ bs)) (not-true (is_blank b) parts.0) ∙ keeps-last (b ∷ bs) (no-blanks (b ∷ bs) all)
+
+pub plain-said : (b : ℕ) (bs : List ℕ) → Every is_plain (b ∷ bs) → IsSaid (b ∷ bs)
+plain-said b bs all = record {
+  one_line = one-line (b ∷ bs) all;
+  content = ap trimmed (front-all (λ b. not (b == 35)) (b ∷ bs) (no-comment (b ∷ bs) all)) ∙ trimmed-plain (b ∷ bs) all;
+  something = something-said b bs;
+}
 
 plain-name : (name : List ℕ) → Every is_word_byte name → Every (λ b. not (b == 35)) name → Every is_plain name
 plain-name [] word all = refl
@@ -114,139 +121,248 @@ rule-line-said (b ∷ bs) word all =
 pub name-said : (name : List ℕ) → IsWord name → words_of (codes "@RULE " ++ name) ≡ codes "@RULE" ∷ name ∷ []
 name-said name word = ap (λ ws. codes "@RULE" ∷ ws) (ap words_of (sym (append-nil name)) ∙ words_ahead name [] word refl)
 
--- ---- transitions
+-- ---- fields between commas
 
--- each cell is dead or live
+-- a byte of a field: a plain one, and no comma
+abbrev pub is_field_byte : ℕ → Bool
+is_field_byte b = is_plain b && not (b == 44)
+
+-- a field as it is written
+pub record IsFieldText (field : List ℕ) : Type 0 where
+  pub bytes : Every is_field_byte field
+  pub is : is_field field ≡ true
+
+-- fields, each with a comma behind it, and a last one
+abbrev pub joined : List (List ℕ) → List ℕ → List ℕ
+joined fields last = flat_map (λ field. field ++ 44 ∷ []) fields ++ last
+
+pub joined-more : (f : List ℕ) (fs : List (List ℕ)) (last : List ℕ) → joined (f ∷ fs) last ≡ f ++ 44 ∷ joined fs last
+joined-more f fs last = append_assoc (f ++ 44 ∷ []) (flat_map (λ field. field ++ 44 ∷ []) fs) last ∙ append_assoc f (44 ∷ []) (joined fs last)
+
+pub plain-field : (field : List ℕ) → Every is_field_byte field → Every is_plain field
+plain-field field all = every_wider is_field_byte is_plain (λ b h. (and_parts (is_plain b) (not (b == 44)) h).0) field all
+
+comma-part : (field more : List ℕ) → Every is_field_byte field → comma_parts (field ++ 44 ∷ more) ≡ field ∷ comma_parts more
+comma-part [] more all = refl
+comma-part (b ∷ bs) more all =
+    let parts = and_parts (is_field_byte b) (list_all is_field_byte bs) all in
+    let no = not-true (b == 44) (and_parts (is_plain b) (not (b == 44)) parts.0).1 in
+    ap (λ v. if v then [] ∷ comma_parts (bs ++ 44 ∷ more) else with_front b (comma_parts (bs ++ 44 ∷ more))) no
+    ∙ ap (with_front b) (comma-part bs more parts.1)
+
+last-part : (field : List ℕ) → Every is_field_byte field → comma_parts field ≡ field ∷ []
+last-part [] all = refl
+last-part (b ∷ bs) all =
+    let parts = and_parts (is_field_byte b) (list_all is_field_byte bs) all in
+    let no = not-true (b == 44) (and_parts (is_plain b) (not (b == 44)) parts.0).1 in
+    ap (λ v. if v then [] ∷ comma_parts bs else with_front b (comma_parts bs)) no
+    ∙ ap (with_front b) (last-part bs parts.1)
+
+pub fields-back : (fields : List (List ℕ)) (last : List ℕ) → AllByRecursion IsFieldText fields → IsFieldText last → fields_between (joined fields last) ≡ fields ++ last ∷ []
+fields-back [] last all ends = ap (map trimmed) (last-part last ends.bytes) ∙ ap (λ f. f ∷ []) (trimmed-plain last (plain-field last ends.bytes))
+fields-back (f ∷ fs) last all ends =
+    ap fields_between (joined-more f fs last)
+    ∙ ap (map trimmed) (comma-part f (joined fs last) all.0.bytes)
+    ∙ ap (λ t. t ∷ fields_between (joined fs last)) (trimmed-plain f (plain-field f all.0.bytes))
+    ∙ ap (λ l. f ∷ l) (fields-back fs last all.1 ends)
+
+pub joined-plain : (fields : List (List ℕ)) (last : List ℕ) → AllByRecursion IsFieldText fields → IsFieldText last → Every is_plain (joined fields last)
+joined-plain [] last all ends = plain-field last ends.bytes
+joined-plain (f ∷ fs) last all ends = ap (list_all is_plain) (joined-more f fs last) ∙ every_append is_plain f (44 ∷ joined fs last) (plain-field f all.0.bytes) (joined-plain fs last all.1 ends)
+
+pub are-fields : (fields : List (List ℕ)) (last : List ℕ) → AllByRecursion IsFieldText fields → IsFieldText last → list_all is_field (fields ++ last ∷ []) ≡ true
+are-fields [] last all ends = and_from (is_field last) true ends.is refl
+are-fields (f ∷ fs) last all ends = and_from (is_field f) (list_all is_field (fs ++ last ∷ [])) all.0.is (are-fields fs last all.1 ends)
+
+has-comma : (f : List ℕ) (fs : List (List ℕ)) (last : List ℕ) → list_any (λ b. b == 44) (joined (f ∷ fs) last) ≡ true
+has-comma f fs last = ap (list_any (λ b. b == 44)) (joined-more f fs last) ∙ list_any-append (λ b. b == 44) f (44 ∷ joined fs last) ∙ or-true (list_any (λ b. b == 44) f)
+
+-- ---- slots and how they are written
+
+-- a slot's field: a number's digits, or a variable's letter
+abbrev pub slot_text : Slot → List ℕ
+slot_text (Number state) = decimal state
+slot_text (Variable v) = (97 + v) ∷ []
+
+digits-of : (n : ℕ) → n < 256 + 1 → AreDigits (decimal n)
+digits-of n low = (decimal_writes n (omega arith)).0
+
+pub number-text : (n : ℕ) → n < 256 + 1 → IsFieldText (decimal n)
+number-text n low = record {
+  bytes = every_wider is_digit is_field_byte (λ b t. grind (arith, nat_tests)) (decimal n) (every_digit (decimal n) (digits-of n low));
+  is = or_left (are_digits (decimal n)) (is_name (decimal n)) (are_digits-of (decimal n) (digits-of n low));
+}
+
+-- a transition of a centre, the slots round it, and a result
+abbrev pub transition_to : ℕ → List Slot → ℕ → Transition
+transition_to centre ring result = record { inputs = Number centre ∷ ring; result = Number result }
+
+-- its line
+abbrev pub line_to : ℕ → List Slot → ℕ → List ℕ
+line_to centre ring result = joined (map slot_text (Number centre ∷ ring)) (decimal result)
+
+-- a transition that is written, by its parts
+pub record Written : Type 0 where
+  pub centre : ℕ
+  pub ring : List Slot
+  pub result : ℕ
+
+abbrev pub written_line : Written → List ℕ
+written_line w = line_to w.centre w.ring w.result
+
+abbrev pub written_transition : Written → Transition
+written_transition w = transition_to w.centre w.ring w.result
+
+-- cells of two states
 abbrev pub AreBits : List ℕ → Type 0
 AreBits cells = AllByRecursion (λ c. c < 2) cells
 
--- the field of a cell
-abbrev field_of : ℕ → List ℕ
-field_of cell = digit_of cell ∷ []
+-- ---- a table of so many states, with these variables
 
-no-more : {X : Type 0} (n : ℕ) → suc (suc n) < 2 → X
-no-more n h = absurd (omega arith)
+abbrev pub settings_of : ℕ → Settings
+settings_of states = record { states = states; neighbourhood = Moore; symmetry = Identity }
 
-parts-read : (cells : List ℕ) (result : ℕ) → AreBits cells → result < 2 → fields_between (input_digits cells ++ digit_of result ∷ []) ≡ map field_of cells ++ field_of result ∷ []
-parts-read [] zero bits low = refl
-parts-read [] (suc zero) bits low = refl
-parts-read [] (suc (suc n)) bits low = no-more n low
-parts-read (zero ∷ cs) result bits low = ap (λ l. field_of 0 ∷ l) (parts-read cs result bits.1 low)
-parts-read (suc zero ∷ cs) result bits low = ap (λ l. field_of 1 ∷ l) (parts-read cs result bits.1 low)
-parts-read (suc (suc n) ∷ cs) result bits low = no-more n bits.0
+-- what was said, after these variables and transitions
+abbrev pub said_of : List (List ℕ × States) → List Transition → SaidStatements
+said_of variables transitions = record { variables = variables; transitions = transitions }
 
-plain-digits : (cells : List ℕ) (result : ℕ) → AreBits cells → result < 2 → Every is_plain (input_digits cells ++ digit_of result ∷ [])
-plain-digits [] zero bits low = refl
-plain-digits [] (suc zero) bits low = refl
-plain-digits [] (suc (suc n)) bits low = no-more n low
-plain-digits (zero ∷ cs) result bits low = plain-digits cs result bits.1 low
-plain-digits (suc zero ∷ cs) result bits low = plain-digits cs result bits.1 low
-plain-digits (suc (suc n) ∷ cs) result bits low = no-more n bits.0
+-- a number stands for its state
+pub number-stands : (states : ℕ) → states ≤ 256 → (said : SaidStatements) (state : ℕ) → state < states → StandsFor (settings_of states) said (decimal state) (Number state)
+number-stands states high said state h = (are_digits-of (decimal state) (digits-of state (omega arith)), (decimal_writes state (omega arith)).1, h)
 
--- a table of two states, and what its transitions say
-abbrev pub written_settings : Settings
-written_settings = record { states = 2; neighbourhood = Moore; symmetry = Identity }
+module _ (states : ℕ) (low : 2 ≤ states) (high : states ≤ 256) (variables : List (List ℕ × States)) where
+  -- a slot that is written in the table: a state, or a variable that its letter stands for
+  abbrev pub IsWritable : Slot → Type 0
+  IsWritable (Number state) = state < states
+  IsWritable (Variable v) = IsFieldText ((97 + v) ∷ []) × StandsFor (settings_of states) (said_of variables []) ((97 + v) ∷ []) (Variable v)
 
-abbrev pub said_of : List Transition → SaidStatements
-said_of ts = record { variables = []; transitions = ts }
+  slot-field : (slot : Slot) → IsWritable slot → IsFieldText (slot_text slot)
+  slot-field (Number state) h = number-text state (omega arith)
+  slot-field (Variable v) h = h.0
 
--- the transition of inputs and a result
-abbrev pub transition : List ℕ → ℕ → Transition
-transition cells result = record { inputs = map Number cells; result = Number result }
+  slot-fields : (slots : List Slot) → AllByRecursion IsWritable slots → AllByRecursion IsFieldText (map slot_text slots)
+  slot-fields [] all = tt
+  slot-fields (s ∷ ss) all = (slot-field s all.0, slot-fields ss all.1)
 
-stands : (said : SaidStatements) (cell : ℕ) → cell < 2 → StandsFor written_settings said (field_of cell) (Number cell)
-stands said zero low = (refl, refl, low)
-stands said (suc zero) low = (refl, refl, low)
-stands said (suc (suc n)) low = no-more n low
+  slot-stands : (ts : List Transition) (slot : Slot) → IsWritable slot → StandsFor (settings_of states) (said_of variables ts) (slot_text slot) slot
+  slot-stands ts (Number state) h = number-stands states high (said_of variables ts) state h
+  slot-stands ts (Variable v) h = h.1
 
-all-stand : (said : SaidStatements) (cells : List ℕ) (result : ℕ) → AreBits cells → result < 2 → AllZip (StandsFor written_settings said) (map field_of cells ++ field_of result ∷ []) (map Number cells ++ Number result ∷ [])
-all-stand said [] result bits low = (stands said result low, tt)
-all-stand said (c ∷ cs) result bits low = (stands said c bits.0, all-stand said cs result bits.1 low)
+  -- ---- a transition's line
 
-are-fields : (cells : List ℕ) (result : ℕ) → AreBits cells → result < 2 → list_all is_field (map field_of cells ++ field_of result ∷ []) ≡ true
-are-fields [] zero bits low = refl
-are-fields [] (suc zero) bits low = refl
-are-fields [] (suc (suc n)) bits low = no-more n low
-are-fields (zero ∷ cs) result bits low = are-fields cs result bits.1 low
-are-fields (suc zero ∷ cs) result bits low = are-fields cs result bits.1 low
-are-fields (suc (suc n) ∷ cs) result bits low = no-more n bits.0
+  -- it can be written
+  pub record CanWrite (centre : ℕ) (ring : List Slot) (result : ℕ) : Type 0 where
+    pub centre_low : centre < states
+    pub slots : AllByRecursion IsWritable ring
+    pub eight : length ring ≡ 8
+    pub result_low : result < states
 
-no-variable : (n c : ℕ) (cs : List ℕ) (result : ℕ) → c < 2 → begins_variable (n, input_digits (c ∷ cs) ++ digit_of result ∷ []) ≡ false
-no-variable n zero cs result low = refl
-no-variable n (suc zero) cs result low = refl
-no-variable n (suc (suc m)) cs result low = no-more m low
+  digit-begins : (n b : ℕ) (bs : List ℕ) → is_digit b ≡ true → begins_variable (n, b ∷ bs) ≡ false
+  digit-begins n b bs h =
+      let e : (118 == b) ≡ false = grind (arith, nat_tests) in
+      ap (λ v. unwrap_or (option_map (begins_with is_blank) (if v then tail_after (codes "ar") bs else None)) false) e
 
-has-comma : (c : ℕ) (cs : List ℕ) (result : ℕ) → c < 2 → list_any (λ b. b == 44) (input_digits (c ∷ cs) ++ digit_of result ∷ []) ≡ true
-has-comma zero cs result low = refl
-has-comma (suc zero) cs result low = refl
-has-comma (suc (suc m)) cs result low = no-more m low
+  digits-begin : (n : ℕ) (ds more : List ℕ) → AreDigits ds → begins_variable (n, ds ++ more) ≡ false
+  digits-begin n [] more h = absurd (false≢true h)
+  digits-begin n (d ∷ ds) more h = digit-begins n d (ds ++ more) (and_parts (is_digit d) (list_all is_digit ds) h).0
 
-field-count : (cells : List ℕ) (result : ℕ) → length cells ≡ 9 → length (map field_of cells ++ field_of result ∷ []) ≡ 10
-field-count cells result nine = length-append (map field_of cells) (field_of result ∷ []) ∙ ap (λ k. k + 1) (length-map cells field_of ∙ nine)
+  all-stand : (ts : List Transition) (slots : List Slot) (result : ℕ) → AllByRecursion IsWritable slots → result < states
+      → AllZip (StandsFor (settings_of states) (said_of variables ts)) (map slot_text slots ++ decimal result ∷ []) (slots ++ Number result ∷ [])
+  all-stand ts [] result all h = (number-stands states high (said_of variables ts) result h, tt)
+  all-stand ts (s ∷ ss) result all h = (slot-stands ts s all.0, all-stand ts ss result all.1 h)
 
--- the line of nine cells is a transition of these fields
-is-transition : (n c : ℕ) (cs : List ℕ) (result : ℕ) → AreBits (c ∷ cs) → result < 2 → length (c ∷ cs) ≡ 9
-    → IsTransitionLine (n, input_digits (c ∷ cs) ++ digit_of result ∷ []) 10 (map field_of (c ∷ cs) ++ field_of result ∷ [])
-is-transition n c cs result bits low nine = record {
-  no_variable = no-variable n c cs result bits.0;
-  fields_are = ap (λ v. if v then fields_between (input_digits (c ∷ cs) ++ digit_of result ∷ []) else map (λ b. b ∷ []) (input_digits (c ∷ cs) ++ digit_of result ∷ [])) (has-comma c cs result bits.0) ∙ parts-read (c ∷ cs) result bits low;
-  are_fields = are-fields (c ∷ cs) result bits low;
-  count = field-count (c ∷ cs) result nine;
-}
+  is-transition : (n centre : ℕ) (ring : List Slot) (result : ℕ) → CanWrite centre ring result
+      → IsTransitionLine (n, line_to centre ring result) 10 (map slot_text (Number centre ∷ ring) ++ decimal result ∷ [])
+  is-transition n centre ring result can =
+      let fields = map slot_text (Number centre ∷ ring) in
+      let all = slot-fields (Number centre ∷ ring) (can.centre_low, can.slots) in
+      let last = number-text result (omega (arith, can.result_low)) in
+      let nine : length (Number centre ∷ ring) ≡ 9 = omega (arith, can.eight) in
+      record {
+        no_variable = ap (λ l. begins_variable (n, l)) (joined-more (decimal centre) (map slot_text ring) (decimal result))
+            ∙ digits-begin n (decimal centre) (44 ∷ joined (map slot_text ring) (decimal result)) (digits-of centre (omega (arith, can.centre_low)));
+        fields_are = ap (λ v. if v then fields_between (joined fields (decimal result)) else map (λ b. b ∷ []) (joined fields (decimal result))) (has-comma (decimal centre) (map slot_text ring) (decimal result))
+            ∙ fields-back fields (decimal result) all last;
+        are_fields = are-fields fields (decimal result) all last;
+        count = length-append fields (decimal result ∷ []) ∙ ap (λ k. k + 1) (length-map (Number centre ∷ ring) slot_text ∙ nine);
+      }
 
--- cells and a result, of which a transition is made
-pub record IsInput (cells : List ℕ) (result : ℕ) : Type 0 where
-  pub bits : AreBits cells
-  pub low : result < 2
-  pub nine : length cells ≡ 9
+  says-one : (ts : List Transition) (n centre : ℕ) (ring : List Slot) (result : ℕ) → CanWrite centre ring result
+      → SaysTransition (settings_of states) (said_of variables ts) (n, line_to centre ring result) (said_of variables (ts ++ transition_to centre ring result ∷ []))
+  says-one ts n centre ring result can = record {
+    fields = map slot_text (Number centre ∷ ring) ++ decimal result ∷ [];
+    inputs = Number centre ∷ ring;
+    result = Number result;
+    spelled = is-transition n centre ring result can;
+    stand = all-stand ts (Number centre ∷ ring) result (can.centre_low, can.slots) can.result_low;
+    holds = (refl, refl);
+  }
 
--- it is said of cells of two states
-says-one : (ts : List Transition) (n : ℕ) (cells : List ℕ) (result : ℕ) → IsInput cells result
-    → SaysTransition written_settings (said_of ts) (n, input_digits cells ++ digit_of result ∷ []) (said_of (ts ++ transition cells result ∷ []))
-says-one ts n [] result is = absurd (omega (arith, is.nine))
-says-one ts n (c ∷ cs) result is = record {
-  fields = map field_of (c ∷ cs) ++ field_of result ∷ [];
-  inputs = map Number (c ∷ cs);
-  result = Number result;
-  spelled = is-transition n c cs result is.bits is.low is.nine;
-  stand = all-stand (said_of ts) (c ∷ cs) result is.bits is.low;
-  holds = (refl, refl);
-}
+  plain-line : (bytes : List ℕ) → nat_le 1 (length bytes) ≡ true → Every is_plain bytes → IsSaid bytes
+  plain-line [] some all = absurd (false≢true some)
+  plain-line (b ∷ bs) some all = plain-said b bs all
 
-one-said : (cells : List ℕ) (result : ℕ) → IsInput cells result → IsSaid (input_digits cells ++ digit_of result ∷ [])
-one-said [] result is = plain-said (digit_of result) [] (plain-digits [] result is.bits is.low)
-one-said (c ∷ cs) result is = plain-said (digit_of c) (44 ∷ (input_digits cs ++ digit_of result ∷ [])) (plain-digits (c ∷ cs) result is.bits is.low)
+  some-after : (f more : List ℕ) → nat_le 1 (length (f ++ 44 ∷ more)) ≡ true
+  some-after [] more = something-said 44 more
+  some-after (b ∷ bs) more = something-said b (bs ++ 44 ∷ more)
 
--- nine cells, as inputs and a result
-module _ (inputs : List ℕ → List ℕ) (next : List ℕ → ℕ) where
-  pub says-all : (nines : List (List ℕ)) (ts : List Transition) (n : ℕ) → AllByRecursion (λ nine. IsInput (inputs nine) (next nine)) nines
-      → LinesSay written_settings (said_of ts) (enumerate_from n (map (λ nine. input_digits (inputs nine) ++ digit_of (next nine) ∷ []) nines)) (said_of (ts ++ map (λ nine. transition (inputs nine) (next nine)) nines))
-  says-all [] ts n all = ap said_of (sym (append-nil ts))
-  says-all (m ∷ ms) ts n all = (
-    said_of (ts ++ transition (inputs m) (next m) ∷ []),
-    inr (says-one ts n (inputs m) (next m) all.0),
-    subst (λ l. LinesSay written_settings (said_of (ts ++ transition (inputs m) (next m) ∷ [])) (enumerate_from (n + 1) (map (λ nine. input_digits (inputs nine) ++ digit_of (next nine) ∷ []) ms)) (said_of l))
-        (append_assoc ts (transition (inputs m) (next m) ∷ []) (map (λ nine. transition (inputs nine) (next nine)) ms))
-        (says-all ms (ts ++ transition (inputs m) (next m) ∷ []) (n + 1) all.1),
+  one-said : (centre : ℕ) (ring : List Slot) (result : ℕ) → CanWrite centre ring result → IsSaid (line_to centre ring result)
+  one-said centre ring result can =
+      plain-line (line_to centre ring result)
+      (ap (λ l. nat_le 1 (length l)) (joined-more (decimal centre) (map slot_text ring) (decimal result)) ∙ some-after (decimal centre) (joined (map slot_text ring) (decimal result)))
+      (joined-plain (map slot_text (Number centre ∷ ring)) (decimal result) (slot-fields (Number centre ∷ ring) (can.centre_low, can.slots)) (number-text result (omega (arith, can.result_low))))
+
+  -- ---- the table
+
+  abbrev pub IsGood : Written → Type 0
+  IsGood w = CanWrite w.centre w.ring w.result
+
+  says-transitions : (ws : List Written) (ts : List Transition) (n : ℕ) → AllByRecursion IsGood ws
+      → LinesSay (settings_of states) (said_of variables ts) (enumerate_from n (map written_line ws)) (said_of variables (ts ++ map written_transition ws))
+  says-transitions [] ts n all = ap (said_of variables) (sym (append-nil ts))
+  says-transitions (w ∷ ws) ts n all = (
+    said_of variables (ts ++ written_transition w ∷ []),
+    inr (says-one ts n w.centre w.ring w.result all.0),
+    subst (λ l. LinesSay (settings_of states) (said_of variables (ts ++ written_transition w ∷ [])) (enumerate_from (n + 1) (map written_line ws)) (said_of variables l))
+        (append_assoc ts (written_transition w ∷ []) (map written_transition ws))
+        (says-transitions ws (ts ++ written_transition w ∷ []) (n + 1) all.1),
   )
 
-  all-said : (nines : List (List ℕ)) → AllByRecursion (λ nine. IsInput (inputs nine) (next nine)) nines → AllByRecursion IsSaid (map (λ nine. input_digits (inputs nine) ++ digit_of (next nine) ∷ []) nines)
-  all-said [] all = tt
-  all-said (m ∷ ms) all = (one-said (inputs m) (next m) all.0, all-said ms all.1)
+  transitions-said-lines : (ws : List Written) → AllByRecursion IsGood ws → AllByRecursion IsSaid (map written_line ws)
+  transitions-said-lines [] all = tt
+  transitions-said-lines (w ∷ ws) all = (one-said w.centre w.ring w.result all.0, transitions-said-lines ws all.1)
 
-  -- the head and the lines of transitions are the text of the table
-  pub is-table : (name : List ℕ) (nines : List (List ℕ)) → IsTableName name → AllByRecursion (λ nine. IsInput (inputs nine) (next nine)) nines
-      → IsTable (text_of (head_lines name ++ map (λ nine. input_digits (inputs nine) ++ digit_of (next nine) ∷ []) nines)) (table_from name written_settings (said_of (map (λ nine. transition (inputs nine) (next nine)) nines)))
-  is-table name nines is all =
-      let lines = map (λ nine. input_digits (inputs nine) ++ digit_of (next nine) ∷ []) nines in
-      let said : AllByRecursion IsSaid (head_lines name ++ lines) = (rule-line-said name is.word is.no_comment, (plain-said 64 (codes "TABLE") refl, (plain-said 110 (codes "_states:2") refl, (plain-said 110 (codes "eighborhood:Moore") refl, (plain-said 115 (codes "ymmetries:none") refl, all-said nines all))))) in
+  starts-plain : (ds : List ℕ) → Every is_plain ds → is_end_or (λ b. not (is_blank b)) ds ≡ true
+  starts-plain [] h = refl
+  starts-plain (d ∷ ds) h = (and_parts (not (is_blank d)) (list_all (λ b. not (is_blank b)) ds) (no-blanks (d ∷ ds) h)).0
+
+  -- the head, lines that say the variables, and those of the transitions are the text of the table
+  pub is-table : (name : List ℕ) (before : List (List ℕ)) (ws : List Written) → IsTableName name → AllByRecursion IsSaid before
+      → ((lines : List (List ℕ)) (after : SaidStatements) → ((m : ℕ) → LinesSay (settings_of states) (said_of variables []) (enumerate_from m lines) after) → LinesSay (settings_of states) (said_of [] []) (enumerate_from 6 (before ++ lines)) after)
+      → AllByRecursion IsGood ws → IsTable (text_of (head_lines name states ++ (before ++ map written_line ws))) (table_from name (settings_of states) (said_of variables (map written_transition ws)))
+  is-table name before ws is said_before say_before all =
+      let lines = before ++ map written_line ws in
+      let number = plain-field (decimal states) (number-text states (omega arith)).bytes in
+      let said : AllByRecursion IsSaid (head_lines name states ++ lines) = (
+        rule-line-said name is.word is.no_comment,
+        (
+          plain-said 64 (codes "TABLE") refl,
+          (
+            plain-said 110 (codes "_states:" ++ decimal states) number,
+            (
+              plain-said 110 (codes "eighborhood:Moore") refl,
+              (plain-said 115 (codes "ymmetries:none") refl, all-append IsSaid before (map written_line ws) said_before (transitions-said-lines ws all)),
+            ),
+          ),
+        ),
+      ) in
       record {
         name = name;
-        setting_lines = (3, codes "n_states:2") ∷ (4, codes "neighborhood:Moore") ∷ (5, codes "symmetries:none") ∷ [];
+        setting_lines = (3, codes "n_states:" ++ decimal states) ∷ (4, codes "neighborhood:Moore") ∷ (5, codes "symmetries:none") ∷ [];
         statements = enumerate_from 6 lines;
         later = [];
-        settings = written_settings;
-        said = said_of (map (λ nine. transition (inputs nine) (next nine)) nines);
+        settings = settings_of states;
+        said = said_of variables (map written_transition ws);
         has_table = record {
           rule_line = (1, codes "@RULE " ++ name);
           skipped = [];
@@ -254,10 +370,17 @@ module _ (inputs : List ℕ → List ℕ) (next : List ℕ → ℕ) where
           named = ap rule_named (name-said name is.word);
           no_table = refl;
           begins = refl;
-          whole = lines-said (head_lines name ++ lines) said ∙ ap (λ l. (1, codes "@RULE " ++ name) ∷ (2, codes "@TABLE") ∷ (3, codes "n_states:2") ∷ (4, codes "neighborhood:Moore") ∷ (5, codes "symmetries:none") ∷ l) (sym (append-nil (enumerate_from 6 lines)));
+          whole = lines-said (head_lines name states ++ lines) said
+              ∙ ap (λ l. (1, codes "@RULE " ++ name) ∷ (2, codes "@TABLE") ∷ (3, codes "n_states:" ++ decimal states) ∷ (4, codes "neighborhood:Moore") ∷ (5, codes "symmetries:none") ∷ l) (sym (append-nil (enumerate_from 6 lines)));
         };
-        mean = record { once = refl; states_are = refl; neighbourhood_is = refl; symmetry_is = refl };
-        say = says-all nines [] 6 all;
+        mean = record {
+          once = refl;
+          states_are = ap state_count (rest_append is_blank [] (decimal states) refl (starts-plain (decimal states) number))
+              ∙ state_count-of states (decimal states) (digits-of states (omega arith)) (decimal_writes states (omega arith)).1 low high;
+          neighbourhood_is = refl;
+          symmetry_is = refl;
+        };
+        say = say_before (map written_line ws) (said_of variables (map written_transition ws)) (λ m. says-transitions ws [] m all);
         ends = refl;
         table_is = refl;
       }

@@ -2,13 +2,17 @@
 use Rattle.std.specs.Prelude.{◌≡◌, ℕ, ◌<◌, List, length, All, codes}
 use Rattle.ca_rule.specs.Prelude.{counts_of, bs_next}
 use Rattle.ca_rule.specs.declared.hood.Hood.TheVariants.{Moore}
-use Rattle.ca_isotropic.specs.Isotropic.{isotropic_next}
+use Rattle.ca_isotropic.specs.Isotropic.{has_kind, isotropic_next}
 use Rattle.ca_isotropic.specs.Kinds.{cells}
 
 -- nine cells, each dead or live
 pub record AreNineCells (nine : List ℕ) : Type 0 where
   pub nine_cells : length nine ≡ 9
   pub two_states : All (λ s. s < 2) nine
+
+-- the two lists have the same kinds
+abbrev pub HaveSameKinds : List ℕ → List ℕ → Type 0
+HaveSameKinds some other = (nine : List ℕ) → AreNineCells nine → has_kind some nine ≡ has_kind other nine
 
 -- the next cell under an isotropic rule of these birth and survival kinds, of nine cells in three rows from the north
 abbrev pub isotropic_cell : List ℕ → List ℕ → List ℕ → ℕ

@@ -1,9 +1,9 @@
 -- Isotropic rules in Hensel's notation, as `B2-a/S12` (Golly Help, QuickLife: non-totalistic rules; LifeWiki, "Isotropic
 -- non-totalistic rule"; what is marked so is our own).
-use Rattle.std.specs.Prelude.{◌≡◌, ℕ, ◌+◌, ◌-◌, List, [], ◌∷◌, length, Bool, true, false, not, ◌==◌, ◌&&◌, ◌||◌, nat_le, IsTrue, ◌⊎◌, Option, Some, None, slice_index, replicate, if◌then◌else◌}
+use Rattle.std.specs.Prelude.{◌≡◌, ℕ, ◌+◌, ◌-◌, List, [], ◌∷◌, length, Bool, true, false, not, ◌==◌, ◌&&◌, ◌||◌, nat_le, IsTrue, Option, Some, None, slice_index, replicate, if◌then◌else◌}
 use Rattle.std.specs.List.{list_all, list_any}
 use Rattle.ca_plane.specs.Prelude.{letter, is_digit, is_end_or, with_front}
-use Rattle.ca_rule.specs.Prelude.{IsLettered, IsUnlettered, has_colon}
+use Rattle.ca_rule.specs.Prelude.{SpellsLists, has_colon}
 use Rattle.ca_rule.specs.declared.fault.RuleFault.{RuleFault}
 use Rattle.ca_rule.specs.declared.fault.RuleFault.TheVariants.{Bounded, Wakes, Unknown}
 use Rattle.ca_rule.specs.declared.hood.Hood.TheVariants.{Moore}
@@ -75,7 +75,7 @@ gives_birth_alone birth = has_kind birth (replicate 9 0)
 pub record SpellsIsotropicRule (text birth survival : List ℕ) : Type 0 where
   pub birth_kinds : IsTrue (is_kind_list birth)
   pub survival_kinds : IsTrue (is_kind_list survival)
-  pub form : IsLettered (letter "B") (letter "S") text birth survival Moore ⊎ (IsLettered (letter "S") (letter "B") text survival birth Moore ⊎ IsUnlettered text survival birth Moore)
+  pub form : SpellsLists text birth survival Moore
 
 -- the text spells no rule, with birth without live neighbours or without
 abbrev pub SpellsNoIsotropicRule : List ℕ → Type 0

@@ -1,4 +1,3 @@
 -- Definitions that private contracts alone cite. No public contract rests on them.
 pub mod WrittenTables
 pub mod GenerationsTables
-pub mod KindTexts

@@ -1,21 +1,17 @@
 //! The rule file of a Generations rule.
 
-ghost use Rattle.std.specs.Prelude.{◌≡◌, ◌<◌, ◌≤◌, ◌-◌, ◌∷◌, [], ◌++◌, OnOk, IfOk, decimal};
+ghost use Rattle.std.specs.Prelude.{◌≡◌, ◌<◌, ◌≤◌, ◌-◌, ◌∷◌, [], ◌++◌, OnOk, IfOk};
 ghost use Rattle.ca_plane.specs.Prelude.{older, text_of, Puts};
 ghost use Rattle.ca_rule.specs.Prelude.{generations_next};
 ghost use Rattle.ca_isotropic.specs.RuleFiles.{IsTableName, WritesRule};
-ghost use Rattle.ca_isotropic.specs.inner.GenerationsTables.{generations_head, listed_states, least_of};
-ghost use Rattle.ca_isotropic.specs.inner.GenerationsTables.{variable_line, variable_lines, neighbour_byte};
-ghost use Rattle.ca_isotropic.specs.inner.GenerationsTables.{live_line, live_lines, dying_line, dying_lines};
+ghost use Rattle.ca_isotropic.specs.inner.GenerationsTables.{listed_states, least_of, variable_line, variable_lines};
+ghost use Rattle.ca_isotropic.specs.inner.GenerationsTables.{dying_line, dying_lines};
 
-use crate::writing::neighbourhood;
+use crate::writing::{push_head, push_state, push_transitions};
+use ca_plane::Memory;
 use ca_plane::text::{push_number, push_text};
-use ca_plane::{Automaton, Memory, Nine};
 use ca_rule::GenRule;
 use std::alloc::Global;
-
-/// How many neighbourhoods of nine cells there are, each of them dead or live.
-const NEIGHBOURHOODS: u16 = 512;
 
 /// How many variables a file has.
 const VARIABLES: u8 = 16;
@@ -36,21 +32,9 @@ pub fn generations_file(alloc: Global, name: &[u8], rule: &GenRule) -> Result<Ve
     let mut out = Vec::new(alloc);
     push_head(&mut out, name, rule.states)?;
     push_variables(&mut out, rule.states)?;
-    push_live_transitions(&mut out, rule)?;
+    push_transitions(&mut out, rule, true)?;
     push_dying_transitions(&mut out, rule.states)?;
     Ok(out)
-}
-
-/// Puts the lines before the variables.
-fn push_head(out: &mut Vec<u8>, name: &[u8], states: u16) -> Result<(), Memory>
-    ensures { OnOk result (Puts out.old.items out.new.items (text_of (generations_head name.now states))) }
-{
-    push_text(out, b"@RULE ")?;
-    push_text(out, name)?;
-    push_text(out, b"\n@TABLE\nn_states:")?;
-    push_number(out, u64::from(states))?;
-    push_text(out, b"\nneighborhood:Moore\nsymmetries:none\n")?;
-    Ok(())
 }
 
 /// Puts the lines of the variables.
@@ -94,52 +78,6 @@ fn push_states(out: &mut Vec<u8>, from: u16, states: u16) -> Result<(), Memory>
         push_state(out, state)?;
     }
     Ok(())
-}
-
-/// Puts a state and a comma.
-fn push_state(out: &mut Vec<u8>, state: u16) -> Result<(), Memory>
-    ensures { OnOk result (Puts out.old.items out.new.items (decimal state ++ 44 ∷ [])) }
-{
-    push_number(out, u64::from(state))?;
-    push_text(out, b",")?;
-    Ok(())
-}
-
-/// Puts a transition for each neighbourhood of dead and live cells whose centre changes.
-fn push_live_transitions(out: &mut Vec<u8>, rule: &GenRule) -> Result<(), Memory>
-    ensures { OnOk result (Puts out.old.items out.new.items (text_of
-        (live_lines (generations_next rule.now.survival rule.now.birth rule.now.states) 512))) }
-{
-    'numbers: for number in 0..NEIGHBOURHOODS {
-        let nine = neighbourhood(number);
-        let next = rule.next(&nine);
-        if next != nine[4] {
-            push_live_transition(out, &nine, next)?;
-        }
-    }
-    Ok(())
-}
-
-/// Puts the line of the transition of a neighbourhood of dead and live cells.
-fn push_live_transition(out: &mut Vec<u8>, nine: &Nine, next: u8) -> Result<(), Memory>
-    ensures { OnOk result (Puts out.old.items out.new.items (live_line nine.now next ++ 10 ∷ [])) }
-{
-    let [nw, n, ne, w, c, e, sw, s, se] = *nine;
-    push_state(out, u16::from(c))?;
-    push_text(out, &[neighbour(b'a', n), b',', neighbour(b'b', ne), b','])?;
-    push_text(out, &[neighbour(b'c', e), b',', neighbour(b'd', se), b','])?;
-    push_text(out, &[neighbour(b'e', s), b',', neighbour(b'f', sw), b','])?;
-    push_text(out, &[neighbour(b'g', w), b',', neighbour(b'h', nw), b','])?;
-    push_number(out, u64::from(next))?;
-    push_text(out, b"\n")?;
-    Ok(())
-}
-
-/// The digit of a live neighbour, or else this letter of a variable.
-fn neighbour(letter: u8, cell: u8) -> u8
-    ensures { result ≡ neighbour_byte letter cell }
-{
-    if cell == 0 { letter } else { b'1' }
 }
 
 /// Puts the transitions of the dying states.

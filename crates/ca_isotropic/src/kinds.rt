@@ -7,6 +7,7 @@ ghost use Rattle.ca_isotropic.specs.Kinds.{kinds_with, turned, mirrored, turns, 
 ghost use Rattle.ca_isotropic.specs.Kinds.{live_neighbours, exchanged, letter_among, letter_of};
 
 use ca_plane::Nine;
+use ca_rule::Hood;
 
 /// A kind of neighbourhoods: its letter, and one of its neighbourhoods. The others are its turns and
 /// reflections. The centre doesn't count.
@@ -16,144 +17,61 @@ pub struct Kind {
     pub example: Nine,
 }
 
+/// A kind by its letter and one of its neighbourhoods.
+macro_rules! kind {
+    ($letter:literal, $example:expr) => {
+        Kind {
+            letter: $letter,
+            example: $example,
+        }
+    };
+}
+
 /// The kinds with one live neighbour.
 const ONE: [Kind; 2] = [
-    Kind {
-        letter: b'c',
-        example: [0, 0, 0, 0, 0, 0, 0, 0, 1],
-    },
-    Kind {
-        letter: b'e',
-        example: [0, 0, 0, 0, 0, 0, 0, 1, 0],
-    },
+    kind!(b'c', [0, 0, 0, 0, 0, 0, 0, 0, 1]),
+    kind!(b'e', [0, 0, 0, 0, 0, 0, 0, 1, 0]),
 ];
 
 /// Those with two.
 const TWO: [Kind; 6] = [
-    Kind {
-        letter: b'c',
-        example: [0, 0, 0, 0, 0, 0, 1, 0, 1],
-    },
-    Kind {
-        letter: b'e',
-        example: [0, 0, 0, 0, 0, 1, 0, 1, 0],
-    },
-    Kind {
-        letter: b'a',
-        example: [0, 0, 0, 0, 0, 0, 0, 1, 1],
-    },
-    Kind {
-        letter: b'i',
-        example: [0, 0, 0, 1, 0, 1, 0, 0, 0],
-    },
-    Kind {
-        letter: b'k',
-        example: [0, 0, 0, 1, 0, 0, 0, 0, 1],
-    },
-    Kind {
-        letter: b'n',
-        example: [0, 0, 1, 0, 0, 0, 1, 0, 0],
-    },
+    kind!(b'c', [0, 0, 0, 0, 0, 0, 1, 0, 1]),
+    kind!(b'e', [0, 0, 0, 0, 0, 1, 0, 1, 0]),
+    kind!(b'a', [0, 0, 0, 0, 0, 0, 0, 1, 1]),
+    kind!(b'i', [0, 0, 0, 1, 0, 1, 0, 0, 0]),
+    kind!(b'k', [0, 0, 0, 1, 0, 0, 0, 0, 1]),
+    kind!(b'n', [0, 0, 1, 0, 0, 0, 1, 0, 0]),
 ];
 
 /// Those with three.
 const THREE: [Kind; 10] = [
-    Kind {
-        letter: b'c',
-        example: [0, 0, 1, 0, 0, 0, 1, 0, 1],
-    },
-    Kind {
-        letter: b'e',
-        example: [0, 0, 0, 1, 0, 1, 0, 1, 0],
-    },
-    Kind {
-        letter: b'a',
-        example: [0, 0, 0, 0, 0, 1, 0, 1, 1],
-    },
-    Kind {
-        letter: b'i',
-        example: [0, 0, 0, 0, 0, 0, 1, 1, 1],
-    },
-    Kind {
-        letter: b'k',
-        example: [0, 0, 1, 1, 0, 0, 0, 1, 0],
-    },
-    Kind {
-        letter: b'n',
-        example: [0, 0, 0, 0, 0, 1, 1, 0, 1],
-    },
-    Kind {
-        letter: b'j',
-        example: [0, 0, 0, 0, 0, 1, 1, 1, 0],
-    },
-    Kind {
-        letter: b'q',
-        example: [0, 0, 1, 0, 0, 0, 1, 1, 0],
-    },
-    Kind {
-        letter: b'r',
-        example: [0, 0, 0, 1, 0, 1, 0, 0, 1],
-    },
-    Kind {
-        letter: b'y',
-        example: [0, 0, 1, 1, 0, 0, 0, 0, 1],
-    },
+    kind!(b'c', [0, 0, 1, 0, 0, 0, 1, 0, 1]),
+    kind!(b'e', [0, 0, 0, 1, 0, 1, 0, 1, 0]),
+    kind!(b'a', [0, 0, 0, 0, 0, 1, 0, 1, 1]),
+    kind!(b'i', [0, 0, 0, 0, 0, 0, 1, 1, 1]),
+    kind!(b'k', [0, 0, 1, 1, 0, 0, 0, 1, 0]),
+    kind!(b'n', [0, 0, 0, 0, 0, 1, 1, 0, 1]),
+    kind!(b'j', [0, 0, 0, 0, 0, 1, 1, 1, 0]),
+    kind!(b'q', [0, 0, 1, 0, 0, 0, 1, 1, 0]),
+    kind!(b'r', [0, 0, 0, 1, 0, 1, 0, 0, 1]),
+    kind!(b'y', [0, 0, 1, 1, 0, 0, 0, 0, 1]),
 ];
 
 /// Those with four.
 const FOUR: [Kind; 13] = [
-    Kind {
-        letter: b'c',
-        example: [1, 0, 1, 0, 0, 0, 1, 0, 1],
-    },
-    Kind {
-        letter: b'e',
-        example: [0, 1, 0, 1, 0, 1, 0, 1, 0],
-    },
-    Kind {
-        letter: b'a',
-        example: [0, 0, 0, 0, 0, 1, 1, 1, 1],
-    },
-    Kind {
-        letter: b'i',
-        example: [0, 0, 0, 1, 0, 1, 1, 0, 1],
-    },
-    Kind {
-        letter: b'k',
-        example: [0, 0, 1, 1, 0, 0, 0, 1, 1],
-    },
-    Kind {
-        letter: b'n',
-        example: [0, 0, 1, 0, 0, 0, 1, 1, 1],
-    },
-    Kind {
-        letter: b'j',
-        example: [0, 0, 1, 1, 0, 1, 0, 1, 0],
-    },
-    Kind {
-        letter: b'q',
-        example: [0, 0, 1, 1, 0, 0, 1, 1, 0],
-    },
-    Kind {
-        letter: b'r',
-        example: [0, 0, 0, 1, 0, 1, 0, 1, 1],
-    },
-    Kind {
-        letter: b'y',
-        example: [0, 0, 1, 1, 0, 0, 1, 0, 1],
-    },
-    Kind {
-        letter: b't',
-        example: [0, 0, 1, 1, 0, 1, 0, 0, 1],
-    },
-    Kind {
-        letter: b'w',
-        example: [0, 0, 1, 0, 0, 1, 1, 1, 0],
-    },
-    Kind {
-        letter: b'z',
-        example: [0, 0, 1, 1, 0, 1, 1, 0, 0],
-    },
+    kind!(b'c', [1, 0, 1, 0, 0, 0, 1, 0, 1]),
+    kind!(b'e', [0, 1, 0, 1, 0, 1, 0, 1, 0]),
+    kind!(b'a', [0, 0, 0, 0, 0, 1, 1, 1, 1]),
+    kind!(b'i', [0, 0, 0, 1, 0, 1, 1, 0, 1]),
+    kind!(b'k', [0, 0, 1, 1, 0, 0, 0, 1, 1]),
+    kind!(b'n', [0, 0, 1, 0, 0, 0, 1, 1, 1]),
+    kind!(b'j', [0, 0, 1, 1, 0, 1, 0, 1, 0]),
+    kind!(b'q', [0, 0, 1, 1, 0, 0, 1, 1, 0]),
+    kind!(b'r', [0, 0, 0, 1, 0, 1, 0, 1, 1]),
+    kind!(b'y', [0, 0, 1, 1, 0, 0, 1, 0, 1]),
+    kind!(b't', [0, 0, 1, 1, 0, 1, 0, 0, 1]),
+    kind!(b'w', [0, 0, 1, 0, 0, 1, 1, 1, 0]),
+    kind!(b'z', [0, 0, 1, 1, 0, 1, 1, 0, 0]),
 ];
 
 /// The kinds with this many live neighbours, up to four. With none there is one neighbourhood, which has no
@@ -226,26 +144,14 @@ fn is_of_kind(nine: &Nine, kind: &Kind) -> bool
 pub(crate) fn live_neighbours(nine: &Nine) -> u16
     ensures { result ≡ live_neighbours nine.now }
 {
-    let [nw, n, ne, w, _, e, sw, s, se] = nine.map(u16::from);
-    nw + n + ne + w + e + sw + s + se
+    Hood::Moore.sum(nine)
 }
 
 /// Nine cells with live and dead ones exchanged.
 fn exchanged(nine: &Nine) -> Nine
     ensures { result ≡ exchanged nine.now }
 {
-    let [nw, n, ne, w, c, e, sw, s, se] = *nine;
-    [
-        other(nw),
-        other(n),
-        other(ne),
-        other(w),
-        other(c),
-        other(e),
-        other(sw),
-        other(s),
-        other(se),
-    ]
+    nine.map(other)
 }
 
 /// A live cell for a dead one, and a dead one for any other.

@@ -5,11 +5,11 @@ ghost use Rattle.std.specs.Prelude.{◌≡◌, ◌++◌, ℕ, List, length, Some
 ghost use Rattle.ca_plane.specs.Prelude.{letter};
 ghost use Rattle.ca_rule.specs.Prelude.{are_digits_up_to, HasAtMostOne};
 ghost use Rattle.ca_isotropic.specs.Kinds.{cells, turned, mirrored, letter_of, kinds_of, has_no_letter};
-ghost use Rattle.ca_isotropic.specs.Isotropic.{has_kind, isotropic_next, SpellsIsotropicRule};
+ghost use Rattle.ca_isotropic.specs.Isotropic.{isotropic_next, SpellsIsotropicRule};
 ghost use Rattle.ca_isotropic.specs.TextRules.{TextRule, NamesTextRule, IsTextRuleFault};
 ghost use Rattle.ca_rule.specs.declared.fault.RuleFault.{RuleFault};
 ghost use Rattle.ca_isotropic.specs.Map.{IsMap, map_next};
-ghost use Rattle.ca_isotropic.specs.Examples.{AreNineCells, isotropic_cell, counted_next, life_characters};
+ghost use Rattle.ca_isotropic.specs.Examples.{AreNineCells, HaveSameKinds, isotropic_cell, counted_next, life_characters};
 
 /// Each neighbourhood is of exactly one kind, which its turns and reflections are of too; those with no live
 /// neighbours and with eight have no letter.
@@ -22,20 +22,13 @@ pub fn one_kind()
 
 /// A digit with all its letters stands for what the digit alone stands for.
 pub fn all_letters()
-    ensures one { (nine : List ℕ) → AreNineCells nine
-        → has_kind (codes "1ce") nine ≡ has_kind (codes "1") nine }
-    ensures two { (nine : List ℕ) → AreNineCells nine
-        → has_kind (codes "2ceaikn") nine ≡ has_kind (codes "2") nine }
-    ensures three { (nine : List ℕ) → AreNineCells nine
-        → has_kind (codes "3ceaiknjqry") nine ≡ has_kind (codes "3") nine }
-    ensures four { (nine : List ℕ) → AreNineCells nine
-        → has_kind (codes "4ceaiknjqrytwz") nine ≡ has_kind (codes "4") nine }
-    ensures five { (nine : List ℕ) → AreNineCells nine
-        → has_kind (codes "5ceaiknjqry") nine ≡ has_kind (codes "5") nine }
-    ensures six { (nine : List ℕ) → AreNineCells nine
-        → has_kind (codes "6ceaikn") nine ≡ has_kind (codes "6") nine }
-    ensures seven { (nine : List ℕ) → AreNineCells nine
-        → has_kind (codes "7ce") nine ≡ has_kind (codes "7") nine }
+    ensures one { HaveSameKinds (codes "1ce") (codes "1") }
+    ensures two { HaveSameKinds (codes "2ceaikn") (codes "2") }
+    ensures three { HaveSameKinds (codes "3ceaiknjqry") (codes "3") }
+    ensures four { HaveSameKinds (codes "4ceaiknjqrytwz") (codes "4") }
+    ensures five { HaveSameKinds (codes "5ceaiknjqry") (codes "5") }
+    ensures six { HaveSameKinds (codes "6ceaikn") (codes "6") }
+    ensures seven { HaveSameKinds (codes "7ce") (codes "7") }
 {}
 
 /// An isotropic rule without letters does what the B/S rule of the same digits does.

@@ -1,11 +1,12 @@
-//! The rule file of a rule of two states.
+//! The rule file of a rule of two states, and what each rule file has.
 
-ghost use Rattle.std.specs.Prelude.{◌≡◌, ◌<◌, ◌/◌, ◌%◌, ◌∷◌, [], ℕ, List, OnOk, IfOk};
+ghost use Rattle.std.specs.Prelude.{◌≡◌, ◌<◌, ◌/◌, ◌%◌, ◌∷◌, ◌++◌, [], ℕ, List, OnOk, IfOk, decimal};
 ghost use Rattle.ca_plane.specs.Prelude.{text_of, Puts};
 ghost use Rattle.ca_isotropic.specs.RuleFiles.{IsTableName, WritesRule};
-ghost use Rattle.ca_isotropic.specs.inner.WrittenTables.{head_lines, digit_of, transition_line, transition_lines, neighbourhood};
+ghost use Rattle.ca_isotropic.specs.inner.WrittenTables.{head_lines, neighbour_byte, neighbour_bytes, transition_line};
+ghost use Rattle.ca_isotropic.specs.inner.WrittenTables.{transition_lines, neighbourhood};
 
-use ca_plane::text::push_text;
+use ca_plane::text::{push_number, push_text};
 use ca_plane::{Automaton, Memory, Nine};
 use std::alloc::Global;
 
@@ -27,41 +28,54 @@ pub fn table_file<A: Automaton>(alloc: Global, name: &[u8], rule: &A) -> Result<
     // A rule that tells its states is sound.
     let _states = rule.states();
     let mut out = Vec::new(alloc);
-    push_head(&mut out, name)?;
-    push_transitions(&mut out, rule)?;
+    push_head(&mut out, name, 2)?;
+    push_transitions(&mut out, rule, false)?;
     Ok(out)
 }
 
-/// Puts the lines before the transitions.
-fn push_head(out: &mut Vec<u8>, name: &[u8]) -> Result<(), Memory>
-    ensures { OnOk result (Puts out.old.items out.new.items (text_of (head_lines name.now))) }
+/// Puts the lines before the variables and the transitions.
+pub(crate) fn push_head(out: &mut Vec<u8>, name: &[u8], states: u16) -> Result<(), Memory>
+    ensures { OnOk result (Puts out.old.items out.new.items (text_of (head_lines name.now states))) }
 {
     push_text(out, b"@RULE ")?;
     push_text(out, name)?;
-    push_text(
-        out,
-        b"\n@TABLE\nn_states:2\nneighborhood:Moore\nsymmetries:none\n",
-    )?;
+    push_text(out, b"\n@TABLE\nn_states:")?;
+    push_number(out, u64::from(states))?;
+    push_text(out, b"\nneighborhood:Moore\nsymmetries:none\n")?;
     Ok(())
 }
 
-/// Puts a transition for each neighbourhood whose centre changes.
-fn push_transitions<A: Automaton>(out: &mut Vec<u8>, rule: &A) -> Result<(), Memory>
+/// Puts a state and a comma.
+pub(crate) fn push_state(out: &mut Vec<u8>, state: u16) -> Result<(), Memory>
+    ensures { OnOk result (Puts out.old.items out.new.items (decimal state ++ 44 ∷ [])) }
+{
+    push_number(out, u64::from(state))?;
+    push_text(out, b",")?;
+    Ok(())
+}
+
+/// Puts a transition for each neighbourhood of dead and live cells whose centre changes. Where the file has
+/// variables, they stand for neighbours that aren't live.
+pub(crate) fn push_transitions<A: Automaton>(
+    out: &mut Vec<u8>,
+    rule: &A,
+    variables: bool,
+) -> Result<(), Memory>
     ensures { OnOk result (Puts out.old.items out.new.items
-        (text_of (transition_lines (A.next_of rule.now) 512))) }
+        (text_of (transition_lines variables (A.next_of rule.now) 512))) }
 {
     'numbers: for number in 0..NEIGHBOURHOODS {
         let nine = neighbourhood(number);
         let next = rule.next(&nine);
         if next != nine[4] {
-            push_transition(out, &nine, next)?;
+            push_transition(out, &nine, next, variables)?;
         }
     }
     Ok(())
 }
 
 /// The neighbourhood with this number: its binary digits.
-pub(crate) fn neighbourhood(number: u16) -> Nine
+fn neighbourhood(number: u16) -> Nine
     ensures { result ≡ neighbourhood number }
 {
     [
@@ -85,21 +99,37 @@ fn cell(number: u16, weight: u16) -> u8
     (number / weight % 2) as u8
 }
 
-/// Puts the line of a transition.
-fn push_transition(out: &mut Vec<u8>, nine: &Nine, next: u8) -> Result<(), Memory>
-    ensures { OnOk result (Puts out.old.items out.new.items (text_of (transition_line nine.now next ∷ []))) }
+/// Puts the line of the transition of a neighbourhood of dead and live cells.
+fn push_transition(out: &mut Vec<u8>, nine: &Nine, next: u8, variables: bool) -> Result<(), Memory>
+    ensures { OnOk result (Puts out.old.items out.new.items (transition_line variables nine.now next ++ 10 ∷ [])) }
 {
     let [nw, n, ne, w, c, e, sw, s, se] = *nine;
-    push_text(out, &[digit(c), b',', digit(n), b',', digit(ne), b','])?;
-    push_text(out, &[digit(e), b',', digit(se), b',', digit(s), b','])?;
-    push_text(out, &[digit(sw), b',', digit(w), b',', digit(nw), b','])?;
-    push_text(out, &[digit(next), b'\n'])?;
+    push_state(out, u16::from(c))?;
+    push_text(out, &pair(variables, b'a', n, ne))?;
+    push_text(out, &pair(variables, b'c', e, se))?;
+    push_text(out, &pair(variables, b'e', s, sw))?;
+    push_text(out, &pair(variables, b'g', w, nw))?;
+    push_number(out, u64::from(next))?;
+    push_text(out, b"\n")?;
     Ok(())
 }
 
-/// The digit of a cell.
-fn digit(cell: u8) -> u8
-    ensures { result ≡ digit_of cell }
+/// The bytes of two neighbours, with this letter and the next, each with a comma behind it.
+fn pair(variables: bool, letter: u8, first: u8, second: u8) -> [u8; 4]
+    requires { letter < 255 }
+    ensures { result ≡ neighbour_bytes variables letter (first ∷ second ∷ []) }
 {
-    if cell == 0 { b'0' } else { b'1' }
+    let one = neighbour(variables, letter, first);
+    let other = neighbour(variables, letter + 1, second);
+    [one, b',', other, b',']
+}
+
+/// The digit of a neighbour, or instead of 0, in a file with variables, this letter of one.
+fn neighbour(variables: bool, letter: u8, cell: u8) -> u8
+    ensures { result ≡ neighbour_byte variables letter cell }
+{
+    if cell != 0 {
+        return b'1';
+    }
+    if variables { letter } else { b'0' }
 }

@@ -6,8 +6,8 @@ use Rattle.std.proofs.lemmas.Bool.Decides.{nat_tests}
 use Rattle.std.proofs.lemmas.List.{append-nil}
 use Rattle.std.proofs.lemmas.List.Folds.{list_any-append}
 use Rattle.ca_plane.specs.Prelude.{Every}
-use Rattle.ca_rule.specs.inner.TextParts.{is_rule_letter, hood_at, hood_of, body_of}
-use Rattle.ca_rule.specs.Prelude.{IsLetter, IsSuffix, has_colon}
+use Rattle.ca_rule.specs.inner.TextParts.{hood_at, hood_of, body_of}
+use Rattle.ca_rule.specs.Prelude.{IsLetter, IsSuffix, has_colon, is_rule_letter}
 use Rattle.ca_rule.specs.declared.hood.Hood.{Hood}
 use Rattle.ca_rule.specs.declared.hood.Hood.TheVariants.{Moore, VonNeumann, Hex}
 
@@ -56,13 +56,10 @@ body_of-plain [] h = refl
 body_of-plain (b ∷ []) h = body_at-plain b (and_parts _ _ h).0
 body_of-plain (b ∷ c ∷ bs) h = ap (λ l. b ∷ l) (body_of-plain (c ∷ bs) (and_parts _ _ h).1)
 
-plain_colon : (bs : List ℕ) → Every is_plain bs → has_colon bs ≡ false
-plain_colon [] h = refl
-plain_colon (b ∷ bs) h =
-    let parts = and_parts (is_plain b) (list_all is_plain bs) h in
-    let more = plain_colon bs parts.1 in
-    let other : (b == 58) ≡ false = grind (arith, nat_tests) in
-    rw other more
+-- bytes that pass a test that `:` fails hold none
+pub none_colon : (test : ℕ → Bool) → ((b : ℕ) → test b ≡ true → (b == 58) ≡ false) → (bs : List ℕ) → Every test bs → has_colon bs ≡ false
+none_colon test other [] h = refl
+none_colon test other (b ∷ bs) h = let parts = and_parts (test b) (list_all test bs) h in rw (other b parts.0) (none_colon test other bs parts.1)
 
 suffix_colon : (hood : Hood) (suffix : List ℕ) → IsSuffix hood suffix → has_colon suffix ≡ false
 suffix_colon Moore suffix s = rw s refl
@@ -73,7 +70,7 @@ suffix_colon Hex suffix (b, inr e, s) = rw (s, e) refl
 
 -- plain bytes and a suffix hold no colon
 pub no_colon : (text body suffix : List ℕ) (hood : Hood) → text ≡ body ++ suffix → Every is_plain body → IsSuffix hood suffix → has_colon text ≡ false
-no_colon text body suffix hood e h s = ap has_colon e ∙ list_any-append (λ b. b == 58) body suffix ∙ rw (plain_colon body h) (suffix_colon hood suffix s)
+no_colon text body suffix hood e h s = ap has_colon e ∙ list_any-append (λ b. b == 58) body suffix ∙ rw (none_colon is_plain (λ b t. grind (arith, nat_tests)) body h) (suffix_colon hood suffix s)
 
 -- a text taken apart at its suffix
 pub record IsSplit (text body : List ℕ) (hood : Hood) : Type 0 where

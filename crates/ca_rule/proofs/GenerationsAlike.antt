@@ -9,13 +9,13 @@ use Rattle.ca_plane.specs.Prelude.{liveness, older}
 use Rattle.ca_rule.specs.Next as bs
 use Rattle.ca_rule.specs.declared.counts.Counts.{Counts}
 use Rattle.ca_rule.specs.declared.hood.Hood.TheVariants.{Moore}
-use Rattle.ca_rule.proofs.PrintedRules.{numbers}
+use Rattle.ca_rule.proofs.PrintedRules.{numbers, below_nine}
 use Rattle.ca_rule.proofs.SameCounts.{alike_counts}
 
 -- ---- of two states
 
 -- a state below 2 is 1 where it is live
-liveness-below : (s : ℕ) → s < 2 → liveness s ≡ s
+pub liveness-below : (s : ℕ) → s < 2 → liveness s ≡ s
 liveness-below zero low = refl
 liveness-below (suc zero) low = refl
 liveness-below (suc (suc s)) low = absurd (omega arith)
@@ -44,16 +44,7 @@ abbrev cells_of : ℕ → ℕ → List ℕ
 cells_of c n = cell n 0 ∷ cell n 1 ∷ cell n 2 ∷ cell n 3 ∷ c ∷ cell n 4 ∷ cell n 5 ∷ cell n 6 ∷ cell n 7 ∷ []
 
 cells-count : (c n : ℕ) → n < 9 → live_count (cells_of c n) ≡ n
-cells-count c zero h = refl
-cells-count c (suc zero) h = refl
-cells-count c (suc (suc zero)) h = refl
-cells-count c (suc (suc (suc zero))) h = refl
-cells-count c (suc (suc (suc (suc zero)))) h = refl
-cells-count c (suc (suc (suc (suc (suc zero))))) h = refl
-cells-count c (suc (suc (suc (suc (suc (suc zero)))))) h = refl
-cells-count c (suc (suc (suc (suc (suc (suc (suc zero))))))) h = refl
-cells-count c (suc (suc (suc (suc (suc (suc (suc (suc zero)))))))) h = refl
-cells-count c (suc (suc (suc (suc (suc (suc (suc (suc (suc n))))))))) h = absurd (omega arith)
+cells-count c = below_nine (λ n. live_count (cells_of c n) ≡ n) (refl, refl, refl, refl, refl, refl, refl, refl, refl)
 
 cell-low : (n k states : ℕ) → 2 ≤ states → cell n k < states
 cell-low n k states low = elim (cases_Bool (nat_lt k n)) [ inl t ↦ rw t (omega arith) | inr t ↦ rw t (omega arith) ]

@@ -12,13 +12,13 @@ use Rattle.ca_rule.specs.declared.hood.Hood.TheVariants.{Moore}
 use Rattle.ca_rule.proofs.PrintedRules.{numbers, digits-fit, digit_counts, counts-printed}
 use Rattle.ca_rule.proofs.PrintedWords.{digits_in_word}
 
-are_digits-of : (ds : List ℕ) → AreDigits ds → are_digits ds ≡ true
+pub are_digits-of : (ds : List ℕ) → AreDigits ds → are_digits ds ≡ true
 are_digits-of [] h = h
 are_digits-of (d ∷ ds) h = and_from (nat_le 1 (length (d ∷ ds))) (list_all is_digit (d ∷ ds)) (grind (arith, nat_tests)) h
 
 -- digits that write a number of states are read as it
-written : (n : ℕ) (ds : List ℕ) → AreDigits ds → n ≡ value ds → 2 ≤ n → n ≤ 256 → state_count ds ≡ Some n
-written n ds h e low high =
+pub state_count-of : (n : ℕ) (ds : List ℕ) → AreDigits ds → n ≡ value ds → 2 ≤ n → n ≤ 256 → state_count ds ≡ Some n
+state_count-of n ds h e low high =
     let least : nat_le 2 (value ds) ≡ true = grind (arith, nat_tests) in
     let most : nat_le (value ds) 256 ≡ true = grind (arith, nat_tests) in
     let good = and_from (are_digits ds) (nat_le 2 (value ds) && nat_le (value ds) 256) (are_digits-of ds h) (and_from (nat_le 2 (value ds)) (nat_le (value ds) 256) least most) in
@@ -36,7 +36,7 @@ names_itself rule ls lb stays low high =
         survival_digits = digits-fit rule.survival Moore refl;
         birth_digits = digits-fit rule.birth Moore refl;
         number = decimal rule.states;
-        number_is = written rule.states (decimal rule.states) digits.0 digits.1 low high;
+        number_is = state_count-of rule.states (decimal rule.states) digits.0 digits.1 low high;
         form = refl;
       };
       stays_empty = digit_counts rule.birth 0 refl ∙ stays;

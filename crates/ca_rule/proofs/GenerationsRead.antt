@@ -1,14 +1,15 @@
 -- What is read from a text of the family Generations is what it spells, and nothing else.
-use Rattle.std.proofs.Common.{◌≡◌, ◌&&◌, ℕ, List, [], ◌∷◌, ◌++◌, Bool, true, false, not, nat_le, length, get_or, Option, Some, None, is_some, option_map, option_and_then, if◌then◌else◌, refl, ap, sym, subst, ◌∙◌, append-nil}
+use Rattle.std.proofs.Common.{◌≡◌, ◌&&◌, ℕ, List, [], ◌∷◌, ◌++◌, Bool, true, false, not, nat_le, length, get_or, Option, Some, None, is_some, option_map, option_and_then, if◌then◌else◌, refl, ap, sym, subst, ◌∙◌, append-nil, arith}
 use Rattle.std.specs.List.{list_all, All}
 use Rattle.std.proofs.lemmas.Bool.{and_parts, and_from, false≢true}
+use Rattle.std.proofs.lemmas.Bool.Decides.{nat_tests}
 use Rattle.std.proofs.lemmas.List.Sums.{AllPass-from_list_all}
 use Rattle.std.proofs.lemmas.Option.{same_Some, none-some}
 use Rattle.ca_plane.specs.Prelude.{Every, is_digit, value}
-use Rattle.ca_plane.proofs.Fronts.{every_append, every_right}
+use Rattle.ca_plane.proofs.Fronts.{every_append, every_right, every_wider}
 use Rattle.ca_rule.specs.Prelude.{has_digit, counts_of, are_digits_up_to, are_digits, state_count, SpellsGenerationsRule, SpellsNoGenerationsRule, NamesGenerationsRule, IsGenerationsRuleFault}
+use Rattle.ca_rule.specs.Prelude.{stands_in_list, lists_around_slash, lists_of}
 use Rattle.ca_rule.specs.Spelling as bs
-use Rattle.ca_rule.specs.inner.TextParts.{lists_around_slash, lists_of, swapped_lists}
 use Rattle.ca_rule.specs.declared.{fault.RuleFault.RuleFault, gen_rule.GenRule.GenRule}
 use Rattle.ca_rule.specs.declared.fault.RuleFault.TheVariants.{Unknown}
 use Rattle.ca_rule.specs.declared.hood.Hood.TheVariants.{Moore}
@@ -16,7 +17,7 @@ use Rattle.ca_rule.proofs.Ends.{is_plain, split, no_colon}
 use Rattle.ca_rule.proofs.SpelledDigits.{around_slash-from, first_list}
 use Rattle.ca_rule.proofs.Meaning.{counts-once, counts-faultless}
 use Rattle.ca_rule.proofs.OneSpelling.{then-some, map-some, if-some}
-use Rattle.ca_rule.proofs.ReadInwards.{digits-of, plain-digits, around_slash, lists-no_letter, read}
+use Rattle.ca_rule.proofs.ReadInwards.{digits-of, listed-digits, around_slash, lists-unlettered, read}
 
 -- ---- what a text spells, read from its left
 
@@ -45,8 +46,8 @@ parts_in text = option_and_then parts_around (lists_around_slash text)
 pub spelled-read : (text survival birth : List ℕ) (states : ℕ) → SpellsGenerationsRule text survival birth states → parts_in text ≡ Some (survival, birth, states)
 spelled-read text s b n h =
     ap parts_in h.form
-    ∙ ap (option_and_then parts_around) (around_slash s (b ++ (47 ∷ h.number)) (digits-of Moore s h.survival_digits))
-    ∙ ap (option_and_then (parts_after s)) (around_slash b h.number (digits-of Moore b h.birth_digits))
+    ∙ ap (option_and_then parts_around) (around_slash s (b ++ (47 ∷ h.number)) (listed-digits Moore s h.survival_digits))
+    ∙ ap (option_and_then (parts_after s)) (around_slash b h.number (listed-digits Moore b h.birth_digits))
     ∙ ap (λ t. if t then option_map (λ states. (s, b, states)) (state_count h.number) else None) (and_from _ _ h.survival_digits h.birth_digits)
     ∙ ap (option_map (λ states. (s, b, states))) h.number_is
 
@@ -106,27 +107,34 @@ number-digits number n e =
     let good = if-some (are_digits number && (nat_le 2 (value number) && nat_le (value number) 256)) (Some (value number)) n e in
     (and_parts (nat_le 1 (length number)) (list_all is_digit number) (and_parts (are_digits number) _ good.0).0).1
 
+-- each byte of the text is a digit or a `/`
+pub bytes-pass : (test : ℕ → Bool) → test 47 ≡ true → ((d : ℕ) → is_digit d ≡ true → test d ≡ true) → (text s b : List ℕ) (n : ℕ) → SpellsGenerationsRule text s b n → Every test text
+bytes-pass test slash digit text s b n h =
+    let survivals = every_wider is_digit test digit s (digits-of Moore s h.survival_digits) in
+    let births = every_wider is_digit test digit b (digits-of Moore b h.birth_digits) in
+    let number = every_wider is_digit test digit h.number (number-digits h.number n h.number_is) in
+    ap (list_all test) h.form ∙ every_append test s _ survivals (and_from (test 47) _ slash (every_append test b _ births (and_from (test 47) _ slash number)))
+
 plain-text : (text s b : List ℕ) (n : ℕ) → SpellsGenerationsRule text s b n → Every is_plain text
-plain-text text s b n h =
-    let number = plain-digits h.number (number-digits h.number n h.number_is) in
-    let later = every_append is_plain b (47 ∷ h.number) (plain-digits b (digits-of Moore b h.birth_digits)) number in
-    ap (list_all is_plain) h.form ∙ every_append is_plain s (47 ∷ (b ++ (47 ∷ h.number))) (plain-digits s (digits-of Moore s h.survival_digits)) later
+plain-text = bytes-pass is_plain refl (λ d t. grind (arith, nat_tests))
 
 pub spelled-no_colon : (text s b : List ℕ) (n : ℕ) → SpellsGenerationsRule text s b n → bs.has_colon text ≡ false
 spelled-no_colon text s b n h = no_colon text text [] Moore (sym (append-nil text)) (plain-text text s b n h) refl
 
--- its second `/` is no digit
-second-slash : (b number : List ℕ) → Every is_digit (b ++ (47 ∷ number)) → ⊥
-second-slash b number h = false≢true (every_right is_digit b (47 ∷ number) h)
+-- read as two lists, it has its second `/` in one of them
+pub two-lists : (text s b : List ℕ) (n : ℕ) → (h : SpellsGenerationsRule text s b n) → lists_of text ≡ Some (b ++ (47 ∷ h.number), s)
+two-lists text s b n h = ap lists_of h.form ∙ lists-unlettered s (b ++ (47 ∷ h.number)) (listed-digits Moore s h.survival_digits)
+
+-- so it isn't read as two lists that hold none
+pub other-lists : (text s b : List ℕ) (n : ℕ) → SpellsGenerationsRule text s b n → (d v : List ℕ) → lists_of text ≡ Some (d, v) → Every stands_in_list d → ⊥
+other-lists text s b n h d v lists all =
+    let births : d ≡ b ++ (47 ∷ h.number) = ap first_list (sym lists ∙ two-lists text s b n h) in
+    false≢true (every_right stands_in_list b (47 ∷ h.number) (subst (Every stands_in_list) births all))
 
 pub other-notation : (text s b : List ℕ) (n : ℕ) → SpellsGenerationsRule text s b n → bs.SpellsNoBsRule text
 other-notation text s b n h d v hood k =
     let whole = (split text text [] Moore (sym (append-nil text)) (plain-text text s b n h) refl).body_is in
-    let digits = digits-of Moore s h.survival_digits in
-    let later = b ++ (47 ∷ h.number) in
-    let lists : lists_of text ≡ Some (later, s) = ap lists_of h.form ∙ lists-no_letter s later digits ∙ ap swapped_lists (around_slash s later digits) in
-    let births : d ≡ later = ap first_list (sym (read text d v hood k).lists_are ∙ ap lists_of whole ∙ lists) in
-    second-slash b h.number (subst (Every is_digit) births (digits-of hood d k.birth_digits))
+    other-lists text s b n h d v (ap lists_of (sym whole) ∙ (read text d v hood k).lists_are) (listed-digits hood d k.birth_digits)
 
 -- ---- the rule that a text names, or its fault
 

@@ -172,19 +172,20 @@ before-blanks (b ∷ bs) all = elim (cases_Bool (list_all is_blank (b ∷ bs))) 
       and_from (stands_in_one b) (list_all stands_in_one bs) parts.0 (before-blanks bs parts.1)
 ]
 
-with-front-stands : (b : ℕ) (parts : List (List ℕ)) → list_all (list_all stands_in_one) (with_front b parts) ≡ true → (stands_in_one b ≡ true) × (list_all (list_all stands_in_one) parts ≡ true)
-with-front-stands b [] all = ((and_parts (stands_in_one b) true (and_parts (stands_in_one b && true) true all).0).0, refl)
-with-front-stands b (p ∷ ps) all =
-    let one = and_parts (stands_in_one b && list_all stands_in_one p) (list_all (list_all stands_in_one) ps) all in
-    let two = and_parts (stands_in_one b) (list_all stands_in_one p) one.0 in
-    (two.0, and_from (list_all stands_in_one p) (list_all (list_all stands_in_one) ps) two.1 one.1)
+-- a test that all bytes of some lists pass, the first of them with a byte in front, is passed by that byte and by all of theirs
+pub with_front-every : (test : ℕ → Bool) (b : ℕ) (parts : List (List ℕ)) → list_all (list_all test) (with_front b parts) ≡ true → (test b ≡ true) × (list_all (list_all test) parts ≡ true)
+with_front-every test b [] all = ((and_parts (test b) true (and_parts (test b && true) true all).0).0, refl)
+with_front-every test b (p ∷ ps) all =
+    let one = and_parts (test b && list_all test p) (list_all (list_all test) ps) all in
+    let two = and_parts (test b) (list_all test p) one.0 in
+    (two.0, and_from (list_all test p) (list_all (list_all test) ps) two.1 one.1)
 
 parts-stand : (bytes : List ℕ) → list_all (list_all stands_in_one) (comma_parts bytes) ≡ true → list_all stands_in_one bytes ≡ true
 parts-stand [] all = refl
 parts-stand (b ∷ bs) all = elim (cases_Bool (b == 44)) [
   | inl t ↦ and_from (stands_in_one b) (list_all stands_in_one bs) (or_right (is_blank b) _ (or_left (b == 44) _ t)) (parts-stand bs (ap (λ v. list_all (list_all stands_in_one) (if v then [] ∷ comma_parts bs else with_front b (comma_parts bs))) (sym t) ∙ all))
   | inr t ↦
-      let parts = with-front-stands b (comma_parts bs) (ap (λ v. list_all (list_all stands_in_one) (if v then [] ∷ comma_parts bs else with_front b (comma_parts bs))) (sym t) ∙ all) in
+      let parts = with_front-every stands_in_one b (comma_parts bs) (ap (λ v. list_all (list_all stands_in_one) (if v then [] ∷ comma_parts bs else with_front b (comma_parts bs))) (sym t) ∙ all) in
       and_from (stands_in_one b) (list_all stands_in_one bs) parts.0 (parts-stand bs parts.1)
 ]
 

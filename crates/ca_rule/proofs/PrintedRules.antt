@@ -15,17 +15,21 @@ numbers = 0 ∷ 1 ∷ 2 ∷ 3 ∷ 4 ∷ 5 ∷ 6 ∷ 7 ∷ 8 ∷ []
 abbrev pub digits_from : Counts → ℕ → List ℕ
 digits_from counts n = map (λ m. 48 + m) (filter (is_count counts) (drop n numbers))
 
+-- what holds of each of them holds of each number below 9
+pub below_nine : (P : ℕ → Type 0) → P 0 × P 1 × P 2 × P 3 × P 4 × P 5 × P 6 × P 7 × P 8 → (n : ℕ) → n < 9 → P n
+below_nine P all zero h = all.0
+below_nine P all (suc zero) h = all.1
+below_nine P all (suc (suc zero)) h = all.2
+below_nine P all (suc (suc (suc zero))) h = all.3
+below_nine P all (suc (suc (suc (suc zero)))) h = all.4
+below_nine P all (suc (suc (suc (suc (suc zero))))) h = all.5
+below_nine P all (suc (suc (suc (suc (suc (suc zero)))))) h = all.6
+below_nine P all (suc (suc (suc (suc (suc (suc (suc zero))))))) h = all.7
+below_nine P all (suc (suc (suc (suc (suc (suc (suc (suc zero)))))))) h = all.8
+below_nine P all (suc (suc (suc (suc (suc (suc (suc (suc (suc n))))))))) h = absurd (omega arith)
+
 numbers-drop : (n : ℕ) → n < 9 → drop n numbers ≡ n ∷ drop (n + 1) numbers
-numbers-drop zero h = refl
-numbers-drop (suc zero) h = refl
-numbers-drop (suc (suc zero)) h = refl
-numbers-drop (suc (suc (suc zero))) h = refl
-numbers-drop (suc (suc (suc (suc zero)))) h = refl
-numbers-drop (suc (suc (suc (suc (suc zero))))) h = refl
-numbers-drop (suc (suc (suc (suc (suc (suc zero)))))) h = refl
-numbers-drop (suc (suc (suc (suc (suc (suc (suc zero))))))) h = refl
-numbers-drop (suc (suc (suc (suc (suc (suc (suc (suc zero)))))))) h = refl
-numbers-drop (suc (suc (suc (suc (suc (suc (suc (suc (suc n))))))))) h = absurd (omega arith)
+numbers-drop = below_nine (λ n. drop n numbers ≡ n ∷ drop (n + 1) numbers) (refl, refl, refl, refl, refl, refl, refl, refl, refl)
 
 -- from a count on they begin with its digit
 pub digits_from-counted : (counts : Counts) (n : ℕ) → n < 9 → is_count counts n ≡ true → digits_from counts n ≡ (48 + n) ∷ digits_from counts (n + 1)

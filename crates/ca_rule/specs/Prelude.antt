@@ -8,7 +8,8 @@ pub use Rattle.ca_rule.specs.Generations.{SpellsNoGenerationsRule, ageing_by_cou
 pub use Rattle.ca_rule.specs.Masks.{mask_of, neighbourhood_of, counting_by_hood}
 pub use Rattle.ca_rule.specs.Rule.{RuleValue, next_of, IsRuleFault, IsSameRule, Bs, Gen, Tab, rule_value, states_of, NamesRule, printed_form, first_named}
 pub use Rattle.ca_rule.specs.Spelling.{NamesBsRule, IsLetter, IsOptionalSlash, IsLettered, IsUnlettered, IsSuffix, SpellsBsRule, has_colon, IsBsRuleFault, SpellsNoBsRule, digits_of, NamesCounts}
-pub use Rattle.ca_rule.specs.Spelling.{IsSpellingFault, suffix_of, printed_bs_rule}
+pub use Rattle.ca_rule.specs.Spelling.{SpellsLists, IsSpellingFault, suffix_of, printed_bs_rule}
+pub use Rattle.ca_rule.specs.TextLists.{is_rule_letter, stands_in_list, without_slash, tail_after_letter, tail_after_slash, both_lists, swapped_lists, lists_around, lists_around_slash, lists_of}
 pub use Rattle.ca_rule.specs.TableOrders.{orders, every_order, picks, ring, ring_size, forward_order}
 pub use Rattle.ca_rule.specs.TableNext.{TableRule, table_next, States, Transition, admits, SlotCell, is_variable, take_one_cell, fits, next_by, variable_states, IsSoundTable, result_state}
 pub use Rattle.ca_rule.specs.TableNext.{cells_in_order, outcome, taken_cell}

@@ -32,11 +32,16 @@ IsLettered first second text digits later hood = (a : ℕ) × (b : ℕ) × (slas
 abbrev pub IsUnlettered : List ℕ → List ℕ → List ℕ → Hood → Type 0
 IsUnlettered text survival birth hood = (suffix : List ℕ) × IsSuffix hood suffix × (text ≡ survival ++ (codes "/" ++ (birth ++ suffix)))
 
+-- the text spells these birth and survival digits, in one of the three forms
+abbrev pub SpellsLists : List ℕ → List ℕ → List ℕ → Hood → Type 0
+SpellsLists text birth survival hood =
+    IsLettered (letter "B") (letter "S") text birth survival hood ⊎ (IsLettered (letter "S") (letter "B") text survival birth hood ⊎ IsUnlettered text survival birth hood)
+
 -- the text spells a rule with these birth and survival digits over this neighbourhood, no digit above its size
 pub record SpellsBsRule (text birth survival : List ℕ) (hood : Hood) : Type 0 where
   pub birth_digits : IsTrue (are_digits_up_to (most_of hood) birth)
   pub survival_digits : IsTrue (are_digits_up_to (most_of hood) survival)
-  pub form : IsLettered (letter "B") (letter "S") text birth survival hood ⊎ (IsLettered (letter "S") (letter "B") text survival birth hood ⊎ IsUnlettered text survival birth hood)
+  pub form : SpellsLists text birth survival hood
 
 -- `:` begins the size of a bounded grid
 abbrev pub has_colon : List ℕ → Bool

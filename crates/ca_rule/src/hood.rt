@@ -44,7 +44,7 @@ impl Hood {
     }
 
     /// The sum of the counted neighbours of the middle of nine cells.
-    pub(crate) fn sum(self, nine: &Nine) -> u16
+    pub fn sum(self, nine: &Nine) -> u16
         ensures { result ≡ neighbour_count self nine.now }
     {
         let [nw, n, ne, w, _, e, sw, s, se] = nine.map(u16::from);

@@ -29,6 +29,7 @@ pub use rule_laws::{
     named_rules, one_generations_rule, same_rules, two_states_do_as_bs, worked_generations,
     worked_generations_cells, worked_generations_faults, worked_names,
 };
+pub use spelling::lists_of;
 pub use table::{
     Neighbourhood, Slot, Symmetry, Table, TableFault, one_table, table_or_fault, worked_cells,
     worked_orders, worked_texts, worked_transitions,

@@ -1,15 +1,17 @@
 //! How a rule is spelled in B/S notation.
 
 ghost use Rattle.std.specs.Prelude.{◌≡◌, ◌≤◌, None, Some, MatchOption};
+ghost use Rattle.std.specs.List.{prefix_len};
+ghost use Rattle.ca_plane.specs.Prelude.{front, rest};
 ghost use Rattle.ca_rule.specs.Counts.{are_digits_up_to};
-ghost use Rattle.ca_rule.specs.inner.TextParts.{is_rule_letter, hood_of, body_of, without_slash, tail_after_letter};
-ghost use Rattle.ca_rule.specs.inner.TextParts.{tail_after_slash, lists_around, lists_around_slash, lists_of};
+ghost use Rattle.ca_rule.specs.inner.TextParts.{hood_of, body_of};
 ghost use Rattle.ca_rule.specs.Spelling.{SpellsBsRule};
+ghost use Rattle.ca_rule.specs.TextLists.{is_rule_letter, stands_in_list, without_slash, tail_after_letter};
+ghost use Rattle.ca_rule.specs.TextLists.{tail_after_slash, lists_around, lists_around_slash, lists_of};
 
 use crate::bs_rule::BsRule;
 use crate::hood::Hood;
 use crate::notation::Notation;
-use ca_plane::bytes::split_digits;
 
 /// Whether the byte is this letter, which is given in upper case, of either case.
 fn is_letter(byte: u8, upper: u8) -> bool
@@ -35,6 +37,31 @@ fn split_suffix(text: &[u8]) -> (&[u8], Hood)
         return (before, Hood::Hex);
     }
     (text, Hood::Moore)
+}
+
+/// Whether the byte may stand in a list: it is no `/`, and none of the letters B and S.
+fn stands_in_list(byte: u8) -> bool
+    ensures { result ≡ stands_in_list byte }
+{
+    byte != b'/' && !is_letter(byte, b'B') && !is_letter(byte, b'S')
+}
+
+fn list_length(bytes: &[u8]) -> usize
+    ensures { result ≡ prefix_len stands_in_list bytes.now }
+{
+    bytes
+        .iter()
+        .take_while(|byte| stands_in_list(**byte))
+        .count()
+}
+
+/// The list that the bytes begin with, and the bytes from there on.
+#[tactic(auto, using(ca_plane::proofs::Lengths::fronts))]
+fn split_list(bytes: &[u8]) -> (&[u8], &[u8])
+    ensures front { result.0.now ≡ front stands_in_list bytes.now }
+    ensures rest { result.1.now ≡ rest stands_in_list bytes.now }
+{
+    bytes.split_at(list_length(bytes))
 }
 
 /// The bytes without a `/` at their start.
@@ -66,31 +93,31 @@ fn tail_after_slash(bytes: &[u8]) -> Option<&[u8]>
     bytes.strip_prefix(b"/")
 }
 
-/// The digits at the start, and what comes after the letter that follows them, with an optional `/` before
-/// it.
+/// The list at the start, and what comes after the letter that follows it, with an optional `/` before it.
 fn lists_around(bytes: &[u8], upper: u8) -> Option<(&[u8], &[u8])>
     requires low { 65 ≤ upper }
     requires high { upper ≤ 90 }
     ensures { MatchOption result (lists_around upper bytes.now ≡ None)
         (λ r. lists_around upper bytes.now ≡ Some (r.0.now, r.1.now)) }
 {
-    let (digits, rest) = split_digits(bytes);
+    let (list, rest) = split_list(bytes);
     let later = tail_after_letter(without_slash(rest), upper)?;
-    Some((digits, later))
+    Some((list, later))
 }
 
-/// The digits at the start, and what comes after the `/` that follows them.
+/// The list at the start, and what comes after the `/` that follows it.
 pub(crate) fn lists_around_slash(bytes: &[u8]) -> Option<(&[u8], &[u8])>
     ensures { MatchOption result (lists_around_slash bytes.now ≡ None)
         (λ r. lists_around_slash bytes.now ≡ Some (r.0.now, r.1.now)) }
 {
-    let (digits, rest) = split_digits(bytes);
+    let (list, rest) = split_list(bytes);
     let later = tail_after_slash(rest)?;
-    Some((digits, later))
+    Some((list, later))
 }
 
-/// The birth and the survival digits of a text without its suffix, whatever follows its last `/` or letter.
-fn lists_of(body: &[u8]) -> Option<(&[u8], &[u8])>
+/// The birth list and the survival list of a text without its suffix, as `3` and `23` of `B3/S23`, `s23b3` and
+/// `23/3`, whatever their bytes are, but that a `/` or one of the letters B and S ends the first.
+pub fn lists_of(body: &[u8]) -> Option<(&[u8], &[u8])>
     ensures { MatchOption result (lists_of body.now ≡ None)
         (λ r. lists_of body.now ≡ Some (r.0.now, r.1.now)) }
 {

@@ -1,26 +1,33 @@
--- The rule files that are written: the head, and a transition for each neighbourhood whose centre changes.
-use Rattle.std.specs.Prelude.{ℕ, ◌/◌, ◌%◌, List, [], ◌∷◌, ◌++◌, map, filter, Bool, not, ◌==◌, slice_index, codes, if◌then◌else◌}
-use Rattle.std.specs.List.{flat_map, range_with_len}
+-- The rule files that are written: the head, and a transition for each neighbourhood of dead and live cells whose centre changes. A
+-- file without variables is for two states.
+use Rattle.std.specs.Prelude.{ℕ, ◌+◌, ◌/◌, ◌%◌, List, [], ◌∷◌, ◌++◌, map, filter, Bool, not, ◌==◌, slice_index, codes, decimal, if◌then◌else◌}
+use Rattle.std.specs.List.{range_with_len}
 
--- the lines before the transitions
-abbrev pub head_lines : List ℕ → List (List ℕ)
-head_lines name = (codes "@RULE " ++ name) ∷ codes "@TABLE" ∷ codes "n_states:2" ∷ codes "neighborhood:Moore" ∷ codes "symmetries:none" ∷ []
+-- the lines before the variables and the transitions
+abbrev pub head_lines : List ℕ → ℕ → List (List ℕ)
+head_lines name states =
+    (codes "@RULE " ++ name) ∷ codes "@TABLE" ∷ (codes "n_states:" ++ decimal states) ∷ codes "neighborhood:Moore" ∷ codes "symmetries:none" ∷ []
 
--- a cell's digit
-abbrev pub digit_of : ℕ → ℕ
-digit_of cell = if cell == 0 then 48 else 49
+-- the eight neighbours among nine cells, in the order of a transition's inputs
+abbrev pub ring_of : List ℕ → List ℕ
+ring_of nine = map (slice_index nine) (1 ∷ 2 ∷ 5 ∷ 8 ∷ 7 ∷ 6 ∷ 3 ∷ 0 ∷ [])
 
--- nine cells in the order of a transition's inputs
+-- nine cells in that order
 abbrev pub inputs_of : List ℕ → List ℕ
-inputs_of nine = map (slice_index nine) (4 ∷ 1 ∷ 2 ∷ 5 ∷ 8 ∷ 7 ∷ 6 ∷ 3 ∷ 0 ∷ [])
+inputs_of nine = slice_index nine 4 ∷ ring_of nine
 
--- the digits of inputs, each with a comma behind it
-abbrev pub input_digits : List ℕ → List ℕ
-input_digits inputs = flat_map (λ cell. digit_of cell ∷ 44 ∷ []) inputs
+-- the digit of a neighbour, or instead of 0, in a file with variables, this letter of one
+abbrev pub neighbour_byte : Bool → ℕ → ℕ → ℕ
+neighbour_byte variables letter cell = if cell == 0 then (if variables then letter else 48) else 49
 
--- the line of a transition: the inputs of nine cells, then its result
-abbrev pub transition_line : List ℕ → ℕ → List ℕ
-transition_line nine result = input_digits (inputs_of nine) ++ digit_of result ∷ []
+-- the bytes of neighbours, with the letters from this one on, each with a comma behind it
+abbrev pub neighbour_bytes : Bool → ℕ → List ℕ → List ℕ
+neighbour_bytes variables letter [] = []
+neighbour_bytes variables letter (c ∷ cs) = neighbour_byte variables letter c ∷ 44 ∷ neighbour_bytes variables (letter + 1) cs
+
+-- the line of the transition of nine dead and live cells
+abbrev pub transition_line : Bool → List ℕ → ℕ → List ℕ
+transition_line variables nine result = decimal (slice_index nine 4) ++ 44 ∷ (neighbour_bytes variables 97 (ring_of nine) ++ decimal result)
 
 -- the neighbourhood with this number: its binary digits
 abbrev pub neighbourhood : ℕ → List ℕ
@@ -35,9 +42,5 @@ abbrev pub changes : (List ℕ → ℕ) → List ℕ → Bool
 changes next nine = not (next nine == slice_index nine 4)
 
 -- the lines of the first neighbourhoods whose centres change, each with its centre's next state
-abbrev pub lines_by : (List ℕ → ℕ → List ℕ) → (List ℕ → ℕ) → ℕ → List (List ℕ)
-lines_by line next count = map (λ nine. line nine (next nine)) (filter (changes next) (neighbourhoods count))
-
--- the lines of the transitions of the first neighbourhoods
-abbrev pub transition_lines : (List ℕ → ℕ) → ℕ → List (List ℕ)
-transition_lines next count = lines_by transition_line next count
+abbrev pub transition_lines : Bool → (List ℕ → ℕ) → ℕ → List (List ℕ)
+transition_lines variables next count = map (λ nine. transition_line variables nine (next nine)) (filter (changes next) (neighbourhoods count))

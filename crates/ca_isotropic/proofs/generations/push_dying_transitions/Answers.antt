@@ -1,5 +1,5 @@
 use Rattle.std.proofs.Common.{arith}
-use Rattle.ca_isotropic.proofs.GenerationsFiles.{dying-more}
+use Rattle.ca_isotropic.proofs.WrittenFiles.{dying-more}
 use Rattle.ca_isotropic.proofs.generations.push_dying_transitions.Goals as goal
 
 pub dying-preserved : goal.dying-preserved

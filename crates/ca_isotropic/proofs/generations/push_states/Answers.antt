@@ -1,5 +1,5 @@
 use Rattle.std.proofs.Common.{arith}
-use Rattle.ca_isotropic.proofs.GenerationsFiles.{state-more}
+use Rattle.ca_isotropic.proofs.WrittenFiles.{state-more}
 use Rattle.ca_isotropic.proofs.generations.push_states.Goals as goal
 
 pub states-preserved : goal.states-preserved

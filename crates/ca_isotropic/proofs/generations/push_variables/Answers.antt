@@ -1,4 +1,4 @@
-use Rattle.ca_isotropic.proofs.GenerationsFiles.{variable-more}
+use Rattle.ca_isotropic.proofs.WrittenFiles.{variable-more}
 use Rattle.ca_isotropic.proofs.generations.push_variables.Goals as goal
 
 pub variables-preserved : goal.variables-preserved

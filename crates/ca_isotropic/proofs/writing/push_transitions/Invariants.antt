@@ -4,4 +4,4 @@ use Rattle.ca_isotropic.proofs.writing.push_transitions.Given as goal
 
 -- the transitions of the numbers before are put
 abbrev pub invariant-numbers : goal.invariant-numbers
-invariant-numbers g l = Puts l.initial.out.items l.out.items (text_of (transition_lines (g.A.Automaton.next_of l.rule) l.number))
+invariant-numbers g l = Puts l.initial.out.items l.out.items (text_of (transition_lines l.variables (g.A.Automaton.next_of l.rule) l.number))

@@ -1,7 +1,7 @@
-use Rattle.std.proofs.Common.{◌<◌, All, ◌++◌, sym, ap, subst, ◌∙◌}
+use Rattle.std.proofs.Common.{◌<◌, false, All, ◌++◌, sym, ap, subst, ◌∙◌}
 use Rattle.ca_plane.specs.Prelude.{text_of}
 use Rattle.ca_isotropic.specs.inner.WrittenTables.{head_lines, transition_lines}
-use Rattle.ca_isotropic.proofs.WrittenFiles.{IsOfTwoStates, writes}
+use Rattle.ca_isotropic.proofs.WrittenFiles.{IsOfTwoStates, writes-two}
 use Rattle.ca_isotropic.proofs.writing.table_file.Goals as goal
 
 pub returns : goal.returns
@@ -14,5 +14,5 @@ returns g c =
       quiet = g.met.A.Automaton.quiet rule sound;
     } in
     let name = c.args.name.now in
-    writes next two name c.push_transitions.new.out.items c.requires.named
-    (c.in_ok-push_transitions.ensures.whole ∙ ap (λ l. l ++ text_of (transition_lines next 512)) (c.in_ok-push_head.ensures.whole ∙ ap (λ l. l ++ text_of (head_lines name)) c.new-out.ensures.items))
+    writes-two next two name c.push_transitions.new.out.items c.requires.named
+    (c.in_ok-push_transitions.ensures.whole ∙ ap (λ l. l ++ text_of (transition_lines false next 512)) (c.in_ok-push_head.ensures.whole ∙ ap (λ l. l ++ text_of (head_lines name 2)) c.new-out.ensures.items))
