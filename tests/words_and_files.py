@@ -214,7 +214,7 @@ def try_patterns(tally, files):
     verdicts = ["yes" if name in ("longest", "block") else "refused, no file" for name in paths]
     text = files.path("patterns.claims", loads + claims + b"becomes block 0 longer\n")
     answers = [(len(paths) + 1 + at, verdict) for at, verdict in enumerate([*verdicts, "refused, no file"])]
-    tally.expect("files that aren't handed in", run(["verify", text]), lines_outcome(answers))
+    tally.expect("files that aren't supplied", run(["verify", text]), lines_outcome(answers))
     tally.expect("no files, and no claims", run(["verify", files.path("loads.claims", loads)]), Outcome(b"", b"", 0))
 
 

@@ -5,11 +5,12 @@ use Rattle.ca_answers.specs.declared.{verdict.Answer.Answer, note.Note.Note}
 use Rattle.ca_text.specs.Prelude.{Claim}
 use Rattle.ca_answers.specs.Answers.{IsTrueAnswer, IsWithinWork}
 use Rattle.ca_answers.specs.Notes.{IsNote}
+use Rattle.ca_answers.specs.Files.{SuppliedFiles}
 
--- the paths and bytes of the files that were handed in; the paths of the text's rule lines; the claims that are left, with the numbers of their
+-- the paths and bytes of the files that are supplied; the paths of the text's rule lines; the claims that are left, with the numbers of their
 -- lines; for each of these the names and paths of its patterns; and how much work each may take
 pub record Judging : Type 0 where
-  pub files : List (List ℕ × List ℕ)
+  pub files : SuppliedFiles
   pub rules : List (List ℕ)
   pub claims : List (ℕ × Claim)
   pub patterns : List (Both (List ℕ × List ℕ))

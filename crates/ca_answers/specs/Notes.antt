@@ -1,4 +1,4 @@
--- What a note on a verdict says of the claim's patterns and of the files that were handed in.
+-- What a note on a verdict says of the claim's patterns and of the files that are supplied.
 use Rattle.std.specs.Prelude.{◌≡◌, ◌≢◌, ℕ, ℤ, List}
 use Rattle.ca_text.specs.declared.both.Both.{Both}
 use Rattle.ca_answers.specs.declared.{note.Note.Note, verdict.Verdict.Verdict, cause.Cause.Cause}
@@ -7,13 +7,14 @@ use Rattle.ca_answers.specs.declared.verdict.Verdict.TheVariants.{Yes, No, Refus
 use Rattle.ca_answers.specs.declared.verdict.Refutation.TheVariants.{Empty, Differs, Earlier, Died}
 use Rattle.ca_answers.specs.Answers.{IsOfClaim, IsOfPattern, IsOfRuleFile}
 use Rattle.ca_text.specs.Prelude.{map_both, FirstBadOfBoth}
+use Rattle.ca_answers.specs.Files.{SuppliedFiles}
 
 -- the first bad pattern is the one with this name and path; patterns are given by their names and paths
 abbrev pub IsFirstBad : Both (List ℕ × List ℕ) → (name path : List ℕ) → (Good Bad : List ℕ → Type 0) → Type 0
 IsFirstBad patterns name path Good Bad = FirstBadOfBoth (λ p. Good p.1) (λ p. (p ≡ (name, path)) × Bad p.1) patterns
 
 -- what a note says of a verdict on a claim about these patterns
-abbrev pub IsNote : List (List ℕ × List ℕ) → List (List ℕ) → Both (List ℕ × List ℕ) → Verdict → Note → Type 0
+abbrev pub IsNote : SuppliedFiles → List (List ℕ) → Both (List ℕ × List ℕ) → Verdict → Note → Type 0
 IsNote files rules patterns verdict Nothing = Unit {0}
 IsNote files rules patterns verdict (Cell name) = (x : ℤ) × (y : ℤ) × (found : ℕ) × (expected : ℕ) × (generations : ℕ)
     × (verdict ≡ No (Differs x y found expected generations)) × (patterns.first.0 ≡ name.now)

@@ -14,7 +14,7 @@ use thiserror::Error;
 /// the claim's first goes before the other in each of them.
 #[derive(Clone, Copy, Debug, PartialEq, Eq, Error)]
 pub enum Cause {
-    /// No file with the path of one of the patterns, or of a rule line of the text, was handed in.
+    /// No file with the path of one of the patterns, or of a rule line of the text, is supplied.
     #[error("no file")]
     NoFile,
     /// The file of a rule line is the text of no rule table, or of one that wakes the empty plane; the first

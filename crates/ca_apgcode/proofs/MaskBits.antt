@@ -2,11 +2,10 @@
 use Rattle.std.proofs.Common.{if◌then◌else◌, ◌≡◌, ℕ, zero, suc, ◌+◌, ◌-◌, ◌*◌, ◌/◌, ◌%◌, ◌^◌, ◌<◌, ◌≤◌, ◌↔◌, max, nat_eq, not, IsTrue, refl, sym, ap, ap₂, ◌∙◌, inl, inr, arith}
 use Rattle.std.specs.Prelude.{bit_and, bit_or, bit_xor, count_ones}
 use Rattle.std.specs.Int.Count.{ones, ones_in}
-use Rattle.std.specs.Int.{bit_at, w64}
+use Rattle.std.specs.Int.{bit_at, w64, trailing_zeros}
 use Rattle.std.proofs.lemmas.Bool.{cases_lt, cases_eq, ne_eqb, eq-eqb, false≢true}
 use Rattle.std.proofs.lemmas.Nat.{shr-shr, pow_pos, one_shl, and_le_l, xor_lt, mod-pow-add, ones_cat}
 use Rattle.std.proofs.lemmas.Nat.Bits.{bit_at-zero, bit_at-suc, bit_at_lowest, bit_at-lt, bit_at_and, bit_at_or, bit_at_xor, bit_at_cat_low, bit_at_cat_high, bit_at_above, bit_at_ones, bit_at_ones_above, bit_at-pow_same, bit_at-pow_other, bit_at-trailing_zeros}
-use Rattle.std.specs.Int.{trailing_zeros}
 use Rattle.std.proofs.Math.Nat.{mod-lt, mod-eq_of_lt, pow-suc}
 use Rattle.ca_apgcode.specs.inner.Sides.{IsOfFiveBefore, west_bit, east_bit, bits_without}
 use Rattle.ca_apgcode.proofs.Heights.{pow_most}

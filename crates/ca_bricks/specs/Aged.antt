@@ -52,8 +52,7 @@ pub record AgedGridShows (grid : AgedGrid) (m : ℕ) (p : ℤ → ℤ → ℕ) :
   pub beside : AreBeside grid
   pub margin : HasMargin m grid.live.across grid.live.down p grid.live.x grid.live.y
   pub live : GridShows grid.live m (λ x y. liveness (p x y))
-  pub dying : (k : ℕ) (d : BrickGrid) → k < length grid.dying.items
-      → GridShows (get_or grid.dying.items k d) m (λ x y. dying_digit grid.states k (p x y))
+  pub dying : (k : ℕ) (d : BrickGrid) → k < length grid.dying.items → GridShows (get_or grid.dying.items k d) m (λ x y. dying_digit grid.states k (p x y))
 
 -- ---- one generation
 
@@ -76,8 +75,7 @@ aged_digit states k number begins = max (bit_at (number - 1) k) (min begins (bit
 
 -- brick t of the later planes is one generation on: a cell lives that the counting says so of and that isn't dying, and the numbers count down
 pub record IsNextAged (ageing : Ageing) (now later : AgedGrid) (t : ℕ) : Type 0 where
-  pub live : (x y : ℕ) → x < 64 → y < 16
-      → row_cells (get_or later.live.bricks.items t []) x y ≡ lives_at ageing now t x y - number_at now.dying.items t x y
+  pub live : (x y : ℕ) → x < 64 → y < 16 → row_cells (get_or later.live.bricks.items t []) x y ≡ lives_at ageing now t x y - number_at now.dying.items t x y
   pub dying : (k : ℕ) (d : BrickGrid) → k < length now.dying.items → (x y : ℕ) → x < 64 → y < 16
       → row_cells (get_or (get_or later.dying.items k d).bricks.items t []) x y
       ≡ aged_digit ageing.states k (number_at now.dying.items t x y) (begins_at ageing now t x y)
@@ -134,6 +132,5 @@ pub record HaveAged (ageing : Ageing) (now before later : AgedGrid) (old new : L
   pub grows : QueueGrows now.live.across (length now.live.bricks.items) old new
   pub others : (t : ℕ) → (HasNeighbours now.live.across (length now.live.bricks.items) t → ⊥)
       → get_or later.live.bricks.items t [] ≡ get_or before.live.bricks.items t []
-  pub other_digits : (k : ℕ) (d : BrickGrid) → k < length now.dying.items → (t : ℕ)
-      → (HasNeighbours now.live.across (length now.live.bricks.items) t → ⊥)
+  pub other_digits : (k : ℕ) (d : BrickGrid) → k < length now.dying.items → (t : ℕ) → (HasNeighbours now.live.across (length now.live.bricks.items) t → ⊥)
       → get_or (get_or later.dying.items k d).bricks.items t [] ≡ get_or (get_or before.dying.items k d).bricks.items t []

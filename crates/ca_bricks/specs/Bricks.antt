@@ -58,8 +58,7 @@ pub record IsInPlace (before later : BrickGrid) : Type 0 where
 
 -- a grid shows what came of the first cells after so many generations, under a rule that goes by the cells so, and has a
 -- margin for n more
-pub record CanStepFor (next : List ℕ → ℕ) (rule : CellRule) (first : ℤ → ℤ → ℕ) (reached n : ℕ)
-    (grid : BrickGrid) : Type 0 where
+pub record CanStepFor (next : List ℕ → ℕ) (rule : CellRule) (first : ℤ → ℤ → ℕ) (reached n : ℕ) (grid : BrickGrid) : Type 0 where
   pub by_cells : GoesByCells next rule
   pub quiet : next (replicate 9 0) ≡ 0
   pub shows : GridShows grid n (cells_after next first reached)
@@ -220,8 +219,7 @@ pub record CanStep (rule : CellRule) (across : ℕ) (now before : List (List ℕ
 
 -- each brick with others on all sides is one generation on, the others are as before, and the queue has those that see other cells
 -- than two generations before
-pub record AreStepped (rule : CellRule) (across : ℕ) (now before later : List (List ℕ))
-    (old new : List ℕ) : Type 0 where
+pub record AreStepped (rule : CellRule) (across : ℕ) (now before later : List (List ℕ)) (old new : List ℕ) : Type 0 where
   pub next : (t : ℕ) → HasNeighbours across (length now) t → IsNextBrick rule across now later t
   pub same : (t : ℕ) → HasNeighbours across (length now) t → IsNotIn new t → IsSameRound across before later t
   pub grows : QueueGrows across (length now) old new

@@ -12,5 +12,4 @@ IsWithinEdge x y = IsInBox (record { x0 = pos 1; y0 = pos 1; x1 = pos 14; y1 = p
 
 -- but for its edge, the later tile is one generation on, under the rule with these masks
 abbrev pub IsNextTile : (birth survive : ℕ) → (tile later : List ℕ) → Type 0
-IsNextTile birth survive tile later = (x y : ℤ) → IsWithinEdge x y
-    → tile_cell later x y ≡ moore_next birth survive (around (tile_cell tile) x y)
+IsNextTile birth survive tile later = (x y : ℤ) → IsWithinEdge x y → tile_cell later x y ≡ moore_next birth survive (around (tile_cell tile) x y)

@@ -212,15 +212,13 @@ IsOutcome tables task subject outcome =
     ⊎ ((is_claim_path subject.path.now ≡ true) × IsContentOutcome tables task subject.content outcome)
 
 -- an entry on a file, whose name is none of those taken
-pub record IsEntry (tables : List TableRule) (task : Task) (taken : List (List ℕ)) (subject : Subject)
-    (entry : Entry) : Type 0 where
+pub record IsEntry (tables : List TableRule) (task : Task) (taken : List (List ℕ)) (subject : Subject) (entry : Entry) : Type 0 where
   pub path : entry.path.now ≡ subject.path.now
   pub name : IsFreeName taken (claim_name subject.path.now) entry.name.items
   pub outcome : IsOutcome tables task subject entry.outcome
 
 -- an entry on each file, in order, whose names are different, and none of those taken before
-abbrev pub AreEntries : List TableRule → Task → (taken : List (List ℕ)) → List Subject
-    → List Entry → Type 0
+abbrev pub AreEntries : List TableRule → Task → (taken : List (List ℕ)) → List Subject → List Entry → Type 0
 AreEntries tables task taken [] [] = Unit {0}
 AreEntries tables task taken [] (e ∷ es) = ⊥
 AreEntries tables task taken (s ∷ ss) [] = ⊥
@@ -228,20 +226,17 @@ AreEntries tables task taken (s ∷ ss) (e ∷ es) =
     IsEntry tables task taken s e × AreEntries tables task (taken ++ e.name.items ∷ []) ss es
 
 -- these are true entries on these files, under the tables of the rule files, and the text has their lines
-pub record IsCatalog (rules : KnownRules) (task : Task) (subjects : List Subject) (text : List ℕ)
-    (entries : List Entry) : Type 0 where
+pub record IsCatalog (rules : KnownRules) (task : Task) (subjects : List Subject) (text : List ℕ) (entries : List Entry) : Type 0 where
   pub holds : AreEntries rules.tables.now task [] subjects entries
   pub lines : text ≡ catalog_text task.generations rules.paths.now entries
 
 -- the whole text on these files is written, with these entries
-abbrev pub WritesCatalog : {W : Type 0} → (W → Option (List ℕ)) → Counted W → Counted W → KnownRules → Task → List Subject
-    → List Entry → Type 0
+abbrev pub WritesCatalog : {W : Type 0} → (W → Option (List ℕ)) → Counted W → Counted W → KnownRules → Task → List Subject → List Entry → Type 0
 WritesCatalog contents old new rules task subjects entries = WritesOn contents old new (IsCatalog rules task) subjects entries
 
 -- why it isn't, and what is written: a write failed, after a first part of the text on the first so many files; or memory is out for the lines on a file, and
 -- the text on those before it is written, or it is out for the lines of the rule files, and nothing is
-abbrev pub EndsCatalog : {W : Type 0} → (W → Option (List ℕ)) → Counted W → Counted W → KnownRules → Task → List Subject
-    → ToolFault → Type 0
+abbrev pub EndsCatalog : {W : Type 0} → (W → Option (List ℕ)) → Counted W → Counted W → KnownRules → Task → List Subject → ToolFault → Type 0
 EndsCatalog contents old new rules task subjects tools.Write = WritesPartOn contents old new (IsCatalog rules task) subjects
 EndsCatalog contents old new rules task subjects tools.Memory =
     WritesOnFirst contents old new (IsCatalog rules task) subjects ⊎ ((rules.paths.now ≢ []) × (new ≡ old))

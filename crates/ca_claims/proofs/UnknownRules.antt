@@ -10,7 +10,7 @@ use Rattle.std.proofs.lemmas.Slice.Eq.{bytes_eq-Decides}
 use Rattle.ca_rule.specs.Prelude.{TableRule, IsRuleFault}
 use Rattle.ca_rule.specs.declared.fault.RuleFault.TheVariants.{Unknown}
 use Rattle.ca_text.specs.Prelude.{ClaimText, path_at, IsNeeded, with_word}
-use Rattle.ca_answers.specs.Prelude.{bytes_at, AreTables}
+use Rattle.ca_answers.specs.Prelude.{SuppliedFiles, bytes_at, AreTables}
 use Rattle.ca_pattern.specs.Prelude.{HoldsRuleText, IsUnreadFile}
 use Rattle.ca_claims.specs.Unknown.{HoldsUnknownRule, IsUnknownRule, AreUnknownRules}
 use Rattle.ca_claims.specs.inner.Unknown.{AsksFor, IsAskedBefore, AreAskedBefore, AddsAsked}
@@ -114,7 +114,7 @@ bytes_of : (file : Option (Bor (List ℕ))) (bytes : List ℕ) → option_copied
 bytes_of None bytes e = absurd (none-some bytes e)
 bytes_of (Some b) bytes e = (b, refl, same_Some b.now bytes e)
 
-module _ (files : List (List ℕ × List ℕ)) (asked : ClaimText) (needed : List Bool) (found : List (Option (Bor (List ℕ)))) (tables : List TableRule)
+module _ (files : SuppliedFiles) (asked : ClaimText) (needed : List Bool) (found : List (Option (Bor (List ℕ)))) (tables : List TableRule)
     (same : map option_copied found ≡ map (bytes_at files) asked.paths) (with_marks : AllZip (λ path mark. IsTrue mark ↔ IsNeeded asked path) asked.paths needed) (known : AreTables files asked.rules tables) where
   within_paths : (i : ℕ) → i < length found → i < length asked.paths
   within_paths i within = subst (λ n. i < n) (found-length option_copied (bytes_at files) found asked.paths same) within
@@ -161,5 +161,5 @@ module _ (files : List (List ℕ × List ℕ)) (asked : ClaimText) (needed : Lis
   as_many_marks = sym (as_long (λ path mark. IsTrue mark ↔ IsNeeded asked path) asked.paths needed with_marks) ∙ sym (found-length option_copied (bytes_at files) found asked.paths same)
 
 -- where the rule lines' files aren't all tables nothing is asked for
-pub none_without_tables : (files : List (List ℕ × List ℕ)) (asked : ClaimText) → ((tables : List TableRule) → AreTables files asked.rules tables → ⊥) → AreUnknownRules files asked []
+pub none_without_tables : (files : SuppliedFiles) (asked : ClaimText) → ((tables : List TableRule) → AreTables files asked.rules tables → ⊥) → AreUnknownRules files asked []
 none_without_tables files asked none = λ name. (λ h. absurd (false≢true h), λ u. absurd (none u.tables u.known))

@@ -15,7 +15,7 @@ use ca_text::{Claims, WordSet};
 use ca_verify::look_up;
 use std::alloc::Global;
 
-/// The rule texts of the patterns that the text's claims need, of those whose files were handed in and are read,
+/// The rule texts of the patterns that the text's claims need, of those whose files are supplied and are read,
 /// where they name no rule: none in B/S notation or of the family Generations, nor a table of a rule line. There
 /// are none where a rule line's file is missing or faulty: no claim is judged then. Each pattern file is read
 /// for this.

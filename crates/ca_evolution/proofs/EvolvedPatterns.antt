@@ -1,33 +1,17 @@
 -- Patterns of files that are taken some generations on.
-use Rattle.std.proofs.Common.{◌≡◌, ℕ, ◌+◌, ◌<◌, ◌≤◌, List, Some, Result, Ok, Err, refl, sym, ap, subst, ◌∙◌, arith}
+use Rattle.std.proofs.Common.{◌≡◌, ℕ, ◌+◌, ◌<◌, ◌≤◌, List, Result, Ok, Err, refl, sym, ap, subst, ◌∙◌, arith}
 use Rattle.std.specs.Prelude.{ℤ, IfOk, IfErr}
-use Rattle.ca_plane.specs.Prelude.{Picture, cell, after, cells_after, generation_limit}
+use Rattle.ca_plane.specs.Prelude.{cell, after, cells_after, generation_limit}
 use Rattle.ca_plane.proofs.After.{after_same}
-use Rattle.ca_quad.specs.declared.node.Node.{Node}
 use Rattle.ca_quad.specs.Trees as trees
-use Rattle.ca_macro.specs.Prelude.{AreInRange}
-use Rattle.ca_macro.proofs.Ranges.{range_as}
-use Rattle.ca_rle.specs.declared.rle_text.RleText.{RleText}
-use Rattle.ca_rle.specs.Prelude.{IsRleText, picture_of_items}
-use Rattle.ca_rule.specs.declared.rule.Rule.{Rule}
-use Rattle.ca_rule.specs.Prelude.{TableRule, RuleValue, rule_value, states_of, next_of, NamesRule}
-use Rattle.ca_pattern.specs.declared.{convert_fault.ConvertFault.ConvertFault, format.Format.Format, located_fault.LocatedFault.LocatedFault, pattern.Pattern.Pattern, pattern.StoredTree.StoredTree}
-use Rattle.ca_pattern.specs.declared.{pattern.Summary.Summary, ruled.RuledPattern.RuledPattern}
+use Rattle.ca_rule.specs.Prelude.{TableRule, rule_value, next_of}
+use Rattle.ca_pattern.specs.declared.{located_fault.LocatedFault.LocatedFault, pattern.Pattern.Pattern, pattern.StoredTree.StoredTree}
 use Rattle.ca_pattern.specs.declared.convert_fault.ConvertFault.TheVariants as convert
-use Rattle.ca_pattern.specs.declared.format.Format.TheVariants.{Rle}
 use Rattle.ca_pattern.specs.declared.located_fault.LocatedFault.TheVariants.{Unread, UnnamedRule, StateTooLarge, GenTooLarge, Work, Range, TooManyCells, Memory}
-use Rattle.ca_pattern.specs.declared.pattern.Cells.TheVariants.{Text, Squares}
-use Rattle.ca_pattern.specs.Prelude.{IsConvertFault, HoldsSmallRuledPattern, IsPatternAfter, IsReachFault, MayNeedRun, IsEvolved, IsSummaryAfter, IsConvertedAfter, IsConvertFaultAfter}
-use Rattle.ca_pattern.specs.Prelude.{convert_fault_of, format_of, IsTreeOf, IsPatternOf, IsPattern, IsReadFrom, rule_of, ShowsSmall, HasSmallStates, IsSummaryOf, IsWrittenAs, AreUnwritten}
-use Rattle.ca_pattern.specs.Prelude.{IsLaterTree}
-use Rattle.ca_pattern.proofs.EqualCells.{small_shown, population_shown}
-use Rattle.ca_pattern.proofs.FilesInRange.{file_in_range}
-use Rattle.ca_pattern.proofs.LaterPlanes.{picture_of}
-use Rattle.ca_pattern.proofs.OneRun.{in_range_or_out}
-use Rattle.ca_pattern.proofs.OpenedCells.{text_cells, tree_of_cells}
+use Rattle.ca_pattern.specs.declared.pattern.Cells.TheVariants.{Squares}
+use Rattle.ca_pattern.specs.Prelude.{HoldsSmallRuledPattern, IsPatternAfter, IsReachFault, MayNeedRun, IsTreeOf, IsPatternOf, HasSmallStates, IsLaterTree}
+use Rattle.ca_pattern.proofs.EqualCells.{small_shown}
 use Rattle.ca_pattern.proofs.PatternsRead.{reads_may_want}
-use Rattle.ca_pattern.proofs.RleFiles.{text_holds}
-use Rattle.ca_pattern.proofs.ReadPatterns.{read_pattern, holds_ruled}
 use Rattle.ca_pattern.proofs.CellsNearMiddle.{trimmed_low}
 use Rattle.ca_work.proofs.Powers.{power_more}
 use Rattle.ca_evolution.specs.Prelude.{IsEvolvedFrom, IsUnreachedFor, Takes}

@@ -24,8 +24,7 @@ use Rattle.ca_pattern.specs.Prelude.{IsLaterTree, ShowsTree, HasLive}
 use Rattle.ca_pattern.proofs.Deaths.{live_at_all}
 use Rattle.ca_identify.proofs.LaterPlanes.{tree_picture}
 use Rattle.ca_pattern.proofs.LeaptTrees.{ok_as}
-use Rattle.ca_pattern.proofs.Starts.{near_start}
-use Rattle.ca_pattern.proofs.Starts.{start_near, picture_after}
+use Rattle.ca_pattern.proofs.Starts.{near_start, start_near, picture_after}
 use Rattle.ca_identify.proofs.Stages.{changes, least_right, most_right, least_down, most_down}
 
 -- ---- a picture of the first cells

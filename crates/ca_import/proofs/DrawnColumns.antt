@@ -1,12 +1,12 @@
 -- Columns of a grid that are drawn cell by cell.
-use Rattle.std.proofs.Common.{◌≡◌, ℕ, ◌+◌, ◌≤◌, ℤ, pos, negsuc, ◌+ℤ◌, List, [], length, get_or, Bool, false, IsTrue, inl, inr, refl, sym, ap, subst, ◌∙◌, arith}
+use Rattle.std.proofs.Common.{◌≡◌, ℕ, ◌+◌, ◌≤◌, ℤ, pos, negsuc, ◌+ℤ◌, List, [], length, get_or, Bool, false, IsTrue, inl, inr, sym, ap, subst, ◌∙◌, arith}
 use Rattle.std.proofs.lemmas.Bool.{cases_lt, cases_eq, true≢false}
 use Rattle.std.proofs.lemmas.Int.{ints}
 use Rattle.std.proofs.lemmas.List.{get_or_past}
 use Rattle.std.proofs.lemmas.Nat.Bits.{bit_at-lt, bit_at-zero, bit_at_above}
 use Rattle.std.specs.Int.{bit_at}
 use Rattle.ca_plane.specs.declared.bit_plane.CellWord.{CellWord}
-use Rattle.ca_plane.specs.Prelude.{state_from_corner, bit_cell, AddsRun, reach, from_corner}
+use Rattle.ca_plane.specs.Prelude.{bit_cell, AddsRun, from_corner}
 use Rattle.ca_apgcode.specs.Prelude.{GridCells, IsGrid, cell}
 use Rattle.ca_import.specs.inner.Drawn.{IsDrawnTo}
 

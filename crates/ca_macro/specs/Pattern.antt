@@ -11,8 +11,7 @@ use Rattle.ca_macro.specs.Shown.{picture_of_nodes}
 
 -- the pattern has the file's cells, rule text and generation; its tree has the least level, the file's picture has states from 1 to
 -- 255, the generation is below the limit, and the rule text is a word
-pub record IsMacrocellPattern (nodes : List Node) (file : MacrocellFile)
-    (pattern : MacroPattern) : Type 0 where
+pub record IsMacrocellPattern (nodes : List Node) (file : MacrocellFile) (pattern : MacroPattern) : Type 0 where
   pub tree : trees.IsTree nodes pattern.tree
   pub trimmed : IsTrimmed nodes pattern.tree
   pub cells : (x y : ℤ) → trees.cell nodes pattern.tree x y ≡ cell (picture_of_nodes file.nodes) x y
@@ -31,8 +30,7 @@ abbrev pub AreInRange : (ℤ → ℤ → ℕ) → Type 0
 AreInRange cells = (x y : ℤ) → cells x y ≢ 0 → IsInRange (record { y = y; x = x })
 
 -- the file means these cells, this rule text and this generation
-pub record Holds (file : MacrocellFile) (cells : ℤ → ℤ → ℕ) (rule_text : List ℕ)
-    (generation : ℕ) : Type 0 where
+pub record Holds (file : MacrocellFile) (cells : ℤ → ℤ → ℕ) (rule_text : List ℕ) (generation : ℕ) : Type 0 where
   pub shown : (x y : ℤ) → cell (picture_of_nodes file.nodes) x y ≡ cells x y
   pub rule_is : file.rule_text ≡ rule_text
   pub generation_is : file.generation ≡ generation

@@ -95,8 +95,7 @@ pub record AreTidyNodes (states : ℕ) (cells : ℤ → ℤ → ℕ) (nodes : Li
   pub order : numbers_once (walk_of nodes) ≡ range_with_len 1 (length nodes)
 
 -- the one text of a plane, its rule text, its generation and its rule's number of states
-pub record IsTidyMacrocell (text : List ℕ) (cells : ℤ → ℤ → ℕ) (rule_text : List ℕ)
-    (generation states : ℕ) : Type 0 where
+pub record IsTidyMacrocell (text : List ℕ) (cells : ℤ → ℤ → ℕ) (rule_text : List ℕ) (generation states : ℕ) : Type 0 where
   pub nodes : List Node
   pub tidy : AreTidyNodes states cells nodes
   -- each line ends with LF

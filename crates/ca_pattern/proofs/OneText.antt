@@ -1,8 +1,7 @@
 -- A file is converted to one text.
-use Rattle.std.proofs.Common.{◌≡◌, ℕ, List, Option, None, Some, sym, ◌∙◌, inl, inr}
+use Rattle.std.proofs.Common.{◌≡◌, ℕ, List, sym, ◌∙◌, inl, inr}
 use Rattle.ca_plane.specs.declared.point.{Point.Point, Bounds.Bounds}
-use Rattle.std.specs.Option.{MatchOption}
-use Rattle.ca_plane.specs.Prelude.{Picture, cell, IsSame, IsLive, IsLeastBox}
+use Rattle.ca_plane.specs.Prelude.{Picture, cell, IsSame, IsLeastBox}
 use Rattle.ca_rle.specs.Tidy as rle
 use Rattle.ca_rle.proofs.OneTidy as rle_tidy
 use Rattle.ca_macro.proofs.OneTidy as macrocell_tidy

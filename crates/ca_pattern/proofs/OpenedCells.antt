@@ -1,9 +1,8 @@
 -- The cells of a pattern, in each of their forms.
 use Rattle.std.proofs.Common.{◌≡◌, ℕ, zero, suc, ◌<◌, ◌≤◌, List, refl, sym, ap, ◌∙◌, arith}
 use Rattle.std.specs.Prelude.{ℤ}
-use Rattle.std.specs.Option.{MatchOption}
 use Rattle.ca_plane.specs.declared.point.Point.{Point}
-use Rattle.ca_plane.specs.Prelude.{Picture, cell, IsLive, IsLeastBox, HasPopulation}
+use Rattle.ca_plane.specs.Prelude.{cell}
 use Rattle.ca_quad.specs.declared.{node.Node.Node, tree.Tree.Tree}
 use Rattle.ca_quad.specs.Trees as trees
 use Rattle.ca_quad.specs.Prelude.{IsTrimmed}
@@ -11,14 +10,12 @@ use Rattle.ca_macro.specs.Prelude.{AreInRange}
 use Rattle.ca_macro.proofs.Ranges.{cells_in_range}
 use Rattle.ca_rle.specs.declared.rle_text.RleText.{RleText}
 use Rattle.ca_rle.specs.Prelude.{IsRleText, picture_of_items}
-use Rattle.ca_rle.proofs.JudgedTexts.{text_bounds}
 use Rattle.ca_rle.proofs.OneList.{one_list}
 use Rattle.ca_rule.specs.Prelude.{RuleValue, states_of}
 use Rattle.ca_pattern.specs.declared.pattern.Cells.{Cells}
 use Rattle.ca_pattern.specs.declared.pattern.Cells.TheVariants.{Text, Squares}
 use Rattle.ca_pattern.specs.Prelude.{AreCells, IsTreeOf, HasSmallStates}
 use Rattle.ca_pattern.proofs.CellsNearMiddle.{range_held, trimmed_low}
-use Rattle.ca_pattern.proofs.EqualCells.{population_shown}
 use Rattle.ca_pattern.proofs.LaterPlanes.{range_shown}
 
 -- they show one state at every x and y

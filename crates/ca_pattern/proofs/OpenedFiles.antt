@@ -16,7 +16,7 @@ use Rattle.ca_pattern.specs.declared.convert_fault.ConvertFault.TheVariants as c
 use Rattle.ca_pattern.specs.declared.format.Format.TheVariants.{Rle}
 use Rattle.ca_pattern.specs.declared.located_fault.LocatedFault.TheVariants.{Unread, UnnamedRule, StateTooLarge, GenTooLarge, Work, Range, TooManyCells, Memory}
 use Rattle.ca_pattern.specs.declared.pattern.Cells.TheVariants.{Text, Squares}
-use Rattle.ca_pattern.specs.Prelude.{IsConvertFault, IsPatternAfter, IsEvolved, IsSummaryAfter, IsConvertedAfter, IsConvertFaultAfter, convert_fault_of, format_of, IsTreeOf, IsPatternOf, IsPattern}
+use Rattle.ca_pattern.specs.Prelude.{IsConvertFault, IsPatternAfter, IsEvolved, IsSummaryAfter, IsConvertedAfter, convert_fault_of, format_of, IsTreeOf, IsPatternOf, IsPattern}
 use Rattle.ca_pattern.specs.Prelude.{IsReadFrom, rule_of, ShowsSmall, HasSmallStates, IsSummaryOf, IsWrittenAs, AreUnwritten}
 use Rattle.ca_pattern.proofs.EqualCells.{small_shown, population_shown}
 use Rattle.ca_pattern.proofs.FilesInRange.{file_in_range}

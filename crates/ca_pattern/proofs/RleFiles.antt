@@ -1,7 +1,7 @@
 -- RLE files that were read, their cells kept in one form or another.
 use Rattle.std.proofs.Common.{◌≡◌, ℕ, ◌≤◌, ◌<◌, ◌^◌, List, refl, sym, ap, subst, arith}
 use Rattle.std.specs.Prelude.{ℤ}
-use Rattle.ca_plane.specs.Prelude.{Picture, cell, HasPopulation}
+use Rattle.ca_plane.specs.Prelude.{Picture, cell}
 use Rattle.ca_plane.specs.declared.point.Point.{Point}
 use Rattle.ca_rle.specs.declared.rle_text.RleText.{RleText}
 use Rattle.ca_rle.specs.Prelude.{IsRleText, RleFile, IsRleFile, IsWithinLimits, HasFileParts, picture_of_items}

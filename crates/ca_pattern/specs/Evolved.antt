@@ -15,8 +15,7 @@ use Rattle.ca_pattern.specs.PatternCells.{AreCells, IsPatternOf}
 use Rattle.ca_pattern.specs.Written.{HasCellOutOfRange}
 
 -- the bytes are a file whose pattern has these cells, of small states, under the rule that its rule text names, at this generation
-pub record HoldsSmallRuledPattern (bytes : List ℕ) (tables : List TableRule) (cells : Picture)
-    (rule : RuleValue) (generation : ℕ) : Type 0 where
+pub record HoldsSmallRuledPattern (bytes : List ℕ) (tables : List TableRule) (cells : Picture) (rule : RuleValue) (generation : ℕ) : Type 0 where
   pub holds : HoldsRuledPattern bytes tables cells rule generation
   pub small : HasSmallStates rule (cell cells)
 
@@ -40,8 +39,7 @@ IsReachFault bytes tables n work Work = (cells : Picture) × (rule : RuleValue) 
 IsReachFault bytes tables n work fault = IsOpeningFault bytes tables fault
 
 -- n generations on from the file's pattern, under its rule, the plane has these cells, at this generation, which is below the limit
-pub record IsEvolved (bytes : List ℕ) (tables : List TableRule) (n : ℕ) (later : Picture) (rule : RuleValue)
-    (generation : ℕ) : Type 0 where
+pub record IsEvolved (bytes : List ℕ) (tables : List TableRule) (n : ℕ) (later : Picture) (rule : RuleValue) (generation : ℕ) : Type 0 where
   pub cells : Picture
   pub begun : ℕ
   pub begins : HoldsSmallRuledPattern bytes tables cells rule begun
@@ -61,8 +59,7 @@ pub record IsPatternAfter (bytes : List ℕ) (tables : List TableRule) (n : ℕ)
 
 -- the summary is that of the plane n generations on: the format of the bytes, the printed form of their rule, their generation and n, the number of
 -- live cells, and the least box round them
-pub record IsSummaryAfter (bytes : List ℕ) (tables : List TableRule) (n : ℕ)
-    (summary : Summary) : Type 0 where
+pub record IsSummaryAfter (bytes : List ℕ) (tables : List TableRule) (n : ℕ) (summary : Summary) : Type 0 where
   pub later : Picture
   pub rule : RuleValue
   pub evolved : IsEvolved bytes tables n later rule summary.generation
@@ -73,8 +70,7 @@ pub record IsSummaryAfter (bytes : List ℕ) (tables : List TableRule) (n : ℕ)
 
 -- the text is what the plane n generations on is written as: it is the tidy text of the target's format, of the same cells at every x and y, with the
 -- printed form of the rule, and of the file's generation and n; and its reader takes it
-pub record IsConvertedAfter (bytes : List ℕ) (tables : List TableRule) (n : ℕ) (target : Format)
-    (text : List ℕ) : Type 0 where
+pub record IsConvertedAfter (bytes : List ℕ) (tables : List TableRule) (n : ℕ) (target : Format) (text : List ℕ) : Type 0 where
   pub later : Picture
   pub rule : RuleValue
   pub generation : ℕ

@@ -17,8 +17,7 @@ pub record IsStart (nodes : List Node) (tree : Tree) : Type 0 where
   pub within : HoldsAll 62 (cell nodes tree)
 
 -- the tree of the cells n generations after the first ones: no larger than it need be, and with no live cell outside the square of a plane
-pub record IsLaterTree (next : List ℕ → ℕ) (first : ℤ → ℤ → ℕ) (n : ℕ) (nodes : List Node)
-    (tree : Tree) : Type 0 where
+pub record IsLaterTree (next : List ℕ → ℕ) (first : ℤ → ℤ → ℕ) (n : ℕ) (nodes : List Node) (tree : Tree) : Type 0 where
   pub near : IsNearTree nodes tree
   pub low : tree.level ≤ 64
   pub trimmed : IsTrimmed nodes tree

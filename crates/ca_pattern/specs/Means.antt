@@ -14,8 +14,7 @@ abbrev pub IsReadable : List ℕ → Type 0
 IsReadable bytes = IsReadableAs (format_of bytes) bytes
 
 -- the bytes are a file that is read, and its pattern has these cells, this rule text and this generation
-pub record HoldsPattern (bytes : List ℕ) (cells : Picture) (rule_text : List ℕ)
-    (generation : ℕ) : Type 0 where
+pub record HoldsPattern (bytes : List ℕ) (cells : Picture) (rule_text : List ℕ) (generation : ℕ) : Type 0 where
   pub readable : IsReadable bytes
   pub means : Means bytes cells rule_text generation
 
@@ -24,8 +23,7 @@ abbrev pub HoldsRuleText : (text bytes : List ℕ) → Type 0
 HoldsRuleText text bytes = (cells : Picture) × (generation : ℕ) × HoldsPattern bytes cells text generation
 
 -- and its rule text names this rule among the tables
-pub record HoldsRuledPattern (bytes : List ℕ) (tables : List TableRule) (cells : Picture) (rule : RuleValue)
-    (generation : ℕ) : Type 0 where
+pub record HoldsRuledPattern (bytes : List ℕ) (tables : List TableRule) (cells : Picture) (rule : RuleValue) (generation : ℕ) : Type 0 where
   pub rule_text : List ℕ
   pub holds : HoldsPattern bytes cells rule_text generation
   pub names : NamesRule rule_text tables rule

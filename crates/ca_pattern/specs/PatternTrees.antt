@@ -58,14 +58,12 @@ abbrev pub IsOnlyMove : List Node → (tree other : Tree) → ℤ × ℤ → Typ
 IsOnlyMove nodes tree other v = (dx dy : ℤ) → IsMove nodes tree other dx dy → (dx ≡ v.0) × (dy ≡ v.1)
 
 -- the tree shows the plane n generations after another tree's
-pub record IsEndTree (next : List ℕ → ℕ) (old : List Node) (pattern : Tree) (n : ℕ) (nodes : List Node)
-    (end : Tree) : Type 0 where
+pub record IsEndTree (next : List ℕ → ℕ) (old : List Node) (pattern : Tree) (n : ℕ) (nodes : List Node) (end : Tree) : Type 0 where
   pub near : IsNearTree nodes end
   pub shows : (x y : ℤ) → cell nodes end x y ≡ cells_after next (cell old pattern) n x y
 
 -- the tree shows another's cells, moved by (dx, dy)
-pub record IsMoved (old : List Node) (other : Tree) (dx dy : ℤ) (nodes : List Node)
-    (tree : Tree) : Type 0 where
+pub record IsMoved (old : List Node) (other : Tree) (dx dy : ℤ) (nodes : List Node) (tree : Tree) : Type 0 where
   pub near : IsNearTree nodes tree
   pub shows : (x y : ℤ) → cell nodes tree x y ≡ shifted_cells (cell old other) dx dy x y
 

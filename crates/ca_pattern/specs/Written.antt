@@ -11,8 +11,7 @@ use Rattle.ca_pattern.specs.Formats.{format_of, IsTidyAs}
 use Rattle.ca_pattern.specs.Means.{HoldsPattern}
 
 -- the summary is that of a file of this format, with these cells, this rule and this generation
-pub record IsSummaryOf (kind : Format) (cells : ℤ → ℤ → ℕ) (rule : RuleValue) (generation : ℕ)
-    (summary : Summary) : Type 0 where
+pub record IsSummaryOf (kind : Format) (cells : ℤ → ℤ → ℕ) (rule : RuleValue) (generation : ℕ) (summary : Summary) : Type 0 where
   pub kind_is : summary.kind ≡ kind
   pub printed : summary.rule_text.items ≡ printed_form rule
   pub generation_is : summary.generation ≡ generation

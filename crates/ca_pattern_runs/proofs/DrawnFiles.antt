@@ -12,12 +12,12 @@ use Rattle.ca_pattern.specs.declared.located_fault.LocatedFault.TheVariants.{Unr
 use Rattle.ca_pattern.specs.Prelude.{IsPatternAfter, IsReachFault, IsConvertedAfter, IsWrittenAs, IsTreeOf}
 use Rattle.ca_pattern.proofs.OpenedFiles.{pattern_written}
 use Rattle.ca_pattern.proofs.PatternsRead.{reads_may_want}
-use Rattle.ca_report.specs.declared.{form.DrawRequest.DrawRequest, fault.ToolFault.ToolFault, form.Form.Form, form.TextForm.TextForm}
-use Rattle.ca_report.specs.declared.fault.ToolFault.TheVariants.{Convert, Window, Write, Memory}
+use Rattle.ca_report.specs.declared.{form.DrawRequest.DrawRequest, fault.ToolFault.ToolFault, form.TextForm.TextForm}
+use Rattle.ca_report.specs.declared.fault.ToolFault.TheVariants.{Window, Memory}
 use Rattle.ca_draw.specs.declared.view.WindowFault.{WindowFault}
-use Rattle.ca_report.specs.declared.form.Form.TheVariants.{Text, Picture}
+use Rattle.ca_report.specs.declared.form.Form.TheVariants.{Picture}
 use Rattle.ca_report.specs.declared.form.TextForm.TheVariants as forms
-use Rattle.ca_pattern_runs.specs.Prelude.{IsRunDetailOf, HasRunDetail, IsPictureOf, IsCaptionOf, HasNoWindow, IsDrawnAfter, IsCaptionAfter, IsTextFault, IsFormFaultAfter, reported}
+use Rattle.ca_pattern_runs.specs.Prelude.{HasRunDetail, IsPictureOf, IsCaptionOf, HasNoWindow, IsDrawnAfter, IsCaptionAfter, IsTextFault, IsFormFaultAfter, reported}
 use Rattle.ca_draw.specs.Prelude.{IsBoxShown}
 use Rattle.ca_pattern_runs.specs.inner.Refusals.{IsUndrawn, IsUndrawnAfter}
 

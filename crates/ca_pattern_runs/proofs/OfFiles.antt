@@ -1,20 +1,18 @@
 -- What runs over pattern files write and answer.
-use Rattle.std.proofs.Common.{◌≡◌, ◌≢◌, ℕ, List, Option, Result, Ok, Err, inl, inr, refl, subst, sym, ◌∙◌}
+use Rattle.std.proofs.Common.{◌≡◌, ◌≢◌, ℕ, List, Option, Result, Ok, Err, inl, inr, refl, subst, sym}
 use Rattle.std.specs.Prelude.{IfOk}
 use Rattle.std.specs.Io.KnownBytes.{Appends}
 use Rattle.ca_plane.specs.Prelude.{Counted, AppendsPrefix}
 use Rattle.ca_rule.specs.Prelude.{TableRule}
 use Rattle.ca_rule.specs.declared.table.fault.TableFault.{TableFault}
-use Rattle.ca_pattern.specs.declared.{convert_fault.ConvertFault.ConvertFault, located_fault.LocatedFault.LocatedFault}
+use Rattle.ca_pattern.specs.declared.{convert_fault.ConvertFault.ConvertFault}
 use Rattle.ca_pattern.specs.declared.convert_fault.ConvertFault.TheVariants as convert_fault
 use Rattle.ca_pattern.specs.declared.located_fault.LocatedFault.TheVariants as located
-use Rattle.ca_pattern.specs.declared.located_fault.LocatedFault.TheVariants.{Unread, UnnamedRule}
 use Rattle.ca_report.specs.declared.fault.InputFault.TheVariants as inputs
 use Rattle.ca_report.specs.declared.fault.ToolFault.{ToolFault}
 use Rattle.ca_report.specs.declared.fault.ToolFault.TheVariants.{Input, BadTable, Convert, Write, Memory}
 use Rattle.ca_report.specs.Prelude.{ReadsAll, TakesFile, Sends}
-use Rattle.ca_pattern_runs.specs.Prelude.{AreKnownTables, HoldsOfTables, HoldsOfReadFile, IsRuleFileFault, TellsTable, TellsConvert, TellsPattern, reported, IsBytesFault, IsRunFault, WritesUnder}
-use Rattle.ca_pattern_runs.specs.Prelude.{RunsOver}
+use Rattle.ca_pattern_runs.specs.Prelude.{AreKnownTables, HoldsOfTables, HoldsOfReadFile, IsRuleFileFault, TellsTable, TellsConvert, IsBytesFault, IsRunFault, WritesUnder, RunsOver}
 
 -- what holds of the tables that are known
 pub of_tables : (rule : Option (List ℕ)) (Holds : List TableRule → Type 0) (all tables : List TableRule) → AreKnownTables rule all → tables ≡ all → Holds tables → HoldsOfTables rule Holds

@@ -32,8 +32,7 @@ HasNoWindow request cells fault = (box : WideBounds) × IsBoxShown cells box × 
 
 -- this holds of the cells that a file's pattern has so many generations on, at every x and y, of its rule's number of states, and of the generation,
 -- which is then below the limit
-pub record HoldsOfLater (bytes : List ℕ) (tables : List TableRule) (n : ℕ)
-    (Holds : (states generation : ℕ) → (ℤ → ℤ → ℕ) → Type 0) : Type 0 where
+pub record HoldsOfLater (bytes : List ℕ) (tables : List TableRule) (n : ℕ) (Holds : (states generation : ℕ) → (ℤ → ℤ → ℕ) → Type 0) : Type 0 where
   pub cells : Picture
   pub rule : RuleValue
   pub generation : ℕ

@@ -2,5 +2,4 @@
 pub use Rattle.ca_pattern_runs.specs.Captions.{caption_text}
 pub use Rattle.ca_pattern_runs.specs.Details.{IsRunDetailOf, HasRunDetail}
 pub use Rattle.ca_pattern_runs.specs.Drawn.{IsPictureOf, IsCaptionOf, HasNoWindow, IsDrawnAfter, IsCaptionAfter, HoldsOfLater}
-pub use Rattle.ca_pattern_runs.specs.Runs.{IsTextFault, IsFormFaultAfter, reported, AreKnownTables, HoldsOfTables, HoldsOfReadFile, IsRuleFileFault, TellsTable, TellsConvert, TellsPattern}
-pub use Rattle.ca_pattern_runs.specs.Runs.{IsBytesFault, IsRunFault, WritesUnder, RunsOver, IsShownAfter, IsFormAfter, IsShown, IsFormOf, IsFormFault}
+pub use Rattle.ca_pattern_runs.specs.Runs.{IsTextFault, IsFormFaultAfter, reported, AreKnownTables, HoldsOfTables, HoldsOfReadFile, IsRuleFileFault, TellsTable, TellsConvert, TellsPattern, IsBytesFault, IsRunFault, WritesUnder, RunsOver, IsShownAfter, IsFormAfter, IsShown, IsFormOf, IsFormFault}

@@ -37,8 +37,7 @@ pub record HoldsOfTables (rule : Option (List ℕ)) (Holds : List TableRule → 
   pub holds : Holds tables
 
 -- the file was read whole, the rule file is a table, and this holds of the file's bytes and the tables
-pub record HoldsOfReadFile (old new rule : Option (List ℕ))
-    (Holds : List ℕ → List TableRule → Type 0) : Type 0 where
+pub record HoldsOfReadFile (old new rule : Option (List ℕ)) (Holds : List ℕ → List TableRule → Type 0) : Type 0 where
   pub bytes : List ℕ
   pub tables : List TableRule
   pub read : ReadsAll old new bytes
@@ -88,13 +87,11 @@ abbrev pub IsBytesFault : Option (List ℕ) → (List TableRule → ToolFault �
 IsBytesFault rule IsFault told = TellsTable (IsRuleFileFault rule) told ⊎ HoldsOfTables rule (λ tables. IsFault tables told)
 
 -- a text that IsText is written, with the status 0; or a first part of such a text, and then a write fails; or nothing, for a fault that holds
-abbrev pub WritesText : {W : Type 0} → (W → Option (List ℕ)) → Counted W → Counted W
-    → (List ℕ → Type 0) → (ToolFault → Type 0) → Result ℕ ToolFault → Type 0
+abbrev pub WritesText : {W : Type 0} → (W → Option (List ℕ)) → Counted W → Counted W → (List ℕ → Type 0) → (ToolFault → Type 0) → Result ℕ ToolFault → Type 0
 WritesText contents old new IsText IsFault result = WritesOneOf contents old new (λ text status. (status ≡ 0) × IsText text) IsText IsFault result
 
 -- the same of a run over the bytes of a pattern file, and over the text of a rule file, if there is one, by whose table the text and the fault go
-abbrev pub WritesUnder : {W : Type 0} → (W → Option (List ℕ)) → Counted W → Counted W → Option (List ℕ)
-    → (List TableRule → List ℕ → Type 0)
+abbrev pub WritesUnder : {W : Type 0} → (W → Option (List ℕ)) → Counted W → Counted W → Option (List ℕ) → (List TableRule → List ℕ → Type 0)
     → (List TableRule → ToolFault → Type 0) → Result ℕ ToolFault → Type 0
 WritesUnder contents old new rule IsText IsFault result =
     WritesText contents old new (λ text. HoldsOfTables rule (λ tables. IsText tables text)) (IsBytesFault rule IsFault) result
@@ -139,8 +136,7 @@ IsFormFaultAfter (Picture request) bytes tables n work told = TellsPattern (IsRe
 
 -- why a run wrote nothing, where IsFault says why bytes under some tables are refused: the file isn't read; or it is, and a run over its bytes writes
 -- nothing
-abbrev pub IsRunFault : Option (List ℕ) → Option (List ℕ) → Option (List ℕ)
-    → (List ℕ → List TableRule → ConvertFault → Type 0) → ToolFault → Type 0
+abbrev pub IsRunFault : Option (List ℕ) → Option (List ℕ) → Option (List ℕ) → (List ℕ → List TableRule → ConvertFault → Type 0) → ToolFault → Type 0
 IsRunFault old new rule IsFault (Input fault) = IsInputFault old new fault
 IsRunFault old new rule IsFault told = (bytes : List ℕ) × ReadsAll old new bytes × IsBytesFault rule (λ tables. TellsConvert (IsFault bytes tables)) told
 

@@ -6,8 +6,7 @@ pub use Rattle.ca_plane.specs.Counting.{counting_next, counted_sum, GoesByCounti
 pub use Rattle.ca_plane.specs.Ageing.{liveness, aged, GoesByAgeing, older}
 pub use Rattle.ca_plane.specs.Change.{Sets, DifferAt}
 pub use Rattle.ca_plane.specs.Sparse.{IsInPlane, IsSparse, point_cmp}
-pub use Rattle.ca_plane.specs.Bytes.{letter, Every, IsWord, lines_of, is_word_byte, is_line_end, is_blank, words_of, IsInteger, is_end_or, with_front, front, is_digit, AreDigits, rest, nearest_i64}
-pub use Rattle.ca_plane.specs.Bytes.{trimmed, text_of, without_last_blanks, value, nearest_u64, value_from, without_cr}
+pub use Rattle.ca_plane.specs.Bytes.{letter, Every, IsWord, lines_of, is_word_byte, is_line_end, is_blank, words_of, IsInteger, is_end_or, with_front, front, is_digit, AreDigits, rest, nearest_i64, trimmed, text_of, without_last_blanks, value, nearest_u64, value_from, without_cr}
 pub use Rattle.ca_plane.specs.Device.{Counted, Rises, AppendsPrefix}
 pub use Rattle.ca_plane.specs.Box.{IsLeastBox, IsWithin, IsInBox, moved, LeavesPlane}
 pub use Rattle.ca_plane.specs.BitPlane.{state_from_corner, bit_cell, AddsRun, word_state, state_of_words, AreNearWords, IsNearWord}

@@ -13,7 +13,7 @@ abbrev pub at_line : Option ℕ → List ℕ
 at_line None = []
 at_line (Some line) = codes ", line " ++ decimal line
 
--- why no file of a path is handed in
+-- why no file of a path is supplied
 abbrev pub absence_text : Absence → List ℕ
 absence_text absences.NoFile = codes "no such file"
 absence_text absences.Folder = codes "a folder"

@@ -26,8 +26,7 @@ abbrev pub TakesAtMost : ℕ → Option (List ℕ) → Option (List ℕ) → Typ
 TakesAtMost most old new = (bytes : List ℕ) × (length bytes ≤ most) × Consumes old new bytes
 
 -- at most a byte more than a file may have was taken; a failed read is counted, and nothing else is
-pub record TakesFile {R T E : Type 0} (remaining : R → Option (List ℕ)) (old new : Counted R) (failure : E)
-    (result : Result T E) : Type 0 where
+pub record TakesFile {R T E : Type 0} (remaining : R → Option (List ℕ)) (old new : Counted R) (failure : E) (result : Result T E) : Type 0 where
   pub bounded : TakesAtMost (max_file + 1) (remaining old.inner) (remaining new.inner)
   pub failed : IsErrOf result failure → Rises old.failures new.failures
   pub kept : result ≢ Err failure → new.failures ≡ old.failures

@@ -6,8 +6,7 @@ use Rattle.ca_report.specs.declared.fault.ToolFault.{ToolFault}
 use Rattle.ca_report.specs.declared.fault.ToolFault.TheVariants.{Write}
 
 -- the whole text is written, or a first part of it and then a write fails: that failure is the only fault, and it is counted
-pub record Sends {W T E : Type 0} (contents : W → Option (List ℕ)) (old new : Counted W) (text : List ℕ)
-    (failure : E) (result : Result T E) : Type 0 where
+pub record Sends {W T E : Type 0} (contents : W → Option (List ℕ)) (old new : Counted W) (text : List ℕ) (failure : E) (result : Result T E) : Type 0 where
   -- all of it was written, and no failure was counted
   pub all : OnOk result (Appends (contents old.inner) (contents new.inner) text)
   pub kept : OnOk result (new.failures ≡ old.failures)

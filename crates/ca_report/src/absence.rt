@@ -1,4 +1,4 @@
-//! Why files that a claim text needs aren't handed in.
+//! Why files that a claim text needs aren't supplied.
 
 ghost use Rattle.std.specs.Prelude.{◌≡◌, ◌++◌, codes};
 ghost use Rattle.ca_report.specs.FileLines.{absence_text, missing_at, missing_words};
@@ -6,7 +6,7 @@ ghost use Rattle.ca_report.specs.Pieces.{piece_text};
 
 use crate::pieces::{NOTHING, Piece};
 
-/// Why no file of a path is handed in.
+/// Why no file of a path is supplied.
 #[derive(Clone, Copy, Debug, PartialEq, Eq)]
 pub enum Absence {
     /// There is none.
@@ -23,7 +23,7 @@ pub enum Absence {
     Outside,
 }
 
-/// A path whose file isn't handed in.
+/// A path whose file isn't supplied.
 #[derive(Clone, Copy, Debug)]
 pub struct MissingFile<'a> {
     pub path: &'a [u8],

@@ -29,8 +29,7 @@ pub record IsPreamble (lines : List (List ℕ)) (said : List CxrleWord) : Type 0
   pub words : AllZip WordSays (flat_map extended_words lines) said
 
 -- lines that may stand before a header, then this line, and then these bytes: none, or its LF and what stands after it
-pub record FollowsPreamble (bytes : List ℕ) (lines : List (List ℕ)) (said : List CxrleWord)
-    (line more : List ℕ) : Type 0 where
+pub record FollowsPreamble (bytes : List ℕ) (lines : List (List ℕ)) (said : List CxrleWord) (line more : List ℕ) : Type 0 where
   pub preamble : IsPreamble lines said
   pub line_is : IsLine line
   pub line_ends : IsTrue (is_end_or is_line_end more)
@@ -59,8 +58,7 @@ abbrev pub generation_of : List CxrleWord → ℕ
 generation_of said = last_word_generation 0 said
 
 -- lines that may stand before a header, a header after them, and what stands after it: nothing, or its LF and the items
-pub record IsHeaded (bytes : List ℕ) (said : List CxrleWord) (rule : Option (List ℕ))
-    (body : List ℕ) : Type 0 where
+pub record IsHeaded (bytes : List ℕ) (said : List CxrleWord) (rule : Option (List ℕ)) (body : List ℕ) : Type 0 where
   pub lines : List (List ℕ)
   pub header : List ℕ
   pub follows : FollowsPreamble bytes lines said header body

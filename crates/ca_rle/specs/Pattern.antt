@@ -11,8 +11,7 @@ use Rattle.ca_rle.specs.Tidy.{IsTidyRle}
 
 -- cells, a rule text and a generation are the file's; its picture has states from 1 to 255, the generation is below the
 -- limit, and the rule text is a word
-pub record HasFileParts (file : RleFile) (cells : ℤ → ℤ → ℕ) (rule_text : List ℕ)
-    (generation : ℕ) : Type 0 where
+pub record HasFileParts (file : RleFile) (cells : ℤ → ℤ → ℕ) (rule_text : List ℕ) (generation : ℕ) : Type 0 where
   pub cells_are : (x y : ℤ) → cells x y ≡ cell (picture_of_items file.corner file.items) x y
   pub states : IsPicture (picture_of_items file.corner file.items)
   pub rule_text_is : rule_text ≡ file.rule_text
@@ -58,8 +57,7 @@ IsRleOf text cells rule_text generation =
 
 -- what is written of a plane: its tidy text, which means it, and which the reader takes where the plane has at most
 -- 16777216 live cells
-pub record IsWrittenRle (text : List ℕ) (cells : Picture) (rule_text : List ℕ)
-    (generation states : ℕ) : Type 0 where
+pub record IsWrittenRle (text : List ℕ) (cells : Picture) (rule_text : List ℕ) (generation states : ℕ) : Type 0 where
   pub tidy : IsTidyRle text cells rule_text generation states
   pub means : IsRleOf text cells rule_text generation
   pub limits : length cells ≤ most_cells → (file : RleFile) → IsRleFile text file → IsWithinLimits file

@@ -75,8 +75,7 @@ abbrev pub header_line : ℕ → ℕ → List ℕ → List ℕ
 header_line width height rule_text = codes "x = " ++ (decimal width ++ (codes ", y = " ++ (decimal height ++ (codes ", rule = " ++ rule_text))))
 
 -- the one text of a plane, its rule text, its generation and its rule's number of states
-pub record IsTidyRle (text : List ℕ) (cells : Picture) (rule_text : List ℕ)
-    (generation states : ℕ) : Type 0 where
+pub record IsTidyRle (text : List ℕ) (cells : Picture) (rule_text : List ℕ) (generation states : ℕ) : Type 0 where
   pub corner : Point
   pub width : ℕ
   pub height : ℕ

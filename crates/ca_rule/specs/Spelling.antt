@@ -48,8 +48,7 @@ abbrev pub has_colon : List ℕ → Bool
 has_colon text = list_any (λ b. b == letter ":") text
 
 -- a text that spells lists of birth and survival digits names a rule of these counts: it leaves the empty plane empty
-pub record NamesCounts (Spells : List ℕ → List ℕ → Type 0)
-    (birth_counts survival_counts : Counts) : Type 0 where
+pub record NamesCounts (Spells : List ℕ → List ℕ → Type 0) (birth_counts survival_counts : Counts) : Type 0 where
   pub birth : List ℕ
   pub survival : List ℕ
   pub spells : Spells birth survival

@@ -68,8 +68,7 @@ LackSymmetry lines = (n : ℕ) × (neighbourhood : Neighbourhood)
     × (states_set lines ≡ Some n) × (neighbourhood_set lines ≡ Some neighbourhood) × (symmetry_set neighbourhood lines ≡ None)
 
 -- after good settings and good statements comes a line of the table, the n-th of the text, and this holds of it
-pub record HasStatement (bytes : List ℕ) (n : ℕ)
-    (P : Settings → SaidStatements → NumberedLine → Type 0) : Type 0 where
+pub record HasStatement (bytes : List ℕ) (n : ℕ) (P : Settings → SaidStatements → NumberedLine → Type 0) : Type 0 where
   pub name : List ℕ
   pub setting_lines : List NumberedLine
   pub good : List NumberedLine
@@ -96,8 +95,7 @@ abbrev pub HasFields : Settings → NumberedLine → List (List ℕ) → Type 0
 HasFields settings line fields = ((name : List ℕ) × IsVariableLine line name fields) ⊎ IsTransitionLine line (field_count settings) fields
 
 -- of its fields, the first that stands for nothing is one of which this holds
-pub record HasBadField (settings : Settings) (said : SaidStatements) (line : NumberedLine)
-    (P : List ℕ → Type 0) : Type 0 where
+pub record HasBadField (settings : Settings) (said : SaidStatements) (line : NumberedLine) (P : List ℕ → Type 0) : Type 0 where
   pub good : List (List ℕ)
   pub slots : List Slot
   pub field : List ℕ

@@ -73,8 +73,7 @@ abbrev pub states_among : Settings → List States → List Slot → States
 states_among settings variables slots = filter (λ s. list_any (λ slot. admits variables slot s) slots) (range_with_len 0 settings.states)
 
 -- after what was said, the line says one more variable
-pub record SaysVariable (settings : Settings) (said : SaidStatements) (line : NumberedLine)
-    (after : SaidStatements) : Type 0 where
+pub record SaysVariable (settings : Settings) (said : SaidStatements) (line : NumberedLine) (after : SaidStatements) : Type 0 where
   pub name : List ℕ
   pub fields : List (List ℕ)
   pub slots : List Slot
@@ -92,8 +91,7 @@ abbrev pub field_count : Settings → ℕ
 field_count settings = ring_size settings.neighbourhood + 2
 
 -- the line is a transition, and this holds of its inputs and its result
-pub record HasTransition (settings : Settings) (said : SaidStatements) (line : NumberedLine)
-    (P : List Slot → Slot → Type 0) : Type 0 where
+pub record HasTransition (settings : Settings) (said : SaidStatements) (line : NumberedLine) (P : List Slot → Slot → Type 0) : Type 0 where
   pub fields : List (List ℕ)
   pub inputs : List Slot
   pub result : Slot

@@ -1,13 +1,13 @@
 -- Runs in a store of their own.
-use Rattle.std.proofs.Common.{◌≡◌, ℕ, ◌+◌, ◌-◌, ◌*◌, ◌<◌, ◌≤◌, inl, inr, Result, Ok, Err, IfOk, List, length, take, refl, sym, ap, subst, ◌∙◌, length-take, arith}
-use Rattle.ca_quad.specs.declared.{node.Node.Node, tree.Tree.Tree}
-use Rattle.ca_quad.specs.Prelude.{IsSoundStore, Grows, IsTree}
+use Rattle.std.proofs.Common.{◌≡◌, ℕ, ◌+◌, ◌-◌, ◌*◌, ◌<◌, ◌≤◌, inl, inr, List, length, take, sym, ap, subst, ◌∙◌, length-take, arith}
+use Rattle.ca_quad.specs.declared.{node.Node.Node}
+use Rattle.ca_quad.specs.Prelude.{IsSoundStore, Grows}
 use Rattle.ca_quad.proofs.Firsts.{firsts_sound}
 use Rattle.ca_quad.proofs.Growth.{grows_same}
-use Rattle.ca_run.specs.Prelude.{IsAdvanced, LeaperView, LeaperGrows}
+use Rattle.ca_run.specs.Prelude.{LeaperView, LeaperGrows}
 use Rattle.ca_run.specs.declared.leaper.dense.ReachedTree.{ReachedTree}
 use Rattle.ca_work.specs.declared.pace.Pace.{Pace}
-use Rattle.ca_run.specs.inner.OwnStore.{IsCopyOfTree, KeepsOn, IsNearer}
+use Rattle.ca_run.specs.inner.OwnStore.{KeepsOn, IsNearer}
 use Rattle.ca_work.specs.Prelude.{tries, most_tries}
 use Rattle.ca_work.proofs.Spent.{spends_again}
 

@@ -14,8 +14,7 @@ pub record CanAdvance (nodes : List Node) (tree : Tree) (n : ℕ) : Type 0 where
   pub time : n ≤ most_generations
 
 -- the tree shows what the plane of the first one is n generations on, and has at most 2^124 cells a side
-pub record IsAdvanced (next : List ℕ → ℕ) (old : List Node) (first : Tree) (n : ℕ)
-    (new : List Node) (tree : Tree) : Type 0 where
+pub record IsAdvanced (next : List ℕ → ℕ) (old : List Node) (first : Tree) (n : ℕ) (new : List Node) (tree : Tree) : Type 0 where
   pub is_tree : IsTree new tree
   pub level : tree.level ≤ 124
   pub cells : (x y : ℤ) → cell new tree x y ≡ cells_after next (cell old first) n x y

@@ -11,16 +11,14 @@ abbrev pub HasStates : ℕ → Picture → Type 0
 HasStates count cells = All (λ e. e.1 < count) cells
 
 -- the later picture is what the plane of the first one is n generations on, as a sparse plane keeps it
-pub record IsStepped (next : List ℕ → ℕ) (count : ℕ) (first : Picture) (n : ℕ)
-    (later : Picture) : Type 0 where
+pub record IsStepped (next : List ℕ → ℕ) (count : ℕ) (first : Picture) (n : ℕ) (later : Picture) : Type 0 where
   pub after : IsAfter next first n later
   pub states : HasStates count later
   pub sparse : IsSparse later
 
 -- what a call comes to that steps a plane n times: Ok with the later plane, and only where no step leaves the reach;
 -- `Range` only where one does, and always where the first does
-pub record Steps (next : List ℕ → ℕ) (count : ℕ) (first : Picture) (n : ℕ)
-    (result : Result Picture RunFault) : Type 0 where
+pub record Steps (next : List ℕ → ℕ) (count : ℕ) (first : Picture) (n : ℕ) (result : Result Picture RunFault) : Type 0 where
   pub stepped : IfOk result (IsStepped next count first n)
   pub within : IfOk result (λ _. LeavesReachBefore next first n → ⊥)
   pub range : IsErrOf result Range → LeavesReachBefore next first n

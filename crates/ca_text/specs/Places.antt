@@ -27,8 +27,7 @@ abbrev pub named_path : List (List ℕ) → NamedPath → List ℕ × List ℕ
 named_path paths n = (n.name.now, path_at paths n.path)
 
 -- the claim about the names and paths at its indices, with the number of its line
-abbrev pub claim_with_names : List (List ℕ) → List (List ℕ) → ClaimLine NamePlace
-    → ℕ × ClaimOf (List ℕ × List ℕ)
+abbrev pub claim_with_names : List (List ℕ) → List (List ℕ) → ClaimLine NamePlace → ℕ × ClaimOf (List ℕ × List ℕ)
 claim_with_names names paths l = (l.line, map_patterns (named_at names paths) l.claim)
 
 -- the claim's patterns have names and paths among these, and its numbers are good

@@ -109,8 +109,7 @@ paths_once (p ∷ ps) = p ∷ filter (λ q. not (bytes_eq q p)) (paths_once ps)
 
 -- the claims with the numbers of their lines, of which the first is n; each about names, with the paths that earlier lines
 -- load them from
-abbrev pub claims_from : ℕ → List ClaimTextLine → List (Option ClaimTextLine)
-    → List (ℕ × ClaimOf (List ℕ × List ℕ))
+abbrev pub claims_from : ℕ → List ClaimTextLine → List (Option ClaimTextLine) → List (ℕ × ClaimOf (List ℕ × List ℕ))
 claims_from n earlier [] = []
 claims_from n earlier (None ∷ said) = claims_from (n + 1) earlier said
 claims_from n earlier (Some Version ∷ said) = claims_from (n + 1) (earlier ++ Version ∷ []) said

@@ -7,8 +7,7 @@ use Rattle.ca_text.specs.Kinds.{HasGoodNumbers}
 use Rattle.ca_text.specs.Text.{Claim, ClaimTextLine, Version, Load, Claims, is_skipped, ClaimWordsSay, path_of, AreLoaded, IsAllowedLine, ClaimLinesSay, said_lines}
 
 -- good lines are followed by a line, the n-th of the text; this holds of what the good lines say, and of its words
-pub record HasClaimLine (bytes : List ℕ) (n : ℕ)
-    (P : List ClaimTextLine → List (List ℕ) → Type 0) : Type 0 where
+pub record HasClaimLine (bytes : List ℕ) (n : ℕ) (P : List ClaimTextLine → List (List ℕ) → Type 0) : Type 0 where
   pub before : List (List ℕ)
   pub line : List ℕ
   pub later : List (List ℕ)

@@ -10,7 +10,7 @@ use Rattle.ca_plane.proofs.Sends.{sent_both, prefix_of_first, prefix_of_second}
 use Rattle.ca_text.specs.declared.both.Both.{Both}
 use Rattle.ca_text.specs.Prelude.{Claim}
 use Rattle.ca_answers.specs.declared.{verdict.Answer.Answer, note.Note.Note}
-use Rattle.ca_answers.specs.Prelude.{AreWithinWork, IsWithinWork, AreTrueAnswers, IsTrueAnswer, IsNote, HasItsNote, Judging, JudgesAndNotes}
+use Rattle.ca_answers.specs.Prelude.{SuppliedFiles, AreWithinWork, IsWithinWork, AreTrueAnswers, IsTrueAnswer, IsNote, HasItsNote, Judging, JudgesAndNotes}
 use Rattle.ca_verdict_lines.specs.declared.finding.{ReportStyle.ReportStyle, Finding.Finding}
 use Rattle.ca_verdict_lines.specs.Prelude.{answer_line, answer_lines, note_text, second_line, verdict_remedy_line, last_line, finding_text, findings_text, status_of, answers_of, AreTrueNotes}
 use Rattle.ca_verdict_lines.specs.Prelude.{AreFindings, IsPlainReport, IsReport, IsReportOnFirst}
@@ -30,7 +30,7 @@ front [] ys n e = rw e refl
 front (x ∷ xs) ys n e = rw e (ap (λ l. x ∷ l) (front xs ys (length xs) refl))
 
 -- findings on some claims, and then on others
-findings_then : (files : List (List ℕ × List ℕ)) (rules : List (List ℕ)) (work : ℕ) (claims more : List (ℕ × Claim)) (patterns others : List (Both (List ℕ × List ℕ))) (xs ys : List Finding)
+findings_then : (files : SuppliedFiles) (rules : List (List ℕ)) (work : ℕ) (claims more : List (ℕ × Claim)) (patterns others : List (Both (List ℕ × List ℕ))) (xs ys : List Finding)
     → AreFindings (record { files = files; rules = rules; claims = claims; patterns = patterns; work = work }) xs → AreFindings (record { files = files; rules = rules; claims = more; patterns = others; work = work }) ys
     → AreFindings (record { files = files; rules = rules; claims = claims ++ more; patterns = patterns ++ others; work = work }) (xs ++ ys)
 findings_then files rules work claims more patterns others xs ys first second = record {

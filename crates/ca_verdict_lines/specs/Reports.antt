@@ -4,7 +4,7 @@ use Rattle.std.specs.List.{AllZip, AllByRecursion}
 use Rattle.ca_plane.specs.Prelude.{Counted}
 use Rattle.ca_text.specs.declared.both.Both.{Both}
 use Rattle.ca_text.specs.Prelude.{ClaimText, Claim}
-use Rattle.ca_answers.specs.Prelude.{Judging, IsNote, HasItsNote, AreWithinWork, AreTrueAnswers}
+use Rattle.ca_answers.specs.Prelude.{SuppliedFiles, Judging, IsNote, HasItsNote, AreWithinWork, AreTrueAnswers}
 use Rattle.ca_answers.specs.declared.verdict.Answer.{Answer}
 use Rattle.ca_report.specs.declared.fault.ToolFault.{ToolFault}
 use Rattle.ca_report.specs.declared.fault.ToolFault.TheVariants.{Memory}
@@ -17,7 +17,7 @@ abbrev pub with_claims : Judging → List (ℕ × Claim) → List (Both (List �
 with_claims judging claims patterns = record { files = judging.files; rules = judging.rules; claims = claims; patterns = patterns; work = judging.work }
 
 -- all claims of a text, over these files, each of which may take so much work
-abbrev pub all_claims : List (List ℕ × List ℕ) → ClaimText → (work : ℕ) → Judging
+abbrev pub all_claims : SuppliedFiles → ClaimText → (work : ℕ) → Judging
 all_claims files asked work = record { files = files; rules = asked.rules; claims = asked.claims; patterns = asked.patterns; work = work }
 
 -- the first n of some claims
@@ -37,8 +37,7 @@ abbrev pub answers_of : List Finding → List Answer
 answers_of findings = map (λ finding. finding.answer) findings
 
 -- one note for each answer, in order, each of them true of its verdict and of the claim's patterns
-abbrev pub AreTrueNotes : List (List ℕ × List ℕ) → List (List ℕ) → List (Both (List ℕ × List ℕ))
-    → List Finding → Type 0
+abbrev pub AreTrueNotes : SuppliedFiles → List (List ℕ) → List (Both (List ℕ × List ℕ)) → List Finding → Type 0
 AreTrueNotes files rules patterns findings = AllZip (λ its finding. IsNote files rules its finding.answer.verdict finding.note) patterns findings
 
 -- findings on these claims: true answers to them, out of work only within what each may take, and true notes on the answers, where each verdict that has a note is given with it
@@ -68,13 +67,11 @@ pub record NeedsMemory (judging : Judging) (fault : ToolFault) : Type 0 where
 
 -- a report on these claims is written, with their status; or a first part of a report on the first claims, and then a write fails; or nothing,
 -- and memory was refused for a text that makes a claim
-abbrev pub WritesReport : {W : Type 0} → (W → Option (List ℕ)) → Counted W → Counted W → Judging → ReportStyle
-    → Result ℕ ToolFault → Type 0
+abbrev pub WritesReport : {W : Type 0} → (W → Option (List ℕ)) → Counted W → Counted W → Judging → ReportStyle → Result ℕ ToolFault → Type 0
 WritesReport contents old new judging style result =
     WritesOneOf contents old new (IsReport judging style) (IsReportOnFirst judging style) (NeedsMemory judging) result
 
 -- the same of a plain report, but that the first part is one of a report on all claims
-abbrev pub WritesPlainReport : {W : Type 0} → (W → Option (List ℕ)) → Counted W → Counted W → Judging
-    → Result ℕ ToolFault → Type 0
+abbrev pub WritesPlainReport : {W : Type 0} → (W → Option (List ℕ)) → Counted W → Counted W → Judging → Result ℕ ToolFault → Type 0
 WritesPlainReport contents old new judging result =
     WritesOneOf contents old new (IsPlainReport judging) (λ text. (code : ℕ) × IsPlainReport judging text code) (NeedsMemory judging) result

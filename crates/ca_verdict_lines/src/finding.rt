@@ -28,7 +28,7 @@ pub struct ReportStyle<'a> {
     /// The rule files that were looked for by the names of rules, and aren't good: a second line about a
     /// pattern whose rule text is such a name tells the file too.
     pub faulty: &'a [FaultyRule<'a>],
-    /// The paths whose files aren't handed in, as far as it is known why: a second line about such a file tells it.
+    /// The paths whose files aren't supplied, as far as it is known why: a second line about such a file tells it.
     pub missing: &'a [MissingFile<'a>],
     /// The files by whose bytes it is told what helps against a fault of one.
     pub files: &'a [File<'a>],

@@ -13,7 +13,7 @@ use Rattle.ca_answers.specs.declared.{verdict.Verdict.Verdict, cause.Cause.Cause
 use Rattle.ca_answers.specs.declared.verdict.Verdict.TheVariants.{Yes, No, Refused}
 use Rattle.ca_answers.specs.declared.cause.Cause.TheVariants.{NoFile, BadTable, BadPattern, BadRule, StateTooLarge, MixedRules, TooManyCells, Work, Memory}
 use Rattle.ca_text.specs.Prelude.{Claim, asks_of, HoldsOfBoth, HoldsOfEither, FirstBadOfBoth, SomeOf, FirstBad}
-use Rattle.ca_answers.specs.Prelude.{AreTables, IsRuled, IsMissing, IsThere, HoldsTable, HasRule, IsSmall, HaveOtherRules, FilesAreThere, AgreeOn, HasCause, IsGoodPattern, AreGood, IsJudged}
+use Rattle.ca_answers.specs.Prelude.{SuppliedFiles, AreTables, IsRuled, IsMissing, IsThere, HoldsTable, HasRule, IsSmall, HaveOtherRules, FilesAreThere, AgreeOn, HasCause, IsGoodPattern, AreGood, IsJudged}
 use Rattle.ca_answers.specs.Prelude.{IsBadTable, IsUnnamed, IsLarge, IsTrueVerdict}
 
 -- ---- lists
@@ -71,7 +71,7 @@ module _ (tables more : List TableRule) where
   fault_stays text Wakes other h = h
   fault_stays text Unknown other h = absurd (other refl)
 
-  module _ (files : List (List ℕ × List ℕ)) where
+  module _ (files : SuppliedFiles) where
     ruled_stays : (path : List ℕ) (cells : Picture) (rule : RuleValue) → IsRuled files tables path cells rule → IsRuled files (tables ++ more) path cells rule
     ruled_stays path cells rule (bytes, at, (generation, held)) =
         (bytes, at, (generation, record { rule_text = held.rule_text; holds = held.holds; names = named_stays held.rule_text rule held.names }))
@@ -100,7 +100,7 @@ module _ (tables more : List TableRule) where
 
 -- ---- verdicts
 
-module _ (files : List (List ℕ × List ℕ)) where
+module _ (files : SuppliedFiles) where
   -- tables of one list and of another are tables of both together
   both_tables : (rules more : List (List ℕ)) (tables : List TableRule) → AreTables files rules tables → AllByRecursion (HoldsTable files) more → (added : List TableRule) × AreTables files (rules ++ more) (tables ++ added)
   both_tables [] [] [] are all = ([], tt)

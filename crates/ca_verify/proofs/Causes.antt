@@ -23,7 +23,7 @@ use Rattle.ca_pattern.specs.declared.pattern_fault.PatternFault.TheVariants as p
 use Rattle.ca_verify.specs.declared.refusal.About.TheVariants as about
 use Rattle.ca_verify.specs.declared.refusal.WhichPattern.TheVariants.{First, Second}
 use Rattle.ca_text.specs.Prelude.{HasGoodNumbers, asks_of, Claim, path_at, expected_cells, map_both, HoldsOfBoth, ZipBoth}
-use Rattle.ca_answers.specs.Prelude.{bytes_at, IsNoMoreThan, IsBadPatternOn, AreTables, IsMissing, IsThere, IsReadableFile, HasRule, IsSmall, HaveOtherRules, HasCause, IsGoodPattern, AreGood}
+use Rattle.ca_answers.specs.Prelude.{SuppliedFiles, bytes_at, IsNoMoreThan, IsBadPatternOn, AreTables, IsMissing, IsThere, IsReadableFile, HasRule, IsSmall, HaveOtherRules, HasCause, IsGoodPattern, AreGood}
 use Rattle.ca_answers.specs.Prelude.{IsJudged, IsTrueVerdict, IsBadPattern, IsUnnamed, IsUnnamedBy, IsLarge, IsCrowded, WantsMemory}
 use Rattle.ca_pattern.specs.Prelude.{IsReadable, MayWantMemory, IsPatternFaultOn, IsPattern, IsReadFrom, IsUnreadFor, IsUnnamedFor, rule_of, IsRuledAs, ShowsLarge, ShowsSmall}
 use Rattle.ca_verify.specs.inner.Decided.{IsBounded, IsDecided}
@@ -45,7 +45,7 @@ use Rattle.ca_verify.proofs.Parts.{first_part, either_part, zip_left_both, zip_w
 -- ---- files at indices
 
 -- the bytes of the path at an index are found at that index
-pub bytes_found : (files : List (List ℕ × List ℕ)) (paths : List (List ℕ)) (found : List (Option (Bor (List ℕ)))) (i : ℕ) (o : Option (Bor (List ℕ)))
+pub bytes_found : (files : SuppliedFiles) (paths : List (List ℕ)) (found : List (Option (Bor (List ℕ)))) (i : ℕ) (o : Option (Bor (List ℕ)))
     → map option_copied found ≡ map (bytes_at files) paths → i < length found → get_or found i None ≡ o → bytes_at files (path_at paths i) ≡ option_copied o
 bytes_found files paths [] i o e within at = let no : ⊥ = omega arith in absurd no
 bytes_found files [] (f ∷ fs) i o e within at = let no : ⊥ = cc in absurd no
@@ -54,7 +54,7 @@ bytes_found files (p ∷ ps) (f ∷ fs) (suc i) o e within at =
     let tail : map option_copied fs ≡ map (bytes_at files) ps = cc in
     bytes_found files ps fs i o tail (omega arith) at
 
-module _ (files : List (List ℕ × List ℕ)) (paths : List (List ℕ)) (found : List (Option (Bor (List ℕ)))) (same : map option_copied found ≡ map (bytes_at files) paths) where
+module _ (files : SuppliedFiles) (paths : List (List ℕ)) (found : List (Option (Bor (List ℕ)))) (same : map option_copied found ≡ map (bytes_at files) paths) where
   -- so the files at both indices are those of their paths
   pub found_there : (places : Both ℕ) (there : Both (Bor (List ℕ))) → HoldsOfBoth (λ i. i < length found) places → ZipBoth (λ i b. get_or found i None ≡ Some b) places there
       → ZipBoth (λ path b. bytes_at files path ≡ Some b.now) (map_both (path_at paths) places) there
@@ -82,12 +82,12 @@ passed_on Holds Refuses r e h holds =
 -- ---- files that are there
 
 -- the files of paths with these bytes are there
-pub all_there : (files : List (List ℕ × List ℕ)) (paths : Both (List ℕ)) (there : Both (Bor (List ℕ))) → ZipBoth (λ path b. bytes_at files path ≡ Some b.now) paths there → HoldsOfBoth (IsThere files) paths
+pub all_there : (files : SuppliedFiles) (paths : Both (List ℕ)) (there : Both (Bor (List ℕ))) → ZipBoth (λ path b. bytes_at files path ≡ Some b.now) paths there → HoldsOfBoth (IsThere files) paths
 all_there files paths there at = ((there.first.now, at.0), (there.second.now, at.1))
 
 -- ---- patterns that were read
 
-module _ (nodes : List Node) (files : List (List ℕ × List ℕ)) (paths : Both (List ℕ)) where
+module _ (nodes : List Node) (files : SuppliedFiles) (paths : Both (List ℕ)) where
   -- the patterns of files that were read
   pub read_at : (there : Both (Bor (List ℕ))) (patterns : Both Loaded) → ZipBoth (λ path b. bytes_at files path ≡ Some b.now) paths there → ZipBoth (λ b p. IsReadFrom nodes b.now p) there patterns
       → ZipBoth (IsReadAt nodes files) paths patterns
@@ -122,10 +122,10 @@ both_are_patterns nodes patterns subject all both = subst (λ s. IsPattern nodes
 
 -- ---- causes and verdicts, where the tables are good
 
-reads_want : (files : List (List ℕ × List ℕ)) (path : List ℕ) → IsReadableFile files path → WantsMemory files path
+reads_want : (files : SuppliedFiles) (path : List ℕ) → IsReadableFile files path → WantsMemory files path
 reads_want files path reads = (reads.0, reads.1, reads_may_want reads.0 reads.2)
 
-module _ (files : List (List ℕ × List ℕ)) (every rules : List (List ℕ)) (asks : Asks) (tables : List TableRule) (are : AreTables files rules tables) where
+module _ (files : SuppliedFiles) (every rules : List (List ℕ)) (asks : Asks) (tables : List TableRule) (are : AreTables files rules tables) where
   module _ (each : Both (List ℕ)) (there : Both (Bor (List ℕ))) (at : ZipBoth (λ path b. bytes_at files path ≡ Some b.now) each there) (part : WhichPattern) where
     -- a file doesn't read
     unreadable : (fault : PatternFault) (line : Option ℕ) → FirstBadAt part there (λ b. IsReadable b.now) (λ b. IsPatternFaultOn b.now fault line)
@@ -314,7 +314,7 @@ module _ (files : List (List ℕ × List ℕ)) (every rules : List (List ℕ)) (
   memory_wanted paths cells other rule good = read_wanting paths (good_reads paths.first cells rule good.0, good_reads paths.second other good.1 good.2)
 
 -- what is decided of pictures on which a claim's patterns agree is a true verdict
-decided_true : (files : List (List ℕ × List ℕ)) (rules : List (List ℕ)) (claim : Claim) (cells other : Picture) (rule : RuleValue) (verdict : Verdict)
+decided_true : (files : SuppliedFiles) (rules : List (List ℕ)) (claim : Claim) (cells other : Picture) (rule : RuleValue) (verdict : Verdict)
     → IsJudged files rules claim cells other rule → IsDecided (next_of rule) cells other (asks_of claim.kind) verdict → IsTrueVerdict files rules claim verdict
 decided_true files rules claim cells other rule Yes judged decided = (cells, other, rule, judged, decided)
 decided_true files rules claim cells other rule (No refutation) judged decided = (cells, other, rule, judged, decided)
@@ -325,14 +325,14 @@ decided_true files rules claim cells other rule (Refused cause) judged (inr deci
     subst (HasCause files rules (asks_of claim.kind) claim.patterns) (sym decided) (memory_wanted files rules rules (asks_of claim.kind) tables are claim.patterns cells other rule good)
 
 -- where there is no work or memory to decide, that is about the claim
-decided_on : (files : List (List ℕ × List ℕ)) (paths rules : List (List ℕ)) (patterns : Both (List ℕ)) (next : List ℕ → ℕ) (cells other : Picture) (asks : Asks) (verdict : Verdict)
+decided_on : (files : SuppliedFiles) (paths rules : List (List ℕ)) (patterns : Both (List ℕ)) (next : List ℕ → ℕ) (cells other : Picture) (asks : Asks) (verdict : Verdict)
     → IsDecided next cells other asks verdict → IsOnVerdict files paths rules patterns verdict about.Claim
 decided_on files paths rules patterns next cells other asks Yes decided = tt
 decided_on files paths rules patterns next cells other asks (No refutation) decided = tt
 decided_on files paths rules patterns next cells other asks (Refused cause) decided = inr decided
 
 -- so it is one of a claim about these paths
-pub true_verdict : (files : List (List ℕ × List ℕ)) (rules at : List (List ℕ)) (limits : Limits) (claim : Claim) (prepared : PreparedClaim) (verdict : Verdict)
+pub true_verdict : (files : SuppliedFiles) (rules at : List (List ℕ)) (limits : Limits) (claim : Claim) (prepared : PreparedClaim) (verdict : Verdict)
     → (is : IsPrepared files rules (asks_of claim.kind) claim.patterns prepared) → IsFit limits prepared
     → (verdict ≡ Refused Work → IsNoMoreThan limits.work (asks_of claim.kind) prepared.subject.pattern.level)
     → IsDecided (next_of (rule_value prepared.leaper.rule)) is.cells is.other (asks_of claim.kind) verdict → IsJudgedOn files at rules limits.work claim verdict about.Claim

@@ -10,7 +10,7 @@ use Rattle.std.proofs.Math.Seq.{take-suc}
 use Rattle.std.proofs.lemmas.List.{length-map, map-append}
 use Rattle.std.proofs.lemmas.Slice.Eq.{bytes_eq-Decides}
 use Rattle.ca_pattern.specs.declared.file.File.{File}
-use Rattle.ca_answers.specs.Prelude.{contents, bytes_at}
+use Rattle.ca_answers.specs.Prelude.{SuppliedFiles, contents, bytes_at}
 use Rattle.ca_text.proofs.PathLists.{bytes_eq_self}
 
 -- bytes that differ are told apart
@@ -18,7 +18,7 @@ bytes_eq-other : (a b : List ℕ) → a ≢ b → bytes_eq a b ≡ false
 bytes_eq-other a b differ = elim (cases_Bool (bytes_eq a b)) [ inl t ↦ absurd (differ ((bytes_eq-Decides a b).0 t)) | inr f ↦ f ]
 
 -- a further file doesn't count where one has its path
-bytes_at-kept : (fs : List (List ℕ × List ℕ)) (f : List ℕ × List ℕ) (path b : List ℕ) → bytes_at fs path ≡ Some b → bytes_at (fs ++ f ∷ []) path ≡ Some b
+bytes_at-kept : (fs : SuppliedFiles) (f : List ℕ × List ℕ) (path b : List ℕ) → bytes_at fs path ≡ Some b → bytes_at (fs ++ f ∷ []) path ≡ Some b
 bytes_at-kept [] f path b h = absurd (none-some b h)
 bytes_at-kept (g ∷ gs) f path b h = elim (cases_Bool (bytes_eq g.0 path)) [
   | inl t ↦ rw t (let e : Some g.1 ≡ Some b = rw t at h in e)
@@ -26,7 +26,7 @@ bytes_at-kept (g ∷ gs) f path b h = elim (cases_Bool (bytes_eq g.0 path)) [
 ]
 
 -- nor for another path
-bytes_at-other : (fs : List (List ℕ × List ℕ)) (f : List ℕ × List ℕ) (path : List ℕ) → bytes_eq f.0 path ≡ false → bytes_at (fs ++ f ∷ []) path ≡ bytes_at fs path
+bytes_at-other : (fs : SuppliedFiles) (f : List ℕ × List ℕ) (path : List ℕ) → bytes_eq f.0 path ≡ false → bytes_at (fs ++ f ∷ []) path ≡ bytes_at fs path
 bytes_at-other [] f path n = rw n refl
 bytes_at-other (g ∷ gs) f path n = elim (cases_Bool (bytes_eq g.0 path)) [
   | inl t ↦ rw t refl
@@ -34,7 +34,7 @@ bytes_at-other (g ∷ gs) f path n = elim (cases_Bool (bytes_eq g.0 path)) [
 ]
 
 -- the first file with its path does
-bytes_at-first : (fs : List (List ℕ × List ℕ)) (f : List ℕ × List ℕ) → bytes_at fs f.0 ≡ None → bytes_at (fs ++ f ∷ []) f.0 ≡ Some f.1
+bytes_at-first : (fs : SuppliedFiles) (f : List ℕ × List ℕ) → bytes_at fs f.0 ≡ None → bytes_at (fs ++ f ∷ []) f.0 ≡ Some f.1
 bytes_at-first [] f h = rw (bytes_eq_self f.0) refl
 bytes_at-first (g ∷ gs) f h = elim (cases_Bool (bytes_eq g.0 f.0)) [
   | inl t ↦ absurd (none-some g.1 (let e : Some g.1 ≡ None = rw t at h in sym e))
@@ -42,7 +42,7 @@ bytes_at-first (g ∷ gs) f h = elim (cases_Bool (bytes_eq g.0 f.0)) [
 ]
 
 -- a file whose path isn't among these changes nothing
-pub found-none : (fs : List (List ℕ × List ℕ)) (f : List ℕ × List ℕ) (paths : List (List ℕ)) → ((i : ℕ) → slice_get paths i ≢ Some f.0) → map (bytes_at (fs ++ f ∷ [])) paths ≡ map (bytes_at fs) paths
+pub found-none : (fs : SuppliedFiles) (f : List ℕ × List ℕ) (paths : List (List ℕ)) → ((i : ℕ) → slice_get paths i ≢ Some f.0) → map (bytes_at (fs ++ f ∷ [])) paths ≡ map (bytes_at fs) paths
 found-none fs f [] h = refl
 found-none fs f (p ∷ ps) h =
     let head = bytes_at-other fs f p (bytes_eq-other f.0 p (λ e. h zero (ap Some (sym e)))) in
@@ -50,7 +50,7 @@ found-none fs f (p ∷ ps) h =
     cc
 
 -- a file whose path has its bytes changes nothing
-bytes_at-same : (fs : List (List ℕ × List ℕ)) (f : List ℕ × List ℕ) (b : List ℕ) → bytes_at fs f.0 ≡ Some b → (path : List ℕ) → bytes_at (fs ++ f ∷ []) path ≡ bytes_at fs path
+bytes_at-same : (fs : SuppliedFiles) (f : List ℕ × List ℕ) (b : List ℕ) → bytes_at fs f.0 ≡ Some b → (path : List ℕ) → bytes_at (fs ++ f ∷ []) path ≡ bytes_at fs path
 bytes_at-same fs f b h path = elim (cases_Bool (bytes_eq f.0 path)) [
   | inl t ↦
       let same : f.0 ≡ path = (bytes_eq-Decides f.0 path).0 t in
@@ -59,7 +59,7 @@ bytes_at-same fs f b h path = elim (cases_Bool (bytes_eq f.0 path)) [
   | inr n ↦ bytes_at-other fs f path n
 ]
 
-pub found-same : (fs : List (List ℕ × List ℕ)) (f : List ℕ × List ℕ) (b : List ℕ) → bytes_at fs f.0 ≡ Some b → (paths : List (List ℕ)) → map (bytes_at (fs ++ f ∷ [])) paths ≡ map (bytes_at fs) paths
+pub found-same : (fs : SuppliedFiles) (f : List ℕ × List ℕ) (b : List ℕ) → bytes_at fs f.0 ≡ Some b → (paths : List (List ℕ)) → map (bytes_at (fs ++ f ∷ [])) paths ≡ map (bytes_at fs) paths
 found-same fs f b h [] = refl
 found-same fs f b h (p ∷ ps) =
     let head = bytes_at-same fs f b h p in
@@ -67,7 +67,7 @@ found-same fs f b h (p ∷ ps) =
     cc
 
 -- paths that differ from a file's path
-found-others : (fs : List (List ℕ × List ℕ)) (f : List ℕ × List ℕ) (paths : List (List ℕ)) → AllByRecursion (λ p. bytes_eq f.0 p ≡ false) paths → map (bytes_at (fs ++ f ∷ [])) paths ≡ map (bytes_at fs) paths
+found-others : (fs : SuppliedFiles) (f : List ℕ × List ℕ) (paths : List (List ℕ)) → AllByRecursion (λ p. bytes_eq f.0 p ≡ false) paths → map (bytes_at (fs ++ f ∷ [])) paths ≡ map (bytes_at fs) paths
 found-others fs f [] h = refl
 found-others fs f (p ∷ ps) h =
     let head = bytes_at-other fs f p h.0 in
@@ -81,7 +81,7 @@ unlike_at path other (p ∷ ps) zero h e = λ same. false≢true (sym h.0 ∙ (b
 unlike_at path other (p ∷ ps) (suc i) h e = unlike_at path other ps i h.1 e
 
 -- the first file with its path is found at the place of that path alone
-found-first : (fs : List (List ℕ × List ℕ)) (f : List ℕ × List ℕ) (paths : List (List ℕ)) (i : ℕ) → IsDistinct bytes_eq paths → slice_get paths i ≡ Some f.0 → bytes_at fs f.0 ≡ None
+found-first : (fs : SuppliedFiles) (f : List ℕ × List ℕ) (paths : List (List ℕ)) (i : ℕ) → IsDistinct bytes_eq paths → slice_get paths i ≡ Some f.0 → bytes_at fs f.0 ≡ None
     → set (map (bytes_at fs) paths) i (Some f.1) ≡ map (bytes_at (fs ++ f ∷ [])) paths
 unfolding IsDistinct
 found-first fs f [] i distinct e new = absurd (none-some f.0 e)
@@ -97,7 +97,7 @@ found-first fs f (p ∷ ps) (suc i) distinct e new =
     cc
 
 -- and is put there
-pub found-put : (fs : List (List ℕ × List ℕ)) (f : List ℕ × List ℕ) (paths : List (List ℕ)) (i : ℕ) (table : List (Option (List ℕ))) → table ≡ map (bytes_at fs) paths → IsDistinct bytes_eq paths → slice_get paths i ≡ Some f.0 → bytes_at fs f.0 ≡ None
+pub found-put : (fs : SuppliedFiles) (f : List ℕ × List ℕ) (paths : List (List ℕ)) (i : ℕ) (table : List (Option (List ℕ))) → table ≡ map (bytes_at fs) paths → IsDistinct bytes_eq paths → slice_get paths i ≡ Some f.0 → bytes_at fs f.0 ≡ None
     → set table i (Some f.1) ≡ map (bytes_at (fs ++ f ∷ [])) paths
 found-put fs f paths i table start distinct e new = ap (λ l. set l i (Some f.1)) start ∙ found-first fs f paths i distinct e new
 

@@ -6,11 +6,11 @@ use Rattle.std.proofs.lemmas.Option.{slice_get_within, get_or_from_slice_get}
 use Rattle.indexmap.proofs.SetLemmas.{AllZip-push}
 use Rattle.ca_answers.specs.declared.{verdict.Answer.Answer, note.Note.Note}
 use Rattle.ca_text.specs.Prelude.{Claim, ClaimText}
-use Rattle.ca_answers.specs.Prelude.{IsTrueAnswer, AreTrueAnswers, IsWithinWork, AreWithinWork, Judging, Judges, JudgesAndNotes}
+use Rattle.ca_answers.specs.Prelude.{SuppliedFiles, IsTrueAnswer, AreTrueAnswers, IsWithinWork, AreWithinWork, Judging, Judges, JudgesAndNotes}
 use Rattle.ca_verify.specs.inner.Kept.{left_from, IsAnswerTo}
 
 -- some of the claims have true answers, out of work only within what each may take, and the others are left
-pub record IsAnswered (files : List (List ℕ × List ℕ)) (rules : List (List ℕ)) (work : ℕ) (claims : List (ℕ × Claim)) (left : Judging) (answers : List Answer) : Type 0 where
+pub record IsAnswered (files : SuppliedFiles) (rules : List (List ℕ)) (work : ℕ) (claims : List (ℕ × Claim)) (left : Judging) (answers : List Answer) : Type 0 where
   pub files_kept : left.files ≡ files
   pub rules_kept : left.rules ≡ rules
   pub work_kept : left.work ≡ work
@@ -34,13 +34,13 @@ not_empty [] ys y e = let none : suc (length ys) ≡ 0 = ap length e in omega (a
 not_empty (x ∷ xs) ys y e = let none : suc (length (xs ++ y ∷ ys)) ≡ 0 = ap length e in omega (arith, none)
 
 -- where one more is judged, there are claims
-pub some_claims : (files : List (List ℕ × List ℕ)) (rules : List (List ℕ)) (work : ℕ) (claims : List (ℕ × Claim)) (old new : Judging) (answers : List Answer) (answer : Answer)
+pub some_claims : (files : SuppliedFiles) (rules : List (List ℕ)) (work : ℕ) (claims : List (ℕ × Claim)) (old new : Judging) (answers : List Answer) (answer : Answer)
     → IsAnswered files rules work claims old answers → Judges old new answer → claims ≢ []
 some_claims files rules work claims old new answers answer before next none =
     not_empty before.done new.claims next.claim (ap (λ l. before.done ++ l) (sym next.claims) ∙ sym before.split ∙ none)
 
 -- the claim with an index is judged, with a true note, and those after it are left
-pub judged_and_noted : (files : List (List ℕ × List ℕ)) (asked : ClaimText) (index work : ℕ) (answer : Answer) (note : Note) → IsAnswerTo files asked index work answer note
+pub judged_and_noted : (files : SuppliedFiles) (asked : ClaimText) (index work : ℕ) (answer : Answer) (note : Note) → IsAnswerTo files asked index work answer note
     → JudgesAndNotes (left_from files asked index work) (left_from files asked (index + 1) work) answer note
 judged_and_noted files asked index work answer note is = record {
   judges = record {
@@ -57,7 +57,7 @@ judged_and_noted files asked index work answer note is = record {
   noted = is.noted;
 }
 
-module _ (files : List (List ℕ × List ℕ)) (rules : List (List ℕ)) (work : ℕ) (claims : List (ℕ × Claim)) where
+module _ (files : SuppliedFiles) (rules : List (List ℕ)) (work : ℕ) (claims : List (ℕ × Claim)) where
   -- one more is judged
   pub one_more : (old new : Judging) (answers : List Answer) (answer : Answer) → IsAnswered files rules work claims old answers → Judges old new answer → IsAnswered files rules work claims new (answers ++ answer ∷ [])
   one_more old new answers answer before next =

@@ -10,7 +10,7 @@ use Rattle.ca_quad.proofs.Trims.{trees_stay}
 use Rattle.ca_rule.specs.Prelude.{TableRule, RuleValue, NamesRule, IsRuleFault}
 use Rattle.ca_rule.specs.declared.fault.RuleFault.{RuleFault}
 use Rattle.ca_pattern.specs.declared.{pattern.Loaded.Loaded, ruled.RuledPattern.RuledPattern, ruled.UnnamedRule.UnnamedRule}
-use Rattle.ca_answers.specs.Prelude.{bytes_at, IsRuled, IsReadableFile, HasRule, IsSmall, IsLarge, IsUnnamed, IsUnnamedBy, IsGoodPattern}
+use Rattle.ca_answers.specs.Prelude.{SuppliedFiles, bytes_at, IsRuled, IsReadableFile, HasRule, IsSmall, IsLarge, IsUnnamed, IsUnnamedBy, IsGoodPattern}
 use Rattle.ca_pattern.specs.Prelude.{HoldsPattern, HasSmallStates, IsReadFrom, IsUnnamedFor, rule_of, IsRuledAs, ShowsLarge, ShowsSmall}
 use Rattle.ca_verify.specs.inner.Patterns.{HasName}
 use Rattle.ca_pattern.proofs.EqualCells.{small_shown, large_shown}
@@ -45,10 +45,10 @@ module _ (old new : List Node) (grows : Grows old new) (sound : IsSoundStore old
 -- ---- a pattern that was read
 
 -- a file whose pattern has a rule reads
-pub ruled_path_reads : (files : List (List ℕ × List ℕ)) (tables : List TableRule) (path : List ℕ) (cells : Picture) (rule : RuleValue) → IsRuled files tables path cells rule → IsReadableFile files path
+pub ruled_path_reads : (files : SuppliedFiles) (tables : List TableRule) (path : List ℕ) (cells : Picture) (rule : RuleValue) → IsRuled files tables path cells rule → IsReadableFile files path
 ruled_path_reads files tables path cells rule ruled = (ruled.0, ruled.1, ruled.2.1.holds.readable)
 
-module _ (nodes : List Node) (files : List (List ℕ × List ℕ)) (path : List ℕ) where
+module _ (nodes : List Node) (files : SuppliedFiles) (path : List ℕ) where
   -- the pattern is that of the file with this path
   pub record IsReadAt (pattern : Loaded) : Type 0 where
     pub bytes : List ℕ

@@ -7,7 +7,7 @@ use Rattle.ca_verify.specs.declared.verifier.tables.FaultyTable.{FaultyTable}
 use Rattle.ca_answers.specs.declared.cause.Cause.TheVariants.{NoFile, BadTable}
 use Rattle.ca_text.specs.declared.{asks.Asks.Asks, both.Both.Both}
 use Rattle.ca_text.specs.Prelude.{path_at, HoldsOfBoth, SomeOf, FirstBad}
-use Rattle.ca_answers.specs.Prelude.{bytes_at, IsMissing, IsThere, HoldsTable, AreTables, IsBadTable}
+use Rattle.ca_answers.specs.Prelude.{SuppliedFiles, bytes_at, IsMissing, IsThere, HoldsTable, AreTables, IsBadTable}
 use Rattle.ca_verify.specs.inner.Found.{IsFound, IsTableFound, IsFaultFound}
 use Rattle.ca_verify.specs.NeededFiles.{IsFaultyAt}
 use Rattle.ca_verify.specs.declared.refusal.About.TheVariants as about
@@ -22,7 +22,7 @@ holds_of_some P Q x same [] all some = absurd some
 holds_of_some P Q x same (y ∷ ys) all (inl here) = subst P (same y here) all.0
 holds_of_some P Q x same (y ∷ ys) all (inr later) = holds_of_some P Q x same ys all.1 later
 
-module _ (files : List (List ℕ × List ℕ)) (paths : List (List ℕ)) (found : List (Option (Bor (List ℕ)))) (same : map option_copied found ≡ map (bytes_at files) paths) where
+module _ (files : SuppliedFiles) (paths : List (List ℕ)) (found : List (Option (Bor (List ℕ)))) (same : map option_copied found ≡ map (bytes_at files) paths) where
   -- a place within the table is that of a path
   within_paths : (place : ℕ) → place < length found → place < length paths
   within_paths place within = subst (λ n. place < n) (found-length option_copied (bytes_at files) found paths same) within
@@ -77,7 +77,7 @@ module _ (files : List (List ℕ × List ℕ)) (paths : List (List ℕ)) (found 
     first_at places within faulty first,
   )
 
-module _ (files : List (List ℕ × List ℕ)) (paths rules : List (List ℕ)) (asks : Asks) (patterns : Both (List ℕ)) where
+module _ (files : SuppliedFiles) (paths rules : List (List ℕ)) (asks : Asks) (patterns : Both (List ℕ)) where
   -- where a rule line's file is missing, no claim is judged
   pub refused_missing : (place : ℕ) → place < length paths → HoldsOfBoth (IsThere files) patterns → FirstBad (IsThere files) (λ p. (p ≡ path_at paths place) × IsMissing files p) rules
       → IsRefusal files paths rules asks patterns (record { cause = NoFile; about = about.RuleFile place })

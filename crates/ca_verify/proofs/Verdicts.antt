@@ -16,7 +16,7 @@ use Rattle.ca_text.specs.declared.{asks.Asks.Asks, asks.Forbidden.Forbidden, bot
 use Rattle.ca_text.specs.declared.asks.Forbidden.TheVariants.{EmptyPlane}
 use Rattle.ca_pattern.specs.Prelude.{IsReadable, HoldsRuledPattern, HasRuleFault, IsPatternFault, IsQuietTable, IsTableFault}
 use Rattle.ca_text.specs.Prelude.{Claim, asks_of, expected_cells, ShowsNothingForbidden, IsTrueClaim, HoldsOfBoth, HoldsOfEither, FirstBadOfBoth, SomeOf, FirstBad}
-use Rattle.ca_answers.specs.Prelude.{IsReason, HoldsOfFile, IsTableAt, AreTables, IsRuled, IsMissing, IsThere, HoldsTable, IsReadableFile, HasRule, IsSmall, HaveOtherRules, FilesAreThere}
+use Rattle.ca_answers.specs.Prelude.{SuppliedFiles, IsReason, HoldsOfFile, IsTableAt, AreTables, IsRuled, IsMissing, IsThere, HoldsTable, IsReadableFile, HasRule, IsSmall, HaveOtherRules, FilesAreThere}
 use Rattle.ca_answers.specs.Prelude.{TablesAreGood, PatternsAreRead, PatternsHaveRules, StatesAreSmall, AgreeOn, HasFewCounted, HasTooManyCounted, HasCause, IsCauseFor, IsGoodPattern, AreGood}
 use Rattle.ca_answers.specs.Prelude.{IsJudged, IsBadTable, IsBadPattern, IsUnnamed, IsLarge}
 use Rattle.ca_verify.proofs.PatternsRead.{ruled_path_reads}
@@ -40,7 +40,7 @@ false_from_reason next cells other asks (Died m) reason true = dead next cells a
 
 -- ---- a path is good or bad, not both
 
-module _ (files : List (List ℕ × List ℕ)) (path : List ℕ) where
+module _ (files : SuppliedFiles) (path : List ℕ) where
   pub there_or_none : IsThere files path → IsMissing files path → ⊥
   there_or_none a none = none-some a.0 (sym none ∙ a.1)
 
@@ -102,7 +102,7 @@ module _ (files : List (List ℕ × List ℕ)) (path : List ℕ) where
         small_or_large bytes tables cells others rule other_rule one.0 two.0 one.1 small two.1 large
 
 -- the files of paths are one list of tables
-pub one_tables : (files : List (List ℕ × List ℕ)) (rules : List (List ℕ)) (ts us : List TableRule) → AreTables files rules ts → AreTables files rules us → ts ≡ us
+pub one_tables : (files : SuppliedFiles) (rules : List (List ℕ)) (ts us : List TableRule) → AreTables files rules ts → AreTables files rules us → ts ≡ us
 one_tables files [] [] [] a b = refl
 one_tables files [] [] (u ∷ us) a b = absurd b
 one_tables files (r ∷ rs) (t ∷ ts) [] a b = absurd b
@@ -113,7 +113,7 @@ one_tables files (r ∷ rs) (t ∷ ts) (u ∷ us) a b =
 one_tables files rules ts us a b = absurd a
 
 -- all of which are there
-pub tables_there : (files : List (List ℕ × List ℕ)) (rules : List (List ℕ)) (tables : List TableRule) → AreTables files rules tables → AllByRecursion (IsThere files) rules
+pub tables_there : (files : SuppliedFiles) (rules : List (List ℕ)) (tables : List TableRule) → AreTables files rules tables → AllByRecursion (IsThere files) rules
 tables_there files = zip_left (IsTableAt files) (IsThere files) (λ path table at. (at.0, at.1))
 
 -- ---- lists of paths
@@ -161,7 +161,7 @@ module _ (paths : Both (List ℕ)) where
 
 -- ---- good patterns
 
-module _ (files : List (List ℕ × List ℕ)) (tables : List TableRule) where
+module _ (files : SuppliedFiles) (tables : List TableRule) where
   -- the rules of good patterns with one rule are the same
   no_others : (p q : List ℕ) (cells other : Picture) (rule other_rule : RuleValue) → IsGoodPattern files tables p cells rule → IsGoodPattern files tables q other other_rule → IsSameRule rule other_rule
       → HaveOtherRules files tables p q → ⊥
@@ -197,12 +197,12 @@ place Work = 7
 place Memory = 8
 
 -- what holds of tables holds of those that are the same
-of_these : (files : List (List ℕ × List ℕ)) (rules : List (List ℕ)) (Holds : List TableRule → Type 0) (tables others : List TableRule) → AreTables files rules tables → AreTables files rules others
+of_these : (files : SuppliedFiles) (rules : List (List ℕ)) (Holds : List TableRule → Type 0) (tables others : List TableRule) → AreTables files rules tables → AreTables files rules others
     → Holds others → Holds tables
 of_these files rules Holds tables others are there h = subst Holds (one_tables files rules others tables there are) h
 
 -- the first n stages, up to the one rule: none of the first n causes holds
-abbrev IsPast : List (List ℕ × List ℕ) → (rules : List (List ℕ)) → (paths : Both (List ℕ)) → ℕ → Type 0
+abbrev IsPast : SuppliedFiles → (rules : List (List ℕ)) → (paths : Both (List ℕ)) → ℕ → Type 0
 IsPast files rules paths zero = Unit {0}
 IsPast files rules paths (suc zero) = FilesAreThere files rules paths
 IsPast files rules paths (suc (suc zero)) = (tables : List TableRule) × TablesAreGood files rules paths tables
@@ -212,7 +212,7 @@ IsPast files rules paths (suc (suc (suc (suc (suc zero))))) = (tables : List Tab
 IsPast files rules paths (suc (suc (suc (suc (suc (suc n)))))) =
     (tables : List TableRule) × StatesAreSmall files rules paths tables × (HaveOtherRules files tables paths.first paths.second → ⊥)
 
-module _ (files : List (List ℕ × List ℕ)) (rules : List (List ℕ)) (asks : Asks) (paths : Both (List ℕ)) where
+module _ (files : SuppliedFiles) (rules : List (List ℕ)) (asks : Asks) (paths : Both (List ℕ)) where
   -- a claim's patterns agree in one way
   one_agreed : (p q o v : Picture) (r s : RuleValue) → AgreeOn files rules paths p o r → AgreeOn files rules paths q v s → (p ≡ q) × (o ≡ v) × (r ≡ s)
   one_agreed p q o v r s (tables, are, good) (others, there, too) =
@@ -327,7 +327,7 @@ module _ (files : List (List ℕ × List ℕ)) (rules : List (List ℕ)) (asks :
 
 -- ---- judged claims
 
-module _ (files : List (List ℕ × List ℕ)) (rules : List (List ℕ)) (asks : Asks) (paths : Both (List ℕ)) where
+module _ (files : SuppliedFiles) (rules : List (List ℕ)) (asks : Asks) (paths : Both (List ℕ)) where
   -- where they agree, no cause holds before the one that counts cells
   agreed_or_early : (cells other : Picture) (rule : RuleValue) (cause : Cause) → suc (place cause) ≤ 6 → AgreeOn files rules paths cells other rule → HasCause files rules asks paths cause → ⊥
   agreed_or_early cells other rule cause early agree h =
@@ -341,7 +341,7 @@ module _ (files : List (List ℕ × List ℕ)) (rules : List (List ℕ)) (asks :
   agreed_or_cause cells other rule Memory m w agree few h = m refl
   agreed_or_cause cells other rule cause m w agree few h = agreed_or_early cells other rule cause (omega arith) agree h
 
-module _ (files : List (List ℕ × List ℕ)) (rules : List (List ℕ)) (claim : Claim) where
+module _ (files : SuppliedFiles) (rules : List (List ℕ)) (claim : Claim) where
   -- a claim is judged or refused for a cause, not both, out of work and memory apart
   pub judged_or_cause : (cells other : Picture) (rule : RuleValue) (cause : Cause) → cause ≢ Memory → cause ≢ Work → IsJudged files rules claim cells other rule → IsCauseFor files rules claim cause → ⊥
   judged_or_cause cells other rule cause m w judged h = agreed_or_cause files rules (asks_of claim.kind) claim.patterns cells other rule cause m w judged.0 judged.1 h

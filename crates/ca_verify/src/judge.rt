@@ -2,7 +2,7 @@
 
 ghost use Rattle.std.specs.Prelude.{◌≡◌, ◌≢◌, ℕ, ◌<◌, List, [], map, length, IfOk, IfSome, OnErr, MatchOption};
 ghost use Rattle.std.specs.Option.{option_copied};
-ghost use Rattle.ca_answers.specs.Prelude.{contents, bytes_at, Judges, JudgesAndNotes, IsDone, HasItsNote};
+ghost use Rattle.ca_answers.specs.Prelude.{SuppliedFiles, contents, bytes_at, Judges, JudgesAndNotes, IsDone, HasItsNote};
 ghost use Rattle.ca_pattern.specs.Prelude.{AreGoodLimits};
 ghost use Rattle.ca_verify.specs.NeededFiles.{AreFound, AreRead};
 ghost use Rattle.ca_verify.specs.inner.Kept.{IsAnswerTo};
@@ -18,7 +18,7 @@ use ca_text::Claims;
 use std::alloc::Global;
 use std::marker::Model;
 
-/// The claims of a text that are left, the files that were handed in, and what is kept of them: the bytes of
+/// The claims of a text that are left, the files that are supplied, and what is kept of them: the bytes of
 /// each path, the rule tables, and the patterns that were last read.
 #[derive(Drop)]
 pub struct Judge<'a> {
@@ -174,7 +174,7 @@ fn answer_to<'a, 'f, O: Observer>(
     requires limits { AreGoodLimits limits }
     requires index { index < length claims.now.claims }
     requires found { length needed.now.found.items ≡ length claims.now.paths }
-    ensures { (files : List (List ℕ × List ℕ))
+    ensures { (files : SuppliedFiles)
         → map option_copied needed.now.found.items ≡ map (bytes_at files) claims.now.paths
         → AreRead files claims.now.paths claims.now.rules needed.now.tables
         → IsAnswerTo files claims.now index limits.work result.0 result.1 }

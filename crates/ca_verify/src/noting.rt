@@ -2,7 +2,7 @@
 
 ghost use Rattle.std.specs.Prelude.{◌≡◌, ℕ, ◌<◌, List, length};
 ghost use Rattle.ca_text.specs.Prelude.{path_at, named_path, map_both, HoldsOfBoth};
-ghost use Rattle.ca_answers.specs.Prelude.{IsNote, HasItsNote};
+ghost use Rattle.ca_answers.specs.Prelude.{SuppliedFiles, IsNote, HasItsNote};
 ghost use Rattle.ca_verify.specs.inner.Patterns.{part_of};
 ghost use Rattle.ca_verify.specs.inner.Refusals.{IsOnVerdict};
 
@@ -17,7 +17,7 @@ pub(crate) fn note_on<'a>(
     judged: JudgedClaim,
 ) -> Note<'a>
     requires within { HoldsOfBoth (λ n. n.path < length claims.now.paths) patterns.now }
-    ensures { (files : List (List ℕ × List ℕ))
+    ensures { (files : SuppliedFiles)
         → IsOnVerdict files claims.now.paths claims.now.rules
         (map_both (λ n. path_at claims.now.paths n.path) patterns.now) judged.verdict judged.about
         → IsNote files claims.now.rules (map_both (named_path claims.now.paths) patterns.now)

@@ -10,7 +10,7 @@ ghost use Rattle.ca_text.specs.declared.kind.Kind.{Kind};
 ghost use Rattle.ca_text.specs.declared.kind.Kind.TheVariants.{Still, Oscillator, Spaceship, Becomes, BecomesShifted, Dies};
 ghost use Rattle.ca_text.specs.Prelude.{Claim, asks_of, IsChanged, IsNowhere, IsTrueClaim};
 ghost use Rattle.ca_pattern.specs.Prelude.{Means};
-ghost use Rattle.ca_answers.specs.Prelude.{IsReason, IsSameReason, IsTrueVerdict, HoldsTable};
+ghost use Rattle.ca_answers.specs.Prelude.{SuppliedFiles, IsReason, IsSameReason, IsTrueVerdict, HoldsTable};
 ghost use Rattle.ca_verify.specs.Examples.{life, blinker, block};
 ghost use Rattle.ca_answers.specs.declared.{verdict.Refutation.Refutation, verdict.Verdict.Verdict, cause.Cause.Cause};
 ghost use Rattle.ca_answers.specs.declared.verdict.Refutation.TheVariants.{Empty, Differs, Earlier, Died};
@@ -151,28 +151,28 @@ pub fn one_meaning_of_a_file()
 /// where no other cause is. Nor are out of memory and a file that isn't there, or out of memory and a bad
 /// table.
 pub fn one_kind_of_verdict()
-    ensures yes_or_no { (files : List (List ℕ × List ℕ)) (rules : List (List ℕ)) (claim : Claim)
+    ensures yes_or_no { (files : SuppliedFiles) (rules : List (List ℕ)) (claim : Claim)
         (refutation : Refutation)
         → IsTrueVerdict files rules claim Yes → IsTrueVerdict files rules claim (No refutation) → ⊥ }
-    ensures yes_or_refused { (files : List (List ℕ × List ℕ)) (rules : List (List ℕ)) (claim : Claim)
+    ensures yes_or_refused { (files : SuppliedFiles) (rules : List (List ℕ)) (claim : Claim)
         (cause : Cause) → cause ≢ Memory → cause ≢ Work
         → IsTrueVerdict files rules claim Yes → IsTrueVerdict files rules claim (Refused cause) → ⊥ }
-    ensures no_or_refused { (files : List (List ℕ × List ℕ)) (rules : List (List ℕ)) (claim : Claim)
+    ensures no_or_refused { (files : SuppliedFiles) (rules : List (List ℕ)) (claim : Claim)
         (refutation : Refutation) (cause : Cause) → cause ≢ Memory → cause ≢ Work
         → IsTrueVerdict files rules claim (No refutation)
         → IsTrueVerdict files rules claim (Refused cause) → ⊥ }
-    ensures work_or_refused { (files : List (List ℕ × List ℕ)) (rules : List (List ℕ)) (claim : Claim)
+    ensures work_or_refused { (files : SuppliedFiles) (rules : List (List ℕ)) (claim : Claim)
         (cause : Cause) → cause ≢ Memory → cause ≢ Work
         → IsTrueVerdict files rules claim (Refused Work) → IsTrueVerdict files rules claim (Refused cause)
         → ⊥ }
-    ensures one_cause { (files : List (List ℕ × List ℕ)) (rules : List (List ℕ)) (claim : Claim)
+    ensures one_cause { (files : SuppliedFiles) (rules : List (List ℕ)) (claim : Claim)
         (one two : Cause) → one ≢ Memory → two ≢ Memory
         → IsTrueVerdict files rules claim (Refused one) → IsTrueVerdict files rules claim (Refused two)
         → one ≡ two }
-    ensures no_file_or_memory { (files : List (List ℕ × List ℕ)) (rules : List (List ℕ)) (claim : Claim)
+    ensures no_file_or_memory { (files : SuppliedFiles) (rules : List (List ℕ)) (claim : Claim)
         → IsTrueVerdict files rules claim (Refused NoFile) → IsTrueVerdict files rules claim (Refused Memory)
         → ⊥ }
-    ensures bad_table_or_memory { (files : List (List ℕ × List ℕ)) (rules : List (List ℕ)) (claim : Claim)
+    ensures bad_table_or_memory { (files : SuppliedFiles) (rules : List (List ℕ)) (claim : Claim)
         (fault : TableFault)
         → IsTrueVerdict files rules claim (Refused (BadTable fault))
         → IsTrueVerdict files rules claim (Refused Memory) → ⊥ }
@@ -181,7 +181,7 @@ pub fn one_kind_of_verdict()
 /// With more rule lines at the text's end, whose files are good tables, a true verdict stays true, but for one that
 /// a pattern's rule isn't known: so they change no other claim.
 pub fn added_rules_change_no_verdict()
-    ensures { (files : List (List ℕ × List ℕ)) (rules more : List (List ℕ))
+    ensures { (files : SuppliedFiles) (rules more : List (List ℕ))
         (claim : Claim) (verdict : Verdict)
         → AllByRecursion (HoldsTable files) more → verdict ≢ Refused (BadRule Unknown)
         → IsTrueVerdict files rules claim verdict → IsTrueVerdict files (rules ++ more) claim verdict }

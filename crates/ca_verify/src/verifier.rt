@@ -3,7 +3,7 @@
 ghost use Rattle.std.specs.Prelude.{◌≡◌, ◌≢◌, ℕ, List, [], map, IfOk, OnErr, MatchResult};
 ghost use Rattle.std.specs.Option.{option_copied};
 ghost use Rattle.ca_text.specs.Prelude.{Claim as TextClaim, map_patterns, path_at};
-ghost use Rattle.ca_answers.specs.Prelude.{contents, bytes_at, AreTrueAnswers, AreWithinWork, IsNoMoreThan};
+ghost use Rattle.ca_answers.specs.Prelude.{SuppliedFiles, contents, bytes_at, AreTrueAnswers, AreWithinWork, IsNoMoreThan};
 ghost use Rattle.ca_verify.specs.declared.refusal.About.TheVariants as abouts;
 ghost use Rattle.ca_answers.specs.declared.verdict.Verdict.TheVariants.{Refused};
 ghost use Rattle.ca_answers.specs.declared.cause.Cause.TheVariants.{Work};
@@ -99,7 +99,7 @@ pub(crate) fn verdict_on<'a, O: Observer>(
     observer: &mut O,
 ) -> JudgedClaim
     requires { CanBeJudged task.now }
-    ensures { (files : List (List ℕ × List ℕ)) (paths rules : List (List ℕ))
+    ensures { (files : SuppliedFiles) (paths rules : List (List ℕ))
         → IsOnFiles files paths rules task.now
         → IsJudgedOn files paths rules task.now.limits.work
         (map_patterns (path_at paths) task.now.claim.now) result.verdict result.about }
@@ -120,7 +120,7 @@ fn wants_memory(verdict: &Verdict) -> bool {
 
 /// The verdict that was reached, or the refusal.
 fn as_judged(judged: Result<Verdict, Refusal>) -> JudgedClaim
-    ensures { (files : List (List ℕ × List ℕ)) (paths rules : List (List ℕ)) (work : ℕ) (claim : TextClaim)
+    ensures { (files : SuppliedFiles) (paths rules : List (List ℕ)) (work : ℕ) (claim : TextClaim)
         → MatchResult judged (λ verdict. IsJudgedOn files paths rules work claim verdict abouts.Claim)
         (λ r. IsJudgedOn files paths rules work claim (Refused r.cause) r.about)
         → IsJudgedOn files paths rules work claim result.verdict result.about }
@@ -145,7 +145,7 @@ fn judge<'a, O: Observer>(
     observer: &mut O,
 ) -> Result<Verdict, Refusal>
     requires { CanBeJudged task.now }
-    ensures { (files : List (List ℕ × List ℕ)) (paths rules : List (List ℕ))
+    ensures { (files : SuppliedFiles) (paths rules : List (List ℕ))
         → IsOnFiles files paths rules task.now
         → MatchResult result
         (λ verdict. IsJudgedOn files paths rules task.now.limits.work

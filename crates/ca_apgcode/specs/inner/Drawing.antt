@@ -1,6 +1,5 @@
 -- Cells that are drawn while a text is read.
-use Rattle.std.specs.Prelude.{◌≡◌, ◌≢◌, ℕ, ◌+◌, ◌*◌, ◌^◌, ◌<◌, ◌≤◌, ◌⊎◌, List, ◌∷◌, ◌++◌, slice_index, slice_set, None}
-use Rattle.std.specs.Prelude.{bit_or}
+use Rattle.std.specs.Prelude.{◌≡◌, ◌≢◌, ℕ, ◌+◌, ◌*◌, ◌^◌, ◌<◌, ◌≤◌, ◌⊎◌, List, ◌∷◌, ◌++◌, slice_index, slice_set, None, bit_or}
 use Rattle.ca_apgcode.specs.Representation.{Step, IsStep, step_text}
 use Rattle.ca_apgcode.specs.declared.drawing.Drawing.{Drawing}
 use Rattle.ca_apgcode.specs.inner.Reading.{step_at}

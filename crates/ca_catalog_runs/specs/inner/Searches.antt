@@ -1,11 +1,10 @@
 -- What is looked for in files that are to be identified, and what is written of them.
-use Rattle.std.specs.Prelude.{◌≡◌, ◌+◌, ◌^◌, ◌≤◌, ◌<◌, ℕ, List, [], Option}
+use Rattle.std.specs.Prelude.{◌≡◌, ◌≤◌, ℕ, List, [], Option}
 use Rattle.std.specs.List.{flat_map}
 use Rattle.ca_plane.specs.Prelude.{Counted, longest_period, most_generations}
 use Rattle.ca_pattern.specs.Prelude.{AreGoodLimits}
 use Rattle.ca_catalog_runs.specs.declared.identification_run.Search.{Search}
-use Rattle.ca_catalog.specs.declared.entry.{Entry.Entry, Outcome.Outcome, Subject.Subject}
-use Rattle.ca_catalog.specs.declared.entry.Outcome.TheVariants.{Identified}
+use Rattle.ca_catalog.specs.declared.entry.{Entry.Entry, Subject.Subject}
 use Rattle.ca_report.specs.declared.fault.ToolFault.{ToolFault}
 use Rattle.ca_report.specs.declared.fault.ToolFault.TheVariants as tools
 use Rattle.ca_catalog.specs.Prelude.{entry_lines, AreEntries, WritesOnFirst, WritesPartOn}

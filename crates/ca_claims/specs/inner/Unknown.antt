@@ -11,13 +11,11 @@ abbrev pub AsksFor : List TableRule → (needed : Bool) → Option (Bor (List �
 AsksFor tables needed file name = IsTrue needed × (bytes : Bor (List ℕ)) × (file ≡ Some bytes) × HoldsUnknownRule tables name bytes.now
 
 -- so does one of the first n files
-abbrev pub IsAskedBefore : List TableRule → List Bool → List (Option (Bor (List ℕ))) → (n : ℕ) → List ℕ
-    → Type 0
+abbrev pub IsAskedBefore : List TableRule → List Bool → List (Option (Bor (List ℕ))) → (n : ℕ) → List ℕ → Type 0
 IsAskedBefore tables needed found n name = (i : ℕ) × (i < n) × AsksFor tables (get_or needed i false) (get_or found i None) name
 
 -- the names are those that the first n files ask for
-abbrev pub AreAskedBefore : List TableRule → List Bool → List (Option (Bor (List ℕ))) → (n : ℕ)
-    → List (List ℕ) → Type 0
+abbrev pub AreAskedBefore : List TableRule → List Bool → List (Option (Bor (List ℕ))) → (n : ℕ) → List (List ℕ) → Type 0
 AreAskedBefore tables needed found n names = (name : List ℕ) → IsTrue (list_any (bytes_eq name) names) ↔ IsAskedBefore tables needed found n name
 
 -- the name that a file asks for was added to the names, if it asks for one

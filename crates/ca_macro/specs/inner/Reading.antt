@@ -77,8 +77,7 @@ IsMacrocellReadingFault bytes fault line =
     MatchOption line ((fault ≡ Memory) × HasNodeLine bytes) (IsFirstMacrocellFaultOn bytes fault)
 
 -- what is kept once lines have said this
-pub record IsMacrocellReading (store : List Kept) (said : List MacrocellLine)
-    (reading : Reading) : Type 0 where
+pub record IsMacrocellReading (store : List Kept) (said : List MacrocellLine) (reading : Reading) : Type 0 where
   pub squares : AreSquares store (flat_map added_nodes said) reading.squares
   pub rule : (text : List ℕ) → last_rule text said ≡ unwrap_or (option_copied reading.rule) text
   pub word : IfSome reading.rule (λ r. IsWord r.now)

@@ -61,8 +61,7 @@ pub record IsGathered (kept : List Kept) (states : ℕ) (ns : List Node) (number
   pub forms : AllByRecursion (HasForm states) ns
   pub distinct : AllPairs (λ m n. m ≢ n) ns
   pub live : AllByRecursion (λ n. is_empty n ≡ false) ns
-  pub numbered : (id number : ℕ) → square_value numbers id ≡ Some number
-      → (id < squares.place_id (length kept)) × IsWrittenNumber kept ns id number
+  pub numbered : (id number : ℕ) → square_value numbers id ≡ Some number → (id < squares.place_id (length kept)) × IsWrittenNumber kept ns id number
   pub each : (i : ℕ) → i < length ns → (id : ℕ) × (square_value numbers id ≡ Some (suc i))
 
 -- the new nodes are the old ones, and more after them

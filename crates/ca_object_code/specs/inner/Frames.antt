@@ -1,8 +1,7 @@
 -- Small boxes in frames of bricks.
-use Rattle.std.specs.Prelude.{◌≡◌, ℕ, zero, suc, ◌+◌, ◌*◌, ◌<◌, ◌⊎◌, ℤ, pos, ◌+ℤ◌, ◌<ℤ◌, ◌≤ℤ◌, List, [], length, slice_index, get_or, Option, Some, None}
+use Rattle.std.specs.Prelude.{◌≡◌, ℕ, zero, suc, ◌+◌, ◌*◌, ◌<◌, ◌⊎◌, ℤ, pos, ◌+ℤ◌, ◌<ℤ◌, ◌≤ℤ◌, List, [], length, slice_index, get_or}
 use Rattle.std.specs.Int.{bit_at}
-use Rattle.ca_plane.specs.declared.counting.Counting.{Counting}
-use Rattle.ca_bricks.specs.Prelude.{IsBlank, IsBlankRound, HasNeighbours, GoesBy}
+use Rattle.ca_bricks.specs.Prelude.{IsBlank, IsBlankRound, HasNeighbours}
 use Rattle.ca_apgcode.specs.Prelude.{GridCells, live}
 
 -- the rows of a frame: a blank one, and then the columns of the box, each with a dead cell before it

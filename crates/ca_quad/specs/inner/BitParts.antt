@@ -15,8 +15,7 @@ pub record HaveCells (words part : List CellWord) (at : Spot) (side : ℕ) : Typ
   pub same : (x y : ℕ) → x < side → y < side → cells_from (bit_cell part) at x y ≡ cells_from (bit_cell words) at x y
 
 -- the same for the four parts of a square
-pub record AreWordQuarters (words : List CellWord) (at : Spot) (corners : Corners) (side : ℕ)
-    (parts : Quarters CellWord) : Type 0 where
+pub record AreWordQuarters (words : List CellWord) (at : Spot) (corners : Corners) (side : ℕ) (parts : Quarters CellWord) : Type 0 where
   pub nw : HaveCells words parts.nw.items at side
   pub ne : HaveCells words parts.ne.items corners.ne side
   pub sw : HaveCells words parts.sw.items corners.sw side

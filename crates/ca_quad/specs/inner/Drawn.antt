@@ -48,8 +48,7 @@ abbrev pub placed_cells : List Node → PlacedSquare → ℤ → ℤ → ℕ
 placed_cells nodes square = cells_at_corner (square_cells nodes square.id) square.at
 
 -- a square of this level may be drawn, and shows some of these cells
-pub record IsReadyToDraw (nodes : List Node) (all : ℤ → ℤ → ℕ) (level : ℕ)
-    (square : PlacedSquare) : Type 0 where
+pub record IsReadyToDraw (nodes : List Node) (all : ℤ → ℤ → ℕ) (level : ℕ) (square : PlacedSquare) : Type 0 where
   pub is_square : IsOf nodes square.id level
   pub can : CanDraw (square_cells nodes square.id) (side_of nodes square.id) square.at
   pub agrees : Agrees all (placed_cells nodes square)
@@ -89,7 +88,6 @@ pub record ArePushed (nodes : List Node) (level : ℕ) (square : PlacedSquare) (
       → AreReady nodes all (level - 1) new.north.items × AreReady nodes all (level - 1) new.south.items
 
 -- the halves have all live cells of the squares
-pub record AreHalves (nodes : List Node) (level : ℕ) (squares : List PlacedSquare)
-    (halves : Halves) : Type 0 where
+pub record AreHalves (nodes : List Node) (level : ℕ) (squares : List PlacedSquare) (halves : Halves) : Type 0 where
   pub live : (x y : ℤ) → IsLiveIn nodes squares x y → IsLiveIn nodes halves.north.items x y ⊎ IsLiveIn nodes halves.south.items x y
   pub ready : (all : ℤ → ℤ → ℕ) → AreReady nodes all level squares → AreReady nodes all (level - 1) halves.north.items × AreReady nodes all (level - 1) halves.south.items

@@ -41,8 +41,7 @@ pub record HoldCells (p : Picture) (rows : List Row) (side : ℕ) (at : Spot) : 
   pub held : (i x y : ℕ) → i < length p → x < side → y < side → (point_at p i).x ≡ at.x +ℤ pos x → (point_at p i).y ≡ at.y +ℤ pos y → HaveRowAt rows i
 
 -- the part has those cells of the rows for which this holds
-pub record IsPartOfRows (p : Picture) (rows : List Row) (passes : Point → Type 0)
-    (part : List Row) : Type 0 where
+pub record IsPartOfRows (p : Picture) (rows : List Row) (passes : Point → Type 0) (part : List Row) : Type 0 where
   pub are : AreRows p part
   pub held : (i : ℕ) → HaveRowAt rows i → passes (point_at p i) → HaveRowAt part i
 

@@ -32,8 +32,7 @@ are_crowded variables nine taken left free set =
     nat_lt (count_by (λ p. one_takes variables nine taken left free left set (slice_index nine p)) free) (slots_in left set)
 
 -- some of the slots after those with places, which aren't more than the free places, are too many for the cells there
-pub record HasCrowd (variables : List States) (nine : List ℕ) (slots : List Slot)
-    (places free : List ℕ) : Type 0 where
+pub record HasCrowd (variables : List States) (nine : List ℕ) (slots : List Slot) (places free : List ℕ) : Type 0 where
   pub set : ℕ
   pub few : length (drop (length places) slots) ≤ length free
   pub crowded : are_crowded variables nine (zip slots (map (slice_index nine) places)) (drop (length places) slots) free set ≡ true

@@ -28,8 +28,7 @@ IsNoSlot states numbers field Name = (is_name field ≡ true) × (numbers field 
 IsNoSlot states numbers field fault = ⊥
 
 -- after fields that stand for these slots comes one that stands for nothing
-pub record HasNoSlot (states : ℕ) (numbers : List ℕ → Option ℕ) (fields : List (List ℕ))
-    (fault : StatementFault) : Type 0 where
+pub record HasNoSlot (states : ℕ) (numbers : List ℕ → Option ℕ) (fields : List (List ℕ)) (fault : StatementFault) : Type 0 where
   pub good : List (List ℕ)
   pub slots : List Slot
   pub field : List ℕ
@@ -48,8 +47,7 @@ IsFaultAmong states numbers fields Memory = HaveSlots states numbers fields
 IsFaultAmong states numbers fields fault = HasNoSlot states numbers fields fault
 
 -- the fields stand for the slots of a transition and its result, which is bound or isn't
-pub record HaveResult (states : ℕ) (numbers : List ℕ → Option ℕ) (fields : List (List ℕ))
-    (bound : Bool) : Type 0 where
+pub record HaveResult (states : ℕ) (numbers : List ℕ → Option ℕ) (fields : List (List ℕ)) (bound : Bool) : Type 0 where
   pub inputs : List Slot
   pub result : Slot
   pub stand : AllZip (IsSlot states numbers) fields (inputs ++ result ∷ [])
@@ -62,8 +60,7 @@ IsFaultOfTransition states numbers fields Memory = HaveResult states numbers fie
 IsFaultOfTransition states numbers fields fault = HasNoSlot states numbers fields fault
 
 -- this many of the fields have been read
-pub record AreSlots (states : ℕ) (numbers : List ℕ → Option ℕ) (fields left : List (List ℕ))
-    (slots : List Slot) : Type 0 where
+pub record AreSlots (states : ℕ) (numbers : List ℕ → Option ℕ) (fields left : List (List ℕ)) (slots : List Slot) : Type 0 where
   pub good : List (List ℕ)
   pub whole : fields ≡ good ++ left
   pub stand : AllZip (IsSlot states numbers) good slots

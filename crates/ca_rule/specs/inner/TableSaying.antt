@@ -29,8 +29,7 @@ abbrev pub IsKeptBehind : Settings → SaidStatements → NumberedLine → State
 IsKeptBehind settings said line kept = (after : SaidStatements) × (SaysVariable settings said line after ⊎ SaysTransition settings said line after) × KeepsStatements after kept
 
 -- the first of the lines are statements, which say what is kept, and these are left
-pub record IsBehindSaid (settings : Settings) (all left : List NumberedLine)
-    (kept : Statements) : Type 0 where
+pub record IsBehindSaid (settings : Settings) (all left : List NumberedLine) (kept : Statements) : Type 0 where
   pub good : List NumberedLine
   pub said : SaidStatements
   pub whole : all ≡ good ++ left

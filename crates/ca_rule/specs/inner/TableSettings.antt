@@ -27,8 +27,7 @@ abbrev pub meaning_of : TableSettings → Settings
 meaning_of settings = record { states = settings.states; neighbourhood = settings.neighbourhood; symmetry = settings.symmetry }
 
 -- these lines follow settings of which none is set again, and which give these values
-pub record IsBehindSettings (all : List NumberedLine) (values : SettingValues)
-    (lines : List NumberedLine) : Type 0 where
+pub record IsBehindSettings (all : List NumberedLine) (values : SettingValues) (lines : List NumberedLine) : Type 0 where
   pub good : List NumberedLine
   pub once : are_settings [] good ≡ true
   pub values_are : AreValuesOf good values
@@ -51,8 +50,7 @@ joined_settings v w = record {
 }
 
 -- these lines follow settings that mean this
-pub record IsBehindMeant (all : List NumberedLine) (settings : Settings)
-    (lines : List NumberedLine) : Type 0 where
+pub record IsBehindMeant (all : List NumberedLine) (settings : Settings) (lines : List NumberedLine) : Type 0 where
   pub good : List NumberedLine
   pub mean : SettingsMean good settings
   pub whole : all ≡ good ++ lines

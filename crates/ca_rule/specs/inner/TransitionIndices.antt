@@ -36,8 +36,7 @@ abbrev pub takable : List States → List ℕ → List Slot → List ℕ → ℕ
 takable variables nine slots places = count_by (λ p. slots_admit variables (slice_index nine p) slots) places
 
 -- one of the slots after the centre's, up to this one, admits none of the cells at these places
-pub record HasIdle (variables : List States) (nine : List ℕ) (slots : List Slot) (most : ℕ)
-    (places : List ℕ) : Type 0 where
+pub record HasIdle (variables : List States) (nine : List ℕ) (slots : List Slot) (most : ℕ) (places : List ℕ) : Type 0 where
   pub slot : ℕ
   pub low : 0 < slot
   pub high : slot ≤ most

@@ -27,37 +27,32 @@ IsLow least nodes tree = (level : ℕ) → least ≤ level → HoldsAll level (c
 
 -- of n generations of the first tree the run has reached as many as it says, and has the tree after them, of a level no more than its
 -- cells or the first tree need
-pub record HasReached (next : List ℕ → ℕ) (old : List Node) (first : Tree) (n : ℕ) (new : List Node)
-    (reached : ReachedTree) : Type 0 where
+pub record HasReached (next : List ℕ → ℕ) (old : List Node) (first : Tree) (n : ℕ) (new : List Node) (reached : ReachedTree) : Type 0 where
   pub is_tree : IsTree new reached.tree
   pub low : IsLow first.level new reached.tree
   pub most : reached.generations ≤ n
   pub cells : (x y : ℤ) → cell new reached.tree x y ≡ cells_after next (cell old first) reached.generations x y
 
 -- nothing was stepped, and nothing was worked out
-pub record IsIdle (Rule : Type 0) (old new : LeaperView Rule)
-    (result : Result ReachedTree LeapFault) : Type 0 where
+pub record IsIdle (Rule : Type 0) (old new : LeaperView Rule) (result : Result ReachedTree LeapFault) : Type 0 where
   pub none : IfOk result (λ reached. reached.generations ≡ 0)
   pub costs : Costs Rule old new 0 0
 
 -- bricks were to be stepped, of a tree of at least 2^7 cells a side by at least 32 generations, at no more than this cost
-pub record IsDense (Rule : Type 0) (old : LeaperView Rule) (first : Tree) (n : ℕ)
-    (new : LeaperView Rule) : Type 0 where
+pub record IsDense (Rule : Type 0) (old : LeaperView Rule) (first : Tree) (n : ℕ) (new : LeaperView Rule) : Type 0 where
   pub least : 7 ≤ first.level
   pub many : 32 ≤ n
   pub costs : Costs Rule old new (14 ^ (first.level + 6)) 2040
 
 -- leaps for the first j binary digits of what is left of n generations cost no more than this: where nothing was reached before them, as much
 -- as one leap for the next digit; and in any case as much as j leaps of the largest tree
-pub record HasLeapt (Rule : Type 0) (old : LeaperView Rule) (first : Tree) (reached n j : ℕ)
-    (new : LeaperView Rule) : Type 0 where
+pub record HasLeapt (Rule : Type 0) (old : LeaperView Rule) (first : Tree) (reached n j : ℕ) (new : LeaperView Rule) : Type 0 where
   pub rising : reached ≡ 0 → (d : ℕ) → n < 2 ^ d → Costs Rule old new (14 ^ (first.level + min d j + 1)) (16380 * j)
   pub later : (d : ℕ) → n < 2 ^ d → Costs Rule old new (j * 14 ^ (max first.level d + 2)) (16380 * j)
 
 -- a run from a tree of this level by so many generations that the cells may be 2^14 times as wide and as many generations on went on in a
 -- store of its own: it cost no more work than can be counted, and at most so many squares
-pub record HasParted (Rule : Type 0) (old : LeaperView Rule) (first : Tree) (n : ℕ)
-    (new : LeaperView Rule) : Type 0 where
+pub record HasParted (Rule : Type 0) (old : LeaperView Rule) (first : Tree) (n : ℕ) (new : LeaperView Rule) : Type 0 where
   pub long : (d : ℕ) → n < 2 ^ d → 15 ≤ first.level + d
   pub used : new.spent.used < 2 ^ 64
   pub made : length new.nodes + 4096 * old.spent.used ≤ length old.nodes + 4096 * new.spent.used + 16380 * 61

@@ -47,8 +47,7 @@ results_of memo centres leaps =
     ++ (filter_map centre_result centres.slots ++ filter_map leap_result leaps.slots))
 
 -- the entries of the memo and the slots of the two tables are together no more than may be
-pub record AreBounded (memo : MemoView) (centres : SlotsView (ℕ × ℕ)) (leaps : SlotsView (ℕ × ℕ × ℕ × ℕ))
-    (capacity : ℕ) : Type 0 where
+pub record AreBounded (memo : MemoView) (centres : SlotsView (ℕ × ℕ)) (leaps : SlotsView (ℕ × ℕ × ℕ × ℕ)) (capacity : ℕ) : Type 0 where
   pub within : memo.order.cap + (centres.most + leaps.most) ≤ capacity
   pub entries : IsBoundedMemo memo.pages memo.order
   pub few_centres : length centres.slots ≤ centres.most

@@ -160,7 +160,7 @@ fn planes_move_to_the_edge_and_no_further(rt: HostRuntime) {
     }
 }
 
-/// The plane of cells that are handed in together.
+/// The plane of cells that are given together.
 fn gathered(alloc: Global, cells: &[Cell]) -> Result<Plane, Memory> {
     let mut listed = Vec::new(alloc);
     'cells: for &(y, x, state) in cells {
@@ -169,7 +169,7 @@ fn gathered(alloc: Global, cells: &[Cell]) -> Result<Plane, Memory> {
     Plane::from_cells(alloc, listed)
 }
 
-/// Cells that are handed in together: of two at one point the first counts.
+/// Cells that are given together: of two at one point the first counts.
 const HANDED: &[Cell] = &[
     (1, 2, 3),
     (0, 5, 1),

@@ -183,7 +183,7 @@ fn a_claim_is_refused_for_want_of_work(rt: HostRuntime) {
     expect(&rt, found == Ok(true), "no work");
 }
 
-/// Whether a claim about a file that isn't handed in is refused.
+/// Whether a claim about a file that isn't supplied is refused.
 fn is_refused(alloc: Global) -> Result<bool, ClaimFault> {
     let claims = read_claims(alloc, b"load b block.rle\nstill b\n")?;
     let mut out = Dev::new(Vec::new(alloc));

@@ -7,18 +7,18 @@ use Rattle.ca_answers.specs.declared.{verdict.Answer.Answer, note.Note.Note}
 use Rattle.ca_pattern.specs.declared.limits.Limits.{Limits}
 use Rattle.ca_pattern.specs.Prelude.{AreGoodLimits}
 use Rattle.ca_text.specs.Prelude.{ClaimText, Claim}
-use Rattle.ca_answers.specs.Prelude.{IsTrueAnswer, IsWithinWork, Judging, IsNote, HasItsNote}
+use Rattle.ca_answers.specs.Prelude.{SuppliedFiles, IsTrueAnswer, IsWithinWork, Judging, IsNote, HasItsNote}
 use Rattle.ca_verify.specs.NeededFiles.{AreFound}
 
 -- these are kept, if the text makes a claim; the claim with this index is the next, or all are judged; and the limits are good
-pub record IsKeptOf (files : List (List ℕ × List ℕ)) (asked : ClaimText)
+pub record IsKeptOf (files : SuppliedFiles) (asked : ClaimText)
     (found : List (Option (Bor (List ℕ)))) (tables : Tables) (index : ℕ) (limits : Limits) : Type 0 where
   pub kept : asked.claims ≢ [] → AreFound files asked found tables
   pub within : index ≤ length asked.claims
   pub limited : AreGoodLimits limits
 
 -- what is left to be judged of these files and claims, from the claim with this index on, each of which may take so much work
-abbrev pub left_from : List (List ℕ × List ℕ) → ClaimText → (index work : ℕ) → Judging
+abbrev pub left_from : SuppliedFiles → ClaimText → (index work : ℕ) → Judging
 left_from files asked index work = record {
   files = files;
   rules = asked.rules;
@@ -28,8 +28,7 @@ left_from files asked index work = record {
 }
 
 -- the answer to the claim with this index is true, and so is the note on it, which is given where the verdict has one
-pub record IsAnswerTo (files : List (List ℕ × List ℕ)) (asked : ClaimText) (index work : ℕ) (answer : Answer)
-    (note : Note) : Type 0 where
+pub record IsAnswerTo (files : SuppliedFiles) (asked : ClaimText) (index work : ℕ) (answer : Answer) (note : Note) : Type 0 where
   pub claim : ℕ × Claim
   pub at : slice_get asked.claims index ≡ Some claim
   pub holds : IsTrueAnswer files asked.rules claim answer

@@ -17,14 +17,13 @@ use Rattle.ca_answers.specs.declared.cause.Cause.TheVariants.{BadPattern, StateT
 use Rattle.ca_answers.specs.declared.cause.Cause.TheVariants as cause
 use Rattle.ca_verify.specs.declared.verifier.agreement.Disagreement.TheVariants.{Large, Mixed}
 use Rattle.ca_verify.specs.declared.verifier.agreement.Disagreement.TheVariants as disagreement
-use Rattle.ca_answers.specs.Prelude.{AgreeOn, IsCounted, HasFewCounted}
+use Rattle.ca_answers.specs.Prelude.{SuppliedFiles, AgreeOn, IsCounted, HasFewCounted}
 use Rattle.ca_evolution.specs.Prelude.{HasLimits}
 use Rattle.ca_pattern.specs.Prelude.{IsPattern}
 use Rattle.ca_verify.specs.inner.Subjects.{AreShown}
 
 -- the trees show what the files of these paths mean, under one rule, and not too many cells where they are counted; the claim asks this
-pub record IsPrepared (files : List (List ℕ × List ℕ)) (rules : List (List ℕ)) (asks : Asks)
-    (paths : Both (List ℕ)) (prepared : PreparedClaim) : Type 0 where
+pub record IsPrepared (files : SuppliedFiles) (rules : List (List ℕ)) (asks : Asks) (paths : Both (List ℕ)) (prepared : PreparedClaim) : Type 0 where
   pub cells : Picture
   pub other : Picture
   pub shown : AreShown prepared.leaper.nodes prepared.subject cells other

@@ -59,8 +59,7 @@ IsBackBy next cells forbidden n v = MayReturnBy forbidden v.0 v.1 × IsAfter nex
 
 -- how far the first return is found: the pattern is back at this time, which is the claim's or, by this vector, an earlier one; and where
 -- k times m generations make the time, nothing that is forbidden is shown at m, or k divides what is left of the time to be tried
-pub record IsNarrowed (next : List ℕ → ℕ) (nodes : List Node) (case : Case) (time left : ℕ)
-    (found : Option (ℤ × ℤ)) : Type 0 where
+pub record IsNarrowed (next : List ℕ → ℕ) (nodes : List Node) (case : Case) (time left : ℕ) (found : Option (ℤ × ℤ)) : Type 0 where
   pub some : 1 ≤ time
   pub within : time ≤ case.asks.generations
   pub part : left ∣ time

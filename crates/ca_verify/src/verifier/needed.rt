@@ -1,4 +1,4 @@
-//! What the claims of a text need of the files that are handed in.
+//! What the claims of a text need of the files that are supplied.
 
 use super::tables::Tables;
 

@@ -3,7 +3,7 @@
 ghost use Rattle.std.specs.Prelude.{◌≡◌, ℕ, ◌<◌, List, map, length, get_or, Some, None, IfOk, IsTrue, MatchResult};
 ghost use Rattle.std.specs.Option.{option_copied};
 ghost use Rattle.ca_text.specs.Prelude.{path_at, map_both, HoldsOfBoth, ZipBoth};
-ghost use Rattle.ca_answers.specs.Prelude.{bytes_at, AreTables};
+ghost use Rattle.ca_answers.specs.Prelude.{SuppliedFiles, bytes_at, AreTables};
 ghost use Rattle.ca_pattern.specs.Prelude.{AreGoodLimits};
 ghost use Rattle.ca_verify.specs.declared.refusal.About.TheVariants as abouts;
 ghost use Rattle.ca_answers.specs.declared.cause.Cause.TheVariants as causes;
@@ -49,7 +49,7 @@ pub(crate) fn prepare<'a, 't>(
 ) -> Result<PreparedClaim<'t>, Refusal>
     requires limits { AreGoodLimits limits }
     requires within { HoldsOfBoth (λ i. i < length found.now) places.now }
-    ensures prepared { (files : List (List ℕ × List ℕ)) (paths rules : List (List ℕ))
+    ensures prepared { (files : SuppliedFiles) (paths rules : List (List ℕ))
         → map option_copied found.now ≡ map (bytes_at files) paths → AreRead files paths rules tables.now
         → MatchResult result (IsPrepared files rules asks (map_both (path_at paths) places.now))
         (IsRefusal files paths rules asks (map_both (path_at paths) places.now)) }
@@ -77,7 +77,7 @@ fn prepare_by<'a, 't>(
 ) -> Result<PreparedClaim<'t>, Refusal>
     requires limits { AreGoodLimits limits }
     requires one { IsTrue are_one → there.now.second ≡ there.now.first }
-    ensures prepared { (files : List (List ℕ × List ℕ)) (paths rules : List (List ℕ)) (each : BothOf (List ℕ))
+    ensures prepared { (files : SuppliedFiles) (paths rules : List (List ℕ)) (each : BothOf (List ℕ))
         → ZipBoth (λ path b. bytes_at files path ≡ Some b.now) each there.now
         → AreTables files rules tables.now
         → MatchResult result (IsPrepared files rules asks each) (IsRefusal files paths rules asks each) }

@@ -7,7 +7,7 @@ ghost use Rattle.ca_rule.specs.Prelude.{TableRule};
 ghost use Rattle.ca_rule.specs.declared.table.fault.TableFault.TheVariants as table_fault;
 ghost use Rattle.ca_text.specs.declared.{asks.Asks.Asks, both.Both.Both};
 ghost use Rattle.ca_text.specs.Prelude.{HoldsOfBoth, path_at, FirstBad};
-ghost use Rattle.ca_answers.specs.Prelude.{bytes_at, IsThere, AreTables};
+ghost use Rattle.ca_answers.specs.Prelude.{SuppliedFiles, bytes_at, IsThere, AreTables};
 ghost use Rattle.ca_verify.specs.inner.Found.{IsFound, IsTableFound, IsFaultFound};
 ghost use Rattle.ca_verify.specs.inner.Refusals.{IsRefusal};
 
@@ -20,7 +20,7 @@ use std::alloc::Global;
 /// What the files of a text's rule lines hold.
 #[derive(Drop)]
 pub enum Tables {
-    /// The file with the path at this place is the first that wasn't handed in.
+    /// The file with the path at this place is the first that isn't supplied.
     Missing(usize),
     /// All were, and this is the first that is faulty.
     Faulty(FaultyTable),
@@ -49,7 +49,7 @@ impl Tables {
         found: &[Option<&[u8]>],
     ) -> Result<Tables, Memory>
         requires { All (λ i. i < length found.now) places.now }
-        ensures { (files : List (List ℕ × List ℕ)) (paths : List (List ℕ))
+        ensures { (files : SuppliedFiles) (paths : List (List ℕ))
             → map option_copied found.now ≡ map (bytes_at files) paths
             → IfOk result (AreRead files paths (map (path_at paths) places.now)) }
     {
@@ -67,7 +67,7 @@ impl Tables {
 
     /// The tables, where all files are there and good.
     pub fn good(&self) -> Option<&[Table]>
-        ensures { (files : List (List ℕ × List ℕ)) (paths rules : List (List ℕ))
+        ensures { (files : SuppliedFiles) (paths rules : List (List ℕ))
             → AreRead files paths rules self.now
             → MatchOption result ((tables : List TableRule) → AreTables files rules tables → ⊥)
             (λ tables. AreTables files rules tables.now) }
@@ -80,9 +80,9 @@ impl Tables {
 
     /// The tables, or why no claim is judged without them.
     pub(crate) fn all(&self) -> Result<&[Table], Refusal>
-        ensures tables { (files : List (List ℕ × List ℕ)) (paths rules : List (List ℕ))
+        ensures tables { (files : SuppliedFiles) (paths rules : List (List ℕ))
             → AreRead files paths rules self.now → IfOk result (λ tables. AreTables files rules tables.now) }
-        ensures refusal { (files : List (List ℕ × List ℕ)) (paths rules : List (List ℕ)) (asks : Asks)
+        ensures refusal { (files : SuppliedFiles) (paths rules : List (List ℕ)) (asks : Asks)
             (patterns : Both (List ℕ)) → AreRead files paths rules self.now
             → HoldsOfBoth (IsThere files) patterns
             → IfErr result (IsRefusal files paths rules asks patterns) }

@@ -1,8 +1,8 @@
-use Rattle.std.proofs.Common.{◌≡◌, ◌≢◌, ℕ, List, [], map, length, IsTrue, ◌↔◌, sym, ap, subst, ◌∙◌}
+use Rattle.std.proofs.Common.{◌≡◌, ◌≢◌, List, [], map, length, IsTrue, ◌↔◌, sym, ap, subst, ◌∙◌}
 use Rattle.std.specs.List.{AllZip}
 use Rattle.std.specs.Option.{MatchOption, option_copied}
 use Rattle.ca_rule.specs.Prelude.{TableRule}
-use Rattle.ca_answers.specs.Prelude.{contents, bytes_at, AreTables}
+use Rattle.ca_answers.specs.Prelude.{SuppliedFiles, contents, bytes_at, AreTables}
 use Rattle.ca_text.specs.Prelude.{IsNeeded, ClaimText}
 use Rattle.ca_verify.specs.NeededFiles.{AreFound}
 use Rattle.ca_claims.specs.Unknown.{AreUnknownRules}
@@ -12,7 +12,7 @@ use Rattle.ca_claims.proofs.unknown.unknown_rules.Goals.{After-deref-2}
 
 -- what is known of the marks and of the files that are handed on
 module _ (c : After-deref-2) where
-  abbrev files : List (List ℕ × List ℕ)
+  abbrev files : SuppliedFiles
   files = contents c.args.files.now
 
   abbrev asked : ClaimText

@@ -6,8 +6,7 @@ use Rattle.ca_work.specs.Prelude.{Spent}
 use Rattle.ca_pattern.specs.Prelude.{IsWithinPlane, IsLaterTree}
 use Rattle.ca_evolution.specs.Prelude.{step_work}
 use Rattle.ca_pattern.proofs.Corners.{fits_near}
-use Rattle.ca_evolution.proofs.Spending.{takes_one}
-use Rattle.ca_evolution.proofs.Spending.{takes_before}
+use Rattle.ca_evolution.proofs.Spending.{takes_one, takes_before}
 use Rattle.ca_evolution.proofs.Steps.{some_run}
 use Rattle.ca_pattern.proofs.Times.{moved_nowhere}
 use Rattle.ca_evolution.proofs.later.later_tree.Goals as goal

@@ -1,7 +1,6 @@
 use Rattle.std.proofs.Common.{◌∙◌}
 use Rattle.ca_quad.specs.Prelude.{cell}
-use Rattle.ca_pattern.proofs.Corners.{far_corner_wide}
-use Rattle.ca_pattern.proofs.Corners.{corner_wide}
+use Rattle.ca_pattern.proofs.Corners.{far_corner_wide, corner_wide}
 use Rattle.ca_object_code.proofs.LeastBoxes.{no_text_dead, no_text_large, in_window, IsBoxRound-drawn}
 use Rattle.ca_object_code.proofs.boxes.box_round.Goals as goal
 

@@ -3,8 +3,7 @@ use Rattle.std.specs.Prelude.{option_map}
 use Rattle.ca_plane.specs.Prelude.{cells_after}
 use Rattle.ca_quad.specs.Prelude.{AreSquareBoxes, cell}
 use Rattle.ca_quad.proofs.Measures.{boxes_stay}
-use Rattle.ca_run.proofs.LeaperGrowth.{goes_on_same}
-use Rattle.ca_run.proofs.LeaperGrowth.{goes_on_again}
+use Rattle.ca_run.proofs.LeaperGrowth.{goes_on_same, goes_on_again}
 use Rattle.ca_apgcode.specs.Prelude.{IsLeastOfPhases}
 use Rattle.ca_apgcode.proofs.PhaseTexts.{least_none}
 use Rattle.ca_evolution.specs.Prelude.{CanGoOn}

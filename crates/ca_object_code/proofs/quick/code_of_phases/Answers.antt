@@ -1,8 +1,7 @@
 use Rattle.std.proofs.Common.{None, Some, refl, ap, subst, ◌∙◌}
 use Rattle.ca_quad.specs.Prelude.{AreSquareBoxes, IsLeastWideBox, cell}
 use Rattle.ca_apgcode.specs.Prelude.{code_text}
-use Rattle.ca_pattern.proofs.Corners.{far_corner_wide}
-use Rattle.ca_pattern.proofs.Corners.{corner_wide}
+use Rattle.ca_pattern.proofs.Corners.{far_corner_wide, corner_wide}
 use Rattle.ca_object_code.specs.Countings.{MayGoBy}
 use Rattle.ca_object_code.proofs.LargeObjects.{no_phase}
 use Rattle.ca_object_code.proofs.quick.code_of_phases.Goals as goal

@@ -2,8 +2,7 @@ use Rattle.std.proofs.Common.{◌≡◌, ◌+◌, Some, refl, sym, subst, ◌∙
 use Rattle.ca_plane.specs.Prelude.{cells_after}
 use Rattle.ca_quad.specs.Prelude.{AreSquareBoxes, cell}
 use Rattle.ca_plane.proofs.After.{after_again}
-use Rattle.ca_run.proofs.LeaperGrowth.{goes_on_same}
-use Rattle.ca_run.proofs.LeaperGrowth.{goes_on_again}
+use Rattle.ca_run.proofs.LeaperGrowth.{goes_on_same, goes_on_again}
 use Rattle.ca_apgcode.specs.Prelude.{IsBoxRound, IsLeastOfPhases}
 use Rattle.ca_apgcode.proofs.PhaseTexts.{least_none}
 use Rattle.ca_apgcode.proofs.PlaneBoxes.{box_as}

@@ -1,7 +1,7 @@
-use Rattle.std.proofs.Common.{◌≡◌, ◌<◌, length, map, sym, ap, subst, ◌∙◌}
+use Rattle.std.proofs.Common.{◌≡◌, ◌<◌, length, map, sym, subst}
 use Rattle.std.specs.Option.{option_copied}
 use Rattle.ca_rule.specs.Prelude.{rule_value, next_of}
-use Rattle.ca_text.specs.Prelude.{asks_of, HoldsOfBoth, map_patterns, path_at}
+use Rattle.ca_text.specs.Prelude.{HoldsOfBoth, map_patterns, path_at}
 use Rattle.ca_answers.specs.Prelude.{bytes_at, IsNoMoreThan, HasCause}
 use Rattle.ca_verify.specs.declared.refusal.About.TheVariants.{Claim}
 use Rattle.ca_answers.specs.declared.verdict.Verdict.TheVariants.{Refused}

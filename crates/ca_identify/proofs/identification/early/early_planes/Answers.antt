@@ -4,8 +4,7 @@ use Rattle.std.specs.Prelude.{slice_get, Some}
 use Rattle.ca_quad.specs.declared.tree.Tree.{Tree}
 use Rattle.ca_quad.specs.Prelude.{AreSquareBoxes, cell, IsTree, IsTrimmed}
 use Rattle.ca_quad.proofs.Measures.{boxes_stay}
-use Rattle.ca_run.proofs.LeaperGrowth.{goes_on_same}
-use Rattle.ca_run.proofs.LeaperGrowth.{goes_on_again}
+use Rattle.ca_run.proofs.LeaperGrowth.{goes_on_same, goes_on_again}
 use Rattle.ca_identify.specs.declared.identification.stage.First.{First}
 use Rattle.ca_identify.specs.inner.Stages.{IsFirst, AreEarly}
 use Rattle.ca_evolution.specs.Prelude.{CanGoOn}

@@ -1,7 +1,6 @@
 use Rattle.std.proofs.Common.{refl, subst}
 use Rattle.ca_quad.specs.Prelude.{IsDead, IsLeastWideBox, cell}
-use Rattle.ca_pattern.proofs.Corners.{corner_broad, far_corner_wide}
-use Rattle.ca_pattern.proofs.Corners.{corner_wide}
+use Rattle.ca_pattern.proofs.Corners.{corner_broad, far_corner_wide, corner_wide}
 use Rattle.ca_identify.proofs.NoReturn.{tree_empty, tree_grown}
 use Rattle.ca_identify.proofs.Stages.{start_goes_on}
 use Rattle.ca_pattern.proofs.Starts.{near_start}

@@ -3,8 +3,7 @@ use Rattle.std.proofs.lemmas.Int.{to_z-of_z}
 use Rattle.ca_quad.specs.Prelude.{IsDead, IsLeastWideBox, AreSquareBoxes, shifted_cells, cell}
 use Rattle.ca_quad.proofs.Measures.{boxes_stay}
 use Rattle.ca_identify.specs.inner.Stages.{AreMovedNowhere}
-use Rattle.ca_pattern.proofs.Corners.{corner_broad, far_corner_wide}
-use Rattle.ca_pattern.proofs.Corners.{corner_wide}
+use Rattle.ca_pattern.proofs.Corners.{corner_broad, far_corner_wide, corner_wide}
 use Rattle.ca_pattern.proofs.Starts.{near_start}
 use Rattle.ca_identify.proofs.identification.stage.stage_of.Goals as goal
 

@@ -4,8 +4,7 @@ use Rattle.ca_quad.specs.Prelude.{cell}
 use Rattle.ca_quad.proofs.Measures.{boxes_stay}
 use Rattle.ca_quad.proofs.Trims.{trees_stay}
 use Rattle.ca_run.specs.Prelude.{LeaperGrows}
-use Rattle.ca_run.proofs.LeaperGrowth.{goes_on_same}
-use Rattle.ca_run.proofs.LeaperGrowth.{goes_on_again}
+use Rattle.ca_run.proofs.LeaperGrowth.{goes_on_same, goes_on_again}
 use Rattle.ca_answers.specs.Prelude.{IsIdentity}
 use Rattle.ca_identify.specs.inner.Stages.{IsWalk, AreEarly, IsStride, HasNoReturn}
 use Rattle.ca_identify.proofs.Identities.{picture_nowhere}

@@ -2,8 +2,7 @@ use Rattle.std.proofs.Common.{◌≡◌, ℕ, ◌+◌, ◌-◌, refl, sym, subst
 use Rattle.std.specs.Prelude.{ℤ}
 use Rattle.ca_plane.specs.Prelude.{cells_after}
 use Rattle.ca_quad.specs.Prelude.{cell}
-use Rattle.ca_run.proofs.LeaperGrowth.{goes_on_same}
-use Rattle.ca_run.proofs.LeaperGrowth.{goes_on_again}
+use Rattle.ca_run.proofs.LeaperGrowth.{goes_on_same, goes_on_again}
 use Rattle.ca_identify.specs.inner.Stages.{IsStage, IsHalted}
 use Rattle.ca_evolution.specs.Prelude.{TakesSteps}
 use Rattle.ca_identify.proofs.Identities.{found_ending, ending_time, no_ending}

@@ -4,8 +4,7 @@ use Rattle.ca_quad.proofs.Cells.{of_stays}
 use Rattle.ca_run.specs.Prelude.{LeaperGrows}
 use Rattle.ca_run.specs.inner.Dense.{HasReached}
 use Rattle.ca_run.proofs.DenseRuns.{reached_now, reached_before}
-use Rattle.ca_run.proofs.LeaperGrowth.{goes_on_same}
-use Rattle.ca_run.proofs.LeaperGrowth.{goes_on_again}
+use Rattle.ca_run.proofs.LeaperGrowth.{goes_on_same, goes_on_again}
 use Rattle.ca_run.proofs.leaper.Leaper.leap_in_more_room.Goals as goal
 
 pub rooms-init : goal.rooms-init

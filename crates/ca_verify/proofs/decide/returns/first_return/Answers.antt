@@ -2,9 +2,8 @@ use Rattle.std.proofs.Common.{◌-◌, ◌/◌, arith, rules, refl, subst, w64, 
 use Rattle.std.specs.Prelude.{ℤ}
 use Rattle.std.proofs.Math.Nat.{div-le_self}
 use Rattle.std.proofs.lemmas.Int.{to_z-of_z}
-use Rattle.ca_run.proofs.LeaperGrowth.{goes_on_same}
+use Rattle.ca_run.proofs.LeaperGrowth.{goes_on_same, goes_on_again}
 use Rattle.ca_steps.proofs.Primes.{quotient_some}
-use Rattle.ca_run.proofs.LeaperGrowth.{goes_on_again}
 use Rattle.ca_plane.specs.Prelude.{Picture}
 use Rattle.ca_text.specs.Prelude.{ShowsNothingForbidden}
 use Rattle.ca_pattern.specs.Prelude.{ShowsTree}
