@@ -1,5 +1,6 @@
 pub mod IdentifiedFiles
 pub mod Identities
+pub mod LaterLeapers
 pub mod LaterPlanes
 pub mod MovedPopulations
 pub mod NoReturn

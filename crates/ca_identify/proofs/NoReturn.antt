@@ -1,6 +1,6 @@
 -- Patterns that are back at no time: how the plane long after shows that.
-use Rattle.std.proofs.Common.{◌≡◌, ℕ, ◌+◌, ◌-◌, ◌*◌, ◌≤◌, List, [], refl, sym, ◌∙◌, arith}
-use Rattle.std.specs.Prelude.{ℤ, pos, replicate, Option, None, Some, IsTrue, IfSome}
+use Rattle.std.proofs.Common.{◌≡◌, ℕ, ◌+◌, ◌-◌, ◌*◌, ◌≤◌, List, [], refl, sym, subst, ◌∙◌, arith}
+use Rattle.std.specs.Prelude.{ℤ, pos, replicate, Option, None, Some, IsTrue}
 use Rattle.std.specs.Option.{is_some}
 use Rattle.std.proofs.lemmas.Int.{ints}
 use Rattle.ca_plane.specs.declared.point.Bounds.{Bounds}
@@ -12,11 +12,12 @@ use Rattle.ca_steps.specs.Prelude.{IsWiderByAtMost}
 use Rattle.ca_plane.proofs.After.{after_dead, after_same}
 use Rattle.ca_steps.proofs.Returning.{never_wide, settles_alike}
 use Rattle.ca_steps.proofs.Returns.{after_stands}
-use Rattle.ca_identify.specs.declared.identification.ending.Ending.{Ending}
+use Rattle.ca_identify.specs.declared.identification.{ending.Ending.Ending, walk.Walk.Walk}
 use Rattle.ca_identify.specs.declared.identification.ending.Ending.TheVariants.{Death, Return}
-use Rattle.ca_identify.specs.inner.Stages.{HasNoReturn, IsEnding, generations_of, EndsWithin, box_of}
+use Rattle.ca_identify.specs.inner.Stages.{HasNoReturn, IsEnding, IsLookedAt, generations_of, EndsWithin, box_of}
 use Rattle.ca_pattern.specs.Prelude.{IsLaterTree, ShowsTree}
 use Rattle.ca_identify.proofs.LaterPlanes.{tree_picture}
+use Rattle.ca_identify.proofs.Stages.{same_cells}
 
 module _ (next : List ℕ → ℕ) (quiet : next (replicate 9 0) ≡ 0) (cells : Picture) (seen limit : ℕ) (without : HasNoReturn next cells seen) where
   -- where the plane is back after a few generations more, which bring the pattern not back, no time does
@@ -51,22 +52,18 @@ grown_never next quiet cells later n limit box wide stands small least far = λ 
     far (record { columns = omega (arith, ints, columns, within, some); rows = omega (arith, ints, rows, within, some) })
 
 -- what ends so within some generations, where it is found
-pub some_ends : (next : List ℕ → ℕ) (cells : Picture) (n : ℕ) (found : Option Ending) → IsTrue (is_some found) → IfSome found (IsEnding next cells) → IfSome found (λ ending. generations_of ending ≤ n)
-    → EndsWithin next cells n
-some_ends next cells n None found is few = cc
-some_ends next cells n (Some ending) found is few = (ending, is, few)
+pub some_ends : (next : List ℕ → ℕ) (p : ℤ → ℤ → ℕ) (nodes : List Node) (least n : ℕ) (walk : Walk) (found : Option Ending) → IsTrue (is_some found) → IsLookedAt next p nodes least n walk found
+    → (cells : Picture) → ((x y : ℤ) → cell cells x y ≡ p x y) → EndsWithin next cells n
+some_ends next p nodes least n walk None found looked cells shows = cc
+some_ends next p nodes least n walk (Some ending) found looked cells shows = (ending, looked.0 cells shows, looked.1)
 
 -- ---- a tree of the plane some generations on
 
 -- a picture has the box of its cells
 picture_box : (f : ℤ → ℤ → ℕ) (cells : Picture) → ((x y : ℤ) → f x y ≡ cell cells x y) → (box : WideBounds) → IsLeastWideBox f box → IsLeastBox cells (box_of box)
-picture_box f cells same box least = record {
-  all = λ x y live. least.all x y (λ none. live (sym (same x y) ∙ none));
-  left = (least.left.0, λ none. least.left.1 (same _ _ ∙ none));
-  right = (least.right.0, λ none. least.right.1 (same _ _ ∙ none));
-  top = (least.top.0, λ none. least.top.1 (same _ _ ∙ none));
-  bottom = (least.bottom.0, λ none. least.bottom.1 (same _ _ ∙ none));
-}
+picture_box f cells same box least =
+    let wide : IsLeastWideBox (cell cells) box = subst (λ g. IsLeastWideBox g box) (same_cells f (cell cells) same) least in
+    record { all = wide.all; left = wide.left; right = wide.right; top = wide.top; bottom = wide.bottom }
 
 module _ (next : List ℕ → ℕ) (quiet : next (replicate 9 0) ≡ 0) (p : ℤ → ℤ → ℕ) (cells : Picture) (shows : (x y : ℤ) → cell cells x y ≡ p x y) (n : ℕ) (nodes : List Node) (tree : Tree)
     (is : IsLaterTree next p n nodes tree) where

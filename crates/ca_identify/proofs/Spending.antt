@@ -1,5 +1,5 @@
 -- How what calls take of a leaper's work adds up.
-use Rattle.std.proofs.Common.{ℕ, ◌≤◌, max, arith}
+use Rattle.std.proofs.Common.{◌≡◌, ℕ, ◌≤◌, max, sym, subst, arith}
 use Rattle.ca_run.specs.Prelude.{LeaperView, LeaperGrows}
 
 -- ---- a share of the work
@@ -8,15 +8,21 @@ use Rattle.ca_run.specs.Prelude.{LeaperView, LeaperGrows}
 abbrev pub limited : {Rule : Type 0} → LeaperView Rule → ℕ → LeaperView Rule
 limited l limit = record { rule = l.rule; nodes = l.nodes; memo = l.memo; spent = record { used = l.spent.used; limit = max l.spent.used limit } }
 
-module _ {Rule : Type 0} (old mid : LeaperView Rule) (low : ℕ) (on : LeaperGrows Rule (limited old low) mid) (within : mid.spent.used ≤ mid.spent.limit) where
-  -- what goes on with a lower one takes no more than that
-  pub shared_takes : mid.spent.used ≤ max old.spent.used low
-  shared_takes =
-      let same = on.spends.limit in
-      omega (arith, same, within)
+-- one that begins with a lower limit, goes on, and ends with the first one again
+module _ {Rule : Type 0} (old : LeaperView Rule) (low most : ℕ) {lower mid new : LeaperView Rule} (begins : lower ≡ limited old low) (on : LeaperGrows Rule lower mid) (within : mid.spent.used ≤ mid.spent.limit)
+    (ends : new ≡ limited mid most) where
+  goes : LeaperGrows Rule (limited old low) mid
+  goes = subst (λ l. LeaperGrows Rule l mid) begins on
 
-  -- and with the first limit again it's as if it had gone on with that
-  pub shared_goes_on : old.spent.used ≤ old.spent.limit → low ≤ old.spent.limit → LeaperGrows Rule old (limited mid old.spent.limit)
-  shared_goes_on most lower =
-      let takes = shared_takes in
-      record { rule = on.rule; grows = on.grows; memo = on.memo; spends = record { limit = omega (arith, takes, most, lower); rises = on.spends.rises } }
+  -- takes no more than the lower one
+  pub share_takes : new.spent.used ≤ max old.spent.used low
+  share_takes =
+      let same = goes.spends.limit in
+      subst (λ (l : LeaperView Rule). l.spent.used ≤ max old.spent.used low) (sym ends) (omega (arith, same, within))
+
+  -- and it's as if it had gone on with the first one
+  pub share_goes_on : most ≡ old.spent.limit → old.spent.used ≤ old.spent.limit → low ≤ old.spent.limit → LeaperGrows Rule old new
+  share_goes_on all first less =
+      let same = goes.spends.limit in
+      subst (LeaperGrows Rule old) (sym ends)
+      (record { rule = goes.rule; grows = goes.grows; memo = goes.memo; spends = record { limit = omega (arith, same, within, all, first, less); rises = goes.spends.rises } })

@@ -1,29 +1,32 @@
 -- What a live pattern's plane shows some generations on: which vectors may move the pattern there, and how far they are.
-use Rattle.std.proofs.Common.{◌≡◌, ◌≢◌, ℕ, zero, suc, ◌+◌, ◌-◌, ◌*◌, ◌^◌, ◌≤◌, List, inl, inr, refl, sym, subst, ◌∙◌, arith}
+use Rattle.std.proofs.Common.{◌≡◌, ◌≢◌, ℕ, zero, suc, ◌+◌, ◌-◌, ◌*◌, ◌^◌, ◌≤◌, List, Option, None, Some, inl, inr, refl, sym, subst, ◌∙◌, arith}
 use Rattle.std.proofs.Math.Nat.{mul-le-mul_left}
+use Rattle.std.proofs.Math.Path.{fun_ext}
 use Rattle.std.specs.Prelude.{ℤ, pos, neg_ℤ, ◌+ℤ◌, ◌-ℤ◌, ◌≤ℤ◌, replicate}
 use Rattle.std.proofs.lemmas.Bool.{cases_eq}
 use Rattle.std.proofs.lemmas.Int.{ints}
 use Rattle.ca_plane.specs.Prelude.{cells_after, IsInPlane}
 use Rattle.ca_quad.specs.declared.{node.Node.Node, tree.Tree.Tree, tree.WideBounds.WideBounds}
-use Rattle.ca_quad.specs.Prelude.{IsSoundStore, Grows, IsLeastWideBox, IsInWideBox, AreSquareBoxes, cell}
+use Rattle.ca_quad.specs.Prelude.{IsSoundStore, Grows, IsTree, IsTrimmed, IsLeastWideBox, IsInWideBox, AreSquareBoxes, cell}
 use Rattle.ca_plane.proofs.Numbers.{below_or_not}
 use Rattle.ca_quad.proofs.Measures.{boxes_stay}
+use Rattle.ca_quad.proofs.Reach.{tree_holds}
+use Rattle.ca_quad.proofs.Shifts.{some_level}
 use Rattle.ca_quad.proofs.Trims.{trees_stay}
 use Rattle.ca_plane.proofs.After.{after_same, after_again}
 use Rattle.ca_work.proofs.Powers.{power_more, power_suc}
-use Rattle.ca_pattern.specs.Prelude.{run_work, IsWithinPlane, IsStart, IsLaterTree}
-use Rattle.ca_identify.specs.declared.identification.{stage.First.First, stage.Stage.Stage, walk.Walk.Walk}
+use Rattle.ca_pattern.specs.Prelude.{run_work, IsWithinPlane, IsWideBox, IsStart, IsLaterTree}
+use Rattle.ca_identify.specs.declared.identification.{ending.Ending.Ending, stage.First.First, stage.Stage.Stage, walk.Walk.Walk}
 use Rattle.ca_identify.specs.declared.identification.stage.Stage.TheVariants.{Empty, Back, Other}
-use Rattle.ca_identify.specs.inner.Stages.{IsFirst, AreMoved, AreMovedNowhere, IsStage, AreOtherUpTo, IsWalk, IsHalted, TakesSearch, TakesSearchFrom, TakesEarly, early_work, leap_work}
+use Rattle.ca_identify.specs.inner.Stages.{IsFirst, IsFirstBox, AreMoved, AreMovedNowhere, IsStage, AreOtherUpTo, IsWalk, IsHalted, IsLookedAt, TakesSearch, TakesSearchFrom, TakesEarly, early_work, leap_work}
 use Rattle.ca_identify.specs.TreeLooks.{TakesRunAndSearch}
 use Rattle.ca_evolution.specs.Prelude.{CanGoOn, TakesSteps, TakesRun}
 use Rattle.ca_evolution.proofs.Steps.{first_tree, no_step, fewer_steps}
-use Rattle.ca_pattern.proofs.Corners.{live_after}
+use Rattle.ca_pattern.proofs.Corners.{live_after, corner_broad, corner_wide, far_corner_wide}
 use Rattle.ca_pattern.proofs.CellsNearMiddle.{live_near}
 use Rattle.ca_pattern.proofs.LeaptTrees.{near_stays}
 use Rattle.ca_pattern.proofs.Searches.{search_within}
-use Rattle.ca_pattern.proofs.Starts.{start_stays, start_near}
+use Rattle.ca_pattern.proofs.Starts.{start_stays, start_near, near_start}
 use Rattle.ca_pattern.proofs.Times.{moved_nowhere}
 
 -- later cells that the first ones are moved onto by no vector differ from them somewhere
@@ -67,32 +70,15 @@ module _ (next : List ℕ → ℕ) (quiet : next (replicate 9 0) ≡ 0) (p : ℤ
 
 -- ---- cells that are the same at every x and y
 
--- they have one least box
-least_as : (p q : ℤ → ℤ → ℕ) (box : WideBounds) → ((x y : ℤ) → p x y ≡ q x y) → IsLeastWideBox p box → IsLeastWideBox q box
-least_as p q box same least = record {
-  all = λ x y live. least.all x y (λ none. live (sym (same x y) ∙ none));
-  left = (least.left.0, λ none. least.left.1 (same _ _ ∙ none));
-  right = (least.right.0, λ none. least.right.1 (same _ _ ∙ none));
-  top = (least.top.0, λ none. least.top.1 (same _ _ ∙ none));
-  bottom = (least.bottom.0, λ none. least.bottom.1 (same _ _ ∙ none));
-}
+-- they are one plane
+pub same_cells : (p q : ℤ → ℤ → ℕ) → ((x y : ℤ) → p x y ≡ q x y) → p ≡ q
+same_cells p q same = fun_ext (λ x. fun_ext (same x))
 
--- and show the same of the same first ones
-pub stage_as : (p q f g : ℤ → ℤ → ℕ) → ((x y : ℤ) → p x y ≡ f x y) → ((x y : ℤ) → q x y ≡ g x y) → (stage : Stage) → IsStage p q stage → IsStage f g stage
-stage_as p q f g first later Empty dead = λ x y. sym (later x y) ∙ dead x y
-stage_as p q f g first later (Back dx dy) moved = λ x y. sym (later x y) ∙ moved x y ∙ first (x -ℤ dx) (y -ℤ dy)
-stage_as p q f g first later Other told = (
-  (told.0.0, told.0.1, λ none. told.0.2 (later told.0.0 told.0.1 ∙ none)),
-  λ dx dy is. told.1 dx dy (λ x y. later x y ∙ is x y ∙ sym (first (x -ℤ dx) (y -ℤ dy))),
-)
+-- ---- the store grows
 
--- a tree of later cells is one of those of the same first ones
-pub later_as : (next : List ℕ → ℕ) (p q : ℤ → ℤ → ℕ) (n : ℕ) (nodes : List Node) (tree : Tree) → ((x y : ℤ) → p x y ≡ q x y) → IsLaterTree next p n nodes tree → IsLaterTree next q n nodes tree
-later_as next p q n nodes tree same is = record { near = is.near; low = is.low; trimmed = is.trimmed; shows = λ x y. is.shows x y ∙ after_same next p q n same x y }
-
--- and stays one
-pub later_stays : (next : List ℕ → ℕ) (p : ℤ → ℤ → ℕ) (n : ℕ) (old new : List Node) → IsSoundStore old → Grows old new → (tree : Tree) → IsLaterTree next p n old tree → IsLaterTree next p n new tree
-later_stays next p n old new sound grows tree is =
+-- a tree of later cells stays one
+pub later_stays : {next : List ℕ → ℕ} {p : ℤ → ℤ → ℕ} {n : ℕ} {old new : List Node} {tree : Tree} → IsSoundStore old → Grows old new → IsLaterTree next p n old tree → IsLaterTree next p n new tree
+later_stays {next} {p} {n} {old} {new} {tree} sound grows is =
     let same = trees_stay old new sound grows tree is.near.is_tree in
     record {
       near = near_stays old new sound grows tree is.near;
@@ -105,8 +91,31 @@ later_stays next p n old new sound grows tree is =
 pub first_stays : (old new : List Node) → IsSoundStore old → Grows old new → (first : First) → IsFirst old first → IsFirst new first
 first_stays old new sound grows first is = record {
   start = start_stays old new sound grows first.tree is.start;
-  box = least_as (cell old first.tree) (cell new first.tree) first.bounds (λ x y. sym (trees_stay old new sound grows first.tree is.start.is_tree x y)) is.box;
+  box = subst (λ cells. IsLeastWideBox cells first.bounds) (sym (same_cells (cell new first.tree) (cell old first.tree) (trees_stay old new sound grows first.tree is.start.is_tree))) is.box;
 }
+
+-- a low tree that is no larger than it need be is that of a plane that is looked at
+pub low_start : (nodes : List Node) (tree : Tree) → IsSoundStore nodes → IsTree nodes tree → IsTrimmed nodes tree → tree.level ≤ 62 → IsStart nodes tree
+low_start nodes tree sound is trimmed low = record {
+  is_tree = is;
+  low = omega (arith, low);
+  trimmed = trimmed;
+  within = tree_holds nodes tree 62 (some_level nodes sound tree is) low;
+}
+
+-- the least box round the cells of a plane is wide at most
+pub wide_box : (p : ℤ → ℤ → ℕ) (box : WideBounds) → IsLeastWideBox p box → IsWithinPlane p → IsWideBox box
+wide_box p box least near =
+    let corner = corner_wide p box least near in
+    let far = far_corner_wide p box least near in
+    record { left = corner.0; top = corner.1; right = far.0; bottom = far.1 }
+
+-- and that of a first plane has its corner not as far
+pub first_box : (nodes : List Node) (first : First) → IsFirst nodes first → IsFirstBox first.bounds
+first_box nodes first is =
+    let corner = corner_broad (cell nodes first.tree) first.bounds is.box is.start.within in
+    let far = far_corner_wide (cell nodes first.tree) first.bounds is.box (near_start nodes first.tree is.start).near in
+    record { left = corner.0; top = corner.1; right = far.0; bottom = far.1 }
 
 -- from the tree of a plane that is looked at, its plane can be taken on
 pub start_goes_on : (next : List ℕ → ℕ) (nodes : List Node) (tree : Tree) → next (replicate 9 0) ≡ 0 → IsStart nodes tree → (n : ℕ) → n ≤ 2 ^ 60 → CanGoOn next nodes tree n
@@ -132,31 +141,6 @@ one_more_other next p n before now m some within =
       | inr from ↦ let same : n + 1 ≡ m = omega (arith, from, within) in subst (λ k. IsStage p (cells_after next p k) Other) same now
     ]
 
--- ---- what a step tells of a leaper's first store and rule
-
-module _ {R : Type 0} (next_of : R → List ℕ → ℕ) {rule later : R} (same : later ≡ rule) {s0 s : List Node} (sound : IsSoundStore s0) (grows : Grows s0 s) {first : First} (is : IsFirst s0 first) (n : ℕ) where
-  first_same : (x y : ℤ) → cell s first.tree x y ≡ cell s0 first.tree x y
-  first_same = trees_stay s0 s sound grows first.tree is.start.is_tree
-
-  -- the tree from which it goes on
-  pub step_from : (now : Tree) → IsLaterTree (next_of rule) (cell s0 first.tree) n s now → IsLaterTree (next_of later) (cell s first.tree) n s now
-  step_from now tree =
-      subst (λ r. IsLaterTree (next_of r) (cell s first.tree) n s now) (sym same)
-      (later_as (next_of rule) (cell s0 first.tree) (cell s first.tree) n s now (λ x y. sym (first_same x y)) tree)
-
-  -- the tree that it gives
-  pub step_to : (new : List Node) (tree : Tree) → IsLaterTree (next_of later) (cell s first.tree) n new tree → IsLaterTree (next_of rule) (cell s0 first.tree) n new tree
-  step_to new tree told =
-      later_as (next_of rule) (cell s first.tree) (cell s0 first.tree) n new tree first_same (subst (λ r. IsLaterTree (next_of r) (cell s first.tree) n new tree) same told)
-
-  -- and what that shows
-  pub stage_to : (stage : Stage) → IsStage (cell s first.tree) (cells_after (next_of later) (cell s first.tree) n) stage
-      → IsStage (cell s0 first.tree) (cells_after (next_of rule) (cell s0 first.tree) n) stage
-  stage_to stage told =
-      stage_as (cell s first.tree) (cells_after (next_of rule) (cell s first.tree) n) (cell s0 first.tree) (cells_after (next_of rule) (cell s0 first.tree) n)
-      first_same (λ x y. after_same (next_of rule) (cell s first.tree) (cell s0 first.tree) n first_same x y) stage
-      (subst (λ r. IsStage (cell s first.tree) (cells_after (next_of r) (cell s first.tree) n) stage) same told)
-
 -- ---- walks
 
 -- nothing was looked at yet
@@ -168,49 +152,32 @@ first_walk next nodes tree is walk there none boxes = record {
   boxes = boxes;
 }
 
--- one over the same first cells
-pub walk_as : (next : List ℕ → ℕ) (p q : ℤ → ℤ → ℕ) (nodes : List Node) (walk : Walk) → ((x y : ℤ) → p x y ≡ q x y) → IsWalk next p nodes walk → IsWalk next q nodes walk
-walk_as next p q nodes walk same is = record {
-  now = later_as next p q walk.generations nodes walk.tree same is.now;
-  others = λ m some within. stage_as p (cells_after next p m) q (cells_after next q m) same (λ x y. after_same next p q m same x y) Other (is.others m some within);
-  boxes = is.boxes;
-}
-
 -- it stays one
-pub walk_stays : (next : List ℕ → ℕ) (p : ℤ → ℤ → ℕ) (old new : List Node) → IsSoundStore old → Grows old new → (walk : Walk) → IsWalk next p old walk → IsWalk next p new walk
-walk_stays next p old new sound grows walk is = record {
-  now = later_stays next p walk.generations old new sound grows walk.tree is.now;
-  others = is.others;
-  boxes = boxes_stay old new sound grows walk.boxes is.boxes;
-}
+pub walk_stays : {next : List ℕ → ℕ} {p : ℤ → ℤ → ℕ} {old new : List Node} {walk : Walk} → IsSoundStore old → Grows old new → IsWalk next p old walk → IsWalk next p new walk
+walk_stays {next} {p} {old} {new} {walk} sound grows is = record { now = later_stays sound grows is.now; others = is.others; boxes = boxes_stay old new sound grows walk.boxes is.boxes }
 
 -- ---- walks that are halted
 
 -- one that goes on is, where it is
-pub halted_here : (next : List ℕ → ℕ) (p : ℤ → ℤ → ℕ) (nodes : List Node) (walk : Walk) (begun end : ℕ) → begun ≤ walk.generations → walk.generations ≤ end → IsWalk next p nodes walk → IsHalted next p nodes begun end walk
-halted_here next p nodes walk begun end some few is = record { now = is.now; others = is.others; later = some; within = few }
+pub halted_here : {next : List ℕ → ℕ} {p : ℤ → ℤ → ℕ} {nodes : List Node} {walk : Walk} → IsWalk next p nodes walk → (begun end : ℕ) → begun ≤ walk.generations → walk.generations ≤ end → IsHalted next p nodes begun end walk
+halted_here is begun end some few = record { now = is.now; others = is.others; later = some; within = few }
 
 -- one that began later, up to a nearer end
-pub halted_within : (next : List ℕ → ℕ) (p : ℤ → ℤ → ℕ) (nodes : List Node) (walk : Walk) (first begun end last : ℕ) → first ≤ begun → end ≤ last → IsHalted next p nodes begun end walk → IsHalted next p nodes first last walk
-halted_within next p nodes walk first begun end last more few is =
+pub halted_within : {next : List ℕ → ℕ} {p : ℤ → ℤ → ℕ} {nodes : List Node} {begun end : ℕ} {walk : Walk} → IsHalted next p nodes begun end walk → (first last : ℕ) → first ≤ begun → end ≤ last → IsHalted next p nodes first last walk
+halted_within is first last more few =
     let begins = is.later in
     let ends = is.within in
     record { now = is.now; others = is.others; later = omega (arith, more, begins); within = omega (arith, few, ends) }
 
--- one over the same first cells
-pub halted_as : (next : List ℕ → ℕ) (p q : ℤ → ℤ → ℕ) (nodes : List Node) (walk : Walk) (begun end : ℕ) → ((x y : ℤ) → p x y ≡ q x y) → IsHalted next p nodes begun end walk → IsHalted next q nodes begun end walk
-halted_as next p q nodes walk begun end same is = record {
-  now = later_as next p q walk.generations nodes walk.tree same is.now;
-  others = λ m some within. stage_as p (cells_after next p m) q (cells_after next q m) same (λ x y. after_same next p q m same x y) Other (is.others m some within);
-  later = is.later;
-  within = is.within;
-}
+-- ---- looks
+
+-- what a look found, from an earlier generation on
+pub looked_from : (next : List ℕ → ℕ) (p : ℤ → ℤ → ℕ) (nodes : List Node) (first least end : ℕ) (walk : Walk) (found : Option Ending) → first ≤ least → IsLookedAt next p nodes least end walk found
+    → IsLookedAt next p nodes first end walk found
+looked_from next p nodes first least end walk None few walked = let begun = walked.1 in (walked.0, omega (arith, few, begun), walked.2)
+looked_from next p nodes first least end walk (Some ending) few ends = ends
 
 -- ---- the work that steps take
-
--- the same over the same planes
-pub steps_as : (old new : ℕ) (stages others : ℕ → ℤ → ℤ → ℕ) (limit n : ℕ) → ((m : ℕ) (x y : ℤ) → others m x y ≡ stages m x y) → TakesSteps old new others limit n → TakesSteps old new stages limit n
-steps_as old new stages others limit n same takes level some holds = takes level some (λ m less x y live. holds m less x y (λ none. live (same m x y ∙ none)))
 
 three_parts : (a b c x : ℕ) → (a + b + c) * x ≡ a * x + b * x + c * x
 three_parts a b c x = omega arith
@@ -257,10 +224,6 @@ pub search_alone : (old new : ℕ) (stages : ℕ → ℤ → ℤ → ℕ) (begun
 search_alone old new stages begun limit takes level some holds =
     let most = takes level some holds in
     omega (arith, most)
-
--- the same over the same planes
-pub search_as : (old new : ℕ) (stages others : ℕ → ℤ → ℤ → ℕ) (begun limit : ℕ) → ((m : ℕ) (x y : ℤ) → others m x y ≡ stages m x y) → TakesSearchFrom old new others begun limit → TakesSearchFrom old new stages begun limit
-search_as old new stages others begun limit same takes level some holds = takes level some (λ m less x y live. holds m less x y (λ none. live (same m x y ∙ none)))
 
 -- some steps, and a search from there
 pub step_then_search : (old mid new : ℕ) (stages : ℕ → ℤ → ℤ → ℕ) (begun sure limit : ℕ) → sure ≤ limit → TakesSteps old mid stages sure (sure - begun) → TakesSearchFrom mid new stages sure limit → TakesSearch old new stages limit

@@ -12,15 +12,14 @@ use Rattle.ca_plane.proofs.Numbers.{below_or_not}
 use Rattle.ca_quad.proofs.Trims.{trees_stay}
 use Rattle.ca_plane.proofs.After.{after_same, after_seen, after_again, after_dead}
 use Rattle.ca_steps.proofs.Returning.{settles_alike}
-use Rattle.ca_identify.specs.declared.identification.{stage.First.First, stage.Stage.Stage, strides.Stride.Stride}
+use Rattle.ca_identify.specs.declared.identification.{stage.First.First, stage.Stage.Stage}
 use Rattle.ca_identify.specs.declared.identification.stage.Stage.TheVariants.{Empty, Back, Other}
-use Rattle.ca_identify.specs.declared.identification.strides.Stride.TheVariants.{On, End, Never, Dead}
-use Rattle.ca_identify.specs.inner.Stages.{AreMoved, AreMovedNowhere, IsStage, AreOtherUpTo, IsEarly, AreEarly, IsStride}
+use Rattle.ca_identify.specs.inner.Stages.{AreMoved, AreMovedNowhere, IsStage, AreOtherUpTo, IsEarly, AreEarly}
 use Rattle.ca_evolution.specs.Prelude.{CanGoOn}
 use Rattle.ca_pattern.specs.Prelude.{IsLaterTree, HasLive}
 use Rattle.ca_identify.proofs.Identities.{picture_moved, picture_nowhere}
 use Rattle.ca_pattern.proofs.Searches.{search_within}
-use Rattle.ca_identify.proofs.Stages.{first_stays, later_as, stage_as}
+use Rattle.ca_identify.proofs.Stages.{first_stays}
 use Rattle.ca_pattern.proofs.Starts.{start_near}
 
 module _ (next : List ℕ → ℕ) (p : ℤ → ℤ → ℕ) where
@@ -94,12 +93,6 @@ early_stays next p old new sound grows planes are = λ k plane at.
       shows = λ x y. trees_stay old new sound grows plane.tree is.is_first.start.is_tree x y ∙ is.shows x y;
     }
 
--- over cells that are the same
-pub early_as : (next : List ℕ → ℕ) (p q : ℤ → ℤ → ℕ) (nodes : List Node) → ((x y : ℤ) → p x y ≡ q x y) → (planes : List First) → AreEarly next p nodes planes → AreEarly next q nodes planes
-early_as next p q nodes same planes are = λ k plane at.
-    let is = are k plane at in
-    record { is_first = is.is_first; shows = λ x y. is.shows x y ∙ after_same next p q k same x y }
-
 -- ---- elements of lists by their places
 
 -- each place has one
@@ -162,13 +155,3 @@ pub not_back : (first later : ℤ → ℤ → ℕ) (stage : Stage) → IsStage f
 not_back first later Empty dead live none = absurd (live.2 (dead live.0 live.1))
 not_back first later (Back dx dy) moved live none = absurd (none dx dy refl)
 not_back first later Other other live none = other.1
-
--- what a stride shows of the first cells is what it shows of those that are the same
-pub stride_as : (next : List ℕ → ℕ) (p q : ℤ → ℤ → ℕ) (n : ℕ) (nodes : List Node) → ((x y : ℤ) → p x y ≡ q x y) → (stride : Stride) → IsStride next p n nodes stride → IsStride next q n nodes stride
-stride_as next p q n nodes same (On tree) told = (
-  later_as next p q n nodes tree same told.0,
-  λ m some within. stage_as p (cells_after next p m) q (cells_after next q m) same (λ x y. after_same next p q m same x y) Other (told.1 m some within),
-)
-stride_as next p q n nodes same (End ending) told = (told.0, λ cells shows. told.1 cells (λ x y. shows x y ∙ sym (same x y)))
-stride_as next p q n nodes same Never told = λ m some. nowhere_as p (cells_after next p m) q (cells_after next q m) same (λ x y. after_same next p q m same x y) (told m some)
-stride_as next p q n nodes same Dead told = λ x y. sym (after_same next p q n same x y) ∙ told x y

@@ -1,10 +1,10 @@
 -- What a live pattern's plane shows some generations on, and what work it takes to see it.
-use Rattle.std.specs.Prelude.{◌≡◌, ℕ, ◌+◌, ◌-◌, ◌*◌, ◌^◌, ◌≤◌, ◌<◌, ℤ, List, Option, Some, None, slice_get}
+use Rattle.std.specs.Prelude.{◌≡◌, ℕ, ◌+◌, ◌-◌, ◌*◌, ◌^◌, ◌≤◌, ◌<◌, ℤ, List, Option, Some, None, replicate, slice_get}
 use Rattle.ca_plane.specs.declared.point.Bounds.{Bounds}
-use Rattle.ca_plane.specs.Prelude.{Picture, IsLive, shifted, cells_after, IsAfter}
+use Rattle.ca_plane.specs.Prelude.{Picture, IsLive, shifted, cells_after, IsAfter, longest_period}
 use Rattle.ca_plane.specs.Plane as plane
 use Rattle.ca_quad.specs.declared.{node.Node.Node, tree.Tree.Tree, tree.WideBounds.WideBounds}
-use Rattle.ca_quad.specs.Prelude.{IsDead, IsLeastWideBox, AreSquareBoxes, shifted_cells, cell, HoldsAll}
+use Rattle.ca_quad.specs.Prelude.{IsDead, IsSoundStore, IsLeastWideBox, AreSquareBoxes, shifted_cells, cell, HoldsAll}
 use Rattle.ca_identify.specs.declared.identification.{ending.Ending.Ending, ending.Recurrence.Recurrence, stage.First.First, stage.Stage.Stage, strides.Stride.Stride, walk.Walk.Walk}
 use Rattle.ca_identify.specs.declared.identification.ending.Ending.TheVariants.{Death, Return}
 use Rattle.ca_identify.specs.declared.identification.stage.Stage.TheVariants.{Empty, Back, Other}
@@ -20,6 +20,13 @@ use Rattle.ca_pattern.specs.inner.LifeSpans.{IsLifeSpan}
 pub record IsFirst (nodes : List Node) (first : First) : Type 0 where
   pub start : IsStart nodes first.tree
   pub box : IsLeastWideBox (cell nodes first.tree) first.bounds
+
+-- such a plane, in a sound store, can be looked at for so many generations, under a rule that leaves a dead plane dead
+pub record CanSearch (next : List ℕ → ℕ) (nodes : List Node) (first : First) (limit : ℕ) : Type 0 where
+  pub sound : IsSoundStore nodes
+  pub quiet : next (replicate 9 0) ≡ 0
+  pub is_first : IsFirst nodes first
+  pub most : limit ≤ longest_period
 
 -- the sides of the box lie in the square of a plane, and its corner is at most half as far
 pub record IsFirstBox (box : WideBounds) : Type 0 where
@@ -132,6 +139,21 @@ pub record IsHalted (next : List ℕ → ℕ) (first : ℤ → ℤ → ℕ) (nod
   pub later : begun ≤ walk.generations
   pub within : walk.generations ≤ end
 
+-- every picture of the first cells ends so
+abbrev pub EndSo : (List ℕ → ℕ) → (ℤ → ℤ → ℕ) → Ending → Type 0
+EndSo next first ending = (cells : Picture) → ((x y : ℤ) → plane.cell cells x y ≡ first x y) → IsEnding next cells ending
+
+-- a look at the generations up to some end finds how the pattern ends by then, or else its walk is at one of them, from a least one on
+abbrev pub IsLookedAt : (List ℕ → ℕ) → (ℤ → ℤ → ℕ) → List Node → (least end : ℕ) → Walk → Option Ending → Type 0
+IsLookedAt next first nodes least end walk (Some ending) = EndSo next first ending × (generations_of ending ≤ end)
+IsLookedAt next first nodes least end walk None = IsWalk next first nodes walk × (least ≤ walk.generations) × (walk.generations ≤ end)
+
+-- a walk of a live pattern can be taken on to some end
+pub record CanLookOn (next : List ℕ → ℕ) (nodes : List Node) (first : First) (walk : Walk) (end : ℕ) : Type 0 where
+  pub pattern : CanSearch next nodes first end
+  pub is_walk : IsWalk next (cell nodes first.tree) nodes walk
+  pub within : walk.generations ≤ end
+
 -- the same box, as one of a picture
 abbrev pub box_of : WideBounds → Bounds
 box_of box = record { x0 = box.x0; y0 = box.y0; x1 = box.x1; y1 = box.y1 }
@@ -153,10 +175,6 @@ IsMovedFromPlane nodes planes later k = (plane : First) × (slice_get planes k �
 abbrev pub IsLastMovedFrom : List Node → List First → (ℤ → ℤ → ℕ) → ℕ → Type 0
 IsLastMovedFrom nodes planes later k = IsMovedFromPlane nodes planes later k
     × ((j : ℕ) (plane : First) → k < j → slice_get planes j ≡ Some plane → AreMovedNowhere (cell nodes plane.tree) later)
-
--- every picture of the first cells ends so
-abbrev pub EndSo : (List ℕ → ℕ) → (ℤ → ℤ → ℕ) → Ending → Type 0
-EndSo next first ending = (cells : Picture) → ((x y : ℤ) → plane.cell cells x y ≡ first x y) → IsEnding next cells ending
 
 -- what a stride up to n generations shows: after none of these the plane is dead, or the first cells are there again, moved, and the tree is that of
 -- the last one; or the pattern ends so within them; or the first cells are there again at no time; or the plane is dead at last

@@ -1,10 +1,9 @@
 //! The planes of a pattern's first generations, with which later ones are compared.
 
 ghost use Rattle.std.specs.Prelude.{◌≡◌, ◌≤◌, ◌++◌, ◌∷◌, [], OnOk, IfOk, IfSome};
-ghost use Rattle.ca_plane.specs.Prelude.{longest_period};
 ghost use Rattle.ca_quad.specs.Prelude.{AreSquareBoxes, IsTree, IsTrimmed, cell};
 ghost use Rattle.ca_run.specs.Prelude.{LeaperGrows};
-ghost use Rattle.ca_identify.specs.inner.Stages.{IsFirst, AreEarly};
+ghost use Rattle.ca_identify.specs.inner.Stages.{CanSearch, IsFirst, AreEarly};
 
 use super::stage::First;
 use ca_evolution::later_tree;
@@ -21,14 +20,11 @@ pub(super) fn early_planes<A: Automaton>(
     first: &First,
     generations: u64,
 ) -> Result<Vec<First>, LeapFault>
-    requires first { IsFirst leaper.old.nodes first.now }
-    requires few { generations ≤ longest_period }
+    requires first { CanSearch (A.next_of leaper.old.rule) leaper.old.nodes first.now generations }
     ensures early { IfOk result (λ planes. AreEarly (A.next_of leaper.old.rule)
         (cell leaper.old.nodes first.now.tree) leaper.new.nodes planes.items) }
     ensures goes_on { LeaperGrows A leaper.old leaper.new }
 {
-    // Says what holds of every leaper.
-    let _ = leaper.store();
     let mut boxes = SquareBoxes::new(alloc);
     let mut planes = Vec::new(alloc);
     let mut now = first.tree;

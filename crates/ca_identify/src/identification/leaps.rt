@@ -8,7 +8,7 @@ ghost use Rattle.ca_work.specs.Prelude.{EndsAtLimit};
 ghost use Rattle.ca_steps.specs.Prelude.{IsWiderByAtMost};
 ghost use Rattle.ca_answers.specs.Prelude.{IsIdentity};
 ghost use Rattle.ca_answers.specs.declared.identity.Identity.TheVariants.{Unknown};
-ghost use Rattle.ca_identify.specs.inner.Stages.{IsFirst, IsLater, IsFirstBox, box_of, HasNoReturn, EndsWithin, leap_work};
+ghost use Rattle.ca_identify.specs.inner.Stages.{CanSearch, IsLater, IsFirstBox, box_of, HasNoReturn, EndsWithin, leap_work};
 ghost use Rattle.ca_pattern.specs.Prelude.{IsWideBox, ShowsTree};
 
 use super::growth::growth_of;
@@ -43,10 +43,9 @@ pub(super) fn growth_by_leaps<A: Automaton>(
     seen: u64,
     limit: u64,
 ) -> Result<Option<Growth>, LeapFault>
-    requires first { IsFirst leaper.old.nodes first.now }
+    requires first { CanSearch (A.next_of leaper.old.rule) leaper.old.nodes first.now limit }
     requires some { 1 ≤ seen }
     requires within { seen ≤ limit }
-    requires most { limit ≤ longest_period }
     ensures growth { (cells : Picture) → ShowsTree leaper.old.nodes first.now.tree cells
         → HasNoReturn (A.next_of leaper.old.rule) cells seen → IfOk result (λ found. IfSome found
         (λ growth. IsIdentity (A.next_of leaper.old.rule) cells limit (Unknown growth))) }
@@ -54,8 +53,6 @@ pub(super) fn growth_by_leaps<A: Automaton>(
     ensures takes { leaper.new.spent.used ≤ leaper.old.spent.used + leap_work limit }
     ensures work { EndsAtLimit leaper.new.spent result }
 {
-    // Says what holds of every leaper.
-    let _ = leaper.store();
     if seen == limit {
         return Ok(None);
     }
@@ -79,17 +76,14 @@ fn growth_if_not_back<A: Automaton>(
     seen: u64,
     limit: u64,
 ) -> Result<Option<Growth>, LeapFault>
-    requires first { IsFirst leaper.old.nodes first.now }
+    requires first { CanSearch (A.next_of leaper.old.rule) leaper.old.nodes first.now limit }
     requires some { 1 ≤ seen }
     requires within { seen ≤ limit }
-    requires most { limit ≤ longest_period }
     ensures growth { (cells : Picture) → ShowsTree leaper.old.nodes first.now.tree cells
         → HasNoReturn (A.next_of leaper.old.rule) cells seen → IfOk result (λ found. IfSome found
         (λ growth. IsIdentity (A.next_of leaper.old.rule) cells limit (Unknown growth))) }
     ensures goes_on { LeaperGrows A leaper.old leaper.new }
 {
-    // Says what holds of every leaper.
-    let _ = leaper.store();
     if !has_no_return(alloc, leaper, first, seen, limit, NEAR)? {
         return Ok(None);
     }
@@ -104,15 +98,12 @@ pub(super) fn growth_after<A: Automaton>(
     first: &First,
     limit: u64,
 ) -> Result<Option<Growth>, LeapFault>
-    requires first { IsFirst leaper.old.nodes first.now }
-    requires most { limit ≤ longest_period }
+    requires first { CanSearch (A.next_of leaper.old.rule) leaper.old.nodes first.now limit }
     ensures growth { (cells : Picture) → ShowsTree leaper.old.nodes first.now.tree cells
         → HasNoReturn (A.next_of leaper.old.rule) cells limit → IfOk result (λ found. IfSome found
         (λ growth. IsIdentity (A.next_of leaper.old.rule) cells limit (Unknown growth))) }
     ensures goes_on { LeaperGrows A leaper.old leaper.new }
 {
-    // Says what holds of every leaper.
-    let _ = leaper.store();
     let last = later_tree(leaper, first.tree, limit, &mut Unwatched)?;
     if is_dead(leaper.store(), &last) {
         return Ok(None);
@@ -132,10 +123,9 @@ fn has_no_return<A: Automaton>(
     limit: u64,
     times: u64,
 ) -> Result<bool, LeapFault>
-    requires first { IsFirst leaper.old.nodes first.now }
+    requires first { CanSearch (A.next_of leaper.old.rule) leaper.old.nodes first.now limit }
     requires some { 1 ≤ seen }
     requires within { seen ≤ limit }
-    requires most { limit ≤ longest_period }
     requires far { times ≤ 64 }
     requires once { 1 ≤ times }
     ensures never { (cells : Picture) → ShowsTree leaper.old.nodes first.now.tree cells
@@ -143,8 +133,6 @@ fn has_no_return<A: Automaton>(
         → IfOk result (λ never. IsTrue never → HasNoReturn (A.next_of leaper.old.rule) cells limit) }
     ensures goes_on { LeaperGrows A leaper.old leaper.new }
 {
-    // Says what holds of every leaper.
-    let _ = leaper.store();
     let found = later_plane(alloc, leaper, first, seen, limit, times * limit)?;
     let Some(later) = found else {
         return Ok(true);
@@ -168,10 +156,9 @@ fn later_plane<A: Automaton>(
     limit: u64,
     generations: u64,
 ) -> Result<Option<First>, LeapFault>
-    requires first { IsFirst leaper.old.nodes first.now }
+    requires first { CanSearch (A.next_of leaper.old.rule) leaper.old.nodes first.now limit }
     requires some { 1 ≤ seen }
     requires one { 1 ≤ limit }
-    requires most { limit ≤ longest_period }
     requires few { generations ≤ most_generations }
     ensures gone { (cells : Picture) → ShowsTree leaper.old.nodes first.now.tree cells
         → HasNoReturn (A.next_of leaper.old.rule) cells seen
@@ -181,8 +168,6 @@ fn later_plane<A: Automaton>(
         leaper.new.nodes)) }
     ensures goes_on { LeaperGrows A leaper.old leaper.new }
 {
-    // Says what holds of every leaper.
-    let _ = leaper.store();
     let _ = seen;
     let end = later_tree(leaper, first.tree, generations, &mut Unwatched)?;
     let tree = &end;
@@ -225,8 +210,7 @@ fn is_back_soon<A: Automaton>(
     settled: &First,
     seen: u64,
 ) -> Result<bool, LeapFault>
-    requires settled { IsFirst leaper.old.nodes settled.now }
-    requires few { seen ≤ longest_period }
+    requires settled { CanSearch (A.next_of leaper.old.rule) leaper.old.nodes settled.now seen }
     ensures back { (cells : Picture) → ShowsTree leaper.old.nodes settled.now.tree cells
         → IfOk result (λ back. IsTrue back → EndsWithin (A.next_of leaper.old.rule) cells seen) }
     ensures goes_on { LeaperGrows A leaper.old leaper.new }

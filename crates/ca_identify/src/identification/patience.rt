@@ -2,12 +2,12 @@
 //! the units of work that are allowed for them last.
 
 ghost use Rattle.std.specs.Prelude.{◌≡◌, ◌+◌, ◌≤◌, ℕ, None, IfOk, IfSome};
-ghost use Rattle.ca_plane.specs.Prelude.{Picture, cells_after, longest_period};
+ghost use Rattle.ca_plane.specs.Prelude.{Picture, cells_after};
 ghost use Rattle.ca_quad.specs.Prelude.{cell};
 ghost use Rattle.ca_run.specs.Prelude.{LeaperGrows};
 ghost use Rattle.ca_work.specs.Prelude.{EndsAtLimit};
 ghost use Rattle.ca_answers.specs.Prelude.{IsIdentity, IsLook};
-ghost use Rattle.ca_identify.specs.inner.Stages.{IsFirst, IsWalk, IsHalted, TakesSearch, TakesSearchFrom};
+ghost use Rattle.ca_identify.specs.inner.Stages.{CanSearch, CanLookOn, IsHalted, TakesSearch, TakesSearchFrom};
 ghost use Rattle.ca_pattern.specs.Prelude.{ShowsTree};
 
 use super::ending::identity_of;
@@ -29,9 +29,8 @@ pub(super) fn look<A: Automaton, O: Observer>(
     scope: Scope,
     observer: &mut O,
 ) -> Result<Look, LeapFault>
-    requires first { IsFirst leaper.old.nodes first }
+    requires first { CanSearch (A.next_of leaper.old.rule) leaper.old.nodes first scope.limit }
     requires some { 1 ≤ scope.limit }
-    requires most { scope.limit ≤ longest_period }
     ensures look { (cells : Picture) → ShowsTree leaper.old.nodes first.tree cells
         → IfOk result (IsLook (A.next_of leaper.old.rule) cells scope) }
     ensures goes_on { LeaperGrows A leaper.old leaper.new }
@@ -39,8 +38,6 @@ pub(super) fn look<A: Automaton, O: Observer>(
         (cells_after (A.next_of leaper.old.rule) (cell leaper.old.nodes first.tree)) scope.limit }
     ensures work { EndsAtLimit leaper.new.spent result }
 {
-    // Says what holds of every leaper.
-    let _ = leaper.store();
     let Scope { limit, patience } = scope;
     let early = early_generations(leaper.store().count()).min(limit);
     let mut walk = Walk::from(alloc, first.tree);
@@ -89,13 +86,10 @@ fn patient_search<A: Automaton, O: Observer>(
     span: Span,
     observer: &mut O,
 ) -> Result<Option<Identity>, LeapFault>
-    requires first { IsFirst leaper.old.nodes first.now }
-    requires walk { IsWalk (A.next_of leaper.old.rule) (cell leaper.old.nodes first.now.tree)
-        leaper.old.nodes walk.old }
+    requires walk { CanLookOn (A.next_of leaper.old.rule) leaper.old.nodes first.now walk.old span.limit }
     requires begun { walk.old.generations ≤ span.early }
     requires some { 1 ≤ span.early }
     requires within { span.early ≤ span.limit }
-    requires most { span.limit ≤ longest_period }
     ensures identity { (cells : Picture) → ShowsTree leaper.old.nodes first.now.tree cells
         → IfOk result (λ found. IfSome found (IsIdentity (A.next_of leaper.old.rule) cells span.limit)) }
     ensures halted { IfOk result (λ found. found ≡ None → IsHalted (A.next_of leaper.old.rule)
@@ -108,8 +102,6 @@ fn patient_search<A: Automaton, O: Observer>(
         walk.old.generations span.limit }
     ensures work { EndsAtLimit leaper.new.spent result }
 {
-    // Says what holds of every leaper.
-    let _ = leaper.store();
     let Span {
         early,
         limit,

@@ -2,14 +2,14 @@
 //! settle it the other generations are looked at by strides; those of a stride within which the plane dies, one by
 //! one. Where it fails, it's known up to which generation the pattern was looked at.
 
-ghost use Rattle.std.specs.Prelude.{◌≡◌, ◌+◌, ◌≤◌, None, IfOk, IfSome, OnErr};
+ghost use Rattle.std.specs.Prelude.{◌+◌, ◌≤◌, IfOk, OnErr};
 ghost use Rattle.ca_plane.specs.Prelude.{Picture, cells_after, longest_period};
 ghost use Rattle.ca_quad.specs.Prelude.{cell};
 ghost use Rattle.ca_run.specs.Prelude.{LeaperGrows};
 ghost use Rattle.ca_work.specs.Prelude.{EndsAtLimit};
 ghost use Rattle.ca_answers.specs.Prelude.{IsIdentity};
-ghost use Rattle.ca_identify.specs.inner.Stages.{IsFirst, IsWalk, IsHalted, IsEnding, generations_of};
-ghost use Rattle.ca_identify.specs.inner.Stages.{AreEarly, TakesEarly, TakesSearchFrom, early_work};
+ghost use Rattle.ca_identify.specs.inner.Stages.{CanSearch, CanLookOn, IsHalted, IsLookedAt, AreEarly, TakesEarly};
+ghost use Rattle.ca_identify.specs.inner.Stages.{TakesSearchFrom, early_work};
 ghost use Rattle.ca_pattern.specs.Prelude.{ShowsTree};
 
 use super::early::early_planes;
@@ -55,13 +55,10 @@ pub(super) fn search<A: Automaton, O: Observer>(
     limit: u64,
     observer: &mut O,
 ) -> Result<Identity, LeapFault>
-    requires first { IsFirst leaper.old.nodes first.now }
-    requires walk { IsWalk (A.next_of leaper.old.rule) (cell leaper.old.nodes first.now.tree)
-        leaper.old.nodes walk.old }
+    requires walk { CanLookOn (A.next_of leaper.old.rule) leaper.old.nodes first.now walk.old limit }
     requires begun { walk.old.generations ≤ early }
     requires some { 1 ≤ early }
     requires within { early ≤ limit }
-    requires most { limit ≤ longest_period }
     ensures identity { (cells : Picture) → ShowsTree leaper.old.nodes first.now.tree cells
         → IfOk result (IsIdentity (A.next_of leaper.old.rule) cells limit) }
     ensures halted { OnErr result (IsHalted (A.next_of leaper.old.rule)
@@ -72,8 +69,6 @@ pub(super) fn search<A: Automaton, O: Observer>(
         walk.old.generations limit }
     ensures work { EndsAtLimit leaper.new.spent result }
 {
-    // Says what holds of every leaper.
-    let _ = leaper.store();
     let sure = sure_generations(walk.generations, early, limit);
     let soon = early_look(alloc, leaper, first, walk, sure, early, limit, observer)?;
     if let Some(ending) = soon {
@@ -131,21 +126,12 @@ fn early_look<A: Automaton, O: Observer>(
     limit: u64,
     observer: &mut O,
 ) -> Result<Option<Ending>, LeapFault>
-    requires first { IsFirst leaper.old.nodes first.now }
-    requires walk { IsWalk (A.next_of leaper.old.rule) (cell leaper.old.nodes first.now.tree)
-        leaper.old.nodes walk.old }
+    requires walk { CanLookOn (A.next_of leaper.old.rule) leaper.old.nodes first.now walk.old limit }
     requires begun { walk.old.generations ≤ sure }
     requires sure { sure ≤ early }
     requires within { early ≤ limit }
-    requires most { limit ≤ longest_period }
-    ensures ending { (cells : Picture) → ShowsTree leaper.old.nodes first.now.tree cells → IfOk result
-        (λ found. IfSome found (IsEnding (A.next_of leaper.old.rule) cells)) }
-    ensures time { IfOk result (λ found. IfSome found (λ ending. generations_of ending ≤ early)) }
-    ensures walk { IfOk result (λ found. found ≡ None
-        → IsWalk (A.next_of leaper.old.rule) (cell leaper.old.nodes first.now.tree)
-        leaper.new.nodes walk.new) }
-    ensures sure { IfOk result (λ found. found ≡ None → sure ≤ walk.new.generations) }
-    ensures end { IfOk result (λ found. found ≡ None → walk.new.generations ≤ early) }
+    ensures found { IfOk result (IsLookedAt (A.next_of leaper.old.rule)
+        (cell leaper.old.nodes first.now.tree) leaper.new.nodes sure early walk.new) }
     ensures halted { OnErr result (IsHalted (A.next_of leaper.old.rule)
         (cell leaper.old.nodes first.now.tree) leaper.new.nodes walk.old.generations early walk.new) }
     ensures goes_on { LeaperGrows A leaper.old leaper.new }
@@ -154,8 +140,6 @@ fn early_look<A: Automaton, O: Observer>(
         walk.old.generations sure limit }
     ensures work { EndsAtLimit leaper.new.spent result }
 {
-    // Says what holds of every leaper.
-    let _ = leaper.store();
     let one = look_on(alloc, leaper, first, walk, sure, observer)?;
     if let Some(ending) = one {
         return Ok(Some(ending));
@@ -174,28 +158,17 @@ fn look_within_share<A: Automaton, O: Observer>(
     limit: u64,
     observer: &mut O,
 ) -> Result<Option<Ending>, LeapFault>
-    requires first { IsFirst leaper.old.nodes first.now }
-    requires walk { IsWalk (A.next_of leaper.old.rule) (cell leaper.old.nodes first.now.tree)
-        leaper.old.nodes walk.old }
+    requires walk { CanLookOn (A.next_of leaper.old.rule) leaper.old.nodes first.now walk.old limit }
     requires begun { walk.old.generations ≤ early }
     requires within { early ≤ limit }
-    requires most { limit ≤ longest_period }
-    ensures ending { (cells : Picture) → ShowsTree leaper.old.nodes first.now.tree cells → IfOk result
-        (λ found. IfSome found (IsEnding (A.next_of leaper.old.rule) cells)) }
-    ensures time { IfOk result (λ found. IfSome found (λ ending. generations_of ending ≤ early)) }
-    ensures walk { IfOk result (λ found. found ≡ None
-        → IsWalk (A.next_of leaper.old.rule) (cell leaper.old.nodes first.now.tree)
-        leaper.new.nodes walk.new) }
-    ensures begun { IfOk result (λ found. found ≡ None → walk.old.generations ≤ walk.new.generations) }
-    ensures end { IfOk result (λ found. found ≡ None → walk.new.generations ≤ early) }
+    ensures found { IfOk result (IsLookedAt (A.next_of leaper.old.rule)
+        (cell leaper.old.nodes first.now.tree) leaper.new.nodes walk.old.generations early walk.new) }
     ensures halted { OnErr result (IsHalted (A.next_of leaper.old.rule)
         (cell leaper.old.nodes first.now.tree) leaper.new.nodes walk.old.generations early walk.new) }
     ensures goes_on { LeaperGrows A leaper.old leaper.new }
     ensures takes { leaper.new.spent.used ≤ leaper.old.spent.used + early_work limit }
     ensures work { EndsAtLimit leaper.new.spent result }
 {
-    // Says what holds of every leaper.
-    let _ = leaper.store();
     let most = leaper.work_limit();
     let used = leaper.used();
     let share = early_share(limit).min(most - used);
@@ -229,18 +202,15 @@ fn planes_within_share<A: Automaton>(
     generations: u64,
     limit: u64,
 ) -> Result<Vec<First>, LeapFault>
-    requires first { IsFirst leaper.old.nodes first.now }
+    requires first { CanSearch (A.next_of leaper.old.rule) leaper.old.nodes first.now limit }
     requires some { 1 ≤ generations }
-    requires few { generations ≤ longest_period }
-    requires most { limit ≤ longest_period }
+    requires within { generations ≤ limit }
     ensures planes { IfOk result (λ planes. AreEarly (A.next_of leaper.old.rule)
         (cell leaper.old.nodes first.now.tree) leaper.new.nodes planes.items) }
     ensures goes_on { LeaperGrows A leaper.old leaper.new }
     ensures takes { leaper.new.spent.used ≤ leaper.old.spent.used + early_work limit }
     ensures work { EndsAtLimit leaper.new.spent result }
 {
-    // Says what holds of every leaper.
-    let _ = leaper.store();
     let most = leaper.work_limit();
     let used = leaper.used();
     let share = early_share(limit).min(most - used);

@@ -3,14 +3,14 @@
 //! two, and some comparisons stand for a look at each of its generations.
 
 ghost use Rattle.std.specs.Prelude.{◌≡◌, ◌+◌, ◌≤◌, ◌<◌, ℕ, length, slice_get, Some, IfOk, IfSome, OnOk, MatchOption};
-ghost use Rattle.ca_plane.specs.Prelude.{Picture, cells_after, longest_period};
+ghost use Rattle.ca_plane.specs.Prelude.{Picture, cells_after};
 ghost use Rattle.ca_quad.specs.Prelude.{AreSquareBoxes, cell};
 ghost use Rattle.ca_run.specs.Prelude.{LeaperGrows};
 ghost use Rattle.ca_work.specs.Prelude.{EndsAtLimit};
 ghost use Rattle.ca_answers.specs.Prelude.{IsIdentity};
 ghost use Rattle.ca_identify.specs.declared.identification.stage.First.{First};
-ghost use Rattle.ca_identify.specs.inner.Stages.{IsFirst, AreEarly, AreMovedNowhere, IsLastMovedFrom, IsStage, IsStride, IsWalk};
-ghost use Rattle.ca_identify.specs.inner.Stages.{HasNoReturn, leap_work};
+ghost use Rattle.ca_identify.specs.inner.Stages.{CanSearch, CanLookOn, IsFirst, AreEarly, AreMovedNowhere, IsLastMovedFrom};
+ghost use Rattle.ca_identify.specs.inner.Stages.{IsStage, IsStride, IsWalk, HasNoReturn, leap_work};
 ghost use Rattle.ca_pattern.specs.Prelude.{IsNearTree, HasLive, ShowsTree};
 
 use super::ending::{Ending, identity_of};
@@ -52,13 +52,9 @@ pub(super) fn identity_by_strides<A: Automaton, O: Observer>(
     limit: u64,
     observer: &mut O,
 ) -> Result<Option<Identity>, LeapFault>
-    requires first { IsFirst leaper.old.nodes first.now }
     requires early { AreEarly (A.next_of leaper.old.rule) (cell leaper.old.nodes first.now.tree)
         leaper.old.nodes early.now }
-    requires walk { IsWalk (A.next_of leaper.old.rule) (cell leaper.old.nodes first.now.tree)
-        leaper.old.nodes walk.old }
-    requires within { walk.old.generations ≤ limit }
-    requires most { limit ≤ longest_period }
+    requires walk { CanLookOn (A.next_of leaper.old.rule) leaper.old.nodes first.now walk.old limit }
     ensures identity { (cells : Picture) → ShowsTree leaper.old.nodes first.now.tree cells
         → IfOk result (λ found. IfSome found (IsIdentity (A.next_of leaper.old.rule) cells limit)) }
     ensures walk { IsWalk (A.next_of leaper.old.rule) (cell leaper.old.nodes first.now.tree)
@@ -69,8 +65,6 @@ pub(super) fn identity_by_strides<A: Automaton, O: Observer>(
     ensures takes { leaper.new.spent.used ≤ leaper.old.spent.used + leap_work limit }
     ensures work { EndsAtLimit leaper.new.spent result }
 {
-    // Says what holds of every leaper.
-    let _ = leaper.store();
     let most = leaper.work_limit();
     let used = leaper.used();
     let share = (limit * SHARE).min(most - used);
@@ -93,13 +87,9 @@ fn stride_on<A: Automaton, O: Observer>(
     limit: u64,
     observer: &mut O,
 ) -> Result<Option<Identity>, LeapFault>
-    requires first { IsFirst leaper.old.nodes first.now }
     requires early { AreEarly (A.next_of leaper.old.rule) (cell leaper.old.nodes first.now.tree)
         leaper.old.nodes early.now }
-    requires walk { IsWalk (A.next_of leaper.old.rule) (cell leaper.old.nodes first.now.tree)
-        leaper.old.nodes walk.old }
-    requires within { walk.old.generations ≤ limit }
-    requires most { limit ≤ longest_period }
+    requires walk { CanLookOn (A.next_of leaper.old.rule) leaper.old.nodes first.now walk.old limit }
     ensures identity { (cells : Picture) → ShowsTree leaper.old.nodes first.now.tree cells
         → IfOk result (λ found. IfSome found (IsIdentity (A.next_of leaper.old.rule) cells limit)) }
     ensures walk { IsWalk (A.next_of leaper.old.rule) (cell leaper.old.nodes first.now.tree)
@@ -108,8 +98,6 @@ fn stride_on<A: Automaton, O: Observer>(
     ensures within { walk.new.generations ≤ limit }
     ensures goes_on { LeaperGrows A leaper.old leaper.new }
 {
-    // Says what holds of every leaper.
-    let _ = leaper.store();
     if early.is_empty() {
         return Ok(None);
     }
@@ -137,8 +125,7 @@ fn unknown_after<A: Automaton>(
     first: &First,
     limit: u64,
 ) -> Result<Option<Identity>, LeapFault>
-    requires first { IsFirst leaper.old.nodes first.now }
-    requires most { limit ≤ longest_period }
+    requires first { CanSearch (A.next_of leaper.old.rule) leaper.old.nodes first.now limit }
     ensures identity { (cells : Picture) → ShowsTree leaper.old.nodes first.now.tree cells
         → HasNoReturn (A.next_of leaper.old.rule) cells limit
         → IfOk result (λ found. IfSome found (IsIdentity (A.next_of leaper.old.rule) cells limit)) }
@@ -161,22 +148,17 @@ fn stride_to<A: Automaton>(
     end: u64,
     boxes: &mut SquareBoxes,
 ) -> Result<Stride, LeapFault>
-    requires first { IsFirst leaper.old.nodes first.now }
     requires early { AreEarly (A.next_of leaper.old.rule) (cell leaper.old.nodes first.now.tree)
         leaper.old.nodes early.now }
-    requires walk { IsWalk (A.next_of leaper.old.rule) (cell leaper.old.nodes first.now.tree)
-        leaper.old.nodes walk.now }
+    requires walk { CanLookOn (A.next_of leaper.old.rule) leaper.old.nodes first.now walk.now end }
     requires more { walk.now.generations < end }
     requires near { end ≤ walk.now.generations + length early.now }
-    requires most { end ≤ longest_period }
     requires boxes { AreSquareBoxes leaper.old.nodes boxes.old }
     ensures stride { IfOk result (IsStride (A.next_of leaper.old.rule)
         (cell leaper.old.nodes first.now.tree) end leaper.new.nodes) }
     ensures boxes { OnOk result (AreSquareBoxes leaper.new.nodes boxes.new) }
     ensures goes_on { LeaperGrows A leaper.old leaper.new }
 {
-    // Says what holds of every leaper.
-    let _ = leaper.store();
     let steps = end - walk.generations;
     let later = later_tree(leaper, walk.tree, steps, &mut Unwatched)?;
     if is_dead(leaper.store(), &later) {
@@ -236,19 +218,13 @@ fn stage_after<A: Automaton>(
     generations: u64,
     boxes: &mut SquareBoxes,
 ) -> Result<Stage, LeapFault>
-    requires first { IsFirst leaper.old.nodes first.now }
-    requires walk { IsWalk (A.next_of leaper.old.rule) (cell leaper.old.nodes first.now.tree)
-        leaper.old.nodes walk.now }
-    requires from { walk.now.generations ≤ generations }
-    requires few { generations ≤ longest_period }
+    requires walk { CanLookOn (A.next_of leaper.old.rule) leaper.old.nodes first.now walk.now generations }
     requires boxes { AreSquareBoxes leaper.old.nodes boxes.old }
     ensures stage { IfOk result (IsStage (cell leaper.old.nodes first.now.tree)
         (cells_after (A.next_of leaper.old.rule) (cell leaper.old.nodes first.now.tree) generations)) }
     ensures boxes { OnOk result (AreSquareBoxes leaper.new.nodes boxes.new) }
     ensures goes_on { LeaperGrows A leaper.old leaper.new }
 {
-    // Says what holds of every leaper.
-    let _ = leaper.store();
     let steps = generations - walk.generations;
     let tree = later_tree(leaper, walk.tree, steps, &mut Unwatched)?;
     let stage = stage_of(alloc, leaper, first, &tree, boxes)?;

@@ -1,13 +1,13 @@
 //! A pattern's plane, looked at after one generation after the other.
 
-ghost use Rattle.std.specs.Prelude.{◌≡◌, ◌+◌, ◌-◌, ◌≤◌, ◌<◌, List, None, IfOk, OnOk, OnErr, IfSome};
+ghost use Rattle.std.specs.Prelude.{◌≡◌, ◌+◌, ◌-◌, ◌≤◌, List, IfOk, OnOk, OnErr};
 ghost use Rattle.ca_quad.specs.declared.node.Node.{Node};
-ghost use Rattle.ca_plane.specs.Prelude.{Picture, cells_after, longest_period};
+ghost use Rattle.ca_plane.specs.Prelude.{cells_after};
 ghost use Rattle.ca_quad.specs.Prelude.{AreSquareBoxes, cell};
 ghost use Rattle.ca_run.specs.Prelude.{LeaperGrows};
 ghost use Rattle.ca_work.specs.Prelude.{EndsAtLimit};
-ghost use Rattle.ca_identify.specs.inner.Stages.{IsFirst, IsStage, IsWalk, IsHalted, IsEnding, generations_of};
-ghost use Rattle.ca_pattern.specs.Prelude.{IsLaterTree, ShowsTree};
+ghost use Rattle.ca_identify.specs.inner.Stages.{CanSearch, CanLookOn, IsStage, IsHalted, IsLookedAt};
+ghost use Rattle.ca_pattern.specs.Prelude.{IsLaterTree};
 ghost use Rattle.ca_evolution.specs.Prelude.{TakesSteps, step_work};
 
 use super::ending::Ending;
@@ -52,18 +52,9 @@ pub(super) fn look_on<A: Automaton, O: Observer>(
     end: u64,
     observer: &mut O,
 ) -> Result<Option<Ending>, LeapFault>
-    requires first { IsFirst leaper.old.nodes first.now }
-    requires walk { IsWalk (A.next_of leaper.old.rule) (cell leaper.old.nodes first.now.tree)
-        leaper.old.nodes walk.old }
-    requires within { walk.old.generations ≤ end }
-    requires most { end ≤ longest_period }
-    ensures ending { (cells : Picture) → ShowsTree leaper.old.nodes first.now.tree cells → IfOk result
-        (λ found. IfSome found (IsEnding (A.next_of leaper.old.rule) cells)) }
-    ensures time { IfOk result (λ found. IfSome found (λ ending. generations_of ending ≤ end)) }
-    ensures walk { IfOk result (λ found. found ≡ None
-        → IsWalk (A.next_of leaper.old.rule) (cell leaper.old.nodes first.now.tree)
-        leaper.new.nodes walk.new) }
-    ensures end { IfOk result (λ found. found ≡ None → walk.new.generations ≡ end) }
+    requires walk { CanLookOn (A.next_of leaper.old.rule) leaper.old.nodes first.now walk.old end }
+    ensures found { IfOk result (IsLookedAt (A.next_of leaper.old.rule)
+        (cell leaper.old.nodes first.now.tree) leaper.new.nodes end end walk.new) }
     ensures halted { OnErr result (IsHalted (A.next_of leaper.old.rule)
         (cell leaper.old.nodes first.now.tree) leaper.new.nodes walk.old.generations end walk.new) }
     ensures goes_on { LeaperGrows A leaper.old leaper.new }
@@ -72,8 +63,6 @@ pub(super) fn look_on<A: Automaton, O: Observer>(
         (end - walk.old.generations) }
     ensures work { EndsAtLimit leaper.new.spent result }
 {
-    // Says what holds of every leaper.
-    let _ = leaper.store();
     'generations: while walk.generations < end {
         let generations = walk.generations + 1;
         observer.goes_to(generations);
@@ -110,8 +99,7 @@ fn step<A: Automaton>(
     generations: u64,
     boxes: &mut SquareBoxes,
 ) -> Result<LaterStage, LeapFault>
-    requires first { IsFirst leaper.old.nodes first.now }
-    requires few { generations < longest_period }
+    requires first { CanSearch (A.next_of leaper.old.rule) leaper.old.nodes first.now (generations + 1) }
     requires now { IsLaterTree (A.next_of leaper.old.rule) (cell leaper.old.nodes first.now.tree) generations
         leaper.old.nodes now }
     requires boxes { AreSquareBoxes leaper.old.nodes boxes.old }
@@ -126,8 +114,6 @@ fn step<A: Automaton>(
     ensures takes { leaper.new.spent.used ≤ leaper.old.spent.used + step_work now.level }
     ensures work { EndsAtLimit leaper.new.spent result }
 {
-    // Says what holds of every leaper.
-    let _ = leaper.store();
     let _ = generations;
     let tree = later_tree(leaper, now, 1, &mut Unwatched)?;
     let stage = stage_of(alloc, leaper, first, &tree, boxes)?;

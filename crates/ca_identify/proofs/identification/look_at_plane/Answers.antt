@@ -27,9 +27,14 @@ later_tree-requires g c =
 
 pub look-requires-clause-first : goal.look-requires-clause-first
 look-requires-clause-first g c = record {
-  start = later_start (g.A.Automaton.next_of c.args.leaper.now.rule) (cell c.args.leaper.now.nodes c.args.pattern) c.args.generations c.later_tree.new.leaper.nodes c.in_ok-start.start
-      (g.met.A.Automaton.quiet c.args.leaper.now.rule c.store.ensures.rule) c.requires.pattern.range c.requires.few c.in_ok-start.ensures.later;
-  box = subst (λ s. IsLeastWideBox (cell s c.in_ok-start.start) c.in-Some.bounds) c.store-2.ensures.nodes (rw c.in-Some.is at c.in_ok-bounds.ensures);
+  sound = c.store-2.ensures.sound;
+  quiet = g.met.A.Automaton.quiet c.later_tree.new.leaper.rule c.store-2.ensures.rule;
+  is_first = record {
+    start = later_start (g.A.Automaton.next_of c.args.leaper.now.rule) (cell c.args.leaper.now.nodes c.args.pattern) c.args.generations c.later_tree.new.leaper.nodes c.in_ok-start.start
+        (g.met.A.Automaton.quiet c.args.leaper.now.rule c.store.ensures.rule) c.requires.pattern.range c.requires.few c.in_ok-start.ensures.later;
+    box = subst (λ s. IsLeastWideBox (cell s c.in_ok-start.start) c.in-Some.bounds) c.store-2.ensures.nodes (rw c.in-Some.is at c.in_ok-bounds.ensures);
+  };
+  most = c.requires.most;
 }
 
 pub returns-in_default-clause-look : goal.returns-in_default-clause-look

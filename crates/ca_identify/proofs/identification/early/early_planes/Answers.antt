@@ -20,20 +20,20 @@ generations-init g c =
     let tree = c.args.first.now.tree in
     let none = c.new-planes.ensures.items in
     record {
-      goes_on = goes_on_same _ c.args.leaper.now c.store.ensures.sound;
-      now = subst (λ (l : List First). IsLaterTree next (cell s0 tree) (length l) s0 tree) (sym none) (first_tree next s0 tree c.requires.first.start);
+      goes_on = goes_on_same _ c.args.leaper.now c.requires.first.sound;
+      now = subst (λ (l : List First). IsLaterTree next (cell s0 tree) (length l) s0 tree) (sym none) (first_tree next s0 tree c.requires.first.is_first.start);
       early = λ k plane at. absurd (none-some plane (subst (λ (l : List First). slice_get l k ≡ Some plane) none at));
       boxes = c.new-boxes.ensures _;
     }
 
 pub near_plane-requires-clause-tree : goal.near_plane-requires-clause-tree
-near_plane-requires-clause-tree g c = subst (λ s. IsTree s c.generations.now) (sym c.store-in-generations.ensures.nodes) c.generations.invariant.now.near.is_tree
+near_plane-requires-clause-tree g c = subst (λ s. IsTree s c.generations.now) (sym c.store.ensures.nodes) c.generations.invariant.now.near.is_tree
 
 pub near_plane-requires-clause-trimmed : goal.near_plane-requires-clause-trimmed
-near_plane-requires-clause-trimmed g c = subst (λ s. IsTrimmed s c.generations.now) (sym c.store-in-generations.ensures.nodes) c.generations.invariant.now.trimmed
+near_plane-requires-clause-trimmed g c = subst (λ s. IsTrimmed s c.generations.now) (sym c.store.ensures.nodes) c.generations.invariant.now.trimmed
 
 pub near_plane-requires-clause-boxes : goal.near_plane-requires-clause-boxes
-near_plane-requires-clause-boxes g c = subst (λ s. AreSquareBoxes s c.generations.boxes) (sym c.store-in-generations.ensures.nodes) c.generations.invariant.boxes
+near_plane-requires-clause-boxes g c = subst (λ s. AreSquareBoxes s c.generations.boxes) (sym c.store.ensures.nodes) c.generations.invariant.boxes
 
 pub later_tree-requires : goal.later_tree-requires
 later_tree-requires g c =
@@ -47,7 +47,7 @@ later_tree-requires g c =
       trimmed = now.trimmed;
       few = omega arith;
       near = near_next (g.A.Automaton.next_of c.args.leaper.now.rule) (cell c.args.leaper.now.nodes c.args.first.now.tree) (length c.generations.planes.items) s c.generations.now now
-          (g.met.A.Automaton.quiet c.args.leaper.now.rule c.store.ensures.rule) c.requires.first.start.within (omega (arith, c.generations-test.true, c.len.ensures, c.requires.few));
+          c.requires.first.quiet c.requires.first.is_first.start.within (omega (arith, c.generations-test.true, c.len.ensures, c.requires.first.most));
     })
 
 pub generations-preserved : goal.generations-preserved
@@ -70,16 +70,16 @@ generations-preserved g c =
     (subst (λ r. IsLaterTree (next r) (cell s c.generations.now) 1 new c.in_ok-tree.tree) inv.goes_on.rule c.in_ok-tree.ensures.later) in
     let early = early_stays (next rule) first s new inv.goes_on.grows.sound on.grows (planes ++ plane ∷ [])
     (one_more_early (next rule) first s planes plane inv.early (record {
-      is_first = subst (λ t. IsFirst t plane) c.store-in-generations.ensures.nodes is_first;
+      is_first = subst (λ t. IsFirst t plane) c.store.ensures.nodes is_first;
       shows = λ x y. ap (λ (t : Tree). cell s t x y) tree ∙ inv.now.shows x y;
     })) in
     record {
-      goes_on = goes_on_again _ c.args.leaper.now c.generations.leaper c.later_tree.new.leaper inv.goes_on on;
+      goes_on = goes_on_again _ _ _ _ inv.goes_on on;
       now = subst (λ (l : List First). IsLaterTree (next rule) first (length l) new c.in_ok-tree.tree) (sym pushed) (subst (λ k. IsLaterTree (next rule) first k new c.in_ok-tree.tree) (sym more) later);
       early = subst (λ (l : List First). AreEarly (next rule) first new l) (sym pushed) early;
-      boxes = boxes_stay s new inv.goes_on.grows.sound on.grows _ (subst (λ t. AreSquareBoxes t c.near_plane.new.boxes) c.store-in-generations.ensures.nodes c.in_ok-plane.ensures.boxes);
+      boxes = boxes_stay s new inv.goes_on.grows.sound on.grows _ (subst (λ t. AreSquareBoxes t c.near_plane.new.boxes) c.store.ensures.nodes c.in_ok-plane.ensures.boxes);
     }
 
 pub returns-in_err-push_plane-clause-goes_on : goal.returns-in_err-push_plane-clause-goes_on
 returns-in_err-push_plane-clause-goes_on g c =
-    goes_on_again _ c.args.leaper.now c.generations.leaper c.later_tree.new.leaper c.generations.invariant.goes_on c.in_ok-tree.ensures.goes_on
+    goes_on_again _ _ _ _ c.generations.invariant.goes_on c.in_ok-tree.ensures.goes_on

@@ -1,9 +1,17 @@
-use Rattle.std.proofs.Common.{sym, subst}
+use Rattle.std.proofs.Common.{sym, subst, arith}
 use Rattle.std.specs.Prelude.{IfOk}
 use Rattle.ca_quad.specs.Prelude.{cell}
 use Rattle.ca_run.specs.Prelude.{LeaperView}
-use Rattle.ca_identify.specs.inner.Stages.{AreEarly}
+use Rattle.ca_identify.specs.inner.Stages.{CanSearch, AreEarly}
+use Rattle.ca_identify.proofs.LaterLeapers.{search_nearer}
 use Rattle.ca_identify.proofs.identification.search.planes_within_share.Goals as goal
+
+pub early_planes-planes-requires : goal.early_planes-planes-requires
+early_planes-planes-requires g c =
+    record {
+      first = subst (λ (l : LeaperView _). CanSearch (g.A.Automaton.next_of l.rule) l.nodes c.args.first.now c.power_within.result) (sym c.limit_work.ensures.limited)
+          (search_nearer c.requires.first c.power_within.result (omega (arith, c.power_within.ensures.within, c.requires.within)));
+    }
 
 -- those that are made, over the squares and the rule as they were
 pub returns-in_default-2-clause-planes : goal.returns-in_default-2-clause-planes

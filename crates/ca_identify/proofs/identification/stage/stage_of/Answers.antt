@@ -3,8 +3,8 @@ use Rattle.std.proofs.lemmas.Int.{to_z-of_z}
 use Rattle.ca_quad.specs.Prelude.{IsDead, IsLeastWideBox, AreSquareBoxes, shifted_cells, cell}
 use Rattle.ca_quad.proofs.Measures.{boxes_stay}
 use Rattle.ca_identify.specs.inner.Stages.{AreMovedNowhere}
-use Rattle.ca_pattern.proofs.Corners.{corner_broad, far_corner_wide, corner_wide}
 use Rattle.ca_pattern.proofs.Starts.{near_start}
+use Rattle.ca_identify.proofs.Stages.{wide_box, first_box}
 use Rattle.ca_identify.proofs.identification.stage.stage_of.Goals as goal
 
 pub bounds_with-requires-clause-boxes : goal.bounds_with-requires-clause-boxes
@@ -29,20 +29,12 @@ returns-in_default-clause-stage g c =
     subst (λ s. IsDead (cell s c.args.now.now)) c.store.ensures.nodes (rw c.in_default.is at c.in_ok-bounds.ensures.bounds)
 
 pub vector_between-requires-clause-from : goal.vector_between-requires-clause-from
-vector_between-requires-clause-from g c =
-    let nodes = c.args.leaper.now.nodes in
-    let first = c.args.first.now in
-    let corner = corner_broad (cell nodes first.tree) first.bounds c.requires.first.box c.requires.first.start.within in
-    let far = far_corner_wide (cell nodes first.tree) first.bounds c.requires.first.box (near_start nodes first.tree c.requires.first.start).near in
-    record { left = corner.0; top = corner.1; right = far.0; bottom = far.1 }
+vector_between-requires-clause-from g c = first_box c.args.leaper.now.nodes c.args.first.now c.requires.first
 
 pub vector_between-requires-clause-to : goal.vector_between-requires-clause-to
 vector_between-requires-clause-to g c =
-    let now = cell c.args.leaper.now.nodes c.args.now.now in
     let box = subst (λ s. IsLeastWideBox (cell s c.args.now.now) c.in-Some.bounds) c.store.ensures.nodes (rw c.in-Some.is at c.in_ok-bounds.ensures.bounds) in
-    let corner = corner_wide now c.in-Some.bounds box c.requires.now.near in
-    let far = far_corner_wide now c.in-Some.bounds box c.requires.now.near in
-    record { left = corner.0; top = corner.1; right = far.0; bottom = far.1 }
+    wide_box (cell c.args.leaper.now.nodes c.args.now.now) c.in-Some.bounds box c.requires.now.near
 
 pub returns-in_default-vector_between-clause-stage : goal.returns-in_default-vector_between-clause-stage
 returns-in_default-vector_between-clause-stage g c =

@@ -5,9 +5,11 @@ use Rattle.ca_quad.specs.Prelude.{cell}
 use Rattle.ca_run.proofs.LeaperGrowth.{goes_on_same, goes_on_again}
 use Rattle.ca_identify.specs.inner.Stages.{IsStage, IsHalted}
 use Rattle.ca_evolution.specs.Prelude.{TakesSteps}
+use Rattle.ca_pattern.specs.Prelude.{IsLaterTree}
 use Rattle.ca_identify.proofs.Identities.{found_ending, ending_time, no_ending}
 use Rattle.ca_identify.proofs.LaterPlanes.{on_err}
-use Rattle.ca_identify.proofs.Stages.{first_stays, one_more_other, later_stays, step_from, step_to, stage_to}
+use Rattle.ca_identify.proofs.LaterLeapers.{as_before, as_then, search_stays}
+use Rattle.ca_identify.proofs.Stages.{one_more_other, later_stays}
 use Rattle.ca_evolution.proofs.Steps.{no_step, one_more_step, fewer_steps}
 use Rattle.ca_identify.proofs.identification.walk.look_on.Goals as goal
 use Rattle.ca_identify.proofs.identification.walk.look_on.Goals.{In_ok-later}
@@ -24,7 +26,7 @@ module _ (g : _) (c : In_ok-later g) where
   told : IsStage first (stages (c.generations.walk.generations + 1)) c.in_ok-later.later.stage
   told =
       let inv = c.generations.invariant in
-      stage_to g.A.Automaton.next_of inv.goes_on.rule c.store.ensures.sound inv.goes_on.grows c.requires.first (c.generations.walk.generations + 1) c.in_ok-later.later.stage c.in_ok-later.ensures.stage
+      as_before g.A.Automaton.next_of inv.goes_on c.requires.walk.pattern (λ n p. IsStage p (cells_after n p (c.generations.walk.generations + 1)) c.in_ok-later.later.stage) c.in_ok-later.ensures.stage
 
   -- what it took so far
   took : TakesSteps c.args.leaper.now.spent.used c.step.new.leaper.spent.used stages c.args.end (c.generations.walk.generations - c.args.walk.now.generations + 1)
@@ -40,35 +42,30 @@ module _ (g : _) (c : In_ok-later g) where
       fewer_steps _ _ stages c.args.end (c.generations.walk.generations - c.args.walk.now.generations + 1) (c.args.end - c.args.walk.now.generations) (omega (arith, begun, c.generations-test.true)) took
 
 pub generations-init : goal.generations-init
-generations-init g c =
-    let next = g.A.Automaton.next_of c.args.leaper.now.rule in
-    let walk = c.requires.walk in
-    record {
-      goes_on = goes_on_same _ c.args.leaper.now c.store.ensures.sound;
-      walk = walk;
-      begun = omega arith;
-      within = c.requires.within;
-      takes = no_step _ _ (cells_after next (cell c.args.leaper.now.nodes c.args.first.now.tree)) c.args.end (c.args.walk.now.generations - c.args.walk.now.generations) refl;
-    }
+generations-init g c = record {
+  goes_on = goes_on_same _ c.args.leaper.now c.requires.walk.pattern.sound;
+  walk = c.requires.walk.is_walk;
+  begun = omega arith;
+  within = c.requires.walk.within;
+  takes = no_step _ _ _ c.args.end (c.args.walk.now.generations - c.args.walk.now.generations) refl;
+}
 
 pub step-requires-clause-first : goal.step-requires-clause-first
-step-requires-clause-first g c =
-    first_stays c.args.leaper.now.nodes c.generations.leaper.nodes c.store.ensures.sound c.generations.invariant.goes_on.grows c.args.first.now c.requires.first
+step-requires-clause-first g c = search_stays g.A.Automaton.next_of c.generations.invariant.goes_on c.requires.walk.pattern (c.generations.walk.generations + 1) (omega (arith, c.generations-test.true))
 
 pub step-requires-clause-now : goal.step-requires-clause-now
 step-requires-clause-now g c =
     let inv = c.generations.invariant in
-    step_from g.A.Automaton.next_of inv.goes_on.rule c.store.ensures.sound inv.goes_on.grows c.requires.first c.generations.walk.generations c.generations.walk.tree inv.walk.now
+    as_then g.A.Automaton.next_of inv.goes_on c.requires.walk.pattern (λ n p. IsLaterTree n p c.generations.walk.generations c.generations.leaper.nodes c.generations.walk.tree) inv.walk.now
 
 pub returns-in_err-later-clause-halted : goal.returns-in_err-later-clause-halted
 returns-in_err-later-clause-halted g c =
     let inv = c.generations.invariant in
     let next = g.A.Automaton.next_of c.args.leaper.now.rule in
     let p = cell c.args.leaper.now.nodes c.args.first.now.tree in
-    let n = c.generations.walk.generations in
     let halted : IsHalted next p c.step.new.leaper.nodes c.args.walk.now.generations c.args.end
     (record { tree = c.generations.walk.tree; generations = c.generations.walk.generations; boxes = c.step.new.boxes }) = record {
-      now = later_stays next p n c.generations.leaper.nodes c.step.new.leaper.nodes inv.goes_on.grows.sound c.in_err-later.ensures.goes_on.grows c.generations.walk.tree inv.walk.now;
+      now = later_stays inv.goes_on.grows.sound c.in_err-later.ensures.goes_on.grows inv.walk.now;
       others = inv.walk.others;
       later = inv.begun;
       within = inv.within;
@@ -84,21 +81,21 @@ returns-in_err-later-clause-takes g c =
     (one_more_step _ _ _ stages c.args.end (c.generations.walk.generations - c.args.walk.now.generations) c.generations.walk.generations c.generations.leaper.nodes c.generations.walk.tree
     inv.walk.now.trimmed inv.walk.now.shows (omega (arith, c.generations-test.true)) inv.takes c.step.ensures.takes)
 
-pub returns-in-Some-clause-ending : goal.returns-in-Some-clause-ending
-returns-in-Some-clause-ending g c =
-    let a = (goal.at.returns-in-Some-clause-ending g c).In_ok-later in
+pub returns-in-Some-clause-found : goal.returns-in-Some-clause-found
+returns-in-Some-clause-found g c =
+    let a = (goal.at.returns-in-Some-clause-found g c).In_ok-later in
     let n = c.generations.walk.generations in
-    λ cells shows.
-    found_ending (g.A.Automaton.next_of c.args.leaper.now.rule) (g.met.A.Automaton.quiet c.args.leaper.now.rule c.store.ensures.rule) c.args.leaper.now.nodes c.args.first.now c.requires.first
-    cells shows n c.generations.invariant.walk.others c.args.end (omega (arith, c.generations-test.true)) c.requires.most c.in_ok-later.later.stage c.in-Some.ending (sym c.ending.ensures ∙ c.in-Some.is) (told g a)
-
-pub returns-in-Some-clause-time : goal.returns-in-Some-clause-time
-returns-in-Some-clause-time g c =
-    let time = ending_time c.in_ok-later.later.stage (c.generations.walk.generations + 1) c.in-Some.ending (sym c.ending.ensures ∙ c.in-Some.is) in
-    omega (arith, time, c.generations-test.true)
+    let pattern = c.requires.walk.pattern in
+    let ends = sym c.ending.ensures ∙ c.in-Some.is in
+    let time = ending_time c.in_ok-later.later.stage (n + 1) c.in-Some.ending ends in (
+      λ cells shows.
+          found_ending (g.A.Automaton.next_of c.args.leaper.now.rule) pattern.quiet c.args.leaper.now.nodes c.args.first.now pattern.is_first cells shows n c.generations.invariant.walk.others
+          c.args.end (omega (arith, c.generations-test.true)) pattern.most c.in_ok-later.later.stage c.in-Some.ending ends (told g a),
+      omega (arith, time, c.generations-test.true),
+    )
 
 pub returns-in-Some-clause-goes_on : goal.returns-in-Some-clause-goes_on
-returns-in-Some-clause-goes_on g c = goes_on_again _ c.args.leaper.now c.generations.leaper c.step.new.leaper c.generations.invariant.goes_on c.in_ok-later.ensures.goes_on
+returns-in-Some-clause-goes_on g c = goes_on_again _ _ _ _ c.generations.invariant.goes_on c.in_ok-later.ensures.goes_on
 
 pub returns-in-Some-clause-takes : goal.returns-in-Some-clause-takes
 returns-in-Some-clause-takes g c = takes g (goal.at.returns-in-Some-clause-takes g c).In_ok-later
@@ -111,9 +108,9 @@ generations-preserved g c =
     let begun = inv.begun in
     let sum : n - c.args.walk.now.generations + 1 ≡ n + 1 - c.args.walk.now.generations = omega (arith, begun) in
     record {
-      goes_on = goes_on_again _ c.args.leaper.now c.generations.leaper c.step.new.leaper inv.goes_on c.in_ok-later.ensures.goes_on;
+      goes_on = goes_on_again _ _ _ _ inv.goes_on c.in_ok-later.ensures.goes_on;
       walk = record {
-        now = step_to g.A.Automaton.next_of inv.goes_on.rule c.store.ensures.sound inv.goes_on.grows c.requires.first (n + 1) c.step.new.leaper.nodes c.in_ok-later.later.tree c.in_ok-later.ensures.tree;
+        now = as_before g.A.Automaton.next_of inv.goes_on c.requires.walk.pattern (λ m p. IsLaterTree m p (n + 1) c.step.new.leaper.nodes c.in_ok-later.later.tree) c.in_ok-later.ensures.tree;
         others = one_more_other (g.A.Automaton.next_of c.args.leaper.now.rule) (first g a) n inv.walk.others (subst (IsStage (first g a) (stages g a (n + 1))) (no_ending c.in_ok-later.later.stage (n + 1) (sym c.ending.ensures ∙ c.in_default.is)) (told g a));
         boxes = c.in_ok-later.ensures.boxes;
       };
@@ -121,6 +118,9 @@ generations-preserved g c =
       within = omega (arith, c.generations-test.true);
       takes = subst (TakesSteps c.args.leaper.now.spent.used c.step.new.leaper.spent.used (stages g a) c.args.end) sum (took g a);
     }
+
+pub returns-clause-found : goal.returns-clause-found
+returns-clause-found g c = (c.generations.invariant.walk, omega (arith, c.generations-test.false), c.generations.invariant.within)
 
 pub returns-clause-takes : goal.returns-clause-takes
 returns-clause-takes g c =

@@ -1,11 +1,10 @@
 use Rattle.std.proofs.Common.{◌+◌, ◌≤◌, refl, sym, subst, arith}
-use Rattle.ca_plane.specs.Prelude.{cells_after}
 use Rattle.ca_quad.specs.Prelude.{cell}
 use Rattle.ca_quad.proofs.Measures.{boxes_stay}
-use Rattle.ca_quad.proofs.Trims.{trees_stay}
 use Rattle.ca_work.specs.Prelude.{Spent}
 use Rattle.ca_run.proofs.LeaperGrowth.{goes_on_again}
-use Rattle.ca_identify.proofs.Stages.{later_stays, first_stays, stage_as}
+use Rattle.ca_identify.proofs.LaterLeapers.{first_then, shown_stage}
+use Rattle.ca_identify.proofs.Stages.{later_stays}
 use Rattle.ca_evolution.proofs.Steps.{near_next, later_next}
 use Rattle.ca_evolution.specs.Prelude.{step_work}
 use Rattle.ca_identify.proofs.identification.walk.step.Goals as goal
@@ -20,32 +19,27 @@ later_tree-requires g c =
       trimmed = now.trimmed;
       few = omega arith;
       near = near_next (g.A.Automaton.next_of c.args.leaper.now.rule) (cell nodes c.args.first.now.tree) c.args.generations nodes c.args.now now
-          (g.met.A.Automaton.quiet c.args.leaper.now.rule c.store.ensures.rule) c.requires.first.start.within c.requires.few;
+          c.requires.first.quiet c.requires.first.is_first.start.within (omega (arith, c.requires.first.most));
     }
 
 pub stage_of-requires-clause-first : goal.stage_of-requires-clause-first
-stage_of-requires-clause-first g c =
-    first_stays c.args.leaper.now.nodes c.later_tree.new.leaper.nodes c.store.ensures.sound c.in_ok-tree.ensures.goes_on.grows c.args.first.now c.requires.first
+stage_of-requires-clause-first g c = first_then g.A.Automaton.next_of c.in_ok-tree.ensures.goes_on c.requires.first
 
 pub stage_of-requires-clause-boxes : goal.stage_of-requires-clause-boxes
 stage_of-requires-clause-boxes g c =
-    boxes_stay c.args.leaper.now.nodes c.later_tree.new.leaper.nodes c.store.ensures.sound c.in_ok-tree.ensures.goes_on.grows _ c.requires.boxes
+    boxes_stay c.args.leaper.now.nodes c.later_tree.new.leaper.nodes c.requires.first.sound c.in_ok-tree.ensures.goes_on.grows _ c.requires.boxes
 
 pub returns-clause-tree : goal.returns-clause-tree
 returns-clause-tree g c =
-    let later = later_next _ _ _ _ _ c.requires.now c.later_tree.new.leaper.nodes c.in_ok-tree.tree c.in_ok-tree.ensures.later in
-    later_stays _ _ _ _ c.stage_of.new.leaper.nodes c.in_ok-tree.ensures.goes_on.grows.sound c.in_ok-stage.ensures.goes_on.grows c.in_ok-tree.tree later
+    later_stays c.in_ok-tree.ensures.goes_on.grows.sound c.in_ok-stage.ensures.goes_on.grows (later_next _ _ _ _ _ c.requires.now c.later_tree.new.leaper.nodes c.in_ok-tree.tree c.in_ok-tree.ensures.later)
 
 pub returns-clause-stage : goal.returns-clause-stage
 returns-clause-stage g c =
     let later = later_next _ _ _ _ _ c.requires.now c.later_tree.new.leaper.nodes c.in_ok-tree.tree c.in_ok-tree.ensures.later in
-    let s1 = c.later_tree.new.leaper.nodes in
-    let first = cell c.args.leaper.now.nodes c.args.first.now.tree in
-    stage_as (cell s1 c.args.first.now.tree) (cell s1 c.in_ok-tree.tree) first (cells_after (g.A.Automaton.next_of c.args.leaper.now.rule) first (c.args.generations + 1))
-    (trees_stay _ s1 c.store.ensures.sound c.in_ok-tree.ensures.goes_on.grows c.args.first.now.tree c.requires.first.start.is_tree) later.shows c.in_ok-stage.stage c.in_ok-stage.ensures.stage
+    shown_stage g.A.Automaton.next_of c.in_ok-tree.ensures.goes_on c.requires.first (c.args.generations + 1) c.in_ok-tree.tree c.in_ok-stage.stage later c.in_ok-stage.ensures.stage
 
 pub returns-clause-goes_on : goal.returns-clause-goes_on
-returns-clause-goes_on g c = goes_on_again _ c.args.leaper.now c.later_tree.new.leaper c.stage_of.new.leaper c.in_ok-tree.ensures.goes_on c.in_ok-stage.ensures.goes_on
+returns-clause-goes_on g c = goes_on_again _ _ _ _ c.in_ok-tree.ensures.goes_on c.in_ok-stage.ensures.goes_on
 
 pub returns-in_err-tree-clause-takes : goal.returns-in_err-tree-clause-takes
 returns-in_err-tree-clause-takes g c = c.later_tree.ensures.one refl
