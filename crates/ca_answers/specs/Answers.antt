@@ -11,11 +11,9 @@ use Rattle.ca_pattern.specs.declared.pattern_fault.PatternFault.{PatternFault}
 use Rattle.ca_answers.specs.declared.cause.Cause.TheVariants.{NoFile, BadTable, BadPattern, BadRule, StateTooLarge, MixedRules, TooManyCells, Work, Memory}
 use Rattle.ca_text.specs.declared.{both.Both.Both, asks.Asks.Asks}
 use Rattle.ca_text.specs.Prelude.{HoldsOfBoth, HoldsOfEither, FirstBadOfBoth, FirstBad, SomeOf, Claim, asks_of, expected_cells, IsTrueClaim}
-use Rattle.ca_answers.specs.Work.{MayBeUsedUp}
-use Rattle.ca_answers.specs.Files.{SuppliedFiles, bytes_at}
+use Rattle.ca_answers.specs.{Work.MayBeUsedUp, Files.SuppliedFiles, Files.bytes_at, Refutations.IsReason}
 use Rattle.ca_pattern.specs.Prelude.{IsReadable, HoldsRuleText, HoldsRuledPattern, HasRuleFault, MayWantMemory, IsQuietTable, IsTableFault, HasSmallStates, HasLargeState, rule_fault_text}
 use Rattle.ca_pattern.specs.Prelude.{table_fault_text, IsPatternFault, IsPatternFaultOn, pattern_fault_text}
-use Rattle.ca_answers.specs.Refutations.{IsReason}
 
 -- the file of a path is supplied, and this holds of its bytes
 abbrev pub HoldsOfFile : SuppliedFiles → (List ℕ → Type 0) → List ℕ → Type 0

@@ -3,9 +3,7 @@ use Rattle.std.specs.Prelude.{◌≡◌, ℕ, List, [], ◌∷◌}
 use Rattle.ca_text.specs.declared.both.Both.{Both}
 use Rattle.ca_answers.specs.declared.{verdict.Answer.Answer, note.Note.Note}
 use Rattle.ca_text.specs.Prelude.{Claim}
-use Rattle.ca_answers.specs.Answers.{IsTrueAnswer, IsWithinWork}
-use Rattle.ca_answers.specs.Notes.{IsNote}
-use Rattle.ca_answers.specs.Files.{SuppliedFiles}
+use Rattle.ca_answers.specs.{Answers.IsTrueAnswer, Answers.IsWithinWork, Notes.IsNote, Files.SuppliedFiles}
 
 -- the paths and bytes of the files that are supplied; the paths of the text's rule lines; the claims that are left, with the numbers of their
 -- lines; for each of these the names and paths of its patterns; and how much work each may take

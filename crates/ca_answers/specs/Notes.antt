@@ -5,9 +5,8 @@ use Rattle.ca_answers.specs.declared.{note.Note.Note, verdict.Verdict.Verdict, c
 use Rattle.ca_answers.specs.declared.note.Note.TheVariants.{Nothing, Cell, Pattern, RuleFile}
 use Rattle.ca_answers.specs.declared.verdict.Verdict.TheVariants.{Yes, No, Refused}
 use Rattle.ca_answers.specs.declared.verdict.Refutation.TheVariants.{Empty, Differs, Earlier, Died}
-use Rattle.ca_answers.specs.Answers.{IsOfClaim, IsOfPattern, IsOfRuleFile}
+use Rattle.ca_answers.specs.{Answers.IsOfClaim, Answers.IsOfPattern, Answers.IsOfRuleFile, Files.SuppliedFiles}
 use Rattle.ca_text.specs.Prelude.{map_both, FirstBadOfBoth}
-use Rattle.ca_answers.specs.Files.{SuppliedFiles}
 
 -- the first bad pattern is the one with this name and path; patterns are given by their names and paths
 abbrev pub IsFirstBad : Both (List ℕ × List ℕ) → (name path : List ℕ) → (Good Bad : List ℕ → Type 0) → Type 0

@@ -1,10 +1,7 @@
 -- The code of an object, that is, of a still life, an oscillator or a spaceship (LifeWiki, "Apgcode").
 use Rattle.std.specs.Prelude.{◌≡◌, ◌≢◌, ℕ, zero, suc, ◌<◌, ℤ, pos, ◌+ℤ◌, ◌-ℤ◌, ◌<ℤ◌, ◌≤ℤ◌, List, [], ◌∷◌, ◌++◌, codes, decimal, Option, Some, None}
 use Rattle.ca_plane.specs.Prelude.{letter, from_corner}
-use Rattle.ca_apgcode.specs.Grids.{GridCells, IsGrid, IsLeastGrid, cell}
-use Rattle.ca_apgcode.specs.Representation.{IsRepresentation}
-use Rattle.ca_apgcode.specs.Order.{Precedes}
-use Rattle.ca_apgcode.specs.Orientations.{turned}
+use Rattle.ca_apgcode.specs.{Grids.GridCells, Grids.IsGrid, Grids.IsLeastGrid, Grids.cell, Representation.IsRepresentation, Order.Precedes, Orientations.turned}
 use Rattle.ca_apgcode.specs.declared.{orientation.Orientation.Orientation, object.ObjectKind.ObjectKind}
 use Rattle.ca_apgcode.specs.declared.object.ObjectKind.TheVariants.{StillLife, Oscillator, Spaceship}
 

@@ -6,10 +6,7 @@ use Rattle.ca_plane.specs.Prelude.{cells_after, row_cells}
 use Rattle.ca_plane.specs.declared.counting.Counting.{Counting}
 use Rattle.ca_bricks.specs.declared.{round.Round.Round, grid.BrickGrid.BrickGrid, count.Count.Count, word.WordMasks.WordMasks, word.WordPair.WordPair, grid.WordPlace.WordPlace}
 use Rattle.ca_bricks.specs.declared.{cell_rule.CellRule.CellRule}
-use Rattle.ca_bricks.specs.Words.{eight}
-use Rattle.ca_bricks.specs.Tiles.{next_by_count, sum_round, nine_at}
-use Rattle.ca_bricks.specs.Diagrams.{diagram_next}
-use Rattle.ca_bricks.specs.CellRules.{GoesByCells}
+use Rattle.ca_bricks.specs.{Words.eight, Tiles.next_by_count, Tiles.sum_round, Tiles.nine_at, Diagrams.diagram_next, CellRules.GoesByCells}
 use Rattle.ca_bricks.specs.declared.cell_rule.CellRule.TheVariants.{ByCounting, ByDiagram}
 
 -- ---- bricks on the plane

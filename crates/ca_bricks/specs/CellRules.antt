@@ -2,8 +2,7 @@
 use Rattle.std.specs.Prelude.{◌≡◌, ℕ, ◌<◌, ℤ, List, length}
 use Rattle.std.specs.List.{All}
 use Rattle.ca_plane.specs.Prelude.{counting_next, around}
-use Rattle.ca_bricks.specs.Lanes.{tile_cell, IsWithinEdge}
-use Rattle.ca_bricks.specs.Diagrams.{diagram_next}
+use Rattle.ca_bricks.specs.{Lanes.tile_cell, Lanes.IsWithinEdge, Diagrams.diagram_next}
 use Rattle.ca_bricks.specs.declared.cell_rule.CellRule.{CellRule}
 use Rattle.ca_bricks.specs.declared.cell_rule.CellRule.TheVariants.{ByCounting, ByDiagram}
 

@@ -2,9 +2,8 @@
 -- from the top, of which bit 0 is the western-most cell.
 use Rattle.std.specs.Prelude.{◌≡◌, ℕ, ◌+◌, ◌-◌, ◌/◌, ◌%◌, ◌<◌, ◌≤◌, ℤ, pos, ◌+ℤ◌, List, nat_lt, if◌then◌else◌, slice_index}
 use Rattle.ca_plane.specs.Prelude.{row_cells}
-use Rattle.ca_bricks.specs.Words.{WordShows, byte_of}
+use Rattle.ca_bricks.specs.{Words.WordShows, Words.byte_of, Overlaps.QuartersShow}
 use Rattle.ca_bricks.specs.declared.{word_square.WordSquare.WordSquare, wide_square.WideSquare.WideSquare}
-use Rattle.ca_bricks.specs.Overlaps.{QuartersShow}
 
 -- the four words of a square of 16 by 16 cells show it
 abbrev pub WordSquareShows : WordSquare → (ℤ → ℤ → ℕ) → ℤ → ℤ → Type 0

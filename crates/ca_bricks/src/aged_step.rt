@@ -131,8 +131,7 @@ fn put_numbers(
         → row_cells (get_or (get_or old.new.dying.items k d).bricks.items s []) x y
         ≡ aged_digit states k (number_at now.now.dying.items s x y) (row_cells begun.now x y) }
     ensures same { (k : ℕ) (d : BrickGrid) → k < length now.now.dying.items → (x y : ℕ) → x < 64 → y < 16
-        → bit_at result x ≡ 0
-        → row_cells (get_or (get_or old.new.dying.items k d).bricks.items s []) x y
+        → bit_at result x ≡ 0 → row_cells (get_or (get_or old.new.dying.items k d).bricks.items s []) x y
         ≡ row_cells (get_or (get_or old.old.dying.items k d).bricks.items s []) x y }
     ensures others { (k : ℕ) (d : BrickGrid) (t : ℕ) → (t ≡ s → ⊥)
         → get_or (get_or old.new.dying.items k d).bricks.items t []
@@ -177,8 +176,7 @@ fn count_down(
         → row_cells (get_or (get_or old.new k d).bricks.items s []) x y
         ≡ aged_digit states k (number_at now.now s x y) (row_cells begun.now x y) }
     ensures same { (k : ℕ) (d : BrickGrid) → k < length now.now → (x y : ℕ) → x < 64 → y < 16
-        → bit_at result x ≡ 0
-        → row_cells (get_or (get_or old.new k d).bricks.items s []) x y
+        → bit_at result x ≡ 0 → row_cells (get_or (get_or old.new k d).bricks.items s []) x y
         ≡ row_cells (get_or (get_or old.old k d).bricks.items s []) x y }
     ensures others { (k : ℕ) (d : BrickGrid) (t : ℕ) → (t ≡ s → ⊥)
         → get_or (get_or old.new k d).bricks.items t [] ≡ get_or (get_or old.old k d).bricks.items t [] }

@@ -58,8 +58,7 @@ pub fn next_tile<C: CountInTile>(alive: Bits, counting: Counting) -> Bits
 // way to count, as that is called from one place alone, and so stands in its loop.
 #[inline(always)]
 fn next_bits<C: CountInTile>(alive: Bits, count: Count<Bits>, birth: u16, survive: u16) -> Bits
-    ensures { (x y : ℕ) → x < 16 → y < 16 → number count x y ≤ 8
-        → row_cells result.rows x y
+    ensures { (x y : ℕ) → x < 16 → y < 16 → number count x y ≤ 8 → row_cells result.rows x y
         ≡ next_by_count birth survive (row_cells alive.rows x y) (number count x y) }
 {
     let Count {

@@ -18,9 +18,8 @@ use Rattle.ca_catalog.specs.declared.{known_rules.KnownRules.KnownRules, task.Ta
 use Rattle.ca_catalog.specs.declared.entry.Content.TheVariants.{Bytes, Missing, FaultyRule}
 use Rattle.ca_catalog.specs.declared.entry.Outcome.TheVariants as outcomes
 use Rattle.ca_catalog.specs.declared.entry.Outcome.TheVariants.{Unnameable, Identified, Refused}
-use Rattle.ca_catalog.specs.Names.{is_claim_path, claim_name, IsFreeName}
-use Rattle.ca_catalog.specs.FaultReports.{IsBareReport, IsReportOf}
-use Rattle.ca_catalog.specs.WrittenOn.{WritesOn, WritesOnFirst, WritesPartOn}
+use Rattle.ca_catalog.specs.{Names.is_claim_path, Names.claim_name, Names.IsFreeName, FaultReports.IsBareReport, FaultReports.IsReportOf, WrittenOn.WritesOn}
+use Rattle.ca_catalog.specs.{WrittenOn.WritesOnFirst, WrittenOn.WritesPartOn}
 
 -- the line that gives a name to a file
 abbrev pub load_line : List ℕ → List ℕ → List ℕ

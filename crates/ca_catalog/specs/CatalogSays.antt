@@ -8,8 +8,7 @@ use Rattle.ca_answers.specs.declared.identity.Identity.TheVariants.{Empty, Claim
 use Rattle.ca_text.specs.Prelude.{twice, ClaimTextLine, Version, Rule, Load, Claims, IsClaimText, said_lines}
 use Rattle.ca_catalog.specs.declared.{entry.Outcome.Outcome, entry.Entry.Entry, entry.Subject.Subject, known_rules.KnownRules.KnownRules, task.Task.Task}
 use Rattle.ca_catalog.specs.declared.entry.Outcome.TheVariants.{Identified}
-use Rattle.ca_catalog.specs.Names.{is_word}
-use Rattle.ca_catalog.specs.Catalog.{IsCatalog}
+use Rattle.ca_catalog.specs.{Names.is_word, Catalog.IsCatalog}
 
 -- a claim of this kind about the pattern of a name
 abbrev pub claim_line : List ℕ → Kind → ClaimTextLine

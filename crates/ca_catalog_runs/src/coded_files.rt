@@ -50,8 +50,7 @@ pub fn identify_with_code<O: Observer>(
     ensures look { IfOk result (λ found. IsLookAt bytes.now tables.now generations scope found.look) }
     ensures code { IfOk result (λ found. IsCodeOfFile bytes.now tables.now generations found.look.identity
         (option_map (λ code. code.items) found.code)) }
-    ensures uncoded { IfErr result
-        (IsUncodedAfter bytes.now tables.now limits.work generations scope.limit) }
+    ensures uncoded { IfErr result (IsUncodedAfter bytes.now tables.now limits.work generations scope.limit) }
 {
     let pattern = open_pattern(alloc, bytes, tables)?;
     let coded = has_codes(&pattern.rule);

@@ -2,7 +2,7 @@
 use Rattle.std.proofs.Common.{◌≡◌, ◌≢◌, ℕ, zero, suc, ◌+◌, ◌-◌, ◌*◌, ◌^◌, ◌≤◌, List, Option, None, Some, inl, inr, refl, sym, subst, ◌∙◌, arith}
 use Rattle.std.proofs.Math.Nat.{mul-le-mul_left}
 use Rattle.std.proofs.Math.Path.{fun_ext}
-use Rattle.std.specs.Prelude.{ℤ, pos, neg_ℤ, ◌+ℤ◌, ◌-ℤ◌, ◌≤ℤ◌, replicate}
+use Rattle.std.specs.Prelude.{ℤ, pos, neg_ℤ, ◌+ℤ◌, ◌≤ℤ◌, replicate}
 use Rattle.std.proofs.lemmas.Bool.{cases_eq}
 use Rattle.std.proofs.lemmas.Int.{ints}
 use Rattle.ca_plane.specs.Prelude.{cells_after, IsInPlane}
@@ -16,8 +16,8 @@ use Rattle.ca_quad.proofs.Trims.{trees_stay}
 use Rattle.ca_plane.proofs.After.{after_same, after_again}
 use Rattle.ca_work.proofs.Powers.{power_more, power_suc}
 use Rattle.ca_pattern.specs.Prelude.{run_work, IsWithinPlane, IsWideBox, IsStart, IsLaterTree}
-use Rattle.ca_identify.specs.declared.identification.{ending.Ending.Ending, stage.First.First, stage.Stage.Stage, walk.Walk.Walk}
-use Rattle.ca_identify.specs.declared.identification.stage.Stage.TheVariants.{Empty, Back, Other}
+use Rattle.ca_identify.specs.declared.identification.{ending.Ending.Ending, stage.First.First, walk.Walk.Walk}
+use Rattle.ca_identify.specs.declared.identification.stage.Stage.TheVariants.{Other}
 use Rattle.ca_identify.specs.inner.Stages.{IsFirst, IsFirstBox, AreMoved, AreMovedNowhere, IsStage, AreOtherUpTo, IsWalk, IsHalted, IsLookedAt, TakesSearch, TakesSearchFrom, TakesEarly, early_work, leap_work}
 use Rattle.ca_identify.specs.TreeLooks.{TakesRunAndSearch}
 use Rattle.ca_evolution.specs.Prelude.{CanGoOn, TakesSteps, TakesRun}

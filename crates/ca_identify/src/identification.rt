@@ -1,6 +1,6 @@
 //! What a pattern is: its first generations are looked at one by one, then leaps are made, then strides.
 
-ghost use Rattle.std.specs.Prelude.{◌≡◌, ◌≤◌, IfOk, IfErr};
+ghost use Rattle.std.specs.Prelude.{◌≤◌, IfOk, IfErr};
 ghost use Rattle.ca_plane.specs.Prelude.{Picture, cells_after, longest_period, most_generations};
 ghost use Rattle.ca_quad.specs.Prelude.{cell};
 ghost use Rattle.ca_run.specs.Prelude.{LeaperGrows};

@@ -161,8 +161,7 @@ impl Reading {
         requires ready { IsReady self.old }
         requires bounded { IsBounded (said_of line) }
         ensures takes { OnOk result (Takes (said_of line.entry) self.old self.new) }
-        ensures fault { IfErr result
-            (λ f. IsRefused f (said_of line.entry) self.old.place self.old.count) }
+        ensures fault { IfErr result (λ f. IsRefused f (said_of line.entry) self.old.place self.old.count) }
     {
         match line {
             Line::Nothing => Ok(()),
@@ -188,8 +187,7 @@ impl Reading {
         requires ready { IsReady self.old }
         requires line { Every (λ b. not (is_line_end b)) line.now }
         ensures takes { OnOk result ((s : CellLine) × LineSays format line.now s × Takes s self.old self.new) }
-        ensures fault { IfErr result
-            (λ f. IsLineFault f format self.old.place self.old.count line.now) }
+        ensures fault { IfErr result (λ f. IsLineFault f format self.old.place self.old.count line.now) }
     {
         let said = read_line(format, line)?;
         self.take(said)

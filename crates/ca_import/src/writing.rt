@@ -46,8 +46,7 @@ fn text_of_pattern(
     target: Format,
 ) -> Result<Vec<u8>, ImportTextFault>
     requires { AreInRange (bit_cell pattern.cells) }
-    ensures written { IfOk result (λ text.
-        IsPatternText pattern asked.now target text.items) }
+    ensures written { IfOk result (λ text. IsPatternText pattern asked.now target text.items) }
     ensures fault { IfErr result (IsPatternTextFault pattern asked.now target) }
 {
     let ImportedPattern { cells, rule } = pattern;

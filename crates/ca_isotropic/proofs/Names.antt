@@ -1,13 +1,14 @@
 -- A text that names a rule is a name that a rule file can give, and has no `:`.
-use Rattle.std.proofs.Common.{◌≡◌, ℕ, List, [], ◌∷◌, ◌++◌, length, true, not, ◌==◌, ◌&&◌, ◌%◌, Some, slice_index, codes, refl, sym, subst, inl, inr, arith, append-nil}
+use Rattle.std.proofs.Common.{◌≡◌, ℕ, List, [], ◌∷◌, ◌++◌, length, true, not, ◌==◌, ◌&&◌, ◌%◌, Some, slice_index, codes, refl, sym, subst, arith, append-nil}
 use Rattle.std.specs.List.{list_all}
 use Rattle.std.proofs.lemmas.Bool.{and_parts, and_from}
 use Rattle.std.proofs.lemmas.Bool.Decides.{nat_tests}
 use Rattle.ca_plane.specs.Prelude.{Every, is_word_byte, is_blank, is_line_end, is_digit}
 use Rattle.ca_plane.proofs.Fronts.{every_append, every_wider}
-use Rattle.ca_rule.specs.Prelude.{IsSuffix, SpellsBsRule, SpellsGenerationsRule, lists_of}
+use Rattle.ca_rule.specs.Prelude.{SpellsBsRule, SpellsGenerationsRule, lists_of}
 use Rattle.ca_rule.specs.declared.hood.Hood.{Hood}
-use Rattle.ca_rule.specs.declared.hood.Hood.TheVariants.{Moore, VonNeumann, Hex}
+use Rattle.ca_rule.specs.declared.hood.Hood.TheVariants.{Moore}
+use Rattle.ca_rule.proofs.Ends.{suffix-passes}
 use Rattle.ca_rule.proofs.GenerationsRead.{bytes-pass, two-lists}
 use Rattle.ca_rule.proofs.ReadInwards.{digits-of, IsTakenApart, spelled-apart}
 use Rattle.ca_isotropic.specs.Prelude.{SpellsIsotropicRule, is_base64, sextet, are_characters, IsMap, IsTableName}
@@ -30,13 +31,6 @@ table-name text is = subst IsTableName (sym is.form) (from-plain is.first is.oth
 from-text : (text : List ℕ) (b : ℕ) (bs : List ℕ) → text ≡ b ∷ bs → Every is_text_byte (b ∷ bs) → IsText text
 from-text text b bs e all = record { first = b; others = bs; all = all; form = e }
 
-plain-suffix : (hood : Hood) (suffix : List ℕ) → IsSuffix hood suffix → Every is_text_byte suffix
-plain-suffix Moore suffix e = rw e refl
-plain-suffix VonNeumann suffix (b, inl l, e) = rw (e, l) refl
-plain-suffix VonNeumann suffix (b, inr l, e) = rw (e, l) refl
-plain-suffix Hex suffix (b, inl l, e) = rw (e, l) refl
-plain-suffix Hex suffix (b, inr l, e) = rw (e, l) refl
-
 -- bytes of which lists are read are some
 read-text : (text body suffix : List ℕ) (lists : List ℕ × List ℕ) → text ≡ body ++ suffix → lists_of body ≡ Some lists → Every is_text_byte body → Every is_text_byte suffix → IsText text
 read-text text [] suffix lists w e h k = cc
@@ -46,7 +40,7 @@ read-text text (b ∷ bs) suffix lists w e h k = from-text text b (bs ++ suffix)
 apart-text : (text birth survival : List ℕ) (hood : Hood) → IsTakenApart text birth survival hood → Every is_text_byte birth → Every is_text_byte survival → IsText text
 apart-text text birth survival hood t h k =
     let body = t.passes is_text_byte (record { slash = refl; b = (refl, refl); s = (refl, refl) }) h k in
-    read-text text t.body t.suffix (birth, survival) t.whole t.lists_are body (plain-suffix hood t.suffix t.is_suffix)
+    read-text text t.body t.suffix (birth, survival) t.whole t.lists_are body (suffix-passes is_text_byte (refl, refl) (refl, refl) hood t.suffix t.is_suffix)
 
 plain-digits : (ds : List ℕ) → Every is_digit ds → Every is_text_byte ds
 plain-digits ds h = every_wider is_digit is_text_byte (λ d t. grind (arith, nat_tests)) ds h

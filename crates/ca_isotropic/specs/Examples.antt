@@ -2,8 +2,7 @@
 use Rattle.std.specs.Prelude.{◌≡◌, ℕ, ◌<◌, List, length, All, codes}
 use Rattle.ca_rule.specs.Prelude.{counts_of, bs_next}
 use Rattle.ca_rule.specs.declared.hood.Hood.TheVariants.{Moore}
-use Rattle.ca_isotropic.specs.Isotropic.{has_kind, isotropic_next}
-use Rattle.ca_isotropic.specs.Kinds.{cells}
+use Rattle.ca_isotropic.specs.{Isotropic.has_kind, Isotropic.isotropic_next, Kinds.cells}
 
 -- nine cells, each dead or live
 pub record AreNineCells (nine : List ℕ) : Type 0 where

@@ -1,6 +1,6 @@
 //! The rule file of a rule of two states, and what each rule file has.
 
-ghost use Rattle.std.specs.Prelude.{◌≡◌, ◌<◌, ◌/◌, ◌%◌, ◌∷◌, ◌++◌, [], ℕ, List, OnOk, IfOk, decimal};
+ghost use Rattle.std.specs.Prelude.{◌≡◌, ◌<◌, ◌/◌, ◌%◌, ◌∷◌, ◌++◌, [], OnOk, IfOk, decimal};
 ghost use Rattle.ca_plane.specs.Prelude.{text_of, Puts};
 ghost use Rattle.ca_isotropic.specs.RuleFiles.{IsTableName, WritesRule};
 ghost use Rattle.ca_isotropic.specs.inner.WrittenTables.{head_lines, neighbour_byte, neighbour_bytes, transition_line};

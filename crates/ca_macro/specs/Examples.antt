@@ -1,8 +1,7 @@
 -- Small macrocell texts, for which the definitions are worked out.
 use Rattle.std.specs.Prelude.{ℕ, ℤ, pos, negsuc, ◌+ℤ◌, List, [], ◌∷◌, true, false, codes}
 use Rattle.ca_plane.specs.Prelude.{text_of, Picture}
-use Rattle.ca_macro.specs.Nodes.{Node, Leaf, Cells, Parts}
-use Rattle.ca_macro.specs.File.{MacrocellFile}
+use Rattle.ca_macro.specs.{Nodes.Node, Nodes.Leaf, Nodes.Cells, Nodes.Parts, File.MacrocellFile}
 
 -- `[M2]`, and a line after it
 abbrev pub after_first : List ℕ → List ℕ

@@ -1,8 +1,7 @@
 -- The limit of a macrocell text (our own): which of its live cells are out of range.
 use Rattle.std.specs.List.{AllByRecursion}
 use Rattle.ca_plane.specs.Prelude.{IsInRange}
-use Rattle.ca_macro.specs.File.{MacrocellFile}
-use Rattle.ca_macro.specs.Shown.{picture_of_nodes}
+use Rattle.ca_macro.specs.{File.MacrocellFile, Shown.picture_of_nodes}
 
 -- each live cell is in range
 abbrev pub IsMacrocellWithinRange : MacrocellFile → Type 0

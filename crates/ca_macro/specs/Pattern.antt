@@ -5,9 +5,7 @@ use Rattle.ca_quad.specs.declared.{node.Node.Node, tree.Tree.Tree}
 use Rattle.ca_quad.specs.Trees as trees
 use Rattle.ca_quad.specs.Prelude.{IsTrimmed}
 use Rattle.ca_macro.specs.declared.pattern.MacroPattern.{MacroPattern}
-use Rattle.ca_macro.specs.File.{MacrocellFile, IsMacrocellFile}
-use Rattle.ca_macro.specs.Limits.{IsMacrocellWithinRange}
-use Rattle.ca_macro.specs.Shown.{picture_of_nodes}
+use Rattle.ca_macro.specs.{File.MacrocellFile, File.IsMacrocellFile, Limits.IsMacrocellWithinRange, Shown.picture_of_nodes}
 
 -- the pattern has the file's cells, rule text and generation; its tree has the least level, the file's picture has states from 1 to
 -- 255, the generation is below the limit, and the rule text is a word

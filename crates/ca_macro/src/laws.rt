@@ -50,6 +50,5 @@ pub fn one_fault()
 /// A text that is a file within the range has no fault but `Memory`.
 pub fn no_fault_within_range()
     ensures { (bytes : List ℕ) (file : MacrocellFile) (f : MacroFault) → IsMacrocellFile bytes file
-        → IsMacrocellWithinRange file
-        → f ≢ Memory → IsMacrocellFault bytes f → ⊥ }
+        → IsMacrocellWithinRange file → f ≢ Memory → IsMacrocellFault bytes f → ⊥ }
 {}

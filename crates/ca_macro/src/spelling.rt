@@ -19,8 +19,7 @@ use std::alloc::Global;
 /// `Memory` where a growth is refused. That can happen only at a good line that adds a node after good lines.
 pub fn faulty_line(alloc: Global, bytes: &[u8]) -> Result<Option<u64>, Memory>
     ensures line { IfOk result (λ line. MatchOption line ((f : MacroFault) → IsFirstMacrocellFault bytes.now f
-        → ⊥)
-        (IsFaultyMacrocellLine bytes.now)) }
+        → ⊥) (IsFaultyMacrocellLine bytes.now)) }
     ensures memory { IfErr result (λ _. HasNodeLine bytes.now) }
 {
     let mut store = Store::new(alloc);

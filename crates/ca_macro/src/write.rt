@@ -42,8 +42,7 @@ pub fn write_macro(
     ensures tidy { IfOk result (λ text.
         IsTidyMacrocell text.items (cell store.old tree) rule_text.now generation states) }
     // It means the cells, the rule text and the generation, and the reader takes it.
-    ensures means { IfOk result (λ text.
-        IsFileOf text.items (cell store.old tree) rule_text.now generation) }
+    ensures means { IfOk result (λ text. IsFileOf text.items (cell store.old tree) rule_text.now generation) }
     // Every old square stays.
     ensures grows { Grows store.old store.new }
 {

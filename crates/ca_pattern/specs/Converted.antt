@@ -5,10 +5,8 @@ use Rattle.ca_rule.specs.Prelude.{TableRule, RuleValue}
 use Rattle.ca_pattern.specs.declared.{format.Format.Format, convert_fault.ConvertFault.ConvertFault, pattern.Summary.Summary}
 use Rattle.ca_pattern.specs.declared.format.Format.TheVariants.{Rle}
 use Rattle.ca_pattern.specs.declared.convert_fault.ConvertFault.TheVariants.{BadPattern, BadRule, StateTooLarge, TooManyCells, Memory}
-use Rattle.ca_pattern.specs.Evolved.{IsConvertedAfter, IsSummaryAfter}
-use Rattle.ca_pattern.specs.Means.{HoldsRuledPattern, HasRuleFault, MayWantMemory}
-use Rattle.ca_pattern.specs.Formats.{IsPatternFault}
-use Rattle.ca_pattern.specs.States.{HasLargeState, HasSmallStates}
+use Rattle.ca_pattern.specs.{Evolved.IsConvertedAfter, Evolved.IsSummaryAfter, Means.HoldsRuledPattern, Means.HasRuleFault, Means.MayWantMemory}
+use Rattle.ca_pattern.specs.{Formats.IsPatternFault, States.HasLargeState, States.HasSmallStates}
 
 -- the text is what the bytes are converted to: what their pattern is written as, after no generations
 abbrev pub IsConverted : List ℕ → List TableRule → Format → List ℕ → Type 0

@@ -7,12 +7,8 @@ use Rattle.ca_rule.specs.Prelude.{TableRule, RuleValue, rule_value, states_of, n
 use Rattle.ca_pattern.specs.declared.{format.Format.Format, pattern.Summary.Summary, pattern.Pattern.Pattern, located_fault.LocatedFault.LocatedFault}
 use Rattle.ca_pattern.specs.declared.format.Format.TheVariants.{Rle}
 use Rattle.ca_pattern.specs.declared.located_fault.LocatedFault.TheVariants.{GenTooLarge, Work, Range, TooManyCells}
-use Rattle.ca_pattern.specs.Formats.{format_of, IsTidyAs}
-use Rattle.ca_pattern.specs.Means.{HoldsPattern, HoldsRuledPattern}
-use Rattle.ca_pattern.specs.States.{HasSmallStates}
-use Rattle.ca_pattern.specs.LocatedFaults.{IsOpeningFault}
-use Rattle.ca_pattern.specs.PatternCells.{AreCells, IsPatternOf}
-use Rattle.ca_pattern.specs.Written.{HasCellOutOfRange}
+use Rattle.ca_pattern.specs.{Formats.format_of, Formats.IsTidyAs, Means.HoldsPattern, Means.HoldsRuledPattern, States.HasSmallStates}
+use Rattle.ca_pattern.specs.{LocatedFaults.IsOpeningFault, PatternCells.AreCells, PatternCells.IsPatternOf, Written.HasCellOutOfRange}
 
 -- the bytes are a file whose pattern has these cells, of small states, under the rule that its rule text names, at this generation
 pub record HoldsSmallRuledPattern (bytes : List ℕ) (tables : List TableRule) (cells : Picture) (rule : RuleValue) (generation : ℕ) : Type 0 where

@@ -5,8 +5,7 @@ use Rattle.ca_quad.specs.declared.node.Node.{Node}
 use Rattle.ca_quad.specs.Trees as trees
 use Rattle.ca_quad.specs.Prelude.{IsTrimmed}
 use Rattle.ca_pattern.specs.declared.pattern.Loaded.{Loaded}
-use Rattle.ca_pattern.specs.Formats.{format_of}
-use Rattle.ca_pattern.specs.Means.{HoldsPattern}
+use Rattle.ca_pattern.specs.{Formats.format_of, Means.HoldsPattern}
 
 -- the pattern is what the bytes mean, in the store of these nodes: its tree shows these cells and has the least level
 pub record IsLoaded (nodes : List Node) (bytes : List ℕ) (cells : Picture) (loaded : Loaded) : Type 0 where

@@ -5,9 +5,7 @@ use Rattle.ca_rule.specs.Prelude.{TableRule, RuleValue, IsRuleFault}
 use Rattle.ca_pattern.specs.declared.{convert_fault.ConvertFault.ConvertFault, located_fault.LocatedFault.LocatedFault}
 use Rattle.ca_pattern.specs.declared.convert_fault.ConvertFault.TheVariants as convert
 use Rattle.ca_pattern.specs.declared.located_fault.LocatedFault.TheVariants.{Unread, UnnamedRule, StateTooLarge, TooManyCells, Memory}
-use Rattle.ca_pattern.specs.Means.{HoldsRuleText, HoldsRuledPattern, MayWantMemory}
-use Rattle.ca_pattern.specs.Formats.{IsPatternFaultOn}
-use Rattle.ca_pattern.specs.States.{HasLargeState}
+use Rattle.ca_pattern.specs.{Means.HoldsRuleText, Means.HoldsRuledPattern, Means.MayWantMemory, Formats.IsPatternFaultOn, States.HasLargeState}
 
 -- the first reason for which a pattern file isn't opened: the bytes aren't read, for this fault, which stands on this line where it is one of their
 -- spelling; or this is their rule text, and it names no rule; or a state is too large. Out of memory may come before any of them, where memory may

@@ -7,10 +7,7 @@ use Rattle.ca_quad.specs.Prelude.{cell}
 use Rattle.ca_rule.specs.Prelude.{TableRule, RuleValue, rule_value, NamesRule, IsRuleFault}
 use Rattle.ca_macro.specs.Prelude.{AreInRange}
 use Rattle.ca_pattern.specs.declared.pattern_fault.PatternFault.TheVariants.{Memory}
-use Rattle.ca_pattern.specs.Means.{MayWantMemory}
-use Rattle.ca_pattern.specs.Formats.{IsPatternFaultOn}
-use Rattle.ca_pattern.specs.States.{HasLargeState, HasSmallStates}
-use Rattle.ca_pattern.specs.Loaded.{IsLoaded}
+use Rattle.ca_pattern.specs.{Means.MayWantMemory, Formats.IsPatternFaultOn, States.HasLargeState, States.HasSmallStates, Loaded.IsLoaded}
 
 -- the bytes are a file that reads, and this is its pattern in the store of these nodes, whose live cells are in
 -- range; its generation is below the limit, and its rule text is a word

@@ -7,8 +7,7 @@ use Rattle.ca_rule.specs.Prelude.{RuleValue, states_of, printed_form}
 use Rattle.ca_pattern.specs.declared.{format.Format.Format, located_fault.LocatedFault.LocatedFault, pattern.Summary.Summary}
 use Rattle.ca_pattern.specs.declared.format.Format.TheVariants.{Rle}
 use Rattle.ca_pattern.specs.declared.located_fault.LocatedFault.TheVariants.{Range, TooManyCells, Memory}
-use Rattle.ca_pattern.specs.Formats.{format_of, IsTidyAs}
-use Rattle.ca_pattern.specs.Means.{HoldsPattern}
+use Rattle.ca_pattern.specs.{Formats.format_of, Formats.IsTidyAs, Means.HoldsPattern}
 
 -- the summary is that of a file of this format, with these cells, this rule and this generation
 pub record IsSummaryOf (kind : Format) (cells : ℤ → ℤ → ℕ) (rule : RuleValue) (generation : ℕ) (summary : Summary) : Type 0 where

@@ -11,8 +11,7 @@ ghost use Rattle.ca_pattern.specs.Converted.{IsConverted, IsConvertFault, IsSumm
 /// A file is converted to one text at most, or refused for one cause, and not both; out of memory apart.
 pub fn one_kind_of_conversion()
     ensures one_text { (bytes : List ℕ) (tables : List TableRule) (target : Format) (one two : List ℕ)
-        → IsConverted bytes tables target one
-        → IsConverted bytes tables target two → one ≡ two }
+        → IsConverted bytes tables target one → IsConverted bytes tables target two → one ≡ two }
     ensures text_or_fault { (bytes : List ℕ) (tables : List TableRule) (target : Format) (text : List ℕ)
         (fault : ConvertFault) → fault ≢ Memory
         → IsConverted bytes tables target text → IsConvertFault bytes tables target fault → ⊥ }
@@ -29,6 +28,5 @@ pub fn one_kind_of_summary()
         (fault : ConvertFault) → fault ≢ Memory
         → IsSummary bytes tables summary → IsSummaryFault bytes tables fault → ⊥ }
     ensures one_fault { (bytes : List ℕ) (tables : List TableRule) (one two : ConvertFault) → one ≢ Memory
-        → two ≢ Memory
-        → IsSummaryFault bytes tables one → IsSummaryFault bytes tables two → one ≡ two }
+        → two ≢ Memory → IsSummaryFault bytes tables one → IsSummaryFault bytes tables two → one ≡ two }
 {}

@@ -15,8 +15,7 @@ use Rattle.ca_report.specs.declared.fault.InputFault.TheVariants as inputs
 use Rattle.ca_report.specs.declared.fault.ToolFault.TheVariants.{Input, BadTable, Convert, GenTooLarge, Work, Range, Window, Memory}
 use Rattle.ca_report.specs.declared.form.TextForm.TheVariants as forms
 use Rattle.ca_report.specs.declared.form.Form.TheVariants.{Text, Picture}
-use Rattle.ca_pattern_runs.specs.Drawn.{IsDrawnAfter, IsCaptionAfter, HasNoWindowAfter}
-use Rattle.ca_pattern_runs.specs.Shown.{summary_text}
+use Rattle.ca_pattern_runs.specs.{Drawn.IsDrawnAfter, Drawn.IsCaptionAfter, Drawn.HasNoWindowAfter, Shown.summary_text}
 use Rattle.ca_report.specs.Prelude.{WritesOneOf, ReadsAll, GivesTooMany, GivesSome, TakesFile}
 
 -- what a file gave that isn't read; of a read that fails the device tells

@@ -138,8 +138,7 @@ fn text_of_pattern(
     ensures text { (bytes : List ℕ) (tables : List TableRule) (n : ℕ) → IsPatternAfter bytes tables n pattern.entry
         → IfOk result (λ text. IsFormAfter (Text form) bytes tables n text.items) }
     ensures fault { (bytes : List ℕ) (tables : List TableRule) (n work : ℕ)
-        → IsPatternAfter bytes tables n pattern.entry
-        → IfErr result (IsTextFault form bytes tables n work) }
+        → IsPatternAfter bytes tables n pattern.entry → IfErr result (IsTextFault form bytes tables n work) }
 {
     match form {
         TextForm::Summary => {

@@ -1,8 +1,7 @@
 -- The least box round the live cells, and planes that are moved.
 use Rattle.std.specs.Prelude.{◌≢◌, ℕ, ℤ, pos, ◌≤ℤ◌, ◌+ℤ◌, ◌-ℤ◌}
 use Rattle.ca_plane.specs.declared.point.{Point.Point, Bounds.Bounds}
-use Rattle.ca_plane.specs.Plane.{Picture, cell}
-use Rattle.ca_plane.specs.Sparse.{IsInPlane}
+use Rattle.ca_plane.specs.{Plane.Picture, Plane.cell, Sparse.IsInPlane}
 
 -- the place is in the box, both ends included
 abbrev pub IsInBox : Bounds → ℤ → ℤ → Type 0

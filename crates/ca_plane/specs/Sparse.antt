@@ -5,8 +5,7 @@ use Rattle.std.specs.List.Sorted.{IsStrictlySortedBy}
 use Rattle.std.specs.Ordering.{int_cmp, ordering_then}
 use Rattle.std.specs.declared.cmp.Ordering.{Ordering}
 use Rattle.ca_plane.specs.declared.point.Point.{Point}
-use Rattle.ca_plane.specs.Limits.{reach}
-use Rattle.ca_plane.specs.Plane.{Picture, IsPicture}
+use Rattle.ca_plane.specs.{Limits.reach, Plane.Picture, Plane.IsPicture}
 
 -- the square in which a plane keeps its cells
 abbrev pub IsInPlane : Point → Type 0

@@ -2,9 +2,7 @@
 use Rattle.std.specs.Prelude.{◌≡◌, ℕ, ◌<◌, ◌≤◌, ◌⊎◌, List, Some, length}
 use Rattle.ca_quad.specs.declared.{node.Node.Node, square.Square.Square}
 use Rattle.ca_quad.specs.declared.square.Square.TheVariants.{Four, Parts}
-use Rattle.ca_quad.specs.Squares.{place_id, square_of, level_of, cell_of}
-use Rattle.ca_quad.specs.SquareValues.{square_value}
-use Rattle.ca_quad.specs.Trees.{ShowsSquare}
+use Rattle.ca_quad.specs.{Squares.place_id, Squares.square_of, Squares.level_of, Squares.cell_of, SquareValues.square_value, Trees.ShowsSquare}
 
 -- the id is one of the square's four parts
 abbrev pub IsPartOf : Square → ℕ → Type 0

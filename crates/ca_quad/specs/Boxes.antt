@@ -1,8 +1,7 @@
 -- The least box round the live cells of a tree, and of a square.
 use Rattle.std.specs.Prelude.{◌≡◌, ◌≢◌, ℕ, ℤ, ◌≤ℤ◌, List, Option}
 use Rattle.ca_quad.specs.declared.{node.Node.Node, store.extent.Extent.Extent, tree.WideBounds.WideBounds}
-use Rattle.ca_quad.specs.inner.Extent.{IsSquareExtent}
-use Rattle.ca_quad.specs.inner.Measure.{AreMeasures}
+use Rattle.ca_quad.specs.{inner.Extent.IsSquareExtent, inner.Measure.AreMeasures}
 
 -- every cell is 0
 abbrev pub IsDead : (ℤ → ℤ → ℕ) → Type 0

@@ -15,8 +15,7 @@ use Rattle.ca_pattern.specs.declared.convert_fault.ConvertFault.TheVariants as c
 use Rattle.ca_report.specs.declared.{fault.ToolFault.ToolFault, remedy.Remedy.Remedy}
 use Rattle.ca_report.specs.declared.fault.ToolFault.TheVariants as tools
 use Rattle.ca_report.specs.declared.remedy.Remedy.TheVariants.{DropMark, Unpack, Import, BreakLines, WriteHeader, WriteEnd, FindByte, MoveRule, MendState, NameFolder, CutRule, SavePlane, ClaimBecomes, ToMacrocell, AllowWork}
-use Rattle.ca_report.specs.Escaped.{escaped}
-use Rattle.ca_report.specs.RulePaths.{is_file_name}
+use Rattle.ca_report.specs.{Escaped.escaped, RulePaths.is_file_name}
 
 -- the bytes have this one
 abbrev pub has : ℕ → List ℕ → Bool

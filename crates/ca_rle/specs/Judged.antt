@@ -3,10 +3,7 @@ use Rattle.std.specs.Prelude.{◌≡◌, ◌≢◌, ℕ, ◌<◌, ◌≤◌, ℤ
 use Rattle.std.specs.Option.{option_copied}
 use Rattle.ca_plane.specs.Prelude.{IsWord, default_rule, generation_limit, IsPicture, IsLive, cell, IsLeastBox, HasPopulation}
 use Rattle.ca_rle.specs.declared.rle_text.RleText.{RleText}
-use Rattle.ca_rle.specs.File.{RleFile, IsRleFile}
-use Rattle.ca_rle.specs.Items.{Items}
-use Rattle.ca_rle.specs.Limits.{IsWithinLimits}
-use Rattle.ca_rle.specs.Shown.{picture_of_items}
+use Rattle.ca_rle.specs.{File.RleFile, File.IsRleFile, Items.Items, Limits.IsWithinLimits, Shown.picture_of_items}
 
 -- the bytes are a file that passes no limit, and this is told of it: its rule text, generation, corner and items, the number of its live
 -- cells, the least box round them, and the greatest of their states

@@ -2,8 +2,7 @@
 use Rattle.std.specs.Prelude.{◌<◌, ◌≤◌, length}
 use Rattle.std.specs.List.{AllByRecursion}
 use Rattle.ca_plane.specs.Prelude.{longest_count, most_cells, IsInRange}
-use Rattle.ca_rle.specs.File.{RleFile}
-use Rattle.ca_rle.specs.Shown.{picture_of_items}
+use Rattle.ca_rle.specs.{File.RleFile, Shown.picture_of_items}
 
 -- each count is small enough, and the corner and each cell are in range
 pub record IsRleWithinRange (file : RleFile) : Type 0 where

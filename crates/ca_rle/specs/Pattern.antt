@@ -4,10 +4,7 @@ use Rattle.std.specs.List.{All}
 use Rattle.ca_plane.specs.Prelude.{IsWord, bit_cell, Picture, IsPicture, cell, IsSparse, IsInRange, generation_limit, most_cells}
 use Rattle.ca_rle.specs.declared.pattern.{PackedCells.PackedCells, Pattern.Pattern}
 use Rattle.ca_rle.specs.declared.pattern.PackedCells.TheVariants.{Words, States}
-use Rattle.ca_rle.specs.File.{RleFile, IsRleFile}
-use Rattle.ca_rle.specs.Limits.{IsRleWithinRange, IsWithinLimits}
-use Rattle.ca_rle.specs.Shown.{picture_of_items}
-use Rattle.ca_rle.specs.Tidy.{IsTidyRle}
+use Rattle.ca_rle.specs.{File.RleFile, File.IsRleFile, Limits.IsRleWithinRange, Limits.IsWithinLimits, Shown.picture_of_items, Tidy.IsTidyRle}
 
 -- cells, a rule text and a generation are the file's; its picture has states from 1 to 255, the generation is below the
 -- limit, and the rule text is a word

@@ -7,8 +7,7 @@ use Rattle.ca_plane.specs.declared.point.{Point.Point, Bounds.Bounds}
 use Rattle.ca_plane.specs.Prelude.{Picture, IsSame, IsLive, IsLeastBox}
 use Rattle.ca_rle.specs.declared.item.{Item.Item, Tag.Tag}
 use Rattle.ca_rle.specs.declared.item.Tag.TheVariants.{Cell, RowEnd}
-use Rattle.ca_rle.specs.Shown.{tag_state, picture_of_items}
-use Rattle.ca_rle.specs.File.{line_with_lf}
+use Rattle.ca_rle.specs.{Shown.tag_state, Shown.picture_of_items, File.line_with_lf}
 
 -- the letters of a state, where there may be more than two: `.` for 0, `A` to `X` for 1 to 24, and then 24 for each prefix from `p` on
 abbrev pub letters_of : ℕ → List ℕ

@@ -22,8 +22,7 @@ pub fn worked_items()
         ∷ record { count = 2; tag = Cell 0 } ∷ record { count = 1; tag = Cell 1 }
         ∷ record { count = 1; tag = RowEnd }
         ∷ record { count = 3; tag = Cell 1 } ∷ [] in
-        Items (codes "bo$2bo$3o!") is
-        × (picture_of_items (record { y = pos 0; x = pos 0 }) is
+        Items (codes "bo$2bo$3o!") is × (picture_of_items (record { y = pos 0; x = pos 0 }) is
         ≡ (record { y = pos 0; x = pos 1 }, 1) ∷ (record { y = pos 1; x = pos 2 }, 1)
         ∷ (record { y = pos 2; x = pos 0 }, 1) ∷ (record { y = pos 2; x = pos 1 }, 1)
         ∷ (record { y = pos 2; x = pos 2 }, 1) ∷ []) }

@@ -12,14 +12,12 @@ ghost use Rattle.ca_rle.specs.Tidy.{IsTidyRle};
 /// digits.
 pub fn tidy_means()
     ensures file { (text : List ℕ) (cells : Picture) (rule_text : List ℕ) (generation states : ℕ)
-        → IsTidyRle text cells rule_text generation states
-        → IsWord rule_text → generation < generation_limit
+        → IsTidyRle text cells rule_text generation states → IsWord rule_text → generation < generation_limit
         → ((x y : ℤ) → cell cells x y ≢ 0 → IsInPlane (record { y = y; x = x }))
         → (file : RleFile) × IsRleFile text file × IsSame cells (picture_of_items file.corner file.items)
         × (file.rule_text ≡ rule_text) × (file.generation ≡ generation) }
     ensures only { (text : List ℕ) (cells : Picture) (rule_text : List ℕ) (generation states : ℕ)
-        → IsTidyRle text cells rule_text generation states
-        → IsWord rule_text → generation < generation_limit
+        → IsTidyRle text cells rule_text generation states → IsWord rule_text → generation < generation_limit
         → ((x y : ℤ) → cell cells x y ≢ 0 → IsInPlane (record { y = y; x = x }))
         → (file : RleFile) → IsRleFile text file → IsSame cells (picture_of_items file.corner file.items)
         × (file.rule_text ≡ rule_text) × (file.generation ≡ generation) }
@@ -28,13 +26,11 @@ pub fn tidy_means()
 /// A tidy text of a plane in range is within the range of the reader.
 pub fn tidy_in_range()
     ensures file { (text : List ℕ) (cells : Picture) (rule_text : List ℕ) (generation states : ℕ)
-        → IsTidyRle text cells rule_text generation states
-        → IsWord rule_text → generation < generation_limit
+        → IsTidyRle text cells rule_text generation states → IsWord rule_text → generation < generation_limit
         → ((x y : ℤ) → cell cells x y ≢ 0 → IsInRange (record { y = y; x = x }))
         → (file : RleFile) × IsRleFile text file × IsRleWithinRange file }
     ensures only { (text : List ℕ) (cells : Picture) (rule_text : List ℕ) (generation states : ℕ)
-        → IsTidyRle text cells rule_text generation states
-        → IsWord rule_text → generation < generation_limit
+        → IsTidyRle text cells rule_text generation states → IsWord rule_text → generation < generation_limit
         → ((x y : ℤ) → cell cells x y ≢ 0 → IsInRange (record { y = y; x = x }))
         → (file : RleFile) → IsRleFile text file → IsRleWithinRange file }
 {}

@@ -42,8 +42,7 @@ pub(crate) fn after_white(bytes: &[u8]) -> &[u8]
 fn prefixed_cell(prefix: u8, bytes: &[u8]) -> Result<(Tag, &[u8]), RleFault>
     requires { IsTrue (is_prefix prefix) }
     ensures { MatchResult result (λ t. (letter : ℕ) × (tag_of (prefix ∷ letter ∷ []) ≡ Some t.0)
-        × (bytes.now ≡ letter ∷ t.1.now))
-        (λ f. letter_fault prefix bytes.now ≡ Some f) }
+        × (bytes.now ≡ letter ∷ t.1.now)) (λ f. letter_fault prefix bytes.now ≡ Some f) }
 {
     let Some((letter, rest)) = bytes.split_first() else {
         return Err(RleFault::NoEnd);
@@ -116,8 +115,7 @@ fn count(digits: &[u8]) -> Option<u64>
 /// The item that stands at the front and the bytes after it, or nothing where the pattern ends there.
 pub(crate) fn next_item(bytes: &[u8]) -> Result<Option<(Item, &[u8])>, RleFault>
     ensures { MatchResult result (λ o. MatchOption o (IsEnd bytes.now)
-        (λ r. IsItemAtFront bytes.now r.0 r.1.now))
-        (λ f. item_fault bytes.now ≡ Some f) }
+        (λ r. IsItemAtFront bytes.now r.0 r.1.now)) (λ f. item_fault bytes.now ≡ Some f) }
 {
     let (digits, later) = split_count(bytes);
     if digits.is_empty() {

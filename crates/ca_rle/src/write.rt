@@ -44,8 +44,7 @@ pub fn write_rle(
     states: u16,
 ) -> Result<Vec<u8>, Memory>
     requires { IsWritableRle cells.now rule_text.now generation states }
-    ensures { IfOk result (λ text.
-        IsWrittenRle text.items cells.now rule_text.now generation states) }
+    ensures { IfOk result (λ text. IsWrittenRle text.items cells.now rule_text.now generation states) }
 {
     let frame = frame::of(cells.bounds());
     let mut text = Vec::new(alloc);
@@ -99,8 +98,7 @@ pub fn write_rle_to<W: Write>(
 ) -> Result<(), WriteFault>
     requires { IsWritableRle cells.now rule_text.now generation states }
     // The text that `write_rle` gives is written whole.
-    ensures all { OnOk result ((text : List ℕ)
-        × IsWrittenRle text cells.now rule_text.now generation states
+    ensures all { OnOk result ((text : List ℕ) × IsWrittenRle text cells.now rule_text.now generation states
         × Appends (W.contents out.old.inner) (W.contents out.new.inner) text) }
     // No failure is counted.
     ensures kept { OnOk result (out.new.failures ≡ out.old.failures) }

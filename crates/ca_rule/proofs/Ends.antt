@@ -1,7 +1,7 @@
 -- The suffix at the end of a rule text, and the text before it.
-use Rattle.std.proofs.Common.{◌≡◌, ◌==◌, ◌||◌, ℕ, List, [], ◌∷◌, ◌++◌, Bool, true, false, not, refl, ap, ◌∙◌, inl, inr, if◌then◌else◌, arith}
+use Rattle.std.proofs.Common.{◌≡◌, ◌==◌, ◌||◌, ℕ, ◌+◌, List, [], ◌∷◌, ◌++◌, Bool, true, false, not, refl, ap, ◌∙◌, inl, inr, if◌then◌else◌, arith}
 use Rattle.std.specs.List.{list_all}
-use Rattle.std.proofs.lemmas.Bool.{and_parts, cases_Bool}
+use Rattle.std.proofs.lemmas.Bool.{and_parts, and_from, cases_Bool, not-true}
 use Rattle.std.proofs.lemmas.Bool.Decides.{nat_tests}
 use Rattle.std.proofs.lemmas.List.{append-nil}
 use Rattle.std.proofs.lemmas.List.Folds.{list_any-append}
@@ -19,6 +19,21 @@ IsLetter-from_test upper byte h = grind (arith, nat_tests)
 pub is_rule_letter-from : (upper byte : ℕ) → IsLetter upper byte → is_rule_letter upper byte ≡ true
 is_rule_letter-from upper byte (inl e) = grind (arith, nat_tests)
 is_rule_letter-from upper byte (inr e) = grind (arith, nat_tests)
+
+-- what is so of a letter in both cases
+pub letter-is : {X : Type 0} (f : ℕ → X) (upper byte : ℕ) (x : X) → (f upper ≡ x) × (f (upper + 32) ≡ x) → IsLetter upper byte → f byte ≡ x
+letter-is f upper byte x both (inl e) = ap f e ∙ both.0
+letter-is f upper byte x both (inr e) = ap f e ∙ both.1
+
+-- a test that a letter passes in both cases
+abbrev pub PassesLetter : (ℕ → Bool) → ℕ → Type 0
+PassesLetter test upper = (test upper ≡ true) × (test (upper + 32) ≡ true)
+
+-- a suffix passes a test that V and H pass
+pub suffix-passes : (test : ℕ → Bool) → PassesLetter test 86 → PassesLetter test 72 → (hood : Hood) (suffix : List ℕ) → IsSuffix hood suffix → Every test suffix
+suffix-passes test v h Moore suffix s = ap (list_all test) s
+suffix-passes test v h VonNeumann suffix s = ap (list_all test) s.2 ∙ and_from (test s.0) true (letter-is test 86 s.0 true v s.1) refl
+suffix-passes test v h Hex suffix s = ap (list_all test) s.2 ∙ and_from (test s.0) true (letter-is test 72 s.0 true h s.1) refl
 
 cons_if : (t : Bool) (c : ℕ) (xs ys : List ℕ) → c ∷ (if t then xs else ys) ≡ (if t then c ∷ xs else c ∷ ys)
 cons_if true c xs ys = refl
@@ -61,29 +76,23 @@ pub none_colon : (test : ℕ → Bool) → ((b : ℕ) → test b ≡ true → (b
 none_colon test other [] h = refl
 none_colon test other (b ∷ bs) h = let parts = and_parts (test b) (list_all test bs) h in rw (other b parts.0) (none_colon test other bs parts.1)
 
-suffix_colon : (hood : Hood) (suffix : List ℕ) → IsSuffix hood suffix → has_colon suffix ≡ false
-suffix_colon Moore suffix s = rw s refl
-suffix_colon VonNeumann suffix (b, inl e, s) = rw (s, e) refl
-suffix_colon VonNeumann suffix (b, inr e, s) = rw (s, e) refl
-suffix_colon Hex suffix (b, inl e, s) = rw (s, e) refl
-suffix_colon Hex suffix (b, inr e, s) = rw (s, e) refl
-
 -- plain bytes and a suffix hold no colon
 pub no_colon : (text body suffix : List ℕ) (hood : Hood) → text ≡ body ++ suffix → Every is_plain body → IsSuffix hood suffix → has_colon text ≡ false
-no_colon text body suffix hood e h s = ap has_colon e ∙ list_any-append (λ b. b == 58) body suffix ∙ rw (none_colon is_plain (λ b t. grind (arith, nat_tests)) body h) (suffix_colon hood suffix s)
+no_colon text body suffix hood e h s =
+    let later = none_colon (λ b. not (b == 58)) (λ b t. not-true (b == 58) t) suffix (suffix-passes (λ b. not (b == 58)) (refl, refl) (refl, refl) hood suffix s) in
+    ap has_colon e ∙ list_any-append (λ b. b == 58) body suffix ∙ rw (none_colon is_plain (λ b t. grind (arith, nat_tests)) body h) later
 
 -- a text taken apart at its suffix
 pub record IsSplit (text body : List ℕ) (hood : Hood) : Type 0 where
   pub hood_is : hood_of text ≡ hood
   pub body_is : body_of text ≡ body
 
-split-V : (body : List ℕ) (b : ℕ) → IsLetter 86 b → IsSplit (body ++ (b ∷ [])) body VonNeumann
-split-V body b (inl e) = record { hood_is = hood_of-last body b ∙ ap hood_at e; body_is = body_of-last body b ∙ rw e refl }
-split-V body b (inr e) = record { hood_is = hood_of-last body b ∙ ap hood_at e; body_is = body_of-last body b ∙ rw e refl }
+-- the byte is a suffix
+abbrev is_suffix_letter : ℕ → Bool
+is_suffix_letter b = is_rule_letter 86 b || is_rule_letter 72 b
 
-split-H : (body : List ℕ) (b : ℕ) → IsLetter 72 b → IsSplit (body ++ (b ∷ [])) body Hex
-split-H body b (inl e) = record { hood_is = hood_of-last body b ∙ ap hood_at e; body_is = body_of-last body b ∙ rw e refl }
-split-H body b (inr e) = record { hood_is = hood_of-last body b ∙ ap hood_at e; body_is = body_of-last body b ∙ rw e refl }
+split-letter : (text body : List ℕ) (b : ℕ) (hood : Hood) → text ≡ body ++ (b ∷ []) → hood_at b ≡ hood → is_suffix_letter b ≡ true → IsSplit text body hood
+split-letter text body b hood e h t = record { hood_is = ap hood_of e ∙ hood_of-last body b ∙ h; body_is = ap body_of e ∙ body_of-last body b ∙ rw t refl }
 
 -- a suffix after plain bytes is found
 pub split : (text body suffix : List ℕ) (hood : Hood) → text ≡ body ++ suffix → Every is_plain body → IsSuffix hood suffix → IsSplit text body hood
@@ -91,13 +100,9 @@ split text body suffix Moore e h s =
     let same : text ≡ body = e ∙ ap (λ l. body ++ l) s ∙ append-nil body in
     record { hood_is = ap hood_of same ∙ hood_of-plain body h; body_is = ap body_of same ∙ body_of-plain body h }
 split text body suffix VonNeumann e h s =
-    let same : text ≡ body ++ (s.0 ∷ []) = e ∙ ap (λ l. body ++ l) s.2 in
-    let found = split-V body s.0 s.1 in
-    record { hood_is = ap hood_of same ∙ found.hood_is; body_is = ap body_of same ∙ found.body_is }
+    split-letter text body s.0 VonNeumann (e ∙ ap (λ l. body ++ l) s.2) (letter-is hood_at 86 s.0 VonNeumann (refl, refl) s.1) (letter-is is_suffix_letter 86 s.0 true (refl, refl) s.1)
 split text body suffix Hex e h s =
-    let same : text ≡ body ++ (s.0 ∷ []) = e ∙ ap (λ l. body ++ l) s.2 in
-    let found = split-H body s.0 s.1 in
-    record { hood_is = ap hood_of same ∙ found.hood_is; body_is = ap body_of same ∙ found.body_is }
+    split-letter text body s.0 Hex (e ∙ ap (λ l. body ++ l) s.2) (letter-is hood_at 72 s.0 Hex (refl, refl) s.1) (letter-is is_suffix_letter 72 s.0 true (refl, refl) s.1)
 
 -- the suffix that a text is found to have
 pub record HasSuffix (text body : List ℕ) (hood : Hood) : Type 0 where

@@ -10,7 +10,7 @@ use Rattle.ca_rule.specs.Prelude.{is_rule_letter, stands_in_list, without_slash,
 use Rattle.ca_rule.specs.inner.TextParts.{hood_of, body_of}
 use Rattle.ca_rule.specs.declared.hood.Hood.{Hood}
 use Rattle.ca_rule.specs.declared.hood.Hood.TheVariants.{Moore, VonNeumann, Hex}
-use Rattle.ca_rule.proofs.Ends.{is_rule_letter-from, is_plain, split, no_colon}
+use Rattle.ca_rule.proofs.Ends.{is_rule_letter-from, letter-is, PassesLetter, is_plain, split, no_colon}
 
 digits-up_to : (most : ℕ) → most ≤ 9 → (ds : List ℕ) → are_digits_up_to most ds ≡ true → Every is_digit ds
 digits-up_to most m ds h = every_wider (λ d. nat_le 48 d && nat_le d (48 + most)) is_digit (λ d t. grind (arith, nat_tests)) ds h
@@ -63,15 +63,6 @@ around_slash list later h =
     ap (λ x. both_lists x (tail_after_slash (rest stands_in_list (list ++ (47 ∷ later))))) (front_append stands_in_list list (47 ∷ later) h refl)
     ∙ ap (λ x. both_lists list (tail_after_slash x)) (rest_append stands_in_list list (47 ∷ later) h refl)
 
--- the reading of a text without its suffix, by its first byte
-lists-birth_first : (a : ℕ) (bs : List ℕ) → IsLetter 66 a → lists_of (a ∷ bs) ≡ lists_around 83 bs
-lists-birth_first a bs (inl e) = rw e refl
-lists-birth_first a bs (inr e) = rw e refl
-
-lists-survival_first : (a : ℕ) (bs : List ℕ) → IsLetter 83 a → lists_of (a ∷ bs) ≡ swapped_lists (lists_around 66 bs)
-lists-survival_first a bs (inl e) = rw e refl
-lists-survival_first a bs (inr e) = rw e refl
-
 lists-no_letter : (survival birth : List ℕ) → Every stands_in_list survival → lists_of (survival ++ (47 ∷ birth)) ≡ swapped_lists (lists_around_slash (survival ++ (47 ∷ birth)))
 lists-no_letter [] birth h = refl
 lists-no_letter (s ∷ ss) birth h =
@@ -85,19 +76,11 @@ lists-no_letter (s ∷ ss) birth h =
 pub lists-unlettered : (survival birth : List ℕ) → Every stands_in_list survival → lists_of (survival ++ (47 ∷ birth)) ≡ Some (birth, survival)
 lists-unlettered survival birth h = lists-no_letter survival birth h ∙ ap swapped_lists (around_slash survival birth h)
 
--- a test that a letter passes in both cases
-abbrev PassesLetter : (ℕ → Bool) → ℕ → Type 0
-PassesLetter test upper = (test upper ≡ true) × (test (upper + 32) ≡ true)
-
--- that a `/` and the letters B and S pass
+-- a test that a `/` and the letters B and S pass
 pub record PassesEnds (test : ℕ → Bool) : Type 0 where
   pub slash : test 47 ≡ true
   pub b : PassesLetter test 66
   pub s : PassesLetter test 83
-
-letter-passes : (test : ℕ → Bool) (upper byte : ℕ) → PassesLetter test upper → IsLetter upper byte → test byte ≡ true
-letter-passes test upper byte passes (inl e) = ap test e ∙ passes.0
-letter-passes test upper byte passes (inr e) = ap test e ∙ passes.1
 
 slash-passes : (test : ℕ → Bool) (slash : List ℕ) → test 47 ≡ true → IsOptionalSlash slash → Every test slash
 slash-passes test slash passes (inl e) = rw e refl
@@ -123,16 +106,16 @@ taken_apart text birth survival hood h k (inl f) = record {
   suffix = f.3;
   is_suffix = f.7;
   whole = f.8 ∙ simp append_assoc refl;
-  lists_are = lists-birth_first f.0 (birth ++ (f.2 ++ (f.1 ∷ survival))) f.4 ∙ around 83 f.1 birth f.2 survival (inr refl) h f.6 f.5;
-  passes = λ test ends b s. lettered-passes test f.0 f.1 f.2 birth survival ends.slash (letter-passes test 66 f.0 ends.b f.4) (letter-passes test 83 f.1 ends.s f.5) f.6 b s;
+  lists_are = letter-is (λ b. lists_of (b ∷ (birth ++ (f.2 ++ (f.1 ∷ survival))))) 66 f.0 _ (refl, refl) f.4 ∙ around 83 f.1 birth f.2 survival (inr refl) h f.6 f.5;
+  passes = λ test ends b s. lettered-passes test f.0 f.1 f.2 birth survival ends.slash (letter-is test 66 f.0 true ends.b f.4) (letter-is test 83 f.1 true ends.s f.5) f.6 b s;
 }
 taken_apart text birth survival hood h k (inr (inl f)) = record {
   body = f.0 ∷ (survival ++ (f.2 ++ (f.1 ∷ birth)));
   suffix = f.3;
   is_suffix = f.7;
   whole = f.8 ∙ simp append_assoc refl;
-  lists_are = lists-survival_first f.0 (survival ++ (f.2 ++ (f.1 ∷ birth))) f.4 ∙ ap swapped_lists (around 66 f.1 survival f.2 birth (inl refl) k f.6 f.5);
-  passes = λ test ends b s. lettered-passes test f.0 f.1 f.2 survival birth ends.slash (letter-passes test 83 f.0 ends.s f.4) (letter-passes test 66 f.1 ends.b f.5) f.6 s b;
+  lists_are = letter-is (λ b. lists_of (b ∷ (survival ++ (f.2 ++ (f.1 ∷ birth))))) 83 f.0 _ (refl, refl) f.4 ∙ ap swapped_lists (around 66 f.1 survival f.2 birth (inl refl) k f.6 f.5);
+  passes = λ test ends b s. lettered-passes test f.0 f.1 f.2 survival birth ends.slash (letter-is test 83 f.0 true ends.s f.4) (letter-is test 66 f.1 true ends.b f.5) f.6 s b;
 }
 taken_apart text birth survival hood h k (inr (inr f)) = record {
   body = survival ++ (47 ∷ birth);

@@ -3,11 +3,8 @@
 use Rattle.std.specs.Prelude.{◌≡◌, ℕ, ◌≤◌, List, ◌++◌, map, false, ◌==◌, ◌&&◌, IsTrue, Some, codes, decimal, slice_index, if◌then◌else◌}
 use Rattle.ca_plane.specs.Prelude.{liveness, older}
 use Rattle.ca_plane.specs.declared.counting.Ageing.{Ageing}
-use Rattle.ca_rule.specs.Counts.{is_count, are_digits_up_to}
-use Rattle.ca_rule.specs.Digits.{state_count}
-use Rattle.ca_rule.specs.Masks.{counting_by_hood}
-use Rattle.ca_rule.specs.Next.{neighbour_count}
-use Rattle.ca_rule.specs.Spelling.{NamesCounts, SpellsNone, IsSpellingFault, digits_of}
+use Rattle.ca_rule.specs.{Counts.is_count, Counts.are_digits_up_to, Digits.state_count, Masks.counting_by_hood, Next.neighbour_count, Spelling.NamesCounts}
+use Rattle.ca_rule.specs.{Spelling.SpellsNone, Spelling.IsSpellingFault, Spelling.digits_of}
 use Rattle.ca_rule.specs.declared.{counts.Counts.Counts, fault.RuleFault.RuleFault, gen_rule.GenRule.GenRule}
 use Rattle.ca_rule.specs.declared.hood.Hood.TheVariants.{Moore}
 

@@ -3,12 +3,11 @@
 use Rattle.std.specs.Prelude.{◌≡◌, ◌⊎◌, ℕ, List, false, Option, Some, None, find}
 use Rattle.std.specs.Str.{bytes_eq}
 use Rattle.ca_plane.specs.declared.counting.{Ageing.Ageing, Counting.Counting}
-use Rattle.ca_rule.specs.Counts.{is_count}
+use Rattle.ca_rule.specs.{Counts.is_count, TableNext.TableRule, TableNext.IsSoundTable, TableNext.table_next}
 use Rattle.ca_rule.specs.Generations as generations
 use Rattle.ca_rule.specs.Next as bs
 use Rattle.ca_rule.specs.Masks as bs_masks
 use Rattle.ca_rule.specs.Spelling as bs_text
-use Rattle.ca_rule.specs.TableNext.{TableRule, IsSoundTable, table_next}
 use Rattle.ca_rule.specs.declared.{bs_rule.BsRule.BsRule, fault.RuleFault.RuleFault, gen_rule.GenRule.GenRule, rule.Rule.Rule}
 use Rattle.ca_rule.specs.declared.fault.RuleFault.TheVariants.{Bounded, Wakes, Unknown}
 use Rattle.ca_rule.specs.declared.rule.Rule.TheVariants as rule

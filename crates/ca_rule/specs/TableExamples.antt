@@ -5,11 +5,9 @@ use Rattle.ca_rule.specs.declared.table.neighbourhood.Neighbourhood.TheVariants.
 use Rattle.ca_rule.specs.declared.table.neighbourhood.Symmetry.TheVariants.{Identity}
 use Rattle.ca_rule.specs.declared.table.slot.Slot.TheVariants.{Number, Variable}
 use Rattle.ca_plane.specs.Prelude.{text_of, words_of}
-use Rattle.ca_rule.specs.Counts.{counts_of}
+use Rattle.ca_rule.specs.{Counts.counts_of, TableNext.Transition, TableNext.TableRule, TableNext.table_next, TableOrders.orders}
 use Rattle.ca_rule.specs.Next as bs
 use Rattle.ca_rule.specs.Generations as generations
-use Rattle.ca_rule.specs.TableNext.{Transition, TableRule, table_next}
-use Rattle.ca_rule.specs.TableOrders.{orders}
 
 -- numbers below ten, as digits
 abbrev pub digits : List ℕ → List ℕ

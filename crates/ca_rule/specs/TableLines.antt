@@ -8,8 +8,7 @@ use Rattle.ca_plane.specs.Prelude.{is_blank, is_digit, Every, front, rest, trimm
 use Rattle.ca_rule.specs.declared.table.neighbourhood.{Neighbourhood.Neighbourhood, Symmetry.Symmetry}
 use Rattle.ca_rule.specs.declared.table.neighbourhood.Neighbourhood.TheVariants.{VonNeumann, Moore, Hexagonal, OneDimensional}
 use Rattle.ca_rule.specs.declared.table.neighbourhood.Symmetry.TheVariants.{Identity, Rotate4, Rotate4Reflect, ReflectHorizontal, Rotate8, Rotate8Reflect, Rotate2, Rotate3, Rotate6, Rotate6Reflect, Reflect, Permute}
-use Rattle.ca_rule.specs.Digits.{are_digits, state_count}
-use Rattle.ca_rule.specs.TableOrders.{symmetries_of}
+use Rattle.ca_rule.specs.{Digits.are_digits, Digits.state_count, TableOrders.symmetries_of}
 
 -- what a line says: the bytes before its first `#`, without the blanks at both ends
 abbrev pub content_of : List ℕ → List ℕ

@@ -106,8 +106,7 @@ pub fn worked_masks()
 /// Some countings, and some cells by them.
 pub fn worked_countings()
     ensures four_neighbours_are_counted { counting_by_hood VonNeumann (counts_of (codes "1"))
-        (counts_of (codes "04"))
-        ≡ record { neighbourhood = counted.VonNeumann; birth = 2; survival = 17 } }
+        (counts_of (codes "04")) ≡ record { neighbourhood = counted.VonNeumann; birth = 2; survival = 17 } }
     ensures six_neighbours_are_counted { counting_by_hood Hex (counts_of (codes "2")) (counts_of (codes "34"))
         ≡ record { neighbourhood = counted.Hexagonal; birth = 4; survival = 24 } }
     ensures north_is_among_four { counting_next

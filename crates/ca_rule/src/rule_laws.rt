@@ -120,8 +120,7 @@ pub fn generations_rule_or_fault()
     ensures rule_alone { NeverHasBoth NamesGenerationsRule IsGenerationsRuleFault }
     ensures one_fault { HasAtMostOne IsGenerationsRuleFault }
     ensures one_notation { (text survival birth : List ℕ) (states : ℕ)
-        → SpellsGenerationsRule text survival birth states
-        → SpellsNoBsRule text }
+        → SpellsGenerationsRule text survival birth states → SpellsNoBsRule text }
 {}
 
 /// Under a Generations rule of two states, each cell is next what it is under the B/S rule of the same counts
@@ -143,11 +142,9 @@ pub fn worked_generations()
     ensures brians_brain_is_printed { printed_generations_rule (counts_of []) (counts_of (codes "2")) 3
         ≡ codes "/2/3" }
     ensures star_wars_is_printed { printed_generations_rule (counts_of (codes "534"))
-        (counts_of (codes "22")) 4
-        ≡ codes "345/2/4" }
+        (counts_of (codes "22")) 4 ≡ codes "345/2/4" }
     ensures most_states_are_printed { printed_generations_rule (counts_of (codes "23"))
-        (counts_of (codes "3")) 256
-        ≡ codes "23/3/256" }
+        (counts_of (codes "3")) 256 ≡ codes "23/3/256" }
 {}
 
 /// Some texts that name no Generations rule: one wakes the empty plane, one is of a torus. Of the others some

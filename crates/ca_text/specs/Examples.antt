@@ -3,9 +3,8 @@ use Rattle.std.specs.Prelude.{ℕ, pos, neg_ℤ, List, [], ◌∷◌, Option, No
 use Rattle.ca_plane.specs.Prelude.{text_of}
 use Rattle.ca_text.specs.declared.{kind.Kind.Kind, fault.ClaimFault.ClaimFault}
 use Rattle.ca_text.specs.declared.kind.Kind.TheVariants.{Still, Oscillator, Spaceship, Becomes, BecomesShifted, Dies}
-use Rattle.ca_text.specs.Both.{twice}
-use Rattle.ca_text.specs.Text.{Claim, ClaimTextLine, Version, Rule, Load, Claims, ClaimText}
-use Rattle.ca_text.specs.TextFaults.{IsFirstClaimFault}
+use Rattle.ca_text.specs.{Both.twice, Text.Claim, Text.ClaimTextLine, Text.Version, Text.Rule, Text.Load, Text.Claims, Text.ClaimText}
+use Rattle.ca_text.specs.{TextFaults.IsFirstClaimFault}
 
 -- a claim about one pattern
 abbrev pub of_one : List ℕ → Kind → Claim

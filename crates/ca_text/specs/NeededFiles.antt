@@ -1,8 +1,6 @@
 -- Which files a claim text needs.
 use Rattle.std.specs.Prelude.{◌≡◌, ◌≢◌, ℕ, List, [], ◌⊎◌}
-use Rattle.ca_text.specs.Text.{ClaimText}
-use Rattle.ca_text.specs.Both.{HoldsOfEither}
-use Rattle.ca_text.specs.SomeOf.{SomeOf}
+use Rattle.ca_text.specs.{Text.ClaimText, Both.HoldsOfEither, SomeOf.SomeOf}
 
 -- the text makes a claim, and a rule line names the path, or some claim's pattern is loaded from it
 abbrev pub IsNeeded : ClaimText → List ℕ → Type 0

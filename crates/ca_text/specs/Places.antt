@@ -1,9 +1,7 @@
 -- What the rules and claims of a text mean, whose patterns are given by the indices of their names and paths.
 use Rattle.std.specs.Prelude.{ℕ, ◌<◌, List, [], slice_get, unwrap_or, length}
-use Rattle.ca_text.specs.Both.{HoldsOfBoth}
+use Rattle.ca_text.specs.{Both.HoldsOfBoth, Kinds.HasGoodNumbers, Text.Claim, Text.map_patterns}
 use Rattle.ca_text.specs.declared.line.{Claim.Claim as ClaimOf, ClaimLine.ClaimLine, NamePlace.NamePlace, NamedPath.NamedPath}
-use Rattle.ca_text.specs.Kinds.{HasGoodNumbers}
-use Rattle.ca_text.specs.Text.{Claim, map_patterns}
 
 -- the path, or the name, at an index
 abbrev pub path_at : List (List ℕ) → ℕ → List ℕ

@@ -5,8 +5,7 @@ use Rattle.std.specs.Bool.{nat_eq}
 use Rattle.std.specs.List.{starts_with}
 use Rattle.ca_plane.specs.Prelude.{lines_of, words_of}
 use Rattle.ca_text.specs.declared.{both.Both.Both, kind.Kind.Kind, line.Claim.Claim as ClaimOf}
-use Rattle.ca_text.specs.Both.{map_both, HoldsOfBoth}
-use Rattle.ca_text.specs.Kinds.{WordsClaim, is_of_second_version, HasGoodNumbers}
+use Rattle.ca_text.specs.{Both.map_both, Both.HoldsOfBoth, Kinds.WordsClaim, Kinds.is_of_second_version, Kinds.HasGoodNumbers}
 
 -- a claim about patterns, which are given by their names in a text, and by the paths of their files once names are resolved
 abbrev pub Claim : Type 0

@@ -69,8 +69,7 @@ impl Kind {
     ///
     /// Fails where there is no memory for them; what `out` holds then is open.
     pub fn push_words_after_name(self, out: &mut Vec<u8>, second: &[u8]) -> Result<(), Memory>
-        ensures { OnOk result (Puts out.old.items out.new.items
-            (spaced (words_after_name second.now self))) }
+        ensures { OnOk result (Puts out.old.items out.new.items (spaced (words_after_name second.now self))) }
     {
         match self {
             Kind::Still => Ok(()),

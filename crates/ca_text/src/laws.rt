@@ -25,8 +25,7 @@ pub fn no_fault_in_claim_text()
 /// A text has one first fault at most, apart from out of memory.
 pub fn one_fault()
     ensures { (bytes : List ℕ) (f g : ClaimFault) → f ≢ fault.Memory → g ≢ fault.Memory
-        → IsFirstClaimFault bytes f
-        → IsFirstClaimFault bytes g → f ≡ g }
+        → IsFirstClaimFault bytes f → IsFirstClaimFault bytes g → f ≡ g }
 {}
 
 /// What the definitions say of small texts.

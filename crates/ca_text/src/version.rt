@@ -31,8 +31,7 @@ impl TextVersion {
 
     /// Whether the text is of the second version.
     fn is_second(self) -> bool
-        ensures { (earlier : List ClaimTextLine) → IsVersionAfter earlier self
-            → result ≡ is_second earlier }
+        ensures { (earlier : List ClaimTextLine) → IsVersionAfter earlier self → result ≡ is_second earlier }
     {
         match self {
             TextVersion::Open | TextVersion::First => false,

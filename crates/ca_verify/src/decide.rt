@@ -130,8 +130,7 @@ fn find_wrong_cell<A: Automaton, O: Observer>(
         (IsAfter (A.next_of leaper.old.rule) cells case.now.asks.generations
         (claimed_cells case.now.asks cells other))
         (IsDifference (after (A.next_of leaper.old.rule) cells case.now.asks.generations)
-        (plane_cell (claimed_cells case.now.asks cells other))
-        case.now.asks.generations)) }
+        (plane_cell (claimed_cells case.now.asks cells other)) case.now.asks.generations)) }
     ensures goes_on { LeaperGrows A leaper.old leaper.new }
     ensures takes { Takes leaper.old.spent.used leaper.new.spent.used 1 case.now.subject.pattern.level
         case.now.asks.generations }

@@ -1,6 +1,6 @@
 //! The claims of a text, judged one after another.
 
-ghost use Rattle.std.specs.Prelude.{◌≡◌, ◌≢◌, ℕ, ◌<◌, List, [], map, length, IfOk, IfSome, OnErr, MatchOption};
+ghost use Rattle.std.specs.Prelude.{◌≡◌, ◌≢◌, ◌<◌, [], map, length, IfOk, IfSome, OnErr, MatchOption};
 ghost use Rattle.std.specs.Option.{option_copied};
 ghost use Rattle.ca_answers.specs.Prelude.{SuppliedFiles, contents, bytes_at, Judges, JudgesAndNotes, IsDone, HasItsNote};
 ghost use Rattle.ca_pattern.specs.Prelude.{AreGoodLimits};

@@ -1,6 +1,6 @@
 //! Notes on verdicts.
 
-ghost use Rattle.std.specs.Prelude.{◌≡◌, ℕ, ◌<◌, List, length};
+ghost use Rattle.std.specs.Prelude.{◌≡◌, ◌<◌, length};
 ghost use Rattle.ca_text.specs.Prelude.{path_at, named_path, map_both, HoldsOfBoth};
 ghost use Rattle.ca_answers.specs.Prelude.{SuppliedFiles, IsNote, HasItsNote};
 ghost use Rattle.ca_verify.specs.inner.Patterns.{part_of};
@@ -17,12 +17,10 @@ pub(crate) fn note_on<'a>(
     judged: JudgedClaim,
 ) -> Note<'a>
     requires within { HoldsOfBoth (λ n. n.path < length claims.now.paths) patterns.now }
-    ensures { (files : SuppliedFiles)
-        → IsOnVerdict files claims.now.paths claims.now.rules
+    ensures { (files : SuppliedFiles) → IsOnVerdict files claims.now.paths claims.now.rules
         (map_both (λ n. path_at claims.now.paths n.path) patterns.now) judged.verdict judged.about
         → IsNote files claims.now.rules (map_both (named_path claims.now.paths) patterns.now)
-        judged.verdict result
-        × HasItsNote judged.verdict result }
+        judged.verdict result × HasItsNote judged.verdict result }
 {
     match (judged.verdict, judged.about) {
         (Verdict::No(Refutation::Differs { .. }), _) => Note::Cell {

@@ -75,8 +75,7 @@ pub fn false_claims()
     ensures oscillator_earlier { (next : List ℕ → ℕ) (cells other : Picture) (period m : ℕ) (dx dy : ℤ)
         → IsReason next cells other (asks_of (Oscillator period)) (Earlier m dx dy)
         ↔ (IsLive cells × IsAfter next cells period cells × (1 ≤ m) × (m < period) × (dx ≡ pos 0)
-        × (dy ≡ pos 0) × IsAfter next cells m cells
-        × ((k : ℕ) → 1 ≤ k → k < m → IsChanged next cells k)) }
+        × (dy ≡ pos 0) × IsAfter next cells m cells × ((k : ℕ) → 1 ≤ k → k < m → IsChanged next cells k)) }
     ensures spaceship_empty { (next : List ℕ → ℕ) (cells other : Picture) (period : ℕ) (dx dy : ℤ)
         → IsReason next cells other (asks_of (Spaceship period dx dy)) Empty ↔ (IsLive cells → ⊥) }
     ensures spaceship_differs { (next : List ℕ → ℕ) (cells other : Picture) (period : ℕ) (dx dy x y : ℤ)
@@ -87,8 +86,7 @@ pub fn false_claims()
     ensures spaceship_earlier { (next : List ℕ → ℕ) (cells other : Picture) (period m : ℕ) (dx dy u v : ℤ)
         → IsReason next cells other (asks_of (Spaceship period dx dy)) (Earlier m u v)
         ↔ (IsLive cells × IsAfter next cells period (shifted cells dx dy) × (1 ≤ m) × (m < period)
-        × IsAfter next cells m (shifted cells u v)
-        × ((k : ℕ) → 1 ≤ k → k < m → IsNowhere next cells k)) }
+        × IsAfter next cells m (shifted cells u v) × ((k : ℕ) → 1 ≤ k → k < m → IsNowhere next cells k)) }
     ensures becomes_empty { (next : List ℕ → ℕ) (cells other : Picture) (generations : ℕ)
         → IsReason next cells other (asks_of (Becomes generations)) Empty → ⊥ }
     ensures becomes_differs { (next : List ℕ → ℕ) (cells other : Picture) (generations : ℕ) (x y : ℤ)
@@ -173,8 +171,7 @@ pub fn one_kind_of_verdict()
         → IsTrueVerdict files rules claim (Refused NoFile) → IsTrueVerdict files rules claim (Refused Memory)
         → ⊥ }
     ensures bad_table_or_memory { (files : SuppliedFiles) (rules : List (List ℕ)) (claim : Claim)
-        (fault : TableFault)
-        → IsTrueVerdict files rules claim (Refused (BadTable fault))
+        (fault : TableFault) → IsTrueVerdict files rules claim (Refused (BadTable fault))
         → IsTrueVerdict files rules claim (Refused Memory) → ⊥ }
 {}
 

@@ -99,8 +99,7 @@ pub(crate) fn verdict_on<'a, O: Observer>(
     observer: &mut O,
 ) -> JudgedClaim
     requires { CanBeJudged task.now }
-    ensures { (files : SuppliedFiles) (paths rules : List (List ℕ))
-        → IsOnFiles files paths rules task.now
+    ensures { (files : SuppliedFiles) (paths rules : List (List ℕ)) → IsOnFiles files paths rules task.now
         → IsJudgedOn files paths rules task.now.limits.work
         (map_patterns (path_at paths) task.now.claim.now) result.verdict result.about }
 {
@@ -145,8 +144,7 @@ fn judge<'a, O: Observer>(
     observer: &mut O,
 ) -> Result<Verdict, Refusal>
     requires { CanBeJudged task.now }
-    ensures { (files : SuppliedFiles) (paths rules : List (List ℕ))
-        → IsOnFiles files paths rules task.now
+    ensures { (files : SuppliedFiles) (paths rules : List (List ℕ)) → IsOnFiles files paths rules task.now
         → MatchResult result
         (λ verdict. IsJudgedOn files paths rules task.now.limits.work
         (map_patterns (path_at paths) task.now.claim.now) verdict abouts.Claim)

@@ -60,8 +60,7 @@ pub fn complain_of_import<W: Write>(
     fault: ImportTextFault,
     device: &mut Dev<W>,
 ) -> Result<(), WriteFault>
-    ensures sends { Sends W.contents device.old device.new
-        (import_complaint fault) WriteFault.Write result }
+    ensures sends { Sends W.contents device.old device.new (import_complaint fault) WriteFault.Write result }
 {
     send_pieces(device, &complaint_pieces(fault))
 }

@@ -1,8 +1,7 @@
 -- Cells that are drawn while a text is read.
 use Rattle.std.specs.Prelude.{◌≡◌, ◌≢◌, ℕ, ◌+◌, ◌*◌, ◌^◌, ◌<◌, ◌≤◌, ◌⊎◌, List, ◌∷◌, ◌++◌, slice_index, slice_set, None, bit_or}
-use Rattle.ca_apgcode.specs.Representation.{Step, IsStep, step_text}
+use Rattle.ca_apgcode.specs.{Representation.Step, Representation.IsStep, Representation.step_text, inner.Reading.step_at}
 use Rattle.ca_apgcode.specs.declared.drawing.Drawing.{Drawing}
-use Rattle.ca_apgcode.specs.inner.Reading.{step_at}
 
 -- the next strip begins
 pub record EndsStrip (old new : Drawing) (bytes rest : List ℕ) : Type 0 where

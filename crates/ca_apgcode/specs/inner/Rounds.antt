@@ -1,8 +1,6 @@
 -- The least of a text and those of a grid in its orientations, one after the other.
 use Rattle.std.specs.Prelude.{◌≡◌, ◌⊎◌, ℕ, ℤ, List}
-use Rattle.ca_apgcode.specs.Order.{Precedes}
-use Rattle.ca_apgcode.specs.Objects.{IsBoxRound, IsTextOf}
-use Rattle.ca_apgcode.specs.inner.Least.{lesser}
+use Rattle.ca_apgcode.specs.{Order.Precedes, Objects.IsBoxRound, Objects.IsTextOf, inner.Least.lesser}
 use Rattle.ca_apgcode.specs.declared.rounds.Turn.{Turn}
 
 -- the text is that of these cells or the one before, whichever comes first

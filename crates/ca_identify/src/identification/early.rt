@@ -1,6 +1,6 @@
 //! The planes of a pattern's first generations, with which later ones are compared.
 
-ghost use Rattle.std.specs.Prelude.{◌≡◌, ◌≤◌, ◌++◌, ◌∷◌, [], OnOk, IfOk, IfSome};
+ghost use Rattle.std.specs.Prelude.{◌≡◌, ◌++◌, ◌∷◌, [], OnOk, IfOk, IfSome};
 ghost use Rattle.ca_quad.specs.Prelude.{AreSquareBoxes, IsTree, IsTrimmed, cell};
 ghost use Rattle.ca_run.specs.Prelude.{LeaperGrows};
 ghost use Rattle.ca_identify.specs.inner.Stages.{CanSearch, IsFirst, AreEarly};

@@ -1,7 +1,7 @@
 //! What a live pattern is, as far as patience goes: the first two generations are looked at in any case, and the others while
 //! the units of work that are allowed for them last.
 
-ghost use Rattle.std.specs.Prelude.{◌≡◌, ◌+◌, ◌≤◌, ℕ, None, IfOk, IfSome};
+ghost use Rattle.std.specs.Prelude.{◌≡◌, ◌+◌, ◌≤◌, None, IfOk, IfSome};
 ghost use Rattle.ca_plane.specs.Prelude.{Picture, cells_after};
 ghost use Rattle.ca_quad.specs.Prelude.{cell};
 ghost use Rattle.ca_run.specs.Prelude.{LeaperGrows};

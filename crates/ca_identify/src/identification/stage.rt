@@ -1,6 +1,6 @@
 //! What a pattern's plane shows some generations on.
 
-ghost use Rattle.std.specs.Prelude.{◌≡◌, ◌≤◌, ℕ, ℤ, IfOk, IsFalse, OnOk, MatchOption};
+ghost use Rattle.std.specs.Prelude.{◌≡◌, ℕ, ℤ, IfOk, IsFalse, OnOk, MatchOption};
 ghost use Rattle.ca_quad.specs.Prelude.{IsLeastWideBox, AreSquareBoxes, IsTree, cell};
 ghost use Rattle.ca_run.specs.Prelude.{LeaperGrows};
 ghost use Rattle.ca_work.specs.Prelude.{EndsAtLimit};

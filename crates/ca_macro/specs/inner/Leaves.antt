@@ -4,8 +4,7 @@ use Rattle.std.specs.List.{list_all}
 use Rattle.ca_plane.specs.Prelude.{letter}
 use Rattle.ca_macro.specs.declared.fault.MacroFault.{MacroFault}
 use Rattle.ca_macro.specs.declared.fault.MacroFault.TheVariants.{Syntax, LeafSize}
-use Rattle.ca_macro.specs.Nodes.{leaf_rows}
-use Rattle.ca_macro.specs.Faults.{is_leaf_byte, HasBadByte}
+use Rattle.ca_macro.specs.{Nodes.leaf_rows, Faults.is_leaf_byte, Faults.HasBadByte}
 
 -- the byte of a cell
 abbrev pub is_mark : ℕ → Bool

@@ -4,9 +4,7 @@ use Rattle.std.specs.List.{AllByRecursion}
 use Rattle.ca_macro.specs.declared.line.Line.{Line}
 use Rattle.ca_macro.specs.declared.line.Line.TheVariants.{Comment, Leaf, Cells, Parts}
 use Rattle.ca_macro.specs.Nodes as nodes
-use Rattle.ca_macro.specs.File.{Adds, MacrocellWordsSay}
-use Rattle.ca_macro.specs.inner.Comments.{said_of}
-use Rattle.ca_macro.specs.inner.Leaves.{leaf_bits}
+use Rattle.ca_macro.specs.{File.Adds, File.MacrocellWordsSay, inner.Comments.said_of, inner.Leaves.leaf_bits}
 use Rattle.ca_plane.specs.Prelude.{nearest_u64}
 
 -- what is read of a line of these words is what they say: of a leaf the bits of its rows, and of the numbers of nodes what is kept

@@ -7,10 +7,9 @@ use Rattle.ca_quad.specs.Squares as squares
 use Rattle.ca_quad.specs.Prelude.{square_value, AreQuarters}
 use Rattle.ca_macro.specs.declared.write.written.WrittenNode.{WrittenNode}
 use Rattle.ca_macro.specs.declared.write.written.WrittenNode.TheVariants.{Leaf, Cells, Parts}
-use Rattle.ca_macro.specs.Nodes.{Node, node_level, NamesPart, MayFollow}
+use Rattle.ca_macro.specs.{Nodes.Node, Nodes.node_level, Nodes.NamesPart, Nodes.MayFollow, Shown.numbered_square, Shown.node_picture, Shown.squares_of}
+use Rattle.ca_macro.specs.{Tidy.AreInPlace, Tidy.HasForm, Tidy.is_empty, Tidy.walks_after, Tidy.numbers_once}
 use Rattle.ca_macro.specs.Nodes as nodes
-use Rattle.ca_macro.specs.Shown.{numbered_square, node_picture, squares_of}
-use Rattle.ca_macro.specs.Tidy.{AreInPlace, HasForm, is_empty, walks_after, numbers_once}
 
 -- a row's cells by its bits, without the dead cells at its end
 abbrev pub row_marks : ℕ → ℕ → List Bool

@@ -52,11 +52,9 @@ impl Squares {
     /// `Forward` where no earlier node has the number, and `Level` where the node has another level.
     fn part(&self, level: u8, number: u64) -> Result<Option<Id>, MacroFault>
         ensures part { IfOk result (λ p. (store : List Kept) (nodes : List Node) (n : ℕ)
-            → AreSquares store nodes self.now → number ≡ nearest_u64 n
-            → IsNodePart store nodes level n p) }
+            → AreSquares store nodes self.now → number ≡ nearest_u64 n → IsNodePart store nodes level n p) }
         ensures fault { IfErr result (λ f. (store : List Kept) (nodes : List Node) (n : ℕ)
-            → AreSquares store nodes self.now → number ≡ nearest_u64 n
-            → IsBadNumber f nodes level n) }
+            → AreSquares store nodes self.now → number ≡ nearest_u64 n → IsBadNumber f nodes level n) }
     {
         if number == 0 {
             return Ok(None);

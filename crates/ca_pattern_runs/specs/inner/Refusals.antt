@@ -2,8 +2,7 @@
 use Rattle.std.specs.Prelude.{ℕ, ℤ, List, Option}
 use Rattle.ca_report.specs.declared.{fault.ToolFault.ToolFault, form.DrawRequest.DrawRequest}
 use Rattle.ca_report.specs.declared.fault.ToolFault.TheVariants.{Input, Window, Memory}
-use Rattle.ca_pattern_runs.specs.Runs.{IsInputFault}
-use Rattle.ca_pattern_runs.specs.Drawn.{HasNoWindow, HasNoWindowAfter}
+use Rattle.ca_pattern_runs.specs.{Runs.IsInputFault, Drawn.HasNoWindow, Drawn.HasNoWindowAfter}
 use Rattle.ca_rule.specs.Prelude.{TableRule}
 use Rattle.ca_pattern.specs.Prelude.{MayWantMemory}
 

@@ -1,10 +1,7 @@
 -- Points that are moved, one by one.
 use Rattle.std.specs.Prelude.{ℤ, ◌≤ℤ◌, neg_ℤ}
 use Rattle.std.specs.List.{All}
-use Rattle.ca_plane.specs.Plane.{Picture}
-use Rattle.ca_plane.specs.Box.{moved}
-use Rattle.ca_plane.specs.Limits.{reach}
-use Rattle.ca_plane.specs.Sparse.{IsInPlane}
+use Rattle.ca_plane.specs.{Plane.Picture, Box.moved, Limits.reach, Sparse.IsInPlane}
 
 -- each listed cell, moved by (dx, dy), stays in the square of a plane
 abbrev pub StaysInPlane : Picture → ℤ → ℤ → Type 0

@@ -3,8 +3,7 @@ use Rattle.std.specs.Prelude.{◌≡◌, ℕ, suc, ◌<◌, ◌≤◌, ◌∷◌
 use Rattle.std.specs.List.{AllByRecursion}
 use Rattle.std.specs.declared.cmp.Ordering.TheVariants.{Less}
 use Rattle.ca_plane.specs.declared.point.Point.{Point}
-use Rattle.ca_plane.specs.Plane.{Picture}
-use Rattle.ca_plane.specs.Sparse.{point_cmp}
+use Rattle.ca_plane.specs.{Plane.Picture, Sparse.point_cmp}
 
 -- all listed points come before this one
 abbrev pub ComeBefore : Point → Picture → Type 0

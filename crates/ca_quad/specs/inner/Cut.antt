@@ -2,11 +2,9 @@
 use Rattle.std.specs.Prelude.{◌≡◌, ℕ, ◌+◌, ◌*◌, ◌<◌, ◌^◌, ◌%◌, nat_lt, if◌then◌else◌, List, slice_index, Option, Some}
 use Rattle.std.specs.Map.{lookup}
 use Rattle.ca_quad.specs.declared.{neighbours.Neighbours.Neighbours, node.Node.Node, store.cut.Offset.Offset}
-use Rattle.ca_quad.specs.contracts.neighbours.NeighboursPartialEq.TheImpl.{eq-value}
-use Rattle.ca_quad.specs.Squares.{joined_cells, cell_of}
-use Rattle.ca_quad.specs.Trees.{AreFour}
+use Rattle.ca_quad.specs.{contracts.neighbours.NeighboursPartialEq.TheImpl.eq-value, Squares.joined_cells, Squares.cell_of, Trees.AreFour}
+use Rattle.ca_quad.specs.{inner.Window.ShowsFrom}
 use Rattle.ca_plane.specs.Prelude.{word_cells}
-use Rattle.ca_quad.specs.inner.Window.{ShowsFrom}
 
 -- they are squares of this level
 abbrev pub AreNeighbours : List Node → ℕ → Neighbours → Type 0

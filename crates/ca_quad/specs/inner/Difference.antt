@@ -1,8 +1,7 @@
 -- Where two squares differ.
 use Rattle.std.specs.Prelude.{◌≡◌, ◌≢◌, ℕ, suc, ◌<◌, ◌≤◌, ◌^◌, List, slice_index, Option, MatchOption}
 use Rattle.ca_quad.specs.declared.node.Node.{Node}
-use Rattle.ca_quad.specs.Squares.{one_cell, joined_cells, cell_of}
-use Rattle.ca_quad.specs.inner.Window.{ShowsFrom}
+use Rattle.ca_quad.specs.{Squares.one_cell, Squares.joined_cells, Squares.cell_of, inner.Window.ShowsFrom}
 
 -- the cells differ at this place of the square, counted from its upper left corner
 pub record DifferInSquare (side : ℕ) (p q : ℕ → ℕ → ℕ) (at : ℕ × ℕ) : Type 0 where

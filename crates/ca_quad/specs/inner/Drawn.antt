@@ -3,8 +3,7 @@ use Rattle.std.specs.Prelude.{◌≡◌, ◌≢◌, ℕ, ◌-◌, ◌^◌, ◌�
 use Rattle.std.specs.List.{All}
 use Rattle.ca_plane.specs.Prelude.{Picture, cell, from_corner}
 use Rattle.ca_quad.specs.declared.{node.Node.Node, store.draw.Halves.Halves, store.draw.PlacedSquare.PlacedSquare, store.to_plane.Corners.Corners, tree.Spot.Spot}
-use Rattle.ca_quad.specs.Squares.{level_of, IsOf, cell_of}
-use Rattle.ca_quad.specs.Expanded.{FitsPlane}
+use Rattle.ca_quad.specs.{Squares.level_of, Squares.IsOf, Squares.cell_of, Expanded.FitsPlane}
 
 -- the cells of an id's square
 abbrev pub square_cells : List Node → ℕ → ℕ → ℕ → ℕ

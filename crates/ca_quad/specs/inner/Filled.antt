@@ -3,9 +3,7 @@ use Rattle.std.specs.Prelude.{ℕ, ◌≤◌, ℤ, ◌^◌, pos, neg_ℤ, ◌+�
 use Rattle.ca_plane.specs.declared.point.Bounds.{Bounds}
 use Rattle.ca_plane.specs.Prelude.{Picture, IsSparse}
 use Rattle.ca_quad.specs.declared.{node.Node.Node, store.rows.Row.Row, tree.Spot.Spot}
-use Rattle.ca_quad.specs.Trees.{ShowsSquare}
-use Rattle.ca_quad.specs.inner.Ring.{no_cells}
-use Rattle.ca_quad.specs.inner.Rows.{AreRows, HoldCells}
+use Rattle.ca_quad.specs.{Trees.ShowsSquare, inner.Ring.no_cells, inner.Rows.AreRows, inner.Rows.HoldCells}
 
 -- the cells of a plane, counted from this place
 abbrev pub cells_from : (ℤ → ℤ → ℕ) → Spot → ℕ → ℕ → ℕ

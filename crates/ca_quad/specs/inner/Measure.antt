@@ -1,9 +1,7 @@
 -- What a walk over a square finds out of it from the same of its parts.
 use Rattle.std.specs.Prelude.{◌≡◌, ℕ, ◌+◌, ◌≤◌, ◌^◌, ◌⊎◌, List, Some}
 use Rattle.ca_quad.specs.declared.node.Node.{Node}
-use Rattle.ca_quad.specs.Squares.{IsOf, joined_cells, cell_of}
-use Rattle.ca_quad.specs.SquareValues.{square_value}
-use Rattle.ca_quad.specs.Trees.{IsIn}
+use Rattle.ca_quad.specs.{Squares.IsOf, Squares.joined_cells, Squares.cell_of, SquareValues.square_value, Trees.IsIn}
 
 -- beyond this side every cell is 0
 abbrev pub EndsWithin : ℕ → (ℕ → ℕ → ℕ) → Type 0

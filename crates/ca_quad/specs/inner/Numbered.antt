@@ -3,8 +3,7 @@ use Rattle.std.specs.Prelude.{◌≡◌, ◌≢◌, ℕ, ◌+◌, ◌*◌, ◌<�
 use Rattle.ca_quad.specs.declared.named.IdForm.TheVariants.{Cells2, Kept}
 use Rattle.ca_quad.specs.declared.node.Node.{Node}
 use Rattle.ca_quad.specs.declared.node.Node.TheVariants.{Block}
-use Rattle.ca_quad.specs.Squares.{meaning_of_id, node_square, shown_cells4, square_named, square_of}
-use Rattle.ca_quad.specs.Sound.{node_at}
+use Rattle.ca_quad.specs.{Squares.meaning_of_id, Squares.node_square, Squares.shown_cells4, Squares.square_named, Squares.square_of, Sound.node_at}
 
 -- the number tells the cells of the square, which are 2 by 2, 4 by 4 or 8 by 8
 abbrev pub IsNumberOfNode : List Node → ℕ → ℕ → Type 0

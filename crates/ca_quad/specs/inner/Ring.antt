@@ -1,8 +1,7 @@
 -- Squares with a ring of empty cells round them, a quarter of the larger side wide.
 use Rattle.std.specs.Prelude.{◌≡◌, ℕ, suc, ◌+◌, ◌-◌, ◌<◌, ◌≤◌, ◌^◌, ◌⊎◌, List, Option, MatchOption}
 use Rattle.ca_quad.specs.declared.node.Node.{Node}
-use Rattle.ca_quad.specs.Squares.{IsOf, joined_cells, cell_of}
-use Rattle.ca_quad.specs.Trees.{IsEmpty}
+use Rattle.ca_quad.specs.{Squares.IsOf, Squares.joined_cells, Squares.cell_of, Trees.IsEmpty}
 
 -- every cell of the square is 0
 abbrev pub IsEmptySquare : List Node → ℕ → Type 0

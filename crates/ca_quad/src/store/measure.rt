@@ -33,8 +33,7 @@ pub(crate) trait Measure: Copy {
     // That of a square of two states whose cells are this number's digits, where it is known without parts.
     fn of_number(cells: u64) -> Option<Self>
         ensures { (nodes : List Kept) (id : ℕ) → IsSoundStore nodes → IsIn nodes id
-            → IsNumberOfNode nodes id cells
-            → IfSome result (IsMeasureOf is nodes id) };
+            → IsNumberOfNode nodes id cells → IfSome result (IsMeasureOf is nodes id) };
 }
 
 impl Store {

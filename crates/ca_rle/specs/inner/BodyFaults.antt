@@ -3,9 +3,7 @@ use Rattle.std.specs.Prelude.{◌≡◌, ℕ, List, [], ◌∷◌, Some, ◌⊎�
 use Rattle.ca_plane.specs.declared.point.Point.{Point}
 use Rattle.ca_plane.specs.Prelude.{nearest_u64, IsInPlane, IsInRange}
 use Rattle.ca_rle.specs.declared.{fault.RleFault.RleFault, item.Item.Item}
-use Rattle.ca_rle.specs.Items.{Run}
-use Rattle.ca_rle.specs.File.{RleFile}
-use Rattle.ca_rle.specs.Faults.{item_fault}
+use Rattle.ca_rle.specs.{Items.Run, File.RleFile, Faults.item_fault}
 
 -- the item as the code keeps it: its count is at most 2^64 - 1
 abbrev pub with_capped_count : Item → Item

@@ -3,9 +3,7 @@ use Rattle.std.specs.Prelude.{◌≡◌, ℕ, min, max, pos, ◌+ℤ◌, ◌≤�
 use Rattle.ca_plane.specs.declared.point.{Point.Point, Bounds.Bounds}
 use Rattle.ca_plane.specs.Prelude.{IsLeastBox, IsInRange, Picture, IsLive}
 use Rattle.ca_rle.specs.declared.{item.Item.Item, extent.Offset.Offset, extent.Span.Span}
-use Rattle.ca_rle.specs.Limits.{IsRleWithinRange}
-use Rattle.ca_rle.specs.Shown.{picture_of_items}
-use Rattle.ca_rle.specs.inner.BodyFaults.{bare_file}
+use Rattle.ca_rle.specs.{Limits.IsRleWithinRange, Shown.picture_of_items, inner.BodyFaults.bare_file}
 
 -- the least box round the live cells, or none, where there are none
 abbrev pub AreBounds : Picture → Option Bounds → Type 0

@@ -5,13 +5,9 @@ use Rattle.std.specs.List.{AllZip, AllByRecursion}
 use Rattle.ca_plane.specs.declared.point.Point.{Point}
 use Rattle.ca_plane.specs.Prelude.{IsInteger, reach, range, default_rule}
 use Rattle.ca_rle.specs.declared.{front.words.Start.Start, front.lines.Preamble.Preamble, front.Front.Front, fault_line.GoodText.GoodText}
-use Rattle.ca_rle.specs.Header.{CxrleWord, WordSays, extended_words, IsXlifeLine}
-use Rattle.ca_rle.specs.File.{RleFile, IsRleFile, IsPreamble, IsHeaded, corner_of, generation_of}
-use Rattle.ca_rle.specs.Items.{Items}
-use Rattle.ca_rle.specs.Limits.{IsWithinLimits}
-use Rattle.ca_rle.specs.Shown.{greatest_state, picture_of_items}
-use Rattle.ca_rle.specs.inner.BodyFaults.{KeepsCorner}
-use Rattle.ca_rle.specs.inner.Boxes.{AreBounds}
+use Rattle.ca_rle.specs.{Header.CxrleWord, Header.WordSays, Header.extended_words, Header.IsXlifeLine, File.RleFile, File.IsRleFile, File.IsPreamble}
+use Rattle.ca_rle.specs.{File.IsHeaded, File.corner_of, File.generation_of, Items.Items, Limits.IsWithinLimits, Shown.greatest_state, Shown.picture_of_items}
+use Rattle.ca_rle.specs.{inner.BodyFaults.KeepsCorner, inner.Boxes.AreBounds}
 
 -- a coordinate in range
 abbrev pub IsNearCoordinate : ℤ → Type 0

@@ -1,8 +1,7 @@
 -- The parts of an item, as the reader splits them off.
 use Rattle.std.specs.Prelude.{◌≡◌, ℕ, List}
 use Rattle.ca_plane.specs.Prelude.{is_digit, front, rest}
-use Rattle.ca_rle.specs.Items.{InLine}
-use Rattle.ca_rle.specs.Faults.{after_white}
+use Rattle.ca_rle.specs.{Items.InLine, Faults.after_white}
 
 -- the digits after the white space at the front, and what stands after them
 pub record IsSplit (bytes digits later : List ℕ) : Type 0 where

@@ -4,9 +4,8 @@ use Rattle.ca_plane.specs.declared.point.Point.{Point}
 use Rattle.ca_plane.specs.Prelude.{Picture, cell}
 use Rattle.ca_rle.specs.declared.{item.Item.Item, item.Tag.Tag, write.runs.Run.Run, write.again.Pending.Pending}
 use Rattle.ca_rle.specs.declared.item.Tag.TheVariants.{Cell, RowEnd}
-use Rattle.ca_rle.specs.Shown.{place_after, run_of, picture_of_items}
-use Rattle.ca_rle.specs.Tidy.{AreTidy, item_text}
-use Rattle.ca_rle.specs.inner.Written.{some_of, IsItemGap, IsLaid, PutsLines}
+use Rattle.ca_rle.specs.{Shown.place_after, Shown.run_of, Shown.picture_of_items, Tidy.AreTidy, Tidy.item_text, inner.Written.some_of, inner.Written.IsItemGap}
+use Rattle.ca_rle.specs.{inner.Written.IsLaid, inner.Written.PutsLines}
 
 -- the point is at a place in reading order, or after it
 pub record IsAhead (at point : Point) : Type 0 where

@@ -4,8 +4,7 @@ use Rattle.std.specs.List.{flat_map, concat}
 use Rattle.ca_plane.specs.declared.point.Point.{Point}
 use Rattle.ca_rle.specs.declared.item.{Item.Item, Tag.Tag}
 use Rattle.ca_rle.specs.declared.item.Tag.TheVariants.{Cell, RowEnd}
-use Rattle.ca_rle.specs.File.{line_with_lf}
-use Rattle.ca_rle.specs.Tidy.{AreLines}
+use Rattle.ca_rle.specs.{File.line_with_lf, Tidy.AreLines}
 
 -- so many of a tag, as items; none where there are 0
 abbrev pub some_of : Tag → ℕ → List Item

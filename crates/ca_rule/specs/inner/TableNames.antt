@@ -8,9 +8,7 @@ use Rattle.ca_plane.specs.Prelude.{value}
 use Rattle.ca_rule.specs.declared.table.{names.Names.Names, slot.Slot.Slot, statement_fault.StatementFault.StatementFault}
 use Rattle.ca_rule.specs.declared.table.slot.Slot.TheVariants.{Number, Variable}
 use Rattle.ca_rule.specs.declared.table.statement_fault.StatementFault.TheVariants.{State, Name, Unbound, Memory}
-use Rattle.ca_rule.specs.Digits.{are_digits}
-use Rattle.ca_rule.specs.TableLines.{is_name}
-use Rattle.ca_rule.specs.TableText.{is_bound}
+use Rattle.ca_rule.specs.{Digits.are_digits, TableLines.is_name, TableText.is_bound}
 
 -- the number that is kept for a name
 abbrev pub number_in : Names → List ℕ → Option ℕ

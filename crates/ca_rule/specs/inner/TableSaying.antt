@@ -3,10 +3,9 @@ use Rattle.std.specs.Prelude.{◌≡◌, ℕ, List, ◌++◌, true, ◌⊎◌}
 use Rattle.ca_rule.specs.declared.table.{fault.TableFault.TableFault, statement_fault.StatementFault.StatementFault, statements.Statements.Statements}
 use Rattle.ca_rule.specs.declared.table.fault.TableFault.TheVariants as table_fault
 use Rattle.ca_rule.specs.declared.table.statement_fault.StatementFault.TheVariants.{Syntax, State, Name, Unbound, Memory}
-use Rattle.ca_rule.specs.TableLines.{NumberedLine}
-use Rattle.ca_rule.specs.TableText.{Settings, SaidStatements, no_statements, SaysVariable, SaysTransition, LinesSay, is_end_of_section}
-use Rattle.ca_rule.specs.TableFaults.{IsMisspelled, HasBadState, HasUnknownName, HasUnbound, SaysMore}
-use Rattle.ca_rule.specs.inner.TableSaid.{KeepsStatements}
+use Rattle.ca_rule.specs.{TableLines.NumberedLine, TableText.Settings, TableText.SaidStatements, TableText.no_statements, TableText.SaysVariable}
+use Rattle.ca_rule.specs.{TableText.SaysTransition, TableText.LinesSay, TableText.is_end_of_section, TableFaults.IsMisspelled, TableFaults.HasBadState}
+use Rattle.ca_rule.specs.{TableFaults.HasUnknownName, TableFaults.HasUnbound, TableFaults.SaysMore, inner.TableSaid.KeepsStatements}
 
 -- the fault of the text, where its n-th line has this fault
 abbrev pub fault_at : ℕ → StatementFault → TableFault

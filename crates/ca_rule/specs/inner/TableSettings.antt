@@ -3,8 +3,7 @@ use Rattle.std.specs.Prelude.{◌≡◌, ℕ, List, [], ◌++◌, Bool, true, �
 use Rattle.std.specs.Option.{option_or}
 use Rattle.std.specs.Borrow.{Bor}
 use Rattle.ca_rule.specs.declared.table.settings.{SettingValues.SettingValues, TableSettings.TableSettings}
-use Rattle.ca_rule.specs.TableLines.{NumberedLine, setting, value_of}
-use Rattle.ca_rule.specs.TableText.{Settings, SettingsMean, are_settings}
+use Rattle.ca_rule.specs.{TableLines.NumberedLine, TableLines.setting, TableLines.value_of, TableText.Settings, TableText.SettingsMean, TableText.are_settings}
 
 -- the bytes, where there are some
 abbrev pub bytes_of : Option (Bor (List ℕ)) → Option (List ℕ)

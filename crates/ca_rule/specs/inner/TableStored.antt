@@ -4,8 +4,7 @@ use Rattle.ca_rule.specs.declared.table.{neighbourhood.Neighbourhood.Neighbourho
 use Rattle.ca_rule.specs.declared.table.slot.Slot.TheVariants.{Number, Variable}
 use Rattle.ca_plane.specs.Prelude.{IsWord}
 use Rattle.ca_rule.specs.declared.table.parts_fault.PartsFault.TheVariants.{Wakes, Memory}
-use Rattle.ca_rule.specs.TableNext.{States, Transition, TableRule, table_next, IsSoundTable}
-use Rattle.ca_rule.specs.TableFaults.{DoesWake}
+use Rattle.ca_rule.specs.{TableNext.States, TableNext.Transition, TableNext.TableRule, TableNext.table_next, TableNext.IsSoundTable, TableFaults.DoesWake}
 
 -- the table of these parts
 abbrev pub stored_table : List ℕ → ℕ → Neighbourhood → Symmetry → List States → List Transition → TableRule

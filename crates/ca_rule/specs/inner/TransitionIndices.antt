@@ -3,8 +3,7 @@ use Rattle.std.specs.Prelude.{ℕ, zero, List, [], ◌∷◌, ◌≡◌, ◌<◌
 use Rattle.std.specs.List.{count_by}
 use Rattle.std.specs.Int.{bit_at}
 use Rattle.ca_rule.specs.declared.table.slot.Slot.{Slot}
-use Rattle.ca_rule.specs.TableNext.{States, Transition, fits}
-use Rattle.ca_rule.specs.inner.TablePlaces.{slots_admit, outcome_at}
+use Rattle.ca_rule.specs.{TableNext.States, TableNext.Transition, TableNext.fits, inner.TablePlaces.slots_admit, inner.TablePlaces.outcome_at}
 
 -- the slots of the first of these transitions, or none
 abbrev pub first_inputs : List Transition → List Slot

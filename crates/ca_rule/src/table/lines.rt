@@ -27,8 +27,7 @@ pub(crate) fn content_of(line: &[u8]) -> &[u8]
 /// The name that the line `@RULE` gives.
 pub(crate) fn rule_name(content: &[u8]) -> Option<&[u8]>
     requires { Every (λ b. not (is_line_end b)) content.now }
-    ensures name { (n : ℕ)
-        → MatchOption result (rule_name (n, content.now) ≡ None)
+    ensures name { (n : ℕ) → MatchOption result (rule_name (n, content.now) ≡ None)
         (λ r. rule_name (n, content.now) ≡ Some r.now) }
     ensures word { IfSome result (λ r. IsWord r.now) }
 {
@@ -89,8 +88,7 @@ pub(crate) fn begins_variable(content: &[u8]) -> bool
 
 /// The value of the setting with this word, where the line is that one.
 pub(crate) fn setting<'a>(word: &[u8], content: &'a [u8]) -> Option<&'a [u8]>
-    ensures { (n : ℕ)
-        → MatchOption result (setting word.now (n, content.now) ≡ None)
+    ensures { (n : ℕ) → MatchOption result (setting word.now (n, content.now) ≡ None)
         (λ r. setting word.now (n, content.now) ≡ Some r.now) }
 {
     let (_, colon) = split_blanks(tail_after(word, content)?);

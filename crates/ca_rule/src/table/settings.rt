@@ -111,8 +111,7 @@ impl<'a> SettingValues<'a> {
         ensures mean { IfOk result (λ s. (good : List NumberedLine) → AreValuesOf good self.now
             → are_settings [] good ≡ true → SettingsMean good (meaning_of s)) }
         ensures fault { IfErr result (λ f. (bytes : List ℕ) (good : List NumberedLine)
-            → AreValuesOf good self.now
-            → HaveEnd bytes line good → IsTableTextFault bytes f) }
+            → AreValuesOf good self.now → HaveEnd bytes line good → IsTableTextFault bytes f) }
     {
         let Some(states) = self.states() else {
             return Err(TableFault::States { line });

@@ -50,8 +50,7 @@ impl<'a> Statements<'a> {
         requires low { states ≤ 256 }
         requires fields { list_all is_field (fields_between line.now.inside.now) ≡ true }
         ensures said { OnOk result ((settings : Settings) (said : SaidStatements) → settings.states ≡ states
-            → KeepsStatements said self.old
-            → (slots : List SlotValue)
+            → KeepsStatements said self.old → (slots : List SlotValue)
             × AllZip (StandsFor settings said) (fields_between line.now.inside.now) slots
             × KeepsStatements (with_variable settings said line.now.name.now slots) self.new) }
         ensures fault { IfErr result
@@ -76,8 +75,7 @@ impl<'a> Statements<'a> {
         requires low { states ≤ 256 }
         requires fields { AreTransitionFields (fields_left fields.now) }
         ensures said { OnOk result ((settings : Settings) (said : SaidStatements) → settings.states ≡ states
-            → KeepsStatements said self.old
-            → (inputs : List SlotValue) × (becomes : SlotValue)
+            → KeepsStatements said self.old → (inputs : List SlotValue) × (becomes : SlotValue)
             × AllZip (StandsFor settings said) (fields_left fields.now) (inputs ++ becomes ∷ [])
             × (is_bound becomes inputs ≡ true)
             × KeepsStatements (with_transition said inputs becomes) self.new) }

@@ -20,11 +20,9 @@ pub fn one_table()
 /// nothing about a text.
 pub fn table_or_fault()
     ensures none_of_a_table { (bytes : List ℕ) (t : TableRule) (f : TableFault) → IsTable bytes t
-        → IsTableTextFault bytes f
-        → (f ≡ Memory) ⊎ ((f ≡ Wakes (last_line bytes)) × DoesWake t) }
+        → IsTableTextFault bytes f → (f ≡ Memory) ⊎ ((f ≡ Wakes (last_line bytes)) × DoesWake t) }
     ensures one_fault { (bytes : List ℕ) (f g : TableFault) → f ≢ Memory → g ≢ Memory
-        → IsTableTextFault bytes f
-        → IsTableTextFault bytes g → f ≡ g }
+        → IsTableTextFault bytes f → IsTableTextFault bytes g → f ≡ g }
     ensures one_or_the_other { (bytes : List ℕ)
         → ((t : TableRule) × IsTable bytes t × (table_next t (replicate 9 0) ≡ 0))
         ⊎ ((f : TableFault) × (f ≢ Memory) × IsTableTextFault bytes f) }

@@ -68,8 +68,7 @@ fn split_name(bytes: &[u8]) -> (&[u8], &[u8])
 
 /// The name and the fields of a variable, where the line is spelled as that of one.
 pub(crate) fn variable_line(content: &[u8]) -> Option<VariableLine<'_>>
-    ensures { (n : ℕ)
-        → MatchOption result ((name : List ℕ) (fields : List (List ℕ))
+    ensures { (n : ℕ) → MatchOption result ((name : List ℕ) (fields : List (List ℕ))
         → IsVariableLine (n, content.now) name fields → ⊥)
         (λ v. IsVariableLine (n, content.now) v.name.now (fields_between v.inside.now)) }
 {

@@ -3,8 +3,7 @@ use Rattle.std.specs.Prelude.{◌≡◌, ◌≢◌, ℕ, ℤ, pos, ◌+ℤ◌, �
 use Rattle.ca_plane.specs.declared.point.Point.{Point}
 use Rattle.ca_plane.specs.Prelude.{Picture, cell}
 use Rattle.ca_steps.specs.declared.window.MovingWindow.{MovingWindow}
-use Rattle.ca_steps.specs.inner.Order.{IsFirstOrNone}
-use Rattle.ca_steps.specs.inner.Row.{ShowsRow, IsQuietRow, IsLiveRow, MovesOn}
+use Rattle.ca_steps.specs.{inner.Order.IsFirstOrNone, inner.Row.ShowsRow, inner.Row.IsQuietRow, inner.Row.IsLiveRow, inner.Row.MovesOn}
 
 -- the nine cells in sight, row by row: NW, N, NE, W, the centre, E, SW, S, SE
 abbrev pub nine_states : MovingWindow → List ℕ

@@ -8,11 +8,10 @@ use Rattle.ca_text.specs.declared.{version.TextVersion.TextVersion, fault.ClaimF
 use Rattle.ca_text.specs.declared.line_kind.LineKind.TheVariants.{Skipped, Version, Rule, Load, Claim, OutsideLimits, Misspelled}
 use Rattle.ca_text.specs.declared.version.TextVersion.TheVariants.{Open, First, Second}
 use Rattle.ca_text.specs.declared.fault.ClaimFault.TheVariants.{Syntax, Number, UnknownName, NameTaken, Memory}
-use Rattle.ca_text.specs.Both.{HoldsOfBoth}
-use Rattle.ca_text.specs.Kinds.{WordsClaim, is_of_second_version, IsShift, HasGoodNumbers}
-use Rattle.ca_text.specs.Places.{path_at, claim_with_names, IsNamed}
+use Rattle.ca_text.specs.{Both.HoldsOfBoth, Kinds.WordsClaim, Kinds.is_of_second_version, Kinds.IsShift, Kinds.HasGoodNumbers, Places.path_at}
+use Rattle.ca_text.specs.{Places.claim_with_names, Places.IsNamed, TextFaults.AreMisspelledClaimWords, TextFaults.HaveBadNumber, TextFaults.AskUnknown}
+use Rattle.ca_text.specs.{TextFaults.LoadTaken, TextFaults.NeedMemory}
 use Rattle.ca_text.specs.Text as text
-use Rattle.ca_text.specs.TextFaults.{AreMisspelledClaimWords, HaveBadNumber, AskUnknown, LoadTaken, NeedMemory}
 
 -- what a line claims, of patterns that are given by their names
 abbrev pub claim_of : ClaimOf (Bor (List ℕ)) → text.Claim

@@ -31,8 +31,7 @@ pub(super) fn first_return<A: Automaton, O: Observer>(
 ) -> Result<Option<Refutation>, LeapFault>
     requires { ForbidsReturn leaper.old.nodes case.now }
     ensures refutation { (cells : Picture) → ShowsTree leaper.old.nodes case.now.subject.pattern cells
-        → (u v : ℤ)
-        → MayReturnBy case.now.asks.forbidden u v
+        → (u v : ℤ) → MayReturnBy case.now.asks.forbidden u v
         → IsAfter (A.next_of leaper.old.rule) cells case.now.asks.generations (shifted cells u v)
         → IfOk result (λ refutation. MatchOption refutation
         (IsSparedBefore (A.next_of leaper.old.rule) cells case.now.asks.forbidden case.now.asks.generations)
@@ -125,8 +124,7 @@ fn corner_vector(
     requires pattern { IsPattern store.now pattern }
     requires live { HasLive (cell store.now pattern) }
     ensures { IfOk result
-        (λ vector. MatchOption vector (IsNoMove store.now end pattern)
-        (IsOnlyMove store.now end pattern)) }
+        (λ vector. MatchOption vector (IsNoMove store.now end pattern) (IsOnlyMove store.now end pattern)) }
 {
     let Some(from) = store.bounds(alloc, pattern)? else {
         unreachable!();

@@ -76,8 +76,7 @@ pub(crate) fn with_rules<'t>(
 ) -> Result<Both<RuledPattern<'t>>, BadPart<UnnamedRule>>
     ensures named { IfOk result (ZipBoth (IsRuledAs tables.now) patterns) }
     ensures unnamed { IfErr result
-        (λ bad. FirstBadAt bad.part patterns (HasName tables.now)
-        (λ p. IsUnnamedFor tables.now p bad.why)) }
+        (λ bad. FirstBadAt bad.part patterns (HasName tables.now) (λ p. IsUnnamedFor tables.now p bad.why)) }
 {
     let first = at_part(WhichPattern::First, with_rule(patterns.first, tables))?;
     let second = at_part(WhichPattern::Second, with_rule(patterns.second, tables))?;

@@ -67,8 +67,7 @@ impl Tables {
 
     /// The tables, where all files are there and good.
     pub fn good(&self) -> Option<&[Table]>
-        ensures { (files : SuppliedFiles) (paths rules : List (List ℕ))
-            → AreRead files paths rules self.now
+        ensures { (files : SuppliedFiles) (paths rules : List (List ℕ)) → AreRead files paths rules self.now
             → MatchOption result ((tables : List TableRule) → AreTables files rules tables → ⊥)
             (λ tables. AreTables files rules tables.now) }
     {

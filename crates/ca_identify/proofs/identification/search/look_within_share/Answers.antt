@@ -1,10 +1,9 @@
-use Rattle.std.proofs.Common.{◌≤◌, sym, subst, arith}
-use Rattle.std.specs.Prelude.{IfOk, OnErr}
+use Rattle.std.proofs.Common.{sym, subst, arith}
+use Rattle.std.specs.Prelude.{OnErr}
 use Rattle.ca_quad.specs.Prelude.{cell}
 use Rattle.ca_run.specs.Prelude.{LeaperView}
-use Rattle.ca_identify.specs.inner.Stages.{CanLookOn, IsWalk, IsHalted, IsLookedAt}
+use Rattle.ca_identify.specs.inner.Stages.{CanLookOn, IsWalk, IsHalted}
 use Rattle.ca_identify.proofs.LaterLeapers.{walk_nearer}
-use Rattle.ca_identify.proofs.Stages.{looked_from}
 use Rattle.ca_identify.proofs.identification.search.look_within_share.Goals as goal
 
 pub look_on-found-requires : goal.look_on-found-requires
