@@ -1,10 +1,10 @@
 -- Words of the bits of states: bits that are put together row by row, and the cells of a square of 8 by 8.
 use mir.Val.{bool_byte}
-use Rattle.std.proofs.Common.{◌≡◌, ℕ, zero, suc, ◌+◌, ◌-◌, ◌*◌, ◌%◌, ◌<◌, ◌≤◌, ◌^◌, max, nat_lt, if◌then◌else◌, Bool, true, false, inl, inr, ◌⊎◌, List, slice_index, refl, sym, ap, ap₂, subst, ◌∙◌, arith}
+use Rattle.std.proofs.Common.{◌≡◌, ℕ, zero, suc, ◌+◌, ◌-◌, ◌*◌, ◌/◌, ◌%◌, ◌<◌, ◌≤◌, ◌^◌, max, if◌then◌else◌, Bool, true, false, inl, inr, List, slice_index, sym, ap, ap₂, subst, ◌∙◌, arith}
 use Rattle.std.specs.Prelude.{ℤ, pos, ◌+ℤ◌, bit_or}
 use Rattle.std.specs.Int.{bit_at}
 use Rattle.std.specs.Int.Bits.{or_add_and}
-use Rattle.std.proofs.lemmas.Bool.{cond_below, cond_above}
+use Rattle.std.proofs.lemmas.Bool.{cond_below}
 use Rattle.std.proofs.lemmas.Int.{ints}
 use Rattle.std.proofs.lemmas.Nat.{pow-add}
 use Rattle.std.proofs.lemmas.Nat.Bits.{bit_at-zero, bit_at_lowest, bit_at_above, bit_at_or, bit_at_cat_low, bit_at_cat_high}
@@ -88,40 +88,6 @@ word_of_bits word p a b bits = record { looks = λ x y i j. sym (cond_below x 8 
 
 -- ---- the cells of a square of 8 by 8
 
--- where the half of it lies that has a place, and the quarter
-abbrev pub half_from : ℕ → ℤ → ℤ
-half_from x a = if nat_lt x 4 then a else (a +ℤ side 2)
-
-abbrev pub quarter_from : ℕ → ℤ → ℤ
-quarter_from x a = if nat_lt (x % 4) 2 then half_from x a else (half_from x a +ℤ side 1)
-
-pub place_in : (x : ℕ) (a : ℤ) → x < 8 → quarter_from x a +ℤ pos (x % 2) ≡ a +ℤ pos x
-place_in x a h =
-    let half : (x < 4) ⊎ (4 ≤ x) = below_or_not x 4 in
-    let quarter : (x % 4 < 2) ⊎ (2 ≤ x % 4) = below_or_not (x % 4) 2 in
-    elim half [
-      | inl west ↦
-          let e : a ≡ half_from x a = cond_below x 4 a (a +ℤ side 2) west in
-          elim quarter [
-            | inl near ↦
-                let f : half_from x a ≡ quarter_from x a = cond_below (x % 4) 2 (half_from x a) (half_from x a +ℤ side 1) near in
-                omega (arith, ints, e, f, west, near)
-            | inr far ↦
-                let f : half_from x a +ℤ side 1 ≡ quarter_from x a = cond_above (x % 4) 2 (half_from x a) (half_from x a +ℤ side 1) _ far refl in
-                omega (arith, ints, e, f, west, far)
-          ]
-      | inr east ↦
-          let e : a +ℤ side 2 ≡ half_from x a = cond_above x 4 a (a +ℤ side 2) _ east refl in
-          elim quarter [
-            | inl near ↦
-                let f : half_from x a ≡ quarter_from x a = cond_below (x % 4) 2 (half_from x a) (half_from x a +ℤ side 1) near in
-                omega (arith, ints, e, f, east, near, h)
-            | inr far ↦
-                let f : half_from x a +ℤ side 1 ≡ quarter_from x a = cond_above (x % 4) 2 (half_from x a) (half_from x a +ℤ side 1) _ far refl in
-                omega (arith, ints, e, f, east, far, h)
-          ]
-    ]
-
 -- the corners of a square of 2 by 2 are its cells
 corner_at : (nodes : List Node) (id : ℕ) (cells : List ℕ) (p : ℤ → ℤ → ℕ) (a b : ℤ) → AreCorners nodes id cells → ShowsAt nodes id 1 p a b
     → (u v : ℕ) → u < 2 → v < 2 → slice_index cells (2 * v + u) ≡ p (a +ℤ pos u) (b +ℤ pos v)
@@ -132,13 +98,14 @@ corner_at nodes id cells p a b are shows (suc zero) (suc zero) i j = sym (are.ha
 corner_at nodes id cells p a b are shows (suc (suc u)) v i j = absurd (omega (arith, i))
 corner_at nodes id cells p a b are shows u (suc (suc v)) i j = absurd (omega (arith, j))
 
--- the one of them at a place of a square of 8 by 8
-pub state_at : (store nodes : List Node) → store ≡ nodes → (id : ℕ) (cells : List ℕ) (p : ℤ → ℤ → ℕ) (a b : ℤ) (x y k : ℕ) → x < 8 → y < 8 → AreCorners store id cells
-    → ShowsAt nodes id 1 p (quarter_from x a) (quarter_from y b) → 2 * (y % 2) + x % 2 ≡ k → slice_index cells k ≡ p (a +ℤ pos x) (b +ℤ pos y)
-state_at store nodes same id cells p a b x y k i j are shows e =
+-- the one of them at a place of a larger square
+pub state_at : (store nodes : List Node) → store ≡ nodes → (id : ℕ) (cells : List ℕ) (p : ℤ → ℤ → ℕ) (a b : ℤ) (x y k : ℕ) → AreCorners store id cells
+    → ShowsAt nodes id 1 p (a +ℤ pos (2 * (x / 2))) (b +ℤ pos (2 * (y / 2))) → 2 * (y % 2) + x % 2 ≡ k → slice_index cells k ≡ p (a +ℤ pos x) (b +ℤ pos y)
+state_at store nodes same id cells p a b x y k are shows e =
     let corners = subst (λ n. AreCorners n id cells) same are in
-    ap (slice_index cells) (sym e) ∙ corner_at nodes id cells p (quarter_from x a) (quarter_from y b) corners shows (x % 2) (y % 2) (omega arith) (omega arith)
-    ∙ ap₂ p (place_in x a i) (place_in y b j)
+    let column : (a +ℤ pos (2 * (x / 2))) +ℤ pos (x % 2) ≡ a +ℤ pos x = omega (arith, ints) in
+    let row : (b +ℤ pos (2 * (y / 2))) +ℤ pos (y % 2) ≡ b +ℤ pos y = omega (arith, ints) in
+    ap (slice_index cells) (sym e) ∙ corner_at nodes id cells p _ _ corners shows (x % 2) (y % 2) (omega arith) (omega arith) ∙ ap₂ p column row
 
 -- the quarter of a square on these sides shows the plane there
 pub part_at : (nodes : List Node) (id level : ℕ) (p : ℤ → ℤ → ℕ) (a b : ℤ) (west north w n : Bool) → west ≡ w → north ≡ n

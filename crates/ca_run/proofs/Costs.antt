@@ -1,12 +1,14 @@
 -- How the costs of calls add up.
 use Rattle.std.proofs.Common.{◌≡◌, ℕ, suc, ◌+◌, ◌-◌, ◌*◌, ◌/◌, ◌%◌, ◌^◌, ◌<◌, ◌≤◌, inl, inr, min, max, length, sym, ap, subst, arith}
-use Rattle.std.proofs.Math.Nat.{one-le-pow, div-eq_of_lt, mod-le, mod-lt, mul-le-mul, mul-le-mul_right}
+use Rattle.std.proofs.Math.Nat.{one-le-pow, div-eq_of_lt, mod-le, mod-lt, mul-le-mul_right}
 use Rattle.std.proofs.Math.Pow.{pow_mono}
 use Rattle.ca_plane.proofs.Numbers.{below_or_not}
 use Rattle.ca_quad.specs.Prelude.{IsSoundStore}
 use Rattle.ca_run.specs.Prelude.{LeaperView, Costs}
-use Rattle.ca_run.specs.inner.AtCost.{GoesOnAtCost}
+use Rattle.ca_run.specs.inner.AtCost.{GoesOnAtCost, SpendsAtMost}
 use Rattle.ca_run.proofs.LeaperGrowth.{goes_on_same, goes_on_again}
+use Rattle.ca_work.specs.Prelude.{Spent}
+use Rattle.ca_work.proofs.Spent.{spends_same, spends_again}
 use Rattle.ca_work.proofs.Powers.{power_suc, power_some, power_more}
 
 module _ {Rule : Type 0} where
@@ -92,6 +94,26 @@ power_twice g =
 pub one_more : (j x y : ℕ) → y ≤ x → j * x + y ≤ (j + 1) * x
 one_more j x y low = omega (arith, low)
 
+-- ---- work that is counted in a loop
+
+pub charged_none : {n : ℕ} (spent : Spent) → SpendsAtMost spent spent n
+charged_none spent = record { spends = spends_same spent; most = omega arith }
+
+-- so many units k times, and no more than these once more
+pub charged_more : {a b d : Spent} (k each count : ℕ) → count ≤ each → SpendsAtMost a b (k * each) → SpendsAtMost b d count → SpendsAtMost a d ((k + 1) * each)
+charged_more k each count few h g =
+    let more = one_more k each count few in
+    record { spends = spends_again h.spends g.spends; most = omega (arith, h.most, g.most, more) }
+
+-- within n times
+pub charged_within : {a b d : Spent} (n k each count : ℕ) → k < n → count ≤ each → SpendsAtMost a b (k * each) → SpendsAtMost b d count → SpendsAtMost a d (n * each)
+charged_within n k each count early few h g =
+    let sum = charged_more k each count few h g in
+    let all : (k + 1) * each ≤ n * each = mul-le-mul_right each (omega (arith, early)) in
+    record { spends = sum.spends; most = omega (arith, sum.most, all) }
+
+-- ---- leaps for the digits of a number
+
 -- a binary digit that is 1 stands before the number's end
 pub digit_below : (n j d : ℕ) → n / 2 ^ j % 2 ≡ 1 → n < 2 ^ d → j < d
 digit_below n j d one less = elim (below_or_not j d) [
@@ -141,13 +163,6 @@ six_digits n d many time = elim (below_or_not d 6) [
       absurd (omega (arith, most, many, time))
   | inr e ↦ e
 ]
-
--- bricks that are stepped
-pub bricks_cost : (n count k : ℕ) → n ≤ 1024 → count ≤ 2 ^ 18 → 7 ≤ k → n * count ≤ 14 ^ (k + 4)
-bricks_cost n count k time few least =
-    let most : n * count ≤ 1024 * 2 ^ 18 = mul-le-mul time few in
-    let power = power_more 8 (k + 4) (omega (arith, least)) in
-    omega (arith, most, power)
 
 -- eight grids
 pub grids_cost : (i k : ℕ) → i ≤ 8 → i * (2 * 14 ^ (k + 4)) ≤ 14 ^ (k + 6)

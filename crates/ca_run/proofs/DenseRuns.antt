@@ -1,6 +1,9 @@
 -- What a run has reached, as its squares grow.
-use Rattle.std.proofs.Common.{◌≡◌, ℕ, ◌+◌, ◌-◌, ◌*◌, ◌<◌, ◌≤◌, ◌^◌, ◌⊎◌, inl, inr, min, Result, Ok, Err, IfOk, List, refl, sym, ap, ◌∙◌, arith}
+use Rattle.std.proofs.Common.{◌≡◌, ℕ, suc, ◌+◌, ◌-◌, ◌*◌, ◌<◌, ◌≤◌, ◌^◌, ◌⊎◌, inl, inr, min, Result, Ok, Err, IfOk, List, refl, sym, ap, ◌∙◌, arith}
 use Rattle.std.specs.Prelude.{ℤ, replicate}
+use Rattle.std.proofs.Math.Nat.{mul_assoc, mul-le-mul, mul-le-mul_left, mul-le-mul_right}
+use Rattle.std.proofs.lemmas.Nat.{pow-add}
+use Rattle.ca_plane.proofs.Numbers.{below_or_not}
 use Rattle.ca_plane.specs.Prelude.{cells_after}
 use Rattle.ca_quad.specs.declared.{node.Node.Node, tree.Tree.Tree}
 use Rattle.ca_quad.specs.Prelude.{IsSoundStore, Grows, IsTree, cell, IsTrimmed}
@@ -9,13 +12,13 @@ use Rattle.ca_quad.proofs.Growth.{grows_same}
 use Rattle.ca_run.specs.declared.leaper.dense.ReachedTree.{ReachedTree}
 use Rattle.ca_work.specs.declared.fault.LeapFault.{LeapFault}
 use Rattle.ca_run.specs.Prelude.{IsAdvanced, Costs, LeaperView}
-use Rattle.ca_work.specs.Prelude.{Spent, Spends}
+use Rattle.ca_work.specs.Prelude.{Spent}
 use Rattle.ca_run.specs.inner.OwnStore.{IsCopyOfTree}
-use Rattle.ca_run.specs.inner.AtCost.{GoesOnAtCost}
+use Rattle.ca_run.specs.inner.AtCost.{GoesOnAtCost, SpendsAtMost}
 use Rattle.ca_run.specs.inner.Dense.{HasReached, IsIdle, IsDense, HasLeapt, HasParted}
 use Rattle.ca_plane.proofs.After.{after_same, after_again}
-use Rattle.ca_run.proofs.Costs.{costs_then, costs_more, at_cost_more, at_both_costs, one_more, six_digits, bricks_cost, grids_cost, dense_cost, countable_one}
-use Rattle.ca_work.proofs.Powers.{power_more, countable_cost}
+use Rattle.ca_run.proofs.Costs.{costs_then, costs_more, at_cost_more, at_both_costs, one_more, six_digits, grids_cost, dense_cost, countable_one}
+use Rattle.ca_work.proofs.Powers.{power_more, power_suc, countable_cost}
 use Rattle.ca_run.proofs.Levels.{low_stays, later_level, trimmed_low}
 use Rattle.ca_run.proofs.Trees.{tree_stays}
 
@@ -171,21 +174,45 @@ module _ {Rule : Type 0} {old mid : LeaperView Rule} (first : Tree) (n : ℕ) (s
 -- ---- what grids cost
 
 -- bricks are stepped: work is counted, and nothing else is done
-pub at_stepping_cost : {Rule : Type 0} (l : LeaperView Rule) (spent : Spent) → Spends l.spent spent → IsSoundStore l.nodes → (n count k : ℕ) → n ≤ 1024 → count ≤ 2 ^ 18 → 7 ≤ k → spent.used ≤ l.spent.used + n * count
-    → GoesOnAtCost Rule l (record { rule = l.rule; nodes = l.nodes; memo = l.memo; spent = spent }) (14 ^ (k + 4)) 0
-at_stepping_cost l spent spends sound n count k time few least most =
-    let cost = bricks_cost n count k time few least in
+pub at_stepping_cost : {Rule : Type 0} (l : LeaperView Rule) (spent : Spent) → IsSoundStore l.nodes → (n count : ℕ) → n ≤ 1024 → count ≤ 2 ^ 18 → SpendsAtMost l.spent spent (n * count)
+    → GoesOnAtCost Rule l (record { rule = l.rule; nodes = l.nodes; memo = l.memo; spent = spent }) (2 ^ 28) 0
+at_stepping_cost l spent sound n count time few charged =
+    let all : n * count ≤ 1024 * 2 ^ 18 = mul-le-mul time few in
     record {
-      goes_on = record { rule = refl; grows = grows_same l.nodes sound; memo = refl; spends = spends };
-      costs = record { most = omega (arith, most, cost); made = omega (arith, spends.rises) };
+      goes_on = record { rule = refl; grows = grows_same l.nodes sound; memo = refl; spends = charged.spends };
+      costs = record { most = omega (arith, charged.most, all); made = omega (arith, charged.spends.rises) };
     }
 
--- and the grid becomes a tree
-pub at_grid_cost : {Rule : Type 0} {a b d : LeaperView Rule} (k reach : ℕ) → reach ≤ k + 6 → GoesOnAtCost Rule a b (14 ^ (k + 4)) 0 → GoesOnAtCost Rule b d (14 ^ (reach - 2)) 125
+-- these levels are few
+pub growth_low : (n g : ℕ) → (1 + n) * 14 ^ g ≤ 21 * 14 ^ 5 → g ≤ 6
+growth_low n g cheap = elim (below_or_not g 7) [
+  | inl low ↦ omega (arith, low)
+  | inr high ↦
+      let more : 14 ^ 7 ≤ 14 ^ g = power_more 7 g high in
+      let all : 1 * 14 ^ g ≤ (1 + n) * 14 ^ g = mul-le-mul_right (14 ^ g) (omega arith) in
+      absurd (omega (arith, more, all, cheap))
+]
+
+-- what a tree takes of squares that take so many units each at most, and of a reach no more than so many levels above the first tree's
+grid_low : (n g k reach : ℕ) → (1 + n) * 14 ^ g ≤ 21 * 14 ^ 5 → reach ≤ k + g → 7 ≤ k → (1 + n) * 14 ^ (reach - 2) ≤ 21 * 14 ^ (k + 3)
+grid_low n g k reach cheap near least =
+    let few : 14 ^ (reach - 2) ≤ 14 ^ (g + (k - 2)) = power_more (reach - 2) (g + (k - 2)) (omega (arith, near, least)) in
+    let all : (1 + n) * 14 ^ (reach - 2) ≤ (1 + n) * 14 ^ (g + (k - 2)) = mul-le-mul_left (1 + n) few in
+    let split : (1 + n) * 14 ^ (g + (k - 2)) ≡ ((1 + n) * 14 ^ g) * 14 ^ (k - 2) = ap (λ m. (1 + n) * m) (pow-add 14 g (k - 2)) ∙ sym (mul_assoc (1 + n) (14 ^ g) (14 ^ (k - 2))) in
+    let most : ((1 + n) * 14 ^ g) * 14 ^ (k - 2) ≤ (21 * 14 ^ 5) * 14 ^ (k - 2) = mul-le-mul_right (14 ^ (k - 2)) cheap in
+    let five : 5 + (k - 2) ≡ k + 3 = omega (arith, least) in
+    let whole : 14 ^ (k + 3) ≡ 14 ^ 5 * 14 ^ (k - 2) = ap (λ m. 14 ^ m) (sym five) ∙ pow-add 14 5 (k - 2) in
+    omega (arith, all, split, most, whole)
+
+-- the grid becomes a tree
+pub at_grid_cost : {Rule : Type 0} {a b d : LeaperView Rule} (n g k reach : ℕ) → (1 + n) * 14 ^ g ≤ 21 * 14 ^ 5 → reach ≤ k + g → 7 ≤ k → GoesOnAtCost Rule a b (2 ^ 28) 0 → GoesOnAtCost Rule b d ((1 + n) * 14 ^ (reach - 2)) 125
     → GoesOnAtCost Rule a d (2 * 14 ^ (k + 4)) 125
-at_grid_cost k reach near h g =
-    let more = power_more (reach - 2) (k + 4) (omega (arith, near)) in
-    at_cost_more (at_both_costs h g) (omega (arith, more)) (omega arith)
+at_grid_cost n g k reach cheap near least stepped made =
+    let few = grid_low n g k reach cheap near least in
+    let low = power_more 10 (k + 3) (omega (arith, least)) in
+    let next = power_suc (k + 3) in
+    let same : k + 4 ≡ suc (k + 3) = omega arith in
+    at_cost_more (at_both_costs stepped made) (rw same (omega (arith, few, low, next))) (omega arith)
 
 module _ {Rule : Type 0} {old mid new : LeaperView Rule} (first : Tree) (i : ℕ) (before : Costs Rule old mid (i * (2 * 14 ^ (first.level + 4))) (255 * i)) (now : Costs Rule mid new (2 * 14 ^ (first.level + 4)) 255) where
   -- one grid after others
@@ -195,3 +222,8 @@ module _ {Rule : Type 0} {old mid new : LeaperView Rule} (first : Tree) (i : ℕ
 -- and all grids are no more than eight
 pub grids_done : {Rule : Type 0} {old new : LeaperView Rule} (first : Tree) (n i : ℕ) → 7 ≤ first.level → 32 ≤ n → i ≤ 8 → Costs Rule old new (i * (2 * 14 ^ (first.level + 4))) (255 * i) → IsDense Rule old first n new
 grids_done first n i least many few costs = record { least = least; many = many; costs = costs_more costs (grids_cost i first.level few) (omega (arith, few)) }
+
+-- nor are those before and one grid more
+pub grids_end : {Rule : Type 0} {old mid new : LeaperView Rule} (first : Tree) (n i : ℕ) → 7 ≤ first.level → 32 ≤ n → i < 8 → Costs Rule old mid (i * (2 * 14 ^ (first.level + 4))) (255 * i)
+    → Costs Rule mid new (2 * 14 ^ (first.level + 4)) 255 → IsDense Rule old first n new
+grids_end first n i least many few before now = grids_done first n (i + 1) least many (omega (arith, few)) (grid_more first i before now)

@@ -4,7 +4,7 @@ use Rattle.std.specs.Prelude.{ℤ, pos, ◌+ℤ◌, ◌-ℤ◌, replicate, FitsS
 use Rattle.std.proofs.lemmas.Int.{ints, to_z-of_z}
 use Rattle.std.proofs.lemmas.List.{length-append, get_or_append_left}
 use Rattle.std.proofs.Math.Seq.{get_or-append_seam}
-use Rattle.std.proofs.Math.Nat.{mul_comm, mul_assoc, two-pow-succ, div-mul-le_self, mul-le-mul_right}
+use Rattle.std.proofs.Math.Nat.{mul_comm, mul_assoc, div-mul-le_self, mul-le-mul_right}
 use Rattle.ca_plane.proofs.Numbers.{below_or_not}
 use Rattle.ca_quad.specs.declared.node.Node.{Node}
 use Rattle.ca_quad.specs.Prelude.{cell_of, IsEmpty}
@@ -56,13 +56,6 @@ sixty_four_times k =
     let b = side_words k in
     ap (λ m. 2 ^ m) six ∙ a ∙ omega (arith, b)
 
-pub sixteen_times : (k : ℕ) → 2 ^ (k + 4) ≡ 16 * 2 ^ k
-sixteen_times k =
-    let four : k + 4 ≡ suc (suc (suc (suc k))) = omega arith in
-    let a = side_words (suc k) in
-    let b : 2 ^ suc k ≡ 2 * 2 ^ k = two-pow-succ k ∙ omega arith in
-    ap (λ m. 2 ^ m) four ∙ a ∙ omega (arith, b)
-
 -- a column that lies beside all bricks of a tree shows nothing
 pub column_dead : (p : ℤ → ℤ → ℕ) (way half column : ℕ) → 64 * half ≡ way → half ≤ 2 ^ 55 → DiesBeyond way p → (column < 2 ^ 56 - half) ⊎ (2 ^ 56 - half + 2 * half ≤ column)
     → (x : ℕ) → x < 64 → (y : ℤ) → p (piece_start column +ℤ pos x) y ≡ 0
@@ -93,9 +86,9 @@ pub pieces_of_four : (across rows : ℕ) → 4 * (across * rows) ≡ (4 * rows) 
 pieces_of_four across rows = ap (λ n. 4 * n) (mul_comm across rows) ∙ sym (mul_assoc 4 rows across)
 
 -- eight words that are found at one place are found at another name of it
-pub eight_from : (words : List ℕ) (p : ℤ → ℤ → ℕ) (f : ℕ → ℤ) (a b d : ℤ) → ((k : ℕ) → k < 8 → f k ≡ a +ℤ pos (8 * k)) → b ≡ d
-    → ((k : ℕ) → k < 8 → WordShows (slice_index words k) p (f k) b) → (k : ℕ) → k < 8 → WordShows (slice_index words k) p (a +ℤ pos (8 * k)) d
-eight_from words p f a b d e g shows k h = word_from (slice_index words k) p (f k) b (a +ℤ pos (8 * k)) d (e k h) g (shows k h)
+pub eight_from : (words : List ℕ) (p : ℤ → ℤ → ℕ) (a b c d : ℤ) → a ≡ c → b ≡ d → ((k : ℕ) → k < 8 → WordShows (slice_index words k) p (a +ℤ pos (8 * k)) b)
+    → (k : ℕ) → k < 8 → WordShows (slice_index words k) p (c +ℤ pos (8 * k)) d
+eight_from words p a b c d e f shows k h = word_from (slice_index words k) p (a +ℤ pos (8 * k)) b (c +ℤ pos (8 * k)) d (ap (λ x. x +ℤ pos (8 * k)) e) f (shows k h)
 
 -- the row of a brick is one of four for each piece
 pub row_of_bricks : (across rows t : ℕ) → 0 < across → t < 4 * (across * rows) → t / across < 4 * rows

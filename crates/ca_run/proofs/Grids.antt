@@ -1,5 +1,5 @@
 -- Trees made of bricks.
-use Rattle.std.proofs.Common.{◌≡◌, ℕ, suc, ◌+◌, ◌-◌, ◌≤◌, ◌^◌, inl, inr, List, subst, arith}
+use Rattle.std.proofs.Common.{◌≡◌, ℕ, suc, ◌+◌, ◌-◌, ◌≤◌, ◌^◌, inl, inr, List, subst, ◌∙◌, arith}
 use Rattle.std.specs.Prelude.{ℤ, pos, neg_ℤ, ◌+ℤ◌}
 use Rattle.std.proofs.lemmas.Int.{ints}
 use Rattle.std.proofs.Math.Pow.{pow_mono}
@@ -7,7 +7,7 @@ use Rattle.ca_quad.specs.declared.{node.Node.Node, tree.Tree.Tree}
 use Rattle.ca_quad.specs.Prelude.{cell}
 use Rattle.ca_bricks.specs.declared.grid.{BrickGrid.BrickGrid, WordPlace.WordPlace}
 use Rattle.ca_run.specs.inner.Shown.{ShowsAt}
-use Rattle.ca_bricks.specs.Prelude.{eight, HasMargin, IsNearGrid, LiesWithin}
+use Rattle.ca_bricks.specs.Prelude.{eight, HasMargin, IsAligned, IsInPlace, IsNearGrid, LiesWithin}
 use Rattle.ca_run.specs.inner.Beyond.{DiesBeyond}
 use Rattle.ca_run.proofs.ShownPlanes.{at_from}
 use Rattle.ca_run.proofs.Trees.{tree_at}
@@ -43,3 +43,15 @@ corner_near grid power at most within e f =
       east = omega (arith, ints, e, words, within.west);
       south = omega (arith, ints, f, words, within.north);
     }
+
+-- a grid in the same place lies within the same way, and is aligned too
+pub within_place : (a b : BrickGrid) (way : ℕ) → IsInPlace a b → LiesWithin way a → LiesWithin way b
+within_place a b way place within = record {
+  west = rw place.x within.west;
+  north = rw place.y within.north;
+  east = rw (place.x, place.across) within.east;
+  south = rw (place.y, place.down) within.south;
+}
+
+pub aligned_place : (a b : BrickGrid) → IsInPlace a b → IsAligned a → IsAligned b
+aligned_place a b place aligned = record { x = (aligned.x.0, place.x ∙ aligned.x.1); y = (aligned.y.0, place.y ∙ aligned.y.1) }

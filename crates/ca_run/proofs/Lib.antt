@@ -14,9 +14,9 @@ pub mod GridBricks
 pub mod Grids
 pub mod DenseRuns
 pub mod Costs
+pub mod CostSteps
 pub mod GridCosts
 pub mod LeapResults
 pub mod CopiedLeaps
 pub mod AgedWords
 pub mod FramedAgedGrids
-pub mod AgedRuns

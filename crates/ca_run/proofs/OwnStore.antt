@@ -1,6 +1,6 @@
 -- Runs in a store of their own.
 use Rattle.std.proofs.Common.{◌≡◌, ℕ, ◌+◌, ◌-◌, ◌*◌, ◌<◌, ◌≤◌, inl, inr, List, length, take, sym, ap, subst, ◌∙◌, length-take, arith}
-use Rattle.ca_quad.specs.declared.{node.Node.Node}
+use Rattle.ca_quad.specs.declared.node.Node.{Node}
 use Rattle.ca_quad.specs.Prelude.{IsSoundStore, Grows}
 use Rattle.ca_quad.proofs.Firsts.{firsts_sound}
 use Rattle.ca_quad.proofs.Growth.{grows_same}

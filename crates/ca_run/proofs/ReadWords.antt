@@ -1,15 +1,13 @@
--- Squares read as words: where the words of their parts lie.
-use Rattle.std.proofs.Common.{◌≡◌, ℕ, suc, ◌+◌, ◌-◌, ◌*◌, ◌%◌, ◌≤◌, ◌<◌, ◌^◌, nat_lt, if◌then◌else◌, true, false, Option, IfSome, inl, inr, ap, ◌∙◌, arith}
+-- Parts of squares: where they lie.
+use Rattle.std.proofs.Common.{◌≡◌, ℕ, suc, ◌+◌, ◌-◌, ◌*◌, ◌%◌, ◌≤◌, ◌<◌, ◌^◌, nat_lt, if◌then◌else◌, true, false, inl, inr, sym, ap, ◌∙◌, arith}
 use Rattle.std.specs.Prelude.{ℤ, pos, ◌+ℤ◌}
 use Rattle.std.proofs.lemmas.Int.{ints}
-use Rattle.std.proofs.Math.Nat.{two-pow-succ}
+use Rattle.std.proofs.Math.Nat.{mul_comm, mul-add, two-pow-succ}
 use Rattle.std.proofs.Math.Pow.{pow_mono}
 use Rattle.std.proofs.lemmas.Nat.{mod-mul-add, pow-add}
 use Rattle.std.proofs.lemmas.Bool.Decides.{nat_tests}
 use Rattle.ca_plane.proofs.Numbers.{below_or_not}
-use Rattle.ca_bricks.specs.Prelude.{side, WordShows, eight}
-use Rattle.ca_run.proofs.Trees.{some_as}
-use Rattle.ca_bricks.proofs.Words.{word_from}
+use Rattle.ca_bricks.specs.Prelude.{side}
 
 -- a smaller number is its own remainder
 own_rest : (n m : ℕ) → n < m → n % m ≡ n
@@ -24,41 +22,24 @@ half_is k low =
     let one : 1 * 2 ^ k ≡ 2 ^ k = omega arith in
     ap (λ n. n % 2 ^ 64) one ∙ own_rest (2 ^ k) (2 ^ 64) (omega (arith, few))
 
-module _ (k i h : ℕ) (e : h ≡ 2 ^ k) where
-  -- a place in the first half is the same in the part
-  pub near : i < h → (a : ℤ) → a +ℤ eight (pos (i % h)) ≡ a +ℤ eight (pos i)
-  near l a = ap (λ n. a +ℤ eight (pos n)) (own_rest i h l)
+-- the first place is where the square begins
+pub first_place : (l i : ℕ) → i ≡ 0 → (a : ℤ) → a ≡ a +ℤ pos (2 ^ l * i)
+first_place l i e a = rw e (omega (arith, ints))
 
-  -- and one in the other half lies as far beyond the part's beginning
-  pub far : h ≤ i → suc i ≤ 2 ^ suc k → (a : ℤ) → (a +ℤ side (suc (suc (suc k)))) +ℤ eight (pos (i % h)) ≡ a +ℤ eight (pos i)
-  far m l a =
-      let up = two-pow-succ k in
-      let up1 = two-pow-succ (suc k) in
-      let up2 = two-pow-succ (suc (suc k)) in
-      let sum : i ≡ 1 * h + (i - h) = omega (arith, m) in
-      let rest : i % h ≡ i - h = ap (λ n. n % h) sum ∙ mod-mul-add 1 h (i - h) (omega (arith, e, up, l, m)) in
-      ap (λ n. (a +ℤ side (suc (suc (suc k)))) +ℤ eight (pos n)) rest ∙ omega (arith, ints, e, up, up1, up2, m)
-
--- a word that is found shows the plane at a place by another name
-pub found_from : (r : Option ℕ) (p : ℤ → ℤ → ℕ) (a b c d : ℤ) → a ≡ c → b ≡ d → IfSome r (λ word. WordShows word p a b) → IfSome r (λ word. WordShows word p c d)
-found_from r p a b c d e f h = some_as r (λ word. WordShows word p a b) (λ word. WordShows word p c d) (λ word shows. word_from word p a b c d e f shows) h
-
--- ---- words
-
--- ---- pieces of 64 by 64 cells
-
--- a place among them is as far in the half that it lies in
-pub piece_from : (k n i h : ℕ) → n ≡ k + 6 → h ≡ 2 ^ k → suc i ≤ 2 ^ suc k → (a : ℤ)
-    → (if nat_lt i h then a else (a +ℤ side n)) +ℤ pos (64 * (i % h)) ≡ a +ℤ pos (64 * i)
-piece_from k n i h level e low a = elim (below_or_not i h) [
+-- a place among parts is as far in the half that it lies in
+pub part_from : (k l n i h : ℕ) → n ≡ k + l → h ≡ 2 ^ k → suc i ≤ 2 ^ suc k → (a : ℤ)
+    → (if nat_lt i h then a else (a +ℤ side n)) +ℤ pos (2 ^ l * (i % h)) ≡ a +ℤ pos (2 ^ l * i)
+part_from k l n i h level e low a = elim (below_or_not i h) [
   | inl near ↦
       let here : nat_lt i h ≡ true = grind (arith, nat_tests, near) in
-      rw here (ap (λ n. a +ℤ pos (64 * n)) (own_rest i h near))
+      rw here (ap (λ n. a +ℤ pos (2 ^ l * n)) (own_rest i h near))
   | inr far ↦
       let there : nat_lt i h ≡ false = grind (arith, nat_tests, far) in
       let up = two-pow-succ k in
-      let wide : 2 ^ n ≡ 2 ^ k * 2 ^ 6 = ap (λ n. 2 ^ n) level ∙ pow-add 2 k 6 in
+      let wide : 2 ^ n ≡ 2 ^ l * h = ap (λ n. 2 ^ n) level ∙ pow-add 2 k l ∙ mul_comm (2 ^ k) (2 ^ l) ∙ ap (λ m. 2 ^ l * m) (sym e) in
       let sum : i ≡ 1 * h + (i - h) = omega (arith, far) in
       let rest : i % h ≡ i - h = ap (λ n. n % h) sum ∙ mod-mul-add 1 h (i - h) (omega (arith, e, up, low, far)) in
-      rw (there, rest) (omega (arith, ints, e, wide, far))
+      let both : h + (i - h) ≡ i = omega (arith, far) in
+      let all : 2 ^ l * i ≡ 2 ^ l * h + 2 ^ l * (i - h) = ap (λ m. 2 ^ l * m) (sym both) ∙ mul-add (2 ^ l) h (i - h) in
+      rw (there, rest) (omega (arith, ints, wide, all))
 ]

@@ -2,8 +2,8 @@
 
 mod aged;
 mod frame;
+mod grid_rule;
 mod run;
 
-pub(crate) use aged::aged_grid_after;
 pub(crate) use frame::{Frame, frame_of};
-pub(crate) use run::grid_after;
+pub(crate) use grid_rule::GridRule;

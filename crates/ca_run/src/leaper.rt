@@ -11,7 +11,6 @@ ghost use Rattle.ca_run.specs.inner.Shown.{ShowsAt, FourShow};
 ghost use Rattle.ca_plane.specs.Prelude.{most_memo};
 
 mod advance;
-mod aged;
 mod aged_plane;
 mod base;
 mod centres;
@@ -26,15 +25,16 @@ mod milestone;
 mod parts;
 mod planes;
 mod squares;
-mod to_aged_grid;
 mod to_grid;
 
 use crate::watch::Watch;
+pub(crate) use aged_plane::{AgedPlane, TwoStates};
 use ca_bricks::CellRule;
 use ca_memo::{Memo, Slots, slot_count};
 use ca_plane::{Automaton, Memory};
 use ca_quad::{Id, Store};
 use ca_work::{LeapFault, Work};
+pub(crate) use from_grid::SquareGrid;
 pub use milestone::Milestone;
 use std::alloc::Global;
 use std::marker::Model;

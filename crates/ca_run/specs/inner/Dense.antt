@@ -6,20 +6,13 @@ use Rattle.ca_quad.specs.declared.{node.Node.Node, tree.Tree.Tree}
 use Rattle.ca_quad.specs.Prelude.{IsTree, cell, HoldsAll}
 use Rattle.ca_work.specs.declared.fault.LeapFault.{LeapFault}
 use Rattle.ca_run.specs.Leaping.{Costs, LeaperView}
-use Rattle.ca_bricks.specs.Prelude.{GoesByCells}
-use Rattle.ca_run.specs.declared.leaper.dense.{DenseRule.DenseRule, ReachedTree.ReachedTree}
-use Rattle.ca_run.specs.declared.leaper.dense.DenseRule.TheVariants.{ByCells, ByAgeing}
+use Rattle.ca_run.specs.declared.leaper.dense.ReachedTree.{ReachedTree}
 
 -- the rule's cells age so, and have two states at least
 pub record AgesBy (next : List ℕ → ℕ) (ageing : Ageing) : Type 0 where
   pub least : 2 ≤ ageing.states
   pub most : ageing.states ≤ 256
   pub ages : GoesByAgeing ageing.states next ageing
-
--- bricks can be stepped by the rule so
-abbrev pub GoesDensely : (List ℕ → ℕ) → DenseRule → Type 0
-GoesDensely next (ByCells rule) = GoesByCells next rule
-GoesDensely next (ByAgeing ageing) = AgesBy next ageing
 
 -- the tree's level is at most any that holds all its live cells, from some level on
 abbrev pub IsLow : ℕ → List Node → Tree → Type 0

@@ -1,11 +1,11 @@
 -- Where the bricks of a box lie on the plane (our own). Each side is cut into pieces of 64 cells, which are counted from -2^62 on: a piece of
 -- 64 by 64 cells has four rows of one brick.
-use Rattle.std.specs.Prelude.{◌≡◌, ℕ, suc, ◌+◌, ◌*◌, ◌^◌, ◌≤◌, ◌⊎◌, ℤ, pos, neg_ℤ, ◌+ℤ◌, ◌-ℤ◌, ◌<ℤ◌, ◌≤ℤ◌, List, length}
+use Rattle.std.specs.Prelude.{◌≡◌, ℕ, suc, ◌+◌, ◌*◌, ◌^◌, ◌<◌, ◌≤◌, ◌⊎◌, ℤ, pos, neg_ℤ, ◌+ℤ◌, ◌-ℤ◌, ◌<ℤ◌, ◌≤ℤ◌, List, length}
 use Rattle.ca_quad.specs.declared.{node.Node.Node, tree.Tree.Tree, tree.WideBounds.WideBounds}
 use Rattle.ca_quad.specs.Prelude.{IsTree}
 use Rattle.ca_run.specs.declared.bricks.frame.{Span.Span, Frame.Frame}
 use Rattle.ca_bricks.specs.declared.grid.BrickGrid.{BrickGrid}
-use Rattle.ca_bricks.specs.Prelude.{HasMargin}
+use Rattle.ca_bricks.specs.Prelude.{HasMargin, IsAligned, LiesNearOrigin}
 
 -- where a piece begins, and so a column of bricks
 abbrev pub piece_start : ℕ → ℤ
@@ -59,6 +59,14 @@ pub record IsOfFrame (frame : Frame) (grid : BrickGrid) : Type 0 where
   pub across : grid.across ≡ frame.columns.count
   pub down : grid.down ≡ 4 * frame.rows.count
   pub size : length grid.bricks.items ≡ 4 * (frame.columns.count * frame.rows.count)
+
+-- the grid, of which no brick was stepped, lies near the origin, a whole number of words from it, and has not too many bricks
+pub record IsNewGrid (grid : BrickGrid) : Type 0 where
+  pub near : LiesNearOrigin grid
+  pub aligned : IsAligned grid
+  pub room : grid.across + length grid.bricks.items < 2 ^ 63
+  pub few : length grid.bricks.items ≤ 2 ^ 18
+  pub unstepped : grid.work ≡ 0
 
 -- the tree can be read brick by brick
 pub record IsReadByBricks (nodes : List Node) (tree : Tree) : Type 0 where

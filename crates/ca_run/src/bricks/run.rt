@@ -1,15 +1,16 @@
 //! Generations of a grid.
 
-ghost use Rattle.std.specs.Prelude.{◌≡◌, ◌+◌, ◌*◌, ◌<◌, ◌≤◌, ◌^◌, length, min, IfOk, OnOk};
-ghost use Rattle.ca_plane.specs.Prelude.{cells_after, most_generations};
-ghost use Rattle.ca_bricks.specs.Prelude.{GridShows, CanStepFor, IsInPlace};
-ghost use Rattle.ca_quad.specs.Prelude.{cell};
-ghost use Rattle.ca_work.specs.Prelude.{Spends, EndsAtLimit};
+ghost use Rattle.std.specs.Prelude.{◌≡◌, ◌+◌, ◌<◌, ◌^◌, ⊤, length, min, IfOk, OnOk};
+ghost use Rattle.std.proofs.Common.{lit≤};
+ghost use Rattle.ca_bricks.specs.Prelude.{GoesByCells};
+ghost use Rattle.ca_work.specs.Prelude.{EndsAtLimit};
+ghost use Rattle.ca_run.specs.inner.AtCost.{SpendsAtMost};
 
-use crate::leaper::{Leaper, Milestone};
+use super::{Frame, GridRule};
+use crate::leaper::{Leaper, Milestone, TwoStates};
 use crate::watch::Watch;
 use ca_bricks::{BrickGrid, CellRule, Queue, blank_bricks, first_bricks, generation, wake_next};
-use ca_plane::Automaton;
+use ca_plane::{Automaton, Memory};
 use ca_quad::Tree;
 use ca_work::{LeapFault, Work};
 use std::alloc::Global;
@@ -18,9 +19,8 @@ use std::alloc::Global;
 pub(super) fn count_steps(work: &mut Work, awake: &[usize], count: usize) -> Result<u64, LeapFault>
     ensures steps { IfOk result (λ steps. steps ≡ min (length awake.now) count) }
     ensures counts { OnOk result (work.new.used ≡ work.old.used + min (length awake.now) count) }
-    ensures most { work.new.used ≤ work.old.used + count }
+    ensures charged { SpendsAtMost work.old work.new count }
     ensures fits { work.new.used < 2 ^ 64 }
-    ensures spends { Spends work.old work.new }
     ensures work { EndsAtLimit work.new result }
 {
     let steps = awake.len().min(count) as u64;
@@ -28,48 +28,59 @@ pub(super) fn count_steps(work: &mut Work, awake: &[usize], count: usize) -> Res
     Ok(steps)
 }
 
-/// The grid n generations on. The run began with a tree, so many generations before. Each brick that is
-/// stepped is counted before: no more in a generation than there are.
-pub(crate) fn grid_after<A: Automaton, W: Watch>(
-    mut grid: BrickGrid,
-    alloc: Global,
-    rule: &CellRule,
-    n: u64,
-    leaper: &Leaper<A>,
-    first: &Tree,
-    reached: u64,
-    work: &mut Work,
-    watch: &mut W,
-) -> Result<BrickGrid, LeapFault>
-    requires begins { CanStepFor (A.next_of leaper.now.rule) rule.now
-        (cell leaper.now.nodes first.now) reached n grid }
-    requires time { reached + n ≤ most_generations }
-    requires fresh { grid.work ≡ 0 }
-    ensures shows { IfOk result (λ later. GridShows later 0
-        (cells_after (A.next_of leaper.now.rule) (cell leaper.now.nodes first.now) (reached + n))) }
-    ensures place { IfOk result (IsInPlace grid) }
-    ensures spends { Spends work.old work.new }
-    ensures counts { IfOk result (λ later. work.new.used ≡ work.old.used + later.work) }
-    ensures most { work.new.used ≤ work.old.used + n * length grid.bricks.items }
-    ensures work { EndsAtLimit work.new result }
-{
-    let count = grid.bricks.len();
-    let mut queue = Queue::new(alloc, count)?;
-    let mut awake = first_bricks(alloc, grid.across, &grid.bricks, &mut queue)?;
-    let mut before = blank_bricks(alloc, count)?;
-    'generations: for k in 0..n {
-        let steps = count_steps(work, &awake, count)?;
-        grid.work = grid.work.saturating_add(steps);
-        generation(
-            grid.across,
-            &mut grid.bricks,
-            &mut before,
-            &awake,
-            &mut queue,
-            rule,
-        )?;
-        wake_next(k == 0, grid.across, count, &mut queue, &mut awake)?;
-        watch.reached(Milestone::with_grid(leaper, first, &grid, reached + k + 1));
+impl GridRule for CellRule {
+    type Grid = BrickGrid;
+
+    ghost goes_by = { λ rule next. GoesByCells next rule };
+
+    ghost suits = { λ _ _. ⊤ };
+
+    ghost MOST_GROWTH = { 6 };
+
+    const MOST_GROWTH: u8 = 6;
+
+    ghost is_cheap = { λ _. lit≤ tt };
+
+    fn grid_of<A: Automaton>(
+        &self,
+        leaper: &Leaper<A>,
+        alloc: Global,
+        tree: &Tree,
+        frame: &Frame,
+    ) -> Result<Option<BrickGrid>, Memory> {
+        leaper.grid_of(alloc, TwoStates, tree, frame)
     }
-    Ok(grid)
+
+    #[tactic(auto, using(crate::proofs::Costs::charged_within))]
+    fn grid_after<A: Automaton, W: Watch>(
+        &self,
+        mut grid: BrickGrid,
+        alloc: Global,
+        n: u64,
+        leaper: &Leaper<A>,
+        first: &Tree,
+        reached: u64,
+        work: &mut Work,
+        watch: &mut W,
+    ) -> Result<BrickGrid, LeapFault> {
+        let count = grid.bricks.len();
+        let mut queue = Queue::new(alloc, count)?;
+        let mut awake = first_bricks(alloc, grid.across, &grid.bricks, &mut queue)?;
+        let mut before = blank_bricks(alloc, count)?;
+        'generations: for k in 0..n {
+            let steps = count_steps(work, &awake, count)?;
+            grid.work = grid.work.saturating_add(steps);
+            generation(
+                grid.across,
+                &mut grid.bricks,
+                &mut before,
+                &awake,
+                &mut queue,
+                self,
+            )?;
+            wake_next(k == 0, grid.across, count, &mut queue, &mut awake)?;
+            watch.reached(Milestone::with_grid(leaper, first, &grid, reached + k + 1));
+        }
+        Ok(grid)
+    }
 }

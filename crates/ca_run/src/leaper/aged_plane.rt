@@ -1,10 +1,10 @@
 //! Planes of bits that are read from squares of states.
 
-ghost use Rattle.std.specs.Prelude.{◌≡◌, ℕ, suc, ◌<◌, ℤ, pos, ◌+ℤ◌, IfSome, if◌then◌else◌};
+ghost use Rattle.std.specs.Prelude.{◌≡◌, ℕ, ◌<◌, ℤ, pos, ◌+ℤ◌, IfSome, if◌then◌else◌};
 ghost use Rattle.std.specs.Int.{bit_at};
 ghost use Rattle.ca_quad.specs.Prelude.{IsOf};
 ghost use Rattle.ca_run.specs.inner.Shown.{ShowsAt};
-ghost use Rattle.ca_bricks.specs.Prelude.{side, WordShows};
+ghost use Rattle.ca_bricks.specs.Prelude.{WordShows};
 ghost use Rattle.ca_run.specs.inner.AgedPlanes.{aged_bit};
 
 use super::Leaper;
@@ -13,7 +13,7 @@ use ca_plane::Automaton;
 use ca_quad::Id;
 
 /// Says of each state whether a cell of it has a bit.
-pub(super) trait StatePlane: Copy {
+pub(crate) trait StatePlane: Copy {
     // 1 for a state that has it, else 0.
     ghost bit_of: { Self → ℕ → ℕ };
 
@@ -26,7 +26,7 @@ pub(super) trait StatePlane: Copy {
 
 /// The states 0 and 1 as bits: there are none where a cell has another.
 #[derive(Clone, Copy)]
-pub(super) struct TwoStates;
+pub(crate) struct TwoStates;
 
 impl StatePlane for TwoStates {
     ghost bit_of = { λ _ state. state };
@@ -38,7 +38,7 @@ impl StatePlane for TwoStates {
 
 /// A plane of a grid of cells that age, under a rule of so many states.
 #[derive(Clone, Copy)]
-pub(super) enum AgedPlane {
+pub(crate) enum AgedPlane {
     /// The live cells.
     Live,
     /// A binary digit of the number of generations after which a dying cell is dead.
@@ -104,32 +104,13 @@ impl<A: Automaton> Leaper<A> {
         ensures { (p : ℤ → ℤ → ℕ) (a b : ℤ) → ShowsAt self.now.nodes id 3 p a b
             → result ≡ p (a +ℤ pos x) (b +ℤ pos y) }
     {
-        let quarter = self.part_in(id, 1, x < 4, y < 4);
-        let leaf = self.part_in(quarter, 0, x % 4 < 2, y % 4 < 2);
+        let leaf = self.part_at(id, 1, 2, x / 2, y / 2);
         let [nw, ne, sw, se] = self.store.cells4(leaf);
         match (x % 2, y % 2) {
             (0, 0) => nw,
             (_, 0) => ne,
             (0, _) => sw,
             _ => se,
-        }
-    }
-
-    // The part of a square in the west or the east of it, and in the north or the south. `part_level` is the level of the part's own
-    // parts.
-    pub(super) fn part_in(&self, id: Id, part_level: u8, west: bool, north: bool) -> Id
-        requires { IsOf self.now.nodes id (suc (suc part_level)) }
-        ensures square { IsOf self.now.nodes result (suc part_level) }
-        ensures shows { (p : ℤ → ℤ → ℕ) (a b : ℤ) → ShowsAt self.now.nodes id (suc (suc part_level)) p a b
-            → ShowsAt self.now.nodes result (suc part_level) p (if west then a else (a +ℤ side (suc part_level)))
-            (if north then b else (b +ℤ side (suc part_level))) }
-    {
-        let (nw, ne, sw, se) = self.quarters(id, part_level);
-        match (west, north) {
-            (true, true) => nw,
-            (false, true) => ne,
-            (true, false) => sw,
-            (false, false) => se,
         }
     }
 }

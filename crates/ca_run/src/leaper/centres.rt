@@ -93,6 +93,7 @@ impl<A: Automaton> Leaper<A> {
     // The centre of a square by nine squares that overlap, each result_id as wide: their centres make four
     // squares, and the centres of these are the result.
     #[cycle(leap)]
+    #[tactic(auto, using(crate::proofs::CostSteps::in_turn))]
     fn centre_of_nine<W: Watch>(
         &mut self,
         id: Id,
@@ -121,6 +122,7 @@ impl<A: Automaton> Leaper<A> {
 
     // The centres of the nine squares.
     #[cycle(leap)]
+    #[tactic(auto, using(crate::proofs::CostSteps::in_turn))]
     fn nine<W: Watch>(
         &mut self,
         id: Id,
@@ -152,6 +154,7 @@ impl<A: Automaton> Leaper<A> {
 
     // The centres of two squares side by side, and of the one between them.
     #[cycle(leap)]
+    #[tactic(auto, using(crate::proofs::CostSteps::in_turn))]
     fn trio<W: Watch>(
         &mut self,
         west: Id,
@@ -182,6 +185,7 @@ impl<A: Automaton> Leaper<A> {
 
     // The centres of the three squares in the middle row of four squares: each lies result_id in the north.
     #[cycle(leap)]
+    #[tactic(auto, using(crate::proofs::CostSteps::in_turn))]
     fn middle_trio<W: Watch>(
         &mut self,
         nw: Id,
@@ -216,6 +220,7 @@ impl<A: Automaton> Leaper<A> {
 
     // The square in the middle of four as it is, or after 2^j generations.
     #[cycle(leap)]
+    #[tactic(auto, using(crate::proofs::CostSteps::in_turn))]
     fn first_inner<W: Watch>(
         &mut self,
         nw: Id,
@@ -279,6 +284,7 @@ impl<A: Automaton> Leaper<A> {
 
     // The centres after 2^j generations of two squares that overlap by result_id, made of two rows of three.
     #[cycle(leap)]
+    #[tactic(auto, using(crate::proofs::CostSteps::in_turn))]
     fn pair<W: Watch>(
         &mut self,
         north: &Trio<Id>,
@@ -325,6 +331,7 @@ impl<A: Automaton> Leaper<A> {
 
     // The square in the middle of four, as far on as it can be known.
     #[cycle(leap)]
+    #[tactic(auto, using(crate::proofs::CostSteps::in_turn))]
     fn leap_of_four<W: Watch>(
         &mut self,
         nw: Id,
@@ -380,7 +387,6 @@ impl<A: Automaton> Leaper<A> {
     fn are_empty(&self, nw: Id, ne: Id, sw: Id, se: Id) -> bool
         requires { AreFour self.now.nodes 1 nw ne sw se }
     {
-        let _ = &self.rule;
         self.store.is_empty(nw)
             && self.store.is_empty(ne)
             && self.store.is_empty(sw)

@@ -1,21 +1,21 @@
 //! Planes that are stepped brick by brick: those of squares that hardly repeat.
 
-ghost use Rattle.std.specs.Prelude.{◌≡◌, ◌+◌, ◌*◌, ◌<◌, ◌≤◌, ◌^◌, ◌⊎◌, length, Ok, None, IfOk, IsOk, IfSome};
+ghost use Rattle.std.specs.Prelude.{◌≡◌, ◌+◌, ◌*◌, ◌≤◌, ◌^◌, ◌⊎◌, Ok, None, IfOk, IsOk, IfSome};
 ghost use Rattle.ca_plane.specs.Prelude.{cells_after, most_generations};
 ghost use Rattle.ca_quad.specs.Prelude.{IsTree, cell};
 ghost use Rattle.ca_run.specs.Leaping.{LeaperGrows};
 ghost use Rattle.ca_work.specs.Prelude.{EndsAtLimit};
 ghost use Rattle.ca_run.specs.inner.AtCost.{GoesOnAtCost};
-ghost use Rattle.ca_bricks.specs.Prelude.{GoesByCells, GridShows, IsInPlace, LiesNearOrigin, IsAligned};
-ghost use Rattle.ca_run.specs.inner.Dense.{HasReached, IsIdle, IsDense, GoesDensely};
-ghost use Rattle.ca_run.specs.inner.Frames.{IsReadByBricks, IsGridFrame, IsFramed};
+ghost use Rattle.ca_bricks.specs.Prelude.{IsBeside};
+ghost use Rattle.ca_run.specs.inner.Dense.{HasReached, IsIdle, IsDense};
+ghost use Rattle.ca_run.specs.inner.Frames.{IsReadByBricks, IsGridFrame, IsFramed, IsNewGrid};
 
 use super::Leaper;
-use super::aged_plane::TwoStates;
-use crate::bricks::{Frame, frame_of, grid_after};
+use super::from_grid::SquareGrid;
+use crate::bricks::{Frame, GridRule, frame_of};
 use crate::watch::Watch;
-use ca_bricks::{BrickGrid, CellRule};
-use ca_plane::{Ageing, Automaton, Memory};
+use ca_bricks::CellRule;
+use ca_plane::{Automaton, Memory};
 use ca_quad::{Tree, WideBounds};
 use ca_work::LeapFault;
 use std::alloc::Global;
@@ -32,13 +32,10 @@ const LEAST: u8 = 7;
 const GREATEST: u8 = 62;
 
 // For how many generations a grid has a margin.
-pub(super) const AT_A_TIME: u64 = 1024;
+const AT_A_TIME: u64 = 1024;
 
 // How many grids are made at most, one after the other.
 const MOST_GRIDS: u64 = 8;
-
-// How many levels more than the first tree the tree of a grid has at most, as a reach.
-pub(super) const MOST_GROWTH: u8 = 6;
 
 // How many bricks a grid has at most for each that is stepped in a generation.
 const MOST_RESTING: u64 = 320;
@@ -56,13 +53,6 @@ pub(super) struct Stretch {
     pub(super) reached: ReachedTree,
     pub(super) bricks: u64,
     pub(super) work: u64,
-}
-
-// How a rule goes by which bricks are stepped.
-#[derive(Drop)]
-pub(super) enum DenseRule {
-    ByCells(CellRule),
-    ByAgeing(Ageing),
 }
 
 impl<A: Automaton> Leaper<A> {
@@ -96,16 +86,22 @@ impl<A: Automaton> Leaper<A> {
         if !self.is_dense(tree)? {
             return Ok(reached);
         }
-        let Some(rule) = self.dense_rule()? else {
+        // Says how many any rule has.
+        let _states = self.rule.states();
+        if let Some(ageing) = self.rule.ageing() {
+            return self.step_grids(&ageing, tree, reached, n, watch);
+        }
+        let Some(rule) = CellRule::of(self.recent_centres.allocator(), &self.rule)? else {
             return Ok(reached);
         };
         self.step_grids(&rule, tree, reached, n, watch)
     }
 
     // What is reached by one grid after another, until few of the bricks of one are stepped.
-    fn step_grids<W: Watch>(
+    #[tactic(auto, using(crate::proofs::DenseRuns::grids_end))]
+    fn step_grids<R: GridRule, W: Watch>(
         &mut self,
-        rule: &DenseRule,
+        rule: &R,
         first: &Tree,
         mut reached: ReachedTree,
         n: u64,
@@ -113,9 +109,10 @@ impl<A: Automaton> Leaper<A> {
     ) -> Result<ReachedTree, LeapFault>
         requires first { IsTree self.old.nodes first.now }
         requires least { 7 ≤ first.now.level }
+        requires most { first.now.level ≤ 64 }
         requires many { 32 ≤ n }
         requires time { n ≤ most_generations }
-        requires goes { GoesDensely (A.next_of self.old.rule) rule.now }
+        requires rule { R.goes_by rule.now (A.next_of self.old.rule) }
         requires reached { HasReached (A.next_of self.old.rule)
             self.old.nodes first.now n self.old.nodes reached }
         ensures reached { IfOk result (HasReached (A.next_of self.old.rule)
@@ -127,7 +124,7 @@ impl<A: Automaton> Leaper<A> {
         let _ = &self.store;
         let mut most = 0;
         'grids: for _ in 0..MOST_GRIDS {
-            let Some(stretch) = self.step_by_rule(rule, first, &reached, n, watch)? else {
+            let Some(stretch) = self.step_grid(rule, first, &reached, n, watch)? else {
                 return Ok(reached);
             };
             let Stretch {
@@ -177,26 +174,10 @@ impl<A: Automaton> Leaper<A> {
         self.rule.states() == 2 || self.rule.ageing().is_some()
     }
 
-    // How the rule goes, where bricks can be stepped by it.
-    fn dense_rule(&self) -> Result<Option<DenseRule>, Memory>
-        ensures { IfOk result (λ found. IfSome found (GoesDensely (A.next_of self.now.rule))) }
-    {
-        // Says how many any rule has.
-        let _states = self.rule.states();
-        if let Some(ageing) = self.rule.ageing() {
-            return Ok(Some(DenseRule::ByAgeing(ageing)));
-        }
-        let alloc = self.recent_centres.allocator();
-        let Some(rule) = CellRule::of(alloc, &self.rule)? else {
-            return Ok(None);
-        };
-        Ok(Some(DenseRule::ByCells(rule)))
-    }
-
     // What is reached by one grid more, where the plane is not too large.
-    fn step_by_rule<W: Watch>(
+    fn step_grid<R: GridRule, W: Watch>(
         &mut self,
-        rule: &DenseRule,
+        rule: &R,
         first: &Tree,
         reached: &ReachedTree,
         n: u64,
@@ -204,35 +185,9 @@ impl<A: Automaton> Leaper<A> {
     ) -> Result<Option<Stretch>, LeapFault>
         requires first { IsTree self.old.nodes first.now }
         requires least { 7 ≤ first.now.level }
+        requires most { first.now.level ≤ 64 }
         requires time { n ≤ most_generations }
-        requires goes { GoesDensely (A.next_of self.old.rule) rule.now }
-        requires reached { HasReached (A.next_of self.old.rule)
-            self.old.nodes first.now n self.old.nodes reached.now }
-        ensures reached { IfOk result (λ found. IfSome found (λ stretch. HasReached (A.next_of self.old.rule)
-            self.old.nodes first.now n self.new.nodes stretch.reached)) }
-        ensures none { reached.now.generations ≡ n → IfOk result (λ found. found ≡ None) }
-        ensures at_cost { GoesOnAtCost A self.old self.new (2 * 14 ^ (first.now.level + 4)) 255 }
-        ensures work { EndsAtLimit self.new.spent result }
-    {
-        match rule {
-            DenseRule::ByCells(rule) => self.step_grid(rule, first, reached, n, watch),
-            DenseRule::ByAgeing(ageing) => self.step_aged_grid(*ageing, first, reached, n, watch),
-        }
-    }
-
-    // The same, by a rule of two states.
-    fn step_grid<W: Watch>(
-        &mut self,
-        rule: &CellRule,
-        first: &Tree,
-        reached: &ReachedTree,
-        n: u64,
-        watch: &mut W,
-    ) -> Result<Option<Stretch>, LeapFault>
-        requires first { IsTree self.old.nodes first.now }
-        requires least { 7 ≤ first.now.level }
-        requires time { n ≤ most_generations }
-        requires rule { GoesByCells (A.next_of self.old.rule) rule.now }
+        requires rule { R.goes_by rule.now (A.next_of self.old.rule) }
         requires reached { HasReached (A.next_of self.old.rule)
             self.old.nodes first.now n self.old.nodes reached.now }
         ensures reached { IfOk result (λ found. IfSome found (λ stretch. HasReached (A.next_of self.old.rule)
@@ -243,60 +198,59 @@ impl<A: Automaton> Leaper<A> {
     {
         let alloc = self.recent_centres.allocator();
         let left = (n - reached.generations).min(AT_A_TIME);
-        let Some(grid) = self.dense_grid(alloc, &reached.tree, left)? else {
+        let Some(grid) = self.dense_grid(alloc, rule, &reached.tree, left)? else {
             return Ok(None);
         };
-        let reach = grid.reach();
-        if reach > first.level + MOST_GROWTH {
+        let reach = grid.live().reach();
+        if reach > first.level + R::MOST_GROWTH {
             return Ok(None);
         }
         let later = self.later_grid(grid, rule, left, first, reached.generations, watch)?;
         let tree = self.tree_of(&later, reach)?;
         let tree = self.trim(tree)?;
+        let live = later.live();
         Ok(Some(Stretch {
             reached: ReachedTree {
                 tree,
                 generations: reached.generations + left,
             },
-            bricks: later.bricks.len() as u64,
-            work: later.work / left,
+            bricks: live.bricks.len() as u64,
+            work: live.work / left,
         }))
     }
 
     // The grid some generations on. The run began with a tree, so many generations before. The bricks that
     // are stepped are counted.
-    fn later_grid<W: Watch>(
+    fn later_grid<R: GridRule, W: Watch>(
         &mut self,
-        grid: BrickGrid,
-        rule: &CellRule,
+        grid: R::Grid,
+        rule: &R,
         generations: u64,
         first: &Tree,
         reached: u64,
         watch: &mut W,
-    ) -> Result<BrickGrid, LeapFault>
-        requires rule { GoesByCells (A.next_of self.old.rule) rule.now }
-        requires shows { GridShows grid generations
+    ) -> Result<R::Grid, LeapFault>
+        requires rule { R.goes_by rule.now (A.next_of self.old.rule) }
+        requires shows { R.Grid.shows_plane grid generations
             (cells_after (A.next_of self.old.rule) (cell self.old.nodes first.now) reached) }
-        requires room { grid.across + length grid.bricks.items < 2 ^ 63 }
-        requires few { length grid.bricks.items ≤ 2 ^ 18 }
-        requires least { 7 ≤ first.now.level }
+        requires suits { R.suits rule.now grid }
+        requires fresh { IsNewGrid (R.Grid.live_grid grid) }
         requires margin { generations ≤ 1024 }
         requires time { reached + generations ≤ most_generations }
-        requires fresh { grid.work ≡ 0 }
-        ensures shows { IfOk result (λ later. GridShows later 0 (cells_after (A.next_of self.old.rule)
+        ensures shows { IfOk result (λ later. R.Grid.shows_plane later 0 (cells_after (A.next_of self.old.rule)
             (cell self.old.nodes first.now) (reached + generations))) }
-        ensures place { IfOk result (IsInPlace grid) }
+        ensures place { IfOk result (λ later. IsBeside (R.Grid.live_grid grid) (R.Grid.live_grid later)) }
         ensures same { self.new.nodes ≡ self.old.nodes }
-        ensures counts { IfOk result (λ later. self.new.spent.used ≡ self.old.spent.used + later.work) }
-        ensures at_cost { GoesOnAtCost A self.old self.new (14 ^ (first.now.level + 4)) 0 }
+        ensures counts { IfOk result (λ later. self.new.spent.used
+            ≡ self.old.spent.used + (R.Grid.live_grid later).work) }
+        ensures at_cost { GoesOnAtCost A self.old self.new (2 ^ 28) 0 }
         ensures work { EndsAtLimit self.new.spent result }
     {
         let alloc = self.recent_centres.allocator();
         let mut spent = self.work;
-        let later = grid_after(
+        let later = rule.grid_after(
             grid,
             alloc,
-            rule,
             generations,
             self,
             first,
@@ -308,13 +262,31 @@ impl<A: Automaton> Leaper<A> {
         later
     }
 
-    // The frame of a tree with a margin of so many cells, where it is not too large.
-    pub(super) fn dense_frame(
+    // The grid of a tree with a margin of so many cells, where it is not too large.
+    fn dense_grid<R: GridRule>(
         &self,
         alloc: Global,
+        rule: &R,
         tree: &Tree,
         margin: u64,
-    ) -> Result<Option<Frame>, Memory>
+    ) -> Result<Option<R::Grid>, Memory>
+        requires rule { R.goes_by rule.now (A.next_of self.now.rule) }
+        requires tree { IsTree self.now.nodes tree.now }
+        requires margin { margin ≤ most_generations }
+        ensures shows { IfOk result (λ found. IfSome found
+            (λ grid. R.Grid.shows_plane grid margin (cell self.now.nodes tree.now))) }
+        ensures suits { IfOk result (λ found. IfSome found (R.suits rule.now)) }
+        ensures fresh { IfOk result (λ found. IfSome found (λ grid. IsNewGrid (R.Grid.live_grid grid))) }
+        ensures some { margin ≡ 0 → result ≡ Ok None }
+    {
+        let Some(frame) = self.dense_frame(alloc, tree, margin)? else {
+            return Ok(None);
+        };
+        rule.grid_of(self, alloc, tree, &frame)
+    }
+
+    // The frame of a tree with a margin of so many cells, where it is not too large.
+    fn dense_frame(&self, alloc: Global, tree: &Tree, margin: u64) -> Result<Option<Frame>, Memory>
         requires tree { IsTree self.now.nodes tree.now }
         requires margin { margin ≤ most_generations }
         ensures read { IfOk result (λ found. IfSome found (λ _. IsReadByBricks self.now.nodes tree.now)) }
@@ -330,31 +302,6 @@ impl<A: Automaton> Leaper<A> {
             return Ok(None);
         };
         Ok(frame_of(bounds, margin as usize))
-    }
-
-    // The grid of a tree with a margin of so many cells, where it is not too large.
-    fn dense_grid(
-        &self,
-        alloc: Global,
-        tree: &Tree,
-        margin: u64,
-    ) -> Result<Option<BrickGrid>, Memory>
-        requires tree { IsTree self.now.nodes tree.now }
-        requires margin { margin ≤ most_generations }
-        ensures shows { IfOk result (λ found. IfSome found
-            (λ grid. GridShows grid margin (cell self.now.nodes tree.now))) }
-        ensures near { IfOk result (λ found. IfSome found LiesNearOrigin) }
-        ensures aligned { IfOk result (λ found. IfSome found IsAligned) }
-        ensures room { IfOk result (λ found. IfSome found
-            (λ grid. grid.across + length grid.bricks.items < 2 ^ 63)) }
-        ensures few { IfOk result (λ found. IfSome found (λ grid. length grid.bricks.items ≤ 2 ^ 18)) }
-        ensures fresh { IfOk result (λ found. IfSome found (λ grid. grid.work ≡ 0)) }
-        ensures some { margin ≡ 0 → result ≡ Ok None }
-    {
-        let Some(frame) = self.dense_frame(alloc, tree, margin)? else {
-            return Ok(None);
-        };
-        self.grid_of(alloc, TwoStates, tree, &frame)
     }
 }
 

@@ -8,7 +8,7 @@ ghost use Rattle.ca_bricks.specs.Prelude.{StatesShow, AgedGridShows, IsAgedGrid}
 
 use super::Leaper;
 use super::from_grid::SquareGrid;
-use ca_bricks::{AgedGrid, WordPlace};
+use ca_bricks::{AgedGrid, BrickGrid, WordPlace};
 use ca_plane::{Automaton, Memory};
 use ca_quad::Id;
 use ca_work::LeapFault;
@@ -24,6 +24,13 @@ impl SquareGrid for AgedGrid {
     ghost shows_plane = { AgedGridShows };
 
     ghost units = { λ _. 20 };
+
+    ghost whole = { λ grid m p shows. record {
+      least = shows.least;
+      most = shows.most;
+      live = shows.live.is_grid;
+      beside = shows.beside;
+    } };
 
     ghost margin = { λ grid m p shows. shows.margin };
 
@@ -48,10 +55,15 @@ impl SquareGrid for AgedGrid {
         }
         true
     }
+
+    fn live(&self) -> &BrickGrid {
+        &self.live
+    }
 }
 
 impl<A: Automaton> Leaper<A> {
     // The square of 8 by 8 cells of these states, row by row.
+    #[tactic(auto, using(crate::proofs::CostSteps::in_turn))]
     fn from_states(&mut self, cells: &[u8; 64]) -> Result<Id, Memory>
         ensures shows { (p : ℤ → ℤ → ℕ) (a b : ℤ) → StatesShow 8 cells.now 0 p a b
             → IfOk result (λ id. ShowsAt self.new.nodes id 3 p a b) }
@@ -66,6 +78,7 @@ impl<A: Automaton> Leaper<A> {
     }
 
     // The square of 4 by 4 of them from a place on.
+    #[tactic(auto, using(crate::proofs::CostSteps::in_turn))]
     fn from_quarter(&mut self, cells: &[u8; 64], place: usize) -> Result<Id, Memory>
         requires { place ≤ 36 }
         ensures shows { (p : ℤ → ℤ → ℕ) (a b : ℤ) → StatesShow 4 cells.now place p a b

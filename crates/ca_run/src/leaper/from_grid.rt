@@ -6,17 +6,17 @@ ghost use Rattle.ca_work.specs.Prelude.{EndsAtLimit};
 ghost use Rattle.ca_run.specs.inner.AtCost.{GoesOnAtCost};
 ghost use Rattle.ca_run.specs.inner.Shown.{ShowsAt};
 ghost use Rattle.ca_bricks.specs.declared.grid.BrickGrid.{BrickGrid};
-ghost use Rattle.ca_bricks.specs.Prelude.{AgedGridShows, IsAgedGrid, IsGrid, GridShows, HasMargin, IsNearGrid, LiesWithin};
+ghost use Rattle.ca_bricks.specs.Prelude.{IsGrid, GridShows, HasMargin, IsNearGrid, LiesWithin};
 ghost use Rattle.ca_bricks.specs.Prelude.{IsAligned, eight};
 
 use super::Leaper;
-use ca_bricks::{AgedGrid, BrickGrid, QuarterPlaces, WordPlace};
+use ca_bricks::{BrickGrid, QuarterPlaces, WordPlace};
 use ca_plane::{Automaton, Memory};
 use ca_quad::{Id, Tree};
 use ca_work::LeapFault;
 
 /// Grids of which squares are made.
-pub(super) trait SquareGrid {
+pub(crate) trait SquareGrid {
     // The grid of the live cells: it tells where the others lie.
     ghost live_grid: { Self → BrickGrid };
     // Each plane of bits is a grid, and they lie in one place.
@@ -43,6 +43,15 @@ pub(super) trait SquareGrid {
             → (x y : ℕ) → 8 * i.0 ≤ x → x < 8 * i.1 → 8 * j.0 ≤ y → y < 8 * j.1
             → p ((live_grid self.now).x +ℤ pos x) ((live_grid self.now).y +ℤ pos y) ≡ 0 };
 
+    /// The grid of the live cells.
+    fn live(&self) -> &BrickGrid
+        requires { is_whole self.now }
+        ensures grid { result.now ≡ live_grid self.now }
+        ensures whole { IsGrid result.now };
+
+    // planes that show one are grids
+    ghost whole: { (grid : Self) (m : ℕ) (p : ℤ → ℤ → ℕ) → shows_plane grid m p → is_whole grid };
+
     // all is dead beyond the bricks
     ghost margin: { (grid : Self) (m : ℕ) (p : ℤ → ℤ → ℕ) → shows_plane grid m p
         → HasMargin m (live_grid grid).across (live_grid grid).down p (live_grid grid).x (live_grid grid).y };
@@ -57,6 +66,8 @@ impl SquareGrid for BrickGrid {
 
     ghost units = { λ _. 0 };
 
+    ghost whole = { λ grid m p shows. shows.is_grid };
+
     ghost margin = { λ grid m p shows. shows.margin };
 
     fn square<A: Automaton>(&self, leaper: &mut Leaper<A>, at: WordPlace) -> Result<Id, LeapFault> {
@@ -65,6 +76,10 @@ impl SquareGrid for BrickGrid {
 
     fn is_blank_between(&self, i: (usize, usize), j: (usize, usize)) -> bool {
         BrickGrid::is_blank_between(self, i, j)
+    }
+
+    fn live(&self) -> &BrickGrid {
+        self
     }
 }
 
@@ -78,41 +93,21 @@ fn width(halvings: u8) -> u64
 
 impl<A: Automaton> Leaper<A> {
     // The tree of a grid of which all bricks lie within 2 to this power from the origin.
-    pub(super) fn tree_of(&mut self, grid: &BrickGrid, reach: u8) -> Result<Tree, LeapFault>
-        requires grid { IsGrid grid.now }
+    pub(super) fn tree_of<S: SquareGrid>(&mut self, grid: &S, reach: u8) -> Result<Tree, LeapFault>
+        requires grid { S.is_whole grid.now }
         requires least { 6 ≤ reach }
         requires most { reach ≤ 62 }
-        requires within { LiesWithin (2 ^ reach) grid.now }
-        requires aligned { IsAligned grid.now }
+        requires within { LiesWithin (2 ^ reach) (S.live_grid grid.now) }
+        requires aligned { IsAligned (S.live_grid grid.now) }
         ensures tree { IfOk result (IsTree self.new.nodes) }
         ensures level { IfOk result (λ tree. tree.level ≤ 64) }
-        ensures cells { (m : ℕ) (p : ℤ → ℤ → ℕ) → GridShows grid.now m p
+        ensures cells { (m : ℕ) (p : ℤ → ℤ → ℕ) → S.shows_plane grid.now m p
             → IfOk result (λ tree. (x y : ℤ) → cell self.new.nodes tree x y ≡ p x y) }
-        ensures at_cost { GoesOnAtCost A self.old self.new (14 ^ (reach - 2)) 125 }
+        ensures at_cost { GoesOnAtCost A self.old self.new
+            ((1 + S.units grid.now) * 14 ^ (reach - 2)) 125 }
         ensures work { EndsAtLimit self.new.spent result }
     {
-        let root = self.from_grid(grid, reach - 2, grid.corner(reach))?;
-        Ok(Tree {
-            root,
-            level: reach + 1,
-        })
-    }
-
-    // The same of a grid of cells that age.
-    pub(super) fn tree_of_aged(&mut self, grid: &AgedGrid, reach: u8) -> Result<Tree, LeapFault>
-        requires grid { IsAgedGrid grid.now }
-        requires least { 6 ≤ reach }
-        requires most { reach ≤ 62 }
-        requires within { LiesWithin (2 ^ reach) grid.now.live }
-        requires aligned { IsAligned grid.now.live }
-        ensures tree { IfOk result (IsTree self.new.nodes) }
-        ensures level { IfOk result (λ tree. tree.level ≤ 64) }
-        ensures cells { (m : ℕ) (p : ℤ → ℤ → ℕ) → AgedGridShows grid.now m p
-            → IfOk result (λ tree. (x y : ℤ) → cell self.new.nodes tree x y ≡ p x y) }
-        ensures at_cost { GoesOnAtCost A self.old self.new (21 * 14 ^ (reach - 2)) 125 }
-        ensures work { EndsAtLimit self.new.spent result }
-    {
-        let root = self.from_grid(grid, reach - 2, grid.live.corner(reach))?;
+        let root = self.from_grid(grid, reach - 2, grid.live().corner(reach))?;
         Ok(Tree {
             root,
             level: reach + 1,

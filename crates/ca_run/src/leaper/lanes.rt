@@ -4,10 +4,9 @@ ghost use Rattle.std.specs.Prelude.{◌≡◌, ℕ, ◌+◌, ◌≤◌, ◌^◌,
 ghost use Rattle.ca_run.specs.Centre.{IsCentre};
 ghost use Rattle.ca_run.specs.inner.AtCost.{GoesOnAtCost};
 ghost use Rattle.ca_run.specs.inner.Centres.{HasCentre, ShowsCentre};
-ghost use Rattle.ca_bricks.specs.Prelude.{GoesByCells};
 
 use super::Leaper;
-use ca_bricks::{CellRule, WordSquare};
+use ca_bricks::WordSquare;
 use ca_plane::{Automaton, Memory};
 use ca_quad::Id;
 
@@ -35,40 +34,24 @@ impl<A: Automaton> Leaper<A> {
         let Some(rule) = self.cell_rule() else {
             return Ok(None);
         };
-        match part_level {
-            2 => self.centre_word(id, j, rule),
-            3 => self.centre_of_words(id, j, rule),
-            _ => Ok(None),
+        if part_level == 2 {
+            let Some(words) = self.words(id) else {
+                return Ok(None);
+            };
+            let mut scratch = Vec::new(self.recent_centres.allocator());
+            let word = words.centre(rule, leap_length(j), &mut scratch)?;
+            return Ok(Some(CentreWords::One(word)));
         }
-    }
-
-    // The word of the centre of a square of 16 by 16 cells.
-    fn centre_word(&self, id: Id, j: u8, rule: &CellRule) -> Result<Option<CentreWords>, Memory>
-        requires square { HasCentre self.now.nodes id 2 j }
-        requires rule { GoesByCells (A.next_of self.now.rule) rule.now }
-        ensures { IfOk result (λ found. IfSome found (ShowsCentre (A.next_of self.now.rule) self.now.nodes id 2 j)) }
-    {
-        let Some(words) = self.words(id) else {
-            return Ok(None);
-        };
-        let mut scratch = Vec::new(self.recent_centres.allocator());
-        let word = words.centre(rule, leap_length(j), &mut scratch)?;
-        Ok(Some(CentreWords::One(word)))
-    }
-
-    // The four words of the centre of a square of 32 by 32 cells.
-    fn centre_of_words(&self, id: Id, j: u8, rule: &CellRule) -> Result<Option<CentreWords>, Memory>
-        requires square { HasCentre self.now.nodes id 3 j }
-        requires rule { GoesByCells (A.next_of self.now.rule) rule.now }
-        ensures { IfOk result (λ found. IfSome found (ShowsCentre (A.next_of self.now.rule) self.now.nodes id 3 j)) }
-    {
-        let Some(wide) = self.wide_square(id) else {
-            return Ok(None);
-        };
-        let mut scratch = Vec::new(self.recent_centres.allocator());
-        let (first, more) = split_leap(j);
-        let words = wide.centre(rule, first, more, &mut scratch)?;
-        Ok(Some(CentreWords::Four(words)))
+        if part_level == 3 {
+            let Some(wide) = self.wide_square(id) else {
+                return Ok(None);
+            };
+            let mut scratch = Vec::new(self.recent_centres.allocator());
+            let (first, more) = split_leap(j);
+            let words = wide.centre(rule, first, more, &mut scratch)?;
+            return Ok(Some(CentreWords::Four(words)));
+        }
+        Ok(None)
     }
 
     // The centre of each square whose centre these words show.

@@ -3,10 +3,9 @@
 ghost use Rattle.std.specs.Prelude.{◌≡◌, ℤ};
 ghost use Rattle.ca_plane.specs.Prelude.{cells_after};
 ghost use Rattle.ca_quad.specs.Prelude.{cell};
-ghost use Rattle.ca_bricks.specs.Prelude.{AgedGridShows, GridShows};
 
 use super::Leaper;
-use ca_bricks::{AgedGrid, BrickGrid};
+use super::from_grid::SquareGrid;
 use ca_plane::Automaton;
 use ca_quad::{Store, Tree};
 use std::marker::Model;
@@ -57,30 +56,13 @@ impl Milestone {
     }
 
     // What a run has reached that began with a tree and holds a grid.
-    pub(crate) fn with_grid<A: Automaton>(
+    pub(crate) fn with_grid<A: Automaton, S: SquareGrid>(
         leaper: &Leaper<A>,
         first: &Tree,
-        held: &BrickGrid,
+        held: &S,
         generations: u64,
     ) -> Milestone
-        requires { GridShows held.now 0
-            (cells_after (A.next_of leaper.now.rule) (cell leaper.now.nodes first.now) generations) }
-        ensures { result ≡ generations }
-    {
-        let _ = leaper;
-        let _ = first;
-        let _ = held;
-        Milestone { generations }
-    }
-
-    // What a run has reached that began with a tree and holds a grid of cells that age.
-    pub(crate) fn with_aged_grid<A: Automaton>(
-        leaper: &Leaper<A>,
-        first: &Tree,
-        held: &AgedGrid,
-        generations: u64,
-    ) -> Milestone
-        requires { AgedGridShows held.now 0
+        requires { S.shows_plane held.now 0
             (cells_after (A.next_of leaper.now.rule) (cell leaper.now.nodes first.now) generations) }
         ensures { result ≡ generations }
     {

@@ -1,6 +1,6 @@
 //! Parts of squares, and squares that lie between others.
 
-ghost use Rattle.std.specs.Prelude.{ℕ, suc, ℤ, ◌+ℤ◌, IfOk};
+ghost use Rattle.std.specs.Prelude.{ℕ, suc, ◌+◌, ◌*◌, ◌≤◌, ◌^◌, ℤ, pos, ◌+ℤ◌, IfOk, if◌then◌else◌};
 ghost use Rattle.ca_quad.specs.Prelude.{IsOf, IsSoundStore, AreFour};
 ghost use Rattle.ca_run.specs.inner.AtCost.{GoesOnAtCost};
 ghost use Rattle.ca_run.specs.inner.Shown.{ShowsAt, FourShow};
@@ -26,6 +26,44 @@ impl<A: Automaton> Leaper<A> {
         let _ = part_level;
         let [nw, ne, sw, se] = self.store.children(id);
         (nw, ne, sw, se)
+    }
+
+    // The part of a square in the west or the east of it, and in the north or the south. `part_level` is the level of the part's own
+    // parts.
+    fn part_in(&self, id: Id, part_level: u8, west: bool, north: bool) -> Id
+        requires { IsOf self.now.nodes id (suc (suc part_level)) }
+        ensures square { IsOf self.now.nodes result (suc part_level) }
+        ensures shows { (p : ℤ → ℤ → ℕ) (a b : ℤ) → ShowsAt self.now.nodes id (suc (suc part_level)) p a b
+            → ShowsAt self.now.nodes result (suc part_level) p (if west then a else (a +ℤ side (suc part_level)))
+            (if north then b else (b +ℤ side (suc part_level))) }
+    {
+        let (nw, ne, sw, se) = self.quarters(id, part_level);
+        match (west, north) {
+            (true, true) => nw,
+            (false, true) => ne,
+            (true, false) => sw,
+            (false, false) => se,
+        }
+    }
+
+    // The part of a square at a place among those of a level, down to which its side can be halved so often.
+    pub(super) fn part_at(&self, id: Id, level: u8, halvings: u8, i: usize, j: usize) -> Id
+        requires square { IsOf self.now.nodes id (halvings + level) }
+        requires least { 1 ≤ level }
+        requires most { level ≤ 6 }
+        requires low { halvings ≤ 56 }
+        requires place_x { suc i ≤ 2 ^ halvings }
+        requires place_y { suc j ≤ 2 ^ halvings }
+        ensures square { IsOf self.now.nodes result level }
+        ensures shows { (p : ℤ → ℤ → ℕ) (a b : ℤ) → ShowsAt self.now.nodes id (halvings + level) p a b
+            → ShowsAt self.now.nodes result level p (a +ℤ pos (2 ^ level * i)) (b +ℤ pos (2 ^ level * j)) }
+    {
+        if halvings == 0 {
+            return id;
+        }
+        let half = 1 << (halvings - 1);
+        let part = self.part_in(id, level + halvings - 2, i < half, j < half);
+        self.part_at(part, level, halvings - 1, i % half, j % half)
     }
 
     // The square in the middle of four.

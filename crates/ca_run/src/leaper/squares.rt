@@ -62,6 +62,7 @@ impl<A: Automaton> Leaper<A> {
     }
 
     // The square of 16 by 16 cells of four words.
+    #[tactic(auto, using(crate::proofs::CostSteps::in_turn))]
     pub(super) fn from_words(&mut self, words: WordSquare) -> Result<Id, Memory>
         ensures shows { (p : ℤ → ℤ → ℕ) (a b : ℤ) → WordSquareShows words p a b
             → IfOk result (λ id. ShowsAt self.new.nodes id 4 p a b) }

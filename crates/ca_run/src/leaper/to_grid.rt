@@ -1,11 +1,11 @@
 //! Planes of bits of a tree's states as grids of bricks.
 
-ghost use Rattle.std.specs.Prelude.{◌≡◌, ℕ, suc, ◌+◌, ◌*◌, ◌-◌, ◌<◌, ◌≤◌, ◌^◌, ◌⊎◌};
-ghost use Rattle.std.specs.Prelude.{MatchOption, ℤ, pos, ◌+ℤ◌, slice_index, length, IfOk, IfSome};
+ghost use Rattle.std.specs.Prelude.{◌≡◌, ℕ, ◌+◌, ◌*◌, ◌-◌, ◌<◌, ◌≤◌, ◌^◌, ◌⊎◌};
+ghost use Rattle.std.specs.Prelude.{MatchOption, ℤ, pos, ◌+ℤ◌, slice_index, IfOk, IfSome};
 ghost use Rattle.ca_quad.specs.Prelude.{IsOf, cell};
 ghost use Rattle.ca_run.specs.inner.Shown.{ShowsAt};
-ghost use Rattle.ca_bricks.specs.Prelude.{WordShows, eight, BrickShows, GridShows, LiesNearOrigin, IsAligned};
-ghost use Rattle.ca_run.specs.inner.Frames.{IsReadByBricks, IsGridFrame, IsFramed, IsOfFrame, piece_start, row_start};
+ghost use Rattle.ca_bricks.specs.Prelude.{WordShows, BrickShows, GridShows};
+ghost use Rattle.ca_run.specs.inner.Frames.{IsReadByBricks, IsGridFrame, IsFramed, IsOfFrame, IsNewGrid, piece_start, row_start};
 
 use super::Leaper;
 use super::aged_plane::StatePlane;
@@ -20,7 +20,6 @@ fn bricks_in_half(level: u8) -> usize
     requires least { 7 ≤ level }
     requires greatest { level ≤ 62 }
     ensures cells { 64 * result ≡ 2 ^ (level - 1) }
-    ensures words { 16 * result ≡ 2 ^ (level - 3) }
     ensures most { result ≤ 2 ^ 55 }
 {
     1 << (level - 7)
@@ -38,76 +37,21 @@ fn place_from(place: usize, first: usize, count: usize) -> Option<usize>
     Some(place - first)
 }
 
-// `halvings` is how often a square's side of words can be halved: its level is that and 3.
 impl<A: Automaton> Leaper<A> {
-    // The word at a place of a square, where its bits can be told.
-    fn word_at<P: StatePlane>(
-        &self,
-        plane: P,
-        id: Id,
-        halvings: u8,
-        i: usize,
-        j: usize,
-    ) -> Option<u64>
-        requires square { IsOf self.now.nodes id (suc (suc (suc halvings))) }
-        requires low { halvings ≤ 61 }
-        requires place_x { suc i ≤ 2 ^ halvings }
-        requires place_y { suc j ≤ 2 ^ halvings }
-        ensures { (p : ℤ → ℤ → ℕ) (a b : ℤ) → ShowsAt self.now.nodes id (suc (suc (suc halvings))) p a b
-            → IfSome result (λ word. WordShows word (λ x y. P.bit_of plane (p x y))
-            (a +ℤ eight (pos i)) (b +ℤ eight (pos j))) }
-    {
-        if halvings == 0 {
-            return plane.word(self, id);
-        }
-        let half = 1 << (halvings - 1);
-        let (nw, ne, sw, se) = self.quarters(id, halvings + 1);
-        let (west, east) = if j < half { (nw, ne) } else { (sw, se) };
-        let part = if i < half { west } else { east };
-        self.word_at(plane, part, halvings - 1, i % half, j % half)
-    }
-
-    // The eight words side by side from a place of a square on, where their bits can be told.
-    fn eight_words<P: StatePlane>(
-        &self,
-        plane: P,
-        id: Id,
-        halvings: u8,
-        i: usize,
-        j: usize,
-    ) -> Option<[u64; 8]>
-        requires square { IsOf self.now.nodes id (suc (suc (suc halvings))) }
-        requires low { halvings ≤ 61 }
-        requires place_x { i + 8 ≤ 2 ^ halvings }
-        requires place_y { suc j ≤ 2 ^ halvings }
-        ensures { (p : ℤ → ℤ → ℕ) (a b : ℤ) → ShowsAt self.now.nodes id (suc (suc (suc halvings))) p a b
+    // The eight words of a row of a square of 64 by 64 cells, where their bits can be told.
+    fn eight_words<P: StatePlane>(&self, plane: P, piece: Id, row: usize) -> Option<[u64; 8]>
+        requires square { IsOf self.now.nodes piece 6 }
+        requires row { row < 8 }
+        ensures { (p : ℤ → ℤ → ℕ) (a b : ℤ) → ShowsAt self.now.nodes piece 6 p a b
             → IfSome result (λ words. (k : ℕ) → k < 8
             → WordShows (slice_index words k) (λ x y. P.bit_of plane (p x y))
-            (a +ℤ eight (pos (i + k))) (b +ℤ eight (pos j))) }
+            (a +ℤ pos (8 * k)) (b +ℤ pos (8 * row))) }
     {
         let mut words = [0; 8];
         'words: for k in 0..8 {
-            words[k] = self.word_at(plane, id, halvings, i + k, j)?;
+            words[k] = plane.word(self, self.part_at(piece, 3, 3, k, row))?;
         }
         Some(words)
-    }
-
-    // The square of 64 by 64 cells at a place of a larger one, whose side can be halved so many times until it is that.
-    fn piece_at(&self, id: Id, halvings: u8, i: usize, j: usize) -> Id
-        requires square { IsOf self.now.nodes id (halvings + 6) }
-        requires low { halvings ≤ 56 }
-        requires place_x { suc i ≤ 2 ^ halvings }
-        requires place_y { suc j ≤ 2 ^ halvings }
-        ensures square { IsOf self.now.nodes result 6 }
-        ensures shows { (p : ℤ → ℤ → ℕ) (a b : ℤ) → ShowsAt self.now.nodes id (halvings + 6) p a b
-            → ShowsAt self.now.nodes result 6 p (a +ℤ pos (64 * i)) (b +ℤ pos (64 * j)) }
-    {
-        if halvings == 0 {
-            return id;
-        }
-        let half = 1 << (halvings - 1);
-        let part = self.part_in(id, halvings + 4, i < half, j < half);
-        self.piece_at(part, halvings - 1, i % half, j % half)
     }
 
     // The brick of these numbers of a column and of a row, where its bits can be told.
@@ -131,12 +75,12 @@ impl<A: Automaton> Leaper<A> {
         let Some(j) = place_from(row, (1 << 58) - 4 * half, 8 * half) else {
             return Some([0; 16]);
         };
-        let piece = self.piece_at(tree.root, tree.level - 6, i, j / 4);
+        let piece = self.part_at(tree.root, 6, tree.level - 6, i, j / 4);
         if self.store.is_empty(piece) {
             return Some([0; 16]);
         }
-        let north = self.eight_words(plane, piece, 3, 0, 2 * (j % 4))?;
-        let south = self.eight_words(plane, piece, 3, 0, 2 * (j % 4) + 1)?;
+        let north = self.eight_words(plane, piece, 2 * (j % 4))?;
+        let south = self.eight_words(plane, piece, 2 * (j % 4) + 1)?;
         Some(brick_of(&north, &south))
     }
 
@@ -172,7 +116,7 @@ impl<A: Automaton> Leaper<A> {
     }
 
     // The grid of a frame round the cells of a tree that aren't dead, of a plane of bits of their states.
-    pub(super) fn grid_of<P: StatePlane>(
+    pub(crate) fn grid_of<P: StatePlane>(
         &self,
         alloc: Global,
         plane: P,
@@ -186,12 +130,7 @@ impl<A: Automaton> Leaper<A> {
             → IfOk result (λ found. IfSome found
             (λ grid. GridShows grid m (λ x y. P.bit_of plane (cell self.now.nodes tree.now x y)))) }
         ensures place { IfOk result (λ found. IfSome found (IsOfFrame frame.now)) }
-        ensures near { IfOk result (λ found. IfSome found LiesNearOrigin) }
-        ensures aligned { IfOk result (λ found. IfSome found IsAligned) }
-        ensures room { IfOk result (λ found. IfSome found
-            (λ grid. grid.across + length grid.bricks.items < 2 ^ 63)) }
-        ensures few { IfOk result (λ found. IfSome found (λ grid. length grid.bricks.items ≤ 2 ^ 18)) }
-        ensures fresh { IfOk result (λ found. IfSome found (λ grid. grid.work ≡ 0)) }
+        ensures fresh { IfOk result (λ found. IfSome found IsNewGrid) }
     {
         let across = frame.columns.count;
         let mut bricks = Vec::new(alloc);

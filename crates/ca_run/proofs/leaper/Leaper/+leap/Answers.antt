@@ -70,9 +70,6 @@ pair-returns-clause-shows g t c = λ next p a b e north south.
     (east_four (three_stay _ _ sound g1.grows (suc k) n p a b north) (three_stay _ _ sound g1.grows (suc k) s p a (b +ℤ side (suc k)) south)) in
     pair_at k g1.grows c.in_ok-east.ensures.at_cost.goes_on.grows c.in_ok-west.west c.in_ok-east.east (cells_after next p (2 ^ c.args.j)) a b (b +ℤ side k) west east
 
-pub pair-returns-clause-at_cost : goal.pair-returns-clause-at_cost
-pair-returns-clause-at_cost g t c = at_cost_more (at_both_costs c.in_ok-west.ensures.at_cost c.in_ok-east.ensures.at_cost) (omega arith) (omega arith)
-
 pub trio-first_inner-requires : goal.trio-first_inner-requires
 trio-first_inner-requires g t c κs within =
     let sound = c.quarters-nw.ensures.sound in
@@ -89,10 +86,6 @@ trio-returns-clause-shows g t c = λ next p a b e two.
     (c.in_ok-west.ensures.shows next p a b e two.at_west)
     (λ e1 grows. c.in_ok-middle.ensures.shows next p (a +ℤ side (suc k)) b e1 (four_stay _ _ sound grows (suc k) _ _ _ _ p (a +ℤ side (suc k)) b between))
     (λ e2 grows. c.in_ok-east.ensures.shows next p (a +ℤ side (suc (suc k))) b e2 (at_stays _ _ sound grows c.args.east (suc (suc k)) p (a +ℤ side (suc (suc k))) b two.at_east))
-
-pub trio-returns-clause-at_cost : goal.trio-returns-clause-at_cost
-trio-returns-clause-at_cost g t c =
-    at_cost_more (at_both_costs (at_both_costs c.in_ok-west.ensures.at_cost c.in_ok-middle.ensures.at_cost) c.in_ok-east.ensures.at_cost) (omega arith) (omega arith)
 
 pub middle_trio-first_inner-requires-2 : goal.middle_trio-first_inner-requires-2
 middle_trio-first_inner-requires-2 g t c κs within =
@@ -125,10 +118,6 @@ middle_trio-returns-clause-shows g t c = λ next p a b e four.
     (c.in_ok-west.ensures.shows next p a middle_y e (four_halfway (suc k) nw sw))
     (λ e1 grows. c.in_ok-middle.ensures.shows next p (a +ℤ side (suc k)) middle_y e1 (four_stay _ _ sound grows (suc k) _ _ _ _ p (a +ℤ side (suc k)) middle_y inner))
     (λ e2 grows. c.in_ok-east.ensures.shows next p x middle_y e2 (four_stay _ _ sound grows (suc k) _ _ _ _ p x middle_y last))
-
-pub middle_trio-returns-clause-at_cost : goal.middle_trio-returns-clause-at_cost
-middle_trio-returns-clause-at_cost g t c =
-    at_cost_more (at_both_costs (at_both_costs c.in_ok-west.ensures.at_cost c.in_ok-middle.ensures.at_cost) c.in_ok-east.ensures.at_cost) (omega arith) (omega arith)
 
 pub first_centre-returns-in_ok-inner_square-in-None-clause-shows : goal.first_centre-returns-in_ok-inner_square-in-None-clause-shows
 first_centre-returns-in_ok-inner_square-in-None-clause-shows g t c = λ next p a b e shows. rw c.in-None.is (c.in_ok-inner_square-in-None.ensures.shows p a b shows)
@@ -192,10 +181,6 @@ nine-returns-clause-shows g t c = λ next p a b e shows.
 pub nine-returns-clause-squares : goal.nine-returns-clause-squares
 nine-returns-clause-squares g t c =
     nine_are c.in_ok-north.ensures.at_cost.goes_on c.in_ok-middle.ensures.at_cost.goes_on c.in_ok-south.ensures.at_cost.goes_on _ _ c.in_ok-north.ensures.squares c.in_ok-middle.ensures.squares c.in_ok-south.ensures.squares
-
-pub nine-returns-clause-at_cost : goal.nine-returns-clause-at_cost
-nine-returns-clause-at_cost g t c =
-    at_cost_more (at_both_costs (at_both_costs c.in_ok-north.ensures.at_cost c.in_ok-middle.ensures.at_cost) c.in_ok-south.ensures.at_cost) (omega arith) (omega arith)
 
 pub centre_of_nine-pair-requires-2 : goal.centre_of_nine-pair-requires-2
 centre_of_nine-pair-requires-2 g t c κs within =
@@ -277,9 +262,6 @@ first_inner-returns-in_ok-id-in-Some-clause-shows g t c = λ next p a b e four.
     (centre_ok next c.join.new.self.nodes new joined.grows.sound c.centre.ensures.at_cost.goes_on.grows c.centre.result c.in_ok-id-in-Some.id c.args.part_level c.in-Some.j p a b (c.in_ok-id-in-Some.ensures.shows p a b four)
     (subst (λ f. IfOk c.centre.result (IsCentre f new c.in_ok-id-in-Some.id c.args.part_level c.in-Some.j)) (sym same) c.centre.ensures.centre))
 
-pub first_inner-returns-in_ok-id-in-Some-clause-at_cost : goal.first_inner-returns-in_ok-id-in-Some-clause-at_cost
-first_inner-returns-in_ok-id-in-Some-clause-at_cost g t c = at_cost_more (at_both_costs c.in_ok-id-in-Some.ensures.at_cost c.centre.ensures.at_cost) (omega arith) (omega arith)
-
 pub first_inner-returns-then-j-part_level-clause-shows : goal.first_inner-returns-then-j-part_level-clause-shows
 first_inner-returns-then-j-part_level-clause-shows g t c = λ next p a b e four.
     let k = c.args.part_level in
@@ -314,54 +296,9 @@ leap_of_four-returns-clause-leap g t c =
     (leap_of_join (g.A.Automaton.next_of) c.args.self.now c.join.new.self c.centre.new.self sound c.in_ok-id.ensures.at_cost.goes_on c.in_ok-result_id.ensures.at_cost.goes_on c.in_ok-id.id c.in_ok-result_id.result_id c.args.part_level c.args.nw c.args.ne c.args.sw c.args.se
     c.requires.four c.in_ok-id.ensures.shows c.in_ok-result_id.ensures.centre)
 
-pub leap_of_four-returns-in_err-result_id-clause-at_cost : goal.leap_of_four-returns-in_err-result_id-clause-at_cost
-leap_of_four-returns-in_err-result_id-clause-at_cost g t c = at_cost_more (at_both_costs c.in_ok-id.ensures.at_cost c.in_err-result_id.ensures.at_cost) (omega arith) (omega arith)
-
 pub leap_of_four-returns-clause-at_cost : goal.leap_of_four-returns-clause-at_cost
 leap_of_four-returns-clause-at_cost g t c =
     at_cost_as refl c.remember_leap.ensures (at_cost_more (at_both_costs c.in_ok-id.ensures.at_cost c.in_ok-result_id.ensures.at_cost) (omega arith) (omega arith))
-
-pub pair-returns-in_err-west-clause-at_cost : goal.pair-returns-in_err-west-clause-at_cost
-pair-returns-in_err-west-clause-at_cost g t c = at_cost_more c.in_err-west.ensures.at_cost (omega arith) (omega arith)
-
-pub pair-returns-in_err-east-clause-at_cost : goal.pair-returns-in_err-east-clause-at_cost
-pair-returns-in_err-east-clause-at_cost g t c = at_cost_more (at_both_costs c.in_ok-west.ensures.at_cost c.in_err-east.ensures.at_cost) (omega arith) (omega arith)
-
-pub trio-returns-in_err-west-clause-at_cost : goal.trio-returns-in_err-west-clause-at_cost
-trio-returns-in_err-west-clause-at_cost g t c = at_cost_more c.in_err-west.ensures.at_cost (omega arith) (omega arith)
-
-pub trio-returns-in_err-middle-clause-at_cost : goal.trio-returns-in_err-middle-clause-at_cost
-trio-returns-in_err-middle-clause-at_cost g t c = at_cost_more (at_both_costs c.in_ok-west.ensures.at_cost c.in_err-middle.ensures.at_cost) (omega arith) (omega arith)
-
-pub trio-returns-in_err-east-clause-at_cost : goal.trio-returns-in_err-east-clause-at_cost
-trio-returns-in_err-east-clause-at_cost g t c = at_cost_more (at_both_costs (at_both_costs c.in_ok-west.ensures.at_cost c.in_ok-middle.ensures.at_cost) c.in_err-east.ensures.at_cost) (omega arith) (omega arith)
-
-pub middle_trio-returns-in_err-west-clause-at_cost : goal.middle_trio-returns-in_err-west-clause-at_cost
-middle_trio-returns-in_err-west-clause-at_cost g t c = at_cost_more c.in_err-west.ensures.at_cost (omega arith) (omega arith)
-
-pub middle_trio-returns-in_err-middle-clause-at_cost : goal.middle_trio-returns-in_err-middle-clause-at_cost
-middle_trio-returns-in_err-middle-clause-at_cost g t c = at_cost_more (at_both_costs c.in_ok-west.ensures.at_cost c.in_err-middle.ensures.at_cost) (omega arith) (omega arith)
-
-pub middle_trio-returns-in_err-east-clause-at_cost : goal.middle_trio-returns-in_err-east-clause-at_cost
-middle_trio-returns-in_err-east-clause-at_cost g t c = at_cost_more (at_both_costs (at_both_costs c.in_ok-west.ensures.at_cost c.in_ok-middle.ensures.at_cost) c.in_err-east.ensures.at_cost) (omega arith) (omega arith)
-
-pub nine-returns-in_err-north-clause-at_cost : goal.nine-returns-in_err-north-clause-at_cost
-nine-returns-in_err-north-clause-at_cost g t c = at_cost_more c.in_err-north.ensures.at_cost (omega arith) (omega arith)
-
-pub nine-returns-in_err-middle-clause-at_cost : goal.nine-returns-in_err-middle-clause-at_cost
-nine-returns-in_err-middle-clause-at_cost g t c = at_cost_more (at_both_costs c.in_ok-north.ensures.at_cost c.in_err-middle.ensures.at_cost) (omega arith) (omega arith)
-
-pub nine-returns-in_err-south-clause-at_cost : goal.nine-returns-in_err-south-clause-at_cost
-nine-returns-in_err-south-clause-at_cost g t c = at_cost_more (at_both_costs (at_both_costs c.in_ok-north.ensures.at_cost c.in_ok-middle.ensures.at_cost) c.in_err-south.ensures.at_cost) (omega arith) (omega arith)
-
-pub centre_of_nine-returns-in_err-rows-clause-at_cost : goal.centre_of_nine-returns-in_err-rows-clause-at_cost
-centre_of_nine-returns-in_err-rows-clause-at_cost g t c = at_cost_more c.in_err-rows.ensures.at_cost (omega arith) (omega arith)
-
-pub centre_of_nine-returns-in_err-nw-clause-at_cost : goal.centre_of_nine-returns-in_err-nw-clause-at_cost
-centre_of_nine-returns-in_err-nw-clause-at_cost g t c = at_cost_more (at_both_costs c.in_ok-rows.ensures.at_cost c.in_err-nw.ensures.at_cost) (omega arith) (omega arith)
-
-pub centre_of_nine-returns-in_err-sw-clause-at_cost : goal.centre_of_nine-returns-in_err-sw-clause-at_cost
-centre_of_nine-returns-in_err-sw-clause-at_cost g t c = at_cost_more (at_both_costs (at_both_costs c.in_ok-rows.ensures.at_cost c.in_ok-nw.ensures.at_cost) c.in_err-sw.ensures.at_cost) (omega arith) (omega arith)
 
 pub new_centre-returns-in-Some-clause-centre : goal.new_centre-returns-in-Some-clause-centre
 new_centre-returns-in-Some-clause-centre g t c =

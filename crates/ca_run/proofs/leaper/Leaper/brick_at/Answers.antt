@@ -3,7 +3,6 @@ use Rattle.std.specs.Prelude.{ℤ, pos, neg_ℤ, ◌+ℤ◌}
 use Rattle.std.proofs.lemmas.Int.{ints}
 use Rattle.std.proofs.lemmas.Nat.{pow-add}
 use Rattle.ca_quad.specs.Prelude.{IsOf, cell}
-use Rattle.ca_bricks.specs.Prelude.{eight}
 use Rattle.ca_run.specs.inner.Shown.{ShowsAt}
 use Rattle.ca_run.specs.inner.Frames.{piece_start, row_start}
 use Rattle.ca_run.proofs.Trees.{tree_dies, root_at}
@@ -37,13 +36,13 @@ pieces level half least cells =
     let all : 2 ^ (level - 1) ≡ 2 ^ (level - 6) * 2 ^ 5 = ap (λ n. 2 ^ n) split ∙ pow-add 2 (level - 6) 5 in
     omega (arith, cells, all)
 
-pub piece_at-piece-requires-clause-place_x : goal.piece_at-piece-requires-clause-place_x
-piece_at-piece-requires-clause-place_x g c =
+pub part_at-piece-requires-clause-place_x : goal.part_at-piece-requires-clause-place_x
+part_at-piece-requires-clause-place_x g c =
     let wide = pieces c.args.tree.now.level c.bricks_in_half-half.result c.requires.tree.least c.bricks_in_half-half.ensures.cells in
     omega (arith, wide, c.in-Some.ensures.1)
 
-pub piece_at-piece-requires-clause-place_y : goal.piece_at-piece-requires-clause-place_y
-piece_at-piece-requires-clause-place_y g c =
+pub part_at-piece-requires-clause-place_y : goal.part_at-piece-requires-clause-place_y
+part_at-piece-requires-clause-place_y g c =
     let wide = pieces c.args.tree.now.level c.bricks_in_half-half.result c.requires.tree.least c.bricks_in_half-half.ensures.cells in
     omega (arith, wide, c.in-Some-place_from.ensures.1)
 
@@ -63,11 +62,11 @@ returns-then-is_empty g c =
     let most = half.ensures.most in
     let at_i = c.in-Some.ensures.0 in
     let at_j = c.in-Some-place_from.ensures.0 in
-    let piece = c.piece_at-piece.ensures.shows p corner corner root in
+    let piece = c.part_at-piece.ensures.shows p corner corner root in
     let store = ap (λ l. l.nodes) c.self.view_is in
-    let empty = (c.is_empty.ensures 6 (subst (λ n. IsOf n c.piece_at-piece.result 6) (sym store) c.piece_at-piece.ensures.square)).0 c.if-is_empty.true in
-    blank_piece c.self.inside.store c.piece_at-piece.result p bit (corner +ℤ pos (64 * i)) (corner +ℤ pos (64 * (j / 4))) (piece_start c.args.column) (row_start c.args.row) (16 * (j % 4))
-    c.requires.none (omega arith) empty (subst (λ n. ShowsAt n c.piece_at-piece.result 6 p (corner +ℤ pos (64 * i)) (corner +ℤ pos (64 * (j / 4)))) (sym store) piece)
+    let empty = (c.is_empty.ensures 6 (subst (λ n. IsOf n c.part_at-piece.result 6) (sym store) c.part_at-piece.ensures.square)).0 c.if-is_empty.true in
+    blank_piece c.self.inside.store c.part_at-piece.result p bit (corner +ℤ pos (64 * i)) (corner +ℤ pos (64 * (j / 4))) (piece_start c.args.column) (row_start c.args.row) (16 * (j % 4))
+    c.requires.none (omega arith) empty (subst (λ n. ShowsAt n c.part_at-piece.result 6 p (corner +ℤ pos (64 * i)) (corner +ℤ pos (64 * (j / 4)))) (sym store) piece)
     (omega (arith, ints, cells, most, at_i)) (omega (arith, ints, cells, most, at_j))
 
 pub returns : goal.returns
@@ -85,7 +84,7 @@ returns g c =
     let corner = neg_ℤ (pos (2 ^ (tree.level - 1))) in
     let six : tree.level - 6 + 6 ≡ tree.level = omega (arith, c.requires.tree.least) in
     let root = subst (λ k. ShowsAt nodes tree.root k p corner corner) (sym six) (root_at nodes tree c.requires.tree.is_tree) in
-    let piece = c.piece_at-piece.ensures.shows p corner corner root in
+    let piece = c.part_at-piece.ensures.shows p corner corner root in
     let west = corner +ℤ pos (64 * i) in
     let north = corner +ℤ pos (64 * (j / 4)) in
     let cells = half.ensures.cells in
@@ -93,7 +92,7 @@ returns g c =
     let at_i = c.in-Some.ensures.0 in
     let at_j = c.in-Some-place_from.ensures.0 in
     c.brick_of.ensures q (piece_start column) (row_start row)
-    (eight_from c.in_ok-north.north q (λ k. west +ℤ eight (pos (0 + k))) (piece_start column) (north +ℤ eight (pos (2 * (j % 4)))) (row_start row)
-    (λ k h. omega (arith, ints, cells, most, at_i)) (omega (arith, ints, cells, most, at_j)) (c.in_ok-north.ensures p west north piece))
-    (eight_from c.in_ok-south.south q (λ k. west +ℤ eight (pos (0 + k))) (piece_start column) (north +ℤ eight (pos (2 * (j % 4) + 1))) (row_start row +ℤ pos 8)
-    (λ k h. omega (arith, ints, cells, most, at_i)) (omega (arith, ints, cells, most, at_j)) (c.in_ok-south.ensures p west north piece))
+    (eight_from c.in_ok-north.north q west (north +ℤ pos (8 * (2 * (j % 4)))) (piece_start column) (row_start row)
+    (omega (arith, ints, cells, most, at_i)) (omega (arith, ints, cells, most, at_j)) (c.in_ok-north.ensures p west north piece))
+    (eight_from c.in_ok-south.south q west (north +ℤ pos (8 * (2 * (j % 4) + 1))) (piece_start column) (row_start row +ℤ pos 8)
+    (omega (arith, ints, cells, most, at_i)) (omega (arith, ints, cells, most, at_j)) (c.in_ok-south.ensures p west north piece))

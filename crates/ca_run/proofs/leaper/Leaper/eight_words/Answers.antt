@@ -1,7 +1,7 @@
-use Rattle.std.proofs.Common.{◌+◌, ◌∙◌, arith}
+use Rattle.std.proofs.Common.{◌*◌, ◌∙◌, arith}
 use Rattle.std.specs.Prelude.{pos, ◌+ℤ◌}
 use Rattle.std.proofs.lemmas.List.{length-set}
-use Rattle.ca_bricks.specs.Prelude.{WordShows, eight}
+use Rattle.ca_bricks.specs.Prelude.{WordShows}
 use Rattle.ca_bricks.proofs.BrickLists.{set_more}
 use Rattle.ca_run.proofs.leaper.Leaper.eight_words.Goals as goal
 
@@ -14,8 +14,8 @@ words-preserved g c =
     record {
       size = length-set words k word ∙ inv.size;
       shown = λ p a b shows.
-          set_more (λ m w. WordShows w (λ x y. g.P.StatePlane.bit_of c.args.plane (p x y)) (a +ℤ eight (pos (c.args.i + m))) (b +ℤ eight (pos c.args.j))) words k word (omega (arith, inv.size, c.words-test.true)) (inv.shown p a b shows)
-          (c.in_ok-words.ensures p a b shows);
+          set_more (λ m w. WordShows w (λ x y. g.P.StatePlane.bit_of c.args.plane (p x y)) (a +ℤ pos (8 * m)) (b +ℤ pos (8 * c.args.row))) words k word (omega (arith, inv.size, c.words-test.true)) (inv.shown p a b shows)
+          (c.in_ok-words.ensures p (a +ℤ pos (8 * k)) (b +ℤ pos (8 * c.args.row)) (c.part_at.ensures.shows p a b shows));
     }
 
 pub returns : goal.returns

@@ -2,7 +2,6 @@ use Rattle.std.proofs.Common.{arith}
 use Rattle.std.specs.Prelude.{pos, ◌+ℤ◌}
 use Rattle.std.proofs.lemmas.Int.{ints}
 use Rattle.ca_bricks.proofs.AgedSquares.{part_shows}
-use Rattle.ca_run.proofs.Costs.{at_cost_more, at_both_costs}
 use Rattle.ca_run.proofs.ShownPlanes.{four_made}
 use Rattle.ca_run.proofs.leaper.Leaper.from_states.Goals as goal
 
@@ -16,21 +15,3 @@ returns-clause-shows g c = λ p a b shows.
     (c.in_ok-ne.ensures.shows p (a +ℤ pos 4) b (part 4 0 4 p a b (a +ℤ pos 4) b shows (omega arith) (omega arith) (omega arith) (omega (arith, ints)) (omega (arith, ints))))
     (c.in_ok-sw.ensures.shows p a (b +ℤ pos 4) (part 0 4 32 p a b a (b +ℤ pos 4) shows (omega arith) (omega arith) (omega arith) (omega (arith, ints)) (omega (arith, ints))))
     (c.in_ok-se.ensures.shows p (a +ℤ pos 4) (b +ℤ pos 4) (part 4 4 36 p a b (a +ℤ pos 4) (b +ℤ pos 4) shows (omega arith) (omega arith) (omega arith) (omega (arith, ints)) (omega (arith, ints)))))
-
-pub returns-clause-at_cost : goal.returns-clause-at_cost
-returns-clause-at_cost g c =
-    let north = at_both_costs c.in_ok-nw.ensures.at_cost c.in_ok-ne.ensures.at_cost in
-    let south = at_both_costs c.in_ok-sw.ensures.at_cost c.in_ok-se.ensures.at_cost in
-    at_cost_more (at_both_costs (at_both_costs north south) c.join.ensures.at_cost) (omega arith) (omega arith)
-
-pub returns-in_err-nw-clause-at_cost : goal.returns-in_err-nw-clause-at_cost
-returns-in_err-nw-clause-at_cost g c = at_cost_more c.in_err-nw.ensures.at_cost (omega arith) (omega arith)
-
-pub returns-in_err-ne-clause-at_cost : goal.returns-in_err-ne-clause-at_cost
-returns-in_err-ne-clause-at_cost g c = at_cost_more (at_both_costs c.in_ok-nw.ensures.at_cost c.in_err-ne.ensures.at_cost) (omega arith) (omega arith)
-
-pub returns-in_err-sw-clause-at_cost : goal.returns-in_err-sw-clause-at_cost
-returns-in_err-sw-clause-at_cost g c = at_cost_more (at_both_costs (at_both_costs c.in_ok-nw.ensures.at_cost c.in_ok-ne.ensures.at_cost) c.in_err-sw.ensures.at_cost) (omega arith) (omega arith)
-
-pub returns-in_err-se-clause-at_cost : goal.returns-in_err-se-clause-at_cost
-returns-in_err-se-clause-at_cost g c = at_cost_more (at_both_costs (at_both_costs (at_both_costs c.in_ok-nw.ensures.at_cost c.in_ok-ne.ensures.at_cost) c.in_ok-sw.ensures.at_cost) c.in_err-se.ensures.at_cost) (omega arith) (omega arith)

@@ -49,20 +49,16 @@ returns-clause-place g c =
       size = c.bricks.invariant.size ∙ omega (arith, c.bricks-test.false, c.bricks.auto.t-end);
     }
 
-pub returns-clause-near : goal.returns-clause-near
-returns-clause-near g c =
+pub returns-clause-fresh : goal.returns-clause-fresh
+returns-clause-fresh g c =
     let frame = c.args.frame.now in
-    near_grid _ frame c.requires.frame (start_reads frame.columns.first c.start.result (omega (arith, c.requires.frame.columns.far)) c.start.ensures)
-    (start_reads frame.rows.first c.start-2.result (omega (arith, c.requires.frame.rows.far)) c.start-2.ensures) refl refl
-
-pub returns-clause-aligned : goal.returns-clause-aligned
-returns-clause-aligned g c =
-    let frame = c.args.frame.now in
-    aligned_grid _ frame (start_reads frame.columns.first c.start.result (omega (arith, c.requires.frame.columns.far)) c.start.ensures)
-    (start_reads frame.rows.first c.start-2.result (omega (arith, c.requires.frame.rows.far)) c.start-2.ensures)
-
-pub returns-clause-few : goal.returns-clause-few
-returns-clause-few g c =
-    let frame = c.args.frame.now in
+    let x = start_reads frame.columns.first c.start.result (omega (arith, c.requires.frame.columns.far)) c.start.ensures in
+    let y = start_reads frame.rows.first c.start-2.result (omega (arith, c.requires.frame.rows.far)) c.start-2.ensures in
     let all : c.bricks.t ≡ 4 * (frame.columns.count * frame.rows.count) = omega (arith, c.bricks-test.false, c.bricks.auto.t-end) in
-    omega (arith, c.bricks.invariant.size, all, c.requires.frame.few)
+    record {
+      near = near_grid _ frame c.requires.frame x y refl refl;
+      aligned = aligned_grid _ frame x y;
+      room = omega (arith, c.bricks.invariant.size, all, c.requires.frame.few, c.requires.frame.columns.few);
+      few = omega (arith, c.bricks.invariant.size, all, c.requires.frame.few);
+      unstepped = refl;
+    }

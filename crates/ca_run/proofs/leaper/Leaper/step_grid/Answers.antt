@@ -1,28 +1,56 @@
-use Rattle.std.proofs.Common.{◌≡◌, ◌+◌, ◌<◌, ◌≤◌, ◌^◌, length, IfSome, subst, ◌∙◌, arith}
+use Rattle.std.proofs.Common.{◌+◌, ◌^◌, IfSome, sym, subst, ◌∙◌, arith}
+use Rattle.std.proofs.Math.Path.{fun_ext}
 use Rattle.ca_plane.specs.Prelude.{cells_after}
 use Rattle.ca_quad.specs.Prelude.{cell}
-use Rattle.ca_bricks.specs.Prelude.{GridShows}
-use Rattle.ca_bricks.proofs.BrickMargins.{grid_as}
+use Rattle.ca_bricks.specs.Prelude.{LiesNearOrigin, LiesWithin}
+use Rattle.ca_run.specs.inner.Frames.{IsNewGrid}
 use Rattle.ca_run.proofs.Costs.{at_cost_more, at_both_costs}
-use Rattle.ca_run.proofs.DenseRuns.{at_grid_cost}
+use Rattle.ca_run.proofs.DenseRuns.{at_grid_cost, growth_low}
+use Rattle.ca_run.proofs.Grids.{within_place, aligned_place}
 use Rattle.ca_run.proofs.Levels.{trimmed_low}
+use Rattle.ca_work.proofs.Powers.{power_more}
 use Rattle.ca_run.proofs.leaper.Leaper.step_grid.Goals as goal
+
+pub live-requires : goal.live-requires
+live-requires g c =
+    let before = cell c.args.self.now.nodes c.args.reached.now.tree in
+    g.met.R.Grid.SquareGrid.whole _ _ before (subst (λ found. IfSome found (λ grid. g.R.Grid.SquareGrid.shows_plane grid c.min-left.result before)) c.in-Some.is c.in_ok-grid.ensures.shows)
+
+pub reach-reach-requires-clause-place : goal.reach-reach-requires-clause-place
+reach-reach-requires-clause-place g c =
+    let fresh = subst (λ found. IfSome found (λ grid. IsNewGrid (g.R.Grid.SquareGrid.live_grid grid))) c.in-Some.is c.in_ok-grid.ensures.fresh in
+    subst LiesNearOrigin (sym c.live.ensures.grid) fresh.near
+
+pub overflow_add-first : goal.overflow_add-first
+overflow_add-first g c =
+    let low = growth_low (g.R.Grid.SquareGrid.units c.in-Some.grid) g.R.GridRule.MOST_GROWTH (g.met.R.GridRule.is_cheap c.in-Some.grid) in
+    omega (arith, low, c.MOST_GROWTH.ensures, c.requires.most)
 
 pub later_grid-requires-clause-shows : goal.later_grid-requires-clause-shows
 later_grid-requires-clause-shows g c =
-    let next = g.A.Automaton.next_of c.args.self.now.rule in
     let before = cell c.args.self.now.nodes c.args.reached.now.tree in
-    let shows = subst (λ found. IfSome found (λ grid. GridShows grid c.min-left.result before)) c.in-Some.is c.in_ok-grid.ensures.shows in
-    grid_as c.in-Some.grid c.min-left.result before (cells_after next (cell c.args.self.now.nodes c.args.first.now) c.args.reached.now.generations) c.requires.reached.cells shows
+    let shows = subst (λ found. IfSome found (λ grid. g.R.Grid.SquareGrid.shows_plane grid c.min-left.result before)) c.in-Some.is c.in_ok-grid.ensures.shows in
+    subst (g.R.Grid.SquareGrid.shows_plane c.in-Some.grid c.min-left.result) (fun_ext (λ x. fun_ext (λ y. c.requires.reached.cells x y))) shows
 
-pub later_grid-requires-clause-room : goal.later_grid-requires-clause-room
-later_grid-requires-clause-room g c = subst (λ found. IfSome found (λ grid. grid.across + length grid.bricks.items < 2 ^ 63)) c.in-Some.is c.in_ok-grid.ensures.room
-
-pub later_grid-requires-clause-few : goal.later_grid-requires-clause-few
-later_grid-requires-clause-few g c = subst (λ found. IfSome found (λ grid. length grid.bricks.items ≤ 2 ^ 18)) c.in-Some.is c.in_ok-grid.ensures.few
+pub later_grid-requires-clause-suits : goal.later_grid-requires-clause-suits
+later_grid-requires-clause-suits g c = subst (λ found. IfSome found (g.R.GridRule.suits c.args.rule.now)) c.in-Some.is c.in_ok-grid.ensures.suits
 
 pub later_grid-requires-clause-fresh : goal.later_grid-requires-clause-fresh
-later_grid-requires-clause-fresh g c = subst (λ found. IfSome found (λ grid. grid.work ≡ 0)) c.in-Some.is c.in_ok-grid.ensures.fresh
+later_grid-requires-clause-fresh g c = subst (λ found. IfSome found (λ grid. IsNewGrid (g.R.Grid.SquareGrid.live_grid grid))) c.in-Some.is c.in_ok-grid.ensures.fresh
+
+pub tree_of-requires-clause-grid : goal.tree_of-requires-clause-grid
+tree_of-requires-clause-grid g c = g.met.R.Grid.SquareGrid.whole _ _ _ c.in_ok-later.ensures.shows
+
+pub tree_of-requires-clause-within : goal.tree_of-requires-clause-within
+tree_of-requires-clause-within g c = within_place _ _ _ c.in_ok-later.ensures.place.place (subst (LiesWithin (2 ^ c.reach-reach.result)) c.live.ensures.grid c.reach-reach.ensures.within)
+
+pub tree_of-requires-clause-aligned : goal.tree_of-requires-clause-aligned
+tree_of-requires-clause-aligned g c =
+    let fresh = subst (λ found. IfSome found (λ grid. IsNewGrid (g.R.Grid.SquareGrid.live_grid grid))) c.in-Some.is c.in_ok-grid.ensures.fresh in
+    aligned_place _ _ c.in_ok-later.ensures.place.place fresh.aligned
+
+pub live-live-requires : goal.live-live-requires
+live-live-requires g c = g.met.R.Grid.SquareGrid.whole _ _ _ c.in_ok-later.ensures.shows
 
 pub returns-clause-reached : goal.returns-clause-reached
 returns-clause-reached g c =
@@ -35,18 +63,23 @@ returns-clause-reached g c =
     }
 
 pub returns-in_err-later-clause-at_cost : goal.returns-in_err-later-clause-at_cost
-returns-in_err-later-clause-at_cost g c = at_cost_more c.in_err-later.ensures.at_cost (omega arith) (omega arith)
+returns-in_err-later-clause-at_cost g c =
+    let low = power_more 10 (c.args.first.now.level + 4) (omega (arith, c.requires.least)) in
+    at_cost_more {b = c.later_grid.new.self} c.in_err-later.ensures.at_cost (omega (arith, low)) (omega arith)
 
 pub returns-in_err-tree-clause-at_cost : goal.returns-in_err-tree-clause-at_cost
 returns-in_err-tree-clause-at_cost g c =
-    at_cost_more (at_grid_cost c.args.first.now.level c.reach-reach.result (omega (arith, c.if-reach-first.false)) c.in_ok-later.ensures.at_cost c.in_err-tree.ensures.at_cost) (omega arith) (omega arith)
+    let later = c.in_ok-later.later in
+    at_cost_more (at_grid_cost (g.R.Grid.SquareGrid.units later) g.R.GridRule.MOST_GROWTH c.args.first.now.level c.reach-reach.result (g.met.R.GridRule.is_cheap later) (omega (arith, c.if-reach-first.false, c.MOST_GROWTH.ensures)) c.requires.least c.in_ok-later.ensures.at_cost c.in_err-tree.ensures.at_cost) (omega arith) (omega arith)
 
 pub returns-in_err-tree-2-clause-at_cost : goal.returns-in_err-tree-2-clause-at_cost
 returns-in_err-tree-2-clause-at_cost g c =
-    let grid = at_grid_cost c.args.first.now.level c.reach-reach.result (omega (arith, c.if-reach-first.false)) c.in_ok-later.ensures.at_cost c.in_ok-tree.ensures.at_cost in
+    let later = c.in_ok-later.later in
+    let grid = at_grid_cost (g.R.Grid.SquareGrid.units later) g.R.GridRule.MOST_GROWTH c.args.first.now.level c.reach-reach.result (g.met.R.GridRule.is_cheap later) (omega (arith, c.if-reach-first.false, c.MOST_GROWTH.ensures)) c.requires.least c.in_ok-later.ensures.at_cost c.in_ok-tree.ensures.at_cost in
     at_cost_more (at_both_costs grid c.in_err-tree-2.ensures.at_cost) (omega arith) (omega arith)
 
 pub returns-clause-at_cost : goal.returns-clause-at_cost
 returns-clause-at_cost g c =
-    let grid = at_grid_cost c.args.first.now.level c.reach-reach.result (omega (arith, c.if-reach-first.false)) c.in_ok-later.ensures.at_cost c.in_ok-tree.ensures.at_cost in
+    let later = c.in_ok-later.later in
+    let grid = at_grid_cost (g.R.Grid.SquareGrid.units later) g.R.GridRule.MOST_GROWTH c.args.first.now.level c.reach-reach.result (g.met.R.GridRule.is_cheap later) (omega (arith, c.if-reach-first.false, c.MOST_GROWTH.ensures)) c.requires.least c.in_ok-later.ensures.at_cost c.in_ok-tree.ensures.at_cost in
     at_cost_more (at_both_costs grid c.in_ok-tree-2.ensures.at_cost) (omega arith) (omega arith)

@@ -1,7 +1,7 @@
 use Rattle.std.proofs.Common.{◌≡◌, ◌+◌, ◌-◌, ◌*◌, ◌≤◌, ◌^◌, sym, ap, ◌∙◌, arith}
 use Rattle.std.proofs.Math.Pow.{pow_mono}
 use Rattle.ca_run.proofs.ReadWords.{half_is}
-use Rattle.ca_run.proofs.GridBricks.{sixty_four_times, sixteen_times}
+use Rattle.ca_run.proofs.GridBricks.{sixty_four_times}
 use Rattle.ca_run.proofs.leaper.to_grid.bricks_in_half.Goals as goal
 
 pub returns-clause-cells : goal.returns-clause-cells
@@ -9,12 +9,6 @@ returns-clause-cells c =
     let k = c.args.level - 7 in
     let six : k + 6 ≡ c.args.level - 1 = omega (arith, c.requires.least) in
     ap (λ n. 64 * n) (half_is k (omega (arith, c.requires.greatest))) ∙ sym (sixty_four_times k) ∙ ap (λ n. 2 ^ n) six
-
-pub returns-clause-words : goal.returns-clause-words
-returns-clause-words c =
-    let k = c.args.level - 7 in
-    let four : k + 4 ≡ c.args.level - 3 = omega (arith, c.requires.least) in
-    ap (λ n. 16 * n) (half_is k (omega (arith, c.requires.greatest))) ∙ sym (sixteen_times k) ∙ ap (λ n. 2 ^ n) four
 
 pub returns-clause-most : goal.returns-clause-most
 returns-clause-most c =

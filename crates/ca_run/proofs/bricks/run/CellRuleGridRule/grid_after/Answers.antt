@@ -1,26 +1,18 @@
-use Rattle.std.proofs.Common.{◌≡◌, ℕ, ◌+◌, ◌-◌, ◌*◌, ◌<◌, ◌≤◌, inl, inr, length, refl, sym, ap, subst, ◌∙◌, arith}
-use Rattle.std.proofs.Math.Nat.{mul-le-mul_right}
+use Rattle.std.proofs.Common.{◌≡◌, ℕ, ◌+◌, ◌-◌, ◌*◌, inl, inr, length, refl, sym, ap, subst, ◌∙◌, arith}
 use Rattle.std.proofs.lemmas.Bool.{cases_eq}
 use Rattle.std.proofs.lemmas.Bool.Decides.{nat_tests}
 use Rattle.ca_plane.specs.Prelude.{cells_after}
 use Rattle.ca_quad.specs.Prelude.{cell}
 use Rattle.ca_bricks.specs.Prelude.{GridShows, HasNeighbours, AllHaveNeighbours, IsNotIn, IsNextBrick, BricksRest, HasBlankEdge, IsBlankRound}
 use Rattle.ca_bricks.proofs.BrickMargins.{grid_less}
-use Rattle.ca_run.proofs.Costs.{one_more}
-use Rattle.ca_work.proofs.Spent.{spends_same, spends_again}
+use Rattle.ca_run.specs.inner.AtCost.{SpendsAtMost}
+use Rattle.ca_run.proofs.Costs.{charged_none, charged_more}
 use Rattle.ca_bricks.proofs.BrickBlanks.{blank_rests, blank_again}
 use Rattle.ca_bricks.proofs.LaterGrids.{edge_blank, grid_later, grid_seen, queue_inside}
-use Rattle.ca_run.proofs.bricks.run.grid_after.Goals as goal
-
--- one generation more is charged: no more than all bricks
-bricks_charged : (first old new k count steps : ℕ) → old ≤ first + k * count → new ≤ old + steps → steps ≤ count → new ≤ first + (k + 1) * count
-bricks_charged first old new k count steps was charged few =
-    let more = one_more k count steps few in
-    omega (arith, was, charged, more)
+use Rattle.ca_run.proofs.bricks.run.CellRuleGridRule.grid_after.Goals as goal
 
 pub generations-init : goal.generations-init
 generations-init g c =
-    let begins = c.requires.begins in
     let across = c.args.grid.across in
     let bricks = c.args.grid.bricks.items in
     let count : c.len-count.result ≡ length bricks = omega (arith, c.len-count.ensures, c.args.grid.bricks.ok.0) in
@@ -32,27 +24,25 @@ generations-init g c =
     let n : c.args.n ≡ c.args.n - 0 = omega arith in
     let r : c.args.reached ≡ c.args.reached + 0 = omega arith in
     record {
-      shows = subst (λ m. GridShows c.args.grid m (p (c.args.reached + 0))) n (subst (λ k. GridShows c.args.grid c.args.n (p k)) r begins.shows);
+      shows = subst (λ m. GridShows c.args.grid m (p (c.args.reached + 0))) n (subst (λ k. GridShows c.args.grid c.args.n (p k)) r c.requires.shows);
       place = record { x = refl; y = refl; across = refl; down = refl };
       count = refl;
       size = c.in_ok-before.ensures.length ∙ count;
       inside = subst (λ l. AllHaveNeighbours across (length l) awake) c.deref.ensures.value made.inside;
       empty = made.empty;
-      rest = λ t has not_in. blank_rests (g.A.Automaton.next_of c.args.leaper.now.rule) c.args.rule.now begins.by_cells begins.quiet across bricks c.in_ok-before.before.items t
+      rest = λ t has not_in. blank_rests (g.A.Automaton.next_of c.args.leaper.now.rule) c.args.self.now c.requires.rule c.requires.quiet across bricks c.in_ok-before.before.items t
           (others t has not_in) (c.in_ok-before.ensures.blank t);
       next = λ h t has. absurd (omega (arith, h));
-      edge = edge_blank c.args.grid c.args.n (p c.args.reached) begins.shows;
+      edge = edge_blank c.args.grid c.args.n (p c.args.reached) c.requires.shows;
       edge_before = λ t _. c.in_ok-before.ensures.blank t;
       first = λ _. others;
       blank = λ _. c.in_ok-before.ensures.blank;
-      spends = spends_same c.args.work.now;
-      counted = omega (arith, c.requires.fresh);
-      most = omega arith;
+      counted = omega (arith, c.requires.fresh.unstepped);
+      charged = charged_none c.args.work.now;
     }
 
 pub generations-preserved : goal.generations-preserved
 generations-preserved g c =
-    let begins = c.requires.begins in
     let inv = c.generations.invariant in
     let k = c.generations.k in
     let across = c.generations.grid.across in
@@ -66,75 +56,39 @@ generations-preserved g c =
     let has_old = λ (t : ℕ) (has : HasNeighbours across (length new) t). subst (λ n. HasNeighbours across n t) made.size has in
     let p = cell c.args.leaper.now.nodes c.args.first.now in
     record {
-      shows = grid_later (g.A.Automaton.next_of c.args.leaper.now.rule) c.args.rule.now begins.by_cells begins.quiet c.generations.grid _ c.args.n k c.args.reached p (omega (arith, c.generations-test.true))
+      shows = grid_later (g.A.Automaton.next_of c.args.leaper.now.rule) c.args.self.now c.requires.rule c.requires.quiet c.generations.grid _ c.args.n k c.args.reached p (omega (arith, c.generations-test.true))
           inv.shows (record { x = refl; y = refl; across = refl; down = refl }) made.size made.next (made.edge inv.edge_before);
       place = record { x = inv.place.x; y = inv.place.y; across = inv.place.across; down = inv.place.down };
       count = made.size ∙ inv.count;
       size = ap length made.before ∙ sym made.size;
       inside = subst (λ n. AllHaveNeighbours across n c.wake_next.new.awake.items) (count_now ∙ sym made.size) woken.inside;
       empty = woken.empty;
-      rest = λ t has not_in. subst (λ l. IsNextBrick c.args.rule.now across new l t) (sym made.before) (elim (cases_eq k 0) [
+      rest = λ t has not_in. subst (λ l. IsNextBrick c.args.self.now across new l t) (sym made.before) (elim (cases_eq k 0) [
         | inl begun ↦
-            blank_again next c.args.rule.now begins.by_cells begins.quiet across c.generations.before.items old new t (inv.blank begun)
+            blank_again next c.args.self.now c.requires.rule c.requires.quiet across c.generations.before.items old new t (inv.blank begun)
             (inv.first begun t (has_old t has) (woken.again (grind (arith, nat_tests, begun)) t (subst (λ n. HasNeighbours across n t) (sym count_now) (has_old t has)) not_in))
             (made.same t (has_old t has) (woken.queue t not_in))
         | inr more ↦ made.rest (inv.next (omega (arith, more))) t has (woken.queue t not_in)
       ]);
-      next = λ _ t has. subst (λ l. IsNextBrick c.args.rule.now across l new t) (sym made.before) (made.next t (has_old t has));
+      next = λ _ t has. subst (λ l. IsNextBrick c.args.self.now across l new t) (sym made.before) (made.next t (has_old t has));
       edge = made.edge inv.edge_before;
       edge_before = subst (λ l. HasBlankEdge across l) (sym made.before) inv.edge;
       first = λ e. absurd (omega (arith, e));
       blank = λ e. absurd (omega (arith, e));
-      spends = spends_again inv.spends c.count_steps.ensures.spends;
       counted = omega (arith, inv.counted, c.count_steps.ensures.fits, c.in_ok-steps.ensures.counts, c.in_ok-steps.ensures.steps, c.saturating_add.ensures);
-      most = bricks_charged _ _ _ k (length c.args.grid.bricks.items) c.len-count.result inv.most c.count_steps.ensures.most (omega (arith, c.len-count.ensures, c.args.grid.bricks.ok.0));
+      charged = charged_more k (length c.args.grid.bricks.items) c.len-count.result (omega (arith, c.len-count.ensures, c.args.grid.bricks.ok.0)) inv.charged c.count_steps.ensures.charged;
     }
 
--- what is charged of a run that ends within it
-charged_within : (n k count steps first old new : ℕ) → k < n → steps ≤ count → old ≤ first + k * count → new ≤ old + steps → new ≤ first + n * count
-charged_within n k count steps first old new early few was charged =
-    let most = bricks_charged first old new k count steps was charged few in
-    let all : (k + 1) * count ≤ n * count = mul-le-mul_right count (omega (arith, early)) in
-    omega (arith, most, all)
-
-pub returns-in_err-steps-clause-most : goal.returns-in_err-steps-clause-most
-returns-in_err-steps-clause-most g c =
-    charged_within c.args.n c.generations.k (length c.args.grid.bricks.items) c.len-count.result _ _ _ (omega (arith, c.generations-test.true))
-    (omega (arith, c.len-count.ensures, c.args.grid.bricks.ok.0)) c.generations.invariant.most c.count_steps.ensures.most
-
-pub returns-in_err-generation-clause-most : goal.returns-in_err-generation-clause-most
-returns-in_err-generation-clause-most g c =
-    charged_within c.args.n c.generations.k (length c.args.grid.bricks.items) c.len-count.result _ _ _ (omega (arith, c.generations-test.true))
-    (omega (arith, c.len-count.ensures, c.args.grid.bricks.ok.0)) c.generations.invariant.most c.count_steps.ensures.most
-
-pub returns-in_err-wake_next-clause-most : goal.returns-in_err-wake_next-clause-most
-returns-in_err-wake_next-clause-most g c =
-    charged_within c.args.n c.generations.k (length c.args.grid.bricks.items) c.len-count.result _ _ _ (omega (arith, c.generations-test.true))
-    (omega (arith, c.len-count.ensures, c.args.grid.bricks.ok.0)) c.generations.invariant.most c.count_steps.ensures.most
-
-pub returns-clause-most : goal.returns-clause-most
-returns-clause-most g c =
+pub returns-clause-charged : goal.returns-clause-charged
+returns-clause-charged g c =
     let all : c.generations.k ≡ c.args.n = grind (arith, nat_tests) in
-    subst (λ n. c.generations.work.used ≤ c.args.work.now.used + n * length c.args.grid.bricks.items) all c.generations.invariant.most
-
-pub returns-in_err-steps-clause-spends : goal.returns-in_err-steps-clause-spends
-returns-in_err-steps-clause-spends g c = spends_again c.generations.invariant.spends c.count_steps.ensures.spends
-
-pub returns-in_err-generation-clause-spends : goal.returns-in_err-generation-clause-spends
-returns-in_err-generation-clause-spends g c = spends_again c.generations.invariant.spends c.count_steps.ensures.spends
-
-pub returns-in_err-wake_next-clause-spends : goal.returns-in_err-wake_next-clause-spends
-returns-in_err-wake_next-clause-spends g c = spends_again c.generations.invariant.spends c.count_steps.ensures.spends
-
-pub returns-clause-spends : goal.returns-clause-spends
-returns-clause-spends g c = c.generations.invariant.spends
+    subst (λ n. SpendsAtMost c.args.work.now c.generations.work (n * length c.args.grid.bricks.items)) all c.generations.invariant.charged
 
 pub with_grid-requires : goal.with_grid-requires
 with_grid-requires g c =
-    let begins = c.requires.begins in
     let inv = c.generations.invariant in
     let made = c.in_ok-generation.ensures in
-    grid_seen (g.A.Automaton.next_of c.args.leaper.now.rule) c.args.rule.now begins.by_cells begins.quiet c.generations.grid _ c.args.n c.generations.k c.args.reached
+    grid_seen (g.A.Automaton.next_of c.args.leaper.now.rule) c.args.self.now c.requires.rule c.requires.quiet c.generations.grid _ c.args.n c.generations.k c.args.reached
     (cell c.args.leaper.now.nodes c.args.first.now) (omega (arith, c.generations-test.true)) inv.shows (record { x = refl; y = refl; across = refl; down = refl }) made.size made.next (made.edge inv.edge_before)
 
 pub returns-clause-shows : goal.returns-clause-shows
@@ -149,7 +103,7 @@ returns-clause-shows g c =
 pub first_bricks-requires-clause-edge : goal.first_bricks-requires-clause-edge
 first_bricks-requires-clause-edge g c =
     let p = cells_after (g.A.Automaton.next_of c.args.leaper.now.rule) (cell c.args.leaper.now.nodes c.args.first.now) in
-    subst (HasBlankEdge c.args.grid.across) (sym c.deref.ensures.value) (edge_blank c.args.grid c.args.n (p c.args.reached) c.requires.begins.shows)
+    subst (HasBlankEdge c.args.grid.across) (sym c.deref.ensures.value) (edge_blank c.args.grid c.args.n (p c.args.reached) c.requires.shows)
 
 pub generation-requires-clause-inside : goal.generation-requires-clause-inside
 generation-requires-clause-inside g c =
@@ -159,7 +113,7 @@ generation-requires-clause-inside g c =
 pub generation-requires-clause-rest : goal.generation-requires-clause-rest
 generation-requires-clause-rest g c =
     let grid = c.generations.grid in
-    subst (BricksRest c.args.rule.now grid.across grid.bricks.items c.generations.before.items) (sym c.deref-in-generations-2.ensures.value) c.generations.invariant.rest
+    subst (BricksRest c.args.self.now grid.across grid.bricks.items c.generations.before.items) (sym c.deref-in-generations-2.ensures.value) c.generations.invariant.rest
 
 pub wake_next-requires-clause-inside : goal.wake_next-requires-clause-inside
 wake_next-requires-clause-inside g c =
@@ -170,7 +124,7 @@ wake_next-requires-clause-inside g c =
     subst (λ n. AllHaveNeighbours across n c.generation.new.queue) count (queue_inside across (length old) c.generations.queue c.generation.new.queue inv.empty c.in_ok-generation.ensures.grows)
 
 pub returns-clause-place : goal.returns-clause-place
-returns-clause-place g c = c.generations.invariant.place
+returns-clause-place g c = record { place = c.generations.invariant.place; size = c.generations.invariant.count }
 
 pub returns-clause-counts : goal.returns-clause-counts
 returns-clause-counts g c = c.generations.invariant.counted

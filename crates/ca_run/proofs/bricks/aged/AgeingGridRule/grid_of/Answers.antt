@@ -1,20 +1,20 @@
-use Rattle.std.proofs.Common.{◌≡◌, ◌+◌, ◌<◌, ◌≤◌, ◌^◌, [], ◌∷◌, ◌++◌, length, sym, ap, subst, ◌∙◌, arith}
+use Rattle.std.proofs.Common.{◌≡◌, ◌+◌, ◌<◌, ◌≤◌, ◌^◌, [], ◌∷◌, ◌++◌, sym, subst, ◌∙◌, arith}
 use Rattle.std.specs.Prelude.{ℤ}
 use Rattle.std.proofs.lemmas.List.Elements.{All-push, All-same}
 use Rattle.ca_plane.specs.Prelude.{liveness}
 use Rattle.ca_quad.specs.Prelude.{cell}
-use Rattle.ca_bricks.specs.Prelude.{dying_digit, GridShows, LiesNearOrigin, IsAligned}
-use Rattle.ca_run.specs.inner.Frames.{IsOfFrame}
+use Rattle.ca_bricks.specs.Prelude.{dying_digit, GridShows}
+use Rattle.ca_run.specs.inner.Frames.{IsOfFrame, IsNewGrid}
 use Rattle.ca_run.proofs.FramedAgedGrids.{of_found, framed_aged_grid}
 use Rattle.ca_run.proofs.GridBricks.{push_more, push_longer}
-use Rattle.ca_run.proofs.leaper.Leaper.aged_grid_of.Goals as goal
+use Rattle.ca_run.proofs.bricks.aged.AgeingGridRule.grid_of.Goals as goal
 
 pub digits-preserved : goal.digits-preserved
 digits-preserved g c =
     let inv = c.digits.invariant in
     let frame = c.args.frame.now in
-    let p = cell c.args.self.now.nodes c.args.tree.now in
-    let states = c.args.states in
+    let p = cell c.args.leaper.now.nodes c.args.tree.now in
+    let states = c.args.self.now.states in
     let list = c.digits.dying.items in
     let new = c.push.new.self.items in
     let t = c.digits.digit in
@@ -36,28 +36,16 @@ returns-clause-shows g c = λ m framed.
     let inv = c.digits.invariant in
     let frame = c.args.frame.now in
     let tree = c.args.tree.now in
-    let p = cell c.args.self.now.nodes tree in
-    let nodes = ap (λ l. l.nodes) c.self.view_is in
+    let p = cell c.args.leaper.now.nodes tree in
+    let states = c.args.self.now.states in
     let most = c.in_ok-greatest_state.field-0 in
     let all : c.digits.digit ≡ c.digit_count-digit-end.result = omega (arith, c.digits-test.false, c.digits.auto.digit-end) in
-    let greatest = subst (λ n. (x y : ℤ) → cell n tree x y ≤ most) nodes c.in_ok-greatest_state.ensures.most in
-    framed_aged_grid _ frame m p c.requires.least c.requires.most (λ x y. omega (arith, greatest x y, c.from.ensures, c.if-from-states.false))
-    (subst (λ n. c.args.states < 2 + 2 ^ n) (sym (inv.size ∙ all)) c.digit_count-digit-end.ensures.enough)
+    let greatest = subst (λ n. (x y : ℤ) → cell n tree x y ≤ most) c.store.ensures.nodes c.in_ok-greatest_state.ensures.most in
+    framed_aged_grid _ frame m p c.requires.rule.least c.requires.rule.most (λ x y. omega (arith, greatest x y, c.from.ensures, c.if-from-states.false))
+    (subst (λ n. c.args.self.now.states < 2 + 2 ^ n) (sym (inv.size ∙ all)) c.digit_count-digit-end.ensures.enough)
     (of_found (IsOfFrame frame) c.in_ok-live.field-0 c.in-Some.live c.in-Some.is c.in_ok-live.ensures.place) inv.of_frame framed
     (of_found (λ w. GridShows w m (λ x y. liveness (p x y))) c.in_ok-live.field-0 c.in-Some.live c.in-Some.is (c.in_ok-live.ensures.shows m framed))
     (λ k d h. inv.shows m framed k d (omega (arith, inv.size, h)))
 
-pub returns-clause-near : goal.returns-clause-near
-returns-clause-near g c = of_found LiesNearOrigin c.in_ok-live.field-0 c.in-Some.live c.in-Some.is c.in_ok-live.ensures.near
-
-pub returns-clause-aligned : goal.returns-clause-aligned
-returns-clause-aligned g c = of_found IsAligned c.in_ok-live.field-0 c.in-Some.live c.in-Some.is c.in_ok-live.ensures.aligned
-
-pub returns-clause-room : goal.returns-clause-room
-returns-clause-room g c = of_found (λ w. w.across + length w.bricks.items < 2 ^ 63) c.in_ok-live.field-0 c.in-Some.live c.in-Some.is c.in_ok-live.ensures.room
-
-pub returns-clause-few : goal.returns-clause-few
-returns-clause-few g c = of_found (λ w. length w.bricks.items ≤ 2 ^ 18) c.in_ok-live.field-0 c.in-Some.live c.in-Some.is c.in_ok-live.ensures.few
-
 pub returns-clause-fresh : goal.returns-clause-fresh
-returns-clause-fresh g c = of_found (λ w. w.work ≡ 0) c.in_ok-live.field-0 c.in-Some.live c.in-Some.is c.in_ok-live.ensures.fresh
+returns-clause-fresh g c = of_found IsNewGrid c.in_ok-live.field-0 c.in-Some.live c.in-Some.is c.in_ok-live.ensures.fresh
