@@ -215,14 +215,11 @@ pub early_search : (old new : ℕ) (stages : ℕ → ℤ → ℤ → ℕ) (begun
 early_search old new stages begun sure limit later few takes =
     whole_search old new new new stages begun sure limit later few takes (omega arith) (no_step new new stages limit (limit - sure) refl)
 
--- its first steps alone
-pub first_search : (old new : ℕ) (stages : ℕ → ℤ → ℤ → ℕ) (begun sure limit : ℕ) → begun ≤ sure → sure ≤ limit → TakesSteps old new stages sure (sure - begun) → TakesSearchFrom old new stages begun limit
-first_search old new stages begun sure limit later few takes = early_search old new stages begun sure limit later few (step_then_early old new new stages begun sure limit few takes (omega arith))
-
--- where steps were taken before is of no account
-pub search_alone : (old new : ℕ) (stages : ℕ → ℤ → ℤ → ℕ) (begun limit : ℕ) → TakesSearchFrom old new stages begun limit → TakesSearch old new stages limit
-search_alone old new stages begun limit takes level some holds =
-    let most = takes level some holds in
+-- its first steps alone, from wherever they were taken
+pub first_search : (old new : ℕ) (stages : ℕ → ℤ → ℤ → ℕ) (begun sure limit : ℕ) → begun ≤ sure → sure ≤ limit → TakesSteps old new stages sure (sure - begun) → TakesSearch old new stages limit
+first_search old new stages begun sure limit later few takes level some holds =
+    let early = step_then_early old new new stages begun sure limit few takes (omega arith) in
+    let most = early_search old new stages begun sure limit later few early level some holds in
     omega (arith, most)
 
 -- some steps, and a search from there

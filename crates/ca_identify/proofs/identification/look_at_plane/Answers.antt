@@ -1,17 +1,19 @@
-use Rattle.std.proofs.Common.{Ok, subst, ◌∙◌, arith}
+use Rattle.std.proofs.Common.{ℕ, Ok, subst, ◌∙◌, arith}
 use Rattle.ca_plane.specs.Prelude.{cells_after}
 use Rattle.ca_quad.specs.Prelude.{IsDead, IsLeastWideBox, cell}
 use Rattle.ca_answers.specs.declared.identity.Identity.TheVariants.{Empty}
 use Rattle.ca_identify.specs.declared.tree_look.TreeLook.{TreeLook}
 use Rattle.ca_answers.specs.Prelude.{IsLook}
 use Rattle.ca_identify.specs.inner.Stages.{TakesSearch}
+use Rattle.ca_identify.specs.TreeLooks.{TakesRunAndSearch}
 use Rattle.ca_identify.proofs.Identities.{found_later, whole_look}
-use Rattle.ca_pattern.specs.Prelude.{ShowsTree}
+use Rattle.ca_pattern.specs.Prelude.{ShowsTree, IsStart}
 use Rattle.ca_pattern.proofs.LeaptTrees.{shows_stays}
 use Rattle.ca_pattern.proofs.Nearby.{later_outside}
 use Rattle.ca_identify.proofs.Stages.{run_alone, run_then_steps}
 use Rattle.ca_pattern.proofs.Starts.{later_start, start_stays}
 use Rattle.ca_identify.proofs.identification.look_at_plane.Goals as goal
+use Rattle.ca_identify.proofs.identification.look_at_plane.Goals.{In_ok-start}
 
 pub later_tree-requires : goal.later_tree-requires
 later_tree-requires g c =
@@ -25,13 +27,31 @@ later_tree-requires g c =
           (g.met.A.Automaton.quiet c.args.leaper.now.rule c.store.ensures.rule) pattern.range c.requires.few;
     }
 
+-- the plane that is looked at
+module _ (g : _) (c : In_ok-start g) where
+  pub is_start : IsStart c.later_tree.new.leaper.nodes c.in_ok-start.start
+  is_start =
+      later_start (g.A.Automaton.next_of c.args.leaper.now.rule) (cell c.args.leaper.now.nodes c.args.pattern) c.args.generations c.later_tree.new.leaper.nodes c.in_ok-start.start
+      (g.met.A.Automaton.quiet c.args.leaper.now.rule c.store.ensures.rule) c.requires.pattern.range c.requires.few c.in_ok-start.ensures.later
+
+  -- what the run to it takes, and a search from there
+  pub all_take : (new : ℕ)
+      → TakesSearch c.later_tree.new.leaper.spent.used new (cells_after (g.A.Automaton.next_of c.later_tree.new.leaper.rule) (cell c.later_tree.new.leaper.nodes c.in_ok-start.start)) c.args.scope.limit
+      → TakesRunAndSearch c.args.leaper.now.spent.used new c.args.pattern.level c.args.generations (cells_after (g.A.Automaton.next_of c.args.leaper.now.rule) (cell c.args.leaper.now.nodes c.args.pattern)) c.args.scope.limit
+  all_take new takes =
+      let next = g.A.Automaton.next_of in
+      let mid = c.later_tree.new.leaper in
+      let start = c.in_ok-start.start in
+      run_then_steps (next c.args.leaper.now.rule) (cell c.args.leaper.now.nodes c.args.pattern) c.args.leaper.now.spent.used mid.spent.used new
+      c.args.pattern.level c.args.generations c.args.scope.limit mid.nodes start c.in_ok-start.ensures.later c.in_ok-start.ensures.takes
+      (subst (λ r. TakesSearch mid.spent.used new (cells_after (next r) (cell mid.nodes start)) c.args.scope.limit) c.in_ok-start.ensures.goes_on.rule takes)
+
 pub look-requires-clause-first : goal.look-requires-clause-first
 look-requires-clause-first g c = record {
   sound = c.store-2.ensures.sound;
   quiet = g.met.A.Automaton.quiet c.later_tree.new.leaper.rule c.store-2.ensures.rule;
   is_first = record {
-    start = later_start (g.A.Automaton.next_of c.args.leaper.now.rule) (cell c.args.leaper.now.nodes c.args.pattern) c.args.generations c.later_tree.new.leaper.nodes c.in_ok-start.start
-        (g.met.A.Automaton.quiet c.args.leaper.now.rule c.store.ensures.rule) c.requires.pattern.range c.requires.few c.in_ok-start.ensures.later;
+    start = is_start g (goal.at.look-requires-clause-first g c).In_ok-start;
     box = subst (λ s. IsLeastWideBox (cell s c.in_ok-start.start) c.in-Some.bounds) c.store-2.ensures.nodes (rw c.in-Some.is at c.in_ok-bounds.ensures);
   };
   most = c.requires.most;
@@ -49,9 +69,7 @@ returns-in_default-clause-look g c = λ cells shows.
     (later, stands, told.0, told.1)
 
 pub returns-in_default-clause-start : goal.returns-in_default-clause-start
-returns-in_default-clause-start g c =
-    later_start (g.A.Automaton.next_of c.args.leaper.now.rule) (cell c.args.leaper.now.nodes c.args.pattern) c.args.generations c.later_tree.new.leaper.nodes c.in_ok-start.start
-    (g.met.A.Automaton.quiet c.args.leaper.now.rule c.store.ensures.rule) c.requires.pattern.range c.requires.few c.in_ok-start.ensures.later
+returns-in_default-clause-start g c = is_start g (goal.at.returns-in_default-clause-start g c).In_ok-start
 
 pub returns-clause-look : goal.returns-clause-look
 returns-clause-look g c = λ cells shows.
@@ -71,9 +89,7 @@ returns-clause-look g c = λ cells shows.
 
 pub returns-clause-start : goal.returns-clause-start
 returns-clause-start g c =
-    start_stays c.later_tree.new.leaper.nodes c.look.new.leaper.nodes c.store-2.ensures.sound c.in_ok-found.ensures.goes_on.grows c.in_ok-start.start
-    (later_start (g.A.Automaton.next_of c.args.leaper.now.rule) (cell c.args.leaper.now.nodes c.args.pattern) c.args.generations c.later_tree.new.leaper.nodes c.in_ok-start.start
-    (g.met.A.Automaton.quiet c.args.leaper.now.rule c.store.ensures.rule) c.requires.pattern.range c.requires.few c.in_ok-start.ensures.later)
+    start_stays c.later_tree.new.leaper.nodes c.look.new.leaper.nodes c.store-2.ensures.sound c.in_ok-found.ensures.goes_on.grows c.in_ok-start.start (is_start g (goal.at.returns-clause-start g c).In_ok-start)
 
 pub returns-in_err-bounds-clause-takes : goal.returns-in_err-bounds-clause-takes
 returns-in_err-bounds-clause-takes g c =
@@ -84,19 +100,7 @@ returns-in_default-clause-takes g c =
     run_alone (g.A.Automaton.next_of c.args.leaper.now.rule) (cell c.args.leaper.now.nodes c.args.pattern) _ _ c.args.pattern.level c.args.generations c.args.scope.limit c.in_ok-start.ensures.takes
 
 pub returns-in_err-found-clause-takes : goal.returns-in_err-found-clause-takes
-returns-in_err-found-clause-takes g c =
-    let next = g.A.Automaton.next_of in
-    let mid = c.later_tree.new.leaper in
-    let start = c.in_ok-start.start in
-    run_then_steps (next c.args.leaper.now.rule) (cell c.args.leaper.now.nodes c.args.pattern) c.args.leaper.now.spent.used mid.spent.used c.look.new.leaper.spent.used
-    c.args.pattern.level c.args.generations c.args.scope.limit mid.nodes start c.in_ok-start.ensures.later c.in_ok-start.ensures.takes
-    (subst (λ r. TakesSearch mid.spent.used c.look.new.leaper.spent.used (cells_after (next r) (cell mid.nodes start)) c.args.scope.limit) c.in_ok-start.ensures.goes_on.rule c.look.ensures.takes)
+returns-in_err-found-clause-takes g c = all_take g (goal.at.returns-in_err-found-clause-takes g c).In_ok-start _ c.look.ensures.takes
 
 pub returns-clause-takes : goal.returns-clause-takes
-returns-clause-takes g c =
-    let next = g.A.Automaton.next_of in
-    let mid = c.later_tree.new.leaper in
-    let start = c.in_ok-start.start in
-    run_then_steps (next c.args.leaper.now.rule) (cell c.args.leaper.now.nodes c.args.pattern) c.args.leaper.now.spent.used mid.spent.used c.look.new.leaper.spent.used
-    c.args.pattern.level c.args.generations c.args.scope.limit mid.nodes start c.in_ok-start.ensures.later c.in_ok-start.ensures.takes
-    (subst (λ r. TakesSearch mid.spent.used c.look.new.leaper.spent.used (cells_after (next r) (cell mid.nodes start)) c.args.scope.limit) c.in_ok-start.ensures.goes_on.rule c.in_ok-found.ensures.takes)
+returns-clause-takes g c = all_take g (goal.at.returns-clause-takes g c).In_ok-start _ c.in_ok-found.ensures.takes

@@ -1,4 +1,4 @@
-use Rattle.std.proofs.Common.{◌≡◌, ℕ, ◌≤◌, refl, sym, subst, arith}
+use Rattle.std.proofs.Common.{◌≡◌, ℕ, refl, sym, subst, arith}
 use Rattle.ca_plane.specs.Prelude.{cells_after}
 use Rattle.ca_quad.specs.Prelude.{cell}
 use Rattle.ca_run.specs.Prelude.{LeaperGrows}
@@ -8,9 +8,9 @@ use Rattle.ca_pattern.specs.Prelude.{IsLowTree, HasLive}
 use Rattle.ca_identify.specs.inner.Stages.{IsHalted, IsGrowthOf, TakesSearch, TakesSearchFrom}
 use Rattle.ca_identify.proofs.Identities.{last_live, found_none, whole_look, search_needs}
 use Rattle.ca_identify.proofs.LaterLeapers.{as_before, pictures_before, later_low, walk_begins, walk_nearer, walks_on}
-use Rattle.ca_identify.proofs.Stages.{first_search, search_alone, step_then_search}
+use Rattle.ca_identify.proofs.Stages.{first_search, step_then_search}
 use Rattle.ca_identify.proofs.identification.patience.look.Goals as goal
-use Rattle.ca_identify.proofs.identification.patience.look.Goals.{In_ok-soon, In_default-found}
+use Rattle.ca_identify.proofs.identification.patience.look.Goals.{In_default-soon, In_default-found}
 
 -- ---- without an end to patience
 
@@ -32,15 +32,13 @@ look_on-requires g c =
 
 pub returns-in_err-soon-clause-takes : goal.returns-in_err-soon-clause-takes
 returns-in_err-soon-clause-takes g c =
-    search_alone _ _ (cells_after (g.A.Automaton.next_of c.args.leaper.now.rule) (cell c.args.leaper.now.nodes c.args.first.tree)) c.from-walk.result.generations c.args.scope.limit
-    (first_search _ _ (cells_after (g.A.Automaton.next_of c.args.leaper.now.rule) (cell c.args.leaper.now.nodes c.args.first.tree)) c.from-walk.result.generations c.first_generations-sure.result c.args.scope.limit
-    (omega (arith, c.from-walk.ensures.generations)) (omega (arith, c.first_generations-sure.ensures.within, c.min-early.ensures)) c.in_err-soon.ensures.takes)
+    first_search _ _ (cells_after (g.A.Automaton.next_of c.args.leaper.now.rule) (cell c.args.leaper.now.nodes c.args.first.tree)) c.from-walk.result.generations c.first_generations-sure.result c.args.scope.limit
+    (omega (arith, c.from-walk.ensures.generations)) (omega (arith, c.first_generations-sure.ensures.within, c.min-early.ensures)) c.in_err-soon.ensures.takes
 
 pub returns-in-Some-soon-clause-takes : goal.returns-in-Some-soon-clause-takes
 returns-in-Some-soon-clause-takes g c =
-    search_alone _ _ (cells_after (g.A.Automaton.next_of c.args.leaper.now.rule) (cell c.args.leaper.now.nodes c.args.first.tree)) c.from-walk.result.generations c.args.scope.limit
-    (first_search _ _ (cells_after (g.A.Automaton.next_of c.args.leaper.now.rule) (cell c.args.leaper.now.nodes c.args.first.tree)) c.from-walk.result.generations c.first_generations-sure.result c.args.scope.limit
-    (omega (arith, c.from-walk.ensures.generations)) (omega (arith, c.first_generations-sure.ensures.within, c.min-early.ensures)) c.in_ok-soon.ensures.takes)
+    first_search _ _ (cells_after (g.A.Automaton.next_of c.args.leaper.now.rule) (cell c.args.leaper.now.nodes c.args.first.tree)) c.from-walk.result.generations c.first_generations-sure.result c.args.scope.limit
+    (omega (arith, c.from-walk.ensures.generations)) (omega (arith, c.first_generations-sure.ensures.within, c.min-early.ensures)) c.in_ok-soon.ensures.takes
 
 pub returns-in-Some-soon-clause-look : goal.returns-in-Some-soon-clause-look
 returns-in-Some-soon-clause-look g c = λ cells shows.
@@ -51,19 +49,26 @@ returns-in-Some-soon-clause-look g c = λ cells shows.
 
 -- ---- while patience lasts
 
-module _ (g : _) (c : In_ok-soon g) where
-  -- what all takes, with a search from the first generations on
-  pub all_take : (new begun : ℕ) → c.first_generations-sure.result ≤ begun → begun ≤ c.first_generations-sure.result
-      → TakesSearchFrom c.look_on.new.leaper.spent.used new (cells_after (g.A.Automaton.next_of c.look_on.new.leaper.rule) (cell c.look_on.new.leaper.nodes c.args.first.tree)) begun c.args.scope.limit
+module _ (g : _) (c : In_default-soon g) where
+  -- the walk is at the last of the first generations
+  pub at_sure : c.look_on.new.walk.generations ≡ c.first_generations-sure.result
+  at_sure =
+      let walked = rw c.in_default-soon.is at c.in_ok-soon.ensures.found in
+      let least = walked.1 in
+      let most = walked.2 in
+      omega (arith, least, most)
+
+  -- what all takes, with a search from there
+  pub all_take : (new : ℕ)
+      → TakesSearchFrom c.look_on.new.leaper.spent.used new (cells_after (g.A.Automaton.next_of c.look_on.new.leaper.rule) (cell c.look_on.new.leaper.nodes c.args.first.tree)) c.look_on.new.walk.generations c.args.scope.limit
       → TakesSearch c.args.leaper.now.spent.used new (cells_after (g.A.Automaton.next_of c.args.leaper.now.rule) (cell c.args.leaper.now.nodes c.args.first.tree)) c.args.scope.limit
-  all_take new begun least most takes =
+  all_take new takes =
       let stages = cells_after (g.A.Automaton.next_of c.args.leaper.now.rule) (cell c.args.leaper.now.nodes c.args.first.tree) in
       let mid = c.look_on.new.leaper.spent.used in
       let limit = c.args.scope.limit in
-      let one : begun ≡ c.first_generations-sure.result = omega (arith, least, most) in
-      let rest = as_before g.A.Automaton.next_of c.in_ok-soon.ensures.goes_on c.requires.first (λ n p. TakesSearchFrom mid new (cells_after n p) begun limit) takes in
+      let rest = as_before g.A.Automaton.next_of c.in_ok-soon.ensures.goes_on c.requires.first (λ n p. TakesSearchFrom mid new (cells_after n p) c.look_on.new.walk.generations limit) takes in
       step_then_search _ mid new stages c.from-walk.result.generations c.first_generations-sure.result limit (omega (arith, c.first_generations-sure.ensures.within, c.min-early.ensures)) c.in_ok-soon.ensures.takes
-      (subst (λ k. TakesSearchFrom mid new stages k limit) one rest)
+      (subst (λ k. TakesSearchFrom mid new stages k limit) at_sure rest)
 
 pub patient_search-requires-clause-walk : goal.patient_search-requires-clause-walk
 patient_search-requires-clause-walk g c =
@@ -73,19 +78,14 @@ patient_search-requires-clause-walk g c =
 
 pub patient_search-requires-clause-begun : goal.patient_search-requires-clause-begun
 patient_search-requires-clause-begun g c =
-    let walked = rw c.in_default-soon.is at c.in_ok-soon.ensures.found in
-    let most = walked.2 in
-    omega (arith, most, c.first_generations-sure.ensures.within)
+    let one = at_sure g (goal.at.patient_search-requires-clause-begun g c).In_default-soon in
+    omega (arith, one, c.first_generations-sure.ensures.within)
 
 pub returns-in_err-found-clause-takes : goal.returns-in_err-found-clause-takes
-returns-in_err-found-clause-takes g c =
-    let walked = rw c.in_default-soon.is at c.in_ok-soon.ensures.found in
-    all_take g (goal.at.returns-in_err-found-clause-takes g c).In_ok-soon _ _ walked.1 walked.2 c.in_err-found.ensures.takes
+returns-in_err-found-clause-takes g c = all_take g (goal.at.returns-in_err-found-clause-takes g c).In_default-soon _ c.in_err-found.ensures.takes
 
 pub returns-in-Some-found-clause-takes : goal.returns-in-Some-found-clause-takes
-returns-in-Some-found-clause-takes g c =
-    let walked = rw c.in_default-soon.is at c.in_ok-soon.ensures.found in
-    all_take g (goal.at.returns-in-Some-found-clause-takes g c).In_ok-soon _ _ walked.1 walked.2 c.in_ok-found.ensures.takes
+returns-in-Some-found-clause-takes g c = all_take g (goal.at.returns-in-Some-found-clause-takes g c).In_default-soon _ c.in_ok-found.ensures.takes
 
 pub returns-in-Some-found-clause-look : goal.returns-in-Some-found-clause-look
 returns-in-Some-found-clause-look g c = λ cells shows.
@@ -112,23 +112,19 @@ growth_of-requires-clause-low g c =
 
 pub growth_of-requires-clause-live : goal.growth_of-requires-clause-live
 growth_of-requires-clause-live g c =
-    let walk = halted g (goal.at.growth_of-requires-clause-live g c).In_default-found in
-    let walked = rw c.in_default-soon.is at c.in_ok-soon.ensures.found in
+    let a = goal.at.growth_of-requires-clause-live g c in
+    let walk = halted g a.In_default-found in
     let later = walk.later in
-    let one = walked.1 in
+    let one = at_sure g a.In_default-soon in
     let tree = c.patient_search.new.walk.tree in
     subst (λ s. HasLive (cell s tree)) (sym c.store-2.ensures.nodes)
     (last_live _ _ c.patient_search.new.walk.generations c.patient_search.new.leaper.nodes tree walk.now walk.others (omega (arith, later, one, c.first_generations-sure.ensures.some)))
 
 pub returns-in_err-growth-clause-takes : goal.returns-in_err-growth-clause-takes
-returns-in_err-growth-clause-takes g c =
-    let walked = rw c.in_default-soon.is at c.in_ok-soon.ensures.found in
-    all_take g (goal.at.returns-in_err-growth-clause-takes g c).In_ok-soon _ _ walked.1 walked.2 c.in_ok-found.ensures.takes
+returns-in_err-growth-clause-takes g c = all_take g (goal.at.returns-in_err-growth-clause-takes g c).In_default-soon _ c.in_ok-found.ensures.takes
 
 pub returns-clause-takes : goal.returns-clause-takes
-returns-clause-takes g c =
-    let walked = rw c.in_default-soon.is at c.in_ok-soon.ensures.found in
-    all_take g (goal.at.returns-clause-takes g c).In_ok-soon _ _ walked.1 walked.2 c.in_ok-found.ensures.takes
+returns-clause-takes g c = all_take g (goal.at.returns-clause-takes g c).In_default-soon _ c.in_ok-found.ensures.takes
 
 pub returns-in_err-growth-clause-goes_on : goal.returns-in_err-growth-clause-goes_on
 returns-in_err-growth-clause-goes_on g c = on g (goal.at.returns-in_err-growth-clause-goes_on g c).In_default-found
@@ -143,12 +139,11 @@ returns-clause-look g c = λ cells shows.
     let nodes = c.args.leaper.now.nodes in
     let p = cell nodes c.args.first.tree in
     let walk = halted g a.In_default-found in
-    let walked = rw c.in_default-soon.is at c.in_ok-soon.ensures.found in
     let later = walk.later in
-    let one = walked.1 in
+    let one = at_sure g a.In_default-soon in
     let new = c.patient_search.new.leaper.nodes in
     let last = c.patient_search.new.walk in
-    let takes = all_take g a.In_ok-soon _ _ walked.1 walked.2 c.in_ok-found.ensures.takes in
+    let takes = all_take g a.In_default-soon _ c.in_ok-found.ensures.takes in
     record {
       some = omega (arith, later, one, c.first_generations-sure.ensures.some);
       most = walk.within;

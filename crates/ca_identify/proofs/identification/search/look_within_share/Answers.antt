@@ -1,4 +1,4 @@
-use Rattle.std.proofs.Common.{sym, subst, arith}
+use Rattle.std.proofs.Common.{sym, subst}
 use Rattle.std.specs.Prelude.{OnErr}
 use Rattle.ca_quad.specs.Prelude.{cell}
 use Rattle.ca_run.specs.Prelude.{LeaperView}

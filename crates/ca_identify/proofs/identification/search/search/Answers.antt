@@ -2,7 +2,7 @@ use Rattle.std.proofs.Common.{◌≡◌, ℕ, ◌+◌, ◌-◌, ◌≤◌, List,
 use Rattle.std.specs.Prelude.{ℤ}
 use Rattle.ca_plane.specs.Prelude.{cells_after}
 use Rattle.ca_quad.specs.Prelude.{cell}
-use Rattle.ca_run.specs.Prelude.{LeaperGrows}
+use Rattle.ca_run.specs.Prelude.{LeaperView, LeaperGrows}
 use Rattle.ca_run.proofs.LeaperGrowth.{goes_on_again}
 use Rattle.ca_identify.specs.declared.identification.stage.First.{First}
 use Rattle.ca_answers.specs.declared.identity.Identity.TheVariants.{Unknown}
@@ -17,7 +17,7 @@ use Rattle.ca_identify.proofs.Stages.{walk_stays, halted_here, halted_within, wh
 use Rattle.ca_evolution.proofs.Steps.{no_step, fewer_steps}
 use Rattle.ca_identify.proofs.Strides.{early_stays}
 use Rattle.ca_identify.proofs.identification.search.search.Goals as goal
-use Rattle.ca_identify.proofs.identification.search.search.Goals.{In_ok-soon, In_ok-planes, In_default-grown, In_default-strided, In_default-late}
+use Rattle.ca_identify.proofs.identification.search.search.Goals.{In_ok-soon, In_default, In_ok-planes, In_default-grown, In_default-strided, In_default-late}
 
 -- ---- the first generations
 
@@ -80,13 +80,19 @@ returns-in_err-planes-clause-takes g c =
     let planes = c.in_err-planes.ensures.takes in
     leaps_take g (goal.at.returns-in_err-planes-clause-takes g c).In_ok-soon _ (omega (arith, planes))
 
+-- the walk is halted there, wherever the leaper goes on to
+module _ (g : _) (c : In_default g) where
+  pub halted_there : {new : LeaperView _} → LeaperGrows _ c.early_look.new.leaper new
+      → IsHalted (g.A.Automaton.next_of c.args.leaper.now.rule) (cell c.args.leaper.now.nodes c.args.first.now.tree) new.nodes c.args.walk.now.generations c.args.limit c.early_look.new.walk
+  halted_there on =
+      let walked = rw c.in_default.is at c.in_ok-soon.ensures.found in
+      let one = walked.1 in
+      let end = walked.2 in
+      halted_here (walk_stays c.in_ok-soon.ensures.goes_on.grows.sound on.grows walked.0) c.args.walk.now.generations c.args.limit
+      (omega (arith, one, c.sure_generations-sure.ensures.begun)) (omega (arith, end, c.requires.within))
+
 pub returns-in_err-planes-clause-halted : goal.returns-in_err-planes-clause-halted
-returns-in_err-planes-clause-halted g c =
-    let walked = rw c.in_default.is at c.in_ok-soon.ensures.found in
-    let one = walked.1 in
-    let end = walked.2 in
-    on_err _ _ (halted_here (walk_stays c.in_ok-soon.ensures.goes_on.grows.sound c.planes_within_share.ensures.goes_on.grows walked.0) c.args.walk.now.generations c.args.limit
-    (omega (arith, one, c.sure_generations-sure.ensures.begun)) (omega (arith, end, c.requires.within)))
+returns-in_err-planes-clause-halted g c = on_err _ _ (halted_there g (goal.at.returns-in_err-planes-clause-halted g c).In_default c.planes_within_share.ensures.goes_on)
 
 pub returns-in_err-planes-clause-goes_on : goal.returns-in_err-planes-clause-goes_on
 returns-in_err-planes-clause-goes_on g c = goes_on_again _ _ _ _ c.in_ok-soon.ensures.goes_on c.planes_within_share.ensures.goes_on
@@ -117,12 +123,7 @@ returns-in_err-grown-clause-takes g c =
 
 pub returns-in_err-grown-clause-halted : goal.returns-in_err-grown-clause-halted
 returns-in_err-grown-clause-halted g c =
-    let walked = rw c.in_default.is at c.in_ok-soon.ensures.found in
-    let one = walked.1 in
-    let end = walked.2 in
-    let on = goes_on_again _ _ _ _ c.in_ok-planes.ensures.goes_on c.growth_by_leaps.ensures.goes_on in
-    on_err _ _ (halted_here (walk_stays c.in_ok-soon.ensures.goes_on.grows.sound on.grows walked.0) c.args.walk.now.generations c.args.limit
-    (omega (arith, one, c.sure_generations-sure.ensures.begun)) (omega (arith, end, c.requires.within)))
+    on_err _ _ (halted_there g (goal.at.returns-in_err-grown-clause-halted g c).In_default (goes_on_again _ _ _ _ c.in_ok-planes.ensures.goes_on c.growth_by_leaps.ensures.goes_on))
 
 pub returns-in_err-grown-clause-goes_on : goal.returns-in_err-grown-clause-goes_on
 returns-in_err-grown-clause-goes_on g c = goes_on_again _ _ _ _ (on_planes g (goal.at.returns-in_err-grown-clause-goes_on g c).In_ok-planes) c.growth_by_leaps.ensures.goes_on
