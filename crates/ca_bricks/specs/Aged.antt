@@ -1,9 +1,9 @@
 -- Grids of cells that age before they are dead, as planes of bits (our own): one of the live cells, and one for each binary digit of the number of
 -- generations after which a dying cell is dead.
-use Rattle.std.specs.Prelude.{◌≡◌, ℕ, ◌+◌, ◌-◌, ◌*◌, ◌<◌, ◌≤◌, ◌^◌, ℤ, List, [], ◌∷◌, length, replicate, get_or, min, max, nat_lt, if◌then◌else◌}
+use Rattle.std.specs.Prelude.{◌≡◌, ℕ, ◌+◌, ◌-◌, ◌*◌, ◌<◌, ◌≤◌, ◌^◌, ℤ, List, [], ◌∷◌, length, get_or, min, max, nat_lt, if◌then◌else◌}
 use Rattle.std.specs.List.{All}
 use Rattle.std.specs.Int.{bit_at}
-use Rattle.ca_plane.specs.Prelude.{GoesByAgeing, liveness, cells_after, row_cells}
+use Rattle.ca_plane.specs.Prelude.{liveness, row_cells}
 use Rattle.ca_plane.specs.declared.counting.Ageing.{Ageing}
 use Rattle.ca_bricks.specs.declared.{aged.AgedGrid.AgedGrid, grid.BrickGrid.BrickGrid}
 use Rattle.ca_bricks.specs.Bricks.{IsGrid, GridShows, IsInPlace, HasNeighbours, AllHaveNeighbours, IsNotIn, QueueGrows, IsSameRound, IsBlank, IsBlankRound, HasMargin, round_at, counted_cell_at}
@@ -91,13 +91,6 @@ pub record IsSameAged (across : ℕ) (old new : AgedGrid) (t : ℕ) : Type 0 whe
 abbrev pub AgedBricksRest : Ageing → (now before : AgedGrid) → List ℕ → Type 0
 AgedBricksRest ageing now before list =
     (t : ℕ) → HasNeighbours now.live.across (length now.live.bricks.items) t → IsNotIn list t → IsNextAged ageing now before t
-
--- a grid shows what came of the first cells after so many generations, under a rule whose cells age so, and has a margin for n more
-pub record CanAgeFor (next : List ℕ → ℕ) (ageing : Ageing) (first : ℤ → ℤ → ℕ) (reached n : ℕ) (grid : AgedGrid) : Type 0 where
-  pub by_ageing : GoesByAgeing grid.states next ageing
-  pub quiet : next (replicate 9 0) ≡ 0
-  pub shows : AgedGridShows grid n (cells_after next first reached)
-  pub room : grid.live.across + length grid.live.bricks.items < 2 ^ 63
 
 -- the brick has no live and no dying cell
 pub record IsBlankAged (grid : AgedGrid) (t : ℕ) : Type 0 where

@@ -1,12 +1,12 @@
 -- Bricks: 64 by 16 cells of two states, sixteen rows from the top, of which bit 0 is the western-most cell (our own). They lie side by side
 -- in rows of as many, and each has a number: first those of the northern-most row from the west, then those of the next.
-use Rattle.std.specs.Prelude.{◌≡◌, ℕ, zero, suc, ◌+◌, ◌-◌, ◌*◌, ◌/◌, ◌%◌, ◌<◌, ◌≤◌, ℤ, pos, ◌+ℤ◌, ◌≤ℤ◌, ◌<ℤ◌, ◌^◌, neg_ℤ, List, [], length, replicate, get_or, if◌then◌else◌, nat_lt, ◌⊎◌, slice_index, bit_and, bit_or}
+use Rattle.std.specs.Prelude.{◌≡◌, ℕ, zero, suc, ◌+◌, ◌-◌, ◌*◌, ◌/◌, ◌%◌, ◌<◌, ◌≤◌, ℤ, pos, ◌+ℤ◌, ◌≤ℤ◌, ◌<ℤ◌, ◌^◌, neg_ℤ, List, [], length, get_or, if◌then◌else◌, nat_lt, ◌⊎◌, slice_index, bit_and, bit_or}
 use Rattle.std.specs.Int.{bit_at}
-use Rattle.ca_plane.specs.Prelude.{cells_after, row_cells}
+use Rattle.ca_plane.specs.Prelude.{row_cells}
 use Rattle.ca_plane.specs.declared.counting.Counting.{Counting}
 use Rattle.ca_bricks.specs.declared.{round.Round.Round, grid.BrickGrid.BrickGrid, count.Count.Count, word.WordMasks.WordMasks, word.WordPair.WordPair, grid.WordPlace.WordPlace}
-use Rattle.ca_bricks.specs.declared.{cell_rule.CellRule.CellRule}
-use Rattle.ca_bricks.specs.{Words.eight, Tiles.next_by_count, Tiles.sum_round, Tiles.nine_at, Diagrams.diagram_next, CellRules.GoesByCells}
+use Rattle.ca_bricks.specs.declared.cell_rule.CellRule.{CellRule}
+use Rattle.ca_bricks.specs.{Words.eight, Tiles.next_by_count, Tiles.sum_round, Tiles.nine_at, Diagrams.diagram_next}
 use Rattle.ca_bricks.specs.declared.cell_rule.CellRule.TheVariants.{ByCounting, ByDiagram}
 
 -- ---- bricks on the plane
@@ -52,14 +52,6 @@ pub record IsInPlace (before later : BrickGrid) : Type 0 where
   pub y : later.y ≡ before.y
   pub across : later.across ≡ before.across
   pub down : later.down ≡ before.down
-
--- a grid shows what came of the first cells after so many generations, under a rule that goes by the cells so, and has a
--- margin for n more
-pub record CanStepFor (next : List ℕ → ℕ) (rule : CellRule) (first : ℤ → ℤ → ℕ) (reached n : ℕ) (grid : BrickGrid) : Type 0 where
-  pub by_cells : GoesByCells next rule
-  pub quiet : next (replicate 9 0) ≡ 0
-  pub shows : GridShows grid n (cells_after next first reached)
-  pub room : grid.across + length grid.bricks.items < 2 ^ 63
 
 -- the place, and so many words to the east and to the south of it, lie near the first word of the grid
 pub record IsNearGrid (words : ℕ) (at : WordPlace) : Type 0 where

@@ -10,7 +10,7 @@ ghost use Rattle.ca_claims.specs.inner.Unknown.{AreAskedBefore, AddsAsked};
 use ca_pattern::{File, rule_text_of};
 use ca_plane::Memory;
 use ca_quad::Store;
-use ca_rule::{Table, TableFault, names_no_rule};
+use ca_rule::{Table, TableFault, is_unknown_rule};
 use ca_text::{Claims, WordSet};
 use ca_verify::look_up;
 use std::alloc::Global;
@@ -80,7 +80,7 @@ fn add_unknown(
     Ok(())
 }
 
-/// The rule text of a pattern file that is read, where it names no rule.
+/// The rule text of a pattern file that is read, where its rule is unknown.
 fn unknown_rule(alloc: Global, bytes: &[u8], tables: &[Table]) -> Result<Option<Vec<u8>>, Memory>
     ensures name { IfOk result
         (λ found. MatchOption found ((name : List ℕ) → HoldsUnknownRule tables.now name bytes.now → ⊥)
@@ -91,7 +91,7 @@ fn unknown_rule(alloc: Global, bytes: &[u8], tables: &[Table]) -> Result<Option<
     let Some(text) = found else {
         return Ok(None);
     };
-    if names_no_rule(&text, tables) {
+    if is_unknown_rule(&text, tables) {
         return Ok(Some(text));
     }
     Ok(None)

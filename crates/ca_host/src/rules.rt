@@ -11,7 +11,7 @@ use crate::files::{FaultyFile, LoadedFile, load_rule_file};
 use ca_pattern::rule_text_of;
 use ca_plane::Memory;
 use ca_report::ToolFault;
-use ca_rule::{Table, TableFault, names_no_rule};
+use ca_rule::{Table, TableFault, is_unknown_rule};
 use std::alloc::Global;
 use std::rt::Files;
 
@@ -114,7 +114,7 @@ impl RuleFiles {
         self.keep(rt.alloc(), &name, &file)
     }
 
-    // The rule text of a pattern file that is read, where it names no rule.
+    // The rule text of a pattern file that is read, where its rule is unknown.
     fn unknown_rule(&self, alloc: Global, pattern: &[u8]) -> Result<Option<Vec<u8>>, Memory>
         ensures { IfOk result (λ found. IfSome found
             (λ name. IsUnknownRuleOf pattern.now self.now.tables.items name.items)) }
@@ -122,7 +122,7 @@ impl RuleFiles {
         let Some(text) = rule_text_of(alloc, pattern)? else {
             return Ok(None);
         };
-        if names_no_rule(&text, &self.tables) {
+        if is_unknown_rule(&text, &self.tables) {
             return Ok(Some(text));
         }
         Ok(None)

@@ -10,9 +10,8 @@ use Rattle.ca_import.specs.declared.{format.ImportFormat.ImportFormat, format.Li
 use Rattle.ca_import.specs.declared.format.ImportFormat.TheVariants.{Lines, Apgcode}
 use Rattle.ca_import.specs.declared.format.LineFormat.TheVariants.{Life106, Life105, Plaintext}
 use Rattle.ca_import.specs.declared.fault.ImportFault.TheVariants.{UnknownFormat, Syntax, NoCorner, Range, TooManyCells, Memory}
-use Rattle.ca_import.specs.{CellLines.CellLine, CellLines.next_row, CellLines.row_after, CellLines.said_state, CellLines.last_said_rule, CellLines.live_count}
-use Rattle.ca_import.specs.{CellLines.said_count, CellLines.HasPlace, CellLines.IsLineInRange, Rows.is_letter_cell, Life106.Life106WordsSay}
-use Rattle.ca_import.specs.{Life105.Life105Says, Plaintext.PlaintextSays, Apgcode.after_head}
+use Rattle.ca_import.specs.{CellLines.CellLine, CellLines.next_row, CellLines.row_after, CellLines.said_state, CellLines.last_said_rule, CellLines.live_count, CellLines.said_count}
+use Rattle.ca_import.specs.{CellLines.HasPlace, CellLines.IsLineInRange, Rows.is_letter_cell, Life106.Life106WordsSay, Life105.Life105Says, Plaintext.PlaintextSays, Apgcode.after_head}
 
 -- ---- the format of a text
 

@@ -7,10 +7,14 @@ use Rattle.std.specs.List.{range_with_len, AllByRecursion}
 use Rattle.std.proofs.lemmas.Bool.{cases_Bool}
 use Rattle.std.proofs.lemmas.Bool.Decides.{nat_tests}
 use Rattle.ca_isotropic.specs.Prelude.{number_of}
-use Rattle.ca_isotropic.specs.inner.WrittenTables.{inputs_of, neighbourhood, neighbourhoods, changes}
+use Rattle.ca_isotropic.specs.inner.WrittenTables.{ring_of, neighbourhood, neighbourhoods, changes}
 use Rattle.ca_isotropic.proofs.WrittenTables.{AreBits}
 
 -- ---- nine cells by their inputs
+
+-- nine cells in the order of a transition's inputs
+abbrev pub inputs_of : List ℕ → List ℕ
+inputs_of nine = slice_index nine 4 ∷ ring_of nine
 
 -- nine cells as their list
 pub spread : (nine : List ℕ) → length nine ≡ 9 → nine ≡ map (slice_index nine) (0 ∷ 1 ∷ 2 ∷ 3 ∷ 4 ∷ 5 ∷ 6 ∷ 7 ∷ 8 ∷ [])

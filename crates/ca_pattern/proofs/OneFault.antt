@@ -8,7 +8,7 @@ use Rattle.ca_macro.specs.Prelude.{IsFirstMacrocellFault, IsFirstMacrocellFaultO
 use Rattle.ca_macro.proofs.OneMeaning as macrocell
 use Rattle.ca_rule.specs.Prelude.{TableRule, RuleValue, IsRuleFault}
 use Rattle.ca_pattern.specs.declared.{convert_fault.ConvertFault.ConvertFault, pattern_fault.PatternFault.PatternFault, located_fault.LocatedFault.LocatedFault, read.BadPattern.BadPattern}
-use Rattle.ca_pattern.specs.declared.{ruled.UnnamedRule.UnnamedRule as Unnamed}
+use Rattle.ca_pattern.specs.declared.ruled.UnnamedRule.{UnnamedRule as Unnamed}
 use Rattle.ca_pattern.specs.declared.convert_fault.ConvertFault.TheVariants as convert
 use Rattle.ca_pattern.specs.declared.pattern_fault.PatternFault.TheVariants as pattern_fault
 use Rattle.ca_pattern.specs.declared.located_fault.LocatedFault.TheVariants.{Unread, UnnamedRule, StateTooLarge, GenTooLarge, Work, Range, TooManyCells, Memory}

@@ -4,7 +4,7 @@
 ghost use Rattle.std.specs.Prelude.{◌≡◌, ◌≢◌, ℕ, List};
 ghost use Rattle.ca_rule.specs.Prelude.{TableRule};
 ghost use Rattle.ca_pattern.specs.declared.{format.Format.Format, pattern.Summary.Summary};
-ghost use Rattle.ca_pattern.specs.declared.{convert_fault.ConvertFault.ConvertFault};
+ghost use Rattle.ca_pattern.specs.declared.convert_fault.ConvertFault.{ConvertFault};
 ghost use Rattle.ca_pattern.specs.declared.convert_fault.ConvertFault.TheVariants.{Memory};
 ghost use Rattle.ca_pattern.specs.Converted.{IsConverted, IsConvertFault, IsSummary, IsSummaryFault, IsSameSummary};
 

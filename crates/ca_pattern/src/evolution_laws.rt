@@ -5,7 +5,7 @@
 ghost use Rattle.std.specs.Prelude.{◌≡◌, ◌≢◌, ℕ, List};
 ghost use Rattle.ca_rule.specs.Prelude.{TableRule};
 ghost use Rattle.ca_pattern.specs.declared.{format.Format.Format, pattern.Summary.Summary, pattern.Pattern.Pattern};
-ghost use Rattle.ca_pattern.specs.declared.{located_fault.LocatedFault.LocatedFault};
+ghost use Rattle.ca_pattern.specs.declared.located_fault.LocatedFault.{LocatedFault};
 ghost use Rattle.ca_pattern.specs.declared.located_fault.LocatedFault.TheVariants.{Work, Memory};
 ghost use Rattle.ca_pattern.specs.Evolved.{IsPatternAfter, IsReachFault, IsSamePattern, IsSummaryAfter};
 ghost use Rattle.ca_pattern.specs.Evolved.{IsConvertedAfter, IsConvertFaultAfter};

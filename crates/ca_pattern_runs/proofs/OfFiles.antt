@@ -5,7 +5,7 @@ use Rattle.std.specs.Io.KnownBytes.{Appends}
 use Rattle.ca_plane.specs.Prelude.{Counted, AppendsPrefix}
 use Rattle.ca_rule.specs.Prelude.{TableRule}
 use Rattle.ca_rule.specs.declared.table.fault.TableFault.{TableFault}
-use Rattle.ca_pattern.specs.declared.{convert_fault.ConvertFault.ConvertFault}
+use Rattle.ca_pattern.specs.declared.convert_fault.ConvertFault.{ConvertFault}
 use Rattle.ca_pattern.specs.declared.convert_fault.ConvertFault.TheVariants as convert_fault
 use Rattle.ca_pattern.specs.declared.located_fault.LocatedFault.TheVariants as located
 use Rattle.ca_report.specs.declared.fault.InputFault.TheVariants as inputs

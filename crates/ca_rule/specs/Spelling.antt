@@ -32,7 +32,7 @@ IsLettered first second text digits later hood = (a : ℕ) × (b : ℕ) × (slas
 abbrev pub IsUnlettered : List ℕ → List ℕ → List ℕ → Hood → Type 0
 IsUnlettered text survival birth hood = (suffix : List ℕ) × IsSuffix hood suffix × (text ≡ survival ++ (codes "/" ++ (birth ++ suffix)))
 
--- the text spells these birth and survival digits, in one of the three forms
+-- the text spells these birth and survival lists, in one of the three forms
 abbrev pub SpellsLists : List ℕ → List ℕ → List ℕ → Hood → Type 0
 SpellsLists text birth survival hood =
     IsLettered (letter "B") (letter "S") text birth survival hood ⊎ (IsLettered (letter "S") (letter "B") text survival birth hood ⊎ IsUnlettered text survival birth hood)

@@ -23,7 +23,7 @@ pub use laws::{
     alike, names_itself, one_rule, rule_or_fault, worked_countings, worked_examples, worked_faults,
     worked_masks, worked_next_cells,
 };
-pub use rule::{Rule, names_no_rule, resolve};
+pub use rule::{Rule, is_unknown_rule, resolve};
 pub use rule_laws::{
     generations_alike, generations_do_alike, generations_names_itself, generations_rule_or_fault,
     named_rules, one_generations_rule, same_rules, two_states_do_as_bs, worked_generations,

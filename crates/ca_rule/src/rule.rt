@@ -50,9 +50,9 @@ pub fn resolve<'t>(text: &[u8], tables: &'t [Table]) -> Result<Rule<'t>, RuleFau
     Ok(Rule::Tab(table))
 }
 
-/// Whether the text names no rule, neither one of its own notation nor one of these tables: another table may have that
-/// name.
-pub fn names_no_rule(text: &[u8], tables: &[Table]) -> bool
+/// Whether the rule of the text is unknown: the text spells none, be it one that is bounded or wakes the empty
+/// plane, and none of these tables has it for its name.
+pub fn is_unknown_rule(text: &[u8], tables: &[Table]) -> bool
     ensures { IsTrue result ↔ IsRuleFault text.now tables.now Unknown }
 {
     match resolve(text, tables) {

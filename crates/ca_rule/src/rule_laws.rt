@@ -13,7 +13,7 @@ ghost use Rattle.ca_rule.specs.Spelling.{SpellsNoBsRule};
 ghost use Rattle.ca_rule.specs.TableExamples.{table_of, example_table, one_neighbour, north_of_one, generations_cell};
 ghost use Rattle.ca_rule.specs.TableNext.{TableRule};
 ghost use Rattle.ca_rule.specs.declared.{bs_rule.BsRule.BsRule, counts.Counts.Counts, fault.RuleFault.RuleFault};
-ghost use Rattle.ca_rule.specs.declared.{gen_rule.GenRule.GenRule};
+ghost use Rattle.ca_rule.specs.declared.gen_rule.GenRule.{GenRule};
 ghost use Rattle.ca_rule.specs.declared.fault.RuleFault.TheVariants.{Bounded, Wakes, Unknown};
 ghost use Rattle.ca_rule.specs.declared.hood.Hood.TheVariants.{Moore};
 ghost use Rattle.ca_rule.specs.declared.table.neighbourhood.Neighbourhood.TheVariants.{VonNeumann};

@@ -115,8 +115,9 @@ pub(crate) fn lists_around_slash(bytes: &[u8]) -> Option<(&[u8], &[u8])>
     Some((list, later))
 }
 
-/// The birth list and the survival list of a text without its suffix, as `3` and `23` of `B3/S23`, `s23b3` and
-/// `23/3`, whatever their bytes are, but that a `/` or one of the letters B and S ends the first.
+/// The birth list and the survival list of a text, as `3` and `23` of `B3/S23`, `s23b3` and `23/3`, whatever their
+/// bytes are, but that a `/` or one of the letters B and S ends the first. The text has no suffix: one would stay
+/// in the second list.
 pub fn lists_of(body: &[u8]) -> Option<(&[u8], &[u8])>
     ensures { MatchOption result (lists_of body.now ≡ None)
         (λ r. lists_of body.now ≡ Some (r.0.now, r.1.now)) }

@@ -4,7 +4,7 @@ use Rattle.ca_plane.specs.Prelude.{text_of}
 use Rattle.ca_text.specs.declared.{kind.Kind.Kind, fault.ClaimFault.ClaimFault}
 use Rattle.ca_text.specs.declared.kind.Kind.TheVariants.{Still, Oscillator, Spaceship, Becomes, BecomesShifted, Dies}
 use Rattle.ca_text.specs.{Both.twice, Text.Claim, Text.ClaimTextLine, Text.Version, Text.Rule, Text.Load, Text.Claims, Text.ClaimText}
-use Rattle.ca_text.specs.{TextFaults.IsFirstClaimFault}
+use Rattle.ca_text.specs.TextFaults.{IsFirstClaimFault}
 
 -- a claim about one pattern
 abbrev pub of_one : List ℕ → Kind → Claim

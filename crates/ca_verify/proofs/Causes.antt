@@ -16,7 +16,7 @@ use Rattle.ca_answers.specs.declared.cause.Cause.TheVariants.{NoFile, BadPattern
 use Rattle.ca_answers.specs.declared.verdict.Verdict.{Verdict}
 use Rattle.ca_answers.specs.declared.verdict.Verdict.TheVariants.{Yes, No, Refused}
 use Rattle.ca_verify.specs.declared.{verifier.prepared.PreparedClaim.PreparedClaim, verifier.agreement.Disagreement.Disagreement, refusal.WhichPattern.WhichPattern, refusal.Refusal.Refusal}
-use Rattle.ca_verify.specs.declared.{decide.ClaimTrees.ClaimTrees}
+use Rattle.ca_verify.specs.declared.decide.ClaimTrees.{ClaimTrees}
 use Rattle.ca_verify.specs.declared.verifier.agreement.Disagreement.TheVariants.{Large, Mixed}
 use Rattle.ca_verify.specs.declared.verifier.agreement.Disagreement.TheVariants as disagreement
 use Rattle.ca_pattern.specs.declared.pattern_fault.PatternFault.TheVariants as pattern_fault

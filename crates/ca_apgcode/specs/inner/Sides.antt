@@ -2,7 +2,7 @@
 use Rattle.std.specs.Prelude.{◌≡◌, ℕ, zero, suc, ◌+◌, ◌<◌, ◌≤◌, ◌==◌, if◌then◌else◌, List, length, bit_and, bit_or, bit_xor, count_ones}
 use Rattle.std.specs.Int.{bit_at}
 use Rattle.ca_apgcode.specs.{Grids.GridCells, Grids.cell, Representation.IsRepresentation, inner.Turned.IsMirrored, inner.Turned.IsFlipped}
-use Rattle.ca_apgcode.specs.{inner.Turned.IsTransposed}
+use Rattle.ca_apgcode.specs.inner.Turned.{IsTransposed}
 use Rattle.ca_apgcode.specs.declared.sides.Side.{Side}
 use Rattle.ca_apgcode.specs.declared.sides.Side.TheVariants.{North, South, West, East}
 

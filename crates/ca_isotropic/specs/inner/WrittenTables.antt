@@ -12,10 +12,6 @@ head_lines name states =
 abbrev pub ring_of : List ℕ → List ℕ
 ring_of nine = map (slice_index nine) (1 ∷ 2 ∷ 5 ∷ 8 ∷ 7 ∷ 6 ∷ 3 ∷ 0 ∷ [])
 
--- nine cells in that order
-abbrev pub inputs_of : List ℕ → List ℕ
-inputs_of nine = slice_index nine 4 ∷ ring_of nine
-
 -- the digit of a neighbour, or instead of 0, in a file with variables, this letter of one
 abbrev pub neighbour_byte : Bool → ℕ → ℕ → ℕ
 neighbour_byte variables letter cell = if cell == 0 then (if variables then letter else 48) else 49

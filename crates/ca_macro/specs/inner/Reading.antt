@@ -7,9 +7,8 @@ use Rattle.ca_quad.specs.declared.{node.Node.Node as Kept, tree.Tree.Tree}
 use Rattle.ca_quad.specs.Prelude.{cell_of, IsSoundStore, ShowsSquare, IsTree}
 use Rattle.ca_macro.specs.declared.{fault.MacroFault.MacroFault, line.numbers.Numbers.Numbers, read.reading.Reading.Reading, read.squares.Squares.Squares}
 use Rattle.ca_macro.specs.declared.fault.MacroFault.TheVariants.{Forward, Level, Memory}
-use Rattle.ca_macro.specs.{Nodes.Node, Nodes.Parts, Nodes.node_level, Nodes.NamesPart, Nodes.MayFollow, File.MacrocellLine, File.MacrocellFile}
-use Rattle.ca_macro.specs.{File.IsMacrocellFile, File.added_nodes, File.last_rule, File.last_line_generation, Shown.numbered_square, Shown.squares_of}
-use Rattle.ca_macro.specs.{Faults.AreFaulty, Faults.HasBadPart, Faults.AddNode, Faults.HasNodeLine, Faults.IsFirstMacrocellFaultOn}
+use Rattle.ca_macro.specs.{Nodes.Node, Nodes.Parts, Nodes.node_level, Nodes.NamesPart, Nodes.MayFollow, File.MacrocellLine, File.MacrocellFile, File.IsMacrocellFile, File.added_nodes, File.last_rule}
+use Rattle.ca_macro.specs.{File.last_line_generation, Shown.numbered_square, Shown.squares_of, Faults.AreFaulty, Faults.HasBadPart, Faults.AddNode, Faults.HasNodeLine, Faults.IsFirstMacrocellFaultOn}
 
 -- the square shows the cells of a picture, counted from its upper left corner
 pub record Draws (store : List Kept) (square : Tree) (picture : Picture) : Type 0 where

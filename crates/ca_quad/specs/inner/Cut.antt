@@ -3,7 +3,7 @@ use Rattle.std.specs.Prelude.{◌≡◌, ℕ, ◌+◌, ◌*◌, ◌<◌, ◌^◌
 use Rattle.std.specs.Map.{lookup}
 use Rattle.ca_quad.specs.declared.{neighbours.Neighbours.Neighbours, node.Node.Node, store.cut.Offset.Offset}
 use Rattle.ca_quad.specs.{contracts.neighbours.NeighboursPartialEq.TheImpl.eq-value, Squares.joined_cells, Squares.cell_of, Trees.AreFour}
-use Rattle.ca_quad.specs.{inner.Window.ShowsFrom}
+use Rattle.ca_quad.specs.inner.Window.{ShowsFrom}
 use Rattle.ca_plane.specs.Prelude.{word_cells}
 
 -- they are squares of this level

@@ -5,9 +5,8 @@ use Rattle.std.specs.List.{AllZip, AllByRecursion}
 use Rattle.ca_plane.specs.declared.point.Point.{Point}
 use Rattle.ca_plane.specs.Prelude.{IsInteger, reach, range, default_rule}
 use Rattle.ca_rle.specs.declared.{front.words.Start.Start, front.lines.Preamble.Preamble, front.Front.Front, fault_line.GoodText.GoodText}
-use Rattle.ca_rle.specs.{Header.CxrleWord, Header.WordSays, Header.extended_words, Header.IsXlifeLine, File.RleFile, File.IsRleFile, File.IsPreamble}
-use Rattle.ca_rle.specs.{File.IsHeaded, File.corner_of, File.generation_of, Items.Items, Limits.IsWithinLimits, Shown.greatest_state, Shown.picture_of_items}
-use Rattle.ca_rle.specs.{inner.BodyFaults.KeepsCorner, inner.Boxes.AreBounds}
+use Rattle.ca_rle.specs.{Header.CxrleWord, Header.WordSays, Header.extended_words, Header.IsXlifeLine, File.RleFile, File.IsRleFile, File.IsPreamble, File.IsHeaded, File.corner_of}
+use Rattle.ca_rle.specs.{File.generation_of, Items.Items, Limits.IsWithinLimits, Shown.greatest_state, Shown.picture_of_items, inner.BodyFaults.KeepsCorner, inner.Boxes.AreBounds}
 
 -- a coordinate in range
 abbrev pub IsNearCoordinate : ℤ → Type 0

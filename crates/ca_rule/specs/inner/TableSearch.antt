@@ -5,7 +5,7 @@ use Rattle.std.specs.Borrow.{Bor}
 use Rattle.ca_rule.specs.declared.table.placement.Orders.{Orders}
 use Rattle.ca_rule.specs.declared.table.placement.Orders.TheVariants.{Listed, Every}
 use Rattle.ca_rule.specs.{TableOrders.ring, TableOrders.ring_size, TableOrders.every_order, TableNext.States, TableNext.Transition}
-use Rattle.ca_rule.specs.{inner.TablePlaces.outcome_at}
+use Rattle.ca_rule.specs.inner.TablePlaces.{outcome_at}
 
 -- what a transition gives where its first slots take their cells at some places, and the others at n of the free ones, in
 -- the first of their orders in which it fits

@@ -16,7 +16,7 @@ use ca_quad::Tree;
 use ca_work::{LeapFault, Work};
 use std::alloc::Global;
 
-/// Says how trees are made grids, and how these are stepped.
+/// How trees become grids, and how these are stepped.
 pub(crate) trait GridRule {
     type Grid: SquareGrid + Drop;
 
@@ -30,7 +30,7 @@ pub(crate) trait GridRule {
     /// How many levels more than the first tree the tree of a grid has at most, as a reach.
     const MOST_GROWTH: u8;
 
-    /// The grid of a frame round the cells of a tree that aren't dead, where they have none but its states.
+    /// The grid of a frame round the cells of a tree that aren't dead, where they have none but the rule's states.
     fn grid_of<A: Automaton>(
         &self,
         leaper: &Leaper<A>,

@@ -1,6 +1,6 @@
 //! The centres of squares after 2^j generations.
 
-ghost use Rattle.std.specs.Prelude.{◌≡◌, ℕ, suc, ◌≤◌, ◌^◌, ℤ, ◌+ℤ◌, List, Option, IfOk, IfSome, ◌*◌, ◌-◌};
+ghost use Rattle.std.specs.Prelude.{◌≡◌, ℕ, suc, ◌≤◌, ◌^◌, ℤ, ◌+ℤ◌, List, IfOk, IfSome, ◌*◌, ◌-◌};
 ghost use Rattle.ca_plane.specs.Prelude.{cells_after};
 ghost use Rattle.ca_quad.specs.Prelude.{IsOf, AreFour};
 ghost use Rattle.ca_run.specs.Centre.{IsCentre, IsLeap};
@@ -90,7 +90,7 @@ impl<A: Automaton> Leaper<A> {
         self.centre_of_nine(id, part_level - 1, None, j, watch)
     }
 
-    // The centre of a square by nine squares that overlap, each result_id as wide: their centres make four
+    // The centre of a square by nine squares that overlap, each half as wide: their centres make four
     // squares, and the centres of these are the result.
     #[cycle(leap)]
     #[tactic(auto, using(crate::proofs::CostSteps::in_turn))]
@@ -183,7 +183,7 @@ impl<A: Automaton> Leaper<A> {
         Ok(Trio { west, middle, east })
     }
 
-    // The centres of the three squares in the middle row of four squares: each lies result_id in the north.
+    // The centres of the three squares in the middle row of four squares: each lies half in the north.
     #[cycle(leap)]
     #[tactic(auto, using(crate::proofs::CostSteps::in_turn))]
     fn middle_trio<W: Watch>(
@@ -282,7 +282,7 @@ impl<A: Automaton> Leaper<A> {
         }
     }
 
-    // The centres after 2^j generations of two squares that overlap by result_id, made of two rows of three.
+    // The centres after 2^j generations of two squares that overlap by half, made of two rows of three.
     #[cycle(leap)]
     #[tactic(auto, using(crate::proofs::CostSteps::in_turn))]
     fn pair<W: Watch>(

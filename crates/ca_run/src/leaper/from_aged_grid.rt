@@ -1,6 +1,6 @@
 //! Squares of several states made of grids of cells that age.
 
-ghost use Rattle.std.specs.Prelude.{◌≡◌, true, ℕ, ◌+◌, ◌-◌, ◌*◌, ◌<◌, ◌≤◌, ◌%◌, ℤ, ◌+ℤ◌, IfOk};
+ghost use Rattle.std.specs.Prelude.{true, ℕ, ◌+◌, ◌-◌, ◌<◌, ◌≤◌, ℤ, IfOk};
 ghost use Rattle.ca_quad.specs.Prelude.{IsOf};
 ghost use Rattle.ca_run.specs.inner.AtCost.{GoesOnAtCost};
 ghost use Rattle.ca_run.specs.inner.Shown.{ShowsAt};

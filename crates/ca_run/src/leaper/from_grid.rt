@@ -1,13 +1,12 @@
 //! Squares and trees made of grids of bricks.
 
-ghost use Rattle.std.specs.Prelude.{◌≡◌, true, ℕ, suc, ◌+◌, ◌-◌, ◌*◌, ◌<◌, ◌≤◌, ◌^◌, ℤ, pos, neg_ℤ, ◌+ℤ◌, ◌<ℤ◌, ◌≤ℤ◌, IfOk};
+ghost use Rattle.std.specs.Prelude.{◌≡◌, true, ℕ, suc, ◌+◌, ◌-◌, ◌*◌, ◌<◌, ◌≤◌, ◌^◌, ℤ, pos, ◌+ℤ◌, IfOk};
 ghost use Rattle.ca_quad.specs.Prelude.{IsOf, IsTree, cell};
 ghost use Rattle.ca_work.specs.Prelude.{EndsAtLimit};
 ghost use Rattle.ca_run.specs.inner.AtCost.{GoesOnAtCost};
 ghost use Rattle.ca_run.specs.inner.Shown.{ShowsAt};
 ghost use Rattle.ca_bricks.specs.declared.grid.BrickGrid.{BrickGrid};
-ghost use Rattle.ca_bricks.specs.Prelude.{IsGrid, GridShows, HasMargin, IsNearGrid, LiesWithin};
-ghost use Rattle.ca_bricks.specs.Prelude.{IsAligned, eight};
+ghost use Rattle.ca_bricks.specs.Prelude.{IsGrid, GridShows, HasMargin, IsNearGrid, LiesWithin, IsAligned, eight};
 
 use super::Leaper;
 use ca_bricks::{BrickGrid, QuarterPlaces, WordPlace};
@@ -103,8 +102,7 @@ impl<A: Automaton> Leaper<A> {
         ensures level { IfOk result (λ tree. tree.level ≤ 64) }
         ensures cells { (m : ℕ) (p : ℤ → ℤ → ℕ) → S.shows_plane grid.now m p
             → IfOk result (λ tree. (x y : ℤ) → cell self.new.nodes tree x y ≡ p x y) }
-        ensures at_cost { GoesOnAtCost A self.old self.new
-            ((1 + S.units grid.now) * 14 ^ (reach - 2)) 125 }
+        ensures at_cost { GoesOnAtCost A self.old self.new ((1 + S.units grid.now) * 14 ^ (reach - 2)) 125 }
         ensures work { EndsAtLimit self.new.spent result }
     {
         let root = self.from_grid(grid, reach - 2, grid.live().corner(reach))?;

@@ -93,7 +93,7 @@ impl<A: Automaton> Leaper<A> {
         self.join(nw, ne, sw, se, part_level - 1)
     }
 
-    // The middle of a square, result_id its side wide.
+    // The middle of a square, half its side wide.
     pub(super) fn inner_square(&mut self, id: Id, part_level: u8) -> Result<Id, Memory>
         requires { IsOf self.old.nodes id (suc (suc part_level)) }
         ensures shows { (p : ℤ → ℤ → ℕ) (a b : ℤ) → ShowsAt self.old.nodes id (suc (suc part_level)) p a b

@@ -65,8 +65,7 @@ impl<A: Automaton> Leaper<A> {
         requires tree { IsReadByBricks self.now.nodes tree.now }
         requires none { P.bit_of plane 0 ≡ 0 }
         ensures { IfSome result (λ rows. BrickShows rows
-            (λ x y. P.bit_of plane (cell self.now.nodes tree.now x y))
-            (piece_start column) (row_start row)) }
+            (λ x y. P.bit_of plane (cell self.now.nodes tree.now x y)) (piece_start column) (row_start row)) }
     {
         let half = bricks_in_half(tree.level);
         let Some(i) = place_from(column, (1 << 56) - half, 2 * half) else {

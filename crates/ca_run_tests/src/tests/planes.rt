@@ -170,7 +170,7 @@ fn gathered(alloc: Global, cells: &[Cell]) -> Result<Plane, Memory> {
 }
 
 /// Cells that are given together: of two at one point the first counts.
-const HANDED: &[Cell] = &[
+const GIVEN: &[Cell] = &[
     (1, 2, 3),
     (0, 5, 1),
     (1, 2, 7),
@@ -204,7 +204,7 @@ fn are_gathered(alloc: Global) -> Result<bool, Memory> {
 fn of_two_cells_at_one_point_the_first_counts(rt: HostRuntime) -> Result<(), Fail> {
     expect(
         &rt,
-        shows(&gathered(rt.alloc(), HANDED)?, GATHERED),
+        shows(&gathered(rt.alloc(), GIVEN)?, GATHERED),
         "a few cells",
     );
     expect(&rt, are_gathered(rt.alloc())?, "many cells");

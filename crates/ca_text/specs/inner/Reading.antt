@@ -8,9 +8,8 @@ use Rattle.ca_text.specs.declared.{version.TextVersion.TextVersion, fault.ClaimF
 use Rattle.ca_text.specs.declared.line_kind.LineKind.TheVariants.{Skipped, Version, Rule, Load, Claim, OutsideLimits, Misspelled}
 use Rattle.ca_text.specs.declared.version.TextVersion.TheVariants.{Open, First, Second}
 use Rattle.ca_text.specs.declared.fault.ClaimFault.TheVariants.{Syntax, Number, UnknownName, NameTaken, Memory}
-use Rattle.ca_text.specs.{Both.HoldsOfBoth, Kinds.WordsClaim, Kinds.is_of_second_version, Kinds.IsShift, Kinds.HasGoodNumbers, Places.path_at}
-use Rattle.ca_text.specs.{Places.claim_with_names, Places.IsNamed, TextFaults.AreMisspelledClaimWords, TextFaults.HaveBadNumber, TextFaults.AskUnknown}
-use Rattle.ca_text.specs.{TextFaults.LoadTaken, TextFaults.NeedMemory}
+use Rattle.ca_text.specs.{Both.HoldsOfBoth, Kinds.WordsClaim, Kinds.is_of_second_version, Kinds.IsShift, Kinds.HasGoodNumbers, Places.path_at, Places.claim_with_names, Places.IsNamed}
+use Rattle.ca_text.specs.{TextFaults.AreMisspelledClaimWords, TextFaults.HaveBadNumber, TextFaults.AskUnknown, TextFaults.LoadTaken, TextFaults.NeedMemory}
 use Rattle.ca_text.specs.Text as text
 
 -- what a line claims, of patterns that are given by their names

@@ -4,7 +4,7 @@ use Rattle.ca_rule.specs.declared.fault.RuleFault.TheVariants.{Unknown}
 use Rattle.ca_host.proofs.rules.RuleFiles.unknown_rule.Goals as goal
 
 -- the rule text names no rule
-pub returns-then-names_no_rule : goal.returns-then-names_no_rule
-returns-then-names_no_rule c =
+pub returns-then-is_unknown_rule : goal.returns-then-is_unknown_rule
+returns-then-is_unknown_rule c =
     let holds = rw c.in-Some.is at c.in_ok-text.ensures.text in
-    (holds, subst (λ t. IsRuleFault t c.args.self.now.tables.items Unknown) c.deref.ensures.value (rw c.deref-2.ensures.value at (c.names_no_rule.ensures.0 c.if-names_no_rule.true)))
+    (holds, subst (λ t. IsRuleFault t c.args.self.now.tables.items Unknown) c.deref.ensures.value (rw c.deref-2.ensures.value at (c.is_unknown_rule.ensures.0 c.if-is_unknown_rule.true)))
