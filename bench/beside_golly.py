@@ -8,13 +8,13 @@ import subprocess
 import tempfile
 from dataclasses import dataclass
 
-# Runs that take longer than so many seconds are made once.
+# Runs that take more seconds than this are made once.
 LONG = 10
 
-# Fewer seconds than so many are within what runs differ by.
+# Fewer seconds than this are within what runs differ by.
 LEAST = 0.02
 
-# The address space that a run may take, and the memory that bgolly is told to keep to, in MiB.
+# The address space that a run may take, and the memory that bgolly has to keep to, in MiB.
 SPACE, MEMORY = 12000, 6000
 
 
@@ -34,7 +34,7 @@ class Ran:
 
 
 def run(words, limit):
-    """One run, which is stopped after so many seconds of a processor."""
+    """One run, which is stopped after `limit` seconds of a processor."""
     def bound():
         resource.setrlimit(resource.RLIMIT_CPU, (limit, limit + 1))
         resource.setrlimit(resource.RLIMIT_AS, (SPACE << 20, SPACE << 20))
@@ -53,7 +53,7 @@ def run(words, limit):
 
 
 def by_turns(commands, limit, times):
-    """The best runs of these commands, None where there is no command: one after another so many times, and those that take long once."""
+    """The best runs of these commands, None where there is no command: one after another `times` times, and those that take long once."""
     best = [None] * len(commands)
     for _ in range(times):
         for at, words in enumerate(commands):
@@ -66,7 +66,7 @@ def by_turns(commands, limit, times):
 
 
 def golly_words(program, pattern, generations, algorithm, output=None, memory=MEMORY):
-    """The words of a run of bgolly, which always name its generations: without them it never ends. It is told to keep to so many MiB."""
+    """The words of a run of bgolly, which always name its generations: without them it never ends. It has to keep to `memory` MiB."""
     saved = ["-o", output] if output else []
     return [program, "-q", "-q", "-M", str(memory), "-m", str(generations), *algorithm, *saved, pattern]
 

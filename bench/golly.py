@@ -6,7 +6,7 @@ Run it at the root of the repository: python3 bench/golly.py [--only WORD] [--ru
 It prints one table: seconds of a processor in user mode, the greatest memory of a run, and our seconds beside those of the better algorithm. A task is a
 claim for the program, which reads the end pattern too and compares, and as many generations for bgolly. The end pattern is what HashLife made, so a yes is also
 its agreement. The programs run by turns, and the best counts; one that takes long runs once. `HashLife` is RuleLoader or Generations where the rule needs it.
-Some MiB are those of this script: less isn't told. End patterns are kept in a folder of their own from run to run.
+Some MiB are those of this script: less isn't reported. End patterns are kept in a folder of their own from run to run.
 """
 import argparse
 import itertools

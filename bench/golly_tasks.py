@@ -33,7 +33,7 @@ class Soup:
             yield row + [tags[(x - GAP, y) in others] for x in range(wide)]
 
     def write(self, path, lower):
-        """Writes it as RLE, so many rows lower."""
+        """Writes it as RLE, `lower` rows further down."""
         with open(path, "w", encoding="ascii") as file:
             file.write(f"#CXRLE Pos={self.corner},{self.corner + lower}\nx = {self.side}, y = {self.side}, rule = {self.rule}\n")
             for row in self.rows():
@@ -62,7 +62,7 @@ class Task:
 
 
 def soups():
-    """Soups, from small ones and few generations on."""
+    """Soups, beginning with small ones and few generations."""
     sizes = ((200, (1000, 4000, 8000, 131072)), (500, (1000, 4000, 8000, 131072)), (1000, (1000, 4000, 8000)), (2000, (1000, 4000)))
     for side, many in sizes:
         for count in many:

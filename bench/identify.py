@@ -17,7 +17,7 @@ from beside_golly import run
 PROGRAM = os.path.abspath("crates/cafile/out/cafile")
 FOLDER = "/usr/share/golly/Patterns/Life"
 
-# How many of the files are told, and how long one may take, in seconds.
+# How many of the files are printed, and how long one may take, in seconds.
 MOST, LIMIT = 12, 600
 
 LOOP = "i = 0\nwhile i < 20000000:\n    i += 1\n"
@@ -43,7 +43,7 @@ def is_told_with_fewer(ran):
 
 
 def tell_loop():
-    """Prints what a loop in Python takes, the least of three."""
+    """Prints what a loop in Python takes, the best of three."""
     with tempfile.NamedTemporaryFile("w", suffix=".py") as script:
         script.write(LOOP)
         script.flush()

@@ -3,9 +3,9 @@
 
     bench/isotropic.py [--side N] [--generations N] [--runs N]
 
-A soup of side by side cells, two of five live, goes so many generations: here by `cafile convert`, under the table that `cafile rule` writes, there by bgolly under
-the rule's own notation. The same of soups of 20 by 20 cells that lie scattered, which are leapt, beside HashLife. Seconds of a processor in user and system mode together, the best of so many runs by turns. Where bgolly isn't on the path, its
-column is empty.
+A soup of side by side cells, two of five live, goes N generations: here by `cafile convert`, under the table that `cafile rule` writes, there by bgolly under
+the rule's own notation. The same of soups of 20 by 20 cells that lie scattered, which are leapt, beside HashLife. Seconds of a processor in user and system
+mode together, the best of some runs by turns. Where bgolly isn't on the path, its column is empty.
 """
 import argparse
 import os
@@ -26,7 +26,7 @@ COUNTING = ("B3/S23", "B36/S23", "B2/S013V", "B24/S34H")
 
 
 def best(words, others, runs):
-    """The seconds of both commands, the best of so many runs by turns."""
+    """The seconds of both commands, the best of `runs` runs by turns."""
     found = [[], []]
     for _ in range(runs):
         for at, command in enumerate((words, others)):

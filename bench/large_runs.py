@@ -16,10 +16,10 @@ from beside_golly import golly_words, run, unpacked
 PROGRAM = os.path.abspath("crates/cafile/out/cafile")
 PATTERNS = "/usr/share/golly/Patterns"
 
-# How many MiB bgolly is told to keep to, and the words that tell the program about the same.
+# How many MiB bgolly has to keep to, and the words that ask about the same of the program.
 MEMORIES = ((4000, []), (230, ["--max-memory", "230"]))
 
-# A name, a pattern's path below Golly's folder, and how many generations on.
+# A name, a pattern's path below Golly's folder, and how many generations it is run.
 TASKS = (
     ("mosquito5, 2^22", "HashLife/mosquito5.mc", 1 << 22),
     ("puzzle, 2^26", "HashLife/puzzle.mc", 1 << 26),

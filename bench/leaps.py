@@ -45,7 +45,7 @@ def run(program, *words):
 
 
 def best(program, *words):
-    """The run with the least time of three."""
+    """The quickest of three runs."""
     return min((run(program, *words) for _ in range(3)), key=lambda told: int(told["leap"]))
 
 

@@ -3,7 +3,7 @@
 
 Run it at the root of the repository: python3 bench/memo.py [--program PATH] [--golly PATH] [--patterns FOLDER] [--only WORD] [--limit SECONDS]
 It prints a table: for each pattern and each size the seconds of a processor in user mode and the greatest memory in MiB of one run. The claim is that the pattern
-becomes itself, which is false, so that all its generations are worked out and nothing else is. A run that takes longer than the limit is ended: `-`.
+becomes itself, which is false, so that all its generations are computed and nothing else is. A run that takes longer than the limit is ended: `-`.
 """
 import argparse
 import os
@@ -17,7 +17,7 @@ PATTERNS = "/usr/share/golly/Patterns"
 # How many entries the memo has.
 SIZES = (1024, 16384, 65536, 262144, 1048576, 16777216)
 
-# A name, a pattern's path below Golly's folder, and how many generations on.
+# A name, a pattern's path below Golly's folder, and how many generations it is run.
 TASKS = (
     ("LWSS breeder, 2^30", "Life/Breeders/LWSS-breeder.rle", 1 << 30),
     ("ruler, 2^40", "HashLife/ruler.mc", 1 << 40),

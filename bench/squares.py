@@ -49,7 +49,7 @@ def run(program, *words):
 
 
 def best(program, *words):
-    """The least of five runs' times, in microseconds, and the other figures."""
+    """The best of five runs' times, in microseconds, and the other figures."""
     runs = [run(program, *words)[0] for _ in range(5)]
     return {name: min(int(figures[name]) for figures in runs) if text.isdigit() else text for name, text in runs[0].items()}
 

@@ -29,7 +29,7 @@ def ring():
 
 
 def copies(cells, across, down, wide, high):
-    """So many copies of the cells, side by side and one below another, each with so much room."""
+    """`across` copies of the cells side by side and `down` one below another, each with room of `wide` by `high` cells."""
     return {(x + wide * i, y + high * j): state for i in range(across) for j in range(down) for (x, y), state in cells.items()}
 
 

@@ -5,13 +5,13 @@
   macrocell and of a long run over a small file.
 - Where a file's bytes, a rule file's table or a claim text need more, the text is out of memory, and other texts are judged.
 - `show` and `convert` of such files print nothing and are out of memory, on standard input too.
-- A large RLE is told of and written anew in little more than its bytes and those that are written: its cells and its items aren't listed.
+- A large RLE is summed up and written anew in little more than its bytes and those that are written: its cells and its items aren't listed.
 - Under an ample limit all is judged, and under each limit between, a line is the ample one or refused for lack of memory, or the text is out of
   memory.
 - A long run whose squares need more drops them and goes on, by shorter leaps, to the plane that is known.
 - A run that goes on in a store of its own, and needs more there for one generation, is given up, and not tried again.
 - Cells that lie far from each other take some 45 squares each. `show` and `convert --to rle` need none of them for an RLE: where there is no room for them they
-  tell of it and write it anew, and what needs the squares is refused as out of memory.
+  sum it up and write it anew, and what needs the squares is refused as out of memory.
 - `identify` remembers no more boxes of squares than may be, however many it measures.
 """
 import os
@@ -36,34 +36,34 @@ SPACE, AMPLE = 9_000_000, 1_000_000_000
 # The limits between, from one under which the program starts.
 LEAST, RATIO = 4_000_000, 1.8
 
-# Gliders far apart, so many that a generation of theirs needs more squares than a store of its own has at first, and the bytes of address space that are enough
-# for these squares, but not for more. So many times the known work such a run may take.
+# How many gliders far apart need more squares for a generation than a store of its own has at first, and the bytes of address space that are enough for these
+# squares, but not for more. How many times the known work such a run may take.
 GLIDERS, ROOM, BOUND = 16000, 353_000_000, 2000
 
 # The generations of a plane that grows in all directions, and the bytes of address space in which it is followed, though all its squares take twice as many.
 FOLLOWED, LITTLE = 800, 40_000_000
 
-# The side of a soup whose RLE takes 11.6 million bytes, and the bytes of address space in which it is told of and written anew: its live cells take
+# The side of a soup whose RLE takes 11.6 million bytes, and the bytes of address space in which it is summed up and written anew: its live cells take
 # 139 million as a list.
 LISTED_SIDE, UNLISTED = 3400, 60_000_000
 
 # A line of progress that tells the squares that there are.
 SQUARES = re.compile(rb"(\d+)\.(\d) million squares")
 
-# The side of a soup whose squares are measured in each of so many generations, and the bytes of address space that are enough for its squares and for as many
-# boxes as are remembered, but not for the boxes of all squares.
+# The side of a soup whose squares are measured in each generation, how many generations these are, and the bytes of address space that are enough for its
+# squares and for as many boxes as are remembered, but not for the boxes of all squares.
 MEASURED_SIDE, MEASURED, BOXES = 1000, 32, 95_000_000
 
 # Cells that lie far from each other, the side of a soup, the generations of a small one, leaves, transitions and claims.
 FAR_CELLS, SIDE, GENERATIONS, LEAVES, TRANSITIONS, CLAIMS = 10000, 2500, 700, 81920, 60000, 120000
 
-# Cells that lie far from each other: how many there are, the bytes of address space in which their RLE is told of and written anew, and those for which their
+# Cells that lie far from each other: how many there are, the bytes of address space in which their RLE is summed up and written anew, and those for which their
 # squares are enough.
 LISTED_CELLS, LISTED_SPACE, SQUARES_SPACE = 50000, 60_000_000, 2_000_000_000
 
 
 def within(space, seconds=None):
-    """How a run is started that has this much address space, and perhaps so many seconds of a processor."""
+    """How a run is started that has this much address space, and perhaps this many seconds of a processor."""
     def limit():
         resource.setrlimit(resource.RLIMIT_AS, (space, space))
         if seconds:
@@ -111,7 +111,7 @@ def claims_round(files, name, claim, verdict):
 
 
 def between(tally, name, path, answers):
-    """Runs under limits that grow until all is judged: nothing else is told than what is known, but for lack of memory."""
+    """Runs under limits that grow until all is judged: nothing else is reported than what is known, but for lack of memory."""
     whole, complaints, space, outcomes = outcome(answers, False), [], LEAST, []
     while space < AMPLE and whole not in outcomes:
         outcomes.append(run(["verify", path], **within(int(space))))

@@ -1,5 +1,5 @@
 #!/usr/bin/env -S python3 -B
-"""What small planes become, beside naive steps (tests/lib/steps.py), and under Generations rules worked out by hand too.
+"""What small planes become, beside naive steps (tests/lib/steps.py), and under Generations rules computed by hand too.
 
 The planes are random ones under random rules, Generations rules and tables, and patterns that come back, after any number of generations, anywhere on the
 plane. Claims of `verify` ask for what they become. `show` and `convert` with `--after` tell it, from both formats and in both. `--after 0` changes nothing, and
@@ -20,7 +20,7 @@ from lib.rule_texts import DIE
 from lib.small_files import COMMANDS, PATTERNS, SPREAD, with_file
 from lib.small_planes import AGEING_RETURNING, CORNERS, RETURNING, Text, claim_returns, judge, moved, random_cells, random_rule, returning, stepped
 
-# The most generations on, and the greatest generation of a file.
+# The most generations that a run may take, and the greatest generation of a file.
 MOST, GREATEST = 1 << 60, (1 << 63) - 1
 
 # A glider, which is moved by (1, 1) every four generations.
@@ -99,7 +99,7 @@ def try_golly(tally, files):
 
 
 def try_by_hand(tally, files):
-    """Each kind of claim under Brian's Brain, with what is told of it."""
+    """Each kind of claim under Brian's Brain, with its note."""
     texts = ClaimTexts(tally, files.folder)
     text, unpinned = texts.text(), Text(files)
     text.rule(DIE.format(name="Die"))
@@ -135,7 +135,7 @@ def try_macrocells(tally, files):
 
 
 class PlaneRuns(Runs):
-    """Planes in files, and what the program makes of them some generations on."""
+    """Planes in files, and what the program makes of them after some generations."""
 
     def written(self, kind, cells, rule, generation):
         """The path of a file of this format with these cells."""
@@ -144,7 +144,7 @@ class PlaneRuns(Runs):
         return self.path(f"p{self.count}.{kind}", text)
 
     def judge(self, cells, rule, generation, count, later, *more):
-        """A file with these cells, in both formats, shown and converted so many generations on."""
+        """A file with these cells, in both formats, shown and converted `count` generations later."""
         self.judge_words(cells, rule, generation, macrocell.Pattern(macrocell.tree_of(later), rule.name, generation + count), "--after", str(count), *more)
 
     def judge_words(self, cells, rule, generation, pattern, *more):

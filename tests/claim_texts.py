@@ -4,8 +4,8 @@
 - Small texts of the first version, faulty and good.
 - Claims of the second version, of patterns that become another one moved and of patterns that die: where they may stand, what each comes to, and the notes of
   an explained run. What random planes and large ones come to is known by naive steps.
-- Several claim texts in one run. Each line has its text's path before it, and the status is the greatest. A text that can't be read or has a fault is told, and
-  the others are judged still. Each text's memory is given back before the next is read.
+- Several claim texts in one run. Each line has its text's path before it, and the status is the greatest. A text that can't be read or has a fault is reported,
+  and the others are judged still. Each text's memory is given back before the next is read.
 """
 import itertools
 import os
@@ -63,7 +63,7 @@ FAULTS = (
     ("load a p\nspaceship a 1 -9999999999999999999999999999999999999999 1", "2: number"),
     ("load a p\nbecomes a 1152921504606846977 a", "2: number"),
     ("load a p\nbecomes a 9999999999999999999999999999999999999999 a", "2: number"),
-    # The number is told, not the name.
+    # The number is reported, not the name.
     ("oscillator b 0", "1: number"),
 )
 
@@ -413,7 +413,7 @@ def try_statuses(tally, texts):
 
 
 def try_one(tally, texts):
-    """With one text no path is told but that of a file that can't be read."""
+    """With one text no path is printed but that of a file that can't be read."""
     for name, answers in texts.answers.items():
         for explained in (False, True):
             wanted = Outcome(printed(answers, explained), b"", status_of(answers))
@@ -430,7 +430,7 @@ def try_limits(tally, texts):
 
 
 def try_paths(tally, files):
-    """The path is told as it is given, however it is spelled; an LF in it is spelled out."""
+    """The path is printed as it is given, however it is spelled; an LF in it is spelled out."""
     text = b"load a examples/block.rle\nstill a\n"
     for name in ("a b.claims", "a: b", "line 2: yes", "\u00e9\u4e16.claims", "n" * 200, "a\nb"):
         path = files.path(name, text)

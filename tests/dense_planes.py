@@ -19,7 +19,7 @@ from lib.parts import try_all
 from lib.program import run
 from lib.small_planes import moved
 
-# A brick has so many columns and rows, and a plane is stepped for so many generations at a time.
+# The columns and rows of a brick, and the generations for which a plane is stepped at a time.
 WIDE, HIGH, AT_A_TIME = 64, 16, 1024
 
 SHORT = (1, 2, 3, 31, 32, 33, 63, 64, 65, 127, 128, 129, 255, 256, 257)

@@ -235,7 +235,7 @@ def try_the_largest(tally, files):
 
 
 def try_after(tally, files):
-    """Planes some generations on."""
+    """Planes after some generations."""
     chance = random.Random(9)
     plane = rows.soup(chance, 70, 50)
     path = files.path("soup.rle", rows.text_of("B3/S23", plane))

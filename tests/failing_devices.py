@@ -3,12 +3,13 @@
 
 - By a byte at a time, read or written, a run comes to what it does otherwise.
 - Where the kth byte of standard output can't be written, the first k - 1 are there and no other, though later writes would go well: nothing is tried
-  again. `cafile: write` is told, and the status is 2. That a write takes no byte is a failure too.
+  again. `cafile: write` is printed, and the status is 2. That a write takes no byte is a failure too.
 - What is printed for a claim is one write: where the kth write fails, what was printed for the first k - 1 claims is there. So are the lines of `identify` on a
   file, its first line, and its `rule` lines.
 - Where the kth byte of standard error can't be written, the status is the same, and so is all that comes before that line and after it.
-- Where the kth byte of a file can't be read, that file is told as one that can't be read, or refuses the claims that need it; the others are judged.
-- Where standard output or standard error takes nothing at all, the fault is told where it can be, the status says it in any case, and no verdict is lost in silence.
+- Where the kth byte of a file can't be read, that file is reported as one that can't be read, or refuses the claims that need it; the others are judged.
+- Where standard output or standard error takes nothing at all, the fault is reported where it can be, the status says it in any case, and no verdict is lost in
+  silence.
 """
 import os
 import re
@@ -40,7 +41,7 @@ PLAIN = b"line 3: no, cells differ after 1\nline 4: yes\nline 5: no, cells diffe
 EXPLAINED = (b"line 3: no, cells differ after 1\n  dot at 0,0: 0 after 1 generation, claimed 1\nline 4: yes\n"
              b"line 5: no, cells differ after 0\n  row at 1,0: 1 after 0 generations, claimed 0\n")
 
-# What the dot, the row and the dot as macrocell are, and what is told of a file that isn't identified, with the row.
+# What the dot, the row and the dot as macrocell are, and what is reported of a file that isn't identified, with the row.
 IDENTIFIED = ("claims 2\nload dot {dot}\ndies dot 1\nload row {row}\noscillator row 2\nload dot-2 {macrocell}\ndies dot-2 1\n")
 
 NOT_IDENTIFIED = "claims 2\n# z: {bad}: bad pattern: rle syntax, line 2\nload row {row}\noscillator row 2\n"
@@ -237,7 +238,7 @@ def try_reads(tally, refusing, files):
 
 
 def try_several(tally, refusing, files):
-    """A text that can't be read to its end is told, and the others are judged; so with a rule file, and with standard input."""
+    """A text that can't be read to its end is reported, and the others are judged; so with a rule file, and with standard input."""
     dot, rule = files.path("dot.rle", DOT), files.path("s.rule", RULE)
     one, other = f"load dot {dot}\nstill dot\n", f"rule {rule}\nload dot {dot}\nbecomes dot 0 dot\n"
     first, second = files.path("one.claims", one), files.path("other.claims", other)

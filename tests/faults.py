@@ -1,8 +1,8 @@
 #!/usr/bin/env -S python3 -B
-"""What is told of files that can't be read, that are faulty, or that aren't what a claim says; and what `--explain` adds.
+"""What is reported of files that can't be read, that are faulty, or that aren't what a claim says; and what `--explain` adds.
 
-- `show`, `convert` and `draw`: of two faults the first is told, and nothing stands on standard output. With `--explain` one more line on standard error names
-  the file and the line of its fault, or the rule that isn't known. All else is as without it.
+- `show`, `convert` and `draw`: of two faults the first is reported, and nothing stands on standard output. With `--explain` one more line on standard error
+  names the file and the line of its fault, or the rule that isn't known. All else is as without it.
 - `verify`: `--explain` adds a line after each no and each refusal that has more to tell. It names the cell, the pattern, its file, the faulty line or the rule
   that isn't known. The lines of the verdicts are those of a run that isn't explained.
 """
@@ -23,14 +23,14 @@ from lib.small_files import (BAD_RLES, COMMANDS, DOT, FULL, FULL_OF_TWOS, GOOD, 
 # A block, whose file names no rule.
 BLOCK_FILE = "x = 2, y = 2\n2o$2o!\n"
 
-# What is told of the patterns of lib/small_files.py: the line of their fault or their rule, where there is one.
+# What is reported of the patterns of lib/small_files.py: the line of their fault or their rule, where there is one.
 DETAILS = {"no_end": ", line 2", "first_fault": ", line 4", "unknown": ": rule Life", "unknown_mc": ": rule Life", "unknown_full": ": rule Life",
            "wakes": ": rule B03/S23", "wakes_mc": ": rule /0", "bounded": ": rule B3/S23:T30,20", "bounded_mc": ": rule Spread:P8"}
 
 NOTHING, BLOCK = HEADER + "!\n", HEADER + "2o$2o!\n"
 BLINKER = "x = 3, y = 1, rule = B3/S23\n3o!\n"
 
-# Loads, and claims about them that fail at one cell alone, with what is told of that.
+# Loads, and claims about them that fail at one cell alone, with the note on that.
 CELLS = (
     ({"dot": DOT}, "still dot", 1, "dot at 0,0: 0 after 1 generation, claimed 1"),
     ({"dot": DOT}, "oscillator dot 2", 2, "dot at 0,0: 0 after 2 generations, claimed 1"),
@@ -65,7 +65,7 @@ CELLS = (
 
 HIGH = "@RULE High\n@TABLE\nn_states:256\nneighborhood:Moore\nsymmetries:none\n"
 
-# Faulty files in each format: what they hold, their faults as they are told, and the lines on which these stand.
+# Faulty files in each format: what they hold, their faults as they are printed, and the lines on which these stand.
 FAULTY_FILES = {
     "RLE": [(text.encode(), f"rle {told}", line) for text, told, line in BAD_RLES],
     "macrocell": [(text, f"macrocell {told}", line) for text, told, line in faulty_macrocells()],
@@ -74,7 +74,7 @@ FAULTY_FILES = {
 
 @as_one_test(Runs, "faulty patterns")
 def try_patterns(files):
-    """Faults of a file: of several the first is told, in each command."""
+    """Faults of a file: of several the first is reported, in each command."""
     spread = files.path("spread.rule", SPREAD)
     for (name, (text, told)), command in itertools.product(PATTERNS.items(), COMMANDS):
         files.expect(told, with_file(command, files.path(name, text), "--rule", spread), fault(told))
@@ -334,7 +334,7 @@ def try_claimed_rule_files(texts):
         text.claim("becomes block 0 no_end", "refused, no file", note)
         text.rule("")
         text.rule_path(path)
-        # of several that are missing the first is told
+        # of several that are missing the first is reported
         for other in ("another.rule", "a_third.rule", "another.rule"):
             text.rule_path(texts.files.path(other))
         texts.judge(f"refused for a rule file, {name}", text)
@@ -369,7 +369,7 @@ def is_told(note, name, patterns, generations, claimed):
 
 @over(ClaimTexts)
 def try_soups(texts):
-    """Of many cells that differ any is told, and it does."""
+    """Of many cells that differ any is named, and it does."""
     chance, rule, complaints, count = random.Random(1), steps.Counting("B3/S23"), [], 0
     for at in range(12):
         cells, other = soup(chance, 9), soup(chance, 9)
@@ -395,7 +395,7 @@ def try_soups(texts):
 
 @over(ClaimTexts)
 def try_missing_twice(texts):
-    """Where a rule file and a pattern's are both missing, one of the two is told."""
+    """Where a rule file and a pattern's are both missing, one of the two is reported."""
     text = texts.text()
     pattern = text.load_path("lost", texts.files.path("lost.rle"))
     rule = text.rule_path(texts.files.path("lost.rule"))
@@ -407,7 +407,7 @@ def try_missing_twice(texts):
 
 @over(ClaimTexts)
 def try_nothing(texts):
-    """Texts without claims, or with a fault, are told as ever."""
+    """Texts without claims, or with a fault, are answered as ever."""
     text = texts.text()
     text.load("lost", BLOCK)
     text.rule_path("lost.rule")

@@ -40,26 +40,26 @@ def whole(lines, complaint=b"", status=0):
 
 
 def claim_of(name, told):
-    """The line of a claim, whose first word and numbers are told."""
+    """The line of a claim, whose first word and numbers are `told`."""
     word, *numbers = told.split()
     return " ".join([word, name, *numbers])
 
 
 def entry(name, path, told):
-    """The lines on a file of which this is told: its claim, or after `#` its comment."""
+    """The lines on a file for which `told` is expected: its claim, or after `#` its comment."""
     if told.startswith("# "):
         return f"load {name} {path}\n# {name}: {told[2:]}\n"
     return f"load {name} {path}\n{claim_of(name, told)}\n"
 
 
 def later_entry(name, path, generations, told):
-    """The lines on a file of whose plane so many generations on this is told."""
+    """The lines on a file for whose plane after `generations` this is expected."""
     return f"load {name} {path}\n# {name} after {generations} generation{'s' * (generations != 1)}: {told.removeprefix('# ')}\n"
 
 
 def none_within(limit, count, width, height, begun=0):
-    """The comment on a plane, so many generations after the pattern, of which no claim is true within a limit, and which has so many cells then, in a box of
-    this width and height."""
+    """The comment on a plane, `begun` generations after the pattern, of which no claim is true within a limit, and which has `count` cells at the limit, in a
+    box of this width and height."""
     return f"# none of these within {limit} generation{'s' * (limit != 1)}: {count} cell{'s' * (count != 1)}, in a box of {width} by {height}, after {begun + limit}"
 
 
@@ -102,7 +102,7 @@ def try_known(tally):
 
 
 def true_claims():
-    """The claims of golden runs about one pattern that are true: for each path, and the rule files of its text, what is told."""
+    """The claims of golden runs about one pattern that are true: for each path, and the rule files of its text, what `identify` should say."""
     claims = {}
     for case in golden.cases("verify"):
         _, *words = golden.words(case)
@@ -137,7 +137,7 @@ def try_true_claims(tally):
 
 
 def told_of(cells, birth, survival, limit, begun=0):
-    """What a plane is, so many generations after the pattern, by running it here."""
+    """What a plane is, `begun` generations after the pattern, by running it here."""
     if not cells:
         return "# no cell is live"
     left, top = min(x for x, _ in cells), min(y for _, y in cells)
@@ -172,8 +172,8 @@ def try_squares(tally, files):
 
 
 def drifted(cells, later, times):
-    """The cells so many times four generations on, where those four generations on are told: each group of neighbours is there again, or is a glider, which is one
-    place further on, and none meets another."""
+    """The cells after `times` times four generations, where `later` has those after four: each group of neighbours is there again, or is a glider, which is one
+    place further, and none meets another."""
     ways, end, left = [(0, 0), (1, 1), (1, -1), (-1, 1), (-1, -1)], set(), set(cells)
     while left:
         group = found = {left.pop()}
@@ -202,8 +202,8 @@ def try_long_periods(tally, files):
 
 
 def turning(lengths, goes):
-    """A rule by which cells go through states of their own in turn, as many as told for each, and its cells, one above the other, which are back together after the
-    product of these numbers, where no two have a common divisor. The cells stay where they are, or go one place to the east each generation."""
+    """A rule by which cells go through states of their own in turn, as many as `lengths` says for each, and its cells, one above the other, which are back
+    together after the product of these numbers, where no two have a common divisor. The cells stay where they are, or go one place east each generation."""
     first, lines, cells = 1, [], {}
     for at, length in enumerate(lengths):
         states = range(first, first + length)
@@ -255,8 +255,8 @@ def try_limits(tally):
 
 
 def try_patience(tally, files):
-    """A soup that patience doesn't outlast: what is told of it is true of the generations that are named, of its own plane and of a later one. With a limit that
-    is set it is looked at as far as that, and a bound of the work that is no larger than patience is a bound as ever."""
+    """A soup that patience doesn't outlast: what is reported of it is true of the generations that are named, of its own plane and of a later one. With a limit
+    that is set it is looked at as far as that, and a bound of the work that is no larger than patience is a bound as ever."""
     chance = random.Random(7)
     path = files.path("soup.rle", rle.tidy({(x, y): 1 for y in range(800) for x in range(800) if chance.random() < 0.375}, "B3/S23", 0, 2))
     told, seconds = timed(["identify", path])
@@ -296,7 +296,7 @@ def try_many_squares(tally, files):
 
 
 def try_after(tally, files):
-    """Planes some generations on: beside steps that are made here, of patterns that come back after any number, and far out. No line is a claim."""
+    """Planes after some generations: beside steps that are made here, of patterns that come back after any number, and far out. No line is a claim."""
     limit = 30
     for generations in (1, 2, 7, 40):
         paths, tolds = [], []
@@ -440,7 +440,7 @@ def try_names(tally, files):
 
 
 def try_odd_paths(tally, files):
-    """Paths that aren't UTF-8 are told as those of files that aren't there, and the other files are identified."""
+    """Paths that aren't UTF-8 are reported as those of files that aren't there, and the other files are identified."""
     good, other, folder = files.path("good.rle", BLOCK), files.path("other.rle", BLOCK), files.folder.encode()
     odd = {b"\xff.rle": (b"\xff", b"\xff.rle"), b"a\x1b\xc3.rle": (b"a\\x1b\xc3", b"a\\x1b\xc3.rle"), b"\xc2\x80\xfe": (b"\\xc2\\x80\xfe", b"\\xc2\\x80\xfe"),
            b"\xed\xa0\x80.rle": (b"\xed\xa0\x80", b"\xed\xa0\x80.rle"),
@@ -577,7 +577,7 @@ def try_given_rule(tally, files):
 
 
 def code_of(path, *words):
-    """The code that is told of a file, or None."""
+    """The code that is printed of a file, or None."""
     lines = run(["identify", "--apgcode", *words, path]).printed.decode().splitlines()
     found = [re.fullmatch(r"# .*: ((?:x[spq]|ov_)[0-9a-z_]+)", line) for line in lines[3:]]
     return found[0][1] if len(found) == 1 and found[0] else None
@@ -665,7 +665,7 @@ CORNERS_OF_57960 = [(0, 0, 36, 13), (0, 13, 17, 13), (17, 13, 11, 13), (28, 13, 
 
 
 def least_work(path, *words):
-    """The least work with which a file is identified."""
+    """The smallest limit of work with which a file is identified."""
     low, high = 1, 1 << 22
     while low < high:
         middle = (low + high) // 2

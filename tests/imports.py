@@ -3,8 +3,8 @@
 
     tests/imports.py [--count N] [--seed S]
 
-What the examples come to was worked out by hand, and codes of known objects are those of LifeWiki: their cells are a phase of the object. N mutated texts of each format are compared with a reader in Python (lib/other_formats.py), and what
-is printed is read again by `show`. The same seed and count give the same texts.
+What the examples come to was computed by hand, and codes of known objects are those of LifeWiki: their cells are a phase of the object. N mutated texts of each
+format are compared with a reader in Python (lib/other_formats.py), and what is printed is read again by `show`. The same seed and count give the same texts.
 """
 import argparse
 import os
@@ -47,7 +47,7 @@ TEXTS = (
     ("xp9_101w1x1y01", {(x, 0): 1 for x in (0, 2, 5, 9, 14)}, None),
 )
 
-# Texts that are refused, and what is told of them.
+# Texts that are refused, and their faults.
 REFUSED = (
     ("", "unknown format"), ("\n\n", "unknown format"), ("x = 3, y = 3\n3o!\n", "unknown format"), ("[M2]\n", "unknown format"), ("glider", "unknown format"),
     ("#Life 1.07\n0 0\n", "unknown format"), ("#Life 1.06 x\n0 0\n", "unknown format"),

@@ -113,7 +113,7 @@ class Claims:
         return ClaimText(self.files)
 
     def judge(self, name, text, explained=False, most=BOUND, **how):
-        """Expects the verdicts of a text, and its notes where they are explained, within so many times the known work. It answers the seconds of a processor
+        """Expects the verdicts of a text, and its notes where they are explained, within `most` times the known work. It answers the seconds of a processor
         that were taken."""
         came, seconds = timed(["verify", *["--explain"] * explained, text.write()], **how)
         wanted = outcome(text.answers, explained)
@@ -141,7 +141,7 @@ def judge_after(claims, name, before, rule, count):
 
 
 def claim_of(name, period, times, dx, dy):
-    """The claim that a pattern is back after its period, so many times over."""
+    """The claim that a pattern is back after `times` periods."""
     if dx or dy:
         return f"spaceship {name} {period * times} {dx * times} {dy * times}"
     return f"oscillator {name} {period * times}"

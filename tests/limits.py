@@ -1,14 +1,14 @@
 #!/usr/bin/env -S python3 -B
 """What a claim, a run and an identification may take and keep: `--memo`, `--work` and `--max-memory`.
 
-- What is judged within `--memo` and `--work`, and what is refused as work. Each claim has its own count, and each command remembers and works out what these say.
-  No generations need no work.
-- How many results typical runs work out: each has to end within a tenth more than it took when this was written. So leaps that forget what they should remember,
+- What is judged within `--memo` and `--work`, and what is refused as work. Each claim has its own count, and each command remembers and computes what these
+  say. No generations need no work.
+- How many results typical runs compute: each has to end within a tenth more than it took when this was written. So leaps that forget what they should remember,
   or look for it in the wrong place, are seen on a machine of any speed. The units are the program's own count, and no value from outside: what is promised
   (docs/PROMISES.md) is a bound far above them. Where fewer serve, they may be lowered here. The verdicts are known: what a pattern becomes was computed by Golly
   (leaps/README.md), and a soup doesn't come back.
 - Long runs that make too many squares for one store. They go on in a store of their own, and end with the plane that is known. They stay within the memory of the
-  squares that they may have, and within the work of what they work out.
+  squares that they may have, and within the work of what they compute.
 """
 import random
 import re
@@ -67,10 +67,10 @@ FAULTS = (
 # Less work than a soup of four states needs, and enough.
 LITTLE, ENOUGH = 600000, 1000000
 
-# No block needs so much work for a generation.
+# No block needs this much work for a generation.
 AMPLE_WORK = 1000
 
-# How long a glider goes: much is remembered of that, and else worked out again and again. And more work than any command needs for it.
+# How long a glider goes: much is remembered of that, and else computed again and again. And more work than any command needs for it.
 LONG, ENOUGH_WORK = 1 << 40, 1 << 20
 
 # The cells of a pattern of 2^20 cells a side, and how it is drawn at the scale at which it is 8 squares wide.
@@ -118,7 +118,7 @@ NEVER_BACK = (
     ("r_pentomino", "116 cells, in a box of 32717 by 32741", 35247),
 )
 
-# The gun within so many generations: 60 times a number more than Golly's figures are of, in which two gliders of five cells come each 60, and fly 15 cells
+# The gun within a limit that is a multiple of 60 generations above that of Golly's figures: in each 60 two gliders of five cells come, and all fly 15 cells
 # away. No stride comes so far: it leaps.
 FAR = ("gun", 100000036, "16666714 cells, in a box of 25000027 by 25000014", 49072)
 
@@ -130,7 +130,7 @@ LONG_PERIOD = ("period_57960", 57960, 24566)
 # hardly any work beside them.
 GROWN, MOST_SQUARES, GROWN_WORK = 1500, 4600000, 2400000
 
-# Gliders far apart, so many that each leap of theirs makes a quarter of the squares that there may be at a time.
+# How many gliders far apart make a quarter of the squares that there may be at a time in each leap of theirs.
 GLIDERS = 4000
 
 
@@ -253,7 +253,7 @@ def try_no_generations(tally, files):
 
 
 def judge_units(tally, name, text, memo, units):
-    """Expects the verdicts of a text with so much work and a tenth more."""
+    """Expects the verdicts of a text with `units` of work and a tenth more."""
     words = ["verify", "--memo", str(memo), "--work", str(units + units // 10), text.write()]
     tally.expect(f"{name}, {memo} entries: {units} units", run(words), outcome(text.answers, False))
 

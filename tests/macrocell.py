@@ -1,7 +1,7 @@
 #!/usr/bin/env -S python3 -B
 """Macrocell files, shown, converted and judged: small texts, faulty and good, random planes, and texts of millions of nodes.
 
-What is wrong with each faulty text was worked out by hand, and so were the cells of the good ones. What random planes come to is told by the naive reader and
+What is wrong with each faulty text was computed by hand, and so were the cells of the good ones. What random planes come to is given by the naive reader and
 writer of tests/lib/macrocell.py. Large texts have to be shown, converted or refused within some seconds of a processor, bounded beside those of known work, and
 what is converted has to come back byte for byte.
 """
@@ -203,7 +203,7 @@ def try_good(tally, files):
 
 
 def cut_glider(length):
-    """What `show` comes to, of the glider's text cut to this length; worked out by hand."""
+    """What `show` comes to, of the glider's text cut to this length; computed by hand."""
     if length < 4:
         return fault("bad pattern: rle header")
     if 42 <= length <= 49:

@@ -4,7 +4,7 @@
     tests/mutated.py [--count N] [--seed S]
 
 Of each text the program may print the lines of docs/CLAIMS.md alone, and end with status 0, 1 or 2, within a time and an address space in
-proportion to the bytes. What patterns and claims come to, the first fault and its line too, is told by readers in Python (lib/rle_reader.py,
+proportion to the bytes. What patterns and claims come to, the first fault and its line too, is said by readers in Python (lib/rle_reader.py,
 lib/macrocell.py, lib/claim_reader.py). Many texts are judged in one run, each by a claim text of its own, so that a run's lines begin with the
 number of their text. The same seed and count give the same texts.
 """
@@ -26,13 +26,13 @@ from lib.program import Folder, Outcome, Tally, ample, escaped, fault
 from lib.rle_reader import Fault, PatternFile, WORD, lines_of, rule_of
 from lib.work import excess, timed
 
-# How many texts are judged in one run, one of how many of each kind has runs of its own, and how many texts a line of this script tells of.
+# How many texts are judged in one run, one of how many of each kind has runs of its own, and how many texts a line of this script reports.
 AT_A_TIME, SAMPLED, TOLD = 50, 10, 1000
 
 # The bytes of address space that a run may take, and those for each byte of its texts and for each live cell of its patterns.
 SPACE, SPACE_OF_BYTE, SPACE_OF_CELL = 8_000_000, 400, 80
 
-# The processor time that a run may take, in units of known work (lib/work.py), and for each byte and each cell, in the best of so many tries,
+# The processor time that a run may take, in units of known work (lib/work.py), and for each byte and each cell, in the best of TRIES tries,
 # as a busy machine stops a run at times; and its seconds by the clock.
 WORK, WORK_OF_BYTE, WORK_OF_CELL, TRIES, WAITING = 5, 1e-4, 2e-5, 3, 60
 
@@ -212,7 +212,7 @@ class Claims:
         self.files, self.judge = files, Judge(self.content_of, self.absence_of, rule_file_fault)
 
     def content_of(self, path):
-        """The bytes of the file at a path; None where the program can't be handed them."""
+        """The bytes of the file at a path; None where the program can't get them."""
         try:
             path.decode()
             with open(os.path.join(os.fsencode(self.files.folder), path), "rb") as file:

@@ -11,7 +11,7 @@ from lib.program import MOST_WAITING, PROGRAM, ROOT, Tally, contents, run
 # A paragraph, and the block of text that follows it.
 QUOTED = re.compile(r"^([^\n]+)\n\n```(\w*)\n(.*?)^```$", re.MULTILINE | re.DOTALL)
 
-# What pages name to show what is told of a file that isn't there.
+# What pages name to show what is printed of a file that isn't there.
 LOST = {"examples/lost.rle", "examples/tables/lost.rule"}
 
 

@@ -6,8 +6,8 @@
 - On a terminal, and with `--progress` elsewhere too, a line on standard error tells how far a claim or a run of `--after` is that has taken a second. It is wiped
   before what is printed. Standard output is that of a run without the word, and a quick run writes nothing to standard error.
 
-The clock is that of tests/refuse.c, which finds itself so many milliseconds further at each look, so that it is known what is shown. The program looks at it
-where a claim begins, and then wherever it may show a line. One run has the clock of the machine.
+The clock is that of tests/refuse.c, which finds itself a given number of milliseconds further at each look, so that it is known what is shown. The program
+looks at it where a claim begins, and then wherever it may show a line. One run has the clock of the machine.
 """
 import itertools
 import os
@@ -43,7 +43,7 @@ SECONDS = 600
 
 
 def digits(count):
-    """The generations that are reached one after another where a plane is leapt over: a further binary digit of their number each, from none on."""
+    """The generations that are reached one after another where a plane is leapt over: a further binary digit of their number each, beginning with none."""
     reached = [0]
     for at in range(count.bit_length()):
         if count >> at & 1:
@@ -57,7 +57,7 @@ def each(count):
 
 
 def halves(count, span):
-    """The runs of a claim that a pattern dies after so many generations, where it does after this span: the claim's own, and those of the times half-way."""
+    """The runs of a claim that a pattern dies after `count` generations, where it does after `span`: the claim's own, and those of the times half-way."""
     runs, low, high = [digits(count)], 0, count
     while high - low > 1:
         middle = (low + high) // 2
@@ -83,7 +83,7 @@ class Watched(ClaimText):
         self.lines += [b""] * (line - 1 - len(self.lines))
 
     def shown(self, milliseconds, before=b""):
-        """What is shown of each claim, where each look at the clock finds it so much further: a list of writes for each."""
+        """What is shown of each claim, where each look at the clock finds it `milliseconds` further: a list of writes for each."""
         return [shown_of(before + b"line %d" % answer.line, runs, milliseconds) for answer, runs in zip(self.answers, self.runs)]
 
 
@@ -114,7 +114,7 @@ def claims(files):
     text.long_claim("becomes r 1102 s", "no, cells differ after 1102", digits(1102))
     text.long_claim("becomes r 0 s", "no, cells differ after 0", (0, [0]))
     text.long_claim("becomes r 65535 s", "no, cells differ after 65535", digits(65535))
-    # after the claim's own generations those of earlier times are told, at which the pattern may be back: the time divided by a prime, the largest first
+    # after the claim's own generations those of earlier times are shown, at which the pattern may be back: the time divided by a prime, the largest first
     text.long_claim("oscillator blinker 6", "no, the same after 2, shifted by 0,0", digits(6), digits(2), digits(1))
     text.long_claim("oscillator blinker 2", "yes", digits(2), digits(1))
     text.long_claim("spaceship glider 4 1 1", "yes", digits(4), digits(2))
@@ -201,7 +201,7 @@ def try_order(tally, refusing, files):
 
 
 def identified_shown(path, limit, generations, milliseconds, begun=0):
-    """What `identify` shows of a file, which it looks at for so many generations, so many after the pattern: each time that the run to there has reached is
+    """What `identify` shows of a file, which it looks at for `generations`, beginning `begun` after the pattern: each time that the run to there has reached is
     shown after a second, and then, at most twice a second, how many were looked at; the first look is before the first of them."""
     lines, last, time_now = [], None, 0
     for reached in digits(begun)[1][1:]:
@@ -310,7 +310,7 @@ def try_after(tally, refusing, files):
 
 
 def try_refused_after(tally, refusing):
-    """The line is wiped before a run's fault is told, and a pattern that can't be taken up shows none."""
+    """The line is wiped before a run's fault is printed, and a pattern that can't be taken up shows none."""
     for kind in (["show"], ["convert", "--to", "rle"], ["draw"]):
         words = [*kind, PENTOMINO, "--after", "1103", "--work", "20", "--progress"]
         got, _ = refusing.run(words, {"CLOCK_STEP": 1000})
@@ -363,7 +363,7 @@ def soup_of(side):
 
 
 def try_results(tally, refusing, files):
-    """While one leap lasts, what was worked out is told about twice a second, and no generation that isn't reached."""
+    """While one leap lasts, what was computed is shown about twice a second, and no generation that isn't reached."""
     text = Watched(files)
     text.rule(TABLE)
     text.load("soup", soup_of(200))
@@ -375,7 +375,7 @@ def try_results(tally, refusing, files):
     shown = {}
     for step in (1000, 100):
         got, _ = refusing.run(["verify", "--progress", text.write()], {"CLOCK_STEP": step})
-        # of the next claim no results are told: it took too few
+        # of the next claim no results are shown: it took too few
         next_one = shown_of(b"line 5", [digits(4), digits(2)], step)
         told = [line.fullmatch(it) for it in got.complaint.removesuffix(next_one).split(WIPE)[1:-1]]
         results = [10 * int(it[2]) + int(it[3]) for it in told if it and it[2]]
@@ -384,7 +384,7 @@ def try_results(tally, refusing, files):
         well = well and results == sorted(results) and results[-1] > 2
         shown[step] = len(results)
         tally.tell(f"results of one leap, {step}", [] if well else [f"{got}"])
-    # what is told last is nearly what the claim needs: a limit just below it is too small, and one a little above it isn't
+    # what is shown last is nearly what the claim needs: a limit just below it is too small, and one a little above it isn't
     least = 100000 * results[-1]
     for limit, verdict in ((least - 1, b"refused, work"), (least + 100000 + 65536, b"no, cells differ after 1024")):
         got = run(["verify", "--work", str(limit), text.write()])
@@ -393,7 +393,7 @@ def try_results(tally, refusing, files):
 
 
 def try_refused_memory(tally, refusing, _):
-    """Where memory is refused, the line is wiped before that is told, and before what is printed."""
+    """Where memory is refused, the line is wiped before that is printed, and before what is printed."""
     told = re.compile(rb"(?:(?:\r\x1b\[K[^\r\n]+)+\r\x1b\[K)*(?:cafile: memory\n)?")
     for words in (["identify", "examples/glider.rle", "examples/block.rle"], ["identify", "--after", "3", "examples/glider.rle"],
                   ["show", "examples/glider.rle", "--after", "3"],

@@ -10,13 +10,13 @@ Of each run either nothing changed, or it ended with `cafile: memory` and printe
 - a claim whose file, or a rule file, is missing, or whose rule file or RLE doesn't read, is refused for that in every run;
 - claims are refused in their order, and no run ends whole once a claim was judged.
 
-A run of `identify` prints all that it prints with ample memory, or of one file that memory is out; or nothing, or the lines on the first so many files, and
+A run of `identify` prints all that it prints with ample memory, or of one file that memory is out; or nothing, or the lines on some first files, and
 `cafile: memory`.
 
 Of an explained run one claim may also be without its note, or a macrocell's note without the faulty line, or one without its rule; but where cells differ, a
-file is missing or a rule file is bad, the note is always given. Of a run over several texts one text may be told as out of memory and have no lines. A run of
-`show`, `convert` or `draw` prints all that it prints with ample memory, or nothing and `cafile: memory`; where it is explained, its note may be without the faulty
-line or the rule.
+file is missing or a rule file is bad, the note is always given. Of a run over several texts one text may be reported as out of memory and have no lines. A run
+of `show`, `convert` or `draw` prints all that it prints with ample memory, or nothing and `cafile: memory`; where it is explained, its note may be without
+the faulty line or the rule.
 
 Of claims with many allocations some are tried, of `show`, `convert` and `draw` all. tests/address_space.py has memory that is refused by the system itself.
 
@@ -77,7 +77,7 @@ LARGER = ("tests/files/soup/soup.rle", "tests/files/soup/soup_40.mc")
 
 
 def by_eighths():
-    """The numbers from 1 on, each about an eighth greater than the one before."""
+    """The numbers from 1 onwards, each about an eighth greater than the one before."""
     return itertools.accumulate(itertools.repeat(1), lambda number, least: number + max(least, number // 8))
 
 
@@ -158,8 +158,8 @@ def identified(head, lines, is_explained=False):
 
 
 def try_identify(tally, refusing, _):
-    """Each allocation of some runs of `identify` in turn, and all from each on: all is printed, or of one file that memory is out, or nothing, or the lines on the
-    first so many files."""
+    """Each allocation of some runs of `identify` in turn, and each with all after it: all is printed, or of one file that memory is out, or nothing, or the
+    lines on some first files."""
     files = {"glider": ("examples/glider.rle", "spaceship glider 4 1 1"), "diehard": ("examples/reactions/diehard.rle", "dies diehard 130"),
              "empty": ("examples/empty.rle", "# empty: no cell is live"), "blocks": ("tests/files/macrocell/blocks.mc", "still blocks")}
     lines = [f"load {name} {path}\n{told}\n" for name, (path, told) in files.items()]
@@ -216,7 +216,7 @@ def wrong_for_good(ample, outcomes):
 
 
 def try_for_good(tally, refusing, _):
-    """All allocations from one on: the complaint itself takes none, and the claims that were judged before are told."""
+    """An allocation and all after it: the complaint itself takes none, and the answers on the claims that were judged before are printed."""
     for words in (["verify", "tests/golden/verify/syntax/claims"], ["verify", "examples/lost"], ["--help"], ["verify"],
                   ["draw", "examples/glider.rle"], ["show", "examples/macrocell/glider.mc"], ["convert", "examples/glider.rle", "--to", "mc"],
                   ["show", "examples/lost"]):

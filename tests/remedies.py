@@ -2,7 +2,7 @@
 """What helps where a run is refused: the last line of `--explain`, and the hint on a terminal that there is more to tell.
 
 - Files with the usual mistakes, and what docs/CLAIMS.md says of each under 'What to do': its fault, that its remedy helps, and that `--explain` ends with it.
-- A claim text that is a pattern file is told from others.
+- A claim text that is a pattern file is distinguished from others.
 - On a terminal a run ends with a line that says where `--explain` says more. Elsewhere standard error stays as it is.
 """
 import gzip
@@ -175,7 +175,7 @@ def try_paths(tally, files):
 
 
 def try_commands(tally, files):
-    """What is told as a command mends the file."""
+    """What is printed as a command mends the file."""
     for name, (data, cause, mended) in MISTAKES.items():
         if WORDS[name] and WORDS[name].endswith(b"FILE"):
             path = os.path.join(files.folder, "broken")

@@ -2,7 +2,7 @@
 """RLE texts and the rules that they name: which cells a text holds, which texts are faulty, which spell a B/S rule or a Generations rule, and how rules and
 rows are printed.
 
-What each has to come to was worked out by hand. Which cells a file holds is asked by `becomes read 0 plain`, where the plain file spells out the same cells one
+What each has to come to was computed by hand. Which cells a file holds is asked by `becomes read 0 plain`, where the plain file spells out the same cells one
 by one, from another corner.
 """
 import itertools

@@ -131,8 +131,8 @@ def try_given(files):
 
 @as_one_test(Rules, "a folder of rules, after")
 def try_given_after(files):
-    """The table of `--rule` goes before another good one of its name in the folder, some generations on too: under it each cell is put to its four sides, and
-    under the other one nothing changes."""
+    """The table of `--rule` goes before another good one of its name in the folder, after some generations too: under it each cell is put to its four sides,
+    and under the other one nothing changes."""
     spread = files.path("spread.rule", SPREAD)
     files.rule("Spread.rule", SPREAD.replace("0,a,0,0,0,a\n", ""))
     path = files.path("pattern", spread_pattern("Spread")[0])

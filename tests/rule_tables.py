@@ -111,7 +111,7 @@ def two_states(runs, text, bits):
 
 
 def soup(runs, text, bits, side, count):
-    """A soup of so many cells a side after some generations, under the table of a rule, beside naive steps. The table goes by a name that is no rule's own."""
+    """A soup of `side` cells a side after `count` generations, under the table of a rule, beside naive steps. The table has a name that is no rule's own."""
     table, _ = written(runs, text)
     if not table:
         return
@@ -129,8 +129,8 @@ def soup(runs, text, bits, side, count):
 
 
 def large_soup(runs, text, corners, side, count):
-    """Soups of so many cells a side, one from each of these corners, under a rule's own table, beside the same soups under that table with a state more, which go
-    cell by cell. One large soup is stepped in many bricks; many small ones are leapt over, in many squares."""
+    """Soups of `side` cells a side, one from each of these corners, under a rule's own table, beside the same soups under that table with a state more, which
+    go cell by cell. One large soup is stepped in many bricks; many small ones are leapt over, in many squares."""
     written_table = run(["rule", text]).printed.replace(f"@RULE {text}\n".encode(), b"@RULE Named\n", 1)
     chance = random.Random(f"{text} {side}")
     live = {(left + x, top + y): 1 for left, top in corners for x in range(side) for y in range(side) if chance.random() < 0.4}
@@ -143,7 +143,7 @@ def large_soup(runs, text, corners, side, count):
 
 
 def long_run(runs, text, bits):
-    """A small soup that naive steps show to settle, after so many generations that it is only leapt over."""
+    """A small soup that naive steps show to settle, after enough generations that it is only leapt over."""
     table, path = written(runs, text)
     for seed in range(40 if table else 0):
         chance = random.Random(f"{text} {seed}")
@@ -166,8 +166,8 @@ def long_run(runs, text, bits):
 
 
 def small_tree(runs):
-    """A blinker and a block under the table of a rule by whose diagram they go as in Life, after so many generations that it is made, and one by itself of a tree
-    of the lowest levels."""
+    """A blinker and a block under the table of a rule by whose diagram they go as in Life, after enough generations that it is made, and one by itself of a
+    tree of the lowest levels."""
     path = runs.path("named.rule", run(["rule", "B3-k/S23"]).printed.replace(b"@RULE B3-k/S23\n", b"@RULE Named\n", 1))
     column, row, block = ({(0, -1), (0, 0), (0, 1)}, {(-1, 0), (0, 0), (1, 0)}, {(-1, -1), (-1, 0), (0, -1), (0, 0)})
     for live, count, want in ((column, 65, row), (column, 64, column), (row, 1001, column), (block, 65, block), (block, 67, block)):

@@ -1,8 +1,8 @@
 #!/usr/bin/env -S python3 -B
 """Rule files: faulty and good ones, how they are spelled, random tables beside naive steps, and files of millions of lines.
 
-What is wrong with each faulty text was worked out by hand. What random tables come to is told by the naive reader and stepper of tests/lib. Large files have to be
-judged within seconds of a processor that a reader or a search of squared cost would pass by far, bounded beside those of known work.
+What is wrong with each faulty text was computed by hand. What random tables come to is given by the naive reader and stepper of tests/lib. Large files have to
+be judged within seconds of a processor that a reader or a search of squared cost would pass by far, bounded beside those of known work.
 """
 import os
 import random
@@ -128,7 +128,7 @@ def try_names(tally, folder):
 
 
 def try_rule_lines(tally, folder):
-    """Where `rule` lines stand, how they are spelled, and which is told first."""
+    """Where `rule` lines stand, how they are spelled, and which is reported first."""
     spread, later = Named("Spread", 3), {**SPREAD_DOT}
     good, no_table, no_rule_line = "\n".join(SPREAD), changed(2, ""), changed(1, "")
     for what, files, verdict in (

@@ -61,7 +61,7 @@ TABLE_FAULTS = (
     (86, None), (96, "line 7 syntax"), (98, None),
 )
 
-# A claim text, and the lengths up to which it has a fault in a line, or so many answers.
+# A claim text, and the lengths up to which it has a fault in a line, or some number of answers.
 CUT_CLAIMS = b"claims 2\nload b examples/block.rle\nload e examples/empty.rle\nstill b\nbecomes b 12 e shift 1 0\ndies b 3\n"
 
 ANSWERS = [(4, "yes"), (5, "no, cells differ after 12"), (6, "no, cells differ after 3")]
@@ -123,7 +123,7 @@ def try_limits_in_help(tally):
 
 
 def try_words(tally):
-    """Words that ask for nothing are told on standard error with status 2."""
+    """Words that ask for nothing are reported on standard error with status 2."""
     block = "examples/block.rle"
     for words in (
         [], ["verify"], ["check", "examples/block.claims"], ["verify", "--fast", "examples/block.claims"], ["verify", "--explain"], ["verify", "--progress"],

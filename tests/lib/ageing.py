@@ -1,5 +1,5 @@
 """Planes under Generations rules, stepped naively and apart from the program: the live cells as those of a B/S rule are, on lib/rows.py's big numbers, and a set of
-dying cells for each state, which is the next state's a generation on. Nothing here counts down."""
+dying cells for each state, which is the next state's a generation later. Nothing here counts down."""
 from dataclasses import dataclass
 
 from lib import rows
@@ -37,7 +37,7 @@ def table_of(rule, name):
 
 
 def after(cells, rule, generations):
-    """The cells that aren't dead after so many generations, by their places."""
+    """The cells that aren't dead after these generations, by their places."""
     while generations and cells:
         count = min(generations, AT_A_TIME)
         cells, generations = stepped(cells, rule, count), generations - count

@@ -17,7 +17,7 @@ ORIENTATIONS = (lambda x, y: (x, y), lambda x, y: (-y, x), lambda x, y: (-x, -y)
 
 
 def gap_text(count):
-    """What is written for so many columns without cells."""
+    """What is written for `count` columns without cells."""
     return ["", "0", "w", "x"][count] if count < 4 else "y" + DIGITS[count - 4]
 
 

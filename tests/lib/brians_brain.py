@@ -1,10 +1,10 @@
-"""Planes under Brian's Brain, `/2/3`, and beside it under other rules, and claims about them: worked out by hand."""
+"""Planes under Brian's Brain, `/2/3`, and beside it under other rules, and claims about them: computed by hand."""
 import re
 
 from lib.claim_text import differs
 from lib.macrocell import EDGE
 
-# Cells under it, at 0,0 where no place is given, worked out by hand.
+# Cells under it, at 0,0 where no place is given, computed by hand.
 CELLS = {
     "dot": "A!", "rest": "B!", "nothing": "!", "pair": "2A!", "three": "C!",
     "pair_1": "#CXRLE Pos=0,-1\n2A$2B$2A!",
@@ -17,7 +17,7 @@ CELLS = {
     "other_wheel": "2.A$A2B$.2BA$.B!",
 }
 
-# Claims about them, the verdicts, and what is told of them: of a cell where one alone differs.
+# Claims about them, the verdicts, and the notes: on a cell where one alone differs.
 CLAIMS = (
     ("still dot", differs(1), "dot at 0,0: 2 after 1 generation, claimed 1"),
     ("still rest", differs(1), "rest at 0,0: 0 after 1 generation, claimed 2"),

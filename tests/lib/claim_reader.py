@@ -109,7 +109,7 @@ class Course:
             self.planes.append(cells)
 
     def after(self, generations):
-        """The live cells after so many generations."""
+        """The live cells after these generations."""
         if generations < len(self.planes):
             return self.planes[generations]
         rounds, rest = divmod(generations - self.first, self.period)

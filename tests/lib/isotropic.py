@@ -81,7 +81,7 @@ def rule_bits(text):
 
 
 def step(live, bits):
-    """The live cells one generation on."""
+    """The live cells one generation later."""
     places = {(x + dx, y + dy) for x, y in live for dx in (-1, 0, 1) for dy in (-1, 0, 1)}
     around = lambda x, y: sum(((x + dx, y + dy) in live) << (4 - 3 * dy - dx) for dy in (-1, 0, 1) for dx in (-1, 0, 1))
     return {(x, y) for x, y in places if bits[around(x, y)]}

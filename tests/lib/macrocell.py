@@ -72,7 +72,7 @@ class Tree:
         return self.summed(max, lambda _, parts: max(part or 0 for part in parts)) or 0
 
     def box(self):
-        """The corner, width and height of the least box round the live cells; None where there are none."""
+        """The corner, width and height of the smallest box round the live cells; None where there are none."""
         def around(side, boxes):
             moved = [(x0 + at % 2 * side, y0 + at // 2 * side, x1 + at % 2 * side, y1 + at // 2 * side)
                      for at, it in enumerate(boxes) if it for x0, y0, x1, y1 in (it,)]
@@ -101,7 +101,7 @@ class Tree:
         return cells
 
     def fitted(self, lowest):
-        """The tree of the same cells with the least level that holds them, but at least the lowest."""
+        """The tree of the same cells with the smallest level that holds them, but at least `lowest`."""
         root, level, parts = self.root, self.level, self.squares.parts
         while level > 1:
             inner = [parts[part][3 - at] for at, part in enumerate(parts[root])]
@@ -117,7 +117,7 @@ class Tree:
 
 
 def tree_of(cells):
-    """The tree of these cells, of the least level that holds them."""
+    """The tree of these cells, of the smallest level that holds them."""
     squares, level = Squares(), 1
     while any(not -(1 << (level - 1)) <= number < 1 << (level - 1) for place in cells for number in place):
         level += 1
@@ -258,7 +258,7 @@ def leaf_text(squares, square):
 
 
 def tidy(pattern, states):
-    """The tidy text of a pattern, under a rule of so many states."""
+    """The tidy text of a pattern, under a rule of `states` states."""
     tree = pattern.tree.fitted(4 if states == 2 else 1)
     squares, numbers = tree.squares, {0: 0}
     lines = ["[M2] (cafile)", f"#R {pattern.rule}", *([f"#G {pattern.generation}"] if pattern.generation else [])]

@@ -13,7 +13,7 @@ MOST_BYTES = 4000
 
 NUMBER = re.compile(rb"\d+")
 
-# Numbers at limits. 2^24 isn't among them, since so many cells are allowed and take their time.
+# Numbers at limits. 2^24 isn't among them, since that many cells are allowed and take their time.
 NUMBERS = tuple(b"%d" % it for it in (
     0, 1, 2, 3, 4, 7, 24, 120, 121, 255, 256, 257, 5000, (1 << 24) + 1, (1 << 32) - 1, 1 << 32, EDGE - 1, EDGE, EDGE + 1,
     4 * EDGE, 4 * EDGE + 1, 8 * EDGE - 1, 8 * EDGE, 16 * EDGE - 1, 16 * EDGE, 10**39,

@@ -28,7 +28,7 @@ def fitting(box, size, scale=None):
 
 
 def box_of(cells):
-    """The corner, width and height of the least box round some cells, if there are any."""
+    """The corner, width and height of the smallest box round some cells, if there are any."""
     if not cells:
         return None
     (x0, x1), (y0, y1) = ((min(it), max(it)) for it in zip(*cells))
@@ -60,7 +60,7 @@ def cells_squares(cells, window):
 
 
 def character(state, told):
-    """The character of a square, whose state is told or not."""
+    """The character of a square, whose state is shown where `told`."""
     if state == 0:
         return "."
     if not told:
@@ -98,6 +98,6 @@ def wanted_window(box, at=None, size=None, scale=None, to="text", zoom=None):
 
 
 def drawn(cells, states):
-    """What `draw` prints of these cells, of a rule of so many states."""
+    """What `draw` prints of these cells, of a rule of `states` states."""
     window = wanted_window(box_of(cells))
     return picture(cells_squares(cells, window), window, states)

@@ -22,8 +22,8 @@ def leaves(count):
 
 
 def distinct_squares(counts, rule):
-    """A plane whose squares of 16 by 16 cells are all different: a part of each is one of so many leaves, in every choice. The product of the four
-    numbers is a power of four. Also its level."""
+    """A plane whose squares of 16 by 16 cells are all different: each of their four parts is one of as many leaves as its count, in every
+    choice. The product of the counts is a power of four. Also its level."""
     number = max(counts)
     west, east = ([f"{one} {other}" for one in range(1, first + 1) for other in range(1, second + 1)] for first, second in (counts[:2], counts[2:]))
     lines = ["[M2]", f"#R {rule}", *leaves(number), *(f"4 {one} {other}" for one in west for other in east)]
@@ -63,7 +63,7 @@ def explosion():
 
 
 def far_gliders(count):
-    """A claim text's two patterns of so many gliders far from each other: as they are, and the same after FLIGHT generations."""
+    """A claim text's two patterns of `count` gliders far from each other: as they are, and the same after FLIGHT generations."""
     chance = random.Random(count)
     places = [(chance.randrange(-EDGE // 2, EDGE // 2), chance.randrange(-EDGE // 2, EDGE // 2)) for _ in range(count)]
     return [text_of("B3/S23", *(it.moved(*place) for place in places)) for it in (GLIDER, GLIDER.after("B3/S23", FLIGHT))]

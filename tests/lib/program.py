@@ -12,7 +12,7 @@ PROGRAM = os.environ.get("CAFILE", os.path.join(ROOT, "crates", "cafile", "out",
 # The most bytes that a file may have.
 MAX_FILE = 67108864
 
-# A run that takes so many seconds of a processor is ended by the system, and one that doesn't end in so many by the clock, though it waits, is ended here.
+# The seconds of a processor after which the system ends a run, and those by the clock after which it is ended here, though it only waits.
 MOST_SECONDS, MOST_WAITING = 200, 3000
 
 MOST_ALLOWED = resource.getrlimit(resource.RLIMIT_CPU)[1]

@@ -50,7 +50,7 @@ class RandomTable:
 
 
 def random_tables(chance, count):
-    """Random tables that don't wake, so many for each neighbourhood and symmetry; fewer where the naive stepper takes long."""
+    """Random tables that don't wake, `count` for each neighbourhood and symmetry; fewer where the naive stepper takes long."""
     for neighbourhood, symmetries in rule_table.SYMMETRIES.items():
         for symmetry in symmetries:
             made = 0

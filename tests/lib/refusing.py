@@ -1,4 +1,4 @@
-"""Runs of the program over tests/refuse.c, whose allocator, devices and clock fail as they are told."""
+"""Runs of the program over tests/refuse.c, whose allocator, devices and clock fail as the environment says."""
 import os
 import shutil
 import subprocess

@@ -47,7 +47,7 @@ def unknown(rule):
 
 
 def words(told, data=b"", rule=b""):
-    """The remedy for what is told of a file with these bytes and this rule text, if there is one."""
+    """The remedy for what is reported of a file with these bytes and this rule text, if there is one."""
     kind = told.removeprefix("bad pattern: ")
     if kind == "rle header":
         return unread(kind, data, "the header has no commas")
@@ -61,7 +61,7 @@ def words(told, data=b"", rule=b""):
 
 
 def line(told, path, data=b"", rule=b"", before=b""):
-    """The line that an explained run ends with for what is told of the file of a path, with these bytes and this rule text."""
+    """The line that an explained run ends with for what is reported of the file of a path, with these bytes and this rule text."""
     remedy = words(told, data, rule)
     if remedy is None:
         return b""
@@ -69,7 +69,7 @@ def line(told, path, data=b"", rule=b"", before=b""):
 
 
 def line_of(verdict, note, before=b""):
-    """The same after the note on a verdict, `NAME: ` and what is told of the file."""
+    """The same after the note on a verdict, `NAME: ` and what is reported of the file."""
     name, _, about = note.partition(b": ")
     if not verdict.startswith("refused, ") or name == b"rule file":
         return b""

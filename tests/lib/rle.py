@@ -82,7 +82,7 @@ def row_items(row, left, states):
 
 
 def tidy(cells, rule, generation, states):
-    """The tidy text of these cells under a rule of so many states."""
+    """The tidy text of these cells under a rule of `states` states."""
     rows = {}
     for (x, y), state in cells.items():
         rows.setdefault(y, []).append((x, state))

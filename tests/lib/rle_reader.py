@@ -202,7 +202,7 @@ def rule_of(text):
 
 @dataclass
 class PatternFile:
-    """What a pattern file comes to without a rule file: what it holds, or the cause of its refusal with the line that is told, if there is one."""
+    """What a pattern file comes to without a rule file: what it holds, or the cause of its refusal with the line that is reported, if there is one."""
 
     content: bytes
     cause: str = ""

@@ -1,4 +1,4 @@
-"""RLE texts: the cells of some, worked out by hand, and what is wrong with others."""
+"""RLE texts: the cells of some, computed by hand, and what is wrong with others."""
 from lib.macrocell import EDGE
 
 HEADER = "x = 3, y = 3, rule = B3/S23\n"

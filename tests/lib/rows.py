@@ -12,7 +12,7 @@ TAGS = str.maketrans("01", "bo")
 
 @dataclass(frozen=True)
 class Rows:
-    """A plane: the place of its upper left corner, and for each row a number whose bit x is the cell so many columns further right."""
+    """A plane: the place of its upper left corner, and for each row a number whose bit x is the cell x columns further right."""
 
     x: int
     y: int
@@ -36,7 +36,7 @@ class Rows:
         return Rows(self.x, self.y, tuple(int(f"{row:0{wide}b}"[::x], 2) for row in self.rows[::y]))
 
     def roomy(self, margin):
-        """The same plane with so many dead rows and columns more on each side."""
+        """The same plane with `margin` dead rows and columns more on each side."""
         blank = (0,) * margin
         return Rows(self.x - margin, self.y - margin, (*blank, *(row << margin for row in self.rows), *blank))
 
@@ -57,7 +57,7 @@ class Rows:
         return Rows(whole.x, whole.y, tuple(lines)).fitted(), whole.rows[y - whole.y] >> column & 1
 
     def after(self, rule, generations):
-        """The plane after so many generations under a rule's text."""
+        """The plane after these generations under a rule's text."""
         plane = self.fitted()
         while generations and plane.rows:
             count = min(generations, AT_A_TIME)
@@ -95,7 +95,7 @@ def stepped(plane, rule, generations):
 
 
 def next_cells(cells, wide, every, rule):
-    """The cells one generation on, where a row has so many columns. `every` has all places."""
+    """The cells one generation later, where a row has `wide` columns. `every` has all places."""
     binary = [0, 0, 0, 0]
     for across, down in rule.neighbours:
         distance = wide * down + across
@@ -118,7 +118,7 @@ def places_with(numbers, binary, every):
 
 
 def soup(chance, wide, high):
-    """A plane at the origin with half of so many cells live."""
+    """A plane at the origin of `wide` by `high` cells, half of them live."""
     return Rows(0, 0, tuple(chance.getrandbits(wide) for _ in range(high)))
 
 

@@ -115,7 +115,7 @@ class Table:
         return tuple(dict.fromkeys(every))
 
     def find(self, centre, ring):
-        """What the first transition gives that fits under some order, by the least of these; else the cell stays."""
+        """What the first transition gives that fits under some order, by the first of these; else the cell stays."""
         arranged = self.arrangements(ring)
         for *slots, result in self.transitions:
             for cells in arranged:
@@ -152,7 +152,7 @@ class Table:
 
 
 def fields_between(text, line, count=None):
-    """The fields between commas, without the blanks round them: numbers and names, so many where a count is given."""
+    """The fields between commas, without the blanks round them: numbers and names, `count` of them where one is given."""
     fields = [field.strip(BLANKS) for field in text.split(",")]
     if count not in (None, len(fields)) or not all(re.fullmatch(f"{NUMBER}|{NAME}", field) for field in fields):
         raise Fault("syntax", line)
@@ -160,7 +160,7 @@ def fields_between(text, line, count=None):
 
 
 def value(digits):
-    """The value of a number, or one as good as it: any from 1000 on is too large."""
+    """The value of a number, or one as good as it: any of at least 1000 is too large."""
     return int(digits.lstrip("0")[:4] or "0")
 
 

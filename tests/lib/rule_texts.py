@@ -6,7 +6,7 @@ from lib.claim_text import differs
 
 @dataclass(frozen=True)
 class Family:
-    """Texts of a family of rules, in words: spellings by their printed form, rules beside these, and texts that name none by what is told of them."""
+    """Texts of a family of rules, in words: spellings by their printed form, rules beside these, and texts that name none by their faults."""
 
     name: str
     spellings: dict

@@ -1,4 +1,4 @@
-"""Small pattern files and rule files, good and faulty, and what is told of them."""
+"""Small pattern files and rule files, good and faulty, and what is reported of them."""
 from lib import macrocell, rle
 from lib.macrocell import EDGE
 from lib.macrocell_texts import FOURFOLD, FULL_LEAF, chain
@@ -12,7 +12,7 @@ SPREAD = "@RULE Spread\n@TABLE\nn_states:3\nneighborhood:vonNeumann\nsymmetries:
 # All cells of a square of level 61, and what has to be said of states that its rule doesn't have.
 FULL, FULL_OF_TWOS = chain(FULL_LEAF, FOURFOLD, 61), chain(("1 2 2 2 2", 1), FOURFOLD, 61, "[M2]\n#R Life\n")
 
-# Files, and their faults in the order in which they are told: that the file doesn't read, its rule, a state, and too many cells in RLE.
+# Files, and their faults in the order in which they are reported: that the file doesn't read, its rule, a state, and too many cells in RLE.
 PATTERNS = {
     "no_end": ("x = 1, y = 1, rule = Life\n3o", "bad pattern: rle no end"),
     "first_fault": ("[M2]\n#R Life\n1 2 0 0 0\n4 9 0 0 0\n#FRAMES 2\n", "bad pattern: macrocell forward"),

@@ -59,7 +59,7 @@ def moved(cells, vector):
 
 
 def corner(cells):
-    """The upper left corner of the least box round the cells."""
+    """The upper left corner of the smallest box round the cells."""
     return min(x for x, _ in cells), min(y for _, y in cells)
 
 
@@ -98,7 +98,7 @@ def judge(tally, name, text):
 
 
 def stepped(cells, rule, count):
-    """The cells after so many generations, and that number; or after fewer, where they become many."""
+    """The cells after `count` generations, and that number; or after fewer, where they become many."""
     for done in range(count):
         if len(cells) > MOST:
             return cells, done
@@ -107,7 +107,7 @@ def stepped(cells, rule, count):
 
 
 class Returning:
-    """A pattern that comes back after its period, the least, moved by a vector."""
+    """A pattern that comes back after its least period, moved by a vector."""
 
     def __init__(self, rule, planes, vector):
         self.rule, self.planes, self.vector, self.period = rule, planes, vector, len(planes)

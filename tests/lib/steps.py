@@ -49,14 +49,14 @@ def rule_of(text):
 
 
 def step(cells, rule):
-    """The cells one generation on."""
+    """The cells one generation later."""
     places = {(x - dx, y - dy) for x, y in cells for dx, dy in ((0, 0), *rule.ring)}
     following = {(x, y): rule.next(cells.get((x, y), 0), tuple(cells.get((x + dx, y + dy), 0) for dx, dy in rule.ring)) for x, y in places}
     return {place: state for place, state in following.items() if state}
 
 
 def steps(cells, rule, generations, stepped=step):
-    """The cells after so many generations, each made by this stepper."""
+    """The cells after these generations, each made by this stepper."""
     for _ in range(generations):
         cells = stepped(cells, rule)
     return cells
@@ -72,13 +72,13 @@ def counts(live):
 
 
 def next_live(live, birth, survival):
-    """The live cells one generation on, under a B/S rule that counts eight neighbours."""
+    """The live cells one generation later, under a B/S rule that counts eight neighbours."""
     around = counts(live)
     return frozenset(place for place in {*around, *live} if around[place] in (survival if place in live else birth))
 
 
 def aged(cells, rule):
-    """The cells one generation on under a Generations rule: each live cell is counted, then each cell ages, and then cells are born."""
+    """The cells one generation later under a Generations rule: each live cell is counted, then each cell ages, and then cells are born."""
     around = counts(place for place, state in cells.items() if state == 1)
     later = {place: 1 if state == 1 and around[place] in rule.survival else state + 1 for place, state in cells.items()}
     later |= {place: 1 for place, count in around.items() if place not in cells and count in rule.birth}

@@ -242,7 +242,7 @@ CHANGED = {
         ("var b={a}\n0,a,0,0,0,b", "8 unbound"),
         ("var a={1}\n0,1,0,0,0,a", "8 unbound"),
         ("var x={0,1,2}\nvar y={0,1,2}\n0,x,y,0,0,a", "9 unbound"),
-        # a fault of a later line, or a waking table, is told after it
+        # a fault of a later line, or a waking table, is reported after it
         ("0,1,0,0,0,a\n0,0", "7 unbound"),
         ("0,0,0,0,0,1\n0,c,0,0,0,1", "8 variable"),
         ("0,a,0,0,0,a\nn_states:3", "8 syntax"),

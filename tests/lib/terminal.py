@@ -23,7 +23,7 @@ def all_shown(terminal):
 
 
 def on_terminal(start):
-    """What `start` gives, which is handed a terminal, and all that was shown there. What it starts may have the terminal open, and nothing else."""
+    """What `start` gives, which gets a terminal, and all that was shown there. What it starts may have the terminal open, and nothing else."""
     ours, its = pty.openpty()
     tty.setraw(its)
     fcntl.ioctl(its, termios.TIOCSWINSZ, struct.pack("4H", SIZE[1], SIZE[0], 0, 0))

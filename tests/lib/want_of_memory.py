@@ -80,7 +80,7 @@ def answers_in(printed):
 
 
 def lesser(answer):
-    """What may be told in place of an answer where memory is refused: that, and unless the note is promised the line without it, or the note without its
+    """What may be printed in place of an answer where memory is refused: that, and unless the note is promised the line without it, or the note without its
     faulty line, or without its rule, and then without what helps."""
     line, note = answer
     told = {(line.split(b":")[0] + b": refused, memory\n", b"")}
@@ -119,7 +119,7 @@ def allowed(texts):
 
 
 def consists_of(texts, outcome):
-    """Whether each text is told as out of memory, or each of its answers is its own or what may be told in its place."""
+    """Whether each text is reported as out of memory, or each of its answers is its own or what may be printed in its place."""
     lost = [before for before, _ in texts if b"cafile: " + before + b"memory\n" in outcome.complaint]
     rest = outcome.printed
     for before, answers in texts:

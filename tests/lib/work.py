@@ -5,7 +5,7 @@ import time
 
 from lib.program import run
 
-# The work: so many steps of a walk over so many places, which a processor's caches hold, and so many looks at as many places of a table of which memory holds
+# The work: the steps of a walk, over places that a processor's caches hold, and the looks at as many places of a table of this size, of which memory holds
 # the most: a machine may be slow at the one alone. Both take about a thirtieth of a second on a machine of today with nothing beside it.
 STEPS, PLACES = 400000, 4096
 LOOKS, TABLE = 160000, 1 << 23
@@ -74,7 +74,7 @@ def timed(words, **how):
 
 
 def excess(seconds, most):
-    """What is wrong with a run of so many processor seconds that may take so many times the known work."""
+    """What is wrong with a run of these processor seconds that may take `most` times the known work."""
     if seconds <= most * unit() or seconds <= most * Pace.measure():
         return []
     return [f"it took {seconds:.2f} s of a processor, {seconds / unit():.0f} times the known work of {unit():.3f} s, where {most} times are the most"]

@@ -204,7 +204,8 @@ IsCauseFor files rules claim cause = HasCause files rules (asks_of claim.kind) c
 abbrev pub IsJudged : SuppliedFiles → List (List ℕ) → Claim → Picture → Picture → RuleValue → Type 0
 IsJudged files rules claim cells other rule = AgreeOn files rules claim.patterns cells other rule × HasFewCounted (asks_of claim.kind) cells other
 
--- the work that a claim may take is no more than it may need: its patterns agree, and mean cells for which so much may be used up
+-- the work that a claim may take is no more than it may need: its patterns agree, and mean cells for which `work` units
+-- of work may be used up
 abbrev pub MayUseUp : SuppliedFiles → List (List ℕ) → (work : ℕ) → Claim → Type 0
 MayUseUp files rules work claim = (cells : Picture) × (other : Picture) × (rule : RuleValue) × IsJudged files rules claim cells other rule
     × MayBeUsedUp work (asks_of claim.kind) (cell cells)

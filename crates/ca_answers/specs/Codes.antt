@@ -61,7 +61,7 @@ steps_of identity = 0
 abbrev pub HasNoCode : RuleValue → Identity → Type 0
 HasNoCode rule identity = (HasCodes rule → ⊥) ⊎ IsNoObject identity
 
--- the code of the plane n generations on from these cells, which is this object under the rule; none where it has none
+-- the code of the plane n generations after these cells, which is this object under the rule; none where it has none
 abbrev pub IsCodeAfter : RuleValue → Picture → (n : ℕ) → Identity → Option (List ℕ) → Type 0
 IsCodeAfter rule cells n identity found = (later : Picture) × IsAfter (next_of rule) cells n later
     × MatchOption found (HasNoCode rule identity) (λ code. HasCodes rule × IsCodeOf (next_of rule) later identity code)
@@ -71,14 +71,16 @@ abbrev pub IsCodeOfFile : List ℕ → List TableRule → (n : ℕ) → Identity
 IsCodeOfFile bytes tables n identity found = (cells : Picture) × (rule : RuleValue) × HoldsSmallPattern bytes tables cells rule
     × IsCodeAfter rule cells n identity found
 
--- the work is no more than a run of n generations and then twice so many steps of one generation may need together, of a tree of a level that holds every
--- live cell before each of them: those of a look at the plane, and those through its period
+-- the work is no more than a run of n generations and then twice `limit` steps of one generation may need together, of
+-- a tree of a level that holds every live cell before each of them: those of a look at the plane, and those through its
+-- period
 abbrev pub MayNeedWorkTwice : (work n : ℕ) → (ℕ → ℤ → ℤ → ℕ) → (limit : ℕ) → Type 0
 MayNeedWorkTwice work n stages limit = (start digits level : ℕ) → 1 ≤ start → HoldsAll start (stages 0) → n < 2 ^ digits
     → 1 ≤ level → ((m : ℕ) → m < limit → HoldsAll level (stages (n + m))) → work ≤ run_work n start digits + 2 * limit * 14 ^ (level + 3)
 
--- the first reason for which it isn't found out what the plane of a file's pattern is n generations on, or its code: the file isn't opened, or work is
--- out. Out of memory may come before any of them, where memory may run out for the bytes
+-- the first reason for which it isn't found out what the plane of a file's pattern is after n generations, or its code:
+-- the file isn't opened, or work is out. Out of memory may come before any of them, where memory may run out for the
+-- bytes
 abbrev pub IsUncodedAfter : List ℕ → List TableRule → (work n limit : ℕ) → LocatedFault → Type 0
 IsUncodedAfter bytes tables work n limit Work = (cells : Picture) × (rule : RuleValue) × HoldsSmallPattern bytes tables cells rule
     × MayNeedWorkTwice work n (after (next_of rule) cells) limit

@@ -29,7 +29,7 @@ abbrev pub HasNoTrueClaim : (List ℕ → ℕ) → Picture → ℕ → Type 0
 HasNoTrueClaim next cells limit = (kind : Kind) → AreOfNoOther (asks_of kind).expected → 1 ≤ (asks_of kind).generations → (asks_of kind).generations ≤ limit
     → IsTrueClaim next cells cells (asks_of kind) → ⊥
 
--- so many cells of the plane are live, and this is the least box round them
+-- `growth.cells` cells of the plane are live, and `growth.bounds` is the smallest box round them
 pub record IsGrowth (cells : Picture) (growth : Growth) : Type 0 where
   pub population : HasPopulation (cell cells) growth.cells
   pub bounds : IsLeastBox cells growth.bounds
@@ -42,12 +42,12 @@ IsIdentity next cells limit (Claim kind) = AreOfNoOther (asks_of kind).expected 
 IsIdentity next cells limit (Unknown growth) = IsLive cells × HasNoTrueClaim next cells limit
     × (later : Picture) × IsAfter next cells limit later × IsGrowth later growth
 
--- n generations on from these cells the plane is what is found of it
+-- n generations after these cells the plane is what is found of it
 abbrev pub IsIdentityAfter : (List ℕ → ℕ) → Picture → (n limit : ℕ) → Identity → Type 0
 IsIdentityAfter next cells n limit identity = (later : Picture) × IsAfter next cells n later × IsIdentity next later limit identity
 
--- the work is no more than so many steps of one generation may need, of a tree of a level that holds every live cell before each of them:
--- 14 to the power of the level and 3
+-- the work is no more than `limit` steps of one generation may need, of a tree of a level that holds every live cell
+-- before each of them: 14 to the power of the level and 3
 abbrev pub MayNeedWork : ℕ → (ℕ → ℤ → ℤ → ℕ) → (limit : ℕ) → Type 0
 MayNeedWork work stages limit = (level : ℕ) → 1 ≤ level → ((n : ℕ) → n < limit → HoldsAll level (stages n)) → work ≤ limit * 14 ^ (level + 3)
 
@@ -65,7 +65,7 @@ pub record IsLook (next : List ℕ → ℕ) (cells : Picture) (scope : Scope) (l
   pub identity : IsIdentity next cells look.limit look.identity
   pub early : look.limit < scope.limit → MayEndEarly next cells scope look.identity
 
--- the same of the plane n generations on from these cells
+-- the same of the plane n generations after these cells
 abbrev pub IsLookAfter : (List ℕ → ℕ) → Picture → (n : ℕ) → Scope → Look → Type 0
 IsLookAfter next cells n scope look = (later : Picture) × IsAfter next cells n later × IsLook next later scope look
 
@@ -73,7 +73,8 @@ IsLookAfter next cells n scope look = (later : Picture) × IsAfter next cells n 
 abbrev pub HoldsSmallPattern : List ℕ → List TableRule → Picture → RuleValue → Type 0
 HoldsSmallPattern bytes tables cells rule = (generation : ℕ) × HoldsSmallRuledPattern bytes tables cells rule generation
 
--- n generations on from the cells that the file means, under its rule, the plane is what is found of it; after no generations it is that of these cells
+-- n generations after the cells that the file means, under its rule, the plane is what is found of it; after no
+-- generations it is that of these cells
 abbrev pub IsIdentifiedAfter : List ℕ → List TableRule → (n limit : ℕ) → Identity → Type 0
 IsIdentifiedAfter bytes tables n limit identity = (cells : Picture) × (rule : RuleValue) × HoldsSmallPattern bytes tables cells rule
     × IsIdentityAfter (next_of rule) cells n limit identity
@@ -83,13 +84,13 @@ abbrev pub IsLookAt : List ℕ → List TableRule → (n : ℕ) → Scope → Lo
 IsLookAt bytes tables n scope look = (cells : Picture) × (rule : RuleValue) × HoldsSmallPattern bytes tables cells rule
     × IsLookAfter (next_of rule) cells n scope look
 
--- the work is no more than a run of n generations and then so many steps of one generation may need together
+-- the work is no more than a run of n generations and then `limit` steps of one generation may need together
 abbrev pub MayNeedWorkAfter : (work n : ℕ) → (ℕ → ℤ → ℤ → ℕ) → (limit : ℕ) → Type 0
 MayNeedWorkAfter work n stages limit = (start digits level : ℕ) → 1 ≤ start → HoldsAll start (stages 0) → n < 2 ^ digits
     → 1 ≤ level → ((m : ℕ) → m < limit → HoldsAll level (stages (n + m))) → work ≤ run_work n start digits + limit * 14 ^ (level + 3)
 
--- the first reason for which it isn't found out what the plane of a file's pattern is n generations on: the file isn't opened, or work is out. Out of
--- memory may come before any of them, where memory may run out for the bytes
+-- the first reason for which it isn't found out what the plane of a file's pattern is after n generations: the file
+-- isn't opened, or work is out. Out of memory may come before any of them, where memory may run out for the bytes
 abbrev pub IsUnidentifiedAfter : List ℕ → List TableRule → (work n limit : ℕ) → LocatedFault → Type 0
 IsUnidentifiedAfter bytes tables work n limit Work = (cells : Picture) × (rule : RuleValue) × HoldsSmallPattern bytes tables cells rule
     × MayNeedWorkAfter work n (after (next_of rule) cells) limit

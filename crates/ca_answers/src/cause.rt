@@ -40,7 +40,7 @@ pub enum Cause {
     /// As much work was done on the claim as may be.
     #[error("out of work")]
     Work,
-    /// A growth was refused.
+    /// An allocation failed.
     #[error("out of memory")]
     Memory,
 }

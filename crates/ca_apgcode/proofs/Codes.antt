@@ -44,7 +44,7 @@ live_row grid x y is_grid live = elim (cases_lt y grid.height) [
       absurd (omega (arith, live, none))
 ]
 
--- a least box is no larger than another with the same cells
+-- a smallest box is no larger than another with the same cells
 narrow : (grid other : GridCells) → IsLeastGrid grid → ((x y : ℕ) → cell grid x y ≡ cell other x y) → length grid.columns ≤ length other.columns
 narrow grid other least same =
     let there : length grid.columns - 1 < length other.columns = live_column other (length grid.columns - 1) least.east.0 (sym (same (length grid.columns - 1) least.east.0) ∙ least.east.1) in
@@ -57,7 +57,7 @@ low grid other is_grid is_other least same =
     let some : grid.height - 1 < grid.height = live_row grid least.south.0 (grid.height - 1) is_grid least.south.1 in
     omega (arith, there, some)
 
--- two least boxes with the same cells are one
+-- two smallest boxes with the same cells are one
 pub one_least_grid : (grid other : GridCells) → IsGrid grid → IsGrid other → IsLeastGrid grid → IsLeastGrid other → ((x y : ℕ) → cell grid x y ≡ cell other x y) → grid ≡ other
 one_least_grid grid other is_grid is_other least least_other same =
     let back = λ (x y : ℕ). sym (same x y) in
@@ -67,7 +67,7 @@ one_least_grid grid other is_grid is_other least least_other same =
     let make : ℕ → List ℕ → GridCells = λ h l. record { height = h; columns = l } in
     ap₂ make height columns
 
--- five binary digits are told by their number
+-- five binary digits are determined by their number
 digits_from_number : (a b c d e p q r s t : ℕ) → a < 2 → b < 2 → c < 2 → d < 2 → p < 2 → q < 2 → r < 2 → s < 2 → a + 2 * b + 4 * c + 8 * d + 16 * e ≡ p + 2 * q + 4 * r + 8 * s + 16 * t → (a ≡ p) × (b ≡ q) × (c ≡ r) × (d ≡ s) × (e ≡ t)
 digits_from_number a b c d e p q r s t la lb lc ld lp lq lr ls same =
     let first : a ≡ p = omega arith in

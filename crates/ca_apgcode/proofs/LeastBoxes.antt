@@ -1,4 +1,4 @@
--- The least box round columns of cells.
+-- The smallest box round columns of cells.
 use Rattle.std.proofs.Common.{◌≡◌, ℕ, zero, suc, ◌+◌, ◌-◌, ◌%◌, ◌^◌, ◌<◌, ◌≤◌, List, [], ◌∷◌, length, get_or, take, Some, refl, sym, ap, subst, ◌∙◌, inl, inr, arith}
 use Rattle.std.specs.Int.{bit_at, trailing_zeros, w64}
 use Rattle.std.specs.List.{slice_get}
@@ -43,7 +43,7 @@ some_bit n some low =
 odd_bit : (n : ℕ) → n % 2 ≡ 1 → bit_at n 0 ≡ 1
 odd_bit n odd = bit_at_lowest n ∙ odd
 
--- columns that begin with a live column and row have a least box
+-- columns that begin with a live column and row have a smallest box
 pub IsLeastOf-columns : (columns cut : List ℕ) (h : ℕ) → length cut ≤ 40 → ((x : ℕ) → get_or cut x 0 ≡ get_or columns x 0) → ((n : ℕ) → length cut ≡ n + 1 → 0 < get_or cut n 0) → ((x : ℕ) → get_or columns x 0 < 2 ^ 40) → 0 < get_or cut 0 0 → (x : ℕ) → get_or cut x 0 % 2 ≡ 1 → h ≤ 40 → ((x : ℕ) → get_or cut x 0 < 2 ^ h) → (0 < h → (x : ℕ) × (bit_at (get_or cut x 0) (h - 1) ≡ 1)) → IsLeastOf columns (record { height = h; columns = cut })
 IsLeastOf-columns columns cut h narrow same ends low first x odd short all last =
     let some : 0 < length cut = elim (cases_lt 0 (length cut)) [
@@ -69,7 +69,7 @@ IsLeastOf-columns columns cut h narrow same ends low first x odd short all last 
       same = same;
     }
 
--- a least box begins with a live column and row
+-- a smallest box begins with a live column and row
 pub IsLeastOf-west : (columns cut : List ℕ) (grid : GridCells) → ((x : ℕ) → get_or cut x 0 ≡ get_or columns x 0) → IsLeastOf columns grid → 0 < get_or cut 0 0
 IsLeastOf-west columns cut grid same least =
     let west = least.is_least.west in

@@ -39,7 +39,7 @@ west_bits mask (suc x) low =
     let same : max (bit_at mask x) 0 ≡ bit_at mask x = omega arith in
     bit_at_or (mask * 2 % 2 ^ 64) 1 (suc x) ∙ (ap₂ max own none ∙ same)
 
--- the bit after each, and 1 after the last of so many
+-- the bit after each, and 1 after the last of `width` bits
 pub east_bits : (mask width x : ℕ) → width ≤ 40 → x < width → bit_at (bit_or (mask / 2) (1 * 2 ^ width % 2 ^ 64 / 2)) x ≡ east_bit width mask x
 east_bits mask zero x low within = absurd (omega (arith, within))
 east_bits mask (suc width) x low within = elim (cases_eq (x + 1) (suc width)) [

@@ -13,7 +13,7 @@ use Rattle.ca_apgcode.proofs.StepTexts.{long_text}
 
 -- ---- the text of a step
 
--- four bits before a column, the nearest first, where so many columns before it have no live cells
+-- four bits before a column, the nearest first, where `gap` columns before it have no live cells
 pub record AreBefore (gap one two three four : ℕ) : Type 0 where
   pub none_one : 1 ≤ gap → one ≡ 0
   pub none_two : 2 ≤ gap → two ≡ 0

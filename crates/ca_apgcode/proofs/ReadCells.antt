@@ -66,7 +66,7 @@ no_more [] (strip ∷ others) each same = absurd (cc)
 no_more (step ∷ more) others each same =
     absurd (not_both step (flat_map step_text more ++ later_strips others) (step_at []) refl (ap step_at (same ∙ append_assoc (step_text step) (flat_map step_text more) (later_strips others)) ∙ step_again step (flat_map step_text more ++ later_strips others) each.0))
 
--- a box that has the text is the least one of the cells that are read
+-- a box that has the text is the smallest one of the cells that are read
 pub IsLeastOf-code : (text columns : List ℕ) (x y : ℕ) (grid : GridCells) → Reads text [] columns x y → IsCode grid text → IsLeastOf columns grid × (y < grid.height)
 IsLeastOf-code text columns x y grid reads code =
     let shown = code.is_representation in
@@ -104,6 +104,6 @@ low_columns columns x y strips steps drawn k =
     let most : y + 5 ≤ 40 = omega (arith, north, drawn.height) in
     omega (arith, drawn.low k, pow_most (y + 5) 40 most)
 
--- columns have one least box
+-- columns have one smallest box
 pub one_least_of : (columns : List ℕ) (grid other : GridCells) → IsLeastOf columns grid → IsLeastOf columns other → grid ≡ other
 one_least_of columns grid other one two = one_least_grid grid other one.is_grid two.is_grid one.is_least two.is_least (λ x y. ap (λ n. bit_at n y) (one.same x ∙ sym (two.same x)))

@@ -89,7 +89,7 @@ record Spans (p : ℤ → ℤ → ℕ) : Type 0 where
   at_last : HasLive p (first +ℤ pos further)
   between : (x y : ℤ) → p x y ≢ 0 → (first ≤ℤ x) × (x ≤ℤ (first +ℤ pos further))
 
--- a number is so much more than another one
+-- a number is `steps` more than another one
 record IsFrom (start x : ℤ) : Type 0 where
   steps : ℕ
   place : x ≡ start +ℤ pos steps
@@ -218,7 +218,7 @@ live_none zero dead = refl
 live_none (suc state) dead = absurd (dead (λ none. omega (arith, none)))
 
 module _ (p : ℤ → ℤ → ℕ) (across : Spans p) (down : Spans (λ y x. p x y)) where
-  -- the states from the corner on
+  -- the states from the corner onwards
   abbrev state : ℕ → ℕ → ℕ
   state u v = p (across.first +ℤ pos u) (down.first +ℤ pos v)
 

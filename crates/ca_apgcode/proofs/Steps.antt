@@ -34,7 +34,7 @@ columns_at columns gap column k there =
     ∙ get_or-append_right (replicate gap 0) (column ∷ []) gap gap 0 (length-replicate gap 0) (omega arith)
     ∙ ap (λ i. get_or (column ∷ []) i 0) (let none : gap - gap ≡ 0 = omega arith in none)
 
--- the first columns of a strip are written: steps, and after them so many columns without cells
+-- the first columns of a strip are written: steps, and after them `gap` columns without cells
 pub record BeginsStrip (cells : ℕ → ℕ → ℕ) (y x gap : ℕ) (old new : List ℕ) : Type 0 where
   pub steps : List Step
   pub each : AllByRecursion IsStep steps

@@ -25,7 +25,7 @@ mirrored_place g h is (negsuc x) (pos v) (pos x') sum =
     sym (east_dead g x' v east)
 mirrored_place g h is (negsuc x) (pos v) (negsuc x') sum = refl
 
--- a least box stays one
+-- a smallest box stays one
 IsLeastGrid-mirrored : (g h : GridCells) → IsMirrored g h → 0 < length g.columns → IsLeastGrid g → IsLeastGrid h
 IsLeastGrid-mirrored g h is some least =
     let w = length g.columns in

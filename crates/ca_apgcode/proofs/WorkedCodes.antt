@@ -22,7 +22,7 @@ low_rows height (c ∷ columns) test (suc x) = low_rows height columns (and_part
 abbrev pub is_step : Step → Bool
 is_step s = nat_le s.gap 39 && (nat_le 1 s.column && nat_le s.column 31)
 
--- whether columns and steps agree, of which neither have more than so many columns
+-- whether columns and steps agree, of which neither have more than n columns
 abbrev pub agree : GridCells → ℕ → List Step → ℕ → Bool
 agree grid y steps n = agree_below (λ x. get_or (flat_map step_columns steps) x 0 == five_cells (cell grid) x y) (λ _. true) n
 

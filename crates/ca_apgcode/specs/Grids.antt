@@ -26,14 +26,14 @@ pub record MakesLive (old new : GridCells) (x y : ℕ) : Type 0 where
   pub live : cell new x y ≡ 1
   pub others : (u v : ℕ) → (u ≡ x → v ≡ y → ⊥) → cell new u v ≡ cell old u v
 
--- the box is the least one round the live cells: one of them is in each of its outermost columns and rows
+-- the box is the smallest one round the live cells: one of them is in each of its outermost columns and rows
 pub record IsLeastGrid (grid : GridCells) : Type 0 where
   pub west : (y : ℕ) × (cell grid 0 y ≡ 1)
   pub east : (y : ℕ) × (cell grid (length grid.columns - 1) y ≡ 1)
   pub north : (x : ℕ) × (cell grid x 0 ≡ 1)
   pub south : (x : ℕ) × (cell grid x (grid.height - 1) ≡ 1)
 
--- the box has just the cells of these columns, and is a least one
+-- the box has just the cells of these columns, and is a smallest one
 pub record IsLeastOf (columns : List ℕ) (grid : GridCells) : Type 0 where
   pub is_grid : IsGrid grid
   pub is_least : IsLeastGrid grid

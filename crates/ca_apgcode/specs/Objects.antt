@@ -10,7 +10,8 @@ abbrev pub live : ℕ → ℕ
 live zero = 0
 live (suc state) = 1
 
--- the box is the least one round the live cells of a plane, at most 40 by 40, and has just these; its north-western cell is at (left, top)
+-- the box is the smallest one round the live cells of a plane, at most 40 by 40, and has just these; its north-western
+-- cell is at (left, top)
 pub record IsBoxRound (cells : ℤ → ℤ → ℕ) (box : GridCells) : Type 0 where
   pub left : ℤ
   pub top : ℤ
@@ -18,7 +19,7 @@ pub record IsBoxRound (cells : ℤ → ℤ → ℕ) (box : GridCells) : Type 0 w
   pub is_least : IsLeastGrid box
   pub same : (x y : ℤ) → live (cells x y) ≡ from_corner (cell box) (x -ℤ left) (y -ℤ top)
 
--- the text is the representation of a plane's least box
+-- the text is the representation of a plane's smallest box
 abbrev pub IsTextOf : (ℤ → ℤ → ℕ) → List ℕ → Type 0
 IsTextOf cells text = (box : GridCells) × IsBoxRound cells box × IsRepresentation (cell box) box.height text
 
@@ -30,7 +31,7 @@ LiesWithin cells left top = (x y : ℤ) → cells x y ≢ 0 → (left ≤ℤ x) 
 abbrev pub IsTurnedText : (ℤ → ℤ → ℕ) → List ℕ → Type 0
 IsTurnedText cells text = (orientation : Orientation) × IsTextOf (turned orientation cells) text
 
--- it is that of one of so many phases. A phase that doesn't fit into 40 by 40 cells has none
+-- it is that of one of the first `count` phases. A phase that doesn't fit into 40 by 40 cells has none
 abbrev pub IsPhaseText : (ℕ → ℤ → ℤ → ℕ) → (count : ℕ) → List ℕ → Type 0
 IsPhaseText phases count text = (n : ℕ) × (n < count) × IsTurnedText (phases n) text
 
@@ -39,7 +40,7 @@ pub record IsLeastAmong (IsOne : List ℕ → Type 0) (least : List ℕ) : Type 
   pub is_one : IsOne least
   pub is_first : (text : List ℕ) → IsOne text → Precedes text least → ⊥
 
--- the least text of so many phases, if one of them fits into 40 by 40 cells
+-- the least text of the first `count` phases, if one of them fits into 40 by 40 cells
 abbrev pub IsLeastOfPhases : (ℕ → ℤ → ℤ → ℕ) → (count : ℕ) → Option (List ℕ) → Type 0
 IsLeastOfPhases phases count (Some least) = IsLeastAmong (IsPhaseText phases count) least
 IsLeastOfPhases phases count None = (text : List ℕ) → IsPhaseText phases count text → ⊥
@@ -55,7 +56,8 @@ abbrev pub code_text : ObjectKind → ℕ → Option (List ℕ) → List ℕ
 code_text kind number (Some text) = letter "x" ∷ kind_letter kind ∷ [] ++ decimal number ++ codes "_" ++ text
 code_text kind number None = codes "ov_" ++ kind_letter kind ∷ [] ++ decimal number
 
--- the code of an object that has so many phases. Its number is that of the live cells of a still life, and else the least period
+-- the code, with this number, of an object that has `count` phases. An object's own number is that of the live cells of
+-- a still life, and otherwise the least period
 pub record IsObjectCode (kind : ObjectKind) (number : ℕ) (phases : ℕ → ℤ → ℤ → ℕ) (count : ℕ) (code : List ℕ) : Type 0 where
   pub text : Option (List ℕ)
   pub is_least : IsLeastOfPhases phases count text

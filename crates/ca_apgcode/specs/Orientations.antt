@@ -21,6 +21,6 @@ pub record IsCopy (cells copy : ℤ → ℤ → ℕ) : Type 0 where
   pub dy : ℤ
   pub same : (x y : ℤ) → copy x y ≡ turned orientation cells (x -ℤ dx) (y -ℤ dy)
 
--- each of so many planes is a copy of one of so many others
+-- each of the first `count` copies is a copy of one of the first `count` phases
 abbrev pub AreAmong : (phases copies : ℕ → ℤ → ℤ → ℕ) → (count : ℕ) → Type 0
 AreAmong phases copies count = (n : ℕ) → n < count → (m : ℕ) × (m < count) × IsCopy (phases m) (copies n)

@@ -9,7 +9,7 @@ use Rattle.ca_apgcode.specs.Grids.{GridCells, IsGrid, IsLeastGrid, cell}
 abbrev pub five_cells : (ℕ → ℕ → ℕ) → ℕ → ℕ → ℕ
 five_cells cells x y = cells x y + 2 * cells x (y + 1) + 4 * cells x (y + 2) + 8 * cells x (y + 3) + 16 * cells x (y + 4)
 
--- the digit of a number below 36: `0` to `9`, and `a` to `z` from 10 on
+-- the digit of a number below 36: `0` to `9`, and `a` to `z` from 10 onwards
 abbrev pub digit : ℕ → ℕ
 digit n = if nat_lt n 10 then letter "0" + n else letter "a" + (n - 10)
 
@@ -45,7 +45,7 @@ pub record IsStrip (cells : ℕ → ℕ → ℕ) (y : ℕ) (steps : List Step) :
   pub each : AllByRecursion IsStep steps
   pub columns : (x : ℕ) → slice_index (flat_map step_columns steps) x ≡ five_cells cells x y
 
--- the text is the representation of the cells in a box that is so high: strips of five rows from the north, with a `z`
+-- the text is the representation of the cells in a box of this height: strips of five rows from the north, with a `z`
 -- between each two. Where the height is no multiple of five, dead cells lie below
 pub record IsRepresentation (cells : ℕ → ℕ → ℕ) (height : ℕ) (text : List ℕ) : Type 0 where
   pub strips : List (List Step)
@@ -53,7 +53,7 @@ pub record IsRepresentation (cells : ℕ → ℕ → ℕ) (height : ℕ) (text :
   pub each : (i : ℕ) → i < length strips → IsStrip cells (5 * i) (slice_index_or strips i [])
   pub whole : text ≡ join_with_byte (letter "z") (map (flat_map step_text) strips)
 
--- the text is the representation of the cells in a least box, as an apgcode has it
+-- the text is the representation of the cells in their smallest box, as an apgcode has it
 pub record IsCode (grid : GridCells) (text : List ℕ) : Type 0 where
   pub is_grid : IsGrid grid
   pub is_least : IsLeastGrid grid

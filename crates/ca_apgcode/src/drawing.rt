@@ -9,7 +9,7 @@ use crate::grid::MOST_SIDE;
 use ca_plane::Memory;
 use std::alloc::Global;
 
-// Columns of cells. Those of the strips above the row y are drawn, and in the strip from that row on those
+// Columns of cells. Those of the strips above the row y are drawn, and in the strip from that row onwards those
 // west of the column x.
 #[derive(Drop)]
 pub(crate) struct Drawing {

@@ -8,10 +8,10 @@ use thiserror::Error;
 /// Why a text is not read.
 #[derive(Clone, Copy, Debug, PartialEq, Eq, Error)]
 pub enum ReadFault {
-    /// A growth was refused.
+    /// An allocation failed.
     #[error("out of memory")]
     Memory,
-    /// The text isn't the representation of cells in a least box of at most 40 by 40.
+    /// The text isn't the representation of cells in their smallest box, at most 40 by 40.
     #[error("no representation of at most 40 by 40 cells")]
     NoRepresentation,
 }

@@ -104,8 +104,8 @@ impl Grid {
         &self.columns
     }
 
-    /// The least box round the cells of at most 40 columns, from the west, each of them a binary number below 2^40 with
-    /// the northern cell as 1. None where no cell is live in the first column, or none in the first row.
+    /// The smallest box round the cells of at most 40 columns, from the west, each of them a binary number below 2^40
+    /// with the northern cell as 1. None where no cell is live in the first column, or none in the first row.
     pub fn from_columns(columns: Vec<u64>) -> Option<Grid>
         requires width { length columns.items ≤ 40 }
         requires height { (x : ℕ) → slice_index columns.items x < 2 ^ 40 }
@@ -120,7 +120,7 @@ impl Grid {
         Some(Grid { height, columns })
     }
 
-    /// The cells of a column in the five rows from one on, as a binary number with the northern cell as 1.
+    /// The cells of a column in the five rows from row `y` onwards, as a binary number with the northern cell as 1.
     pub(crate) fn five_cells(&self, x: u8, y: u8) -> u8
         requires x { x < length self.now.columns }
         requires y { y < 40 }

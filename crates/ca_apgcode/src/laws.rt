@@ -26,7 +26,7 @@ pub fn one_text()
         → IsRepresentation cells height other → one ≡ other }
 {}
 
-/// A text is the representation of one picture in its least box at most, so it gives the cells back.
+/// A text is the representation of one picture in its smallest box at most, so it gives the cells back.
 pub fn one_picture()
     ensures { (one other : GridCells) (text : List ℕ) → IsCode one text → IsCode other text → one ≡ other }
 {}

@@ -67,7 +67,7 @@ pub(crate) fn mask_length(mask: u64) -> usize
     text_length(mask, one, two, three, west_bits(three))
 }
 
-/// The same of a strip of so many columns where east and west are exchanged.
+/// The same of a strip of `width` columns where east and west are exchanged.
 pub(crate) fn mirrored_length(mask: u64, width: u8) -> usize
     requires low { mask < 2 ^ width }
     requires most { width ≤ 40 }
@@ -98,7 +98,7 @@ fn west_bits(mask: u64) -> u64
     mask << 1 | 1
 }
 
-// At each place the bit after it, of so many. After the last one it is 1.
+// At each place the bit after it, of `width` bits. After the last one it is 1.
 fn east_bits(mask: u64, width: u8) -> u64
     requires { width ≤ 40 }
     ensures { (x : ℕ) → x < width → bit_at result x ≡ east_bit width mask x }

@@ -12,7 +12,7 @@ use std::alloc::Global;
 /// What an object is, as its code begins.
 #[derive(Clone, Copy, Debug, PartialEq, Eq)]
 pub enum ObjectKind {
-    /// A still life: one generation on it is what it was.
+    /// A still life: one generation later it is what it was.
     StillLife,
     /// An oscillator: after its period it is what it was, in its place.
     Oscillator,
@@ -21,7 +21,7 @@ pub enum ObjectKind {
 }
 
 /// The code of an object (LifeWiki, "Apgcode"), from the least text of its phases, if one of them fits into 40 by 40 cells.
-/// The number is that of the live cells of a still life, and else the least period.
+/// An object's own number is that of the live cells of a still life, and otherwise the least period.
 ///
 /// # Errors
 ///

@@ -10,8 +10,8 @@ use crate::sides::has_short_text;
 use ca_plane::Memory;
 use std::alloc::Global;
 
-/// The least text of an object's phases up to one whose least box is this grid, from that of the phases before it, if one
-/// of them has any.
+/// The least text of an object's phases up to one whose smallest box is this grid, from that of the phases before it,
+/// if one of them has any.
 ///
 /// # Errors
 ///

@@ -9,16 +9,16 @@ use crate::fault::ReadFault;
 use crate::grid::Grid;
 use std::alloc::Global;
 
-/// The cells of a text in their least box (LifeWiki, "Apgcode"): those whose representation it is.
+/// The cells of a text in their smallest box (LifeWiki, "Apgcode"): those whose representation it is.
 ///
 /// # Errors
 ///
-/// Fails where the text isn't the representation of cells in a least box of at most 40 by 40, and where there
+/// Fails where the text isn't the representation of cells in their smallest box, at most 40 by 40, and where there
 /// is no memory for the cells.
 pub fn read_representation(alloc: Global, text: &[u8]) -> Result<Grid, ReadFault>
     // The text is the representation of what is read.
     ensures found { IfOk result (λ g. IsCode g text.now) }
-    // The representation of cells in their least box gives these cells back, unless memory runs out.
+    // The representation of cells in their smallest box gives these cells back, unless memory runs out.
     ensures only { (g : GridCells) → IsCode g text.now
         → MatchResult result (λ read. read ≡ g) (λ e. e ≡ ReadFault.Memory) }
 {

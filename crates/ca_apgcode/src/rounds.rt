@@ -14,8 +14,8 @@ use crate::writing::representation;
 use ca_plane::Memory;
 use std::alloc::Global;
 
-/// The least of the representations of a grid in its eight orientations (LifeWiki, "Apgcode"), where it is the least box
-/// round the live cells of a plane.
+/// The least of the representations of a grid in its eight orientations (LifeWiki, "Apgcode"), where it is the smallest
+/// box round the live cells of a plane.
 ///
 /// # Errors
 ///

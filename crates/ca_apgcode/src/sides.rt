@@ -1,4 +1,4 @@
-//! Lengths of a grid's representations in its eight orientations, told without turning it.
+//! Lengths of a grid's representations in its eight orientations, computed without turning it.
 
 ghost use Rattle.std.specs.Prelude.{◌≡◌, ℕ, ℤ, List, ◌+◌, ◌*◌, ◌<◌, ◌≤◌, ◌^◌, ◌==◌, length, IsFalse, if◌then◌else◌};
 ghost use Rattle.ca_apgcode.specs.Grids.{GridCells as Cells, cell};
@@ -30,8 +30,8 @@ pub(crate) fn representation_length(grid: &Grid) -> usize
     lengths_from(grid, Side::North).seen
 }
 
-/// Whether the representation of a grid has at most so many bytes in one of its eight orientations, where it is the least box
-/// round the live cells of a plane.
+/// False only where the representation of a grid, which is the smallest box round the live cells of a plane, has more
+/// than `most` bytes in each of its eight orientations.
 pub(crate) fn has_short_text(grid: &Grid, most: usize) -> bool
     ensures { (cells : ℤ → ℤ → ℕ) → IsBoxRound cells grid.now → IsFalse result
         → (text : List ℕ) → IsTurnedText cells text → most < length text }

@@ -11,7 +11,7 @@ use ca_plane::Memory;
 use ca_plane::text::push_text;
 use std::alloc::Global;
 
-/// The representation of a grid's cells (LifeWiki, "Apgcode"). An apgcode ends with that of the least box
+/// The representation of a grid's cells (LifeWiki, "Apgcode"). An apgcode ends with that of the smallest box
 /// round the live cells.
 ///
 /// # Errors
@@ -39,7 +39,7 @@ fn push_joint(text: &mut Vec<u8>, strip: u8) -> Result<(), Memory>
     push_text(text, b"z")
 }
 
-// Puts the five rows from one on.
+// Puts the five rows from row `y` onwards.
 fn push_strip(text: &mut Vec<u8>, grid: &Grid, y: u8) -> Result<(), Memory>
     requires { y < 40 }
     ensures { OnOk result (PutsStrip (cell grid.now) y text.old.items text.new.items) }
@@ -52,7 +52,7 @@ fn push_strip(text: &mut Vec<u8>, grid: &Grid, y: u8) -> Result<(), Memory>
     Ok(())
 }
 
-// Puts a column after so many without cells, where it has some itself. Gives how many are without cells now.
+// Puts a column after `gap` columns without cells, where it has some itself. Gives how many are without cells now.
 fn push_column(text: &mut Vec<u8>, gap: u8, column: u8) -> Result<u8, Memory>
     requires gap { gap ≤ 39 }
     requires column { column ≤ 31 }

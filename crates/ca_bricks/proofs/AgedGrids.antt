@@ -1,4 +1,4 @@
--- Grids whose cells age, a generation on.
+-- Grids whose cells age, a generation later.
 use Rattle.std.proofs.Common.{◌≡◌, ℕ, suc, ◌+◌, ◌-◌, ◌*◌, ◌<◌, ◌≤◌, ◌^◌, inl, inr, List, [], map, length, get_or, slice_index, refl, sym, ap, ap₂, subst, ◌∙◌, arith, ◌==◌, if◌then◌else◌}
 use Rattle.std.specs.Prelude.{ℤ, pos, ◌+ℤ◌, replicate}
 use Rattle.std.proofs.lemmas.Bool.Decides.{nat_tests}

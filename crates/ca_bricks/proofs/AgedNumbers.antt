@@ -13,7 +13,7 @@ use Rattle.ca_bricks.specs.Prelude.{number_at, IsInPlace}
 
 -- ---- one less
 
--- 1 where one is borrowed from digit k on, when a number that isn't 0 becomes one less
+-- 1 where one is borrowed from digit k onwards, when a number that isn't 0 becomes one less
 abbrev pub borrowed_at : ℕ → ℕ → ℕ
 borrowed_at zero n = min 1 n
 borrowed_at (suc k) n = borrowed_at k n - bit_at n k

@@ -1,4 +1,4 @@
--- Bricks of grids whose cells age, one generation on.
+-- Bricks of grids whose cells age, one generation later.
 use Rattle.std.proofs.Common.{◌≡◌, ℕ, ◌+◌, inl, inr, List, [], length, get_or, slice_index, sym, ap, subst, ◌∙◌, arith}
 use Rattle.std.proofs.lemmas.Bool.{cases_eq}
 use Rattle.ca_plane.specs.declared.counting.Ageing.{Ageing}

@@ -36,7 +36,7 @@ without_digits (suc n) v low none =
     let first = sym (bit_at_lowest v) ∙ none 0 (omega arith) in
     omega (arith, rest, first)
 
--- a number by its digits from k on, and the one before them
+-- a number by its digits from k onwards: those beyond k, and digit k before them
 pub digits_from : (v k : ℕ) → v < 256 → 2 * (v / 2 ^ suc k) % 256 + bit_at v k ≡ v / 2 ^ k
 digits_from v k low =
     let power : 2 ^ k * 2 ≡ 2 ^ suc k = omega (arith, two-pow-succ k) in
@@ -57,7 +57,7 @@ digit_more n w i =
 
 -- ---- states
 
--- the number of a dying cell has so many digits
+-- the number of a dying cell has n digits at most
 pub number_fits : (states n state : ℕ) → state < states → states < 2 + 2 ^ n → remaining states state < 2 ^ n
 number_fits states n state low enough =
     let some : 1 ≤ 2 ^ n = one-le-pow n 2 (omega arith) in
@@ -73,7 +73,7 @@ live_alone states zero low none = grind (arith, nat_tests)
 live_alone states (suc zero) low none = grind (arith, nat_tests)
 live_alone states (suc (suc s)) low none = grind (arith, nat_tests)
 
--- the state that is told is the cell's
+-- the state that `told_state` gives is the cell's
 pub told_is : (states greatest state : ℕ) → state < states → greatest ≡ states - 1 → told_state greatest (liveness state) (remaining states state) ≡ state
 told_is states greatest zero low is = grind (arith, nat_tests)
 told_is states greatest (suc zero) low is = grind (arith, nat_tests)

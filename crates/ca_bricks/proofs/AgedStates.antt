@@ -6,7 +6,7 @@ use Rattle.std.proofs.lemmas.Nat.Bits.{bit_at-zero, bit_at-lt}
 use Rattle.ca_plane.specs.Prelude.{liveness, aged}
 use Rattle.ca_bricks.specs.Prelude.{remaining, dying_digit, aged_digit}
 
--- ---- numbers one generation on
+-- ---- numbers one generation later
 
 dead_counts : (states lives : ℕ) → lives < 2 → remaining states (aged states 0 lives) ≡ 0
 dead_counts states lives few = grind (arith, nat_tests)
@@ -26,7 +26,7 @@ not_live centre dying = grind (arith, nat_tests)
 some_left : (states centre : ℕ) → 2 ≤ centre → centre < states → 1 ≤ remaining states centre
 some_left states centre dying low = grind (arith, nat_tests)
 
--- ---- bits one generation on
+-- ---- bits one generation later
 
 -- a cell is live next where the counting says so and it isn't dying
 pub lives_aged : (states centre lives : ℕ) → centre < states → lives < 2 → lives - remaining states centre ≡ liveness (aged states centre lives)

@@ -59,7 +59,7 @@ bits_east f is (suc n) (r ∷ rs) e x (suc y) = let l : length rs ≡ n = omega 
 
 -- ---- rows moved by one to the north or the south
 
--- positions from a on, and then others
+-- positions from a onwards, and then others
 picked : (rows : List ℕ) (a n y : ℕ) (others : List ℕ) → y < n → get_or (pick_l 0 rows (range_with_len a n ++ others)) y 0 ≡ get_or rows (a + y) 0
 picked rows a zero y others h = absurd (omega arith)
 picked rows a (suc n) zero others h = let e : a ≡ a + 0 = omega arith in ap (λ i. get_or rows i 0) e

@@ -80,7 +80,7 @@ chosen_bit which there elsewhere x =
     selected (bit_at which x) (bit_at there x) (bit_at elsewhere x) _ _ _ (bit_at-lt which x) (bit_at-lt there x) (bit_at-lt elsewhere x)
     (bit_at_xor there elsewhere x) (bit_at_and which (bit_xor there elsewhere) x) (bit_at_xor elsewhere (bit_and which (bit_xor there elsewhere)) x)
 
--- where the bit of a number tells which of two others it is, what is chosen by the bit is told by the number
+-- where a bit tells which of two numbers n is, what is chosen by the bit is what `told` gives for n
 pub told_by_bit : (told : ℕ → ℕ) (which low high n there elsewhere bit : ℕ) → which < 2 → bit ≡ (if which == 0 then elsewhere else there)
     → elsewhere ≡ told low → there ≡ told high → (which ≡ 0 → low ≡ n) → (which ≡ 1 → high ≡ n) → bit ≡ told n
 told_by_bit told zero low high n there elsewhere bit h is e t none one = is ∙ e ∙ ap told (none refl)

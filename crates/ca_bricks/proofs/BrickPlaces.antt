@@ -9,7 +9,7 @@ use Rattle.ca_plane.proofs.Numbers.{below_or_not}
 use Rattle.ca_bricks.specs.Prelude.{column_at, BricksShow, brick_x, brick_y}
 use Rattle.ca_bricks.proofs.BrickRounds.{column_at-middle, column_at-south}
 
--- what is so many times d and rest_bit than d more
+-- what is q times d and less than d more
 pub quotient : (d q r n : ℕ) → r < d → n ≡ q * d + r → n / d ≡ q
 quotient d q r n low e =
     let some : 0 < d = omega arith in
@@ -50,7 +50,7 @@ north_of d t some h =
     let south = south_of d (t - d) some in
     (sym south.0 ∙ ap (λ n. n / d) e, sym south.1 ∙ ap (λ n. n % d) e)
 
--- a column of a brick that has others in the north and in the south shows the plane, from one row further north on
+-- a column of a brick that has others in the north and in the south shows the plane, from one row further north onwards
 pub column_shows : (across : ℕ) (bricks : List (List ℕ)) (p : ℤ → ℤ → ℕ) (a b : ℤ) (t : ℕ) → 0 < across → across ≤ t → t + across < length bricks → BricksShow across bricks p a b
     → (x y : ℕ) → x < 64 → y < 18 → bit_at (column_at across bricks t y) x ≡ p (brick_x across a t +ℤ pos x) ((brick_y across b t -ℤ pos 1) +ℤ pos y)
 column_shows across bricks p a b t some north south shows x zero h k =

@@ -26,7 +26,7 @@ made_row words bytes row y e made i x low_i low_x =
 pub record HasRowOf (rows : List ℕ) (k : ℕ) (words : List ℕ) (y : ℕ) : Type 0 where
   pub cells : (i x : ℕ) → i < 8 → x < 8 → row_cells rows (8 * i + x) k ≡ word_cells (slice_index words i) x y
 
--- so many of its rows in the north, and as many in the south, have the cells of two rows of words
+-- `count` of its rows in the north, and as many in the south, have the cells of two rows of words
 pub record HasRowsOf (rows north south : List ℕ) (count : ℕ) : Type 0 where
   pub long : length rows ≡ 16
   pub in_north : (y : ℕ) → y < count → HasRowOf rows y north y

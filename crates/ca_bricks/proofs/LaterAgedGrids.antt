@@ -16,7 +16,7 @@ use Rattle.ca_bricks.proofs.BrickBlanks.{own_cells, blank_next, all_blank_round}
 use Rattle.ca_bricks.proofs.BrickRounds.{next_cell_at-same}
 use Rattle.ca_bricks.proofs.BrickMargins.{margin_less, grid_as, grid_less}
 
--- the same grid, with so many bricks stepped
+-- the same grid, with `work` bricks stepped
 abbrev pub with_work : AgedGrid → ℕ → AgedGrid
 with_work grid work = record {
   live = record { x = grid.live.x; y = grid.live.y; across = grid.live.across; down = grid.live.down; bricks = grid.live.bricks; work = work };
@@ -51,7 +51,7 @@ aged_less grid m k p h shows = record {
   dying = λ j d low. grid_less (get_or grid.dying.items j d) m k (λ x y. dying_digit grid.states j (p x y)) h (shows.dying j d low);
 }
 
--- the grid a generation on, of a run that has reached so many
+-- the grid a generation later, of a run that has reached `reached + k` generations
 pub aged_later : (next : List ℕ → ℕ) (ageing : Ageing) (grid later : AgedGrid) → GoesByAgeing grid.states next ageing → next (replicate 9 0) ≡ 0 → (n k reached : ℕ) (first : ℤ → ℤ → ℕ) → k < n
     → AgedGridShows grid (n - k) (cells_after next first (reached + k)) → AreAlike grid later
     → ((t : ℕ) → HasNeighbours grid.live.across (length grid.live.bricks.items) t → IsNextAged ageing grid later t) → HasBlankEdges later

@@ -1,4 +1,4 @@
--- Grids a generation on.
+-- Grids a generation later.
 use Rattle.std.proofs.Common.{◌≡◌, ℕ, suc, ◌+◌, ◌-◌, ◌<◌, inl, inr, List, [], length, sym, ap, subst, ◌∙◌, arith}
 use Rattle.std.specs.Prelude.{ℤ, replicate}
 use Rattle.std.proofs.lemmas.List.{get_or_past}
@@ -21,7 +21,7 @@ edge_blank grid m p shows t not x y h k = elim (below_or_not t (length grid.bric
   | inr past ↦ ap (λ rows. row_cells rows x y) (get_or_past grid.bricks.items t [] past) ∙ none_blank x y h k
 ]
 
--- the grid a generation on, of a run that has reached so many
+-- the grid a generation later, of a run that has reached `reached + k` generations
 pub grid_later : (next : List ℕ → ℕ) (rule : CellRule) → GoesByCells next rule → next (replicate 9 0) ≡ 0 → (grid later : BrickGrid) (n k reached : ℕ) (first : ℤ → ℤ → ℕ) → k < n
     → GridShows grid (n - k) (cells_after next first (reached + k)) → IsInPlace grid later → length later.bricks.items ≡ length grid.bricks.items
     → ((t : ℕ) → HasNeighbours grid.across (length grid.bricks.items) t → IsNextBrick rule grid.across grid.bricks.items later.bricks.items t) → HasBlankEdge grid.across later.bricks.items

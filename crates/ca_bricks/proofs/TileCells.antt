@@ -59,7 +59,7 @@ inner_edge x (suc y) out = elim (below_or_not y 14) [
   | inr b ↦ ap (λ r. bit_at r x) (later_row y b) ∙ bit_at-zero x
 ]
 
--- what is told of the nine cells round each place is told within the edge
+-- what `told` gives for the nine cells round each place is there within the edge
 pub told_within : (told : List ℕ → ℕ) (rows next : List ℕ)
     → ((x y : ℕ) → x < 14 → y < 14 → row_cells next (suc x) (suc y) ≡ told (nine_at (row_cells rows) x y))
     → (x y : ℤ) → IsWithinEdge x y → tile_cell next x y ≡ told (around (tile_cell rows) x y)

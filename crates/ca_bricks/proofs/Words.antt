@@ -91,7 +91,7 @@ side_words k =
     let up2 = two-pow-succ (suc (suc k)) in
     omega (arith, up, up1, up2)
 
--- a power of two from 2 ^ 6 on in words
+-- a power of two from 2 ^ 6 onwards in words
 pub power_words : (k : ℕ) → 6 ≤ k → 2 ^ k ≡ 8 * 2 ^ (k - 3)
 power_words k least =
     let up : k ≡ suc (suc (suc (k - 3))) = omega (arith, least) in

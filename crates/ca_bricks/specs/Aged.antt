@@ -43,7 +43,7 @@ pub record AreAlike (grid other : AgedGrid) : Type 0 where
   pub digits : length other.dying.items ≡ length grid.dying.items
   pub states : other.states ≡ grid.states
 
--- the planes show the bits of a plane of so many states, all of whose numbers the digits can tell
+-- the planes show the bits of a plane of `grid.states` states, all of whose numbers the digits can tell
 pub record AgedGridShows (grid : AgedGrid) (m : ℕ) (p : ℤ → ℤ → ℕ) : Type 0 where
   pub least : 2 ≤ grid.states
   pub most : grid.states ≤ 256
@@ -69,7 +69,8 @@ lives_at ageing grid t x y = counted_cell_at ageing.counting (round_at grid.live
 abbrev pub begins_at : Ageing → AgedGrid → (t x y : ℕ) → ℕ
 begins_at ageing grid t x y = row_cells (get_or grid.live.bricks.items t []) x y - lives_at ageing grid t x y
 
--- a digit of its number one generation on: that of a number one less, or of the states without two where it begins to die
+-- a digit of its number one generation later: that of a number one less, or of the states without two where it begins
+-- to die
 abbrev pub aged_digit : (states k number begins : ℕ) → ℕ
 aged_digit states k number begins = max (bit_at (number - 1) k) (min begins (bit_at (states - 2) k))
 

@@ -11,22 +11,23 @@ use Rattle.ca_bricks.specs.declared.cell_rule.CellRule.TheVariants.{ByCounting, 
 
 -- ---- bricks on the plane
 
--- sixteen rows of words show the plane from (a, b) on
+-- sixteen rows of words show the plane from (a, b) onwards
 pub record BrickShows (rows : List ℕ) (p : ℤ → ℤ → ℕ) (a b : ℤ) : Type 0 where
   pub looks : (x y : ℕ) → x < 64 → y < 16 → row_cells rows x y ≡ p (a +ℤ pos x) (b +ℤ pos y)
 
--- where the brick of this number begins, of those of which so many lie side by side and the first begins at (a, b)
+-- where brick t begins, of those of which `across` lie side by side and the first begins at (a, b)
 abbrev pub brick_x : ℕ → ℤ → ℕ → ℤ
 brick_x across a t = a +ℤ pos (64 * (t % across))
 
 abbrev pub brick_y : ℕ → ℤ → ℕ → ℤ
 brick_y across b t = b +ℤ pos (16 * (t / across))
 
--- the bricks show the plane, the first from (a, b) on
+-- the bricks show the plane, the first from (a, b) onwards
 abbrev pub BricksShow : ℕ → List (List ℕ) → (ℤ → ℤ → ℕ) → ℤ → ℤ → Type 0
 BricksShow across bricks p a b = (t : ℕ) → t < length bricks → BrickShows (get_or bricks t []) p (brick_x across a t) (brick_y across b t)
 
--- the coordinate lies in the first of so many bricks from a on, in the last or within m cells of them, or beyond; a brick is so many cells long
+-- the coordinate x lies in the first of `count` bricks from a onwards, in the last or within m cells of them, or
+-- beyond; a brick is `long` cells long
 abbrev pub IsNearEnd : (long m count : ℕ) → (a x : ℤ) → Type 0
 IsNearEnd long m count a x = (x <ℤ (a +ℤ pos (long + m))) ⊎ ((a +ℤ pos (long * count)) ≤ℤ (x +ℤ pos (long + m)))
 
@@ -34,7 +35,7 @@ IsNearEnd long m count a x = (x <ℤ (a +ℤ pos (long + m))) ⊎ ((a +ℤ pos (
 abbrev pub HasMargin : (m across down : ℕ) → (ℤ → ℤ → ℕ) → ℤ → ℤ → Type 0
 HasMargin m across down p a b = (x y : ℤ) → IsNearEnd 64 m across a x ⊎ IsNearEnd 16 m down b y → p x y ≡ 0
 
--- the grid has so many rows of so many bricks, two of each at least
+-- the grid has `down` rows of `across` bricks, two of each at least
 pub record IsGrid (grid : BrickGrid) : Type 0 where
   pub wide : 2 ≤ grid.across
   pub high : 2 ≤ grid.down
@@ -53,7 +54,7 @@ pub record IsInPlace (before later : BrickGrid) : Type 0 where
   pub across : later.across ≡ before.across
   pub down : later.down ≡ before.down
 
--- the place, and so many words to the east and to the south of it, lie near the first word of the grid
+-- the place, and `words` words to the east and to the south of it, lie near the first word of the grid
 pub record IsNearGrid (words : ℕ) (at : WordPlace) : Type 0 where
   pub west : neg_ℤ (pos (2 ^ 61)) ≤ℤ at.i
   pub north : neg_ℤ (pos (2 ^ 61)) ≤ℤ at.j
@@ -171,7 +172,7 @@ HasBlankEdge across bricks = (t : ℕ) → (HasNeighbours across (length bricks)
 abbrev pub IsNotIn : List ℕ → ℕ → Type 0
 IsNotIn list t = (k : ℕ) → k < length list → slice_index list k ≡ t → ⊥
 
--- it isn't in the list from place n on
+-- it isn't in the list from place n onwards
 abbrev pub IsNotAhead : List ℕ → ℕ → ℕ → Type 0
 IsNotAhead list n t = (k : ℕ) → n ≤ k → k < length list → slice_index list k ≡ t → ⊥
 

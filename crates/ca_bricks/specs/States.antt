@@ -2,7 +2,8 @@
 use Rattle.std.specs.Prelude.{ℕ, ◌+◌, ◌-◌, ◌*◌, ◌==◌, if◌then◌else◌, ℤ, List, slice_index}
 use Rattle.ca_plane.specs.Prelude.{ShowsPlane}
 
--- the states, eight in each row, show the plane from (a, b) on, from a place among them on and as far as the side reaches
+-- the states, eight in each row, show the plane from (a, b) onwards: those from `place` onwards, as far as the side
+-- reaches
 pub record StatesShow (side : ℕ) (states : List ℕ) (place : ℕ) (p : ℤ → ℤ → ℕ) (a b : ℤ) : Type 0 where
   pub looks : ShowsPlane side (λ x y. slice_index states (place + (8 * y + x))) p a b
 

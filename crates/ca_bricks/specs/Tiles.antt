@@ -10,7 +10,7 @@ use Rattle.ca_bricks.specs.declared.{count.Count.Count, kernel.bits.Bits.Bits}
 abbrev pub lives_next : Bool → Bool → ℕ → ℕ
 lives_next born stays centre = if (if centre == 0 then born else stays) then 1 else 0
 
--- the next state of a cell with so many live cells among its neighbours, under the rule of two masks
+-- the next state of a cell with `count` live cells among its neighbours, under the rule of two masks
 abbrev pub next_by_count : ℕ → ℕ → ℕ → ℕ → ℕ
 next_by_count birth survive centre count = bit_at (if centre == 0 then birth else survive) count
 

@@ -1,5 +1,5 @@
--- Squares of words, and tiles, that show a plane from some place on (our own). A tile holds 16 by 16 cells of two states: sixteen rows
--- from the top, of which bit 0 is the western-most cell.
+-- Squares of words, and tiles, that show a plane from some place onwards (our own). A tile holds 16 by 16 cells of two
+-- states: sixteen rows from the top, of which bit 0 is the western-most cell.
 use Rattle.std.specs.Prelude.{◌≡◌, ℕ, ◌+◌, ◌-◌, ◌/◌, ◌%◌, ◌<◌, ◌≤◌, ℤ, pos, ◌+ℤ◌, List, nat_lt, if◌then◌else◌, slice_index}
 use Rattle.ca_plane.specs.Prelude.{row_cells}
 use Rattle.ca_bricks.specs.{Words.WordShows, Words.byte_of, Overlaps.QuartersShow}
@@ -13,7 +13,7 @@ WordSquareShows words p a b = QuartersShow WordShows (pos 8) words.nw words.ne w
 abbrev pub WideSquareShows : WideSquare → (ℤ → ℤ → ℕ) → ℤ → ℤ → Type 0
 WideSquareShows wide p a b = QuartersShow WordSquareShows (pos 16) wide.nw wide.ne wide.sw wide.se p a b
 
--- the tile shows the plane from (a, b) on, but for so many rows and columns at each of its sides
+-- the tile shows the plane from (a, b) onwards, but for `margin` rows and columns at each of its sides
 pub record TileShows (rows : List ℕ) (margin : ℕ) (p : ℤ → ℤ → ℕ) (a b : ℤ) : Type 0 where
   pub looks : (x y : ℕ) → margin ≤ x → x + margin < 16 → margin ≤ y → y + margin < 16 → row_cells rows x y ≡ p (a +ℤ pos x) (b +ℤ pos y)
 

@@ -1,8 +1,8 @@
--- Words that show a plane from some place on (our own). A word holds 8 by 8 cells of two states.
+-- Words that show a plane from some place onwards (our own). A word holds 8 by 8 cells of two states.
 use Rattle.std.specs.Prelude.{ℕ, ◌*◌, ◌/◌, ◌%◌, ◌^◌, ℤ, ◌+ℤ◌}
 use Rattle.ca_plane.specs.Prelude.{ShowsPlane, word_cells}
 
--- the word shows the plane from (a, b) on
+-- the word shows the plane from (a, b) onwards
 pub record WordShows (word : ℕ) (p : ℤ → ℤ → ℕ) (a b : ℤ) : Type 0 where
   pub looks : ShowsPlane 8 (word_cells word) p a b
 

@@ -12,7 +12,7 @@ use ca_plane::Memory;
 use std::alloc::Global;
 
 /// Planes of bits of the same cells, each a grid of its own: a cell is live, or the number of generations
-/// after which it is dead is told in binary, or it has no bit in any of them and is dead.
+/// after which it is dead is given in binary, or it has no bit in any of them and is dead.
 #[derive(Drop)]
 pub struct AgedGrid {
     /// The live cells: those of state 1.

@@ -55,7 +55,8 @@ fn with_digit(numbers: &[u8; 64], word: u64) -> [u8; 64]
     longer
 }
 
-// The states of 64 cells: 1 for one that is live, and for a dying one that which is so many generations before death.
+// The states of 64 cells: 1 for one that is live, and for a dying one the state that lies its number of generations
+// before death.
 fn states_of(numbers: &[u8; 64], live: u64, greatest: u8) -> [u8; 64]
     ensures { (i : ℕ) → i < 64
         → slice_index result i ≡ told_state greatest (bit_at live i) (slice_index numbers.now i) }

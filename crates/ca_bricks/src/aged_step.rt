@@ -72,7 +72,7 @@ fn step_counted<C: CountInRow>(
     step_by::<ByAll, C>(now, old, awake, queue, ageing)
 }
 
-// The same, where the counting suits how next cells are told. A cell that is dying is not live next, whatever the
+// The same, where the counting suits how next cells are computed. A cell that is dying is not live next, whatever the
 // counting says of it; one that was live and isn't by the counting begins to die.
 fn step_by<N: NextCells, C: CountInRow>(
     now: &AgedGrid,
@@ -113,7 +113,7 @@ fn put_live(grid: &mut AgedGrid, s: usize, rows: [u64; 16])
     let _changed = put_brick(&mut grid.live, s, rows);
 }
 
-// Writes the numbers of a brick's dying cells one generation on. Gives where a digit is another than it was.
+// Writes the numbers of a brick's dying cells one generation later. Gives where a digit is another than it was.
 fn put_numbers(
     now: &AgedGrid,
     old: &mut AgedGrid,
@@ -156,8 +156,8 @@ fn dying_cells(digits: &[BrickGrid], count: usize, s: usize) -> [u64; 16]
     dying
 }
 
-// The numbers of a brick's dying cells one generation on: each that isn't 0 is one less, and that of a cell that has begun
-// to die is the number of states without two. Gives where a digit is another than it was two generations before.
+// The numbers of a brick's dying cells one generation later: each that isn't 0 is one less, and that of a cell that has
+// begun to die is the number of states without two. Gives where a digit is another than it was two generations before.
 fn count_down(
     now: &[BrickGrid],
     old: &mut [BrickGrid],
@@ -217,7 +217,7 @@ fn put_brick(grid: &mut BrickGrid, s: usize, rows: [u64; 16]) -> u64
     changed
 }
 
-// A digit of the numbers one less, where one is borrowed, or the one that is told where a cell has begun to die.
+// A digit of the numbers one less, where one is borrowed, or `first` where a cell has begun to die.
 #[inline(always)]
 fn next_digit(digit: &[u64; 16], borrowed: &[u64; 16], begun: &[u64; 16], first: bool) -> [u64; 16]
     ensures { (x y : ℕ) → x < 64 → y < 16 → row_cells result x y

@@ -1,4 +1,4 @@
-//! Bricks one generation on by a decision diagram, many cells at once.
+//! Bricks one generation later by a decision diagram, many cells at once.
 
 ghost use Rattle.std.specs.Prelude.{◌≡◌, ◌<◌, ◌+◌, ℕ, [], get_or, ◌==◌, if◌then◌else◌, IfOk};
 ghost use Rattle.std.specs.Int.{bit_at};
@@ -25,7 +25,7 @@ enum Column {
 }
 
 impl Diagram {
-    // The rows of a brick one generation on. What the nodes stand for is kept in `states` meanwhile.
+    // The rows of a brick one generation later. What the nodes stand for is kept in `states` meanwhile.
     pub(crate) fn next_rows(
         &self,
         round: &Round,
@@ -103,7 +103,7 @@ impl Round {
         ]
     }
 
-    // The rows from a row on, of the cells beside each.
+    // The rows from row `top` onwards, of the cells beside each.
     #[inline(always)]
     fn rows_from(&self, column: Column, top: usize) -> [u64; 16]
         requires { top < 3 }

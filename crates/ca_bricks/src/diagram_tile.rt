@@ -1,4 +1,4 @@
-//! Tiles one generation on by a decision diagram, all cells at once.
+//! Tiles one generation later by a decision diagram, all cells at once.
 
 ghost use Rattle.std.specs.Prelude.{◌≡◌, ◌<◌, ℕ, suc, [], get_or, IfOk};
 ghost use Rattle.ca_plane.specs.Prelude.{row_cells};

@@ -6,7 +6,7 @@ ghost use Rattle.ca_bricks.specs.Words.{WordShows, eight};
 
 use crate::cut::brick_word;
 
-/// Rows of bricks from the north, of each row so many from the west. Beyond them all is dead.
+/// Rows of bricks from the north, each of `across` bricks from the west. Beyond them all is dead.
 #[derive(Drop)]
 pub struct BrickGrid {
     /// Where the first brick begins.

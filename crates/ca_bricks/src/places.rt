@@ -6,12 +6,12 @@ ghost use Rattle.ca_bricks.specs.Words.{eight};
 
 use crate::grid::{BrickGrid, WordPlace};
 
-// The least of which 2 to its power is a tree's reach, and the greatest.
+// The smallest number such that 2 to its power is a tree's reach, and the greatest.
 const LEAST: u8 = 6;
 
 const GREATEST: u8 = 62;
 
-// The whole numbers that aren't below 0 among so many from one on: from the first to before the second.
+// Those of the `count` whole numbers from `from` onwards that aren't below 0: from the first to before the second.
 fn naturals(from: i64, count: u64) -> (usize, usize)
     requires least { neg_ℤ (pos (2 ^ 61)) ≤ℤ from }
     requires most { (from +ℤ pos count) ≤ℤ pos (2 ^ 61) }
@@ -33,8 +33,8 @@ pub struct QuarterPlaces {
 }
 
 impl WordPlace {
-    /// Which words and rows there are so many to the east and to the south from here on: from the first to
-    /// before the second.
+    /// Which words there are among the `count` from here to the east, and which rows among the `count` to the
+    /// south: from the first to before the second.
     pub fn naturals(self, count: u64) -> ((usize, usize), (usize, usize))
         requires { IsNearGrid count self }
         ensures words { (u : ℕ) → self.i ≤ℤ pos u → pos u <ℤ (self.i +ℤ pos count) → (result.0.0 ≤ u)
@@ -45,7 +45,7 @@ impl WordPlace {
         (naturals(self.i, count), naturals(self.j, count))
     }
 
-    /// The places of the quarters of a square that begins here, each so many words wide.
+    /// The places of the quarters of a square that begins here, each `half` words wide.
     pub fn quarters(self, half: u64) -> QuarterPlaces
         requires { IsNearGrid (half + half) self }
         ensures ne { (result.ne.i ≡ self.i +ℤ pos half) × (result.ne.j ≡ self.j) }
@@ -64,7 +64,7 @@ impl WordPlace {
 }
 
 impl BrickGrid {
-    /// The smallest number from 6 on so that all its bricks lie within 2 to its power from the origin.
+    /// The smallest number from 6 onwards such that all its bricks lie within 2 to its power from the origin.
     pub fn reach(&self) -> u8
         requires grid { IsGrid self.now }
         requires place { LiesNearOrigin self.now }
@@ -117,7 +117,7 @@ fn reach_of(power: u8) -> i64
     (1u64 << power) as i64
 }
 
-// Whether so many cells from a coordinate on lie within a power of two from 0.
+// Whether the `count` cells from the coordinate `from` onwards lie within a power of two from 0.
 fn lies_within(from: i64, count: u64, power: u8) -> bool
     requires power { power ≤ 62 }
     requires some { 1 ≤ count }

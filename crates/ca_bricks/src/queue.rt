@@ -27,7 +27,7 @@ impl Model for Queue {
 }
 
 impl Queue {
-    /// No brick, with marks for so many.
+    /// No brick, with marks for `count` bricks.
     pub fn new(alloc: Global, count: usize) -> Result<Queue, Memory>
         ensures { IfOk result (λ queue. queue ≡ []) }
     {

@@ -18,7 +18,7 @@ pub(crate) struct Round {
 }
 
 impl Round {
-    // The rows of the brick one generation on.
+    // The rows of the brick one generation later.
     #[inline(always)]
     pub(crate) fn next<N: NextCells, C: CountInRow>(&self, cells: &N) -> [u64; 16]
         ensures { (counting : Counting) (x y : ℕ) → N.goes_by cells.now counting

@@ -130,7 +130,7 @@ fn step_counted<C: CountInRow>(
     step_by::<ByAll, C>(across, now, old, awake, queue, counting)
 }
 
-// The same, where the counting suits how next cells are told.
+// The same, where the counting suits how next cells are computed.
 fn step_by<N: NextCells, C: CountInRow>(
     across: usize,
     now: &[[u64; 16]],

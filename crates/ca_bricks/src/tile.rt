@@ -36,7 +36,7 @@ fn bytes_of(north: u64, south: u64) -> u16x16
     u64x2::from_array([north, south]).to_le_bytes().cast()
 }
 
-/// The tile so many generations on, as far from its edge as they reach. What `scratch` holds is lost.
+/// The tile n generations later, but for n rows and columns at each of its sides. What `scratch` holds is lost.
 #[inline(always)]
 pub(crate) fn later_tile(
     tile: Bits,

@@ -49,7 +49,7 @@ pub(crate) fn wake_seen(
     Ok(())
 }
 
-/// So many bricks without a live cell.
+/// A list of `count` bricks without a live cell.
 pub fn blank_bricks(alloc: Global, count: usize) -> Result<Vec<[u64; 16]>, Memory>
     ensures length { IfOk result (λ bricks. length bricks.items ≡ count) }
     ensures blank { IfOk result (λ bricks. (t : ℕ) → IsBlank (get_or bricks.items t [])) }

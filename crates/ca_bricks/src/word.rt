@@ -188,7 +188,7 @@ impl WordMasks {
         }
     }
 
-    // The next states of cells that have so many live cells round them.
+    // The next states of cells that have n live cells round them.
     #[inline(always)]
     fn next(&self, alive: u64, n: usize) -> u64
         requires { n ≤ 8 }
@@ -198,7 +198,7 @@ impl WordMasks {
         select_bits(alive, self.stays[n], self.born[n])
     }
 
-    // The next states of cells that have so many live cells round them, or one more where `ones` tells it.
+    // The next states of cells that have n live cells round them, or one more where `ones` tells it.
     #[inline(always)]
     fn next_of_two(&self, alive: u64, ones: u64, n: usize) -> u64
         requires { n ≤ 7 }
@@ -208,8 +208,8 @@ impl WordMasks {
         select_bits(ones, self.next(alive, n + 1), self.next(alive, n))
     }
 
-    // The next states of cells that have so many live cells round them, and as many more as the two lowest
-    // digits of the counts tell.
+    // The next states of cells that have n live cells round them, and as many more as the two lowest digits of
+    // the counts tell.
     #[inline(always)]
     fn next_of_four(&self, alive: u64, count: Count<u64>, n: usize) -> u64
         requires { n ≤ 5 }
@@ -236,7 +236,7 @@ fn mask_words(mask: u16) -> [u64; 9]
     words
 }
 
-// How the next states of 64 cells are told.
+// How the next states of 64 cells are computed.
 pub(crate) trait NextCells: Copy {
     // The countings that it can go by.
     ghost suits: { Counting → Type 0 };

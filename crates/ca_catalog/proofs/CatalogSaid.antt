@@ -77,7 +77,7 @@ identity_said next cells limit earlier name (Claim kind) (own, is) word loaded s
 identity_said next cells limit earlier name (Unknown growth) is word loaded second =
     says_comment earlier _ (line_more (escaped name) _ (escaped_inner name) (line_more (codes ": ") _ refl (line_more (none_text limit limit growth) _ (none_inner limit limit growth) line_end)))
 
--- the words on what a plane is some generations on are on one line
+-- the words on what a plane is after some generations are on one line
 later_inner : (next : List ℕ → ℕ) (cells : Picture) (n limit : ℕ) (name : List ℕ) (identity : Identity) → IsIdentity next cells limit identity → IsWord name
     → Every is_inner (later_text n limit name identity)
 later_inner next cells n limit name Empty is word = refl

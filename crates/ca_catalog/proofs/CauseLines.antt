@@ -1,4 +1,4 @@
--- What is told of a refusal is on one line.
+-- What is reported of a refusal is on one line.
 use Rattle.std.proofs.Common.{ℕ, Option, None, Some, refl}
 use Rattle.ca_plane.specs.Prelude.{Every}
 use Rattle.ca_rule.specs.declared.{fault.RuleFault.RuleFault, table.fault.TableFault.TableFault}

@@ -25,7 +25,7 @@ use Rattle.ca_catalog.specs.{WrittenOn.WritesOnFirst, WrittenOn.WritesPartOn}
 abbrev pub load_line : List ℕ → List ℕ → List ℕ
 load_line name path = codes "load " ++ (name ++ (32 ∷ (path ++ 10 ∷ [])))
 
--- the word for so many cells
+-- the word for this number of cells
 abbrev pub cells_word : ℕ → List ℕ
 cells_word n = if nat_eq n 1 then codes " cell" else codes " cells"
 
@@ -46,21 +46,21 @@ identity_line limit name Empty = codes "# " ++ (escaped name ++ (codes ": no cel
 identity_line limit name (Claim kind) = keyword_of kind ++ (32 ∷ (name ++ (spaced (words_after_name name kind) ++ 10 ∷ [])))
 identity_line limit name (Unknown growth) = codes "# " ++ (escaped name ++ (codes ": " ++ (none_text limit limit growth ++ 10 ∷ [])))
 
--- what the plane of a pattern with this name is found to be n generations on, in the words of the claims: a comment, since no claim about the file says it;
--- no claim that is found names the pattern a second time
+-- what the plane of a pattern with this name is found to be after n generations, in the words of the claims: a comment,
+-- since no claim about the file says it; no claim that is found names the pattern a second time
 abbrev pub later_text : (n limit : ℕ) → List ℕ → Identity → List ℕ
 later_text n limit name Empty = codes "no cell is live"
 later_text n limit name (Claim kind) = keyword_of kind ++ spaced (words_after_name name kind)
 later_text n limit name (Unknown growth) = none_text limit (n + limit) growth
 
--- how a comment on the plane n generations on from a pattern begins
+-- how a comment on the plane of a pattern after n generations begins
 abbrev pub later_head : (n : ℕ) → List ℕ → List ℕ
 later_head n name = codes "# " ++ (escaped name ++ ((codes " after " ++ decimal n) ++ (generations_word n ++ codes ": ")))
 
 abbrev pub later_line : (n limit : ℕ) → List ℕ → Identity → List ℕ
 later_line n limit name identity = later_head n name ++ (later_text n limit name identity ++ 10 ∷ [])
 
--- the line of what is found: of the pattern, or of its plane n generations on
+-- the line of what is found: of the pattern, or of its plane after n generations
 abbrev pub found_line : (n limit : ℕ) → List ℕ → Identity → List ℕ
 found_line n limit name identity = if nat_eq n 0 then identity_line limit name identity else later_line n limit name identity
 
@@ -68,7 +68,7 @@ found_line n limit name identity = if nat_eq n 0 then identity_line limit name i
 abbrev pub code_comment : List ℕ → List ℕ → List ℕ
 code_comment name code = codes "# " ++ (escaped name ++ (codes ": " ++ (code ++ 10 ∷ [])))
 
--- the same of its plane n generations on, as `# glider after 4 generations: xq4_153`
+-- the same of its plane after n generations, as `# glider after 4 generations: xq4_153`
 abbrev pub code_line : (n : ℕ) → List ℕ → List ℕ → List ℕ
 code_line n name code = if nat_eq n 0 then code_comment name code else later_head n name ++ (code ++ 10 ∷ [])
 
@@ -179,7 +179,7 @@ entry_explanation files entry = outcome_explanation entry.path.now entry.outcome
 abbrev pub catalog_explanation : List File → List Entry → List ℕ
 catalog_explanation files entries = flat_map (entry_explanation files) entries
 
--- the code of a file's plane n generations on, which is this object, where codes are asked for; else none is told
+-- the code of a file's plane after n generations, which is this object, where codes are asked for; else there is none
 abbrev pub IsAskedCode : (codes : Bool) → List ℕ → List TableRule → (n : ℕ) → Identity → Option (List ℕ) → Type 0
 IsAskedCode true bytes tables n identity code = IsCodeOfFile bytes tables n identity code
 IsAskedCode false bytes tables n identity code = code ≡ None
@@ -233,8 +233,9 @@ pub record IsCatalog (rules : KnownRules) (task : Task) (subjects : List Subject
 abbrev pub WritesCatalog : {W : Type 0} → (W → Option (List ℕ)) → Counted W → Counted W → KnownRules → Task → List Subject → List Entry → Type 0
 WritesCatalog contents old new rules task subjects entries = WritesOn contents old new (IsCatalog rules task) subjects entries
 
--- why it isn't, and what is written: a write failed, after a first part of the text on the first so many files; or memory is out for the lines on a file, and
--- the text on those before it is written, or it is out for the lines of the rule files, and nothing is
+-- why it isn't, and what is written: a write failed, after a first part of the text on some first files; or memory is
+-- out for the lines on a file, and the text on those before it is written, or it is out for the lines of the rule
+-- files, and nothing is
 abbrev pub EndsCatalog : {W : Type 0} → (W → Option (List ℕ)) → Counted W → Counted W → KnownRules → Task → List Subject → ToolFault → Type 0
 EndsCatalog contents old new rules task subjects tools.Write = WritesPartOn contents old new (IsCatalog rules task) subjects
 EndsCatalog contents old new rules task subjects tools.Memory =

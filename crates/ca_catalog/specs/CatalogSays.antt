@@ -20,7 +20,7 @@ identity_says name Empty = []
 identity_says name (Claim kind) = claim_line name kind ∷ []
 identity_says name (Unknown growth) = []
 
--- the same where it is found of the pattern itself; of its plane some generations on no line is a claim
+-- the same where it is found of the pattern itself; of its plane after some generations no line is a claim
 abbrev pub found_says : ℕ → List ℕ → Identity → List ClaimTextLine
 found_says n name identity = if nat_eq n 0 then identity_says name identity else []
 
@@ -46,8 +46,8 @@ pub record SaysOf (text : List ℕ) (lines : List ClaimTextLine) : Type 0 where
 abbrev pub AreRuleWords : List (Vec ℕ Global) → Type 0
 AreRuleWords paths = AllByRecursion (λ (path : Vec ℕ Global). is_word path.items ≡ true) paths
 
--- the text that `identify` prints says just the claims that are true of the patterns, and so does what is printed of it after each file, which is the text on
--- the first so many of the files; after some generations it makes no claim
+-- the text that `identify` prints says just the claims that are true of the patterns, and so does what is printed of it
+-- after each file, which is the text on the files up to that one; after some generations it makes no claim
 abbrev pub SaysItsClaims : Type 0
 SaysItsClaims = (subjects : List Subject) (rules : KnownRules) (task : Task) (text : List ℕ) (entries : List Entry) → AreRuleWords rules.paths.now
     → IsCatalog rules task subjects text entries → SaysOf text (catalog_says task.generations rules.paths.now entries)

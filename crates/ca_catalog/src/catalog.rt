@@ -165,9 +165,9 @@ pub fn head_pieces<'a>(rule_lines: &'a [u8]) -> [Piece<'a>; 2]
 }
 
 /// A law: the text that `identify_run` writes is a claim text, and so is what it has written of it after each file,
-/// which is the text on the first so many of them. Read as one, as `ca_text::read_claims` reads it, it says just
-/// the names of the files that are identified and the claims that are true of them, and the rule files, whose paths
-/// have to be words; and no line of it is faulty. Of planes some generations on it makes no claim.
+/// which is the text on the files up to that one. Read as one, as `ca_text::read_claims` reads it, it says just the
+/// names of the files that are identified and the claims that are true of them, and the rule files, whose paths
+/// have to be words; and no line of it is faulty. Of planes after some generations it makes no claim.
 pub fn says_its_claims()
     ensures { SaysItsClaims }
 {}

@@ -30,7 +30,7 @@ pub enum Outcome<'a> {
     Refused(DetailedFault<Cause>),
     /// The rule file of its rule isn't good.
     FaultyRule(FaultyRule<'a>),
-    /// Its pattern is this, within so many generations, with its code, where that is asked for.
+    /// Its pattern is this, within the limit of the look, with its code, where that is asked for.
     Identified(CodedLook),
 }
 

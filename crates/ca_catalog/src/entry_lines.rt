@@ -67,7 +67,7 @@ fn push_identity(
     }
 }
 
-// Puts what the plane of a pattern with this name is found to be some generations on.
+// Puts what the plane of a pattern with this name is found to be after `generations` generations.
 fn push_later_text(
     out: &mut Vec<u8>,
     generations: u64,
@@ -89,7 +89,7 @@ fn push_later_text(
     }
 }
 
-// Puts how a comment on the plane of a pattern some generations on begins.
+// Puts how a comment on the plane of a pattern after `generations` generations begins.
 fn push_later_head(out: &mut Vec<u8>, generations: u64, name: &[u8]) -> Result<(), Memory>
     ensures { OnOk result (Puts out.old.items out.new.items (later_head generations name.now)) }
 {
@@ -100,7 +100,7 @@ fn push_later_head(out: &mut Vec<u8>, generations: u64, name: &[u8]) -> Result<(
     push_text(out, b": ")
 }
 
-// Puts the comment on what the plane of a pattern is found to be some generations on.
+// Puts the comment on what the plane of a pattern is found to be after `generations` generations.
 fn push_later(
     out: &mut Vec<u8>,
     generations: u64,
@@ -117,7 +117,7 @@ fn push_later(
     push_text(out, b"\n")
 }
 
-// Puts the line of what is found: of a pattern, or of its plane some generations on.
+// Puts the line of what is found: of a pattern, or of its plane after some generations.
 fn push_found(
     out: &mut Vec<u8>,
     generations: u64,
@@ -142,7 +142,7 @@ fn code_pieces<'a>(name: &'a [u8], code: &'a [u8]) -> [Piece<'a>; 5]
     in_pieces![text b"# ", escaped name, text b": ", text code, text b"\n"]
 }
 
-// Puts the comment with a code: of a pattern, or of its plane some generations on.
+// Puts the comment with a code: of a pattern, or of its plane after some generations.
 fn push_code(out: &mut Vec<u8>, generations: u64, name: &[u8], code: &[u8]) -> Result<(), Memory>
     ensures { OnOk result (Puts out.old.items out.new.items (code_line generations name.now code.now)) }
 {
@@ -180,7 +180,7 @@ fn unnameable_pieces<'a>(name: &'a [u8], path: &'a [u8]) -> [Piece<'a>; 5]
     ]
 }
 
-// Puts the lines on a file that is identified: of its pattern, or of its plane some generations on.
+// Puts the lines on a file that is identified: of its pattern, or of its plane after some generations.
 fn push_identified(
     out: &mut Vec<u8>,
     generations: u64,
@@ -201,7 +201,7 @@ fn push_identified(
     }
 }
 
-/// Puts the lines on a file after what `out` holds; it was looked at from so many generations on.
+/// Puts the lines on a file after what `out` holds; it was looked at after `generations` generations.
 ///
 /// # Errors
 ///

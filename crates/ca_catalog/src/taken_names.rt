@@ -16,7 +16,7 @@ use std::marker::Model;
 #[derive(Drop)]
 pub struct TakenNames {
     names: WordSet,
-    // For a name that was asked for: so many of its numbered names, from the first on, are taken.
+    // For a name that was asked for: this many of its numbered names, starting at the first, are taken.
     tried: IndexMap<Vec<u8>, u64>,
 }
 
@@ -74,7 +74,7 @@ impl TakenNames {
         Err(Memory)
     }
 
-    // How many of a name's numbered names, from the first on, are known to be taken.
+    // How many of a name's numbered names, starting at the first, are known to be taken.
     fn tried_count(&self, name: &[u8]) -> u64
         ensures { IsTried self.now name.now result }
     {
@@ -84,7 +84,7 @@ impl TakenNames {
         }
     }
 
-    // Remembers that so many of a name's numbered names, from the first on, are taken.
+    // Remembers that the first `count` of a name's numbered names are taken.
     fn note_tried(&mut self, name: Vec<u8>, count: u64) -> Result<(), Memory>
         requires { IsTried self.old name.items count }
         ensures { self.new ≡ self.old }

@@ -6,7 +6,7 @@ use ca_pattern::Limits;
 /// How the files of a run are identified.
 #[derive(Clone, Copy)]
 pub struct Task {
-    /// How many generations on from the patterns the planes are identified: at most 1152921504606846976.
+    /// How many generations after the patterns the planes are identified: at most 1152921504606846976.
     pub generations: u64,
     /// What may be used for each file.
     pub limits: Limits,

@@ -56,7 +56,7 @@ module _ (next : List ℕ → ℕ) (old new : List Node) (pattern : Tree) (n : �
       let most = look.most in
       omega (arith, few, most)
 
-  -- and its tree shows the plane n generations on
+  -- and its tree shows the plane after n generations
   pub found_shows : (x y : ℤ) → trees.cell new found.tree x y ≡ cells_after next (trees.cell old pattern) n x y
   found_shows x y =
       let (cells, same) = tree_picture old pattern in
@@ -128,7 +128,7 @@ look_then_steps next p old mid tried new start n limit steps nodes tree look sho
     let twice : 2 * limit * 14 ^ (level + 3) ≡ limit * 14 ^ (level + 3) + limit * 14 ^ (level + 3) = omega arith in
     omega (arith, first, most, quick, all, seven, sum, top, twice)
 
--- where all work is used up, a run from the tree of a pattern, and steps, may need so much
+-- where all `work` units of work are used up, a run from the tree of a pattern, and steps, may need as many
 pub file_needs_twice : (next : List ℕ → ℕ) (cells : Picture) (stored : StoredTree) → IsTreeOf (plane.cell cells) stored → (old new work n limit : ℕ) → old ≡ 0 → new ≡ work
     → TakesRunAndTwice old new stored.tree.level n (cells_after next (trees.cell stored.store stored.tree)) limit → MayNeedWorkTwice work n (after next cells) limit
 file_needs_twice next cells stored tree old new work n limit none all takes start digits level first held short some holds =

@@ -22,9 +22,9 @@ use ca_rule::Table;
 use ca_run::{LeapFault, Leaper};
 use std::alloc::Global;
 
-/// What the plane of a file's pattern is so many generations on, as `ca_identify::identify` finds it, and its code (LifeWiki,
-/// "Apgcode"). There is no code of what is no still life, oscillator or spaceship, nor under a rule that is no B/S rule
-/// or counts other neighbours than all eight or four.
+/// What the plane of a file's pattern is after `generations` generations, as `ca_identify::identify` finds it, and its
+/// code (LifeWiki, "Apgcode"). There is no code of what is no still life, oscillator or spaceship, nor under a rule
+/// that is no B/S rule or counts other neighbours than all eight or four.
 ///
 /// The limit of the scope is from 1 to 4294967295. What is found is then taken through its period, one generation after the
 /// other, unless its box has more than 40 + 2 * (period - 1) columns or rows, so that no phase fits into 40 by 40 cells. The
@@ -77,7 +77,7 @@ pub fn identify_with_code<O: Observer>(
     }
 }
 
-// What the plane of a pattern's tree is so many generations on, and its code, where objects have codes.
+// What the plane of a pattern's tree is after `generations` generations, and its code, where objects have codes.
 fn look_and_code<A: Automaton, O: Observer>(
     alloc: Global,
     leaper: &mut Leaper<A>,

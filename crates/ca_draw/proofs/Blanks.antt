@@ -43,7 +43,7 @@ module _ (k half x c : ℕ) (is : x / 2 ^ k ≡ c) where
       let e = over (2 ^ k) (pow_pos k) x half (far h) in
       omega arith
 
--- and from the middle on
+-- and from the middle onwards
 beyond : (k half x c : ℕ) → x / 2 ^ k ≡ c - half → half ≤ c → (half * 2 ^ k + x) / 2 ^ k ≡ c
 beyond k half x c is h =
     let e : (x + half * 2 ^ k) / 2 ^ k ≡ x / 2 ^ k + half = add-mul-div_right x half (pow_pos k) in

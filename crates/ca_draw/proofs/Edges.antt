@@ -15,7 +15,7 @@ use Rattle.ca_draw.specs.inner.Blanks.{IsBlankIn}
 use Rattle.ca_draw.proofs.Strips.{strip_shift}
 use Rattle.ca_draw.proofs.Lives.{blank_there, none_there}
 
--- what lies in a strip from 0 on isn't below 0
+-- what lies in a strip from 0 onwards isn't below 0
 from_0 : (k : ℕ) (w : ℤ) (u : ℕ) → strip_of k w ≡ pos u → (m : ℕ) × (w ≡ pos m) × (m / 2 ^ k ≡ u)
 from_0 k (pos m) u e =
     let f : pos (m / 2 ^ k) ≡ pos u = e in
@@ -176,7 +176,7 @@ module _ (nodes : List Node) (tree : Tree) (some : 1 ≤ tree.level) where
           → not blank ≡ has_live (cell nodes tree) scale column row
       by_part u v i j blank b = live_in_tree s half parts column row u v i j blank b ∙ at_s
 
--- so many squares lie beside each other in a tree
+-- 2^(level - s) squares lie beside each other in a tree
 pub across_tree : (level s half n : ℕ) → 1 ≤ level → s ≤ level - 1 → half ≡ 2 ^ (level - 1 - s) → n < half + half → n < 2 ^ (level - s)
 across_tree level s half n some low e h =
     let f : level - s ≡ suc (level - 1 - s) = omega arith in

@@ -9,7 +9,7 @@ abbrev pub texts_below : ℕ → (ℕ → List ℕ) → List ℕ
 texts_below zero text = []
 texts_below (suc n) text = texts_below n text ++ text n
 
--- a text so many times, one after the other
+-- a text `times` times, one after the other
 abbrev pub repeated : ℕ → List ℕ → List ℕ
 repeated times text = texts_below times (λ _. text)
 

@@ -7,12 +7,13 @@ use Rattle.ca_draw.specs.declared.drawing.ImageFormat.TheVariants.{Text, Pgm}
 use Rattle.ca_draw.specs.Windows.{IsInSquare, IsWindow, ShowsBox, window_at}
 use Rattle.ca_draw.specs.declared.view.WindowFault.TheVariants.{Range, TooLarge}
 
--- the box that is drawn of some cells: the least one round those that are live, or where none is, that of the cell at (0, 0)
+-- the box that is drawn of some cells: the smallest one round those that are live, or where none is, that of the cell
+-- at (0, 0)
 abbrev pub IsBoxShown : (ℤ → ℤ → ℕ) → WideBounds → Type 0
 IsBoxShown cells box = IsLeastWideBox cells box
     ⊎ (IsDead cells × (box ≡ record { x0 = pos 0; y0 = pos 0; x1 = pos 0; y1 = pos 0 }))
 
--- the same of the least box round the live cells, if there are any
+-- the same of the smallest box round the live cells, if there are any
 abbrev pub box_shown : Option WideBounds → WideBounds
 box_shown bounds = unwrap_or bounds (record { x0 = pos 0; y0 = pos 0; x1 = pos 0; y1 = pos 0 })
 
@@ -31,7 +32,7 @@ other_size None (Some scale) format = most_size
 other_size None None format = usual_size format
 other_size (Some corner) scale format = usual_size format
 
--- how many squares lie side by side in so many characters or pixels, where each takes as many as the zoom says
+-- how many squares lie side by side in `side` characters or pixels, where each takes as many as the zoom says
 abbrev pub squares_in : (zoom side : ℕ) → ℕ
 squares_in zoom side = if zoom == 0 then 0 else side / zoom
 

@@ -56,7 +56,7 @@ pub record IsTreeBox (box : WideBounds) : Type 0 where
   pub north : neg_ℤ (pos (2 ^ 124)) ≤ℤ box.y0
   pub south : box.y1 <ℤ pos (2 ^ 124)
 
--- the window shows every cell of the box, in so many columns and rows at most
+-- the window shows every cell of the box, in at most `columns` columns and `rows` rows
 pub record ShowsBox (box : WideBounds) (columns rows : ℕ) (window : Window) : Type 0 where
   pub is_window : IsWindow window
   pub width : window.width ≤ columns

@@ -75,7 +75,7 @@ fn push_front(out: &mut Vec<u8>, window: Window, style: Style) -> Result<(), Mem
     }
 }
 
-// Puts the first lines of an image that is so many pixels wide and high.
+// Puts the first lines of an image that is `width` pixels wide and `height` high.
 fn push_sizes(out: &mut Vec<u8>, width: u64, height: u64) -> Result<(), Memory>
     ensures { OnOk result (Puts out.old.items out.new.items (drawing_front ImageFormat.Pgm width height)) }
 {
@@ -129,7 +129,7 @@ fn push_row(
     push_end(out, style.format)
 }
 
-// Puts a byte so many times.
+// Puts a byte `times` times.
 fn push_times(out: &mut Vec<u8>, byte: u8, times: u8) -> Result<(), Memory>
     ensures { OnOk result (Puts out.old.items out.new.items (repeated times (byte ∷ []))) }
 {
@@ -164,7 +164,7 @@ fn push_end(out: &mut Vec<u8>, format: ImageFormat) -> Result<(), Memory>
 }
 
 impl Style {
-    // How many pixels wide or high so many squares are.
+    // How many pixels wide or high `squares` squares are.
     fn side(self, squares: u16) -> u64
         ensures { result ≡ self.zoom * squares }
     {

@@ -31,7 +31,7 @@ pub fn same_pictures()
         → ((x y : ℤ) → one x y ≡ other x y) → drawing style one window ≡ drawing style other window }
 {}
 
-/// The least box round a tree's live cells has cells, and lies in the reach of the largest tree, so that it
+/// The smallest box round a tree's live cells has cells, and lies in the reach of the largest tree, so that it
 /// fits into any two columns and rows.
 pub fn least_boxes(store: &Store, tree: Tree)
     requires { IsTree store.now tree }

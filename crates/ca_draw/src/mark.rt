@@ -15,7 +15,7 @@ pub(crate) enum Mark {
 }
 
 impl Mark {
-    /// That of a cell whose state is told.
+    /// That of a cell whose state is shown.
     pub(crate) fn of_state(state: u8) -> Mark
         ensures { result ≡ state_mark state }
     {
@@ -25,7 +25,7 @@ impl Mark {
         Mark::State(state)
     }
 
-    /// That of a square of which is told whether a cell is live.
+    /// That of a square that shows whether a cell of it is live.
     pub(crate) fn of_live(live: bool) -> Mark
         ensures { result ≡ live_mark live }
     {
@@ -46,7 +46,7 @@ impl Mark {
         }
     }
 
-    /// The grey that is drawn, where so many states are told apart.
+    /// The grey that is drawn, where `states` states are told apart.
     pub(crate) fn grey(self, states: u16) -> u8
         ensures { result ≡ mark_grey states self }
     {

@@ -23,7 +23,7 @@ struct Grid {
     half: u128,
 }
 
-/// What is drawn of the square at a column and row, where so many states are told apart.
+/// What is drawn of the square at a column and row, where `states` states are told apart.
 pub(crate) fn mark_at(
     store: &Store,
     tree: &Tree,
@@ -135,7 +135,7 @@ fn part_at(store: &Store, id: Id, level: u8, scale: u8, column: u128, row: u128)
     }
 }
 
-// How many squares lie beside each other in one that is so many levels larger.
+// How many squares lie beside each other in one that is `levels` levels larger.
 fn squares_in(levels: u8) -> u128
     requires { levels ≤ 124 }
     ensures count { result ≡ 2 ^ levels }

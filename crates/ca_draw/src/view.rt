@@ -80,7 +80,7 @@ impl View {
     }
 }
 
-// How many squares lie side by side in so many characters or pixels.
+// How many squares lie side by side in `side` characters or pixels.
 fn squares_in(zoom: u8, side: u16) -> u16
     ensures { result ≡ squares_in zoom side }
 {

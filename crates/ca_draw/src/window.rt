@@ -23,9 +23,9 @@ const WINDOW_REACH: i128 = 1 << 124;
 pub struct Window {
     /// From 0 to `MOST_SCALE`.
     pub scale: u8,
-    /// The column in the west, from -2^124 on.
+    /// The column in the west, at least -2^124.
     pub column: i128,
-    /// The row in the north, from -2^124 on.
+    /// The row in the north, at least -2^124.
     pub row: i128,
     /// How many squares are in a row, from 1 to `MOST_SIDE`. Their columns are below 2^124.
     pub width: u16,
@@ -71,8 +71,8 @@ impl Window {
         Some(window)
     }
 
-    /// The window of the smallest scale that shows a whole box in so many columns and rows at most. It has no
-    /// column and no row without a cell of the box. A box of a tree's cells fits into any two columns and
+    /// The window of the smallest scale that shows a whole box in at most `columns` columns and `rows` rows. It
+    /// has no column and no row without a cell of the box. A box of a tree's cells fits into any two columns and
     /// rows (`laws::least_boxes`). One with cells on both sides of x = 0 fits into no single column.
     pub fn fitting(bounds: WideBounds, columns: u16, rows: u16) -> Option<Window>
         requires { IsBox bounds }
@@ -98,8 +98,8 @@ impl Window {
         None
     }
 
-    /// The window of this scale that shows a whole box in so many columns and rows at most, where there is
-    /// one. As a fitting window, it has no column and no row without a cell of the box.
+    /// The window of this scale that shows a whole box in at most `columns` columns and `rows` rows, where there
+    /// is one. As a fitting window, it has no column and no row without a cell of the box.
     pub fn fitting_at(bounds: WideBounds, columns: u16, rows: u16, scale: u8) -> Option<Window>
         requires { IsBox bounds }
         ensures shows { IfSome result (ShowsBox bounds columns rows) }
@@ -130,7 +130,7 @@ impl Window {
     }
 }
 
-// Whether so many columns or rows from this one on may be those of a window.
+// Whether `count` columns or rows from `first` onwards may be those of a window.
 fn are_strips(first: i128, count: u16) -> bool
     ensures { IsTrue result ↔ AreStrips first count }
 {
@@ -140,7 +140,7 @@ fn are_strips(first: i128, count: u16) -> bool
         && first <= WINDOW_REACH - i128::from(count)
 }
 
-// The columns from that of an x to that of another, or the rows of two y, where they are at most so many.
+// The columns from that of an x to that of another, or the rows of two y, where they are at most `most`.
 fn strips_between(scale: u8, from: i128, to: i128, most: u16) -> Option<Strips>
     requires scale { scale ≤ 124 }
     requires order { from ≤ℤ to }

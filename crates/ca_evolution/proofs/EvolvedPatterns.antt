@@ -1,4 +1,4 @@
--- Patterns of files that are taken some generations on.
+-- Patterns of files that are advanced by some generations.
 use Rattle.std.proofs.Common.{◌≡◌, ℕ, ◌+◌, ◌<◌, ◌≤◌, List, Result, Ok, Err, refl, sym, ap, subst, ◌∙◌, arith}
 use Rattle.std.specs.Prelude.{ℤ, IfOk, IfErr}
 use Rattle.ca_plane.specs.Prelude.{cell, after, cells_after, generation_limit}
@@ -73,7 +73,7 @@ later_pattern first cells n generation stored end tree added low level later sma
       added = added;
     }
 
--- where all work is used up, a run of some generations may need so much
+-- where all `work` units of work are used up, a run of some generations may need as many
 pub needs_run : (cells : ℤ → ℤ → ℕ) (stored : StoredTree) → IsTreeOf cells stored → (n old new work : ℕ) → old ≡ 0 → new ≡ work → 1 ≤ n → Takes old new 1 stored.tree.level n → MayNeedRun work n cells
 needs_run cells stored shown n old new work none all run takes = (
   run,

@@ -1,4 +1,4 @@
--- Trees that are taken one generation on after the other, and what work that takes.
+-- Trees that are advanced one generation after the other, and what work that takes.
 use Rattle.std.proofs.Common.{◌≡◌, ℕ, zero, suc, ◌+◌, ◌*◌, ◌^◌, ◌≤◌, ◌<◌, List, refl, ◌∙◌, arith}
 use Rattle.std.proofs.Math.Nat.{mul-le-mul_right}
 use Rattle.std.specs.Prelude.{ℤ, replicate}
@@ -12,9 +12,9 @@ use Rattle.ca_pattern.proofs.CellsNearMiddle.{trimmed_low}
 use Rattle.ca_pattern.proofs.Starts.{near_start, start_near}
 use Rattle.ca_evolution.specs.Prelude.{Takes, TakesSteps, TakesRun, step_work}
 
--- ---- one generation on
+-- ---- one generation later
 
--- no generation on
+-- after no generation
 pub first_tree : (next : List ℕ → ℕ) (nodes : List Node) (tree : Tree) → IsStart nodes tree → IsLaterTree next (cell nodes tree) 0 nodes tree
 first_tree next nodes tree is = record { near = near_start nodes tree is; low = let low = is.low in omega (arith, low); trimmed = is.trimmed; shows = λ x y. refl }
 
@@ -26,7 +26,7 @@ module _ (next : List ℕ → ℕ) (p : ℤ → ℤ → ℕ) (n : ℕ) (nodes : 
   pub near_next : next (replicate 9 0) ≡ 0 → HoldsAll 62 p → n < longest_period → IsWithinPlane (cells_after next (cell nodes now) 1)
   near_next quiet within few = λ x y out. one_on x y ∙ start_near next p (n + 1) quiet within (omega (arith, few)) x y out
 
-  -- the tree that is one generation on from this one
+  -- the tree one generation after this one
   pub later_next : (new : List Node) (tree : Tree) → IsLaterTree next (cell nodes now) 1 new tree → IsLaterTree next p (n + 1) new tree
   later_next new tree later = record { near = later.near; low = later.low; trimmed = later.trimmed; shows = λ x y. later.shows x y ∙ one_on x y }
 

@@ -1,11 +1,12 @@
--- Trees that are taken some generations on, and what work that takes.
+-- Trees that are advanced by some generations, and what work that takes.
 use Rattle.std.specs.Prelude.{ℕ, ◌+◌, ◌*◌, ◌^◌, ◌≤◌, ◌<◌, ℤ, List}
 use Rattle.ca_plane.specs.Prelude.{cells_after, most_generations}
 use Rattle.ca_quad.specs.declared.{node.Node.Node, tree.Tree.Tree}
 use Rattle.ca_quad.specs.Prelude.{IsTree, cell, IsTrimmed, HoldsAll}
 use Rattle.ca_pattern.specs.Prelude.{run_work, IsWithinPlane}
 
--- from the tree a plane can be taken n generations on: it is no larger than it need be, and no live cell lies outside the square of a plane then
+-- the plane of the tree can be advanced by n generations: the tree is no larger than it need be, and no live cell lies
+-- outside the square of a plane then
 pub record CanGoOn (next : List ℕ → ℕ) (nodes : List Node) (tree : Tree) (n : ℕ) : Type 0 where
   pub is_tree : IsTree nodes tree
   pub low : tree.level ≤ 64

@@ -1,4 +1,4 @@
-//! Patterns that are taken some generations on.
+//! Patterns that are advanced by some generations.
 
 ghost use Rattle.std.specs.Prelude.{◌≡◌, ◌≤◌, ◌<◌, ◌+◌, ℕ, ℤ, Ok, IfOk, IfErr, MatchOption};
 ghost use Rattle.ca_plane.specs.Prelude.{generation_limit, most_generations};
@@ -22,8 +22,8 @@ use ca_rule::Table;
 use ca_run::{LeapFault, Leaper};
 use std::alloc::Global;
 
-/// The pattern some generations on, at most 1152921504606846976: the same one where there are none. Its
-/// cells may then lie anywhere. The observer sees how far the run is.
+/// The pattern after `generations` generations, at most 1152921504606846976: the same one where there are
+/// none. Its cells may then lie anywhere. The observer sees how far the run is.
 ///
 /// # Errors
 ///
@@ -75,8 +75,8 @@ pub fn evolve<'a, 't, O: Observer>(
     }
 }
 
-/// The pattern of a file some generations on, at most 1152921504606846976: that of the file where there are
-/// none. The observer sees how far the run is.
+/// The pattern of a file after `generations` generations, at most 1152921504606846976: that of the file where
+/// there are none. The observer sees how far the run is.
 ///
 /// # Errors
 ///
@@ -98,7 +98,7 @@ pub fn open_evolved<'a, 't, O: Observer>(
     evolve(alloc, pattern, generations, limits, observer)
 }
 
-// The generation so many generations later, where a file may name it.
+// The generation that is `generations` generations after this one, where a file may name it.
 fn later_generation(generation: u64, generations: u64) -> Option<u64>
     ensures { MatchOption result (generation_limit ≤ generation + generations)
         (λ later. (later ≡ generation + generations) × (later < generation_limit)) }
@@ -110,7 +110,7 @@ fn later_generation(generation: u64, generations: u64) -> Option<u64>
     Some(later)
 }
 
-// The tree so many generations on, of the smallest level, in a store of its own.
+// The tree after `generations` generations, of the smallest level, in a store of its own.
 fn end_of<A: Automaton, O: Observer>(
     alloc: Global,
     leaper: &mut Leaper<A>,

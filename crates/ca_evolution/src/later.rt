@@ -1,4 +1,4 @@
-//! Trees some generations on.
+//! Trees after some generations.
 
 ghost use Rattle.std.specs.Prelude.{◌≡◌, ◌+◌, ◌≤◌, IfOk};
 ghost use Rattle.ca_quad.specs.Prelude.{cell};
@@ -11,7 +11,7 @@ use ca_plane::{Automaton, MoveFault};
 use ca_quad::Tree;
 use ca_run::{LeapFault, Leaper, Watch};
 
-/// The tree so many generations on, of the smallest level. After none it is the same tree.
+/// The tree after `generations` generations, of the smallest level. After none it is the same tree.
 ///
 /// # Errors
 ///

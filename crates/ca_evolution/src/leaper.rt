@@ -10,7 +10,7 @@ use ca_quad::Store;
 use ca_run::Leaper;
 use std::alloc::Global;
 
-/// A leaper over the squares of a store, which has worked out nothing yet, and may remember and work out as
+/// A leaper over the squares of a store, which has computed nothing yet, and may remember and compute as
 /// much as the limits say.
 ///
 /// # Errors

@@ -1,4 +1,4 @@
-//! Planes of patterns that are taken some generations on, as patterns of files and as trees.
+//! Planes of patterns that are advanced by some generations, as patterns of files and as trees.
 #![tactic(auto)]
 
 mod evolution;

@@ -16,11 +16,11 @@ pub enum RunSubject {
 /// Sees how far the judging of a claim is, or another run, while it lasts. As a `Watch`, it also sees how many
 /// generations a run has reached.
 pub trait Observer: Watch {
-    /// This is judged, identified or taken some generations on next.
+    /// This is judged, identified or advanced by some generations next.
     fn begins(&mut self, subject: RunSubject);
 
-    /// The cells of its pattern are looked for after so many generations: those of the claim, or an earlier
-    /// time at which the pattern may be back or dead.
+    /// The cells of its pattern are looked for after `generations` generations: those of the claim, or an
+    /// earlier time at which the pattern may be back or dead.
     fn goes_to(&mut self, generations: u64);
 
     /// It is done.

@@ -1,4 +1,4 @@
-//! Trees of patterns, taken some generations on, moved and compared.
+//! Trees of patterns, advanced by some generations, moved and compared.
 
 ghost use Rattle.std.specs.Prelude.{◌≡◌, ◌-ℤ◌, IfOk, IsOk, IsTrue, IsFalse, MatchOption};
 ghost use Rattle.ca_quad.specs.Prelude.{IsDead, HasCellOutsidePlane, shifted_cells, cell};
@@ -22,7 +22,7 @@ pub fn is_dead(store: &Store, tree: &Tree) -> bool
     store.is_empty(tree.root)
 }
 
-/// The tree some generations on. The observer sees how far the run is.
+/// The tree after `generations` generations. The observer sees how far the run is.
 ///
 /// # Errors
 ///

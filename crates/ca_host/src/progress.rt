@@ -12,7 +12,7 @@ use std::time::Instant;
 /// Goes back to the line's begin, and erases the line.
 const WIPE: &[u8] = b"\r\x1b[K";
 
-// How many milliseconds a claim has taken before anything is shown, and how many go by before what is worked out is
+// How many milliseconds a claim has taken before anything is shown, and how many go by before what is computed is
 // shown again.
 const FIRST: u128 = 1000;
 
@@ -25,11 +25,11 @@ pub enum Heading<'a> {
     Claims {
         before: &'a [u8],
     },
-    /// The file of this path, whose pattern is taken some generations on.
+    /// The file of this path, whose pattern is advanced by some generations.
     Run {
         path: &'a [u8],
     },
-    /// The files of these paths, of which each is looked at for as many generations as the limit says, so many on.
+    /// The files of these paths, of which each is looked at for `limit` generations, after `after` generations.
     Files {
         paths: &'a [Vec<u8>],
         after: u64,
@@ -37,8 +37,8 @@ pub enum Heading<'a> {
     },
 }
 
-/// Shows which claim is judged, or which file is identified or taken some generations on, how far that is and what was
-/// worked out, once it has taken a second, and wipes that when it is done. It shows that only where it is asked for,
+/// Shows which claim is judged, or which file is identified or advanced by some generations, how far that is and what
+/// was computed, once it has taken a second, and wipes that when it is done. It shows that only where it is asked for,
 /// or standard error is a terminal. And it says how many squares each may keep.
 #[derive(Drop)]
 pub struct Progress<'a, R> {
@@ -83,7 +83,7 @@ impl<'a, R: Clock + AllocGlobal> Progress<'a, R> {
         }
     }
 
-    // Shows how far the claim is, where it has taken so many milliseconds. Out of memory shows nothing.
+    // Shows how far the claim is, where it has taken at least `least` milliseconds. Out of memory shows nothing.
     fn show_from(&mut self, least: u128) {
         let Some(time) = self.time() else {
             return;

@@ -22,7 +22,7 @@ use Rattle.ca_pattern.proofs.CellsNearMiddle.{trimmed_low}
 use Rattle.ca_pattern.proofs.PatternsRead.{reads_may_want}
 use Rattle.ca_identify.proofs.Stages.{run_more}
 
--- where all work is used up, a run from the tree of a pattern, and steps, may need so much
+-- where all `work` units of work are used up, a run from the tree of a pattern, and steps, may need as many
 pub file_needs : (next : List ℕ → ℕ) (cells : Picture) (stored : StoredTree) → IsTreeOf (plane.cell cells) stored → (old new work n limit : ℕ) → old ≡ 0 → new ≡ work
     → TakesRunAndSearch old new stored.tree.level n (cells_after next (trees.cell stored.store stored.tree)) limit → MayNeedWorkAfter work n (after next cells) limit
 file_needs next cells stored tree old new work n limit none all takes start digits level first held short some holds =

@@ -177,7 +177,7 @@ module _ (next : List ℕ → ℕ) (quiet : next (replicate 9 0) ≡ 0) (nodes :
     found_ending (Back dx dy) ending is moved = subst (IsEnding next cells) (same_Some _ _ is) (found_return dx dy moved)
     found_ending Other ending is other = absurd (none-some _ is)
 
--- an ending is after so many generations
+-- an ending is after n generations
 pub ending_time : (stage : Stage) (n : ℕ) (ending : Ending) → ending_of stage n ≡ Some ending → generations_of ending ≡ n
 ending_time Empty n ending is = ap generations_of (sym (same_Some _ _ is))
 ending_time (Back dx dy) n ending is = ap generations_of (sym (same_Some _ _ is))
@@ -189,7 +189,7 @@ no_ending Empty n is = absurd (none-some _ (sym is))
 no_ending (Back dx dy) n is = absurd (none-some _ (sym is))
 no_ending Other n is = refl
 
--- ---- a plane some generations on
+-- ---- a plane after some generations
 
 -- what is found of its tree is found of the plane
 pub found_later : {T : Type 0} (next : List ℕ → ℕ) (p : ℤ → ℤ → ℕ) (cells : Picture) (n : ℕ) (nodes : List Node) (start : Tree) (IsFound : Picture → T → Type 0) (result : Result T LeapFault)

@@ -31,7 +31,7 @@ module _ {Rule : Type 0} (next_of : Rule → List ℕ → ℕ) {old mid : Leaper
   same_first : cell mid.nodes first.tree ≡ cell old.nodes first.tree
   same_first = same_cells (cell mid.nodes first.tree) (cell old.nodes first.tree) (trees_stay old.nodes mid.nodes can.sound on.grows first.tree can.is_first.start.is_tree)
 
-  -- and so is the rule: what is told of both then holds of them as they were,
+  -- and so is the rule: what is known of both then holds of them as they were,
   pub as_before : (P : (List ℕ → ℕ) → (ℤ → ℤ → ℕ) → Type 0) → P (next_of mid.rule) (cell mid.nodes first.tree) → P (next_of old.rule) (cell old.nodes first.tree)
   as_before P told = subst (λ r. P (next_of r) (cell old.nodes first.tree)) on.rule (subst (P (next_of mid.rule)) same_first told)
 
@@ -46,7 +46,7 @@ module _ {Rule : Type 0} (next_of : Rule → List ℕ → ℕ) {old mid : Leaper
       let stages = cells_after (next_of old.rule) (cell old.nodes first.tree) n in
       subst (λ p. IsStage p stages stage) same_first (subst (λ q. IsStage (cell mid.nodes first.tree) q stage) (same_cells (cell mid.nodes tree) stages later.shows) told)
 
-  -- and what is told of all pictures of the first cells
+  -- and what is known of all pictures of the first cells
   pub pictures_before : (P : (List ℕ → ℕ) → Picture → Type 0) → ((cells : Picture) → ShowsTree mid.nodes first.tree cells → P (next_of mid.rule) cells)
       → (cells : Picture) → ShowsTree old.nodes first.tree cells → P (next_of old.rule) cells
   pictures_before P told = as_before (λ next p. (cells : Picture) → ((x y : ℤ) → plane.cell cells x y ≡ p x y) → P next cells) told
@@ -68,7 +68,7 @@ module _ {Rule : Type 0} (next_of : Rule → List ℕ → ℕ) {old mid : Leaper
   pub walks_on : (walk : Walk) (n : ℕ) → n ≤ limit → walk.generations ≤ n → IsWalk (next_of old.rule) (cell old.nodes first.tree) mid.nodes walk → CanLookOn (next_of mid.rule) mid.nodes first walk n
   walks_on walk n few within is = record { pattern = search_stays n few; is_walk = as_then (λ next p. IsWalk next p mid.nodes walk) is; within = within }
 
--- the tree of a pattern's plane some generations on, as far as it can be searched, is a low one
+-- the tree of a pattern's plane after some generations, as far as it can be searched, is a low one
 pub later_low : {next : List ℕ → ℕ} {nodes : List Node} {first : First} {limit : ℕ} → CanSearch next nodes first limit → {n : ℕ} {new : List Node} {tree : Tree} → IsLaterTree next (cell nodes first.tree) n new tree → n ≤ limit
     → IsLowTree new tree
 later_low {next} {nodes} {first} can {n} {new} {tree} is few =

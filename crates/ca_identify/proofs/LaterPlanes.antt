@@ -1,4 +1,4 @@
--- What is told of later planes.
+-- What is known of later planes.
 use Rattle.std.proofs.Common.{Result, Ok, Err, ◌≡◌, List}
 use Rattle.std.specs.Prelude.{OnErr, ℤ}
 use Rattle.ca_plane.specs.Prelude.{Picture}

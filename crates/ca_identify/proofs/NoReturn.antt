@@ -57,7 +57,7 @@ pub some_ends : (next : List ℕ → ℕ) (p : ℤ → ℤ → ℕ) (nodes : Lis
 some_ends next p nodes least n walk None found looked cells shows = cc
 some_ends next p nodes least n walk (Some ending) found looked cells shows = (ending, looked.0 cells shows, looked.1)
 
--- ---- a tree of the plane some generations on
+-- ---- a tree of the plane after some generations
 
 -- a picture has the box of its cells
 picture_box : (f : ℤ → ℤ → ℕ) (cells : Picture) → ((x y : ℤ) → f x y ≡ cell cells x y) → (box : WideBounds) → IsLeastWideBox f box → IsLeastBox cells (box_of box)

@@ -117,7 +117,7 @@ module _ (next : List ℕ → ℕ) (cells : Picture) (limit : ℕ) where
   claimed_live (BecomesShifted n dx dy) (own, is) = absurd own
   claimed_live a (own, is) = is.holds.live refl
 
-  -- and the claim's time is some generations on
+  -- and the claim's time is at least one generation
   claimed_some : (a : Kind) → IsTrueAlone a → 1 ≤ (asks_of a).generations
   claimed_some Still (own, is) = omega arith
   claimed_some (Oscillator p) (own, is) = omega (arith, is.numbers.0)
@@ -198,7 +198,7 @@ module _ (next : List ℕ → ℕ) (cells : Picture) (limit : ℕ) where
   one_identity (Unknown a) (Unknown b) (live, none, p, is, grown) (lives, nothing, q, is_too, grows) =
       ap Unknown (one_growth p q a b (λ x y. sym (is x y) ∙ is_too x y) grown grows)
 
--- and its plane has one some generations on
+-- and its plane has one after some generations
 pub one_identity_after : (next : List ℕ → ℕ) (cells : Picture) (n limit : ℕ) (a b : Identity) → IsIdentityAfter next cells n limit a → IsIdentityAfter next cells n limit b → a ≡ b
 one_identity_after next cells n limit a b (p, stands, is) (q, goes, are) =
     one_identity next q limit a b (same_identity next p q (λ x y. sym (stands x y) ∙ goes x y) limit a is) are

@@ -1,4 +1,5 @@
--- What a live pattern's plane shows some generations on: which vectors may move the pattern there, and how far they are.
+-- What a live pattern's plane shows after some generations: which vectors may move the pattern there, and how far they
+-- are.
 use Rattle.std.proofs.Common.{◌≡◌, ◌≢◌, ℕ, zero, suc, ◌+◌, ◌-◌, ◌*◌, ◌^◌, ◌≤◌, List, Option, None, Some, inl, inr, refl, sym, subst, ◌∙◌, arith}
 use Rattle.std.proofs.Math.Nat.{mul-le-mul_left}
 use Rattle.std.proofs.Math.Path.{fun_ext}
@@ -103,7 +104,7 @@ low_start nodes tree sound is trimmed low = record {
   within = tree_holds nodes tree 62 (some_level nodes sound tree is) low;
 }
 
--- the least box round the cells of a plane is wide at most
+-- the smallest box round the cells of a plane is wide at most
 pub wide_box : (p : ℤ → ℤ → ℕ) (box : WideBounds) → IsLeastWideBox p box → IsWithinPlane p → IsWideBox box
 wide_box p box least near =
     let corner = corner_wide p box least near in
@@ -171,7 +172,7 @@ halted_within is first last more few =
 
 -- ---- looks
 
--- what a look found, from an earlier generation on
+-- what a look found, from an earlier generation onwards
 pub looked_from : (next : List ℕ → ℕ) (p : ℤ → ℤ → ℕ) (nodes : List Node) (first least end : ℕ) (walk : Walk) (found : Option Ending) → first ≤ least → IsLookedAt next p nodes least end walk found
     → IsLookedAt next p nodes first end walk found
 looked_from next p nodes first least end walk None few walked = let begun = walked.1 in (walked.0, omega (arith, few, begun), walked.2)

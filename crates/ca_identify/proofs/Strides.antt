@@ -43,8 +43,8 @@ module _ (next : List ℕ → ℕ) (p : ℤ → ℤ → ℕ) where
           | inr found ↦ found
         ]
 
-    -- where a plane is live, and none of the first planes, moved, from some number on, of as many as it is generations later, none was dead or the first one,
-    -- moved, up to that many generations before
+    -- where the plane after `end` generations is live, and is none of the planes from number `end - last` onwards,
+    -- below `end - n`, moved, then none up to `last` was dead or the first one, moved, if none up to n was
     pub stride_others : (n end last : ℕ) → last ≤ end → AreOtherUpTo next p n → HasLive (cells_after next p end)
         → ((j : ℕ) → j < end - n → end - last ≤ j → AreMovedNowhere (cells_after next p j) (cells_after next p end)) → AreOtherUpTo next p last
     stride_others n end last short others live nowhere = λ m some within.

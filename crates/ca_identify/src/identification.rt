@@ -31,15 +31,15 @@ use patience::look;
 use stage::First;
 use std::alloc::Global;
 
-/// What the plane of a file's pattern is so many generations on, at most 1152921504606846976, under the rule that its
-/// rule text names, in its own notation or among the tables. That is the one claim that is true of it of those that
-/// name one pattern (`still`, `oscillator`, `spaceship`, `dies`); or that none is whose period or generations are from
-/// 1 to a limit, and how far the plane has grown then. After no generations it is the pattern itself; else the periods
-/// and the limit are counted from there.
+/// What the plane of a file's pattern is after `generations` generations, at most 1152921504606846976, under the rule
+/// that its rule text names, in its own notation or among the tables. That is the one claim that is true of it of those
+/// that name one pattern (`still`, `oscillator`, `spaceship`, `dies`); or that none is whose period or generations are
+/// from 1 to a limit, and how far the plane has grown then. After no generations it is the pattern itself; else the
+/// periods and the limit are counted from there.
 ///
-/// The limit is that of the scope, from 1 to 4294967295 generations. Where the scope has patience for so many units of
-/// work, they bound what the generations after the first two take. Where they are used up before it is found what the
-/// plane is, that is no error: the look ends with the generations that were looked at by then, one at least.
+/// The limit is that of the scope, from 1 to 4294967295 generations. Where the scope has patience for a number of units
+/// of work, they bound what the generations after the first two take. Where they are used up before it is found what
+/// the plane is, that is no error: the look ends with the generations that were looked at by then, one at least.
 ///
 /// The observer sees how far the run to the plane is, each generation that is looked at by itself, and the end of each
 /// stride; no leap, and no line.
@@ -79,8 +79,8 @@ pub fn identify<O: Observer>(
     }
 }
 
-/// What the plane of a pattern's tree is so many generations on, as far from there as the scope says, and the tree of that
-/// plane.
+/// What the plane of a pattern's tree is after `generations` generations, as far from there as the scope says, and the
+/// tree of that plane.
 ///
 /// # Errors
 ///

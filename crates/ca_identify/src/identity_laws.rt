@@ -11,8 +11,7 @@ ghost use Rattle.ca_pattern.specs.Prelude.{IsSameFault};
 ghost use Rattle.ca_answers.specs.declared.{identity.Identity.Identity, scope.Scope.Scope, scope.Look.Look};
 ghost use Rattle.ca_answers.specs.Prelude.{IsIdentity, IsIdentityAfter, IsLookAt, IsIdentifiedAfter, IsUnidentifiedAfter};
 
-/// Under any rule, one identity at most holds of some cells within a limit, and of their plane some
-/// generations on.
+/// Under any rule, one identity at most holds of some cells within a limit, and of their plane after some generations.
 pub fn one_identity()
     ensures now { (next : List ℕ → ℕ) (cells : Picture) (limit : ℕ) (one two : Identity)
         → IsIdentity next cells limit one → IsIdentity next cells limit two → one ≡ two }
@@ -20,8 +19,8 @@ pub fn one_identity()
         → IsIdentityAfter next cells n limit one → IsIdentityAfter next cells n limit two → one ≡ two }
 {}
 
-/// What a look finds the plane of a file's pattern to be, some generations on, it is within the generations
-/// that were looked at. Those are all up to the limit of the scope, where there is no end to its patience.
+/// What a look finds the plane of a file's pattern to be, after some generations, it is within the
+/// generations that were looked at. Those are all up to the limit of the scope, where there is no end to its patience.
 pub fn looks_find_identities()
     ensures found { (bytes : List ℕ) (tables : List TableRule) (n : ℕ) (scope : Scope) (look : Look)
         → IsLookAt bytes tables n scope look → IsIdentifiedAfter bytes tables n look.limit look.identity }
@@ -29,8 +28,8 @@ pub fn looks_find_identities()
         → scope.patience ≡ None → IsLookAt bytes tables n scope look → look.limit ≡ scope.limit }
 {}
 
-/// Within a limit the plane of a file's pattern, some generations on or none, is identified as one thing at
-/// most, or not identified for one fault, in one place, and not both; out of work and memory apart.
+/// Within a limit the plane of a file's pattern, after some generations or none, is identified as one thing
+/// at most, or not identified for one fault, in one place, and not both; out of work and memory apart.
 pub fn one_kind_of_identification()
     ensures one_identity { (bytes : List ℕ) (tables : List TableRule) (n limit : ℕ) (one two : Identity)
         → IsIdentifiedAfter bytes tables n limit one

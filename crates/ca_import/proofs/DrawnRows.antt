@@ -8,7 +8,7 @@ use Rattle.ca_plane.specs.declared.{point.Point.Point, bit_plane.CellWord.CellWo
 use Rattle.ca_plane.specs.Prelude.{bit_cell, AddsRun}
 use Rattle.ca_import.specs.Prelude.{is_live_byte, is_at, east, is_live_in_row}
 
--- so many cells of a row are drawn, and these are left, which begin at a point
+-- the first cells of a row are drawn, and these are left, which begin at a point
 pub record IsDrawn (first : Point) (cells : List ℕ) (old : List CellWord) (at : Point) (left : List ℕ)
     (new : List CellWord) : Type 0 where
   pub row : at.y ≡ first.y

@@ -74,7 +74,7 @@ IsReading-push first said s old new h t = record {
 
 -- ---- line by line
 
--- so many lines of the text are read, and these bytes are left
+-- `number` lines of the text are read, and these bytes are left
 pub record AreRead (format : LineFormat) (bytes rest : List ℕ) (number : ℕ) (reading : Reading) : Type 0 where
   pub good : List (List ℕ)
   pub said : List CellLine

@@ -1,5 +1,5 @@
 -- Texts whose lines say which cells are live: what a line says, and the cells of a list of lines. How a line is spelled
--- is told for each format, in Life106, Life105 and Plaintext.
+-- is defined for each format, in Life106, Life105 and Plaintext.
 use Rattle.std.specs.Prelude.{ℕ, ℤ, pos, ◌+ℤ◌, ◌≤ℤ◌, ◌<ℤ◌, List, [], ◌∷◌, length, Bool, false, ◌&&◌, ◌||◌, ◌==◌, if◌then◌else◌, Option, None, Some, count_by}
 use Rattle.std.specs.List.{sum_by}
 use Rattle.std.specs.Ordering.{int_eq}

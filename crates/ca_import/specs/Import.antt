@@ -32,7 +32,7 @@ begins_cells (b ∷ bs) = (b == letter "!") || is_letter_cell b
 abbrev pub begins_plaintext : List ℕ → Bool
 begins_plaintext bytes = begins_cells (rest is_white bytes)
 
--- the format of a text of lines, where it is one of these (how a Plaintext is told is our own)
+-- the format of a text of lines, where it is one of these (how a Plaintext is recognised is our own)
 abbrev pub line_format : List ℕ → Option LineFormat
 line_format bytes =
     if has_first_line bytes (codes "#Life 1.06") then Some Life106
@@ -71,7 +71,7 @@ first_row Life106 = None
 first_row Life105 = None
 first_row Plaintext = Some (record { y = pos 0; x = pos 0 })
 
--- a line that says this is good, where the next row begins at a place and so many live cells are named before
+-- a line that says this is good, where the next row begins at a place and `count` live cells are named before
 pub record IsGoodLine (said : CellLine) (place : Option Point) (count : ℕ) : Type 0 where
   pub placed : HasPlace said place
   pub within : IsLineInRange said place
@@ -94,8 +94,8 @@ pub record LinesHold (format : LineFormat) (bytes : List ℕ) (cells : ℤ → �
 
 -- ---- what a text holds
 
--- the bytes are an apgcode, whose cells these are: the north-western cell of their least box is at (0, 0) (our own). It names no rule, and its
--- kind and its number aren't judged
+-- the bytes are an apgcode, whose cells these are: the north-western cell of their smallest box is at (0, 0) (our own).
+-- It names no rule, and its kind and its number aren't judged
 pub record CodeHolds (bytes : List ℕ) (cells : ℤ → ℤ → ℕ) (rule : Option BsRule) : Type 0 where
   pub text : List ℕ
   pub box : GridCells
@@ -121,8 +121,9 @@ pub record IsImport (bytes : List ℕ) (cells : ℤ → ℤ → ℕ) (rule : Opt
 abbrev pub SaysSuch : LineFormat → List ℕ → (CellLine → Type 0) → Type 0
 SaysSuch format line P = (s : CellLine) × LineSays format line s × P s
 
--- the fault of a line, where the next row begins at a place and so many live cells are named before: it says nothing that the format
--- knows; else it is a row before any corner; else out of range; else it names too many live cells. Memory runs out at good lines alone
+-- the fault of a line, where the next row begins at a place and `count` live cells are named before: it says nothing
+-- that the format knows; else it is a row before any corner; else out of range; else it names too many live cells.
+-- Memory runs out at good lines alone
 abbrev pub IsLineFault : ImportFault → LineFormat → Option Point → ℕ → List ℕ → Type 0
 IsLineFault UnknownFormat format place count line = ⊥
 IsLineFault Syntax format place count line = (s : CellLine) → LineSays format line s → ⊥

@@ -24,7 +24,7 @@ pub enum ImportFault {
     /// There are more than 16777216 live cells.
     #[error("too many cells")]
     TooManyCells,
-    /// A growth was refused.
+    /// An allocation failed.
     #[error("out of memory")]
     Memory,
 }

@@ -42,7 +42,7 @@ fn star_length(line: &[u8]) -> usize
     line.iter().take_while(|byte| is_star_cell(**byte)).count()
 }
 
-/// The Life 1.05 cells that the line begins with, and the bytes from there on.
+/// The Life 1.05 cells that the line begins with, and the bytes after them.
 #[tactic(auto, using(crate::proofs::RowLines::fronts))]
 fn split_stars(line: &[u8]) -> (&[u8], &[u8])
     ensures front { result.0.now ≡ front is_star_cell line.now }
@@ -59,7 +59,7 @@ fn letter_length(line: &[u8]) -> usize
         .count()
 }
 
-/// The Plaintext cells that the line begins with, and the bytes from there on.
+/// The Plaintext cells that the line begins with, and the bytes after them.
 #[tactic(auto, using(crate::proofs::RowLines::fronts))]
 fn split_letters(line: &[u8]) -> (&[u8], &[u8])
     ensures front { result.0.now ≡ front is_letter_cell line.now }

@@ -20,7 +20,7 @@ pub enum ImportTextFault {
     /// More than 16777216 cells are live, and an RLE is to be written.
     #[error("too many cells")]
     TooManyCells,
-    /// A growth was refused while the text was written.
+    /// An allocation failed while the text was written.
     #[error("out of memory")]
     Memory,
 }

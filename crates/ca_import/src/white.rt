@@ -19,7 +19,7 @@ fn white_length(bytes: &[u8]) -> usize
     bytes.iter().take_while(|byte| is_white(**byte)).count()
 }
 
-/// The blanks and line ends that the bytes begin with, and the bytes from there on.
+/// The blanks and line ends that the bytes begin with, and the bytes after them.
 #[tactic(auto, using(crate::proofs::RowLines::fronts))]
 pub(crate) fn split_white(bytes: &[u8]) -> (&[u8], &[u8])
     ensures front { result.0.now ≡ front is_white bytes.now }

@@ -32,7 +32,7 @@ first_of (b ∷ bs) = b
 abbrev begins : ℕ → List ℕ → Type 0
 begins b list = (bs : List ℕ) × (list ≡ b ∷ bs)
 
--- lists that are read from M on, with it in the survival list
+-- lists that are read from M onwards, with it in the survival list
 reads-m : (bs birth survival : List ℕ) → lists_of (77 ∷ bs) ≡ Some (birth, survival) → begins 77 survival
 reads-m bs birth survival e =
     let survivals = front stands_in_list (77 ∷ bs) in

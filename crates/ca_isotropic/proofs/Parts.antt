@@ -5,7 +5,7 @@ use Rattle.ca_plane.specs.Prelude.{is_digit, front, rest, with_front}
 use Rattle.ca_plane.proofs.Fronts.{front_length}
 use Rattle.ca_isotropic.specs.Prelude.{parts}
 
--- the bytes before the first digit, and the bytes from there on
+-- the bytes before the first digit, and the bytes from it onwards
 abbrev before : List ℕ → List ℕ
 before bytes = front (λ b. not (is_digit b)) bytes
 

@@ -26,7 +26,7 @@ use Rattle.ca_isotropic.proofs.VariableLines.{among, listed_from, said_variables
 abbrev pub neighbour_slot : Bool → ℕ → ℕ → Slot
 neighbour_slot lettered v cell = if cell == 0 then (if lettered then Variable v else Number 0) else Number 1
 
--- the slots of neighbours, with the variables from this one on
+-- the slots of neighbours, with the variables from this one onwards
 abbrev pub neighbour_slots : Bool → ℕ → List ℕ → List Slot
 neighbour_slots lettered v [] = []
 neighbour_slots lettered v (c ∷ cs) = neighbour_slot lettered v c ∷ neighbour_slots lettered (v + 1) cs
@@ -105,7 +105,7 @@ below-two zero low = refl
 below-two (suc zero) low = refl
 below-two (suc (suc c)) low = absurd (omega arith)
 
--- a list from 2 on, and 0: every state but 1
+-- a list from 2 onwards, and 0: every state but 1
 other-listed : (states c : ℕ) → 2 ≤ states → c < states → list_any (λ k. c == k) (range_with_len 2 (states - 2) ++ 0 ∷ []) ≡ not (c == 1)
 other-listed states c low h =
     list_any-append (λ k. c == k) (range_with_len 2 (states - 2)) (0 ∷ []) ∙ elim (cases_Bool (nat_le 2 c)) [
@@ -118,7 +118,7 @@ other-listed states c low h =
           ap (λ v. v || ((c == 0) || false)) (before-range 2 (states - 2) c below) ∙ below-two c below
     ]
 
--- a list from 1 on, and 0: every state
+-- a list from 1 onwards, and 0: every state
 any-listed : (states c : ℕ) → 2 ≤ states → c < states → list_any (λ k. c == k) (range_with_len 1 (states - 1) ++ 0 ∷ []) ≡ true
 any-listed states c low h =
     list_any-append (λ k. c == k) (range_with_len 1 (states - 1)) (0 ∷ []) ∙ elim (cases_Bool (nat_le 1 c)) [
@@ -285,7 +285,7 @@ module _ (states : ℕ) (low : 2 ≤ states) (high : states ≤ 256) where
     -- under a rule that goes by which neighbours are live, and under which dying cells age
     module _ (next : List ℕ → ℕ) (nine : List ℕ) (below : AreBelow states (inputs_of nine)) (shown_is : next (shown nine) ≡ next nine)
         (dying_is : 2 ≤ slice_index nine 4 → next nine ≡ older states (slice_index nine 4)) where
-      -- what the transitions of the dying states from one on give
+      -- what the transitions of `count` dying states give, starting at `from`
       abbrev dying_from : ℕ → ℕ → ℕ
       dying_from from count = next_by Moore (variables lettered) (orders Moore Identity) nine (map written_transition (map (dying_written states) (range_with_len from count)))
 

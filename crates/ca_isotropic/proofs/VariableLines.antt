@@ -48,10 +48,10 @@ is-number : (v : ℕ) (o : Option ℕ) → is_number v o ≡ true → o ≡ Some
 is-number v None e = absurd (false≢true e)
 is-number v (Some n) e = let same : n ≡ v = grind (arith, nat_tests) in ap Some same
 
--- ---- a table of so many states
+-- ---- a table of `states` states
 
 module _ (states : ℕ) (low : 2 ≤ states) (high : states ≤ 256) where
-  -- the states that are listed from one on, and 0
+  -- the states that are listed, starting at `from`, and 0
   abbrev pub listed_from : ℕ → States
   listed_from from = filter (λ c. list_any (λ k. c == k) (range_with_len from (states - from) ++ 0 ∷ [])) (range_with_len 0 states)
 

@@ -217,7 +217,7 @@ written_transition w = transition_to w.centre w.ring w.result
 abbrev pub AreBits : List ℕ → Type 0
 AreBits cells = AllByRecursion (λ c. c < 2) cells
 
--- ---- a table of so many states, with these variables
+-- ---- a table of `states` states, with these variables
 
 abbrev pub settings_of : ℕ → Settings
 settings_of states = record { states = states; neighbourhood = Moore; symmetry = Identity }

@@ -48,7 +48,7 @@ fn push_variables(out: &mut Vec<u8>, states: u16) -> Result<(), Memory>
     Ok(())
 }
 
-/// Puts the line of a variable: its letter, and the states from its least on, and 0.
+/// Puts the line of a variable: its letter, and the states from its smallest onwards, and 0.
 fn push_variable(out: &mut Vec<u8>, variable: u8, states: u16) -> Result<(), Memory>
     requires few { variable < 16 }
     requires some { 2 ≤ states }
@@ -61,7 +61,7 @@ fn push_variable(out: &mut Vec<u8>, variable: u8, states: u16) -> Result<(), Mem
     Ok(())
 }
 
-/// The least state of a variable besides 0: a neighbour that isn't live is dead or dying.
+/// The smallest state of a variable besides 0: a neighbour that isn't live is dead or dying.
 fn least_of(variable: u8) -> u16
     ensures value { result ≡ least_of variable }
     ensures low { result ≤ 2 }
@@ -69,7 +69,7 @@ fn least_of(variable: u8) -> u16
     if variable < 8 { 2 } else { 1 }
 }
 
-/// Puts the states from this one on, each with a comma after it.
+/// Puts the states from this one onwards, each with a comma after it.
 fn push_states(out: &mut Vec<u8>, from: u16, states: u16) -> Result<(), Memory>
     requires { from ≤ states }
     ensures { OnOk result (Puts out.old.items out.new.items (listed_states from (states - from))) }

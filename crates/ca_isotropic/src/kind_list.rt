@@ -74,7 +74,7 @@ fn length_to_digit(bytes: &[u8]) -> usize
         .count()
 }
 
-/// The bytes before the first digit, and the bytes from there on.
+/// The bytes before the first digit, and the bytes from it onwards.
 #[tactic(auto, using(ca_plane::proofs::Lengths::fronts))]
 fn split_before_digit(bytes: &[u8]) -> (&[u8], &[u8])
     ensures front { result.0.now ≡ front (λ b. not (is_digit b)) bytes.now }

@@ -256,7 +256,7 @@ root_at store (n ∷ m ∷ ns) (p ∷ q ∷ ps) (u ∷ v ∷ ts) t h e =
     let later = root_at store (m ∷ ns) (q ∷ ps) (v ∷ ts) t h.2 (ap (slice_get (u ∷ v ∷ ts)) (sym step) ∙ e) in
     record { node = later.node; last = later.last; level = later.level; draws = later.draws }
 
--- a tree whose square shows a picture from its corner on shows it from its middle on
+-- a tree whose square shows a picture from its corner onwards shows it from its middle onwards
 pub centred_shows : (store : List Kept) (t : Tree) (p : Picture) → Draws store t p → (x y : ℤ) → tree_cell store t x y ≡ cell (centred_picture t.level p) x y
 centred_shows store t p h x y =
     let half = 2 ^ (t.level - 1) in

@@ -197,7 +197,7 @@ bad_found bytes test f bad begins passes = record {
   passes = passes;
 }
 
--- bytes that begin as a leaf and have a fault are no leaf from their first bad byte on
+-- bytes that begin as a leaf and have a fault are no leaf from their first bad byte onwards
 pub fault_found : (bytes : List ℕ) (f : MacroFault) → is_end_or is_leaf_byte bytes ≡ true → leaf_fault 8 8 bytes ≡ Some f → IsLeafFault bytes f
 fault_found bytes f begins e = told (fault_some bytes 8 8 f e)
   where
@@ -247,7 +247,7 @@ split_end bytes row left r l e =
       | inr s ↦ inl (s ∙ rw (r, none) refl)
     ]
 
--- ---- what is told of bytes that are a leaf, or go bad
+-- ---- what is reported of bytes that are a leaf, or go bad
 
 -- bytes for which there is room have no fault
 abbrev HaveNone : List ℕ → Type 0

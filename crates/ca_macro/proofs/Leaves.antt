@@ -29,7 +29,7 @@ marks_pass (live ∷ row) = and_from (is_mark (leaf_mark live)) (list_all is_mar
 
 -- ---- a leaf is rows that there is room for
 
--- at most so many rows of at most eight cells
+-- at most `height` rows of at most eight cells
 abbrev HasRoom : ℕ → List (List Bool) → Type 0
 HasRoom height rows = (length rows ≤ height) × AllByRecursion (λ row. length row ≤ 8) rows
 

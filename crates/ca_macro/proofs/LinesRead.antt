@@ -34,7 +34,7 @@ MacrocellLinesSay-push earlier (k ∷ ks) (t ∷ said) l s h says allowed =
 
 -- ---- line by line
 
--- so many lines of the text are read into the store, and these bytes are left
+-- `count` lines of the text are read into the store, and these bytes are left
 pub record AreRead (bytes rest : List ℕ) (count : ℕ) (old store : List Kept) (reading : Reading) : Type 0 where
   pub first : List ℕ
   pub good : List (List ℕ)

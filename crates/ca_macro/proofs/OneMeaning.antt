@@ -55,12 +55,12 @@ abbrev after_first : List (List ℕ) → Told
 after_first [] = Ok []
 after_first (l ∷ ls) = told 2 [] ls
 
--- what is told of lines, told of a text
+-- what is reported of a text, given what is reported of its lines
 abbrev judged : Bool → Told → Told
 judged true t = t
 judged false t = Err (NotMacro, 1)
 
--- what is told of a text
+-- what is reported of a text
 abbrev of_text : List ℕ → Told
 of_text bytes = judged (begins_macro bytes) (after_first (lines_of bytes))
 
@@ -153,7 +153,7 @@ no_fault_in_a_file bytes file f h k =
     let a = on_a_line bytes f k in
     ok_err (of_text bytes) h.said (f, a.0) (file_judged bytes file h) (fault_judged bytes f a.0 a.1)
 
--- a fault is the first of the spelling, or it is told of a file
+-- a fault is the first of the spelling, or it is reported of a file
 fault_kind : (bytes : List ℕ) (f : MacroFault) → f ≢ Memory → IsMacrocellFault bytes f → IsFirstMacrocellFault bytes f ⊎ ((f ≡ Range) × ((file : MacrocellFile) × IsMacrocellFile bytes file × IsMacrocellOutOfRange file))
 fault_kind bytes Range other h = inr (refl, h)
 fault_kind bytes Memory other h = absurd (other refl)

@@ -101,7 +101,7 @@ pub rows_live : (rows : List (List ℕ)) (top : ℤ) → NoneDead (rows_from top
 rows_live [] top = tt
 rows_live (r ∷ rs) top = all_append _ (row_from (pos 0) top r) (rows_from (top +ℤ pos 1) rs) (row_live r (pos 0) top) (rows_live rs (top +ℤ pos 1))
 
--- the state at a place of rows, from the first on
+-- the state at a place of rows, from the first onwards
 abbrev in_rows : List (List ℕ) → ℤ → ℤ → ℕ
 in_rows rows x (pos j) = along (slice_index_or rows j []) x
 in_rows rows x (negsuc j) = 0

@@ -1,4 +1,4 @@
--- The least box round live cells is in range just where they are.
+-- The smallest box round live cells is in range just where they are.
 use Rattle.std.proofs.Common.{◌≡◌, ℕ, ◌≤◌, ℤ, pos, neg_ℤ, ◌<ℤ◌, ◌≤ℤ◌, [], ◌∷◌, List, ◌&&◌, inl, inr, arith, refl, sym, subst, ◌∙◌}
 use Rattle.std.specs.Ordering.{int_eq}
 use Rattle.std.proofs.lemmas.Bool.{cases_Bool}

@@ -1,4 +1,4 @@
--- The root of a tidy text: its level is the least that may be, and its picture that of the plane.
+-- The root of a tidy text: its level is the smallest that may be, and its picture that of the plane.
 use Rattle.std.proofs.Common.{◌≡◌, ◌≢◌, ℕ, zero, suc, ◌+◌, ◌-◌, ◌<◌, ◌≤◌, ◌^◌, ◌==◌, inl, inr, true, false, ℤ, pos, negsuc, neg_ℤ, ◌+ℤ◌, ◌-ℤ◌, ◌<ℤ◌, ◌≤ℤ◌, List, [], ◌∷◌, length, Result, Ok, Err, Option, Some, None, IfOk, option_map, refl, sym, ap, ap₂, subst, ◌∙◌, arith, lit≤}
 use Rattle.std.specs.List.{last_or, slice_get}
 use Rattle.std.proofs.Math.Nat.{two-pow-succ}

@@ -1,4 +1,4 @@
--- Small macrocell texts, for which the definitions are worked out.
+-- Small macrocell texts on which the definitions are tried.
 use Rattle.std.specs.Prelude.{ℕ, ℤ, pos, negsuc, ◌+ℤ◌, List, [], ◌∷◌, true, false, codes}
 use Rattle.ca_plane.specs.Prelude.{text_of, Picture}
 use Rattle.ca_macro.specs.{Nodes.Node, Nodes.Leaf, Nodes.Cells, Nodes.Parts, File.MacrocellFile}

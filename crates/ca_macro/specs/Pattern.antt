@@ -7,8 +7,8 @@ use Rattle.ca_quad.specs.Prelude.{IsTrimmed}
 use Rattle.ca_macro.specs.declared.pattern.MacroPattern.{MacroPattern}
 use Rattle.ca_macro.specs.{File.MacrocellFile, File.IsMacrocellFile, Limits.IsMacrocellWithinRange, Shown.picture_of_nodes}
 
--- the pattern has the file's cells, rule text and generation; its tree has the least level, the file's picture has states from 1 to
--- 255, the generation is below the limit, and the rule text is a word
+-- the pattern has the file's cells, rule text and generation; its tree has the smallest level, the file's picture has
+-- states from 1 to 255, the generation is below the limit, and the rule text is a word
 pub record IsMacrocellPattern (nodes : List Node) (file : MacrocellFile) (pattern : MacroPattern) : Type 0 where
   pub tree : trees.IsTree nodes pattern.tree
   pub trimmed : IsTrimmed nodes pattern.tree
@@ -39,7 +39,7 @@ abbrev pub IsFileOf : List ℕ → (ℤ → ℤ → ℕ) → List ℕ → ℕ �
 IsFileOf text cells rule_text generation =
     (file : MacrocellFile) × IsMacrocellFile text file × IsMacrocellWithinRange file × Holds file cells rule_text generation
 
--- a tree can be written with this rule text and generation, under a rule of so many states
+-- a tree can be written with this rule text and generation, under a rule of this many states
 pub record IsWritable (nodes : List Node) (tree : Tree) (rule_text : List ℕ) (generation states : ℕ) : Type 0
   where
     pub is_tree : trees.IsTree nodes tree

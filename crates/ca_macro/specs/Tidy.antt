@@ -6,7 +6,7 @@ use Rattle.ca_quad.specs.Prelude.{HoldsAll}
 use Rattle.ca_macro.specs.Nodes.{Node, Leaf, Cells, Parts, node_level, leaf_mark, MayFollow}
 use Rattle.ca_macro.specs.Shown.{numbered_square, picture_of_nodes}
 
--- the least level of a root
+-- the smallest level of a root
 abbrev pub lowest_level : ℕ → ℕ
 lowest_level states = if states == 2 then 4 else 1
 
@@ -14,7 +14,7 @@ lowest_level states = if states == 2 then 4 else 1
 abbrev pub Fits : ℕ → (ℤ → ℤ → ℕ) → Type 0
 Fits level cells = HoldsAll level cells
 
--- of the levels that a root may have, the least that holds the live cells
+-- of the levels that a root may have, the smallest that holds the live cells
 pub record IsLeastLevel (states : ℕ) (cells : ℤ → ℤ → ℕ) (level : ℕ) : Type 0 where
   pub allowed : lowest_level states ≤ level
   pub fits : Fits level cells

@@ -27,7 +27,7 @@ use std::alloc::Global;
 ///
 /// # Errors
 ///
-/// The first fault of its spelling, and its line; and `Memory` where a growth is refused for the node of a
+/// The first fault of its spelling, and its line; and `Memory` where an allocation fails for the node of a
 /// good line.
 pub(crate) fn read_text<'a>(
     alloc: Global,
@@ -96,8 +96,8 @@ fn pattern_of(
 /// # Errors
 ///
 /// The fault of the first faulty line, and that line; else `Range` where a live cell isn't from -2^60 to
-/// 2^60 - 1 in both directions; and `Memory` where a growth is refused, at a good line that adds a node after
-/// good lines, or after the last line of a good text. After a refusal the store is as before or has more
+/// 2^60 - 1 in both directions; and `Memory` where an allocation fails, at a good line that adds a node after
+/// good lines, or after the last line of a good text. After an error the store is as before or has more
 /// squares.
 pub fn read_macro_with_line(
     alloc: Global,

@@ -16,7 +16,7 @@ use std::alloc::Global;
 ///
 /// # Errors
 ///
-/// `Memory` where a growth is refused. That can happen only at a good line that adds a node after good lines.
+/// `Memory` where an allocation fails. That can happen only at a good line that adds a node after good lines.
 pub fn faulty_line(alloc: Global, bytes: &[u8]) -> Result<Option<u64>, Memory>
     ensures line { IfOk result (λ line. MatchOption line ((f : MacroFault) → IsFirstMacrocellFault bytes.now f
         → ⊥) (IsFaultyMacrocellLine bytes.now)) }

@@ -29,7 +29,7 @@ mod written;
 ///
 /// # Errors
 ///
-/// Fails where a growth is refused. The store is then as before or has more squares.
+/// Fails where an allocation fails. The store is then as before or has more squares.
 pub fn write_macro(
     alloc: Global,
     store: &mut Store,
@@ -57,7 +57,7 @@ pub fn write_macro(
 ///
 /// # Errors
 ///
-/// `Memory` where a growth is refused: nothing was written. `Write` where a write failed: some first part
+/// `Memory` where an allocation fails: nothing was written. `Write` where a write failed: some first part
 /// of the text was written, but not all.
 pub fn write_macro_to<W: Write>(
     alloc: Global,

@@ -41,7 +41,7 @@ impl Model for Memo {
 }
 
 impl Memo {
-    /// Nothing yet: at most so many pages and single results.
+    /// Nothing yet: at most `most` pages and single results.
     pub fn new(alloc: Global, most: NonZeroUsize) -> Result<Memo, Memory>
         ensures blank { IfOk result IsBlankMemo }
         ensures most { IfOk result (λ m. m.order.cap ≡ non_zero_usize_get most) }

@@ -26,7 +26,7 @@ impl SlotKey for (Id, u8) {
     }
 }
 
-// Four squares: the result is the one in their middle as far on as it can be known.
+// Four squares: the result is the one in their middle as far ahead as it can be known.
 impl SlotKey for (Id, Id, Id, Id) {
     fn slot_hash(self) -> u64 {
         let (nw, ne, sw, se) = self;

@@ -11,7 +11,7 @@ use std::marker::Model;
 // How many slots there are at first.
 const FIRST: usize = 1024;
 
-/// How many slots so many entries of a memo make: none, if they are too few for a table.
+/// How many slots `entries` entries of a memo make: none, if they are too few for a table.
 pub fn slot_count(entries: usize) -> usize
     ensures { result ≤ entries }
 {
@@ -41,7 +41,7 @@ impl<K: SlotKey> Model for Slots<K> {
 }
 
 impl<K: SlotKey> Slots<K> {
-    /// Nothing yet, and no memory is taken. There may be so many slots.
+    /// Nothing yet, and no memory is taken. There may be `most` slots.
     pub fn new(alloc: Global, most: usize) -> Slots<K>
         ensures { result ≡ record { slots = []; most = most } }
     {

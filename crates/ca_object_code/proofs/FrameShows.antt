@@ -1,4 +1,4 @@
--- Frames of bricks that show planes, and are taken one generation on.
+-- Frames of bricks that show planes, and are advanced by one generation.
 use Rattle.std.proofs.Common.{◌≡◌, ◌≢◌, ℕ, zero, suc, ◌+◌, ◌*◌, ◌/◌, ◌%◌, ◌<◌, ◌≤◌, ◌⊎◌, inl, inr, List, [], length, slice_index, get_or, Vec, Global, Option, Some, None, if◌then◌else◌, ◌==◌, refl, sym, ap, ap₂, subst, ◌∙◌, ℤ, pos, negsuc, ◌+ℤ◌, ◌-ℤ◌, ◌≤ℤ◌, ◌<ℤ◌, arith}
 use Rattle.std.specs.Prelude.{replicate}
 use Rattle.std.specs.Int.{bit_at}
@@ -180,7 +180,7 @@ module _ (cells : ℤ → ℤ → ℕ) (grid : GridCells) (two : HasTwoStates ce
         margin = margin_dead;
       }
 
-  -- and one generation on the next plane
+  -- and one generation later the next plane
   pub next_shows : (next : List ℕ → ℕ) (counting : Counting) → GoesBy next counting → next (replicate 9 0) ≡ 0 → (bricks later : Vec (List ℕ) Global) → IsFrameOf grid bricks.items → length later.items ≡ 15
       → ((t : ℕ) → HasNeighbours 3 15 t → IsNextBrick (ByCounting counting) 3 bricks.items later.items t) → HasBlankEdge 3 later.items → GridShows (frame_grid later frame_x frame_y) 0 (cells_after next (λ u v. cells v u) 1)
   next_shows next counting by quiet bricks later is size came blank =

@@ -15,7 +15,7 @@ use Rattle.ca_apgcode.proofs.PhaseTexts.{near_each_other}
 use Rattle.ca_object_code.specs.inner.Large.{IsBackBy, IsTooLarge}
 
 module _ (next : List ℕ → ℕ) (quiet : next (replicate 9 0) ≡ 0) (f : ℤ → ℤ → ℕ) (period : ℕ) (dx dy : ℤ) (back : IsBackBy next f period dx dy) where
-  -- what is live now is live a period on, moved
+  -- what is live now is live a period later, moved
   live_again : (x y : ℤ) → f x y ≢ 0 → cells_after next f period (x +ℤ dx) (y +ℤ dy) ≢ 0
   live_again x y some none =
       let u : (x +ℤ dx) -ℤ dx ≡ x = omega (arith, ints) in

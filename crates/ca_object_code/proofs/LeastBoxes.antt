@@ -1,4 +1,4 @@
--- Least boxes round the live cells of planes, where they are small, and where they are large.
+-- Smallest boxes round the live cells of planes, where they are small, and where they are large.
 use Rattle.std.proofs.Common.{◌≡◌, ◌≢◌, ℕ, ◌-◌, length, refl, sym, ap, ap₂, ◌∙◌, inl, inr, ℤ, pos, negsuc, ◌+ℤ◌, ◌-ℤ◌, arith}
 use Rattle.std.specs.Prelude.{neg_ℤ, ◌≤ℤ◌}
 use Rattle.std.proofs.lemmas.Bool.{cases_eq}

@@ -1,4 +1,4 @@
--- Least boxes round the live cells of rows that are columns of planes.
+-- Smallest boxes round the live cells of rows that are columns of planes.
 use Rattle.std.proofs.Common.{◌≡◌, ℕ, ◌+◌, ◌-◌, ◌/◌, ◌%◌, ◌^◌, ◌<◌, ◌≤◌, inl, inr, List, [], length, slice_index, get_or, Option, Some, None, IfSome, refl, sym, ap, ap₂, subst, ◌∙◌, ℤ, pos, negsuc, ◌+ℤ◌, ◌-ℤ◌, arith}
 use Rattle.std.specs.Int.{bit_at}
 use Rattle.std.proofs.lemmas.Bool.{cases_lt}
@@ -10,7 +10,7 @@ use Rattle.ca_plane.specs.Prelude.{from_corner}
 use Rattle.ca_apgcode.specs.Prelude.{GridCells, IsLeastOf, cell, live, IsBoxRound}
 use Rattle.ca_object_code.specs.inner.Frames.{AreColumnsOf}
 
--- the first columns of a box: the rows from one on, without their lowest bits
+-- the first columns of a box: the rows from row `first` onwards, without their lowest bits
 pub record AreMoved (rows : List ℕ) (first low count : ℕ) (columns : List ℕ) : Type 0 where
   pub size : length columns ≡ count
   pub each : (k : ℕ) → k < count → get_or columns k 0 ≡ slice_index rows (first + k) / 2 ^ low
@@ -23,7 +23,7 @@ all_fit rows first low count columns are x = elim (cases_lt x count) [
   | inr past ↦ let size = are.size in subst (λ n. n < 2 ^ 40) (sym (get_or_past columns x 0 (omega (arith, size, past)))) (pow_pos 40)
 ]
 
--- a number without the digits from one on
+-- a number without the digits from 2^40 onwards
 pub short : (n : ℕ) → n / 2 ^ 40 ≡ 0 → n < 2 ^ 40
 short n none = omega (arith, none)
 

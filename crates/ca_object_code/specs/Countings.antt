@@ -7,7 +7,7 @@ use Rattle.ca_bricks.specs.Prelude.{GoesBy}
 abbrev pub HasTwoStates : (ℤ → ℤ → ℕ) → Type 0
 HasTwoStates cells = (x y : ℤ) → cells x y < 2
 
--- if a counting is told, the rule goes by it, and no cell has another state than 0 and 1
+-- if a counting is given, the rule goes by it, and no cell has another state than 0 and 1
 abbrev pub MayGoBy : (List ℕ → ℕ) → (ℤ → ℤ → ℕ) → Option Counting → Type 0
 MayGoBy next cells None = Unit {0}
 MayGoBy next cells (Some counting) = GoesBy next counting × HasTwoStates cells

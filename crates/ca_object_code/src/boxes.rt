@@ -1,4 +1,4 @@
-//! The least box round the live cells of a phase.
+//! The smallest box round the live cells of a phase.
 
 ghost use Rattle.std.specs.Prelude.{◌≡◌, ◌≤◌, pos, ◌+ℤ◌, ◌≤ℤ◌, IfOk, OnOk, MatchOption};
 ghost use Rattle.ca_quad.specs.Prelude.{AreSquareBoxes, cell};
@@ -12,8 +12,8 @@ use ca_plane::{Memory, Plane};
 use ca_quad::{SquareBoxes, Store, Tree, WideBounds};
 use std::alloc::Global;
 
-/// The least box round the live cells of a tree, where it fits into 40 by 40 cells. The boxes are those of squares that were
-/// measured before, and then of these too.
+/// The smallest box round the live cells of a tree, where it fits into 40 by 40 cells. The boxes are those of squares
+/// that were measured before, and then of these too.
 pub(crate) fn box_round(
     alloc: Global,
     store: &Store,

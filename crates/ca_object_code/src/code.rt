@@ -76,7 +76,7 @@ pub fn code_of_tree<A: Automaton>(
     }
 }
 
-// The code of so many phases of a pattern, with this number.
+// The code of the first `count` phases of a pattern, with this number.
 fn code_of_phases<A: Automaton>(
     alloc: Global,
     leaper: &mut Leaper<A>,

@@ -1,4 +1,4 @@
-//! Small boxes in a frame of bricks, where their cells are taken one generation on.
+//! Small boxes in a frame of bricks, where their cells are advanced by one generation.
 
 ghost use Rattle.std.specs.Prelude.{◌≡◌, ◌+◌, ◌*◌, ◌/◌, ◌%◌, ◌<◌, ◌≤◌, [], ℕ, length, slice_index, get_or, IfOk};
 ghost use Rattle.ca_bricks.specs.Prelude.{HasBlankEdge, HasNeighbours, IsNextBrick};
@@ -37,7 +37,7 @@ pub(crate) fn frame_of(alloc: Global, grid: &Grid) -> Result<Vec<[u64; 16]>, Mem
     Ok(bricks)
 }
 
-// Sixteen rows from one on.
+// Sixteen rows from row `first` onwards.
 fn brick_rows(grid: &Grid, first: u8) -> [u64; 16]
     requires { first ≤ 32 }
     ensures { (y : ℕ) → y < 16 → slice_index result y ≡ frame_row grid.now (first + y) }
@@ -59,7 +59,8 @@ fn frame_row(grid: &Grid, row: u8) -> u64
     grid.column(row - 1) << 1
 }
 
-/// A frame one generation on, where no cell is born that has no live neighbour. The bricks that aren't stepped are blank then.
+/// A frame one generation later, where no cell is born that has no live neighbour. The bricks that aren't stepped are
+/// blank then.
 pub(crate) fn next_frame(
     alloc: Global,
     mut bricks: Vec<[u64; 16]>,

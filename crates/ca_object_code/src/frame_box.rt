@@ -1,4 +1,4 @@
-//! The least box round the live cells of a frame.
+//! The smallest box round the live cells of a frame.
 
 ghost use Rattle.std.specs.Prelude.{◌≡◌, ◌+◌, ◌<◌, ◌≤◌, ℕ, ℤ, slice_index, IfOk, IfSome, IsTrue};
 ghost use Rattle.std.specs.Int.{bit_at};
@@ -10,8 +10,8 @@ use ca_apgcode::{Grid, MOST_SIDE};
 use ca_plane::Memory;
 use std::alloc::Global;
 
-/// The least box round the live cells of a plane whose columns are these rows. Where it has more than 40 columns or rows, or no
-/// cell is live, there is none.
+/// The smallest box round the live cells of a plane whose columns are these rows. Where it has more than 40 columns or
+/// rows, or no cell is live, there is none.
 pub(crate) fn box_of_rows(alloc: Global, rows: &[u64; ROWS]) -> Result<Option<Grid>, Memory>
     ensures { (cells : ℤ → ℤ → ℕ) (left top : ℤ) → AreColumnsOf rows.now cells left top
         → IfOk result (λ found. IfSome found (IsBoxRound cells)) }
@@ -65,7 +65,7 @@ fn first_bit(word: u64) -> u32
     word.trailing_zeros().min(63)
 }
 
-// Whether all rows from one on are 0.
+// True only where all rows from row `first` onwards are 0.
 fn are_blank_from(rows: &[u64; ROWS], first: usize) -> bool
     ensures { IsTrue result → (r : ℕ) → first ≤ r → r < 48 → slice_index rows.now r ≡ 0 }
 {

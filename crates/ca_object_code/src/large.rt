@@ -8,8 +8,8 @@ ghost use Rattle.ca_object_code.specs.inner.Large.{IsTooLarge};
 use ca_apgcode::MOST_SIDE;
 use ca_quad::WideBounds;
 
-/// Whether a box is larger than one of 40 by 40 cells can become within so many generations less one: in each generation a
-/// plane grows by one cell at most on each side.
+/// True only where a box is larger than one of 40 by 40 cells can become within `period` - 1 generations: in each
+/// generation a plane grows by one cell at most on each side.
 pub(crate) fn is_too_large(bounds: &WideBounds, period: u64) -> bool
     requires wide { IsWideBox bounds.now }
     requires some { 1 ≤ period }

@@ -17,7 +17,7 @@ use ca_quad::{SquareBoxes, Store, Tree};
 use ca_run::{LeapFault, Leaper, Unwatched};
 use std::alloc::Global;
 
-/// The least text of so many phases of a pattern, if one of them fits into 40 by 40 cells.
+/// The least text of the first `count` phases of a pattern, if one of them fits into 40 by 40 cells.
 pub(crate) fn least_of_phases<A: Automaton>(
     alloc: Global,
     leaper: &mut Leaper<A>,

@@ -61,7 +61,7 @@ pub fn quick_code<A: Automaton>(
     }
 }
 
-// The code of so many phases.
+// The code of the first `period` phases.
 fn code_of_phases<A: Automaton>(
     alloc: Global,
     leaper: &mut Leaper<A>,

@@ -19,8 +19,8 @@ use ca_quad::{SquareBoxes, Tree};
 use ca_run::{LeapFault, Leaper};
 use std::alloc::Global;
 
-/// The least text of so many phases, where all of them fit into 40 by 40 cells and the rule goes by this counting. None says
-/// nothing.
+/// The least text of the first `count` phases, where all of them fit into 40 by 40 cells and the rule goes by this
+/// counting. None says nothing.
 pub(crate) fn least_of_small<A: Automaton>(
     alloc: Global,
     leaper: &mut Leaper<A>,
@@ -60,7 +60,7 @@ pub(crate) fn least_of_small<A: Automaton>(
     Ok(Some(least))
 }
 
-// The least box round the live cells of a plane one generation on, where it fits into 40 by 40 cells.
+// The smallest box round the live cells of a plane one generation later, where it fits into 40 by 40 cells.
 fn next_box(alloc: Global, grid: &Grid, counting: Counting) -> Result<Option<Grid>, Memory>
     requires { counting.birth % 2 ≡ 0 }
     ensures { (next : List ℕ → ℕ) (cells : ℤ → ℤ → ℕ) → GoesBy next counting → next (replicate 9 0) ≡ 0

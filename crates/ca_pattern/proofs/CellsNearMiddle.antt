@@ -25,7 +25,7 @@ held_near f level low held x y out = elim (cases_eq (f x y) 0) [
       absurd (out (omega (arith, ints, low, here), omega (arith, ints, low, here), omega (arith, ints, low, here), omega (arith, ints, low, here)))
 ]
 
--- a tree of the least level has no higher one than holds its cells
+-- a tree of the smallest level has no higher one than holds its cells
 pub trimmed_low : (nodes : List Node) (tree : Tree) (f : ℤ → ℤ → ℕ) (level : ℕ) → 1 ≤ level → IsTrimmed nodes tree → ((x y : ℤ) → cell nodes tree x y ≡ f x y) → HoldsAll level f → tree.level ≤ level
 trimmed_low nodes tree f level some trimmed shows held = elim (below_or_not level tree.level) [
   | inl less ↦ absurd (trimmed level some less (λ x y live. held x y (λ none. live (shows x y ∙ none))))

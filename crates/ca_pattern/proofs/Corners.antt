@@ -1,4 +1,4 @@
--- By which vector a tree can be another one, moved: the one between the corners of their least boxes.
+-- By which vector a tree can be another one, moved: the one between the corners of their smallest boxes.
 use Rattle.std.proofs.Common.{◌≡◌, ◌≢◌, ℕ, ◌^◌, List, sym, ap₂, ◌∙◌, inl, inr, arith}
 use Rattle.std.specs.Prelude.{ℤ, pos, ◌+ℤ◌, ◌-ℤ◌, ◌≤ℤ◌, neg_ℤ}
 use Rattle.std.proofs.lemmas.Bool.{cases_eq}
@@ -35,7 +35,8 @@ module _ (p q : ℤ → ℤ → ℕ) (dx dy : ℤ) (same : (x y : ℤ) → q x y
   live_before : (x y : ℤ) → q x y ≢ 0 → p (x -ℤ dx) (y -ℤ dy) ≢ 0
   live_before x y live = λ z. live (same x y ∙ z)
 
-  -- so the vector is that from a corner of the one least box to that of the other, and that between the opposite corners
+  -- so the vector is that from a corner of the one smallest box to that of the other, and that between the opposite
+  -- corners
   pub corners_moved : (box box2 : WideBounds) → wide.IsLeastWideBox p box → wide.IsLeastWideBox q box2
       → ((dx ≡ box2.x0 -ℤ box.x0) × (dy ≡ box2.y0 -ℤ box.y0)) × ((dx ≡ box2.x1 -ℤ box.x1) × (dy ≡ box2.y1 -ℤ box.y1))
   corners_moved box box2 least least2 =

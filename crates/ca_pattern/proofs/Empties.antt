@@ -7,7 +7,7 @@ use Rattle.ca_quad.specs.Prelude.{cell_of, IsEmpty, cell, IsDead}
 use Rattle.ca_plane.specs.Prelude.{from_corner}
 use Rattle.ca_quad.proofs.Differ.{cell_at}
 
--- cells that are all 0 from a corner on
+-- cells that are all 0 from a corner onwards
 corner_dead : (p : ℕ → ℕ → ℕ) → IsEmpty p → (u v : ℤ) → from_corner p u v ≡ 0
 corner_dead p empty (pos x) (pos y) = empty x y
 corner_dead p empty (pos x) (negsuc y) = refl

@@ -23,7 +23,7 @@ module _ (f g : ℤ → ℤ → ℕ) (same : (x y : ℤ) → f x y ≡ g x y) wh
   places_shown : (places : List Point) → AreLivePlaces f places → AreLivePlaces g places
   places_shown places are = record { once = are.once; live = live_shown places are.live; all = λ x y live. are.all x y (λ e. live (sym (same x y) ∙ e)) }
 
-  -- so many of them are live
+  -- `count` of them are live
   pub population_shown : (count : ℕ) → HasPopulation f count → HasPopulation g count
   population_shown count has = (has.0, places_shown has.0 has.1, has.2)
 

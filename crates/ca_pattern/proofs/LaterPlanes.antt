@@ -1,4 +1,4 @@
--- Planes some generations on: where they are live, what states they have, and what is told and written of them.
+-- Planes after some generations: where they are live, what states they have, and what is reported and written of them.
 use Rattle.std.proofs.Common.{◌≡◌, ℕ, zero, suc, ◌<◌, ◌≤◌, ◌^◌, List, [], ◌∷◌, length, refl, sym, ap, ◌∙◌, inl, inr, arith, true, false, Bool, ◌&&◌}
 use Rattle.std.specs.Prelude.{ℤ, ◌⊎◌, replicate, if◌then◌else◌}
 use Rattle.std.specs.List.{All}
@@ -30,7 +30,7 @@ module _ (next : List ℕ → ℕ) (p : ℤ → ℤ → ℕ) (n : ℕ) (quiet : 
   pub later_holds : HoldsAll 62 (cells_after next p n)
   later_holds = later_held next p n quiet 61 62 (omega (arith, few)) (range_held p range)
 
-  -- so a tree of the least level that shows them is a low one
+  -- so a tree of the smallest level that shows them is a low one
   pub later_is_low : (nodes : List Node) (tree : Tree) → IsTrimmed nodes tree → ((x y : ℤ) → trees.cell nodes tree x y ≡ cells_after next p n x y) → tree.level ≤ 62
   later_is_low nodes tree trimmed shows = trimmed_low nodes tree (cells_after next p n) 62 (omega arith) trimmed shows later_holds
 
@@ -99,7 +99,7 @@ module _ (f : ℤ → ℤ → ℕ) where
     ]
   ]
 
-  -- so cells of which so many are live have a picture
+  -- so cells of which `count` are live have a picture
   pub picture_of : (count : ℕ) → HasPopulation f count → (picture : Picture) × ((x y : ℤ) → f x y ≡ plane.cell picture x y)
   picture_of count has = (listed has.0, picture_of_places has.0 has.1)
 

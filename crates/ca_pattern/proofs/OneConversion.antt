@@ -100,7 +100,7 @@ box_within : (p : Picture) (a b : Bounds) → IsLeastBox p a → IsLeastBox p b 
 box_within p a b one two =
     ((one.all b.x0 two.left.0 two.left.1).0, (one.all b.x1 two.right.0 two.right.1).1, (one.all two.top.0 b.y0 two.top.1).2, (one.all two.bottom.0 b.y1 two.bottom.1).3)
 
--- a picture has one least box
+-- a picture has one smallest box
 pub one_box : (p : Picture) (a b : Bounds) → IsLeastBox p a → IsLeastBox p b → a ≡ b
 one_box p a b one two =
     let (l, r, t, u) = box_within p a b one two in

@@ -1,4 +1,5 @@
--- A plane some generations on is reached, told of and written of a file, or it isn't for one cause; out of work and memory apart.
+-- The plane of a file after some generations is reached, reported on and written, or it isn't for one cause; out of
+-- work and memory apart.
 use Rattle.std.proofs.Common.{◌≡◌, ◌≢◌, ℕ, ◌+◌, ◌<◌, List, Option, None, Some, refl, sym, ap, ap₂, subst, ◌∙◌, arith}
 use Rattle.std.specs.Prelude.{ℤ}
 use Rattle.std.specs.Option.{MatchOption}
@@ -81,7 +82,7 @@ module _ (bytes : List ℕ) (tables : List TableRule) where
   one_reach_fault n work f GenTooLarge m w o v a (p, r, h, begins, high) = absurd (opened_or_fault bytes tables p r h f m begins.holds begins.small a)
   one_reach_fault n work f g m w o v a b = one_opening_fault bytes tables f g m o a b
 
-  -- ---- what is told and written of them
+  -- ---- what is reported and written of them
 
   module _ (n : ℕ) (later other : Picture) (r s : RuleValue) (g h : ℕ) (one : IsEvolved bytes tables n later r g) (two : IsEvolved bytes tables n other s h) where
     same_rule : r ≡ s

@@ -1,4 +1,4 @@
--- Files that were opened, and what is reached, told and written of their patterns.
+-- Files that were opened, and what is reached, reported and written of their patterns.
 use Rattle.std.proofs.Common.{◌≡◌, ℕ, ◌+◌, ◌<◌, List, Some, Result, Ok, Err, refl, sym, subst, ◌∙◌, arith}
 use Rattle.std.specs.Prelude.{ℤ, IfOk}
 use Rattle.ca_plane.specs.Prelude.{Picture, cell, after, generation_limit}
@@ -69,7 +69,7 @@ squares_opened nodes bytes tables ruled read names small =
       };
     }
 
--- ---- some generations on
+-- ---- after some generations
 
 module _ (bytes : List ℕ) (tables : List TableRule) (first : Pattern) (is : IsPatternAfter bytes tables 0 first) where
   pub first_in_range : AreInRange (cell is.cells)
@@ -107,7 +107,7 @@ pattern_of_tree cells stored tree range = record {
   range = range_as cells (trees.cell stored.store stored.tree) (λ x y. sym (tree.shows x y)) range;
 }
 
--- ---- what is told and written
+-- ---- what is reported and written
 
 module _ (bytes : List ℕ) (tables : List TableRule) (n : ℕ) (pattern : Pattern) (is : IsPatternAfter bytes tables n pattern) where
   abbrev rule : RuleValue

@@ -15,7 +15,7 @@ cases_int a b =
       | inr e ↦ inr (not_from_Decides (int_eq a b) (Decides-int_eq a b) e)
     ]
 
--- in a row, from a on
+-- in a row, from a onwards
 search_row : (f g : ℤ → ℕ) (a : ℤ) (m : ℕ) → ((u : ℤ) → a ≤ℤ u → u <ℤ (a +ℤ pos m) → f u ≡ g u) ⊎ ((u : ℤ) × (f u ≢ g u))
 search_row f g a zero = inl (λ u low high. absurd (omega (arith, ints, low, high)))
 search_row f g a (suc m) =

@@ -1,4 +1,4 @@
--- Trees of planes that are looked at, and what their planes show some generations on.
+-- Trees of planes that are looked at, and what their planes show after some generations.
 use Rattle.std.proofs.Common.{◌≡◌, ℕ, ◌≤◌, ◌^◌, List, sym, ◌∙◌, arith}
 use Rattle.std.specs.Prelude.{ℤ, replicate}
 use Rattle.ca_plane.specs.Prelude.{Picture, after, cells_after}
@@ -13,7 +13,7 @@ use Rattle.ca_pattern.specs.Prelude.{IsWithinPlane, IsStart, IsLaterTree, ShowsT
 use Rattle.ca_pattern.proofs.CellsNearMiddle.{held_near, later_held, trimmed_low}
 use Rattle.ca_pattern.proofs.LaterPlanes.{later_holds, later_is_low}
 
--- that of its plane, some generations on, is such a tree too
+-- that of its plane, after some generations, is such a tree too
 pub later_start : (next : List ℕ → ℕ) (p : ℤ → ℤ → ℕ) (n : ℕ) (nodes : List Node) (tree : Tree) → next (replicate 9 0) ≡ 0 → AreInRange p → n ≤ 2 ^ 60
     → IsLaterTree next p n nodes tree → IsStart nodes tree
 later_start next p n nodes tree quiet range few is =
@@ -36,7 +36,7 @@ start_stays old new sound grows tree is =
       within = λ x y live. is.within x y (λ none. live (same x y ∙ none));
     }
 
--- ---- what its plane shows some generations on
+-- ---- what its plane shows after some generations
 
 module _ (next : List ℕ → ℕ) (p : ℤ → ℤ → ℕ) (n : ℕ) (quiet : next (replicate 9 0) ≡ 0) (within : HoldsAll 62 p) (few : n ≤ 2 ^ 61) where
   -- the live cells lie in a square of 2^63 cells a side
@@ -47,13 +47,13 @@ module _ (next : List ℕ → ℕ) (p : ℤ → ℤ → ℕ) (n : ℕ) (quiet : 
   pub start_near : IsWithinPlane (cells_after next p n)
   start_near = held_near (cells_after next p n) 63 (omega arith) start_holds
 
-  -- and a tree of the least level that shows them is a low one
+  -- and a tree of the smallest level that shows them is a low one
   pub start_is_low : (nodes : List Node) (tree : Tree) → IsTrimmed nodes tree → ((x y : ℤ) → cell nodes tree x y ≡ cells_after next p n x y) → tree.level ≤ 63
   start_is_low nodes tree trimmed shows = trimmed_low nodes tree (cells_after next p n) 63 (omega arith) trimmed shows start_holds
 
 -- ---- pictures
 
--- a picture of a tree some generations on is what the plane has then
+-- a picture of a tree after some generations is what the plane has then
 pub picture_after : (next : List ℕ → ℕ) (p : ℤ → ℤ → ℕ) (cells later : Picture) (n : ℕ) (nodes : List Node) (tree : Tree) → ((x y : ℤ) → plane.cell cells x y ≡ p x y)
     → IsLaterTree next p n nodes tree → ShowsTree nodes tree later → (x y : ℤ) → after next cells n x y ≡ plane.cell later x y
 picture_after next p cells later n nodes tree shows is shown x y = after_same next (plane.cell cells) p n shows x y ∙ sym (is.shows x y) ∙ sym (shown x y)

@@ -1,4 +1,4 @@
--- What a pattern file is converted to, what is told of it, and why it is refused.
+-- What a pattern file is converted to, what is reported of it, and why it is refused.
 use Rattle.std.specs.Prelude.{◌≡◌, ℕ, List}
 use Rattle.ca_plane.specs.Prelude.{Picture, cell, HasTooManyCells}
 use Rattle.ca_rule.specs.Prelude.{TableRule, RuleValue}

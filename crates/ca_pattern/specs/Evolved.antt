@@ -1,4 +1,4 @@
--- Patterns some generations on: what is reached, what is told and written of it, and why it isn't.
+-- Patterns after some generations: what is reached, what is reported and written of it, and why it isn't.
 use Rattle.std.specs.Prelude.{◌≡◌, ℕ, zero, suc, ◌+◌, ◌^◌, ◌<◌, ◌≤◌, ℤ, List, MatchOption}
 use Rattle.ca_plane.specs.Prelude.{Picture, cell, IsLive, IsLeastBox, after, IsAfter, generation_limit, HasPopulation, HasTooManyCells}
 use Rattle.ca_quad.specs.Prelude.{HoldsAll}
@@ -25,8 +25,9 @@ abbrev pub run_work : (n level digits : ℕ) → ℕ
 run_work zero level digits = 0
 run_work (suc n) level digits = 14 ^ (level + digits + 2)
 
--- the first reason for which the plane n generations on isn't reached, where so much work may be done: the file isn't opened; or the generation
--- would be too large; or work is out. Out of memory may come before any of them, where memory may run out for the bytes
+-- the first reason for which the plane after n generations isn't reached, where `work` units of work may be done: the
+-- file isn't opened; or the generation would be too large; or work is out. Out of memory may come before any of them,
+-- where memory may run out for the bytes
 abbrev pub IsReachFault : List ℕ → List TableRule → (n work : ℕ) → LocatedFault → Type 0
 IsReachFault bytes tables n work GenTooLarge = (cells : Picture) × (rule : RuleValue) × (generation : ℕ)
     × HoldsSmallRuledPattern bytes tables cells rule generation × (generation_limit ≤ generation + n)
@@ -34,7 +35,8 @@ IsReachFault bytes tables n work Work = (cells : Picture) × (rule : RuleValue) 
     × HoldsSmallRuledPattern bytes tables cells rule generation × (generation + n < generation_limit) × MayNeedRun work n (cell cells)
 IsReachFault bytes tables n work fault = IsOpeningFault bytes tables fault
 
--- n generations on from the file's pattern, under its rule, the plane has these cells, at this generation, which is below the limit
+-- n generations after the file's pattern, under its rule, the plane has these cells, at this generation, which is below
+-- the limit
 pub record IsEvolved (bytes : List ℕ) (tables : List TableRule) (n : ℕ) (later : Picture) (rule : RuleValue) (generation : ℕ) : Type 0 where
   pub cells : Picture
   pub begun : ℕ
@@ -43,8 +45,8 @@ pub record IsEvolved (bytes : List ℕ) (tables : List TableRule) (n : ℕ) (lat
   pub added : generation ≡ begun + n
   pub low : generation < generation_limit
 
--- the pattern is that of the file n generations on: it has the cells that the plane has then, at every x and y, of small states; its rule is the
--- file's, and n is added to the file's generation
+-- the pattern is that of the file after n generations: it has the cells that the plane has then, at every x and y, of
+-- small states; its rule is the file's, and n is added to the file's generation
 pub record IsPatternAfter (bytes : List ℕ) (tables : List TableRule) (n : ℕ) (pattern : Pattern) : Type 0 where
   pub cells : Picture
   pub begun : ℕ
@@ -53,8 +55,8 @@ pub record IsPatternAfter (bytes : List ℕ) (tables : List TableRule) (n : ℕ)
   pub added : pattern.generation ≡ begun + n
   pub is_pattern : IsPatternOf (after (next_of (rule_value pattern.rule)) cells n) pattern
 
--- the summary is that of the plane n generations on: the format of the bytes, the printed form of their rule, their generation and n, the number of
--- live cells, and the least box round them
+-- the summary is that of the plane after n generations: the format of the bytes, the printed form of their rule, their
+-- generation and n, the number of live cells, and the smallest box round them
 pub record IsSummaryAfter (bytes : List ℕ) (tables : List TableRule) (n : ℕ) (summary : Summary) : Type 0 where
   pub later : Picture
   pub rule : RuleValue
@@ -64,8 +66,9 @@ pub record IsSummaryAfter (bytes : List ℕ) (tables : List TableRule) (n : ℕ)
   pub population : HasPopulation (cell later) summary.cells
   pub bounds : MatchOption summary.bounds (IsLive later → ⊥) (IsLeastBox later)
 
--- the text is what the plane n generations on is written as: it is the tidy text of the target's format, of the same cells at every x and y, with the
--- printed form of the rule, and of the file's generation and n; and its reader takes it
+-- the text is what the plane after n generations is written as: it is the tidy text of the target's format, of the same
+-- cells at every x and y, with the printed form of the rule, and of the file's generation and n; and its reader takes
+-- it
 pub record IsConvertedAfter (bytes : List ℕ) (tables : List TableRule) (n : ℕ) (target : Format) (text : List ℕ) : Type 0 where
   pub later : Picture
   pub rule : RuleValue
@@ -75,8 +78,8 @@ pub record IsConvertedAfter (bytes : List ℕ) (tables : List TableRule) (n : �
   pub text_holds : HoldsPattern text later (printed_form rule) generation
   pub tidy : IsTidyAs target text later (printed_form rule) generation (states_of rule)
 
--- the first reason for which the plane n generations on isn't written: it isn't reached; or a live cell is out of range then; or more cells are live
--- than an RLE may have
+-- the first reason for which the plane after n generations isn't written: it isn't reached; or a live cell is out of
+-- range then; or more cells are live than an RLE may have
 abbrev pub IsConvertFaultAfter : List ℕ → List TableRule → (n work : ℕ) → Format → LocatedFault → Type 0
 IsConvertFaultAfter bytes tables n work target TooManyCells = (target ≡ Rle) × (cells : Picture) × (rule : RuleValue) × (generation : ℕ)
     × HoldsSmallRuledPattern bytes tables cells rule generation × (generation + n < generation_limit)

@@ -23,7 +23,7 @@ table_line (tables.Unbound line) = line
 table_line (tables.Wakes line) = line
 table_line tables.Memory = 0
 
--- what is wrong with a rule table, after some words on its faulty line; out of memory is told alone
+-- what is wrong with a rule table, after some words on its faulty line; out of memory is reported alone
 abbrev pub table_text : (ℕ → List ℕ) → TableFault → List ℕ
 table_text words (tables.NoRuleLine line) = words line ++ codes " no rule line"
 table_text words (tables.NoTable line) = words line ++ codes " no table"
@@ -36,6 +36,6 @@ table_text words (tables.Unbound line) = words line ++ codes " unbound"
 table_text words (tables.Wakes line) = words line ++ codes " wakes"
 table_text words tables.Memory = codes "memory"
 
--- why a rule line's file is no good table; its faulty line isn't told
+-- why a rule line's file is no good table; its faulty line isn't reported
 abbrev pub table_fault_text : TableFault → List ℕ
 table_fault_text fault = table_text (λ line. codes "bad table:") fault

@@ -69,7 +69,8 @@ abbrev pub IsTidyAs : Format → List ℕ → Picture → List ℕ → ℕ → �
 IsTidyAs Rle text cells rule_text generation states = rle_tidy.IsTidyRle text cells rule_text generation states
 IsTidyAs Mc text cells rule_text generation states = macrocell_tidy.IsTidyMacrocell text (cell cells) rule_text generation states
 
--- why a pattern's file wasn't read, in words (our own; docs/CLAIMS.md); out of memory inside another fault is told alone
+-- why a pattern's file wasn't read, in words (our own; docs/CLAIMS.md); out of memory inside another fault is reported
+-- alone
 abbrev pub pattern_fault_text : PatternFault → List ℕ
 pattern_fault_text (pattern_fault.Rle rle_fault.Syntax) = codes "bad pattern: rle syntax"
 pattern_fault_text (pattern_fault.Rle rle_fault.Header) = codes "bad pattern: rle header"

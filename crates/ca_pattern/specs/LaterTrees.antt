@@ -1,4 +1,4 @@
--- The trees of planes some generations on.
+-- The trees of planes after some generations.
 use Rattle.std.specs.Prelude.{◌≡◌, ℕ, ◌≤◌, ℤ, List}
 use Rattle.ca_plane.specs.Prelude.{cells_after, IsInPlane}
 use Rattle.ca_quad.specs.declared.{node.Node.Node, tree.Tree.Tree}

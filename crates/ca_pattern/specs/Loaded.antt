@@ -7,7 +7,8 @@ use Rattle.ca_quad.specs.Prelude.{IsTrimmed}
 use Rattle.ca_pattern.specs.declared.pattern.Loaded.{Loaded}
 use Rattle.ca_pattern.specs.{Formats.format_of, Means.HoldsPattern}
 
--- the pattern is what the bytes mean, in the store of these nodes: its tree shows these cells and has the least level
+-- the pattern is what the bytes mean, in the store of these nodes: its tree shows these cells and has the smallest
+-- level
 pub record IsLoaded (nodes : List Node) (bytes : List ℕ) (cells : Picture) (loaded : Loaded) : Type 0 where
   pub kind : loaded.kind ≡ format_of bytes
   pub tree : trees.IsTree nodes loaded.tree

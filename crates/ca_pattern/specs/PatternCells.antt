@@ -9,7 +9,7 @@ use Rattle.ca_pattern.specs.declared.pattern.{Cells.Cells, Pattern.Pattern, Stor
 use Rattle.ca_pattern.specs.declared.pattern.Cells.TheVariants.{Text, Squares}
 use Rattle.ca_pattern.specs.States.{HasSmallStates}
 
--- the tree shows these cells in its store, at every x and y, and has the least level
+-- the tree shows these cells in its store, at every x and y, and has the smallest level
 pub record IsTreeOf (cells : ℤ → ℤ → ℕ) (stored : StoredTree) : Type 0 where
   pub is_tree : trees.IsTree stored.store stored.tree
   pub low : stored.tree.level ≤ 62

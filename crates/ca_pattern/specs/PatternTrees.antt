@@ -1,4 +1,4 @@
--- Trees of patterns, taken some generations on, moved and compared.
+-- Trees of patterns, advanced by some generations, moved and compared.
 use Rattle.std.specs.Prelude.{◌≤◌, ◌^◌, ℤ, pos, neg_ℤ, ◌≤ℤ◌, List, ◌≡◌, ◌≢◌, ℕ}
 use Rattle.ca_plane.specs.Prelude.{reach, most_generations, Picture, cells_after, IsInPlane}
 use Rattle.ca_quad.specs.declared.{node.Node.Node, tree.Tree.Tree, tree.WideBounds.WideBounds}
@@ -30,7 +30,7 @@ pub record IsPattern (nodes : List Node) (tree : Tree) : Type 0 where
   pub trimmed : IsTrimmed nodes tree
   pub range : AreInRange (cell nodes tree)
 
--- a pattern's tree, from which a plane is taken n generations on
+-- a pattern's tree, whose plane is advanced by n generations
 pub record IsRun (nodes : List Node) (tree : Tree) (n : ℕ) : Type 0 where
   pub pattern : IsPattern nodes tree
   pub few : n ≤ most_generations

@@ -1,4 +1,4 @@
--- What is told and written of a pattern's cells, and why they aren't written.
+-- What is reported and written of a pattern's cells, and why they aren't written.
 use Rattle.std.specs.Prelude.{◌≡◌, ◌≢◌, ℕ, ℤ, List, MatchOption}
 use Rattle.ca_plane.specs.Prelude.{Picture, IsLive, cell, IsLeastBox, IsInRange, HasPopulation, HasTooManyCells}
 use Rattle.ca_plane.specs.Plane as plane
@@ -17,7 +17,8 @@ pub record IsSummaryOf (kind : Format) (cells : ℤ → ℤ → ℕ) (rule : Rul
   pub population : HasPopulation cells summary.cells
   pub bounds : (picture : Picture) → ((x y : ℤ) → cells x y ≡ plane.cell picture x y) → MatchOption summary.bounds (IsLive picture → ⊥) (IsLeastBox picture)
 
--- the text is the tidy one of a format with these cells, this rule text of a rule with so many states, and the generation
+-- the text is the tidy one of a format with these cells, this rule text of a rule with `states` states, and the
+-- generation
 pub record IsTidyTextOf (target : Format) (cells : ℤ → ℤ → ℕ) (rule_text : List ℕ) (generation states : ℕ) (text : List ℕ) : Type 0 where
   pub shown : Picture
   pub same : (x y : ℤ) → cells x y ≡ plane.cell shown x y

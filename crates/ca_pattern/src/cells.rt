@@ -22,7 +22,7 @@ use ca_quad::{QuadFault, Store, Tree, WideBounds};
 use ca_rle::{PackedCells, draw_text};
 use std::alloc::Global;
 
-/// How many cells are live, and the least box round them, where there are any.
+/// How many cells are live, and the smallest box round them, where there are any.
 pub(crate) struct Extent {
     pub(crate) cells: u128,
     pub(crate) bounds: Option<Bounds>,
@@ -50,7 +50,7 @@ impl Cells<'_> {
         }
     }
 
-    /// How many cells are live, and the least box round them.
+    /// How many cells are live, and the smallest box round them.
     pub(crate) fn extent(&self, alloc: Global) -> Result<Extent, Memory>
         requires { (cells : ℤ → ℤ → ℕ) × AreCells self.now cells }
         ensures { (cells : ℤ → ℤ → ℕ) → AreCells self.now cells → IfOk result (IsExtentOf cells) }
@@ -81,7 +81,7 @@ pub(crate) fn tree_of(store: &mut Store, cells: PackedCells) -> Result<Tree, Mem
     }
 }
 
-/// The least box round the live cells of a tree, where there are any.
+/// The smallest box round the live cells of a tree, where there are any.
 ///
 /// # Errors
 ///

@@ -22,7 +22,7 @@ pub enum ConvertFault {
     /// a summary.
     #[error("too many cells")]
     TooManyCells,
-    /// A growth was refused.
+    /// An allocation failed.
     #[error("out of memory")]
     Memory,
 }

@@ -1,6 +1,6 @@
-//! Laws of patterns some generations on, which no call needs to run: out of work and memory apart, one pattern
-//! at most is reached from a file, with one summary and one text in each format, or there is one fault, in one
-//! place, for which it isn't.
+//! Laws of patterns after some generations, which no call needs to run: out of work and memory apart, one
+//! pattern at most is reached from a file, with one summary and one text in each format, or there is one
+//! fault, in one place, for which it isn't.
 
 ghost use Rattle.std.specs.Prelude.{◌≡◌, ◌≢◌, ℕ, List};
 ghost use Rattle.ca_rule.specs.Prelude.{TableRule};

@@ -15,9 +15,9 @@ pub struct Limits {
     /// may take longer, and more work.
     pub memo: usize,
     /// How many units of work may be done. A unit is the centre of one square, not empty, after some
-    /// generations, that wasn't remembered; one brick of 64 by 16 cells of a dense plane, one generation on;
-    /// one square that is made of such bricks again; or up to 4096 squares that a long run copies. A claim
-    /// that needs more is refused.
+    /// generations, that wasn't remembered; one brick of 64 by 16 cells of a dense plane, one generation later;
+    /// one square that is made of such bricks again; or up to 4096 squares that a long run copies. A claim that
+    /// needs more is refused.
     pub work: u64,
 }
 

@@ -12,9 +12,9 @@ use crate::read::BadPattern;
 use crate::ruled::UnnamedRule;
 use thiserror::Error;
 
-/// Why a pattern isn't opened, taken some generations on, or written, with its place: the first of these that
-/// holds, but that too many cells are judged last, and that out of memory may come before any other where
-/// memory is needed for the pattern's file.
+/// Why a pattern isn't opened, advanced by some generations, or written, with its place: the first of these
+/// that holds, but that too many cells are judged last, and that out of memory may come before any other
+/// where memory is needed for the pattern's file.
 #[derive(Debug, Drop, Error)]
 pub enum LocatedFault {
     /// The file doesn't read. Its fault is never out of memory here.
@@ -26,22 +26,22 @@ pub enum LocatedFault {
     /// A cell has a state that isn't below the number of the rule's states.
     #[error("state too large")]
     StateTooLarge,
-    /// The file's generation and the generations on are together more than 2^63 - 1, the greatest that a file
-    /// may name.
+    /// The file's generation and the generations after it are together more than 2^63 - 1, the greatest that
+    /// a file may name.
     #[error("generation too large")]
     GenTooLarge,
     /// As much work was done as may be. A run of no generations is never out of work.
     #[error("out of work")]
     Work,
     /// A cell is live in the end outside -2^60 to 2^60 - 1, where no file may have one. Only what is written
-    /// some generations on has it.
+    /// after some generations has it.
     #[error("out of range")]
     Range,
     /// More than 16777216 cells are live, which is more than an RLE may have. Only what is written as RLE has
     /// it.
     #[error("too many cells")]
     TooManyCells,
-    /// A growth was refused.
+    /// An allocation failed.
     #[error("out of memory")]
     Memory,
 }

@@ -16,7 +16,7 @@ pub enum PatternFault {
     /// The fault of a macrocell text.
     #[error("macrocell: {0}")]
     Macro(MacroFault),
-    /// A growth was refused. No verdict has it: out of memory is a cause of its own.
+    /// An allocation failed. No verdict has it: out of memory is a cause of its own.
     #[error("out of memory")]
     Memory,
 }

@@ -26,7 +26,7 @@ use std::alloc::Global;
 ///
 /// # Errors
 ///
-/// The fault of the file, by its format; and `Memory` where a growth is refused: for an RLE that reads, and
+/// The fault of the file, by its format; and `Memory` where an allocation fails: for an RLE that reads, and
 /// for a macrocell at a good line that adds a node after good lines, or after the last line of a good text.
 /// After a refusal the store is as before or has more squares.
 pub fn read_pattern(alloc: Global, store: &mut Store, bytes: &[u8]) -> Result<Loaded, PatternFault>

@@ -28,9 +28,9 @@ impl Pattern<'_, '_> {
     ///
     /// # Errors
     ///
-    /// `Range` where a live cell lies where no file may have one, which only a pattern that was taken some
-    /// generations on has; else `TooManyCells` for an RLE of more than 16777216 live cells. `Memory` may come
-    /// before.
+    /// `Range` where a live cell lies where no file may have one, which only a pattern that was advanced by
+    /// some generations has; else `TooManyCells` for an RLE of more than 16777216 live cells. `Memory` may
+    /// come before.
     pub fn text(self, alloc: Global, target: Format) -> Result<Vec<u8>, LocatedFault>
         requires { (cells : ℤ → ℤ → ℕ) × IsPatternOf cells self }
         ensures written { (cells : ℤ → ℤ → ℕ) → IsPatternOf cells self.entry → IfOk result (λ text.

@@ -68,7 +68,7 @@ module _ (one other : ℤ → ℤ → ℕ) (same : (x y : ℤ) → one x y ≡ o
   pub no_window_too : (request : DrawRequest) (fault : WindowFault) → HasNoWindow request one fault → HasNoWindow request other fault
   no_window_too request fault h = (h.0, box_shown h.0 h.1, h.2)
 
--- ---- patterns some generations on
+-- ---- patterns after some generations
 
 module _ (bytes : List ℕ) (tables : List TableRule) (n : ℕ) (pattern : Pattern) (is : IsPatternAfter bytes tables n pattern) (stored : StoredTree)
     (tree : IsTreeOf (after (next_of (rule_value pattern.rule)) is.cells n) stored) (request : DrawRequest) where

@@ -18,7 +18,7 @@ use Rattle.ca_pattern_runs.specs.Prelude.{AreKnownTables, HoldsOfTables, HoldsOf
 pub of_tables : (rule : Option (List ℕ)) (Holds : List TableRule → Type 0) (all tables : List TableRule) → AreKnownTables rule all → tables ≡ all → Holds tables → HoldsOfTables rule Holds
 of_tables rule Holds all tables known equal holds = record { tables = all; known = known; holds = subst Holds equal holds }
 
--- what is told, where a fault says the same as others do
+-- what is reported, where a fault says the same as others do
 convert_more : (P Q : ConvertFault → Type 0) → ((fault : ConvertFault) → P fault → Q fault) → (told : ToolFault) → TellsConvert P told → TellsConvert Q told
 convert_more P Q more (Convert f) (other, is) = (other, more f is)
 convert_more P Q more Memory is = more convert_fault.Memory is

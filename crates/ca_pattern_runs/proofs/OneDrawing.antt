@@ -28,7 +28,7 @@ module _ (cells : ℤ → ℤ → ℕ) where
   box_within a b one two =
       ((one.all b.x0 two.left.0 two.left.1).0, (one.all b.x1 two.right.0 two.right.1).1, (one.all two.top.0 b.y0 two.top.1).2, (one.all two.bottom.0 b.y1 two.bottom.1).3)
 
-  -- some cells have one least box,
+  -- some cells have one smallest box,
   one_least : (a b : WideBounds) → IsLeastWideBox cells a → IsLeastWideBox cells b → a ≡ b
   one_least a b one two =
       let (l, r, t, u) = box_within a b one two in
@@ -154,7 +154,7 @@ module _ (bytes : List ℕ) (tables : List TableRule) (n work : ℕ) (request : 
       let timed = subst (λ g. IsCaptionOf request (g + n) (after (next_of b.rule) b.cells n) t) one.2 told in
       one_caption request (after (next_of b.rule) b.cells n) (b.generation + n) t u timed b.holds
 
-  -- what is told of a plane that isn't reached is its fault
+  -- what is reported of a plane that isn't reached is its fault
   reach_fault_of : (told : ToolFault) → told ≢ Memory → told ≢ Work → TellsPattern (IsReachFault bytes tables n work) told
       → (fault : LocatedFault) × (fault ≢ located.Memory) × (fault ≢ located.Work) × IsReachFault bytes tables n work fault × (told ≡ (reported fault).fault)
   reach_fault_of told m w (fault, is, same) =

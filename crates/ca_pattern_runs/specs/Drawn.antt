@@ -10,7 +10,8 @@ use Rattle.ca_pattern.specs.Prelude.{HoldsSmallRuledPattern}
 use Rattle.ca_report.specs.declared.form.DrawRequest.{DrawRequest}
 use Rattle.ca_pattern_runs.specs.Captions.{caption_text}
 
--- the text is a picture of these cells, of so many states: that of the window that is asked for, of the box that is drawn of them
+-- the text is a picture of these cells, of `states` states: that of the window that is asked for, of the box that is
+-- drawn of them
 pub record IsPictureOf (request : DrawRequest) (states : ℕ) (cells : ℤ → ℤ → ℕ) (text : List ℕ) : Type 0 where
   pub box : WideBounds
   pub window : Window
@@ -18,7 +19,8 @@ pub record IsPictureOf (request : DrawRequest) (states : ℕ) (cells : ℤ → �
   pub is_window : IsWindowFor request.view request.format box window
   pub drawn : text ≡ drawing (record { format = request.format; states = states; zoom = request.view.zoom }) cells window
 
--- the text is the caption of that picture, at this generation: it tells the least box round the live cells, if there are any, and the scale of the window
+-- the text is the caption of that picture, at this generation: it gives the smallest box round the live cells, if there
+-- are any, and the scale of the window
 pub record IsCaptionOf (request : DrawRequest) (generation : ℕ) (cells : ℤ → ℤ → ℕ) (text : List ℕ) : Type 0 where
   pub bounds : Option WideBounds
   pub window : Window
@@ -30,8 +32,8 @@ pub record IsCaptionOf (request : DrawRequest) (generation : ℕ) (cells : ℤ �
 abbrev pub HasNoWindow : DrawRequest → (ℤ → ℤ → ℕ) → WindowFault → Type 0
 HasNoWindow request cells fault = (box : WideBounds) × IsBoxShown cells box × IsNoWindowFor request.view request.format box fault
 
--- this holds of the cells that a file's pattern has so many generations on, at every x and y, of its rule's number of states, and of the generation,
--- which is then below the limit
+-- this holds of the cells that a file's pattern has after n generations, at every x and y, of its rule's number of
+-- states, and of the generation, which is then below the limit
 pub record HoldsOfLater (bytes : List ℕ) (tables : List TableRule) (n : ℕ) (Holds : (states generation : ℕ) → (ℤ → ℤ → ℕ) → Type 0) : Type 0 where
   pub cells : Picture
   pub rule : RuleValue
@@ -40,7 +42,7 @@ pub record HoldsOfLater (bytes : List ℕ) (tables : List TableRule) (n : ℕ) (
   pub low : generation + n < generation_limit
   pub holds : Holds (states_of rule) (generation + n) (after (next_of rule) cells n)
 
--- the text is what is drawn of a file with these bytes n generations on
+-- the text is what is drawn of a file with these bytes after n generations
 abbrev pub IsDrawnAfter : List ℕ → List TableRule → (n : ℕ) → DrawRequest → List ℕ → Type 0
 IsDrawnAfter bytes tables n request text = HoldsOfLater bytes tables n (λ states generation cells. IsPictureOf request states cells text)
 

@@ -53,7 +53,7 @@ pub record IsShown (bytes : List ℕ) (tables : List TableRule) (text : List ℕ
 abbrev pub IsRuleFileFault : Option (List ℕ) → TableFault → Type 0
 IsRuleFileFault rule fault = (text : List ℕ) × (rule ≡ Some text) × table_faults.IsTableTextFault text fault
 
--- a run tells what is wrong with its rule file, where IsFault says that: out of memory is told alone
+-- a run tells what is wrong with its rule file, where IsFault says that: out of memory is reported alone
 abbrev pub TellsTable : (TableFault → Type 0) → ToolFault → Type 0
 TellsTable IsFault (BadTable fault) = (fault ≢ table_fault.Memory) × IsFault fault
 TellsTable IsFault Memory = IsFault table_fault.Memory
@@ -65,7 +65,7 @@ TellsConvert IsFault (Convert fault) = (fault ≢ convert_fault.Memory) × IsFau
 TellsConvert IsFault Memory = IsFault convert_fault.Memory
 TellsConvert IsFault told = ⊥
 
--- what is reported where a pattern isn't opened, taken some generations on, or written
+-- what is reported where a pattern isn't opened, advanced by some generations, or written
 abbrev pub reported : LocatedFault → DetailedFault ToolFault
 reported (Unread bad) = record { fault = Convert (convert_fault.BadPattern bad.fault); line = bad.line; rule_text = None }
 reported (UnnamedRule unnamed) = record { fault = Convert (convert_fault.BadRule unnamed.fault); line = None; rule_text = Some unnamed.rule_text }
@@ -105,7 +105,7 @@ abbrev pub IsFormFault : TextForm → List ℕ → List TableRule → ConvertFau
 IsFormFault forms.Summary bytes tables fault = IsSummaryFault bytes tables fault
 IsFormFault (forms.File target) bytes tables fault = IsConvertFault bytes tables target fault
 
--- the text is the five lines of a summary that is true of the plane of the bytes' pattern n generations on
+-- the text is the five lines of a summary that is true of the plane of the bytes' pattern after n generations
 pub record IsShownAfter (bytes : List ℕ) (tables : List TableRule) (n : ℕ) (text : List ℕ) : Type 0 where
   pub summary : Summary
   pub holds : IsSummaryAfter bytes tables n summary
@@ -122,7 +122,8 @@ abbrev pub IsFormCaption : Form → List ℕ → List TableRule → ℕ → List
 IsFormCaption (Text form) bytes tables n text = text ≡ []
 IsFormCaption (Picture request) bytes tables n text = IsCaptionAfter bytes tables n request text
 
--- the first reason for which no such text is written, where so much work may be done: the plane isn't reached, or it isn't written as a file
+-- the first reason for which no such text is written, where `work` units of work may be done: the plane isn't reached,
+-- or it isn't written as a file
 abbrev pub IsTextFault : TextForm → List ℕ → List TableRule → (n work : ℕ) → LocatedFault → Type 0
 IsTextFault forms.Summary bytes tables n work refused = IsReachFault bytes tables n work refused
 IsTextFault (forms.File target) bytes tables n work refused = IsConvertFaultAfter bytes tables n work target refused

@@ -56,7 +56,7 @@ pub(crate) fn picture(
     }
 }
 
-// The picture of a tree's cells, of so many states, and its caption, at this generation.
+// The picture of a tree's cells, of `states` states, and its caption, at this generation.
 fn picture_of(
     alloc: Global,
     store: &Store,
@@ -94,7 +94,7 @@ fn picture_of(
     }
 }
 
-// The least box round a tree's live cells, if there are any.
+// The smallest box round a tree's live cells, if there are any.
 fn bounds_of(alloc: Global, store: &Store, tree: &Tree) -> Result<Option<WideBounds>, Memory>
     requires { IsTree store.now tree.now }
     ensures least { IfOk result (λ bounds. MatchOption bounds (IsDead (cell store.now tree.now))

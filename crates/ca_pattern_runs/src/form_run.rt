@@ -1,4 +1,4 @@
-//! What is written of a pattern file, some generations on.
+//! What is written of a pattern file, after some generations.
 
 ghost use Rattle.std.specs.Prelude.{◌≡◌, ℕ, ◌≤◌, List, IfOk, IfErr};
 ghost use Rattle.ca_plane.specs.Prelude.{most_generations};
@@ -20,8 +20,8 @@ use ca_rule::Table;
 use std::alloc::Global;
 use std::io::Write;
 
-/// Writes what is asked of the pattern file with these bytes, some generations on, under these tables. It answers
-/// the exit status 0. The observer sees how far the generations are. A fault comes with what is known of it.
+/// Writes what is asked of the pattern file with these bytes, after some generations, under these tables. It
+/// answers the exit status 0. The observer sees how far the generations are. A fault comes with what is known of it.
 ///
 /// Nothing is written before all is judged.
 pub fn write_form<W: Write, O: Observer>(

@@ -35,7 +35,7 @@ place_beside b first end = elim (cases_lt b first) [ inl below ↦ inl below | i
 pub AreBitsOf-mask : (first end : ℕ) → AreBitsOf (2 ^ end - 2 ^ first) first end
 AreBitsOf-mask first end = record { within = λ b least most. bit_at_mask_inside first end b least most; outside = λ b out. elim (place_beside b first end) [ inl below ↦ bit_at_mask_below first end b below | inr (inl above) ↦ bit_at_mask_above first end b above | inr (inr both) ↦ elim (out both.0 both.1) [ ] ] }
 
--- no number is from a first one on and below it, or below one and from it on
+-- no number is both at least a first one and below it
 none_between : (column first : ℕ) → first ≤ column → column < first → ⊥
 none_between column first least most = omega (arith, least, most)
 

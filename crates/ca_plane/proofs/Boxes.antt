@@ -1,4 +1,4 @@
--- The least box round the live cells of a picture, as it grows by one cell after another.
+-- The smallest box round the live cells of a picture, as it grows by one cell after another.
 use Rattle.std.proofs.Common.{◌≡◌, ◌≢◌, ℕ, ◌≤◌, [], ◌∷◌, ◌++◌, Bool, Option, Some, true, false, sym, refl, ap, ◌∙◌, inl, inr, ◌⊎◌, arith, subst, append_assoc}
 use Rattle.std.specs.Prelude.{ℤ, int_lt, if◌then◌else◌}
 use Rattle.std.specs.Iterator.{YieldsFirst}
@@ -68,7 +68,7 @@ IsInBox-grown old new at x y grown within = (omega (arith, ints, clamps), omega 
 IsInBox-point : (old new : Bounds) (at : Point) (x y : ℤ) → IsGrown old new at → (y ≡ at.y) × (x ≡ at.x) → IsInBox new x y
 IsInBox-point old new at x y grown place = (omega (arith, ints, clamps), omega (arith, ints, clamps), omega (arith, ints, clamps), omega (arith, ints, clamps))
 
--- the least box grown by the point of a live cell that is written
+-- the smallest box grown by the point of a live cell that is written
 pub IsLeastBox-grown : (p q : Picture) (at : Point) (s : ℕ) (old new : Bounds) → Sets p q at s → s ≢ 0 → IsGrown old new at → IsLeastBox p old → IsLeastBox q new
 IsLeastBox-grown p q at s old new sets some grown least = record {
   all = λ x y here. elim (cases_live-Sets p q at s x y sets here) [ inl place ↦ IsInBox-point old new at x y grown place | inr was ↦ IsInBox-grown old new at x y grown (least.all x y was) ];
@@ -78,7 +78,7 @@ IsLeastBox-grown p q at s old new sets some grown least = record {
   bottom = live-row p q at s old.y1 new.y1 sets some (cases_int_max _ _ _ grown.y1) least.bottom;
 }
 
--- the least box round one live cell is its point
+-- the smallest box round one live cell is its point
 pub IsLeastBox-one : (e : Point × ℕ) (box : Bounds) → 1 ≤ e.1 → box.x0 ≡ e.0.x → box.y0 ≡ e.0.y → box.x1 ≡ e.0.x → box.y1 ≡ e.0.y → IsLeastBox (e ∷ []) box
 IsLeastBox-one e box low x0 y0 x1 y1 =
     let sets : Sets [] (e ∷ []) e.0 e.1 = λ x y. refl in
@@ -92,13 +92,13 @@ IsLeastBox-one e box low x0 y0 x1 y1 =
       bottom = (e.0.x, subst (λ (y : ℤ). cell (e ∷ []) e.0.x y ≢ 0) (sym y1) here);
     }
 
--- a picture with a least box is live
+-- a picture with a smallest box is live
 pub IsLive-box : (p : Picture) (box : Bounds) → IsLeastBox p box → IsLive p
 IsLive-box p box least = (box.x0, least.left.0, least.left.1)
 
 -- ---- a `for` over the cells of a plane
 
--- the least box round the cells before those that are left
+-- the smallest box round the cells before those that are left
 abbrev pub IsBoxBefore : Picture → Picture → Bounds → Type 0
 IsBoxBefore p left box = (seen : Picture) × (p ≡ seen ++ left) × IsLeastBox seen box
 

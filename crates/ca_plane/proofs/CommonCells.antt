@@ -57,7 +57,7 @@ pub common_more : (q xs t v : Picture) (e f : Point × ℕ) → q ≡ xs ++ t �
 common_more q xs t v e f two next tied state =
     two ∙ ap (λ (l : Picture). xs ++ l) (next ∙ ap (λ (g : Point × ℕ). g ∷ v) (sym (entry-same e f (point_cmp_exact e.0 f.0 tied) state))) ∙ sym (append_assoc xs (e ∷ []) v)
 
--- where a point is told, the planes aren't the same
+-- where a point is reported, the planes aren't the same
 pub told : (p q : Picture) (at : Point) → DifferAt p q at → (true ≡ false → IsSame p q) × (IsSame p q → true ≡ false)
 told p q at differ =
     let no : true ≡ false → IsSame p q = λ e. cc in

@@ -24,7 +24,7 @@ aged states centre lives =
 abbrev pub ageing_next : Ageing → List ℕ → ℕ
 ageing_next ageing nine = aged ageing.states (slice_index nine 4) (counting_next ageing.counting (map liveness nine))
 
--- a rule with so many states and this next state has as many as these, and its cells age so
+-- a rule with `states` states and this next state has as many as `ageing` says, and its cells age so
 pub record GoesByAgeing (states : ℕ) (next : List ℕ → ℕ) (ageing : Ageing) : Type 0 where
   pub as_many : states ≡ ageing.states
   pub goes_by : (nine : List ℕ) → length nine ≡ 9 → All (λ s. s < states) nine → next nine ≡ ageing_next ageing nine

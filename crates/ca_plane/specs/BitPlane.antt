@@ -29,7 +29,7 @@ pub record AddsRun (first : Point) (length : ℕ) (old new : List CellWord) : Ty
   pub run : (n : ℕ) → n < length → bit_cell new (first.x +ℤ pos n) first.y ≡ 1
   pub other : (x y : ℤ) → ((n : ℕ) → n < length → x ≡ first.x +ℤ pos n → y ≡ first.y → ⊥) → bit_cell new x y ≡ bit_cell old x y
 
--- so many first cells of the run are made live, maybe none and never all, and every other cell is as it was
+-- a first part of the run is made live, maybe none of it and never all, and every other cell is as it was
 abbrev pub AddsPartOfRun : Point → ℕ → (old new : List CellWord) → Type 0
 AddsPartOfRun first length old new = (some : ℕ) × (some < length) × AddsRun first some old new
 

@@ -1,4 +1,4 @@
--- The least box round the live cells, and planes that are moved.
+-- The smallest box round the live cells, and planes that are moved.
 use Rattle.std.specs.Prelude.{◌≢◌, ℕ, ℤ, pos, ◌≤ℤ◌, ◌+ℤ◌, ◌-ℤ◌}
 use Rattle.ca_plane.specs.declared.point.{Point.Point, Bounds.Bounds}
 use Rattle.ca_plane.specs.{Plane.Picture, Plane.cell, Sparse.IsInPlane}
@@ -11,7 +11,7 @@ IsInBox box x y = (box.x0 ≤ℤ x) × (x ≤ℤ box.x1) × (box.y0 ≤ℤ y) ×
 abbrev pub IsWithin : ℕ → ℤ → ℤ → ℤ → ℤ → Type 0
 IsWithin n x y u v = IsInBox (record { x0 = x -ℤ pos n; y0 = y -ℤ pos n; x1 = x +ℤ pos n; y1 = y +ℤ pos n }) u v
 
--- the least box round the live cells: they are all in it, and one lies on each of its sides
+-- the smallest box round the live cells: they are all in it, and one lies on each of its sides
 pub record IsLeastBox (cells : Picture) (box : Bounds) : Type 0 where
   pub all : (x y : ℤ) → cell cells x y ≢ 0 → IsInBox box x y
   pub left : (y : ℤ) × (cell cells box.x0 y ≢ 0)

@@ -29,7 +29,7 @@ abbrev pub front : (ℕ → Bool) → List ℕ → List ℕ
 front test [] = []
 front test (b ∷ bs) = if test b then b ∷ front test bs else []
 
--- the bytes from the first on that fails the test
+-- the bytes from the first that fails the test onwards
 abbrev pub rest : (ℕ → Bool) → List ℕ → List ℕ
 rest test [] = []
 rest test (b ∷ bs) = if test b then rest test bs else b ∷ bs

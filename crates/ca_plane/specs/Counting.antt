@@ -22,7 +22,7 @@ abbrev pub counting_next : Counting → List ℕ → ℕ
 counting_next counting nine =
     bit_at (if slice_index nine 4 == 0 then counting.birth else counting.survival) (counted_sum counting.neighbourhood nine)
 
--- a rule with so many states and this next state has two states, and goes by this counting
+-- a rule with `states` states and this next state has two states, and goes by this counting
 pub record GoesByCounting (states : ℕ) (next : List ℕ → ℕ) (counting : Counting) : Type 0 where
   pub two_states : states ≡ 2
   pub goes_by : (nine : List ℕ) → length nine ≡ 9 → All (λ s. s < 2) nine → next nine ≡ counting_next counting nine

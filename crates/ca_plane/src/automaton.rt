@@ -25,7 +25,7 @@ pub trait Automaton {
         ensures low { 2 ≤ result }
         ensures high { result ≤ 256 };
 
-    /// The state that a cell has one generation on, from the states of the nine cells round it.
+    /// The state that a cell has one generation later, from the states of the nine cells round it.
     fn next(&self, nine: &Nine) -> u8
         ensures { result ≡ next_of self.now nine.now };
 

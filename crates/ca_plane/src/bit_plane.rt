@@ -17,7 +17,7 @@ const SIDE: u64 = 64;
 /// 64 cells in a row, each of state 0 or 1.
 ///
 /// Rows and columns are counted from (-2^62, -2^62), which is the corner of the square in which planes keep
-/// their cells: the word has the cells of the row `row` in the columns from `64 * column` on, and bit 0 is
+/// their cells: the word has the cells of the row `row` in the columns from `64 * column` onwards, and bit 0 is
 /// the western-most of them.
 #[derive(Clone, Copy, Debug, PartialEq, Eq)]
 pub struct CellWord {
@@ -143,7 +143,7 @@ fn end_of_word(first: u64, end: u64) -> u64
     end.min(SIDE * (first / SIDE + 1))
 }
 
-// The word of the cells of a row from this column on, below the end, which lie in one word.
+// The word of the cells of a row from column `first` onwards, below the end, which lie in one word.
 fn word_of_run(row: u64, first: u64, end: u64) -> CellWord
     requires row { row ≤ plane_side }
     requires some { first < end }
@@ -160,7 +160,7 @@ fn word_of_run(row: u64, first: u64, end: u64) -> CellWord
     }
 }
 
-// Ones from this bit on, below the end.
+// Ones from bit `first` onwards, below the end.
 fn ones(first: u64, end: u64) -> u64
     requires order { first ≤ end }
     requires most { end ≤ 64 }

@@ -25,7 +25,7 @@ fn blank_length(bytes: &[u8]) -> usize
     bytes.iter().take_while(|byte| is_blank(**byte)).count()
 }
 
-/// The blanks that the bytes begin with, and the bytes from there on.
+/// The blanks that the bytes begin with, and the bytes after them.
 #[tactic(auto, using(crate::proofs::Lengths::fronts))]
 pub fn split_blanks(bytes: &[u8]) -> (&[u8], &[u8])
     ensures front { result.0.now ≡ front is_blank bytes.now }
@@ -57,7 +57,7 @@ fn digit_length(bytes: &[u8]) -> usize
         .count()
 }
 
-/// The digits that the bytes begin with, and the bytes from there on.
+/// The digits that the bytes begin with, and the bytes after them.
 #[tactic(auto, using(crate::proofs::Lengths::fronts))]
 pub fn split_digits(bytes: &[u8]) -> (&[u8], &[u8])
     ensures front { result.0.now ≡ front is_digit bytes.now }
@@ -72,7 +72,7 @@ fn word_length(bytes: &[u8]) -> usize
     bytes.iter().take_while(|byte| is_word_byte(**byte)).count()
 }
 
-/// The bytes of a word that the bytes begin with, and the bytes from there on.
+/// The bytes of a word that the bytes begin with, and the bytes after them.
 #[tactic(auto, using(crate::proofs::Lengths::fronts))]
 pub fn split_word(bytes: &[u8]) -> (&[u8], &[u8])
     ensures front { result.0.now ≡ front is_word_byte bytes.now }
@@ -87,7 +87,7 @@ fn length_to(bytes: &[u8], end: u8) -> usize
     bytes.iter().take_while(|byte| **byte != end).count()
 }
 
-/// The bytes before the first that is this one, and the bytes from there on.
+/// The bytes before the first that is this one, and the bytes after them.
 #[tactic(auto, using(crate::proofs::Lengths::fronts))]
 pub fn split_at_first(bytes: &[u8], end: u8) -> (&[u8], &[u8])
     ensures front { result.0.now ≡ front (λ b. not (b == end)) bytes.now }
@@ -96,7 +96,7 @@ pub fn split_at_first(bytes: &[u8], end: u8) -> (&[u8], &[u8])
     bytes.split_at(length_to(bytes, end))
 }
 
-/// The bytes of a line that the bytes begin with, and the bytes from there on.
+/// The bytes of a line that the bytes begin with, and the bytes after them.
 pub fn split_line(bytes: &[u8]) -> (&[u8], &[u8])
     ensures front { result.0.now ≡ front (λ b. not (is_line_end b)) bytes.now }
     ensures rest { result.1.now ≡ rest (λ b. not (is_line_end b)) bytes.now }

@@ -21,9 +21,9 @@ pub struct Counting {
     pub survival: u16,
 }
 
-/// How live cells age under a rule of so many states (Golly Help, "Generations"): a dead cell, of state 0, and
-/// a live one, of state 1, are live next where the counting says so, by the number of live neighbours. Every
-/// other cell that isn't dead goes up by one state in each generation, and is dead after the last.
+/// How live cells age under a rule of `states` states (Golly Help, "Generations"): a dead cell, of state 0,
+/// and a live one, of state 1, are live next where the counting says so, by the number of live neighbours.
+/// Every other cell that isn't dead goes up by one state in each generation, and is dead after the last.
 #[derive(Clone, Copy, Debug, PartialEq, Eq)]
 pub struct Ageing {
     pub counting: Counting,

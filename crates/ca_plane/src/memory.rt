@@ -6,7 +6,7 @@ ghost use Rattle.ca_plane.specs.declared.memory.MoveFault.TheVariants.{Memory};
 use std::alloc::{AllocError, AllocFailed};
 use thiserror::Error;
 
-/// A growth was refused.
+/// An allocation failed.
 #[derive(Clone, Copy, Debug, PartialEq, Eq, Error)]
 #[error("out of memory")]
 pub struct Memory;
@@ -41,7 +41,7 @@ pub enum WriteFault {
 /// Why a plane or a tree was not moved.
 #[derive(Clone, Copy, Debug, PartialEq, Eq, Error)]
 pub enum MoveFault {
-    /// A growth was refused.
+    /// An allocation failed.
     #[error("out of memory")]
     Memory,
     /// A live cell would leave the square in which a plane keeps its cells.

@@ -170,7 +170,7 @@ impl Plane {
         &self.cells
     }
 
-    /// The least box round the cells that aren't 0, where there are any.
+    /// The smallest box round the cells that aren't 0, where there are any.
     pub fn bounds(&self) -> Option<Bounds>
         ensures none { IsNone result ↔ (IsLive self.now → ⊥) }
         ensures some { IfSome result (IsLeastBox self.now) }

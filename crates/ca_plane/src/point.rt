@@ -37,7 +37,7 @@ impl Bounds {
         }
     }
 
-    // The least box round this one and the point.
+    // The smallest box round this one and the point.
     pub(crate) fn with_point(self, point: Point) -> Bounds
         ensures x0 { result.x0 ≡ int_min self.x0 point.x }
         ensures y0 { result.y0 ≡ int_min self.y0 point.y }

@@ -23,7 +23,7 @@ low_bits n k i h =
 pub cell_bit : (word x y : ℕ) → x < 8 → word_cells word x y ≡ bit_at word (8 * y + x)
 cell_bit word x y h = let e : nat_lt x 8 ≡ true = grind (arith, nat_tests) in rw e refl
 
--- the rows of two words from one on
+-- the rows of two words from `row` onwards
 module _ (north south row : ℕ) (fits : north < 2 ^ 64) where
   order : north + 18446744073709551616 * south ≡ south * 2 ^ 64 + north
   order = omega arith
@@ -68,7 +68,7 @@ module _ (column x y : ℕ) (small : column < 8) (h : x < 8) (i : y < 8) where
   pub left_bit : bit_at (18446744073709551615 - columns column) (8 * y + x) ≡ (if nat_lt (column + x) 8 then 0 else 1)
   left_bit = rw (is_column, is_bit, is_x) at (left_all (64 * column + (8 * y + x)) (omega arith))
 
--- the columns of two words from one on
+-- the columns of two words from `column` onwards
 module _ (west east column : ℕ) (small : column < 8) where
   abbrev cut : ℕ
   cut = bit_or (bit_and (west / 2 ^ column) (columns column)) (bit_and (east * 2 ^ (8 - column) % 2 ^ 64) (18446744073709551615 - columns column))
@@ -99,7 +99,7 @@ module _ (west east column : ℕ) (small : column < 8) where
       let same : bit_at cut (8 * y + x) ≡ bit_at east (8 * y + (column + x - 8)) = omega (arith, bits (8 * y + x) (omega arith), one, zero, low, up) in
       cell_bit cut x y h ∙ (same ∙ sym (cell_bit east (column + x - 8) y (omega arith)))
 
--- the cells of four squares of level 3 from a place on
+-- the cells of four squares of level 3 from a place onwards
 module _ (nodes : List Node) (four : Neighbours) (nw ne sw se : ℕ) (a : (x y : ℕ) → cell_of nodes 3 four.nw x y ≡ word_cells nw x y) (b : (x y : ℕ) → cell_of nodes 3 four.ne x y ≡ word_cells ne x y)
     (c : (x y : ℕ) → cell_of nodes 3 four.sw x y ≡ word_cells sw x y) (d : (x y : ℕ) → cell_of nodes 3 four.se x y ≡ word_cells se x y) (px py : ℕ) (west east word : ℕ)
     (wn : (x y : ℕ) → x < 8 → py + y < 8 → word_cells west x y ≡ word_cells nw x (py + y)) (ws : (x y : ℕ) → x < 8 → y < 8 → 8 ≤ py + y → word_cells west x y ≡ word_cells sw x (py + y - 8))

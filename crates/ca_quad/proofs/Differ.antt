@@ -7,7 +7,7 @@ use Rattle.ca_plane.specs.Prelude.{from_corner}
 use Rattle.ca_quad.specs.inner.Difference.{DifferInSquare, AreEqual, TellsDifference, AreUnequal}
 use Rattle.ca_quad.proofs.Cells.{same_cells}
 
--- what is told of squares of a level is told of squares of any level that they have
+-- what is reported of squares of a level holds of squares of any level that they have
 pub at_level : (nodes : List Node) (a b k : ℕ) → IsOf nodes a k → (r : Option (ℕ × ℕ)) → TellsDifference (2 ^ k) (cell_of nodes k a) (cell_of nodes k b) r
     → (level : ℕ) → IsOf nodes a level → TellsDifference (2 ^ level) (cell_of nodes level a) (cell_of nodes level b) r
 at_level nodes a b k h r told level i =

@@ -1,4 +1,4 @@
--- The least boxes of squares that lie side by side.
+-- The smallest boxes of squares that lie side by side.
 use Rattle.std.proofs.Common.{◌≡◌, ◌≢◌, ℕ, ◌+◌, ◌-◌, ◌<◌, ◌≤◌, ◌^◌, min, max, ◌⊎◌, inl, inr, true, false, nat_lt, refl, sym, subst, ◌∙◌, arith}
 use Rattle.std.proofs.lemmas.Bool.Decides.{nat_tests}
 use Rattle.ca_quad.specs.declared.store.extent.Extent.{Extent}

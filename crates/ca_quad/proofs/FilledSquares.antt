@@ -136,7 +136,7 @@ module _ (s1 s2 s3 s4 : List Node) (sound : IsSoundStore s1) (g2 : Grows s1 s2) 
         → IfOk u (λ id. ShowsFrom new id level cells x y)
     joined = four_joined level large quarters
 
-  -- the same of squares that were filled, each from its own corner on
+  -- the same of squares that were filled, each from its own corner onwards
   module _ (at : Spot) (cs : Corners) (are : ArePartCorners at half cs) (cells : ℤ → ℤ → ℕ)
       (p : ShowsFrom s1 nw (level - 1) (cells_from cells at) 0 0) (q : ShowsFrom s2 ne (level - 1) (cells_from cells cs.ne) 0 0) (r : ShowsFrom s3 sw (level - 1) (cells_from cells cs.sw) 0 0) (s : ShowsFrom s4 se (level - 1) (cells_from cells cs.se) 0 0)
     where

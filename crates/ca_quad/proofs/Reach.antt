@@ -1,4 +1,4 @@
--- What the least box of a tree, or its level, tells of the square of a plane.
+-- What the smallest box of a tree, or its level, tells of the square of a plane.
 use Rattle.std.proofs.Common.{ℕ, ◌+◌, ◌-◌, ◌≤◌, ◌^◌, inl, inr, ℤ, pos, ◌+ℤ◌, List, refl, arith}
 use Rattle.std.proofs.lemmas.Int.{ints}
 use Rattle.std.proofs.Math.Nat.{pow-le-pow_right}

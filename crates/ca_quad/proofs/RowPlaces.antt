@@ -104,7 +104,7 @@ module _ (p : Picture) (rows : List Row) (passes : Point → Type 0) where
 -- ---- rows of a list
 
 module _ (p : Picture) (sparse : IsSparse p) where
-  -- the places from one on whose points come before the end of its row
+  -- the places from `first` up to `row.end` are a row, where their points come before `at`, a spot with the same y
   pub row_made : (first : ℕ) (at : Spot) (row : Row) → at.y ≡ (point_at p first).y → row.y ≡ (point_at p first).y → row.first ≡ first → first < row.end → row.end ≤ length p
       → ((i : ℕ) → first + 1 ≤ i → i < row.end → ComesBefore (point_at p i) at) → IsPictureRow p row
   row_made first at row ey ry e some range before = record {

@@ -15,7 +15,7 @@ use Rattle.ca_plane.proofs.Numbers.{below_or_not}
 use Rattle.ca_quad.proofs.Reach.{tree_holds}
 use Rattle.ca_quad.proofs.Views.{square_whole}
 
--- the least box moves with the cells
+-- the smallest box moves with the cells
 pub box_shifted : (cells : ℤ → ℤ → ℕ) (box : WideBounds) (to : Spot) → IsLeastWideBox cells box → IsLeastWideBox (shifted_cells cells to.x to.y) (shifted_box box to)
 box_shifted cells box to least =
     let back : (n d : ℤ) → n ≡ (n +ℤ d) -ℤ d = λ n d. omega (arith, ints) in
@@ -35,7 +35,7 @@ box_shifted cells box to least =
 pub fits_as : (p q : ℤ → ℤ → ℕ) → ((x y : ℤ) → q x y ≡ p x y) → FitsPlane p → FitsPlane q
 fits_as p q same fits x y live = fits x y (λ z. live (same x y ∙ z))
 
--- the levels of trees of the least level
+-- the levels of trees of the smallest level
 pub fits_level : (nodes : List Node) (tree : Tree) → IsTrimmed nodes tree → FitsPlane (cell nodes tree) → tree.level ≤ 64
 fits_level nodes tree trimmed fits =
     elim (below_or_not tree.level 65) [

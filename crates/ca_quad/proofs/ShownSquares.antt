@@ -29,7 +29,7 @@ shows_stays old new sound grows id k cells h = record {
   has_cells = λ x y. ap (λ f. f x y) (cells_stay old new sound grows k id h.is_square) ∙ h.has_cells x y;
 }
 
--- the same cells, told in another way
+-- the same cells, stated in another way
 pub shows_as : (nodes : List Node) (id k : ℕ) (p q : ℕ → ℕ → ℕ) → ((x y : ℕ) → p x y ≡ q x y) → ShowsSquare nodes id k p → ShowsSquare nodes id k q
 shows_as nodes id k p q same h = record { is_square = h.is_square; has_cells = λ x y. h.has_cells x y ∙ same x y }
 

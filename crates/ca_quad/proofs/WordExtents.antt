@@ -1,4 +1,4 @@
--- The least box round the live cells of a word.
+-- The smallest box round the live cells of a word.
 use Rattle.std.proofs.Common.{◌≡◌, ◌≢◌, ℕ, zero, suc, ◌+◌, ◌-◌, ◌*◌, ◌/◌, ◌%◌, ◌^◌, ◌<◌, ◌≤◌, max, inl, inr, refl, sym, ap, subst, ◌∙◌, arith, List, Option, Some, None, w64}
 use Rattle.std.specs.Prelude.{bit_and, bit_or}
 use Rattle.std.specs.Int.{bit_at, trailing_zeros, leading_zeros}
@@ -53,7 +53,7 @@ are_ends word some fits =
 
 -- ---- the columns
 
--- a word and the same moved down by so many bits
+-- a word and the same moved down by s bits
 abbrev over : ℕ → ℕ → ℕ
 over s n = bit_or n (n / 2 ^ s)
 

@@ -1,4 +1,4 @@
--- The least box round the live cells of a tree, and of a square.
+-- The smallest box round the live cells of a tree, and of a square.
 use Rattle.std.specs.Prelude.{◌≡◌, ◌≢◌, ℕ, ℤ, ◌≤ℤ◌, List, Option}
 use Rattle.ca_quad.specs.declared.{node.Node.Node, store.extent.Extent.Extent, tree.WideBounds.WideBounds}
 use Rattle.ca_quad.specs.{inner.Extent.IsSquareExtent, inner.Measure.AreMeasures}
@@ -11,7 +11,7 @@ IsDead cells = (x y : ℤ) → cells x y ≡ 0
 abbrev pub IsInWideBox : WideBounds → ℤ → ℤ → Type 0
 IsInWideBox box x y = (box.x0 ≤ℤ x) × (x ≤ℤ box.x1) × (box.y0 ≤ℤ y) × (y ≤ℤ box.y1)
 
--- the least box round the live cells: they are all in it, and one lies on each of its sides
+-- the smallest box round the live cells: they are all in it, and one lies on each of its sides
 pub record IsLeastWideBox (cells : ℤ → ℤ → ℕ) (box : WideBounds) : Type 0 where
   pub all : (x y : ℤ) → cells x y ≢ 0 → IsInWideBox box x y
   pub left : (y : ℤ) × (cells box.x0 y ≢ 0)
@@ -19,6 +19,6 @@ pub record IsLeastWideBox (cells : ℤ → ℤ → ℕ) (box : WideBounds) : Typ
   pub top : (x : ℤ) × (cells x box.y0 ≢ 0)
   pub bottom : (x : ℤ) × (cells x box.y1 ≢ 0)
 
--- each of these boxes is that of one of these squares: the least round its live cells, or none where there are none
+-- each of these boxes is that of one of these squares: the smallest round its live cells, or none if there are none
 abbrev pub AreSquareBoxes : List Node → List (ℕ × Option Extent) → Type 0
 AreSquareBoxes nodes boxes = AreMeasures (λ cells side found. IsSquareExtent cells side side found) nodes boxes

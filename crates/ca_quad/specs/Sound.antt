@@ -38,6 +38,6 @@ pub record Grows (old new : List Node) : Type 0 where
 abbrev pub AddsOnly : List Node → List Node → ℕ → Type 0
 AddsOnly old new id = (place : ℕ) → length old ≤ place → place < length new → id ≡ place_id place
 
--- a store with so many nodes is full
+-- a store with this many nodes is full
 abbrev pub most_nodes : ℕ
 most_nodes = 9 * 2 ^ 28

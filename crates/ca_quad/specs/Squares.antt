@@ -1,6 +1,6 @@
 -- Squares of cells, as a list of nodes keeps them (Gosper, "Exploiting regularities in large cellular spaces").
--- A square of level k has 2 ^ k cells a side. Its four quarters are told in the order
--- north-west, north-east, south-west, south-east.
+-- A square of level k has 2 ^ k cells a side. Its four quarters are listed in the order north-west, north-east,
+-- south-west, south-east.
 use Rattle.std.specs.Prelude.{◌≡◌, ℕ, zero, suc, ◌+◌, ◌-◌, ◌/◌, ◌%◌, ◌^◌, ◌<◌, List, length, nat_lt, ◌==◌, ◌&&◌, if◌then◌else◌, slice_index_or}
 use Rattle.ca_quad.specs.declared.{named.IdForm.IdForm, node.Node.Node, square.Square.Square}
 use Rattle.ca_quad.specs.declared.named.IdForm.TheVariants.{Cells2, Cells4, Kept}

@@ -9,7 +9,7 @@ use thiserror::Error;
 /// Why a tree was not made a plane.
 #[derive(Clone, Copy, Debug, PartialEq, Eq, Error)]
 pub enum QuadFault {
-    /// A growth was refused.
+    /// An allocation failed.
     #[error("out of memory")]
     Memory,
     /// More cells are live than are handled at once.

@@ -1,4 +1,4 @@
-//! The least boxes of squares, so that a walk need not measure a square that an earlier one did.
+//! The smallest boxes of squares, so that a walk need not measure a square that an earlier one did.
 
 ghost use Rattle.std.specs.Prelude.{List};
 ghost use Rattle.ca_quad.specs.declared.node.Node.{Node};
@@ -9,10 +9,10 @@ use crate::store::extent::Extent;
 use std::alloc::Global;
 use std::marker::Model;
 
-// So many boxes are remembered at most from one walk to the next, some 10 MB of them.
+// At most `MOST` boxes are remembered from one walk to the next, some 10 MB of them.
 const MOST: usize = 1 << 16;
 
-/// The least boxes round the live cells of some squares of one store, as `Store::bounds_with` has found them.
+/// The smallest boxes round the live cells of some squares of one store, as `Store::bounds_with` has found them.
 /// They stay true while the store grows.
 #[derive(Drop)]
 pub struct SquareBoxes {

@@ -25,12 +25,12 @@ sent_next f old mid new xs i d x these below at same sent more =
     subst (Appends old new) (sym whole) (sent_both old mid new (flat_map f (take i xs)) piece sent (subst (Appends mid new) (same ∙ ap f at) more))
 
 module _ {X : Type 0} (f : X → List ℕ) where
-  -- so many pieces from the i-th on, each named by its place, and a rest
+  -- n pieces from the i-th onwards, each named by its place, and a rest
   abbrev pub each : List X → X → ℕ → ℕ → List ℕ → List ℕ
   each xs d i zero rest = rest
   each xs d i (suc n) rest = f (get_or xs i d) ++ each xs d (suc i) n rest
 
-  -- they are all pieces from there on
+  -- they are all pieces from the i-th onwards
   pub each_all : (xs : List X) (d : X) (i n : ℕ) (rest : List ℕ) → i + n ≡ length xs → each xs d i n rest ≡ flat_map f (drop i xs) ++ rest
   each_all xs d i zero rest e = ap (λ l. flat_map f l ++ rest) (sym (drop_all i xs (omega arith)))
   each_all xs d i (suc n) rest e =

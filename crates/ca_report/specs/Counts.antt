@@ -1,7 +1,7 @@
 -- Words for numbers that several texts have.
 use Rattle.std.specs.Prelude.{ℕ, ℤ, pos, ◌+ℤ◌, ◌-ℤ◌, List, codes, nat_eq, if◌then◌else◌}
 
--- the word for so many generations
+-- the word for this number of generations
 abbrev pub generations_word : ℕ → List ℕ
 generations_word n = if nat_eq n 1 then codes " generation" else codes " generations"
 

@@ -35,7 +35,7 @@ pub fn push_side(out: &mut Vec<u8>, first: i64, last: i64) -> Result<(), Memory>
     push_text(out, buffer.format(length).as_bytes())
 }
 
-/// The word for so many generations.
+/// The word for this number of generations.
 pub fn generations_word<'a>(generations: u64) -> &'a [u8]
     ensures { result.now ≡ generations_word generations }
 {

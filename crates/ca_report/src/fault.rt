@@ -14,7 +14,7 @@ pub enum InputFault {
     /// More than 67108864 bytes came.
     #[error("too long")]
     TooLong,
-    /// A growth was refused.
+    /// An allocation failed.
     #[error("out of memory")]
     Memory,
 }
@@ -33,13 +33,14 @@ pub enum ToolFault {
     /// The pattern isn't shown or converted. Its fault is never `Memory` here.
     #[error("{0}")]
     Convert(ConvertFault),
-    /// The file's generation and those on are together more than 2^63 - 1. Only runs some generations on have it.
+    /// The file's generation and those after it are together more than 2^63 - 1. Only runs that advance a pattern
+    /// have it.
     #[error("the generation is too large")]
     GenTooLarge,
-    /// As much work was done as may be. Only runs some generations on have it.
+    /// As much work was done as may be. Only runs that advance a pattern have it.
     #[error("out of work")]
     Work,
-    /// A cell is live in the end where no file may have one. Only runs some generations on have it.
+    /// A cell is live in the end where no file may have one. Only runs that advance a pattern have it.
     #[error("out of range")]
     Range,
     /// There is no window of the plane as it is asked for.
@@ -48,7 +49,7 @@ pub enum ToolFault {
     /// A write failed or took no byte; a first part of the text was written, but not all of it.
     #[error("writing failed")]
     Write,
-    /// A growth was refused.
+    /// An allocation failed.
     #[error("out of memory")]
     Memory,
 }

@@ -1,4 +1,4 @@
--- The least box round cells that are in range.
+-- The smallest box round cells that are in range.
 use Rattle.std.proofs.Common.{◌≡◌, ◌≢◌, ◌↔◌, ℕ, ℤ, Option, Some, None, inl, inr, refl, ap, arith}
 use Rattle.std.specs.Option.{IsNone, IfSome}
 use Rattle.std.proofs.lemmas.Int.{ints}
@@ -32,7 +32,7 @@ box_in_range p box all least =
 pub some_in_range : (found : Option Bounds) (box : Bounds) → found ≡ Some box → IfSome found IsBoxInRange → IsBoxInRange box
 some_in_range found box e within = rw e at within
 
--- and the least one
+-- and the smallest one
 pub framed : (p : Picture) (found : Option Bounds) (box : Bounds) → found ≡ Some box → AreBounds p found → IsLeastBox p box
 framed p found box e bounds = rw e at bounds
 

@@ -13,7 +13,7 @@ use Rattle.ca_rle.specs.inner.Written.{some_of, IsItemGap}
 use Rattle.ca_rle.specs.inner.RunByRun.{AreBefore}
 use Rattle.ca_rle.proofs.PushedItems.{row_count-push, columns_of-push, picture_after-push}
 
--- so many of a tag
+-- `count` of a tag, as one item
 abbrev pub item_of : Tag → ℕ → Item
 item_of tag count = record { count = count; tag = tag }
 

@@ -1,4 +1,4 @@
--- What is told of a text that was judged.
+-- What is reported of a text that was judged.
 use Rattle.std.proofs.Common.{◌≡◌, ℕ, zero, suc, ◌<◌, ◌≤◌, List, get_or, refl, sym, subst, ◌∙◌, arith}
 use Rattle.std.specs.List.{All}
 use Rattle.std.proofs.lemmas.List.Elements.{All-from_recursion}
@@ -23,7 +23,7 @@ use Rattle.ca_rle.proofs.TextJudgements.{bare_of}
 pub items_sparse : (bytes : List ℕ) (corner : Point) (items : List Item) → Items bytes items → IsRleWithinRange (bare_file corner items) → IsSparse (picture_of_items corner items)
 items_sparse bytes corner items (rest, run, end) range = picture_sparse corner items (counts_low bytes items rest run) (run_low bytes rest items run) range.cells
 
--- what the reader keeps of a good text is told of it
+-- what the reader keeps of a good text is reported of it
 pub told : (bytes : List ℕ) (file : RleFile) (text : GoodText) (judged : RleText) → IsGoodText bytes file text → judged.rule ≡ text.front.rule → judged.generation ≡ text.front.generation → judged.cells ≡ text.cells → judged.bounds ≡ text.bounds
     → judged.greatest ≡ text.greatest → judged.corner ≡ text.front.corner → judged.body ≡ text.front.body → IsRleText bytes judged
 told bytes file text judged good rule generation cells bounds greatest corner body =

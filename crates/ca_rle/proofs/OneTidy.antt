@@ -14,7 +14,7 @@ use Rattle.ca_rle.proofs.TidyBody.{text_of, tokens}
 
 -- ---- one frame
 
--- the least box's corner and size
+-- the smallest box's corner and size
 record IsFramed (p : Point) (q : Point) (v w h k : ℕ) : Type 0 where
   corner : p ≡ q
   width : v ≡ w
@@ -46,7 +46,7 @@ one_frame cells p q v w h k (inr (a, first, at, wide, high)) (inr (b, second, he
 
 -- ---- one list of items
 
--- two pictures show the same from a place on
+-- two pictures show the same from a place onwards
 abbrev AreSame : Point → Picture → Picture → Type 0
 AreSame at p q = (x y : ℤ) → IsAhead at x y → cell p x y ≡ cell q x y
 

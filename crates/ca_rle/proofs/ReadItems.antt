@@ -9,7 +9,7 @@ use Rattle.ca_rle.proofs.ItemAt.{with_rest, tag_at, count_of, counted, item_at}
 
 -- ---- white space
 
--- the bytes are white space from a place on, and then these
+-- the bytes are white space from a place onwards, and then these
 abbrev BeginsWhite : Place → List ℕ → List ℕ → Type 0
 BeginsWhite place bytes after = (before : List ℕ) × IsTrue (is_white_from place before) × (bytes ≡ before ++ after)
 

@@ -1,4 +1,4 @@
--- The least box round the cells of items, as it grows by one item after another.
+-- The smallest box round the cells of items, as it grows by one item after another.
 use Rattle.std.proofs.Common.{◌≡◌, ◌≢◌, ℕ, zero, suc, ◌+◌, ◌-◌, ◌<◌, ◌≤◌, ℤ, pos, ◌+ℤ◌, ◌≤ℤ◌, true, ◌&&◌, ◌==◌, ◌++◌, map, Option, Some, None, ◌⊎◌, inl, inr, refl, sym, subst, ◌∙◌, arith}
 use Rattle.std.specs.Prelude.{int_lt}
 use Rattle.std.specs.List.{range_with_len}
@@ -21,7 +21,7 @@ use Rattle.ca_rle.proofs.Runs.{cell-after-zero, cell-front}
 
 -- ---- a box with a run
 
--- the least box with a run as well, from a point up to the one with this x
+-- the smallest box with a run as well, from a point up to the one with this x
 abbrev pub IsBoxWithRun : Point → ℤ → Option Bounds → Bounds → Type 0
 IsBoxWithRun first last None new = (new.x0 ≡ first.x) × (new.y0 ≡ first.y) × (new.x1 ≡ last) × (new.y1 ≡ first.y)
 IsBoxWithRun first last (Some old) new =
@@ -126,7 +126,7 @@ module _ (p : Picture) (state : ℕ) (at : Point) (n : ℕ) (states : IsPicture 
   box_bottom old new (inl e) was = (was.bottom.0, subst (λ (y : ℤ). cell (p ++ run_of state at n) was.bottom.0 y ≢ 0) (sym e) (live_first p _ _ _ was.bottom.1))
   box_bottom old new (inr e) was = (at.x, subst (λ (y : ℤ). cell (p ++ run_of state at n) at.x y ≢ 0) (sym e) first_live)
 
-  -- the least box with a run after the picture
+  -- the smallest box with a run after the picture
   least_with : (old : Option Bounds) (box : Bounds) → AreBounds p old → IsBoxWithRun at (at.x +ℤ pos (n - 1)) old box → IsLeastBox (p ++ run_of state at n) box
   least_with None box dead (x0, y0, x1, y1) = record {
     all = λ x y here. elim (live_parts p (run_of state at n) x y states here) [

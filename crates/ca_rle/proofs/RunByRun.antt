@@ -67,7 +67,7 @@ ahead_after p xs u e at sparse split row column =
 pub run_same : (run next : Run) → run.from ≡ next.from → run.past ≡ next.past → run.state ≡ next.state → run ≡ next
 run_same run next from past state = λ t. record { from = from t; past = past t; state = state t }
 
--- a cell so far after the first of a run
+-- a cell that is n places after the first of a run
 run_cell : (e : Point × ℕ) (at : Point) (state n : ℕ) → e.0.y ≡ at.y → e.0.x ≡ at.x +ℤ pos n → e.1 ≡ state → e ≡ (record { y = at.y; x = at.x +ℤ pos n }, state)
 run_cell e at state n row column same =
     let place : e.0 ≡ record { y = at.y; x = at.x +ℤ pos n } = point-same _ _ row column in

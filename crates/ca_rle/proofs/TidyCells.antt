@@ -1,4 +1,4 @@
--- What a list of items shows from a place on, and what a tidy list shows there.
+-- What a list of items shows from a place onwards, and what a tidy list shows there.
 use Rattle.std.proofs.Common.{◌≡◌, ◌≢◌, ℕ, zero, suc, ◌+◌, ◌-◌, ◌<◌, ◌==◌, ℤ, pos, ◌+ℤ◌, ◌≤ℤ◌, ◌<ℤ◌, ◌&&◌, true, ◌⊎◌, inl, inr, List, [], ◌∷◌, ◌++◌, map, refl, sym, ap, ◌∙◌, arith}
 use Rattle.std.specs.Prelude.{if◌then◌else◌}
 use Rattle.std.specs.Ordering.{int_eq}
@@ -56,7 +56,7 @@ live_after (e ∷ es) q x y (some, others) live =
       | inr t ↦ rw t (live_after es q x y others live)
     ]
 
--- ---- items from a place on
+-- ---- items from a place onwards
 
 -- the cells of an item that begins at a place
 abbrev pub cells_at : Point → Item → Picture
@@ -87,7 +87,7 @@ drawn_after : (corner : Point) (before is : List Item) → picture_after corner 
 drawn_after corner before [] = refl
 drawn_after corner before (i ∷ is) = ap (λ p. item_cells corner before i ++ p) (drawn_after corner (before ++ i ∷ []) is ∙ ap (λ at. drawn corner.x at is) (place_next corner before i.count i.tag))
 
--- the picture of items is what they show from the corner on
+-- the picture of items is what they show from the corner onwards
 pub picture_drawn : (corner : Point) (is : List Item) → picture_after corner [] is ≡ drawn corner.x corner is
 picture_drawn corner is = drawn_after corner [] is ∙ ap (λ at. drawn corner.x at is) (point-same (place_after corner []) corner (omega (arith, ints)) (omega (arith, ints)))
 

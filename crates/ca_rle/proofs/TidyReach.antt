@@ -12,7 +12,7 @@ use Rattle.ca_rle.proofs.CellRuns.{all_run}
 use Rattle.ca_plane.proofs.Decimals.{IsNear}
 use Rattle.ca_rle.proofs.TidyCells.{live_after, cells_at, next, drawn, picture_drawn, tidy_counts, tidy_tail, reach}
 
--- each live cell is at most so far from the origin, both ways
+-- each live cell is at most `far` away from the origin, both ways
 abbrev pub AreNear : ℕ → Picture → Type 0
 AreNear far cells = (x y : ℤ) → cell cells x y ≢ 0 → IsNear far x × IsNear far y
 

@@ -34,7 +34,7 @@ IsFirstFaultAt bytes NoEnd rest = HasBadItemAt bytes NoEnd rest
 IsFirstFaultAt bytes BadState rest = HasBadItemAt bytes BadState rest
 IsFirstFaultAt bytes fault rest = ⊥
 
--- the number, from 1 on, of the line on which the rest of a text begins: one more than the LFs before it.
+-- the number, counted from 1, of the line on which the rest of a text begins: one more than the LFs before it.
 -- The end of a text stands on the line of the text's last byte, and the empty text has line 1.
 abbrev pub line_number_of : List ℕ → List ℕ → ℕ
 line_number_of text rest = 1 + count_by is_line_end (take (length text - max 1 (length rest)) text)

@@ -33,7 +33,7 @@ pub data Place : Type 0 where
   InLine : Place
   InComment : Place
 
--- white space from a place on: blanks, line ends, and whole lines whose first byte that is no blank is `#`
+-- white space from a place onwards: blanks, line ends, and whole lines whose first byte that is no blank is `#`
 abbrev pub is_white_from : Place → List ℕ → Bool
 is_white_from AtStart [] = true
 is_white_from InLine [] = true

@@ -1,12 +1,12 @@
--- Texts that are told of by their items, without a plane of their cells.
+-- Texts that are described by their items, without a plane of their cells.
 use Rattle.std.specs.Prelude.{◌≡◌, ◌≢◌, ℕ, ◌<◌, ◌≤◌, ℤ, List, unwrap_or, MatchOption}
 use Rattle.std.specs.Option.{option_copied}
 use Rattle.ca_plane.specs.Prelude.{IsWord, default_rule, generation_limit, IsPicture, IsLive, cell, IsLeastBox, HasPopulation}
 use Rattle.ca_rle.specs.declared.rle_text.RleText.{RleText}
 use Rattle.ca_rle.specs.{File.RleFile, File.IsRleFile, Items.Items, Limits.IsWithinLimits, Shown.picture_of_items}
 
--- the bytes are a file that passes no limit, and this is told of it: its rule text, generation, corner and items, the number of its live
--- cells, the least box round them, and the greatest of their states
+-- the bytes are a file that passes no limit, and this is reported of it: its rule text, generation, corner and items,
+-- the number of its live cells, the smallest box round them, and the greatest of their states
 pub record IsRleText (bytes : List ℕ) (text : RleText) : Type 0 where
   pub file : RleFile
   pub is_file : IsRleFile bytes file

@@ -38,7 +38,7 @@ IsReadableRle bytes = (file : RleFile) × IsRleFile bytes file × IsWithinLimits
 abbrev pub HoldsRlePattern : List ℕ → Pattern → Type 0
 HoldsRlePattern bytes pattern = (file : RleFile) × IsRleFile bytes file × IsWithinLimits file × IsRlePattern file pattern
 
--- a plane can be written with this rule text and generation, under a rule of so many states
+-- a plane can be written with this rule text and generation, under a rule of this many states
 pub record IsWritableRle (cells : Picture) (rule_text : List ℕ) (generation states : ℕ) : Type 0 where
   pub range : All (λ e. IsInRange e.0) cells
   pub low_states : All (λ e. e.1 < states) cells

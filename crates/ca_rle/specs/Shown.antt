@@ -29,7 +29,7 @@ row_count items = sum_by (λ i. if ends_row i.tag then i.count else 0) items
 abbrev pub columns_of : List Item → ℕ
 columns_of items = sum_by (λ i. i.count) (after_last (λ i. ends_row i.tag) items)
 
--- so many cells of a state, from a point to the right
+-- `count` cells of a state, from a point to the right
 abbrev pub run_of : ℕ → Point → ℕ → Picture
 run_of state at count = map (λ k. (record { y = at.y; x = at.x +ℤ pos k }, state)) (range_with_len 0 count)
 

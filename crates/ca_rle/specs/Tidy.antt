@@ -54,7 +54,8 @@ abbrev pub AreLines : List (List (List ℕ)) → Type 0
 AreLines [] = Unit {0}
 AreLines (line ∷ lines) = (0 < length line) × (length (concat line) ≤ 70) × IsFull line lines × AreLines lines
 
--- the corner and the size that are written: those of the least box round the live cells, or (0, 0) and 0 by 0 where no cell is live
+-- the corner and the size that are written: those of the smallest box round the live cells, or (0, 0) and 0 by 0 where
+-- no cell is live
 abbrev pub IsFrame : Picture → Point → ℕ → ℕ → Type 0
 IsFrame cells corner width height =
     ((IsLive cells → ⊥) × (corner ≡ record { y = pos 0; x = pos 0 }) × (width ≡ 0) × (height ≡ 0))

@@ -30,7 +30,7 @@ pub(crate) trait Canvas: Drop {
         ensures cells { (x y : ℤ) → shown result x y ≡ 0 }
         ensures kept { is_kept result };
 
-    /// Gives so many cells a state, from a point to the right.
+    /// Gives `count` cells a state, from a point to the right.
     fn draw_run(&mut self, at: Point, count: u64, state: u8) -> Result<(), Memory>
         requires room { HasRoomRight at count }
         requires least { 1 ≤ state }

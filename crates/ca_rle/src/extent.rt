@@ -17,8 +17,7 @@ use crate::item::{Item, Tag};
 use crate::unit::{after_white, next_item};
 use ca_plane::{Bounds, Point, limits};
 
-/// Where an item begins: so many rows below the corner, and so many columns right of it. At 2^64 - 1 each of
-/// them stays.
+/// Where an item begins: `rows` below the corner, and `columns` right of it. At 2^64 - 1 each of them stays.
 #[derive(Clone, Copy)]
 pub(crate) struct Offset {
     pub(crate) rows: u64,
@@ -67,8 +66,8 @@ impl Offset {
     }
 }
 
-/// The least box round live cells, both ends included: so many columns right of the corner, and so many rows
-/// below it. At 2^64 - 1 each number stays.
+/// The smallest box round live cells, both ends included: from `left` to `right` columns right of the corner,
+/// and from `top` to `bottom` rows below it. At 2^64 - 1 each number stays.
 #[derive(Clone, Copy)]
 pub(crate) struct Span {
     pub(crate) left: u64,
@@ -128,9 +127,9 @@ fn span_with(span: Option<Span>, at: Offset, last: u64) -> Span
 pub(crate) struct Extent {
     /// The greatest count.
     pub(crate) longest: u64,
-    /// The rows and columns from the corner on that live cells take.
+    /// The rows and columns from the corner onwards that live cells take.
     pub(crate) reach: Offset,
-    /// The least box round the live cells, where there are any.
+    /// The smallest box round the live cells, where there are any.
     pub(crate) span: Option<Span>,
     /// How many live cells there are.
     pub(crate) cells: u64,
@@ -195,7 +194,7 @@ impl Extent {
     }
 }
 
-/// The least box round the live cells of items of this span, whose first cell is at the corner.
+/// The smallest box round the live cells of items of this span, whose first cell is at the corner.
 pub(crate) fn bounds_of(span: Option<Span>, corner: Point) -> Option<Bounds>
     requires corner { IsInRange corner }
     requires near { IfSome (bounds_at corner span) IsBoxInRange }
@@ -207,7 +206,7 @@ pub(crate) fn bounds_of(span: Option<Span>, corner: Point) -> Option<Bounds>
     }
 }
 
-/// Whether a coordinate is in range, and so many cells from there on.
+/// Whether a coordinate is in range, and so are `length` cells from it onwards.
 fn has_room(coordinate: i64, length: u64) -> bool
     ensures { IsTrue result ↔ (neg_ℤ (pos range) ≤ℤ coordinate) × (coordinate <ℤ pos range)
         × ((coordinate +ℤ pos length) ≤ℤ pos range) }

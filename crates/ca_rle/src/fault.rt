@@ -32,7 +32,7 @@ pub enum RleFault {
     /// The generation is above 2^63 - 1.
     #[error("the generation is too large")]
     GenTooLarge,
-    /// A growth was refused.
+    /// An allocation failed.
     #[error("out of memory")]
     Memory,
 }

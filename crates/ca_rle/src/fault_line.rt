@@ -24,7 +24,7 @@ pub(crate) struct GoodText<'a> {
     pub(crate) greatest: u8,
     /// How many cells are live.
     pub(crate) cells: u64,
-    /// The least box round them, where there are any.
+    /// The smallest box round them, where there are any.
     pub(crate) bounds: Option<Bounds>,
 }
 

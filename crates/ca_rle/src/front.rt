@@ -61,7 +61,7 @@ fn front_at<'a>(preamble: Preamble, line: &'a [u8], body: &'a [u8]) -> Result<Fr
 ///
 /// # Errors
 ///
-/// The fault of the first bad line, and the bytes from that line on.
+/// The fault of the first bad line, and the bytes from that line onwards.
 pub(crate) fn read_front(bytes: &[u8]) -> Result<Front<'_>, FaultPlace<'_>>
     ensures found { IfOk result (IsFront bytes.now) }
     ensures fault { IfErr result (λ f. IsFirstFaultAt bytes.now f.fault f.rest.now) }

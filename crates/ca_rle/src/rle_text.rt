@@ -1,4 +1,4 @@
-//! Texts that were judged and whose cells aren't kept: what is told of a text goes by its items.
+//! Texts that were judged and whose cells aren't kept: what is reported of a text goes by its items.
 
 ghost use Rattle.std.specs.Prelude.{◌≡◌, ◌≢◌, ℕ, ℤ, List, IfOk, IfErr};
 ghost use Rattle.ca_plane.specs.Prelude.{cell};
@@ -23,7 +23,7 @@ pub struct RleText<'a> {
     pub generation: u64,
     /// How many cells are live.
     pub cells: u64,
-    /// The least box round them, where there are any.
+    /// The smallest box round them, where there are any.
     pub bounds: Option<Bounds>,
     /// The greatest state of a cell.
     pub greatest: u8,
@@ -40,7 +40,7 @@ pub struct RleText<'a> {
 ///
 /// Those of `read_rle_with_line`, but for `Memory`.
 pub fn judge_rle(bytes: &[u8]) -> Result<RleText<'_>, LineFault>
-    // What is told is what the text holds, and it passes no limit.
+    // What is reported is what the text holds, and it passes no limit.
     ensures found { IfOk result (IsRleText bytes.now) }
     // A text that is refused has this fault, on this line.
     ensures fault { IfErr result (λ f. IsRleFaultOn bytes.now f.fault f.line) }

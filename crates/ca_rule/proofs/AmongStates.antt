@@ -13,7 +13,7 @@ use Rattle.std.proofs.Math.Nat.{mod-eq_of_lt}
 use Rattle.ca_rule.specs.inner.TableStates.{is_in}
 use Rattle.std.proofs.lemmas.Nat.Bits.{bit_at_or, bit_at-lt, bit_at-pow_same, bit_at-pow_other}
 
--- no state from the count on
+-- no state from the count onwards
 none-above : (q : ℕ → Bool) (a n : ℕ) → ((t : ℕ) → a ≤ t → t < a + n → q t ≡ false) → filter q (range_with_len a n) ≡ []
 none-above q a zero h = refl
 none-above q a (suc n) h = rw (h a (omega arith) (omega arith)) (none-above q (a + 1) n (λ t low high. h t (omega arith) (omega arith)))

@@ -104,7 +104,7 @@ variable-of-is line v e =
 
 -- ---- a transition
 
--- the fields, where they are so many
+-- the fields, where there are `slots` of them
 abbrev so_many : ℕ → List (List ℕ) → Option (List (List ℕ))
 so_many slots fields = some_if (list_all is_field fields && (length fields == slots)) fields
 

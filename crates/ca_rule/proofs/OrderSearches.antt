@@ -99,7 +99,7 @@ pub length-picks : (xs : List ℕ) → length (picks xs) ≡ length xs
 length-picks [] = refl
 length-picks (x ∷ xs) = ap suc (length-map (picks xs) (λ (p : ℕ × List ℕ). (p.0, x ∷ p.1)) ∙ length-picks xs)
 
--- the picks from one place on
+-- the picks from one place onwards
 pub drop-picks : (xs : List ℕ) (i : ℕ) → i < length xs → drop i (picks xs) ≡ (get_or xs i 0, remove xs i) ∷ drop (suc i) (picks xs)
 drop-picks [] i h = absurd (omega arith)
 drop-picks (x ∷ xs) zero h = refl

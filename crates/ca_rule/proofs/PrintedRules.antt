@@ -11,7 +11,7 @@ use Rattle.ca_rule.specs.declared.hood.Hood.TheVariants.{Moore, VonNeumann, Hex}
 abbrev pub numbers : List ℕ
 numbers = 0 ∷ 1 ∷ 2 ∷ 3 ∷ 4 ∷ 5 ∷ 6 ∷ 7 ∷ 8 ∷ []
 
--- the digits of the counts from n on
+-- the digits of the counts from n onwards
 abbrev pub digits_from : Counts → ℕ → List ℕ
 digits_from counts n = map (λ m. 48 + m) (filter (is_count counts) (drop n numbers))
 
@@ -31,15 +31,15 @@ below_nine P all (suc (suc (suc (suc (suc (suc (suc (suc (suc n))))))))) h = abs
 numbers-drop : (n : ℕ) → n < 9 → drop n numbers ≡ n ∷ drop (n + 1) numbers
 numbers-drop = below_nine (λ n. drop n numbers ≡ n ∷ drop (n + 1) numbers) (refl, refl, refl, refl, refl, refl, refl, refl, refl)
 
--- from a count on they begin with its digit
+-- from a count onwards they begin with its digit
 pub digits_from-counted : (counts : Counts) (n : ℕ) → n < 9 → is_count counts n ≡ true → digits_from counts n ≡ (48 + n) ∷ digits_from counts (n + 1)
 digits_from-counted counts n h t = ap (λ ns. map (λ m. 48 + m) (filter (is_count counts) ns)) (numbers-drop n h) ∙ rw t refl
 
--- from another number on they are those of the next one
+-- from another number onwards they are those of the next one
 pub digits_from-other : (counts : Counts) (n : ℕ) → n < 9 → is_count counts n ≡ false → digits_from counts n ≡ digits_from counts (n + 1)
 digits_from-other counts n h t = ap (λ ns. map (λ m. 48 + m) (filter (is_count counts) ns)) (numbers-drop n h) ∙ rw t refl
 
--- a digit that is pushed comes before those of the next number on
+-- a digit that is pushed comes before those from the next number onwards
 pub push_counted : (counts : Counts) (n : ℕ) (items whole : List ℕ) → n < 9 → is_count counts n ≡ true → items ++ digits_from counts n ≡ whole → (items ++ ((48 + n) ∷ [])) ++ digits_from counts (n + 1) ≡ whole
 push_counted counts n items whole h t e = append_assoc items _ _ ∙ ap (λ l. items ++ l) (sym (digits_from-counted counts n h t)) ∙ e
 

@@ -25,7 +25,7 @@ HasOrders of under text = orders of under ≡ digit_lists text
 abbrev pub bs_cell : Hood → List ℕ → List ℕ → List ℕ → ℕ
 bs_cell hood birth survival nine = bs.bs_next hood (counts_of birth) (counts_of survival) (digits nine)
 
--- and under a Generations rule of these survival and birth digits, and so many states
+-- and under a Generations rule of these survival and birth digits, and this many states
 abbrev pub generations_cell : List ℕ → List ℕ → ℕ → List ℕ → ℕ
 generations_cell survival birth states nine = generations.generations_next (counts_of survival) (counts_of birth) states (digits nine)
 

@@ -121,7 +121,7 @@ symmetry_set neighbourhood settings = option_and_then (symmetry_named neighbourh
 abbrev pub begins_variable : NumberedLine → Bool
 begins_variable line = unwrap_or (option_map (begins_with is_blank) (tail_after (codes "var") line.1)) false
 
--- a byte that may be in a name: no blank and none of `,` `{` `}` `=` `#` `:` `@`; the bytes from 128 on may (our own)
+-- a byte that may be in a name: no blank and none of `,` `{` `}` `=` `#` `:` `@`; bytes from 128 onwards may (our own)
 abbrev pub is_name_byte : ℕ → Bool
 is_name_byte b = not (is_blank b || list_any (λ c. b == c) (codes ",{}=#:@"))
 

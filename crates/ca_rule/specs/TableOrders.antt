@@ -53,7 +53,7 @@ abbrev pub picks : List ℕ → List (ℕ × List ℕ)
 picks [] = []
 picks (x ∷ xs) = (x, xs) ∷ map (λ p. (p.0, x ∷ p.1)) (picks xs)
 
--- every order of n of the rising positions, in lexicographic order: first those that begin with the least
+-- every order of n of the rising positions, in lexicographic order: first those that begin with the smallest
 abbrev pub every_order : ℕ → List ℕ → List (List ℕ)
 every_order zero positions = [] ∷ []
 every_order (suc n) positions = flat_map (λ p. map (λ g. p.0 ∷ g) (every_order n p.1)) (picks positions)

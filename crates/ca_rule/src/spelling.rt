@@ -55,7 +55,7 @@ fn list_length(bytes: &[u8]) -> usize
         .count()
 }
 
-/// The list that the bytes begin with, and the bytes from there on.
+/// The list that the bytes begin with, and the bytes after it.
 #[tactic(auto, using(ca_plane::proofs::Lengths::fronts))]
 fn split_list(bytes: &[u8]) -> (&[u8], &[u8])
     ensures front { result.0.now ≡ front stands_in_list bytes.now }

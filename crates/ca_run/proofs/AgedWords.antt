@@ -32,7 +32,7 @@ module _ (word unit k n : ℕ) (low : word < 2 ^ k) (few : unit < 2 ^ n) (room :
       let fits : unit * 2 ^ k < 2 ^ 64 = omega (arith, top, most, low) in
       mod-eq_of_lt fits ∙ omega arith
 
-  -- they take so many places more
+  -- they take n places more
   pub put_low : bit_or word (unit * 2 ^ k % 2 ^ 64) < 2 ^ (k + n)
   put_low =
       let both = or_add_and word (unit * 2 ^ k % 2 ^ 64) in

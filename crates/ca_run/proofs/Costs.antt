@@ -73,7 +73,7 @@ module _ {Rule : Type 0} where
       let some = power_some part_level in
       at_cost_as begins ends (at_paid_cost {a = a} {b = b} 1 paid e same h (omega (arith, some)) (omega arith))
 
--- a tree is made no wider than the centre needs that shows it some generations on
+-- a tree is made no wider than the centre needs that shows it some generations later
 pub wide_squares : (level j k : ℕ) → k ≡ max level (j + 1) → 1 ≤ level → level ≤ 123 → j ≤ 60 → 130 * (k + 2 - level) ≤ 16250
 wide_squares level j k is some low time = omega (arith, is, some, low, time)
 
@@ -99,7 +99,7 @@ one_more j x y low = omega (arith, low)
 pub charged_none : {n : ℕ} (spent : Spent) → SpendsAtMost spent spent n
 charged_none spent = record { spends = spends_same spent; most = omega arith }
 
--- so many units k times, and no more than these once more
+-- `each` units k times, and no more than these once more
 pub charged_more : {a b d : Spent} (k each count : ℕ) → count ≤ each → SpendsAtMost a b (k * each) → SpendsAtMost b d count → SpendsAtMost a d ((k + 1) * each)
 charged_more k each count few h g =
     let more = one_more k each count few in
@@ -137,7 +137,7 @@ all_digits reached left n j d sum time =
     omega (arith, most, sum, time)
 
 module _ (k d j level : ℕ) (digit : j < d) where
-  -- a tree of level k that leaps from its first generation on: all before cost as much as the leap of a digit
+  -- a tree of level k that leaps from its first generation onwards: all before cost as much as the leap of a digit
   pub rising_cost : 1 ≤ k → level ≤ max k (suc j) + 1 → 14 ^ (k + min d j + 1) + 14 ^ max level (j + 1) ≤ 14 ^ (k + min d (j + 1) + 1)
   rising_cost some low =
       let here : k + min d j + 1 ≡ k + j + 1 = omega (arith, digit) in

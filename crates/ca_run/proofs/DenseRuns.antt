@@ -193,7 +193,7 @@ growth_low n g cheap = elim (below_or_not g 7) [
       absurd (omega (arith, more, all, cheap))
 ]
 
--- what a tree takes of squares that take so many units each at most, and of a reach no more than so many levels above the first tree's
+-- what a tree takes of squares that take n units each at most, and of a reach at most g levels above the first tree's
 grid_low : (n g k reach : ℕ) → (1 + n) * 14 ^ g ≤ 21 * 14 ^ 5 → reach ≤ k + g → 7 ≤ k → (1 + n) * 14 ^ (reach - 2) ≤ 21 * 14 ^ (k + 3)
 grid_low n g k reach cheap near least =
     let few : 14 ^ (reach - 2) ≤ 14 ^ (g + (k - 2)) = power_more (reach - 2) (g + (k - 2)) (omega (arith, near, least)) in

@@ -20,7 +20,7 @@ beside_in_frame frame live digit a b = record {
   size = b.size ∙ sym a.size;
 }
 
--- grids of a frame that show the bits of a plane of so many states make one that shows it
+-- grids of a frame that show the bits of a plane of `grid.states` states make one that shows it
 pub framed_aged_grid : (grid : AgedGrid) (frame : Frame) (m : ℕ) (p : ℤ → ℤ → ℕ) → 2 ≤ grid.states → grid.states ≤ 256 → ((x y : ℤ) → p x y < grid.states)
     → grid.states < 2 + 2 ^ length grid.dying.items → IsOfFrame frame grid.live → All (IsOfFrame frame) grid.dying.items → IsFramed m frame p
     → GridShows grid.live m (λ x y. liveness (p x y))

@@ -1,4 +1,4 @@
--- What squares made of grids cost: so many units for each word at most.
+-- What squares made of grids cost: a given number of units for each word at most.
 use Rattle.std.proofs.Common.{◌≡◌, ℕ, suc, ◌+◌, ◌-◌, ◌*◌, ◌^◌, ◌≤◌, ap, subst, ◌∙◌, arith}
 use Rattle.std.proofs.Math.Nat.{mul-le-mul, mul-le-mul_left, mul_left_comm}
 use Rattle.ca_run.specs.Prelude.{LeaperView}

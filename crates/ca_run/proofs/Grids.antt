@@ -20,7 +20,7 @@ grid_dies grid m p margin way within x y (inl (inr h)) = dies_beyond grid m p ma
 grid_dies grid m p margin way within x y (inr (inl h)) = dies_beyond grid m p margin x y (inr (inr (inl (omega (arith, ints, h, within.north)))))
 grid_dies grid m p margin way within x y (inr (inr h)) = dies_beyond grid m p margin x y (inr (inr (inr (omega (arith, ints, h, within.south)))))
 
--- the square from the corner of a tree on is the root of a tree with the plane's cells
+-- the square from the corner of a tree onwards is the root of a tree with the plane's cells
 pub grid_cells : (nodes : List Node) (root power : ℕ) (grid : BrickGrid) (m : ℕ) (p : ℤ → ℤ → ℕ) (i j : ℤ) (tree : Tree) → 6 ≤ power → HasMargin m grid.across grid.down p grid.x grid.y → LiesWithin (2 ^ power) grid
     → grid.x +ℤ eight i ≡ neg_ℤ (pos (2 ^ power)) → grid.y +ℤ eight j ≡ neg_ℤ (pos (2 ^ power)) → ShowsAt nodes root (suc (suc (suc (power - 2)))) p (grid.x +ℤ eight i) (grid.y +ℤ eight j)
     → tree.root ≡ root → tree.level ≡ power + 1 → (x y : ℤ) → cell nodes tree x y ≡ p x y

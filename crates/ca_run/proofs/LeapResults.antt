@@ -84,7 +84,7 @@ slots_length (suc room) square [] = omega arith
 slots_length (suc room) square (None ∷ slots) = let on = slots_length room (suc square) slots in omega arith
 slots_length (suc room) square (Some centre ∷ slots) = let on = slots_length room (suc square) slots in omega arith
 
--- a result in pages, from the page of a number on
+-- a result in pages, from the page of a number onwards
 record IsInPage (number : ℕ) (pages : List (Option Page)) (result : LeapResult) : Type 0 where
   pub square : ℕ
   pub centre : ℕ
@@ -233,7 +233,7 @@ AreSingles next nodes memo = (id j result_id : ℕ) → HasSingle memo id j resu
 abbrev pub AreRecentCentres : (List ℕ → ℕ) → List Node → List (Option ((ℕ × ℕ) × ℕ)) → Type 0
 AreRecentCentres next nodes slots = (id j result_id : ℕ) → HasRecent slots (id, j) result_id → (k : ℕ) × IsCentre next nodes id k j result_id
 
--- what a slot has for four squares is the one in their middle, as far on as a leap goes
+-- what a slot has for four squares is the one in their middle, as far ahead as a leap goes
 abbrev pub AreRecentLeaps : (List ℕ → ℕ) → List Node → List (Option ((ℕ × ℕ × ℕ × ℕ) × ℕ)) → Type 0
 AreRecentLeaps next nodes slots = (nw ne sw se result_id : ℕ) → HasRecent slots (nw, ne, sw, se) result_id → (k : ℕ) × IsLeap next nodes k nw ne sw se result_id
 

@@ -25,7 +25,7 @@ end_of_box : (low high : ℤ) (m : ℕ) (span : Span) (long count : ℕ) → Spa
 end_of_box low high m span long count spans short e x (inl o) h k = omega (arith, ints, spans.before, short, o, h)
 end_of_box low high m span long count spans short e x (inr o) h k = omega (arith, ints, spans.behind, short, e, o, k)
 
--- the frame of the least box of a plane goes round all that is live
+-- the frame of the smallest box of a plane goes round all that is live
 pub framed : (p : ℤ → ℤ → ℕ) (box : WideBounds) (m : ℕ) (frame : Frame) → IsLeastWideBox p box → Spans box.x0 box.x1 m frame.columns → Spans box.y0 box.y1 m frame.rows → IsFramed m frame p
 framed p box m frame least columns rows = record {
   inside = λ x y out. dead_outside p box least x y (λ within. elim out [
@@ -55,7 +55,7 @@ in_way way x not = elim (cases_lt x (neg_ℤ (pos way))) [
   | inr least ↦ elim (cases_lt x (pos way)) [ inl most ↦ (least, most) | inr high ↦ absurd (not (inr high)) ]
 ]
 
--- the least box of a plane that is dead beyond a way lies within it
+-- the smallest box of a plane that is dead beyond a way of at most 2 ^ 61 lies near the origin
 pub near_box : (p : ℤ → ℤ → ℕ) (way : ℕ) (box : WideBounds) → way ≤ 2 ^ 61 → DiesBeyond way p → IsLeastWideBox p box → IsNearBox box
 near_box p way box near dies least =
     let left = least.left in

@@ -199,7 +199,7 @@ centre_at next old new sound grows id k j result_id p a b shows is_centre =
     (λ u v s t. is_centre.has_cells u v (subst (λ n. u < n) (sym up) s) (subst (λ n. v < n) (sym up) t)) in
     record { is_square = is_centre.is_result; looks = subst (λ n. ShowsPlane n (cell_of new (suc k) result_id) (cells_after next p (2 ^ j)) (a +ℤ side k) (b +ℤ side k)) (sym up) looks }
 
--- a square shows its own cells from (0, 0) on
+-- a square shows its own cells from (0, 0) onwards
 pub at_corner : (nodes : List Node) (id level : ℕ) → IsOf nodes id level → ShowsAt nodes id level (from_corner (cell_of nodes level id)) (pos 0) (pos 0)
 at_corner nodes id level h = record {
   is_square = h;

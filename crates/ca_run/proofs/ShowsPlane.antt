@@ -1,4 +1,4 @@
--- Cells of squares that show a plane from some place on: squares that lie together, their parts, and centres.
+-- Cells of squares that show a plane from some place onwards: squares that lie together, their parts, and centres.
 use Rattle.std.proofs.Common.{◌≡◌, ℕ, ◌+◌, ◌-◌, ◌<◌, ◌≤◌, inl, inr, List, sym, ap, ap₂, ◌∙◌, arith}
 use Rattle.std.specs.Prelude.{ℤ, pos, negsuc, ◌+ℤ◌}
 use Rattle.std.proofs.lemmas.Int.{ints}

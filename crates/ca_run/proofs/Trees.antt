@@ -51,7 +51,8 @@ root_at nodes tree h = record {
       sym (ap₂ (from_corner (cell_of nodes tree.level tree.root)) ax by);
 }
 
--- a square that shows all that is live of a plane, from the corner of a tree on, is the root of a tree with the plane's cells
+-- a square that shows all that is live of a plane, from the corner of a tree onwards, is the root of a tree with the
+-- plane's cells
 module _ (nodes : List Node) (root k : ℕ) (q : ℤ → ℤ → ℕ) (shows : ShowsAt nodes root (suc k) q (neg_ℤ (pos (2 ^ k))) (neg_ℤ (pos (2 ^ k)))) (dies : DiesBeyond (2 ^ k) q) where
   shown_from : (x y u v : ℤ) → x +ℤ pos (2 ^ k) ≡ u → y +ℤ pos (2 ^ k) ≡ v → from_corner (cell_of nodes (suc k) root) u v ≡ q x y
   shown_from x y (pos a) (pos b) e f =

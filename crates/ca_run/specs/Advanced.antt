@@ -1,4 +1,4 @@
--- Trees some generations on.
+-- Trees after some generations.
 use Rattle.std.specs.Prelude.{◌≡◌, ℕ, ◌+◌, ◌*◌, ◌<◌, ◌≤◌, ◌^◌, ℤ, List, Result, Ok, IfOk}
 use Rattle.ca_plane.specs.Prelude.{cells_after, most_generations}
 use Rattle.ca_quad.specs.declared.{node.Node.Node, tree.Tree.Tree}
@@ -13,15 +13,16 @@ pub record CanAdvance (nodes : List Node) (tree : Tree) (n : ℕ) : Type 0 where
   pub level : tree.level ≤ 64
   pub time : n ≤ most_generations
 
--- the tree shows what the plane of the first one is n generations on, and has at most 2^124 cells a side
+-- the tree shows what the plane of the first one is after n generations, and has at most 2^124 cells a side
 pub record IsAdvanced (next : List ℕ → ℕ) (old : List Node) (first : Tree) (n : ℕ) (new : List Node) (tree : Tree) : Type 0 where
   pub is_tree : IsTree new tree
   pub level : tree.level ≤ 124
   pub cells : (x y : ℤ) → cell new tree x y ≡ cells_after next (cell old first) n x y
 
--- what a call comes to that takes a tree n generations on: Ok with the later tree, which is the same one where n is 0;
--- want of work is told only at its limit; what a leaper had stays; and where n has at most d binary digits, Ok or not,
--- it costs no more than 14 to the power of the tree's level, d and 2; one generation costs at most 13 fourteenths of that for a d of 1
+-- what a call that advances a tree by n generations comes to: Ok with the later tree, which is the same one where n is
+-- 0; want of work is reported only at its limit; what a leaper had stays; and where n has at most d binary digits, Ok
+-- or not, it costs no more than 14 to the power of the tree's level, d and 2; one generation costs at most 13
+-- fourteenths of that for a d of 1
 pub record Advances (Rule : Type 0) (next : List ℕ → ℕ) (old : LeaperView Rule)
     (tree : Tree) (n : ℕ) (new : LeaperView Rule) (result : Result Tree LeapFault) : Type 0 where
   pub advanced : IfOk result (IsAdvanced next old.nodes tree n new.nodes)

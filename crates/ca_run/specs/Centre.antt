@@ -19,8 +19,8 @@ pub record IsCentre (next : List ℕ → ℕ) (nodes : List Node) (id k j result
   pub has_cells : (u v : ℕ) → u < 2 ^ suc k → v < 2 ^ suc k
       → cell_of nodes (suc k) result_id u v ≡ centre next (cell_of nodes (suc (suc k)) id) (2 ^ k) (2 ^ j) u v
 
--- four squares of level k + 1, and the one in their middle as far on as it can be known: whatever plane they show, it shows
--- what that is 2 ^ k generations later
+-- four squares of level k + 1, and the one in their middle as far ahead as it can be known: whatever plane they show,
+-- it shows what that is 2 ^ k generations later
 pub record IsLeap (next : List ℕ → ℕ) (nodes : List Node) (k nw ne sw se result_id : ℕ) : Type 0 where
   pub are_four : AreFour nodes (suc k) nw ne sw se
   pub is_result : IsOf nodes result_id (suc k)

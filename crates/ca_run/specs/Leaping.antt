@@ -19,7 +19,7 @@ pub record LeaperGrows (Rule : Type 0) (old new : LeaperView Rule) : Type 0 wher
   pub memo : new.memo ≡ old.memo
   pub spends : Spends old.spent new.spent
 
--- at most so many units of work were done, and at most 4096 squares added for each of them, and so many besides
+-- at most `units` units of work were done, and at most 4096 squares added for each of them, and `squares` besides
 pub record Costs (Rule : Type 0) (old new : LeaperView Rule) (units squares : ℕ) : Type 0 where
   pub most : new.spent.used ≤ old.spent.used + units
   pub made : length new.nodes + 4096 * old.spent.used ≤ length old.nodes + 4096 * new.spent.used + squares

@@ -43,10 +43,11 @@ use std::num::NonZeroUsize;
 // After how many units of work one who watches hears of it.
 const TOLD: u64 = 65536;
 
-// From how many generations on it is worth finding a counting or making a diagram, under a rule that tells no counting.
+// The fewest generations for which it is worth finding a counting or making a diagram, under a rule that tells no
+// counting.
 const LONG: u64 = 64;
 
-/// A store of squares, a rule, and the centres of squares that were worked out so far.
+/// A store of squares, a rule, and the centres of squares that were computed so far.
 #[derive(Drop)]
 pub struct Leaper<A: Automaton> {
     store: Store,
@@ -57,7 +58,7 @@ pub struct Leaper<A: Automaton> {
     memo: Memo,
     // Centres of squares after 2^j generations, by the square and the j.
     recent_centres: Slots<(Id, u8)>,
-    // Squares in the middle of four, as far on as they can be known.
+    // Squares in the middle of four, as far ahead as they can be known.
     recent_leaps: Slots<(Id, Id, Id, Id)>,
     // How many entries the memo and the two tables may have together.
     capacity: usize,
@@ -79,8 +80,8 @@ impl<A: Automaton> Model for Leaper<A> {
 }
 
 impl<A: Automaton> Leaper<A> {
-    /// A leaper over the squares of a store, which has worked out nothing yet. Its memo may have so many
-    /// entries, each of one result or up to 64, and it may do so many units of work.
+    /// A leaper over the squares of a store, which has computed nothing yet. Its memo may have `memo` entries,
+    /// each of one result or up to 64, and it may do `work` units of work.
     pub fn new(
         alloc: Global,
         store: Store,
@@ -118,7 +119,7 @@ impl<A: Automaton> Leaper<A> {
 
     /// How many units of work are used up: no more than may be. A unit is the centre of a square that isn't
     /// empty, after some generations, that wasn't remembered; or a brick of a plane that is stepped, one
-    /// generation on; or a square that is made of such bricks again. Where a run needed a store of its own, a
+    /// generation later; or a square that is made of such bricks again. Where a run needed a store of its own, a
     /// tree is copied out of it for a unit for each 4096 of its squares, and one besides. Units are counted
     /// before what they are for is done: where too few are left for it, these are used up all the same.
     pub fn used(&self) -> u64
@@ -135,8 +136,8 @@ impl<A: Automaton> Leaper<A> {
         self.work.limit()
     }
 
-    /// Lets so many units of work be used up in all, or as many as are used up already. So a caller may allow a
-    /// part of its work a share of what is left, and the rest after it.
+    /// Lets `limit` units of work be used up in all, or as many as are used up already, where these are more. So
+    /// a caller may allow a part of its work a share of what is left, and the rest after it.
     pub fn limit_work(&mut self, limit: u64)
         ensures limited { self.new ≡ record {
           rule = self.old.rule;
@@ -202,7 +203,7 @@ impl<A: Automaton> Leaper<A> {
         self.store.count() >= self.room
     }
 
-    // Has leaps given up where there are so many squares.
+    // Has leaps given up where there are `room` squares or more.
     fn set_room(&mut self, room: usize)
         ensures { self.new ≡ self.old }
     {
@@ -226,7 +227,7 @@ impl<A: Automaton> Leaper<A> {
         self.cell_rule.as_ref()
     }
 
-    // Finds out how cells go on, many at once, if it isn't known and so many generations are worth it.
+    // Finds out how cells go on, many at once, if it isn't known and n generations are worth it.
     fn learn_cell_rule(&mut self, n: u64) -> Result<(), LeapFault>
         ensures same { self.new ≡ self.old }
         ensures calm { n ≡ 0 → IsOk result }
@@ -292,12 +293,12 @@ impl<A: Automaton> Leaper<A> {
         self.recent_leaps.put((nw, ne, sw, se), result_id);
     }
 
-    // Whether a square is a tile, whose centre costs less to work out again than to remember.
+    // Whether a square is a tile, whose centre costs less to compute again than to remember.
     fn is_tile(&self, part_level: u8) -> bool {
         part_level == 2 && self.cell_rule.is_some()
     }
 
-    // Whether the centre of a square is worked out on words by a counting, which costs little.
+    // Whether the centre of a square is computed on words by a counting, which costs little.
     fn is_cheap(&self, part_level: u8) -> bool {
         part_level == 3 && matches!(self.cell_rule, Some(CellRule::ByCounting(_)))
     }

@@ -10,7 +10,7 @@ pub trait Watch {
     /// The run has reached this many of the generations that were asked for.
     fn reached(&mut self, run: Milestone);
 
-    /// The run goes on: so many units of work were done so far, and so many squares are kept. It is told
+    /// The run goes on: `used` units of work were done so far, and `squares` squares are kept. It is reported
     /// after each 65536 units of work or so.
     fn works(&mut self, used: u64, squares: usize);
 

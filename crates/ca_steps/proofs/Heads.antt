@@ -1,4 +1,4 @@
--- Sparse pictures read from their first cell on.
+-- Sparse pictures read from their first cell onwards.
 use Rattle.std.proofs.Common.{◌≡◌, ◌≢◌, ℕ, ◌≤◌, [], ◌∷◌, map, refl, sym, ◌∙◌, subst, inl, inr, arith, Bool, true, false, not, ◌&&◌, Less}
 use Rattle.std.specs.Prelude.{if◌then◌else◌}
 use Rattle.std.specs.List.{AllByRecursion}

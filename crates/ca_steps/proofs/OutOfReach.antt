@@ -45,7 +45,7 @@ states_after next p q n closed some states sparse shows =
 
 -- ---- generations, one after another
 
--- a generation on from n generations on is n + 1 generations on
+-- one generation after n generations makes n + 1 generations
 pub after_one_more : (next : List ℕ → ℕ) (p q r : Picture) (n : ℕ) → IsAfter next p n q → IsAfter next q 1 r
     → IsAfter next p (n + 1) r
 after_one_more next p q r n shows one x y = sym (after_stands next p q n 1 shows x y) ∙ one x y
@@ -75,7 +75,7 @@ within_one_more next p n before now leaves =
     below_more (λ m. LeavesReach next p m → ⊥) n (λ m less then. before (m, less, then)) now
     leaves.0 leaves.1 leaves.2
 
--- where a step from m generations on leaves the reach, more than m steps leave it
+-- where a step after m generations leaves the reach, more than m steps leave it
 pub LeavesReachBefore-after : (next : List ℕ → ℕ) (p q : Picture) (m n : ℕ) → m < n → IsAfter next p m q
     → LeavesReachBefore next q 1 → LeavesReachBefore next p n
 LeavesReachBefore-after next p q m n less shows leaves =

@@ -23,7 +23,7 @@ prime_at n d above divides none = record {
       ];
 }
 
--- a prime that divides a number, looked for from d on
+-- a prime that divides a number, looked for from d onwards
 prime_from : (steps d n : ℕ) → n ≡ steps + d → 1 < d → ((e : ℕ) → 1 < e → e < d → e ∣ n → ⊥) → (q : ℕ) × IsPrime q × (q ∣ n)
 prime_from zero d n sum above none =
     let same : d ≡ n = omega (arith, sum) in
@@ -46,7 +46,7 @@ prime_from (suc steps) d n sum above none =
 pub some_prime : (n : ℕ) → 1 < n → (q : ℕ) × IsPrime q × (q ∣ n)
 some_prime n above = prime_from (n - 2) 2 n (omega (arith, above)) (omega arith) (λ e more less part. absurd (omega (arith, more, less)))
 
--- a number from 1 on, divided by a prime of it, is one too
+-- a number that is at least 1, divided by a prime of it, is at least 1 too
 pub quotient_some : (n q : ℕ) → 1 ≤ n → IsPrime q → q ∣ n → 1 ≤ n / q
 quotient_some n q some prime part =
     let above = prime.above in
@@ -84,11 +84,11 @@ times_by_prime n m some divides less =
 part_divides : (q a b r k : ℕ) → a ≡ b + r → q ∣ a * k → q ∣ b * k → q ∣ r * k
 part_divides q a b r k sum all first = (dvd-add_iff_right q first).1 (subst (λ j. q ∣ j) (ap (λ j. j * k) sum ∙ add-mul b r k) all)
 
--- a number is so many times another one, and a rest
+-- n is n / m times m, and a rest
 parts : (n m : ℕ) → n ≡ (n / m) * m + n % m
 parts n m = sym (div-add-mod n m) ∙ ap (λ a. a + n % m) (mul_comm m (n / m))
 
--- a prime that divides r times k, for a smaller r from 1 on, divides k
+-- a prime that divides r times k, for a smaller r that is at least 1, divides k
 divides_beside : (limit q r k : ℕ) → IsPrime q → r ≤ limit → 0 < r → r < q → q ∣ r * k → q ∣ k
 divides_beside zero q r k prime within some less divides = absurd (omega (arith, within, some))
 divides_beside (suc limit) q r k prime within some less divides =

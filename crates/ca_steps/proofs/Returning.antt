@@ -72,7 +72,7 @@ lie_near next cells box quiet all p dx dy some back (suc limit) n within =
 not_before : (P : Type 0) (a b : ℤ) → (b <ℤ a → P) → (P → ⊥) → a ≤ℤ b
 not_before P a b out none = elim (at_most_or_above a b) [ inl h ↦ h | inr h ↦ absurd (none (out h)) ]
 
--- the least box later is within the near one
+-- the smallest box later is within the near one
 near_sides : (next : List ℕ → ℕ) (cells later : Picture) (box wide : Bounds) (m n : ℕ) → IsAfter next cells n later → IsLeastBox later wide
     → LieNear next cells box m n → IsWiderByAtMost box wide (2 * m)
 near_sides next cells later box wide m n stands least lies =

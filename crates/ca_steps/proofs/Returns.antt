@@ -134,7 +134,7 @@ vector_times next p m k dx dy u v live back again =
 
 -- ---- the least time, by primes
 
--- times from 1 on whose multiples, and whose differences, are times too
+-- times, each at least 1, whose multiples and whose differences are times too
 module _ (IsTime : ℕ → Type 0) (some : (n : ℕ) → IsTime n → 1 ≤ n) (times : (m k : ℕ) → 1 ≤ k → IsTime m → IsTime (k * m)) (between : (m n : ℕ) → 1 ≤ n → IsTime m → IsTime (m + n) → IsTime n) where
   -- where there's one before another, there's one at a divisor of that
   at_divisor : (n : ℕ) → IsTime n → (limit k : ℕ) → k ≤ limit → IsTime k → k < n → (m : ℕ) × IsTime m × (m ∣ n) × (m < n)
@@ -164,7 +164,7 @@ module _ (IsTime : ℕ → Type 0) (some : (n : ℕ) → IsTime n → 1 ≤ n) (
         ];
   }
 
--- a multiple of a number from 1 on
+-- a multiple of a number that is at least 1
 many : (m k : ℕ) → 1 ≤ m → 1 ≤ k → 1 ≤ k * m
 many m k some once = let most : 1 * 1 ≤ k * m = mul-le-mul once some in omega (arith, most)
 

@@ -6,11 +6,11 @@ use Rattle.ca_plane.specs.Prelude.{Picture, cell, shifted, IsAfter, IsWithin}
 abbrev pub AgreeWithin : ℕ → ℤ → ℤ → Picture → Picture → Type 0
 AgreeWithin n x y p q = (u v : ℤ) → IsWithin n x y u v → cell p u v ≡ cell q u v
 
--- n is a time from 1 on at which the picture is again in its place
+-- n is at least 1, and a time at which the picture is again in its place
 abbrev pub IsBackInPlace : (List ℕ → ℕ) → Picture → ℕ → Type 0
 IsBackInPlace next cells n = (1 ≤ n) × IsAfter next cells n cells
 
--- n is a time from 1 on at which the picture is there again, moved by some vector
+-- n is at least 1, and a time at which the picture is there again, moved by some vector
 abbrev pub IsBackAnywhere : (List ℕ → ℕ) → Picture → ℕ → Type 0
 IsBackAnywhere next cells n = (1 ≤ n) × (dx : ℤ) × (dy : ℤ) × IsAfter next cells n (shifted cells dx dy)
 

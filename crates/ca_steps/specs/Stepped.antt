@@ -1,4 +1,4 @@
--- Planes some generations on, by steps.
+-- Planes after some generations, by steps.
 use Rattle.std.specs.Prelude.{ℕ, ◌<◌, List, Result, IfOk, IsErrOf}
 use Rattle.std.specs.List.{All}
 use Rattle.ca_plane.specs.Prelude.{Picture, IsSparse, IsAfter}
@@ -10,7 +10,7 @@ use Rattle.ca_steps.specs.Reach.{LeavesReach, LeavesReachBefore}
 abbrev pub HasStates : ℕ → Picture → Type 0
 HasStates count cells = All (λ e. e.1 < count) cells
 
--- the later picture is what the plane of the first one is n generations on, as a sparse plane keeps it
+-- the later picture is what the plane of the first one is after n generations, as a sparse plane keeps it
 pub record IsStepped (next : List ℕ → ℕ) (count : ℕ) (first : Picture) (n : ℕ) (later : Picture) : Type 0 where
   pub after : IsAfter next first n later
   pub states : HasStates count later

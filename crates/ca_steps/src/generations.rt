@@ -16,12 +16,12 @@ use std::alloc::Global;
 // The greatest coordinate of a cell from which a step is taken.
 const STEP_REACH: i64 = REACH as i64 - 2;
 
-/// The plane one generation on.
+/// The plane after one generation.
 ///
 /// # Errors
 ///
 /// `Range` exactly where a live cell lies outside -(2^62 - 2) to 2^62 - 2, however much memory there is. Else
-/// fails where there is no memory for the plane one generation on.
+/// fails where there is no memory for the plane after one generation.
 pub fn step<A: Automaton>(alloc: Global, rule: &A, plane: &Plane) -> Result<Plane, RunFault>
     requires { HasStates (A.state_count rule.now) plane.now }
     ensures { Steps (A.next_of rule.now) (A.state_count rule.now) plane.now 1 result }
@@ -58,7 +58,7 @@ fn is_coordinate_in_reach(coordinate: i64) -> bool
     -STEP_REACH <= coordinate && coordinate <= STEP_REACH
 }
 
-// The plane one generation on from one that shows these cells.
+// The plane one generation after one that shows these cells.
 fn next_plane<A: Automaton>(alloc: Global, rule: &A, cells: &[(Point, u8)]) -> Result<Plane, Memory>
     requires states { HasStates (A.state_count rule.now) cells.now }
     requires sparse { IsSparse cells.now }
@@ -80,7 +80,7 @@ fn next_plane<A: Automaton>(alloc: Global, rule: &A, cells: &[(Point, u8)]) -> R
     Ok(next)
 }
 
-/// The plane n generations on.
+/// The plane after n generations.
 ///
 /// # Errors
 ///

@@ -90,9 +90,9 @@ pub fn primes_tell_the_least_return<A: Automaton>(rule: &A)
     let _ = rule;
 }
 
-/// A picture that is back after p generations, in its place or moved, never grows far: at every time the least
-/// box round the live cells is at most 2(p - 1) cells wider and higher than that of the picture. So a larger
-/// box, at any time, rules out every period that is p at most.
+/// A picture that is back after p generations, in its place or moved, never grows far: at every time the
+/// smallest box round the live cells is at most 2(p - 1) cells wider and higher than that of the picture. So a
+/// larger box, at any time, rules out every period that is p at most.
 pub fn returning_pictures_stay_small<A: Automaton>(rule: &A)
     ensures { (cells later : Picture) (p n : ℕ) (box wide : Bounds)
         → IsBackAnywhere (A.next_of rule.now) cells p → IsAfter (A.next_of rule.now) cells n later

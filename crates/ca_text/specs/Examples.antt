@@ -1,4 +1,4 @@
--- Small claim texts, for which the definitions are worked out.
+-- Small claim texts on which the definitions are tried.
 use Rattle.std.specs.Prelude.{ℕ, pos, neg_ℤ, List, [], ◌∷◌, Option, None, Some, codes}
 use Rattle.ca_plane.specs.Prelude.{text_of}
 use Rattle.ca_text.specs.declared.{kind.Kind.Kind, fault.ClaimFault.ClaimFault}

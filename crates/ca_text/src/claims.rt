@@ -64,7 +64,7 @@ impl Claims {
         self.paths.word(index)
     }
 
-    /// The path with this index, where there are so many.
+    /// The path with this index, where there are more paths than `index`.
     pub fn path_at(&self, index: usize) -> Option<&[u8]>
         ensures { MatchOption result (slice_get self.now.paths index ≡ None)
             (λ path. slice_get self.now.paths index ≡ Some path.now) }

@@ -19,7 +19,7 @@ pub enum ClaimFault {
     /// A name that an earlier line loads is loaded again.
     #[error("line {line}: name taken")]
     NameTaken { line: u64 },
-    /// A growth was refused, at a line without a fault after lines without one.
+    /// An allocation failed, at a line without a fault after lines without one.
     #[error("out of memory")]
     Memory,
 }

@@ -22,7 +22,7 @@ use ca_plane::text::push_text;
 /// What is claimed, the patterns apart.
 #[derive(Clone, Copy, Debug, PartialEq, Eq)]
 pub enum Kind {
-    /// The pattern is live, and one generation on it is what it was.
+    /// The pattern is live, and one generation later it is what it was.
     Still,
     /// The pattern is live and is back after the period. At no earlier time, starting at 1, is it back.
     Oscillator { period: u64 },

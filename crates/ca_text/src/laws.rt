@@ -60,7 +60,7 @@ pub fn worked_examples()
     ensures no_shift { HaveFault (codes "load a p" ∷ codes "spaceship a 4 0 0" ∷ []) (fault.Number 2) }
     // A number comes before an unknown name.
     ensures no_period { IsFirstClaimFault (codes "oscillator b 1") (fault.Number 1) }
-    // The second version, which is told once, before all others, and needed by the claims that came with it.
+    // The second version, which is stated once, before all others, and needed by the claims that came with it.
     ensures second { IsClaimText second_text second_said }
     ensures late_version { HaveFault (codes "load a p" ∷ codes "claims 2" ∷ []) (fault.Syntax 2) }
     ensures two_versions { HaveFault (codes "claims 2" ∷ codes "claims 2" ∷ []) (fault.Syntax 2) }

@@ -1,4 +1,4 @@
-//! What the program calls: runs over devices, the texts that they print, and what is told of their faults.
+//! What the program calls: runs over devices, the texts that they print, and what is reported of their faults.
 #![tactic(auto)]
 
 mod claims_remedy;

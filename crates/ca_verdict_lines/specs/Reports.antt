@@ -16,7 +16,7 @@ use Rattle.ca_report.specs.Prelude.{WritesOneOf}
 abbrev pub with_claims : Judging → List (ℕ × Claim) → List (Both (List ℕ × List ℕ)) → Judging
 with_claims judging claims patterns = record { files = judging.files; rules = judging.rules; claims = claims; patterns = patterns; work = judging.work }
 
--- all claims of a text, over these files, each of which may take so much work
+-- all claims of a text, over these files, each of which may take `work` units of work
 abbrev pub all_claims : SuppliedFiles → ClaimText → (work : ℕ) → Judging
 all_claims files asked work = record { files = files; rules = asked.rules; claims = asked.claims; patterns = asked.patterns; work = work }
 

@@ -30,7 +30,7 @@ pub struct ReportStyle<'a> {
     pub faulty: &'a [FaultyRule<'a>],
     /// The paths whose files aren't supplied, as far as it is known why: a second line about such a file tells it.
     pub missing: &'a [MissingFile<'a>],
-    /// The files by whose bytes it is told what helps against a fault of one.
+    /// The files by whose bytes it is reported what helps against a fault of one.
     pub files: &'a [File<'a>],
 }
 

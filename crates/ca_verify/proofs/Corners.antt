@@ -15,7 +15,7 @@ leaves_none p dx dy range across down (x, y, live, out) =
     let here = range (x -ℤ dx) (y -ℤ dy) live in
     out (omega (arith, ints, here, across, down), omega (arith, ints, here, across, down), omega (arith, ints, here, across, down), omega (arith, ints, here, across, down))
 
--- the corner of a least box lies where the live cells do: in range,
+-- the corner of a smallest box lies where the live cells do: in range,
 corner_range : (p : ℤ → ℤ → ℕ) (box : WideBounds) → wide.IsLeastWideBox p box → AreInRange p → IsInRange (record { y = box.y0; x = box.x0 })
 corner_range p box least range =
     let left = range box.x0 least.left.0 least.left.1 in

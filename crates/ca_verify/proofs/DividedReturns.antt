@@ -55,7 +55,7 @@ anywhere next cells n nodes end pattern None ends shows told =
 anywhere next cells n nodes end pattern (Some v) ends shows told =
     (tt, λ x y. ends x y ∙ told x y ∙ sym (shows (x -ℤ v.0) (y -ℤ v.1)) ∙ sym (cell-shifted cells v.0 v.1 x y))
 
--- what is judged, of a plane some generations on
+-- what is judged, of a plane after some generations
 module _ (next : List ℕ → ℕ) (s0 s1 : List Node) (case : Case) (forbids : ForbidsReturn s0 case) (end : Tree) (m : ℕ) (is : IsEndTree next s0 case.subject.pattern m s1 end) (cells : Picture)
     (shows : ShowsTree s0 case.subject.pattern cells) (later : ShowsTree s1 case.subject.pattern cells) (back : Option (ℤ × ℤ)) where
   abbrev pub pattern : Tree

@@ -19,7 +19,7 @@ pub record IsAnswered (files : SuppliedFiles) (rules : List (List ℕ)) (work : 
   pub holds : AreTrueAnswers files rules done answers
   pub within : AreWithinWork files rules work done answers
 
--- the elements from one on are that one and those after it
+-- the elements from one onwards are that one and those after it
 from_next : {X : Type 0} (xs : List X) (i : ℕ) (x : X) → slice_get xs i ≡ Some x → drop i xs ≡ x ∷ drop (i + 1) xs
 from_next xs i x e = rw add-one (drop-cons xs i x (slice_get_within xs i x e) ∙ ap (λ y. y ∷ drop (suc i) xs) (get_or_from_slice_get xs i x x e))
 

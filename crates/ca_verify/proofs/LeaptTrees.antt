@@ -60,7 +60,7 @@ pub claimed_shown : (nodes : List Node) (tree : Tree) (asks : Asks) (expected : 
     → ShowsTree nodes tree (shifted (expected_cells expected cells other) asks.dx asks.dy) → ShowsTree nodes tree (claimed_cells asks cells other)
 claimed_shown nodes tree asks expected cells other is shows = subst (λ w. ShowsTree nodes tree (shifted (expected_cells w cells other) asks.dx asks.dy)) (sym is) shows
 
--- the tree some generations on shows what the picture has then
+-- the tree after some generations shows what the picture has then
 pub shows_after : (next : List ℕ → ℕ) (old new : List Node) (pattern end : Tree) (n : ℕ) (cells : Picture) → IsEndTree next old pattern n new end → ShowsTree old pattern cells
     → (x y : ℤ) → after next cells n x y ≡ cell new end x y
 shows_after next old new pattern end n cells is shows x y =
@@ -75,7 +75,7 @@ difference_as p q r s n (Some (Differs x y found claimed generations)) e f other
 difference_as p q r s n (Some (Earlier m dx dy)) e f other = absurd other
 difference_as p q r s n (Some (Died m)) e f other = absurd other
 
--- what is found of the tree some generations on and of the claimed one is found of their pictures
+-- what is found of the tree after some generations and of the claimed one is found of their pictures
 pub wrong_cell : (next : List ℕ → ℕ) (s0 s1 s2 : List Node) (pattern end expected : Tree) (n : ℕ) → IsEndTree next s0 pattern n s1 end → Grows s0 s1 → Grows s1 s2 → (cells claimed_cells : Picture)
     → ShowsTree s0 pattern cells → ShowsTree s2 expected claimed_cells → (refutation : Option Refutation) → MatchOption refutation ((x y : ℤ) → cell s2 end x y ≡ cell s2 expected x y) (IsDifference (cell s2 end) (cell s2 expected) n)
     → MatchOption refutation (IsAfter next cells n claimed_cells) (IsDifference (after next cells n) (plane.cell claimed_cells) n)
@@ -83,7 +83,7 @@ wrong_cell next s0 s1 s2 pattern end expected n is grows grows_on cells claimed_
     difference_as (cell s2 end) (cell s2 expected) (after next cells n) (plane.cell claimed_cells) n refutation
     (λ x y. shows_after next s0 s1 pattern end n cells is shows x y ∙ sym (trees_stay s1 s2 grows.sound grows_on end is.near.is_tree x y)) stands told
 
--- what is told of a place that was found is told of the trees as they were before
+-- what is reported of a place that was found holds of the trees as they were before
 pub difference_told : (p q r s : ℤ → ℤ → ℕ) (n : ℕ) (refutation : Option Refutation) (found : Option Spot) → ((x y : ℤ) → r x y ≡ p x y) → ((x y : ℤ) → s x y ≡ q x y)
     → (IsNone found → (x y : ℤ) → r x y ≡ s x y) → MatchOption refutation (found ≡ None) (IsDifference p q n) → MatchOption refutation ((x y : ℤ) → r x y ≡ s x y) (IsDifference r s n)
 difference_told p q r s n None found e f same none = same (subst IsNone (sym none) refl)

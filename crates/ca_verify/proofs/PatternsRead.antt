@@ -18,7 +18,7 @@ use Rattle.ca_pattern.proofs.EqualCells.{small_shown, large_shown}
 -- ---- patterns of a store that grows
 
 module _ (old new : List Node) (grows : Grows old new) (sound : IsSoundStore old) where
-  -- a tree of the least level stays one
+  -- a tree of the smallest level stays one
   trimmed_stays : (tree : _) → trees.IsTree old tree → IsTrimmed old tree → IsTrimmed new tree
   trimmed_stays tree is trimmed = λ level low high holds.
       trimmed level low high (λ x y live. holds x y (λ e. live (sym (trees_stay old new sound grows tree is x y) ∙ e)))

@@ -11,7 +11,7 @@ use Rattle.ca_steps.proofs.Primes.{prime_at}
 pub quotient_divides : (n q : ℕ) → q ∣ n → n / q ∣ n
 quotient_divides n q part = subst (λ j. n / q ∣ j) (div-mul_cancel q part) (dvd-mul_right (n / q) q)
 
--- no number from 2 on and below `low` divides n
+-- no number from 2 onwards and below `low` divides n
 abbrev pub NoneBelow : (n low : ℕ) → Type 0
 NoneBelow n low = (e : ℕ) → 1 < e → e < low → e ∣ n → ⊥
 

@@ -1,4 +1,4 @@
--- What is told of a claim by the cells that differ and by the first return.
+-- What is reported of a claim by the cells that differ and by the first return.
 use Rattle.std.proofs.Common.{◌≡◌, ◌≢◌, ℕ, List, [], Option, Some, None, MatchOption, refl, sym, ap, subst, ◌∙◌}
 use Rattle.std.specs.Prelude.{ℤ, Result, IfOk, IsTrue}
 use Rattle.ca_plane.specs.Prelude.{Picture, cell, shifted, IsLive, after, IsAfter}

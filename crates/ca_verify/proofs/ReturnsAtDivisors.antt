@@ -10,7 +10,7 @@ use Rattle.ca_steps.proofs.Returns.{back_times, moved_between}
 use Rattle.ca_text.specs.Prelude.{IsChanged, IsNowhere}
 use Rattle.ca_pattern.proofs.Searches.{search_within}
 
--- a number is so many times a smaller one, and a rest that is less than that
+-- n is `n / k` times k, and a rest that is less than k
 split : (n k : ℕ) → 1 ≤ k → (n ≡ (n / k) * k + n % k) × (n % k < k)
 split n k some = (sym (div-add-mod n k) ∙ ap (λ a. a + n % k) (mul_comm k (n / k)), mod-lt n some)
 

@@ -1,4 +1,4 @@
--- Trees of planes that are looked at, and what their planes show some generations on.
+-- Trees of planes that are looked at, and what their planes show after some generations.
 use Rattle.std.proofs.Common.{List, arith}
 use Rattle.std.proofs.lemmas.Int.{ints}
 use Rattle.ca_quad.specs.declared.{node.Node.Node, tree.Tree.Tree}

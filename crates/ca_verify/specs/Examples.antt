@@ -1,4 +1,4 @@
--- Small patterns, for which the definitions are worked out.
+-- Small patterns on which the definitions are tried.
 use Rattle.std.specs.Prelude.{ℕ, pos, List, [], ◌∷◌, codes}
 use Rattle.ca_plane.specs.Prelude.{Picture}
 use Rattle.ca_rule.specs.Prelude.{counts_of, bs_next}

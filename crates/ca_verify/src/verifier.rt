@@ -90,8 +90,7 @@ pub(crate) fn find_files<'a>(
     Ok(found)
 }
 
-/// The verdict on a claim. Where there is no memory to judge it beside what the cache keeps, that is let
-/// go.
+/// The verdict on a claim. Where there is no memory to judge it beside what the cache keeps, that is freed.
 pub(crate) fn verdict_on<'a, O: Observer>(
     alloc: Global,
     cache: &mut PatternCache<'a>,

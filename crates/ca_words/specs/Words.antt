@@ -30,7 +30,7 @@ squares_of set = 16384 * max 1 (min (unwrap_or set 1024) 147456)
 abbrev pub work_of : Option ℕ → ℕ
 work_of set = unwrap_or set 18446744073709551615
 
--- how many generations on a pattern is taken: none unless set
+-- by how many generations a pattern is advanced: none unless set
 abbrev pub generations_of : Option ℕ → ℕ
 generations_of set = min (unwrap_or set 0) most_generations
 

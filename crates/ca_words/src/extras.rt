@@ -47,8 +47,8 @@ impl Extras {
         }
     }
 
-    /// How many squares a long run may keep, in so many megabytes. The words keep these within their limits, and a number
-    /// outside is brought within.
+    /// How many squares a long run may keep, in the megabytes of `memory`. The words keep these within their limits,
+    /// and a number outside is brought within.
     pub fn most_squares(self) -> usize
         ensures { result ≡ squares_of self.memory }
     {

@@ -73,6 +73,6 @@ pub enum WordsFault {
     Usage,
     /// They fit no command, for the reason that this text gives.
     Misfit { text: String },
-    /// A growth was refused.
+    /// An allocation failed.
     Memory,
 }

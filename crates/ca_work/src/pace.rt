@@ -8,7 +8,7 @@ const ROOM: usize = 4 << 20;
 
 const MORE: usize = 1 << 20;
 
-// How many leaps a run may try after memory was refused, where more than so many are left to it.
+// How many leaps a run may try after memory was refused, where more than `MOST_LEAPS` are left to it.
 const MOST_TRIES: u64 = 1 << 8;
 
 const MOST_LEAPS: u64 = 1 << 12;
@@ -19,12 +19,12 @@ const REPEATED: usize = 4;
 // How often a leap that was given up is tried again as long, while results of it are kept.
 const MOST_REPEATS: u8 = 3;
 
-/// With how many squares a leap is given up in a store that had so many before, where so many are allowed.
+/// With how many squares a leap is given up in a store that had `squares` before, where `most` are allowed.
 pub fn room_beside(squares: usize, most: usize) -> usize {
     squares.saturating_add(MORE.min(most)).max(ROOM.min(most))
 }
 
-/// Whether the cells of a run, of so many generations from a tree of this level, may be many.
+/// Whether the cells of a run of n generations from a tree of this level may be many.
 pub fn is_long(level: u8, n: u64) -> bool
     ensures { result ≡ true → (d : ℕ) → n < 2 ^ d → 15 ≤ level + d }
 {
@@ -50,7 +50,7 @@ pub struct Pace {
 }
 
 impl Pace {
-    /// One generation at first, in a store that has so many squares, where so many are allowed.
+    /// One generation at first, in a store that has `squares` squares, where `most` are allowed.
     pub fn new(squares: usize, most: usize) -> Pace {
         Pace {
             digit: 0,
@@ -68,7 +68,7 @@ impl Pace {
         self.room
     }
 
-    /// By which power of two to leap, where so many generations are left.
+    /// By which power of two to leap, where `left` generations are left.
     pub fn digit(self, left: u64) -> u8
         requires { 1 ≤ left }
         ensures fits { 2 ^ result ≤ left }
@@ -77,8 +77,7 @@ impl Pace {
         power_within(self.digit.min(60), left)
     }
 
-    /// After a leap that made so many squares, by so many generations as a power of two: twice as long where
-    /// they are few.
+    /// After a leap by 2^digit generations, which made `made` squares: twice as long where these are few.
     pub fn note_leap(&mut self, digit: u8, made: usize)
         ensures { tries self.new < most_tries }
     {
@@ -90,28 +89,28 @@ impl Pace {
         }
     }
 
-    /// Whether a leap was given up since there were so many squares, and may be tried with more.
+    /// Whether a leap was given up because there were `squares` squares, and may be tried with more.
     pub fn is_full(self, squares: usize) -> bool
         ensures { result ≡ true → self.room < 2 ^ 64 - 1 }
     {
         squares >= self.room && self.room < usize::MAX
     }
 
-    /// Whether a store that has so many squares had better keep them, and have room for twice as many.
+    /// Whether a store that has `squares` squares had better keep them, and have room for twice as many.
     pub fn is_worth_growing(self, squares: usize, looked_up: usize) -> bool
         ensures { result ≡ true → self.room < 2 ^ 64 - 1 }
     {
         self.room < self.most && self.is_repeating(squares, looked_up)
     }
 
-    /// Whether a run repeats that has made so many squares: so many results were looked up again since all was forgotten, and
-    /// would be worked out once more. Where memory was refused, none is spent on them.
+    /// Whether a run repeats that has made `squares` squares: `looked_up` results were looked up again since all was
+    /// forgotten, and would be computed once more. Where memory was refused, none is spent on them.
     pub fn is_repeating(self, squares: usize, looked_up: usize) -> bool {
         !self.refused && looked_up >= squares / REPEATED
     }
 
-    /// Whether a leap that was given up in a store of so many squares is tried again as long, since the results that were
-    /// looked up are kept.
+    /// Whether a leap that was given up in a store of `squares` squares is tried again as long, since the results that
+    /// were looked up are kept.
     pub fn may_repeat_leap(self, squares: usize, looked_up: usize) -> bool
         ensures { result ≡ true → self.repeats < 3 }
     {
@@ -167,8 +166,8 @@ impl Pace {
         }
     }
 
-    /// Whether a run that goes on with less memory is no use, where so many generations are left: it tried many leaps, and many
-    /// are left.
+    /// Whether a run that goes on with less memory is no use, where `left` generations are left: it tried many leaps,
+    /// and many are left.
     pub fn is_hopeless(self, left: u64) -> bool {
         self.tried > MOST_TRIES && left >> self.digit.min(60) > MOST_LEAPS
     }
@@ -180,8 +179,8 @@ impl Pace {
         self.digit > 0 || !self.fresh
     }
 
-    /// After a leap for which memory was refused where there were so many squares, which are to be dropped: half as long, where
-    /// it can be.
+    /// After a leap for which memory was refused where there were `squares` squares, which are to be dropped: half as
+    /// long, where it can be.
     pub fn note_refused_leap(&mut self, squares: usize)
         requires { self.old.fresh ≡ true → 1 ≤ self.old.digit }
         ensures { tries self.new < tries self.old }
@@ -192,7 +191,7 @@ impl Pace {
         self.note_try();
     }
 
-    /// Memory was refused where there were so many squares. The first time there may be half as many from then on.
+    /// Memory was refused where there were `squares` squares. The first time, there may be half as many afterwards.
     pub fn note_refusal(&mut self, squares: usize)
         ensures { tries self.new ≤ tries self.old }
     {
@@ -202,12 +201,12 @@ impl Pace {
         }
     }
 
-    /// Whether there are so many squares that the next leap likely has too few.
+    /// Whether, with `squares` squares, too few are likely left for the next leap.
     pub fn is_late(self, squares: usize) -> bool {
         squares > self.room / 4 * 3
     }
 
-    /// After squares were left behind, so that there are so many.
+    /// After squares were left behind, so that there are `squares`.
     pub fn note_copy(&mut self, squares: usize)
         ensures { tries self.new ≤ tries self.old }
     {
@@ -216,14 +215,14 @@ impl Pace {
     }
 }
 
-// How many squares a store may have at first, where so many are allowed.
+// How many squares a store may have at first, where `most` are allowed.
 fn first_room(most: usize) -> usize
     ensures { 1 ≤ result }
 {
     ROOM.min(most).max(1)
 }
 
-// How many squares there may be in a store that has so many at first, and so many at least.
+// How many squares there may be in a store that has `squares` at first: `least` at least.
 fn room_after(squares: usize, least: usize) -> usize
     requires { 1 ≤ least }
     ensures { squares < 2 ^ 64 - 1 → squares < result }

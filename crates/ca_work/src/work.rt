@@ -49,15 +49,15 @@ impl Work {
         self.limit
     }
 
-    /// Lets so much be used up in all, or as much as is used up already.
+    /// Lets `limit` units be used up in all, or as many as are used up already, where these are more.
     pub fn set_limit(&mut self, limit: u64)
         ensures { self.new ≡ record { used = self.old.used; limit = max self.old.used limit } }
     {
         self.limit = self.used.max(limit);
     }
 
-    /// Counts so many units before they are worked out. Where fewer are left, all are used up, and nothing is
-    /// to be worked out.
+    /// Counts `units` units of work before they are done. Where fewer are left, all are used up, and nothing is
+    /// to be done.
     pub fn charge(&mut self, units: u64) -> Result<(), LeapFault>
         ensures counts { OnOk result (self.new.used ≡ self.old.used + units) }
         ensures most { self.new.used ≤ self.old.used + units }

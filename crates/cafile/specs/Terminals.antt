@@ -6,15 +6,16 @@ use Rattle.ca_draw.specs.declared.{drawing.ImageFormat.ImageFormat, view.Size.Si
 use Rattle.ca_draw.specs.declared.drawing.ImageFormat.TheVariants.{Text, Pgm}
 use Rattle.ca_words.specs.Words.{IsNumberText}
 
--- the word is so many columns or lines: a number above 0
+-- the word is `count` columns or lines: a number above 0
 abbrev pub IsCountText : List ℕ → ℕ → Type 0
 IsCountText word count = IsNumberText word count × (0 < count)
 
--- so many columns or lines, brought within the limits of a picture
+-- `count` columns or lines, brought within the limits of a picture
 abbrev pub terminal_side : ℕ → ℕ
 terminal_side count = max 1 (min count 8192)
 
--- the size of a picture that fits a terminal with so many columns and lines: two lines are left, one for the caption and one for the prompt
+-- the size of a picture that fits a terminal with `columns` columns and `lines` lines: two lines are left, one for the
+-- caption and one for the prompt
 abbrev pub room_in : (columns lines : ℕ) → Size
 room_in columns lines = record { width = terminal_side columns; height = terminal_side (lines - 2) }
 

@@ -23,9 +23,10 @@ use std::rt::{Clock, Files};
 
 /// Judges the claim texts of these paths, one after another, and answers the greatest of their exit statuses.
 ///
-/// Rule files that no rule line gives are looked for in the folder of rules, if there is one, and the paths of the texts
-/// in the root, if there is one. A text that can't be read or has a fault is reported on standard error, and the others are still judged. Nothing more is judged after a
-/// failed write. Where a terminal shows that a claim is refused, and `--explain` says more, that is told at the end.
+/// Rule files that no rule line gives are looked for in the folder of rules, if there is one, and the paths of the
+/// texts in the root, if there is one. A text that can't be read or has a fault is reported on standard error, and the
+/// others are still judged. Nothing more is judged after a failed write. Where a terminal shows that a claim is
+/// refused, and `--explain` says more, that is reported at the end.
 pub fn verify_files<R: Files + Clock + AllocGlobal>(
     rt: &R,
     paths: &[String],

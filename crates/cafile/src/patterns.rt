@@ -149,8 +149,8 @@ fn known_rules<R: Files + AllocGlobal>(
     }
 }
 
-// Writes what is asked of the pattern file. Where it is taken some generations on, the line of progress tells how far
-// that is.
+// Writes what is asked of the pattern file. Where it is advanced by some generations, the line of progress tells how
+// far that is.
 fn run<R: Clock + AllocGlobal>(
     rt: &R,
     asked: Asked,

@@ -45,7 +45,7 @@ fn count_of(word: &str) -> Option<u64>
     }
 }
 
-// So many columns or lines, brought within the limits of a picture.
+// `count` columns or lines, brought within the limits of a picture.
 fn side_of(count: u64) -> u16
     ensures { result ≡ terminal_side count }
 {

@@ -9,7 +9,8 @@ pub record IsLesserWith (cells : ℤ → ℤ → ℕ) (before now : List ℕ) : 
   pub is_text : IsTextOf cells text
   pub least : now ≡ lesser text before
 
--- a turn whose grid is the least box of these cells: the least text is that of these cells or the least one before, whichever comes first
+-- a turn whose grid is the smallest box of these cells: the least text is that of these cells or the least one before,
+-- whichever comes first
 pub record IsNextTurn (cells : ℤ → ℤ → ℕ) (before : List ℕ) (turn : Turn) : Type 0 where
   pub box : IsBoxRound cells turn.grid
   pub lesser : IsLesserWith cells before turn.least.items

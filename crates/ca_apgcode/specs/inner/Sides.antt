@@ -47,7 +47,7 @@ abbrev pub west_bit : ℕ → ℕ → ℕ
 west_bit mask zero = 1
 west_bit mask (suc x) = bit_at mask x
 
--- the bit of the column after this one, of so many; after the last one it is 1
+-- the bit of the column after this one, of `width` columns; after the last one it is 1
 abbrev pub east_bit : (width mask : ℕ) → ℕ → ℕ
 east_bit width mask x = if x + 1 == width then 1 else bit_at mask (x + 1)
 
@@ -64,6 +64,6 @@ text_length mask one two three four =
 abbrev pub IsTextLength : ℕ → GridCells → Type 0
 IsTextLength n box = (text : List ℕ) → IsRepresentation (cell box) box.height text → n ≡ length text
 
--- each representation of the box is longer than so many bytes
+-- each representation of the box is longer than `most` bytes
 abbrev pub HasLongTexts : ℕ → GridCells → Type 0
 HasLongTexts most box = (text : List ℕ) → IsRepresentation (cell box) box.height text → most < length text

@@ -13,8 +13,8 @@ use ca_plane::Memory;
 use std::alloc::Global;
 
 impl Grid {
-    /// The least box round the live cells of a plane, turned or reflected: that of the plane turned or reflected in the same
-    /// way. Of a grid with no live cell in its first or last column or row nothing is promised.
+    /// The smallest box round the live cells of a plane, turned or reflected: that of the plane turned or reflected in
+    /// the same way. Of a grid with no live cell in its first or last column or row nothing is promised.
     ///
     /// # Errors
     ///

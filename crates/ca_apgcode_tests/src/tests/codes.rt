@@ -55,7 +55,7 @@ const PUBLISHED: &[Code] = &[
     ),
 ];
 
-/// Codes that were worked out by hand.
+/// Codes that were computed by hand.
 const WORKED_OUT: &[Code] = &[
     // one cell
     (&[b"*"], b"1"),

@@ -55,7 +55,7 @@ const REFUSED: &[&[u8]] = &[
     b"3:3",
     b"3`3",
     b"3{3",
-    // bytes from 128 on
+    // bytes from 128 onwards
     b"\x80",
     b"3\x803",
     b"1y\xb01",

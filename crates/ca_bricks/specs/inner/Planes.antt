@@ -8,7 +8,7 @@ use Rattle.ca_bricks.specs.declared.diagram_rows.Column.TheVariants.{West, Here,
 abbrev pub cells_at : List (List ℕ) → ℕ → ℕ → List ℕ
 cells_at planes x y = map (λ rows. row_cells rows x y) planes
 
--- which of the three cells from the western one on
+-- which of the three cells it is, counted from the western one
 abbrev pub column_place : Column → ℕ
 column_place West = 0
 column_place Here = 1

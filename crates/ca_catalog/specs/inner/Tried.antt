@@ -4,7 +4,7 @@ use Rattle.std.specs.declared.alloc.Global.{Global}
 use Rattle.std.specs.List.{AllByRecursion}
 use Rattle.ca_catalog.specs.Names.{numbered_name, is_taken}
 
--- so many of a name's numbered names, from the first on, are taken
+-- the first `count` of a name's numbered names are taken
 abbrev pub IsTried : List (List ℕ) → List ℕ → ℕ → Type 0
 IsTried taken name count = (k : ℕ) → k < count → is_taken taken (numbered_name name k) ≡ true
 

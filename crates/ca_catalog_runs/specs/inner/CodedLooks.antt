@@ -11,7 +11,7 @@ IsFoundCode next cells identity true None = IsNoObject identity
 IsFoundCode next cells identity true (Some code) = IsCodeOf next cells identity code.items
 IsFoundCode next cells identity false found = found ≡ None
 
--- a look at the plane n generations on from these cells finds what it is, and this is its code
+-- a look at the plane n generations after these cells finds what it is, and this is its code
 abbrev pub IsCodedLook : (List ℕ → ℕ) → Picture → (n : ℕ) → Scope → (coded : Bool) → CodedLook → Type 0
 IsCodedLook next cells n scope coded found = (later : Picture) × IsAfter next cells n later × IsLook next later scope found.look
     × IsFoundCode next later found.look.identity coded found.code

@@ -2,7 +2,7 @@
 use Rattle.std.specs.Prelude.{◌≡◌, ℕ, ◌^◌, ◌≤◌, ℤ, pos, neg_ℤ, ◌+ℤ◌, ◌≤ℤ◌}
 use Rattle.ca_draw.specs.Windows.{strip_of}
 
--- so many columns or rows may be those of a window
+-- `count` columns or rows may be those of a window
 pub record AreStrips (first : ℤ) (count : ℕ) : Type 0 where
   pub some : 1 ≤ count
   pub most : count ≤ 8192

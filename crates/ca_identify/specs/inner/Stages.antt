@@ -1,4 +1,4 @@
--- What a live pattern's plane shows some generations on, and what work it takes to see it.
+-- What a live pattern's plane shows after some generations, and what work it takes to see it.
 use Rattle.std.specs.Prelude.{◌≡◌, ℕ, ◌+◌, ◌-◌, ◌*◌, ◌^◌, ◌≤◌, ◌<◌, ℤ, List, Option, Some, None, replicate, slice_get}
 use Rattle.ca_plane.specs.declared.point.Bounds.{Bounds}
 use Rattle.ca_plane.specs.Prelude.{Picture, IsLive, shifted, cells_after, IsAfter, longest_period}
@@ -16,12 +16,12 @@ use Rattle.ca_text.specs.Prelude.{IsShift, IsChanged, IsNowhere}
 use Rattle.ca_pattern.specs.Prelude.{IsBroad, IsWide, ShowsTree, HasLive, IsStart, IsLaterTree}
 use Rattle.ca_pattern.specs.inner.LifeSpans.{IsLifeSpan}
 
--- the tree of a live plane that is looked at, and the least box round its cells
+-- the tree of a live plane that is looked at, and the smallest box round its cells
 pub record IsFirst (nodes : List Node) (first : First) : Type 0 where
   pub start : IsStart nodes first.tree
   pub box : IsLeastWideBox (cell nodes first.tree) first.bounds
 
--- such a plane, in a sound store, can be looked at for so many generations, under a rule that leaves a dead plane dead
+-- such a plane, in a sound store, can be looked at for `limit` generations, under a rule that leaves a dead plane dead
 pub record CanSearch (next : List ℕ → ℕ) (nodes : List Node) (first : First) (limit : ℕ) : Type 0 where
   pub sound : IsSoundStore nodes
   pub quiet : next (replicate 9 0) ≡ 0
@@ -53,7 +53,7 @@ IsStage first later Empty = IsDead later
 IsStage first later (Back dx dy) = AreMoved first later dx dy
 IsStage first later Other = HasLive later × AreMovedNowhere first later
 
--- such a tree, of a live plane, and the least box round its cells
+-- such a tree, of a live plane, and the smallest box round its cells
 pub record IsLater (next : List ℕ → ℕ) (first : ℤ → ℤ → ℕ) (n : ℕ) (nodes : List Node) (later : First) : Type 0 where
   pub tree : IsLaterTree next first n nodes later.tree
   pub box : IsLeastWideBox (cell nodes later.tree) later.bounds
@@ -80,12 +80,13 @@ leap_work limit = limit * 1024
 abbrev pub TakesSearch : (old new : ℕ) → (stages : ℕ → ℤ → ℤ → ℕ) → (limit : ℕ) → Type 0
 TakesSearch old new stages limit = (level : ℕ) → 1 ≤ level → ((m : ℕ) → m < limit → HoldsAll level (stages m)) → new ≤ old + limit * 14 ^ (level + 3)
 
--- the same where so many steps were taken before
+-- the same where `begun` steps were taken before
 abbrev pub TakesSearchFrom : (old new : ℕ) → (stages : ℕ → ℤ → ℤ → ℕ) → (begun limit : ℕ) → Type 0
 TakesSearchFrom old new stages begun limit =
     (level : ℕ) → 1 ≤ level → ((m : ℕ) → m < limit → HoldsAll level (stages m)) → new + begun * step_work level ≤ old + limit * 14 ^ (level + 3)
 
--- from the old count of work to the new one it is at most so many steps, of which some may have been taken before, and then what early generations may take
+-- from the old count of work to the new one it is at most `sure` steps, less the `begun` that were taken before, and
+-- then what early generations may take
 abbrev pub TakesEarly : (old new : ℕ) → (stages : ℕ → ℤ → ℤ → ℕ) → (begun sure limit : ℕ) → Type 0
 TakesEarly old new stages begun sure limit =
     (level : ℕ) → 1 ≤ level → ((m : ℕ) → m < limit → HoldsAll level (stages m)) → new ≤ old + (sure - begun) * step_work level + early_work limit
@@ -110,7 +111,7 @@ abbrev pub generations_of : Ending → ℕ
 generations_of (Death generations) = generations
 generations_of (Return again) = again.generations
 
--- how it ends, where its plane shows this after so many generations and no ending before
+-- how it ends, where its plane shows this after n generations and no ending before
 abbrev pub ending_of : Stage → ℕ → Option Ending
 ending_of Empty n = Some (Death n)
 ending_of (Back dx dy) n = Some (Return (record { generations = n; dx = dx; dy = dy }))
@@ -131,8 +132,8 @@ pub record IsWalk (next : List ℕ → ℕ) (first : ℤ → ℤ → ℕ) (nodes
   pub others : AreOtherUpTo next first walk.generations
   pub boxes : AreSquareBoxes nodes walk.boxes
 
--- a walk that began after so many generations was halted at a later one, up to some end: its tree then, and after no generation, starting at 1, was the plane
--- dead or the pattern, moved. Nothing is said of its boxes
+-- a walk that began after `begun` generations was halted after that many or more, up to `end`: its tree then, and after
+-- no generation, starting at 1, was the plane dead or the pattern, moved. Nothing is said of its boxes
 pub record IsHalted (next : List ℕ → ℕ) (first : ℤ → ℤ → ℕ) (nodes : List Node) (begun end : ℕ) (walk : Walk) : Type 0 where
   pub now : IsLaterTree next first walk.generations nodes walk.tree
   pub others : AreOtherUpTo next first walk.generations
@@ -143,7 +144,8 @@ pub record IsHalted (next : List ℕ → ℕ) (first : ℤ → ℤ → ℕ) (nod
 abbrev pub EndSo : (List ℕ → ℕ) → (ℤ → ℤ → ℕ) → Ending → Type 0
 EndSo next first ending = (cells : Picture) → ((x y : ℤ) → plane.cell cells x y ≡ first x y) → IsEnding next cells ending
 
--- a look at the generations up to some end finds how the pattern ends by then, or else its walk is at one of them, from a least one on
+-- a look at the generations up to `end` finds how the pattern ends by then, or else its walk is at one of them, from
+-- `least` onwards
 abbrev pub IsLookedAt : (List ℕ → ℕ) → (ℤ → ℤ → ℕ) → List Node → (least end : ℕ) → Walk → Option Ending → Type 0
 IsLookedAt next first nodes least end walk (Some ending) = EndSo next first ending × (generations_of ending ≤ end)
 IsLookedAt next first nodes least end walk None = IsWalk next first nodes walk × (least ≤ walk.generations) × (walk.generations ≤ end)
@@ -163,7 +165,7 @@ pub record IsEarly (next : List ℕ → ℕ) (first : ℤ → ℤ → ℕ) (node
   pub is_first : IsFirst nodes plane
   pub shows : (x y : ℤ) → cell nodes plane.tree x y ≡ cells_after next first k x y
 
--- the planes of the first generations, from the first cells on
+-- the planes of the first generations, from the first cells onwards
 abbrev pub AreEarly : (List ℕ → ℕ) → (ℤ → ℤ → ℕ) → List Node → List First → Type 0
 AreEarly next first nodes planes = (k : ℕ) (plane : First) → slice_get planes k ≡ Some plane → IsEarly next first nodes k plane
 

@@ -12,8 +12,8 @@ use ca_quad::{SquareBoxes, Store, Tree};
 use ca_run::{LeapFault, Leaper, Unwatched};
 use std::alloc::Global;
 
-/// The planes of a live pattern after 0, 1, 2 .. generations, before so many: up to the first that is dead, or lies
-/// far from the origin.
+/// The planes of a live pattern after 0, 1, 2 .. generations, below `generations`: up to the first that is dead, or
+/// lies far from the origin.
 pub(super) fn early_planes<A: Automaton>(
     alloc: Global,
     leaper: &mut Leaper<A>,

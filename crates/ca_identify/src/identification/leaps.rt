@@ -112,7 +112,7 @@ pub(super) fn growth_after<A: Automaton>(
     Ok(Some(growth))
 }
 
-// Whether the plane so many times as long after as the limit, or longer, shows that the pattern is back after
+// Whether the plane after `times` times `limit` generations, or after more, shows that the pattern is back after
 // none of the generations up to the limit: it is dead, or has grown too far, or at last is back itself within as
 // many generations as were seen of the pattern, which wasn't.
 fn has_no_return<A: Automaton>(
@@ -147,7 +147,7 @@ fn has_no_return<A: Automaton>(
     is_back_soon(alloc, leaper, &later, seen)
 }
 
-// The tree of the plane so many generations on, and its box, unless it is dead or has grown too far.
+// The tree of the plane after `generations` generations, and its box, unless it is dead or has grown too far.
 fn later_plane<A: Automaton>(
     alloc: Global,
     leaper: &mut Leaper<A>,
@@ -203,7 +203,7 @@ fn has_grown_too_far(from: &WideBounds, to: &WideBounds, limit: u64) -> bool
     false
 }
 
-// Whether a plane is dead, or back in its place or moved, within so many generations.
+// Whether a plane is dead, or back in its place or moved, within `seen` generations.
 fn is_back_soon<A: Automaton>(
     alloc: Global,
     leaper: &mut Leaper<A>,

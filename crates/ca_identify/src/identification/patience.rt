@@ -76,8 +76,8 @@ struct Span {
     units: u64,
 }
 
-// What a live pattern is, if no more than so many units of work are needed to find it out. Else the walk is at the last
-// generation that was looked at.
+// What a live pattern is, if no more than `span.units` units of work are needed to find it out. Else the walk is at the
+// last generation that was looked at.
 fn patient_search<A: Automaton, O: Observer>(
     alloc: Global,
     leaper: &mut Leaper<A>,

@@ -44,8 +44,8 @@ const EARLY_SHARE: u64 = 256;
 
 const MOST_EARLY_SHARE: u64 = 1 << 17;
 
-/// What a live pattern is, within so many generations, of which a walk may have seen some early ones. So many of these at
-/// most are looked at one by one.
+/// What a live pattern is, within `limit` generations, of which a walk may have seen some early ones. Up to `early` they
+/// are looked at one by one; then leaps are tried, and where these settle nothing, the others are looked at too.
 pub(super) fn search<A: Automaton, O: Observer>(
     alloc: Global,
     leaper: &mut Leaper<A>,
@@ -192,9 +192,9 @@ fn early_share(limit: u64) -> u64
     (limit * EARLY_SHARE).min(MOST_EARLY_SHARE)
 }
 
-// The planes of the first generations, before so many, with which later ones are compared: as many as the largest power
-// of two that isn't more, since a leap by a power of two is the cheapest. Where they take more than their share of the
-// work, none. They are made before any leap, while the leaper remembers them.
+// The planes of the first generations with which later ones are compared: at most as many as the largest power of two
+// that is no more than `generations`, since a leap by a power of two is the cheapest. Where they take more than their
+// share of the work, none. They are made before any leap, while the leaper remembers them.
 fn planes_within_share<A: Automaton>(
     alloc: Global,
     leaper: &mut Leaper<A>,
@@ -236,7 +236,7 @@ fn power_within(number: u64) -> u64
     power
 }
 
-/// How many generations of a pattern in a store of so many squares are looked at before the first leap.
+/// How many generations of a pattern in a store of `squares` squares are looked at before the first leap.
 pub(super) fn early_generations(squares: usize) -> u64
     ensures { 1 ≤ result }
 {

@@ -1,4 +1,4 @@
-//! What a pattern's plane shows some generations on.
+//! What a pattern's plane shows after some generations.
 
 ghost use Rattle.std.specs.Prelude.{◌≡◌, ℕ, ℤ, IfOk, IsFalse, OnOk, MatchOption};
 ghost use Rattle.ca_quad.specs.Prelude.{IsLeastWideBox, AreSquareBoxes, IsTree, cell};
@@ -21,7 +21,7 @@ pub(super) struct First {
     pub(super) bounds: WideBounds,
 }
 
-/// What a live pattern's plane shows some generations on.
+/// What a live pattern's plane shows after some generations.
 #[derive(Clone, Copy)]
 pub(super) enum Stage {
     /// No cell is live.
@@ -33,7 +33,8 @@ pub(super) enum Stage {
 }
 
 impl Stage {
-    /// How a pattern ends whose plane shows this after so many generations, where it was neither dead nor back before.
+    /// How a pattern ends whose plane shows this after `generations` generations, where it was neither dead nor back
+    /// before.
     pub(super) fn ending(self, generations: u64) -> Option<Ending>
         ensures { result ≡ ending_of self generations }
     {

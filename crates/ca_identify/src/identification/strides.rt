@@ -209,7 +209,7 @@ fn plane_before<A: Automaton>(
     Ok(None)
 }
 
-// What the plane shows of the pattern after so many generations, from where a walk is.
+// What the plane shows of the pattern after `generations` generations, computed from where a walk is.
 fn stage_after<A: Automaton>(
     alloc: Global,
     leaper: &mut Leaper<A>,

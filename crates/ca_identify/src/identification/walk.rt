@@ -18,7 +18,7 @@ use ca_quad::{SquareBoxes, Tree};
 use ca_run::{LeapFault, Leaper, Unwatched};
 use std::alloc::Global;
 
-/// How far a pattern's plane was looked at: the tree after so many generations, and the boxes of squares that
+/// How far a pattern's plane was looked at: the tree after `generations` generations, and the boxes of squares that
 /// were measured.
 #[derive(Drop)]
 pub(super) struct Walk {
@@ -42,7 +42,7 @@ impl Walk {
     }
 }
 
-/// Goes on to so many generations after the pattern, and gives how the pattern ends by then, if it does. Where it fails,
+/// Goes on to `end` generations after the pattern, and gives how the pattern ends by then, if it does. Where it fails,
 /// the walk is at the last generation that was looked at.
 pub(super) fn look_on<A: Automaton, O: Observer>(
     alloc: Global,
@@ -90,7 +90,7 @@ struct LaterStage {
     stage: Stage,
 }
 
-// One generation on from the tree so many generations after the pattern.
+// One generation after the tree that is `generations` generations after the pattern.
 fn step<A: Automaton>(
     alloc: Global,
     leaper: &mut Leaper<A>,

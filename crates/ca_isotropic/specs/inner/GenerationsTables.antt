@@ -8,11 +8,11 @@ abbrev pub listed_states : ℕ → ℕ → List ℕ
 listed_states from count = flat_map (λ state. decimal state ++ 44 ∷ []) (range_with_len from count)
 
 -- The first eight variables are neighbours that aren't live, which have every state but 1, and the last eight are any neighbours.
--- A variable's least state besides 0
+-- A variable's smallest state besides 0
 abbrev pub least_of : ℕ → ℕ
 least_of variable = if nat_lt variable 8 then 2 else 1
 
--- the line of a variable: its letter, and its states from the least on, and 0
+-- the line of a variable: its letter, and its states from the smallest onwards, and 0
 abbrev pub variable_line : ℕ → ℕ → List ℕ
 variable_line states variable = codes "var " ++ (97 + variable) ∷ (codes "={" ++ (listed_states (least_of variable) (states - least_of variable) ++ codes "0}"))
 

@@ -16,7 +16,7 @@ ring_of nine = map (slice_index nine) (1 ∷ 2 ∷ 5 ∷ 8 ∷ 7 ∷ 6 ∷ 3 ∷
 abbrev pub neighbour_byte : Bool → ℕ → ℕ → ℕ
 neighbour_byte variables letter cell = if cell == 0 then (if variables then letter else 48) else 49
 
--- the bytes of neighbours, with the letters from this one on, each with a comma behind it
+-- the bytes of neighbours, with the letters from this one onwards, each with a comma behind it
 abbrev pub neighbour_bytes : Bool → ℕ → List ℕ → List ℕ
 neighbour_bytes variables letter [] = []
 neighbour_bytes variables letter (c ∷ cs) = neighbour_byte variables letter c ∷ 44 ∷ neighbour_bytes variables (letter + 1) cs

@@ -14,7 +14,8 @@ is_mark b = (b == letter ".") || (b == letter "*")
 abbrev pub is_live : ℕ → Bool
 is_live b = b == letter "*"
 
--- there is room for the rows: so many, of cells alone; so many cells in the first, and eight in the others
+-- the rows are of cells alone, and there is room for them: at most `height` rows, at most `width` cells in the first,
+-- and at most eight in each of the others
 abbrev pub has_room : (height width : ℕ) → List (List ℕ) → Bool
 has_room height width [] = true
 has_room zero width (r ∷ rs) = false
@@ -24,7 +25,7 @@ has_room (suc height) width (r ∷ rs) = (list_all is_mark r && nat_le (length r
 abbrev pub is_leaf : List ℕ → Bool
 is_leaf bytes = has_room 8 8 (leaf_rows bytes)
 
--- the fault of bytes that go on where so many rows are left, and so many cells of the first of them
+-- the fault of bytes that go on where `height` rows are left, and `width` cells of the first of them
 abbrev pub leaf_fault : (height width : ℕ) → List ℕ → Option MacroFault
 leaf_fault height width [] = None
 leaf_fault height width (b ∷ bs) =
@@ -44,7 +45,7 @@ abbrev pub row_bits : List Bool → ℕ
 row_bits [] = 0
 row_bits (live ∷ more) = (if live then 1 else 0) + 2 * row_bits more
 
--- so many rows, each by its bits; the rows that are left out are dead
+-- `height` rows, each by its bits; the rows that are left out are dead
 abbrev pub leaf_bits : ℕ → List (List Bool) → List ℕ
 leaf_bits zero rows = []
 leaf_bits (suc height) [] = 0 ∷ leaf_bits height []

@@ -9,7 +9,7 @@ use Rattle.ca_macro.specs.File.{IsNumber, AreNumbers}
 abbrev pub KeepsNumberOf : List ℕ → ℕ → Type 0
 KeepsNumberOf word kept = AreDigits word × (kept ≡ nearest_u64 (value word))
 
--- the words aren't so many numbers
+-- the words aren't `count` numbers
 abbrev pub AreNoNumbers : ℕ → List (List ℕ) → Type 0
 AreNoNumbers count words = (numbers : List ℕ) → length numbers ≡ count → AllZip IsNumber words numbers → ⊥
 

@@ -23,7 +23,7 @@ fn is_mark(byte: u8) -> bool
     matches!(byte, b'.' | b'*')
 }
 
-/// The fault of bytes that go on where so many rows are left, and so many cells of the first of them. It
+/// The fault of bytes that go on where `height` rows are left, and `width` cells of the first of them. It
 /// calls itself at most once for each cell and row end of a leaf.
 fn fault_from(bytes: &[u8], height: u8, width: u8) -> Option<MacroFault>
     ensures { result ≡ leaf_fault height width bytes.now }

@@ -25,7 +25,7 @@ fn is_in_range(cells: WideBounds) -> bool
 ///
 /// # Errors
 ///
-/// `Range` where a live cell isn't, and `Memory` where a growth is refused.
+/// `Range` where a live cell isn't, and `Memory` where an allocation fails.
 fn check_range(alloc: Global, store: &Store, tree: &Tree) -> Result<(), MacroFault>
     requires { IsTree store.now tree.now }
     ensures good { OnOk result (AreInRange (cell store.now tree.now)) }
@@ -48,7 +48,7 @@ fn check_range(alloc: Global, store: &Store, tree: &Tree) -> Result<(), MacroFau
 ///
 /// # Errors
 ///
-/// `Range` where a live cell is out of range, and `Memory` where a growth is refused.
+/// `Range` where a live cell is out of range, and `Memory` where an allocation fails.
 pub(crate) fn trim_in_range(
     alloc: Global,
     store: &mut Store,

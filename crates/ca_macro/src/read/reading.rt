@@ -54,7 +54,7 @@ impl<'a> Reading<'a> {
     ///
     /// # Errors
     ///
-    /// The line's fault; and `Memory` where a growth is refused for the node of a good line.
+    /// The line's fault; and `Memory` where an allocation fails for the node of a good line.
     pub(crate) fn read(&mut self, store: &mut Store, line: &'a [u8]) -> Result<(), MacroFault>
         requires line { Every (λ b. not (is_line_end b)) line.now }
         requires reading { (said : List MacrocellLine) × IsMacrocellReading store.old said self.old }

@@ -120,7 +120,7 @@ impl Squares {
     /// # Errors
     ///
     /// The fault of the first number that may not name a part, found before any memory is taken; and `Memory`
-    /// where a growth is refused.
+    /// where an allocation fails.
     pub(crate) fn add_parts(
         &mut self,
         store: &mut Store,

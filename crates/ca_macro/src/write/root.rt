@@ -7,7 +7,7 @@ ghost use Rattle.ca_macro.specs.Tidy.{lowest_level, IsLeastLevel};
 use ca_plane::Memory;
 use ca_quad::{Store, Tree};
 
-/// The least level of a root.
+/// The smallest level of a root.
 fn lowest_level(states: u16) -> u8
     ensures { result ≡ lowest_level states }
 {

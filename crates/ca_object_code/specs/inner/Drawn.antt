@@ -7,7 +7,7 @@ use Rattle.ca_quad.specs.declared.tree.WideBounds.{WideBounds}
 use Rattle.ca_apgcode.specs.Prelude.{GridCells, IsGrid, MakesLive, cell, live, IsTurnedText}
 use Rattle.ca_object_code.specs.declared.drawing.Window.{Window}
 
--- in no orientation the plane has a text, since its least box is larger than 40 by 40, or there is none
+-- in no orientation the plane has a text, since its smallest box is larger than 40 by 40, or there is none
 abbrev pub HasNoText : (ℤ → ℤ → ℕ) → Type 0
 HasNoText cells = (text : List ℕ) → IsTurnedText cells text → ⊥
 

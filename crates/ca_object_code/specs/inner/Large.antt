@@ -3,7 +3,7 @@ use Rattle.std.specs.Prelude.{◌≡◌, ℕ, ◌+◌, ◌-◌, ◌*◌, ◌⊎�
 use Rattle.ca_plane.specs.Prelude.{cells_after}
 use Rattle.ca_quad.specs.declared.tree.WideBounds.{WideBounds}
 
--- after so many generations the cells are back, moved by (dx, dy)
+-- after `period` generations the cells are back, moved by (dx, dy)
 abbrev pub IsBackBy : (List ℕ → ℕ) → (ℤ → ℤ → ℕ) → (period : ℕ) → (dx dy : ℤ) → Type 0
 IsBackBy next cells period dx dy = (x y : ℤ) → cells_after next cells period x y ≡ cells (x -ℤ dx) (y -ℤ dy)
 

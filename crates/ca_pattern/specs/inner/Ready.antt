@@ -1,4 +1,4 @@
--- Trees that are ready to be written and told of.
+-- Trees that are ready to be written and reported on.
 use Rattle.std.specs.Prelude.{ℕ, ◌<◌}
 use Rattle.ca_plane.specs.Prelude.{generation_limit}
 use Rattle.ca_quad.specs.Prelude.{IsTree, cell}

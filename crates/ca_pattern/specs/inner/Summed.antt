@@ -1,4 +1,4 @@
--- What is told of a pattern.
+-- What is reported of a pattern.
 use Rattle.std.specs.Prelude.{◌≡◌, ℕ, ℤ, neg_ℤ, ◌≤ℤ◌, MatchOption}
 use Rattle.ca_plane.specs.Prelude.{Picture, IsLive, IsLeastBox, HasPopulation, reach}
 use Rattle.ca_plane.specs.Plane as plane
@@ -16,7 +16,7 @@ pub record AreNearBounds (bounds : WideBounds) : Type 0 where
   pub x1 : IsCoordinate bounds.x1
   pub y1 : IsCoordinate bounds.y1
 
--- so many cells are live, and these are the bounds of the live ones
+-- `extent.cells` cells are live, and these are the bounds of the live ones
 pub record IsExtentOf (cells : ℤ → ℤ → ℕ) (extent : Extent) : Type 0 where
   pub population : HasPopulation cells extent.cells
   pub bounds : (picture : Picture) → ((x y : ℤ) → cells x y ≡ plane.cell picture x y) → MatchOption extent.bounds (IsLive picture → ⊥) (IsLeastBox picture)

@@ -17,7 +17,7 @@ IsUndrawn request cells (Window fault) = HasNoWindow request cells fault
 IsUndrawn request cells Memory = Unit {0}
 IsUndrawn request cells told = ⊥
 
--- the same of the plane of a file's pattern n generations on
+-- the same of the plane of a file's pattern after n generations
 abbrev pub IsUndrawnAfter : List ℕ → List TableRule → (n : ℕ) → DrawRequest → ToolFault → Type 0
 IsUndrawnAfter bytes tables n request (Window fault) = HasNoWindowAfter bytes tables n request fault
 IsUndrawnAfter bytes tables n request Memory = MayWantMemory bytes

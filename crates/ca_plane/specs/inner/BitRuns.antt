@@ -18,18 +18,18 @@ pub record IsPlaceOf (word : CellWord) (words : List CellWord) (place : ℕ) : T
   pub below : place < length words
   pub same : (none : CellWord) → HaveSameCells (slice_index_or words place none) word
 
--- the bits from the first on, below the end, are 1, and no others
+-- the bits from `first` onwards, below the end, are 1, and no others
 pub record AreBitsOf (bits first end : ℕ) : Type 0 where
   pub within : (b : ℕ) → first ≤ b → b < end → bit_at bits b ≡ 1
   pub outside : (b : ℕ) → (first ≤ b → b < end → ⊥) → bit_at bits b ≡ 0
 
--- a cell of the row from the first column on, below the end, is live, and no other
+-- a cell of the row from column `first` onwards, below the end, is live, and no other
 pub record IsWordOfRun (word : CellWord) (row first end : ℕ) : Type 0 where
   pub is_row : word.row ≡ row
   pub within : (column : ℕ) → first ≤ column → column < end → word_state word column row ≡ 1
   pub outside : (column other : ℕ) → (other ≡ row → first ≤ column → column < end → ⊥) → word_state word column other ≡ 0
 
--- the cells of the row from the first column on, below the end, are live, and every other cell is as it was
+-- the cells of the row from column `first` onwards, below the end, are live, and every other cell is as it was
 pub record AddsColumns (row first end : ℕ) (old new : List CellWord) : Type 0 where
   pub within : (column : ℕ) → first ≤ column → column < end → state_of_words new column row ≡ 1
   pub outside : (column other : ℕ) → (other ≡ row → first ≤ column → column < end → ⊥) → state_of_words new column other ≡ state_of_words old column other

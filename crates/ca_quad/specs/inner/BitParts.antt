@@ -21,7 +21,8 @@ pub record AreWordQuarters (words : List CellWord) (at : Spot) (corners : Corner
   pub sw : HaveCells words parts.sw.items corners.sw side
   pub se : HaveCells words parts.se.items corners.se side
 
--- so many places from the first one on, counted from the corner of a plane, and so many from another on have none in common
+-- `length` places from `first` onwards, counted from the corner of a plane, and `side` places from the coordinate `at`
+-- onwards have none in common
 abbrev pub AreApart : ℕ → ℕ → ℤ → ℕ → Type 0
 AreApart first length at side = (pos (first + length) ≤ℤ (at +ℤ reach)) ⊎ (((at +ℤ pos side) +ℤ reach) ≤ℤ pos first)
 

@@ -53,7 +53,7 @@ half_of place half = if nat_lt place half then 0 else 1
 abbrev pub overlapping_fours : List ℕ → ℕ → Neighbours × Neighbours × Neighbours × Neighbours
 overlapping_fours ids first = (neighbours_at ids first, neighbours_at ids (first + 1), neighbours_at ids (first + 4), neighbours_at ids (first + 5))
 
--- the word has the cells of four squares of level 3 from this place on
+-- the word has the cells of four squares of level 3 from this place onwards
 pub record IsCutWord (nodes : List Node) (level : ℕ) (four : Neighbours) (place : Offset) (word : ℕ) : Type 0 where
   pub is_level : level ≡ 3
   pub has_cells : (x y : ℕ) → x < 8 → y < 8 → word_cells word x y ≡ cells_of_four nodes 3 four (place.x + x) (place.y + y)

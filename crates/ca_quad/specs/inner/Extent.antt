@@ -1,4 +1,4 @@
--- The least box round the live cells of a square, counted from its corner.
+-- The smallest box round the live cells of a square, counted from its corner.
 use Rattle.std.specs.Prelude.{◌≢◌, ℕ, ◌-◌, ◌<◌, ◌≤◌, nat_lt, if◌then◌else◌, Option, MatchOption}
 use Rattle.ca_quad.specs.declared.store.extent.Extent.{Extent}
 use Rattle.ca_quad.specs.Trees.{IsEmpty}
@@ -11,7 +11,7 @@ box_of_two side west east x y = if nat_lt x side then west x y else east (x - si
 abbrev pub transposed : (ℕ → ℕ → ℕ) → ℕ → ℕ → ℕ
 transposed cells x y = cells y x
 
--- the least box round the live cells, which lie in so many columns and rows: one lies on each of its sides
+-- the smallest box round the live cells, which lie in `columns` columns and `rows` rows: one lies on each of its sides
 pub record IsExtent (cells : ℕ → ℕ → ℕ) (columns rows : ℕ) (box : Extent) : Type 0 where
   pub all : (x y : ℕ) → cells x y ≢ 0 → (box.left ≤ x) × (x ≤ box.right) × (box.top ≤ y) × (y ≤ box.bottom)
   pub left : (y : ℕ) × (cells box.left y ≢ 0)
@@ -25,6 +25,6 @@ pub record IsExtent (cells : ℕ → ℕ → ℕ) (columns rows : ℕ) (box : Ex
 abbrev pub FitsSide : ℕ → Extent → Type 0
 FitsSide side box = (box.left < side) × (box.top < side) × (box.right < side) × (box.bottom < side)
 
--- the least box round the live cells, where there are any
+-- the smallest box round the live cells, where there are any
 abbrev pub IsSquareExtent : (ℕ → ℕ → ℕ) → ℕ → ℕ → Option Extent → Type 0
 IsSquareExtent cells columns rows found = MatchOption found (IsEmpty cells) (IsExtent cells columns rows)

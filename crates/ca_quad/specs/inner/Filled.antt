@@ -9,7 +9,7 @@ use Rattle.ca_quad.specs.{Trees.ShowsSquare, inner.Ring.no_cells, inner.Rows.Are
 abbrev pub cells_from : (ℤ → ℤ → ℕ) → Spot → ℕ → ℕ → ℕ
 cells_from cells at x y = cells (at.x +ℤ pos x) (at.y +ℤ pos y)
 
--- this is the empty square of the level, which is from the least one to 65
+-- this is the empty square of the level, which is from `least` to 65
 pub record IsEmptyOf (nodes : List Node) (least level id : ℕ) : Type 0 where
   pub low : least ≤ level
   pub high : level ≤ 65

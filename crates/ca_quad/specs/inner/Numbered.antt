@@ -15,7 +15,7 @@ IsNumberOfNode nodes id n =
 abbrev pub IsKeptOtherwise : List Node → ℕ → Type 0
 IsKeptOtherwise nodes id = (place : ℕ) × (place < length nodes) × (meaning_of_id id ≡ Kept place) × ((n : ℕ) → node_at nodes place ≢ Block n)
 
--- the four are the digits of a number, of so many binary digits each, the lowest first
+-- the four are the digits of a number, of k binary digits each, the lowest first
 pub record AreFourDigits (k n a b c d : ℕ) : Type 0 where
   pub first : a < 2 ^ k
   pub second : b < 2 ^ k

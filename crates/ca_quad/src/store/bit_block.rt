@@ -55,7 +55,7 @@ impl Block for [u64; 64] {
     ghost small = { omega arith };
 }
 
-// Eight cells of a row, from a column on.
+// Eight cells of row `y`, from column `x` onwards.
 fn eight_cells(rows: &[u64; 64], x: usize, y: usize) -> u8
     requires x { x ≤ 56 }
     requires y { y ≤ 63 }
@@ -121,7 +121,7 @@ fn zeros_before(way: i128) -> u32
     (64 - way) as u32
 }
 
-// The 64 bits from this one on of 64 zeros and then these bits.
+// The 64 bits from bit `first` onwards of 64 zeros and then these bits.
 fn bits_from(bits: u64, first: u32) -> u64
     requires { first < 128 }
     ensures { (i : ℕ) → i < 64 → bit_at result i ≡ bit_at (bits * 2 ^ 64) (first + i) }

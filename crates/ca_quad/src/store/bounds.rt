@@ -1,4 +1,4 @@
-//! The least box round the live cells of a tree.
+//! The smallest box round the live cells of a tree.
 
 ghost use Rattle.std.specs.Prelude.{◌≡◌, ◌^◌, ◌+◌, ◌≤◌, pos, ◌-ℤ◌, IfOk, OnOk, MatchOption};
 ghost use Rattle.ca_quad.specs.Trees.{IsTree, cell};
@@ -14,7 +14,7 @@ use ca_plane::Memory;
 use std::alloc::Global;
 
 impl Store {
-    /// The least box that holds every live cell of a tree, where there are any.
+    /// The smallest box that holds every live cell of a tree, where there are any.
     ///
     /// Each square of the tree is looked at once, however often it lies there.
     ///

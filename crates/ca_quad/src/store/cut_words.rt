@@ -9,8 +9,8 @@ use super::cut::Offset;
 use crate::neighbours::Neighbours;
 
 impl Store {
-    // The cells of the square that is cut out of four so far from their corner. It is told where the squares
-    // have level 3 and no cell has a state above 1.
+    // The cells of the square that is cut out of four at this place from their corner. They are given where
+    // the squares have level 3 and no cell has a state above 1.
     pub(super) fn cut_word(&self, level: u8, four: Neighbours, place: Offset) -> Option<u64>
         requires four { AreNeighbours self.now level four }
         requires x { place.x < 2 ^ level }
@@ -30,7 +30,7 @@ impl Store {
     }
 }
 
-// The eight rows from this one on of two words that lie one over the other.
+// The eight rows from `row` onwards of two words that lie one over the other.
 fn rows_from(north: u64, south: u64, row: u32) -> u64
     requires { row < 8 }
     ensures north { (x y : ℕ) → x < 8 → row + y < 8 → word_cells result x y ≡ word_cells north x (row + y) }
@@ -41,7 +41,7 @@ fn rows_from(north: u64, south: u64, row: u32) -> u64
     ((both >> (8 * row)) % 18446744073709551616) as u64
 }
 
-// The eight columns from this one on of two words that lie side by side.
+// The eight columns from `column` onwards of two words that lie side by side.
 fn columns_from(west: u64, east: u64, column: u32) -> u64
     requires { column < 8 }
     ensures west { (x y : ℕ) → column + x < 8 → y < 8
@@ -53,7 +53,7 @@ fn columns_from(west: u64, east: u64, column: u32) -> u64
     ((west >> column) & kept) | ((east << (8 - column)) & (u64::MAX - kept))
 }
 
-// A word whose first columns are ones, all but so many.
+// A word whose columns are ones, all but the last `fewer`.
 fn low_columns(fewer: u32) -> u64
     requires { fewer < 8 }
     ensures { result ≡ 72340172838076673 * (255 / 2 ^ fewer) }

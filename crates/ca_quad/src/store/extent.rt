@@ -1,4 +1,4 @@
-//! The least box round the live cells of a square.
+//! The smallest box round the live cells of a square.
 
 ghost use Rattle.std.specs.Prelude.{ℕ, ◌+◌, ◌-◌, ◌≤◌, ◌^◌};
 ghost use Rattle.ca_quad.specs.inner.Extent.{box_of_two, transposed, IsSquareExtent};
@@ -7,10 +7,10 @@ use super::bits::rows;
 use super::measure::Measure;
 use super::word_extent::word_extent;
 
-// A number from here on is that of 8 by 8 cells.
+// A number from this one onwards is that of 8 by 8 cells.
 const LEAST_BLOCK: u64 = 65536;
 
-// The least box round the live cells of a square, counted from its corner, both ends included.
+// The smallest box round the live cells of a square, counted from its corner, both ends included.
 #[derive(Clone, Copy, Drop)]
 pub(crate) struct Extent {
     pub left: u128,

@@ -104,7 +104,7 @@ fn quarters_of(
     })
 }
 
-// The least level, from 6 to 65, of trees that hold every live cell of the words.
+// The smallest level, from 6 to 65, of trees that hold every live cell of the words.
 fn level_of_words(words: &[CellWord]) -> u8
     requires near { AreNearWords words.now }
     ensures least { 6 ≤ result }

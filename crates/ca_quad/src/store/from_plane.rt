@@ -82,7 +82,7 @@ impl Store {
     }
 }
 
-// Whether a square of this level with so many rows is read at once.
+// Whether a square of this level with `rows` rows is read at once.
 fn is_block(level: u8, rows: usize) -> bool
     requires { 4 ≤ level }
     ensures small { IsTrue result → level ≤ 5 }
@@ -94,7 +94,7 @@ fn is_block(level: u8, rows: usize) -> bool
     level == LEAST + 1 && rows >= MANY
 }
 
-// The least level, from 4 to 65, of trees that hold every live cell of a plane.
+// The smallest level, from 4 to 65, of trees that hold every live cell of a plane.
 fn level_for(plane: &Plane) -> u8
     ensures least { 4 ≤ result }
     ensures most { result ≤ 65 }
@@ -106,7 +106,7 @@ fn level_for(plane: &Plane) -> u8
     level_from(bounds, LEAST)
 }
 
-// The least level from this one on, up to 65, of a tree that holds the box.
+// The smallest level, from `level` to 65, of a tree that holds the box.
 pub(super) fn level_from(bounds: Bounds, level: u8) -> u8
     requires least { 4 ≤ level }
     requires most { level ≤ 65 }

@@ -20,7 +20,7 @@ pub(super) trait Block {
     // The state of each cell.
     ghost cells: { Self → ℕ → ℕ → ℕ };
 
-    // The square of the least level with the cells from a place on.
+    // The square of the smallest level with the cells from a place onwards.
     fn least_square(&self, store: &mut Store, x: usize, y: usize) -> Result<Id, Memory>
         requires x { x + 2 ^ LEAST ≤ side }
         requires y { y + 2 ^ LEAST ≤ side }
@@ -33,7 +33,7 @@ pub(super) trait Block {
 }
 
 impl Store {
-    // The square of this level with the cells of a block from a place on.
+    // The square of this level with the cells of a block from a place onwards.
     pub(super) fn gather<B: Block>(
         &mut self,
         block: &B,

@@ -43,7 +43,7 @@ impl Store {
     }
 
     /// The square that is kept at a place, counted from 0 in the order in which squares were added; none where
-    /// there are no more than so many.
+    /// there are at most `place` of them.
     pub fn square_at(&self, place: usize) -> Option<Id>
         ensures { MatchOption result ((length self.now ≤ place) ⊎ (most_nodes ≤ place))
             (λ id. (id ≡ place_id place) × IsIn self.now id) }
@@ -54,8 +54,8 @@ impl Store {
         Some(Id::at_place(place))
     }
 
-    /// Keeps the squares that came first, so many of them, and gives the memory of the others back. The id of
-    /// one that is gone names none from then on, or one that comes later.
+    /// Keeps the first `count` squares, and gives the memory of the others back. The id of one that is gone names none
+    /// after that, or one that comes later.
     pub fn keep_first(&mut self, count: usize)
         ensures { self.new ≡ take count self.old }
     {

@@ -124,7 +124,7 @@ fn comes_before(point: Point, at: Spot) -> bool
     i128::from(point.x) < at.x
 }
 
-// The place in a row at which the cells from a spot's column on begin.
+// The place in a row at which the cells from a spot's column onwards begin.
 fn split(cells: &[(Point, u8)], row: Row, at: Spot) -> usize
     requires sparse { IsSparse cells.now }
     requires row { IsPictureRow cells.now row }

@@ -29,7 +29,7 @@ impl Store {
     /// # Errors
     ///
     /// `Range` where a live cell would leave the square in which a plane keeps its cells, that is, from -2^62
-    /// to 2^62 in both directions, and `Memory` where a growth is refused. The store may then have more
+    /// to 2^62 in both directions, and `Memory` where an allocation fails. The store may then have more
     /// squares than before.
     pub fn shifted(&mut self, tree: Tree, dx: i64, dy: i64) -> Result<Tree, MoveFault>
         requires { IsTree self.old tree }

@@ -38,7 +38,7 @@ impl Store {
     ///
     /// `Range` where a live cell lies outside the square in which a plane keeps its cells, that is, from
     /// -2^62 to 2^62 in both directions; else `TooManyCells` where more than 16777216 cells are live; and
-    /// `Memory` where a growth is refused.
+    /// `Memory` where an allocation fails.
     pub fn to_plane(&self, alloc: Global, tree: Tree) -> Result<Plane, QuadFault>
         requires { IsTree self.now tree }
         ensures cells { IfOk result (IsExpanded self.now tree) }

@@ -1,4 +1,4 @@
-//! The least box round the live cells of 8 by 8 cells of two states.
+//! The smallest box round the live cells of 8 by 8 cells of two states.
 
 ghost use Rattle.std.specs.Prelude.{◌<◌};
 ghost use Rattle.ca_plane.specs.Prelude.{word_cells};
@@ -14,7 +14,7 @@ pub(super) struct BitEnds {
     pub(super) last: u32,
 }
 
-// The least box round the live cells of a word, where there are any.
+// The smallest box round the live cells of a word, where there are any.
 pub(super) fn word_extent(word: u64) -> Option<Extent>
     ensures { IsSquareExtent (word_cells word) 8 8 result }
 {

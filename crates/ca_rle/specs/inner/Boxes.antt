@@ -1,11 +1,11 @@
--- The least box round the cells of items, item by item.
+-- The smallest box round the cells of items, item by item.
 use Rattle.std.specs.Prelude.{◌≡◌, ℕ, min, max, pos, ◌+ℤ◌, ◌≤ℤ◌, List, Option, Some, None, MatchOption}
 use Rattle.ca_plane.specs.declared.point.{Point.Point, Bounds.Bounds}
 use Rattle.ca_plane.specs.Prelude.{IsLeastBox, IsInRange, Picture, IsLive}
 use Rattle.ca_rle.specs.declared.{item.Item.Item, extent.Offset.Offset, extent.Span.Span}
 use Rattle.ca_rle.specs.{Limits.IsRleWithinRange, Shown.picture_of_items, inner.BodyFaults.bare_file}
 
--- the least box round the live cells, or none, where there are none
+-- the smallest box round the live cells, or none, where there are none
 abbrev pub AreBounds : Picture → Option Bounds → Type 0
 AreBounds cells bounds = MatchOption bounds (IsLive cells → ⊥) (IsLeastBox cells)
 
@@ -16,7 +16,7 @@ pub record IsBoxInRange (box : Bounds) : Type 0 where
   pub wide : box.x0 ≤ℤ box.x1
   pub high : box.y0 ≤ℤ box.y1
 
--- the least box with a run as well, from an offset up to the one with this column
+-- the smallest box with a run as well, from an offset up to the one with this column
 abbrev pub IsSpanWith : Offset → ℕ → Option Span → Span → Type 0
 IsSpanWith at last None new = (new.left ≡ at.columns) × (new.top ≡ at.rows) × (new.right ≡ last) × (new.bottom ≡ at.rows)
 IsSpanWith at last (Some old) new =
@@ -30,6 +30,6 @@ abbrev pub bounds_at : Point → Option Span → Option Bounds
 bounds_at corner None = None
 bounds_at corner (Some span) = Some (box_at corner span)
 
--- from each corner from which the items are in range it is the least box round their cells
+-- from each corner from which the items are in range it is the smallest box round their cells
 abbrev pub IsSpanOf : List Item → Option Span → Type 0
 IsSpanOf items span = (corner : Point) → IsRleWithinRange (bare_file corner items) → AreBounds (picture_of_items corner items) (bounds_at corner span)

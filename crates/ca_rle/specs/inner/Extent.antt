@@ -22,7 +22,7 @@ live_count_of_item i = if tag_state i.tag == 0 then 0 else i.count
 abbrev pub live_count_of_items : List Item → ℕ
 live_count_of_items is = sum_by live_count_of_item is
 
--- how many columns from the corner on an item's live cells take, after the items before it
+-- how many columns from the corner onwards an item's live cells take, after the items before it
 abbrev pub columns_to : List Item → Item → ℕ
 columns_to before i = if tag_state i.tag == 0 then 0 else columns_of before + i.count
 
@@ -35,7 +35,7 @@ abbrev pub greatest_of : (List Item → Item → ℕ) → List Item → List Ite
 greatest_of number before [] = 0
 greatest_of number before (i ∷ is) = max (number before i) (greatest_of number (before ++ i ∷ []) is)
 
--- how many columns from the corner on the live cells of items take that stand after others
+-- how many columns from the corner onwards the live cells of items take that stand after others
 abbrev pub right_after : List Item → List Item → ℕ
 right_after before is = greatest_of columns_to before is
 
@@ -71,7 +71,7 @@ pub record IsExtentInRange (extent : Extent) (corner : Point) : Type 0 where
 abbrev pub point_from : Point → Offset → Point
 point_from corner offset = record { y = corner.y +ℤ pos offset.rows; x = corner.x +ℤ pos offset.columns }
 
--- so many cells from a point to the right are in range
+-- `count` cells from a point to the right are in range
 abbrev pub HasRoomRight : Point → ℕ → Type 0
 HasRoomRight at count = IsInRange at × ((at.x +ℤ pos count) ≤ℤ pos range)
 

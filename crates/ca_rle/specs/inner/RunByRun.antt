@@ -18,7 +18,7 @@ AreBefore [] tag = Unit {0}
 AreBefore (i ∷ []) tag = (0 < i.count) × (i.tag ≢ tag) × (i.tag ≡ Cell 0 → tag ≢ RowEnd)
 AreBefore (i ∷ j ∷ is) tag = (0 < i.count) × (i.tag ≢ j.tag) × (i.tag ≡ Cell 0 → j.tag ≢ RowEnd) × AreBefore (j ∷ is) tag
 
--- the items before a run, and the run of so many cells, lead from the corner on and show these cells
+-- the items before a run, and the run of `count` cells, lead from the corner onwards and show these cells
 pub record IsReadTo (corner : Point) (items : List Item) (run : Run) (seen : Picture) : Type 0 where
   pub count : ℕ
   pub some : 0 < count
@@ -42,7 +42,7 @@ pub record IsWrittenTo (start text : List ℕ) (states : ℕ) (corner : Point) (
   pub laid : IsLaid start text pending.filled (map (item_text states) items)
   pub read : IsBegun corner items pending.run seen ⊎ IsReadTo corner items pending.run seen
 
--- these items are put after others, and the last line has so many characters then
+-- these items are put after others, and the last line has `now` characters then
 pub record Lays (states : ℕ) (old : List ℕ) (filled : ℕ) (items : List Item) (new : List ℕ) (now : ℕ) : Type 0 where
   pub low : now ≤ 70
   pub laid : (start : List ℕ) (before : List Item) → IsLaid start old filled (map (item_text states) before) → IsLaid start new now (map (item_text states) (before ++ items))
@@ -65,7 +65,7 @@ abbrev pub AddsRun : ℕ → Point → List ℕ → Pending → Run → List ℕ
 AddsRun states corner old from run new to =
     (count : ℕ) → 0 < count → 0 < run.state → run.past ≡ run.from.x +ℤ pos count → AddsCells states corner old from (run_of run.state run.from count) new to
 
--- the run ends after so many cells from a point
+-- the run ends after `count` cells from a point
 abbrev pub EndsAfter : Point → ℕ → Run → Type 0
 EndsAfter at count run = (run.from.y ≡ at.y) × (run.past ≡ at.x +ℤ pos count)
 

@@ -6,7 +6,7 @@ use Rattle.ca_rle.specs.declared.item.{Item.Item, Tag.Tag}
 use Rattle.ca_rle.specs.declared.item.Tag.TheVariants.{Cell, RowEnd}
 use Rattle.ca_rle.specs.{File.line_with_lf, Tidy.AreLines}
 
--- so many of a tag, as items; none where there are 0
+-- `count` of a tag, as items; none where `count` is 0
 abbrev pub some_of : Tag → ℕ → List Item
 some_of tag count = if count == 0 then [] else record { count = count; tag = tag } ∷ []
 
@@ -18,7 +18,7 @@ pub record IsItemGap (left : ℤ) (from to : Point) (gap : List Item) : Type 0 w
   pub right : to.x ≡ (if rows == 0 then from.x else left) +ℤ pos columns
   pub gap_is : gap ≡ some_of RowEnd rows ++ some_of (Cell 0) columns
 
--- a piece is put after a text whose last line has so many characters, on a new line where it would pass 70
+-- a piece is put after a text whose last line has `filled` characters, on a new line where it would pass 70
 abbrev pub IsPlaced : List ℕ → ℕ → List ℕ → List ℕ → ℕ → Type 0
 IsPlaced old filled piece new now_filled =
     ((filled + length piece ≤ 70) × (new ≡ old ++ piece) × (now_filled ≡ filled + length piece))
@@ -35,7 +35,7 @@ pub record PutsLines (old new : List ℕ) (pieces : List (List ℕ)) : Type 0 wh
 abbrev pub IsOpen : List (List (List ℕ)) → List (List ℕ) → Type 0
 IsOpen closed last = ((closed ≡ []) × (last ≡ [])) ⊎ ((0 < length last) × AreLines (closed ++ last ∷ []))
 
--- pieces stand after a text in lines, of which the last isn't ended yet and has so many characters
+-- pieces stand after a text in lines, of which the last isn't ended yet and has `filled` characters
 pub record IsLaid (start text : List ℕ) (filled : ℕ) (pieces : List (List ℕ)) : Type 0 where
   pub closed : List (List (List ℕ))
   pub open_line : List (List ℕ)

@@ -29,7 +29,7 @@ struct Pending {
     filled: usize,
 }
 
-/// Puts so many of a tag, and nothing where there are none.
+/// Puts `count` of a tag as one item, and nothing where `count` is 0.
 fn place_some(
     out: &mut Vec<u8>,
     states: u16,

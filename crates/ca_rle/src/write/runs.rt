@@ -69,7 +69,7 @@ impl Run {
     }
 }
 
-/// Puts so many of a tag after the items, and nothing where there are none.
+/// Puts `count` of a tag after the items as one item, and nothing where `count` is 0.
 fn push_some(items: &mut Vec<Item>, tag: Tag, count: u64) -> Result<(), Memory>
     ensures { OnOk result (items.new.items ≡ items.old.items ++ some_of tag count) }
 {

@@ -1,4 +1,4 @@
--- Slots that are too many for the cells that they may take. A set of slots is a number, whose least bit stands for the
+-- Slots that are too many for the cells that they may take. A set of slots is a number, whose lowest bit stands for the
 -- first slot.
 use Rattle.std.specs.Prelude.{ℕ, List, [], ◌∷◌, Bool, false, ◌&&◌, ◌||◌, ◌==◌, ◌+◌, ◌%◌, ◌/◌, nat_lt, nat_le, slice_index, true, ◌≡◌, ◌≤◌, length, drop, zip, map}
 use Rattle.std.specs.List.{count_by}

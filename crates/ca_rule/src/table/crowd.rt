@@ -60,7 +60,7 @@ impl BegunTransition<'_> {
         self.has_room(slot, cell)
     }
 
-    /// Whether one of the slots in the set may take the cell. The set's least bit stands for the first slot.
+    /// Whether one of the slots in the set may take the cell. The set's lowest bit stands for the first slot.
     fn one_takes(&self, slots: &[Slot], set: u8, cell: u8) -> bool
         ensures { let taken = zip self.now.slots.now
             (map (slice_index self.now.nine.now) self.now.places.now) in
@@ -116,7 +116,7 @@ impl BegunTransition<'_> {
         smallest_crowd(&takable, self.left.len())
     }
 
-    /// Of the cells at the places, those that the slot may take. The least bit stands for the first one.
+    /// Of the cells at the places, those that the slot may take. The lowest bit stands for the first one.
     fn takable_cells(&self, slot: Slot, places: &[u8]) -> u8 {
         let Some((place, later)) = places.split_first() else {
             return 0;

@@ -34,7 +34,7 @@ pub enum TableFault {
     /// The table turns nine zeros into another state.
     #[error("line {line}: wakes")]
     Wakes { line: u64 },
-    /// A growth was refused.
+    /// An allocation failed.
     #[error("out of memory")]
     Memory,
 }

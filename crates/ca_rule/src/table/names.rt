@@ -44,7 +44,7 @@ impl<'a> Names<'a> {
         self.numbers.get(name).copied()
     }
 
-    /// The name has this number from here on.
+    /// Gives the name this number.
     pub(crate) fn put(&mut self, name: &'a [u8], number: usize) -> Result<(), StatementFault>
         ensures { OnOk result ((other : List ℕ)
             → number_in self.new other ≡ update bytes_eq (number_in self.old) name.now (Some number) other) }

@@ -14,7 +14,7 @@ use crate::table::fault::TableFault;
 pub(crate) enum PartsFault {
     /// Nine zeros would turn into another state.
     Wakes,
-    /// A growth was refused.
+    /// An allocation failed.
     Memory,
 }
 

@@ -13,7 +13,7 @@ pub(crate) enum StatementFault {
     Name,
     /// The result is a variable that is no input.
     Unbound,
-    /// A growth was refused.
+    /// An allocation failed.
     Memory,
 }
 

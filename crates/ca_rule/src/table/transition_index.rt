@@ -96,7 +96,7 @@ impl TransitionIndex {
         self.candidates_at(0, placement, nine) | self.candidates_in(later, nine)
     }
 
-    /// Those that are 0 have one of the slots, from this one on, that doesn't admit the cell at its place.
+    /// Those that are 0 have one of the slots, from this one onwards, that doesn't admit the cell at its place.
     fn candidates_at(&self, slot: usize, places: &[u8], nine: &Nine) -> u64
         ensures { (variables : List States) (ts : List TransitionValue) → IsIndex variables ts self.now
             → (k : ℕ) → k < 64 → k < length ts → bit_at result k ≡ 0

@@ -3,12 +3,13 @@ use Rattle.std.specs.Prelude.{ℕ, ◌+◌, ◌≤◌}
 use Rattle.ca_work.specs.Prelude.{Spent, Spends}
 use Rattle.ca_run.specs.Leaping.{LeaperView, LeaperGrows, Costs}
 
--- what the leaper had stays, at a cost of no more than so many units of work and so many squares
+-- what the leaper had stays; at most `units` units of work were done, and at most 4096 squares added for each of them,
+-- and `squares` besides
 pub record GoesOnAtCost (Rule : Type 0) (old new : LeaperView Rule) (units squares : ℕ) : Type 0 where
   pub goes_on : LeaperGrows Rule old new
   pub costs : Costs Rule old new units squares
 
--- at most so many units of work were counted, and none is given back
+-- at most `units` units of work were counted, and none is given back
 pub record SpendsAtMost (old new : Spent) (units : ℕ) : Type 0 where
   pub spends : Spends old new
   pub most : new.used ≤ old.used + units

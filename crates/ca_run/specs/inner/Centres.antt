@@ -1,4 +1,4 @@
--- Centres that are worked out on words (our own).
+-- Centres that are computed on words (our own).
 use Rattle.std.specs.Prelude.{◌≡◌, ℕ, suc, ◌≤◌, ◌^◌, ℤ, ◌+ℤ◌, List}
 use Rattle.ca_plane.specs.Prelude.{cells_after}
 use Rattle.ca_quad.specs.declared.node.Node.{Node}
@@ -13,7 +13,7 @@ pub record HasCentre (nodes : List Node) (id k j : ℕ) : Type 0 where
   pub is_square : IsOf nodes id (suc (suc k))
   pub in_time : j ≤ k
 
--- the words are as many as a square of level k + 1 has, and show the plane from (a, b) on
+-- the words are as many as a square of level k + 1 has, and show the plane from (a, b) onwards
 abbrev pub CentreShows : CentreWords → ℕ → (ℤ → ℤ → ℕ) → ℤ → ℤ → Type 0
 CentreShows (One word) k p a b = (k ≡ 2) × WordShows word p a b
 CentreShows (Four words) k p a b = (k ≡ 3) × WordSquareShows words p a b

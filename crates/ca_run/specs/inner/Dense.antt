@@ -14,7 +14,7 @@ pub record AgesBy (next : List ℕ → ℕ) (ageing : Ageing) : Type 0 where
   pub most : ageing.states ≤ 256
   pub ages : GoesByAgeing ageing.states next ageing
 
--- the tree's level is at most any that holds all its live cells, from some level on
+-- the tree's level is at most any level from `least` onwards that holds all its live cells
 abbrev pub IsLow : ℕ → List Node → Tree → Type 0
 IsLow least nodes tree = (level : ℕ) → least ≤ level → HoldsAll level (cell nodes tree) → tree.level ≤ level
 
@@ -26,7 +26,7 @@ pub record HasReached (next : List ℕ → ℕ) (old : List Node) (first : Tree)
   pub most : reached.generations ≤ n
   pub cells : (x y : ℤ) → cell new reached.tree x y ≡ cells_after next (cell old first) reached.generations x y
 
--- nothing was stepped, and nothing was worked out
+-- nothing was stepped, and nothing was computed
 pub record IsIdle (Rule : Type 0) (old new : LeaperView Rule) (result : Result ReachedTree LeapFault) : Type 0 where
   pub none : IfOk result (λ reached. reached.generations ≡ 0)
   pub costs : Costs Rule old new 0 0
@@ -43,8 +43,9 @@ pub record HasLeapt (Rule : Type 0) (old : LeaperView Rule) (first : Tree) (reac
   pub rising : reached ≡ 0 → (d : ℕ) → n < 2 ^ d → Costs Rule old new (14 ^ (first.level + min d j + 1)) (16380 * j)
   pub later : (d : ℕ) → n < 2 ^ d → Costs Rule old new (j * 14 ^ (max first.level d + 2)) (16380 * j)
 
--- a run from a tree of this level by so many generations that the cells may be 2^14 times as wide and as many generations on went on in a
--- store of its own: it cost no more work than can be counted, and at most so many squares
+-- a run of n generations went on in a store of its own: its first tree's level plus the number of binary digits of n is
+-- at least 15, it cost no more work than can be counted, and at most 4096 squares for each unit of work, and 16380 * 61
+-- besides
 pub record HasParted (Rule : Type 0) (old : LeaperView Rule) (first : Tree) (n : ℕ) (new : LeaperView Rule) : Type 0 where
   pub long : (d : ℕ) → n < 2 ^ d → 15 ≤ first.level + d
   pub used : new.spent.used < 2 ^ 64

@@ -1,5 +1,5 @@
--- Where the bricks of a box lie on the plane (our own). Each side is cut into pieces of 64 cells, which are counted from -2^62 on: a piece of
--- 64 by 64 cells has four rows of one brick.
+-- Where the bricks of a box lie on the plane (our own). Each side is cut into pieces of 64 cells, which are counted
+-- from -2^62 onwards: a piece of 64 by 64 cells has four rows of one brick.
 use Rattle.std.specs.Prelude.{◌≡◌, ℕ, suc, ◌+◌, ◌*◌, ◌^◌, ◌<◌, ◌≤◌, ◌⊎◌, ℤ, pos, neg_ℤ, ◌+ℤ◌, ◌-ℤ◌, ◌<ℤ◌, ◌≤ℤ◌, List, length}
 use Rattle.ca_quad.specs.declared.{node.Node.Node, tree.Tree.Tree, tree.WideBounds.WideBounds}
 use Rattle.ca_quad.specs.Prelude.{IsTree}
@@ -41,7 +41,7 @@ pub record Spans (low high : ℤ) (m : ℕ) (span : Span) : Type 0 where
   pub before : (piece_start span.first +ℤ pos (64 + m)) ≤ℤ low
   pub behind : (high +ℤ pos (64 + m)) <ℤ piece_start (span.first + span.count)
 
--- a grid has so many bricks at most
+-- a grid has at most 2 ^ 16 pieces of 64 by 64 cells
 pub record IsGridFrame (frame : Frame) : Type 0 where
   pub columns : IsSpan frame.columns
   pub rows : IsSpan frame.rows

@@ -1,4 +1,4 @@
--- Squares that show a plane from some place on (our own).
+-- Squares that show a plane from some place onwards (our own).
 use Rattle.std.specs.Prelude.{ℕ, ◌≤◌, ◌^◌, ℤ, List, [], ◌∷◌, Option, Some, None}
 use Rattle.ca_plane.specs.Prelude.{ShowsPlane}
 use Rattle.ca_quad.specs.declared.node.Node.{Node}
@@ -6,7 +6,7 @@ use Rattle.ca_quad.specs.Prelude.{IsOf, cell_of}
 use Rattle.ca_bricks.specs.declared.trio.{Trio.Trio, Rows.Rows}
 use Rattle.ca_bricks.specs.Prelude.{side, QuartersShow, PairShows, TrioShows, RowsShow}
 
--- the id names a square of this level, which shows the plane from (a, b) on
+-- the id names a square of this level, which shows the plane from (a, b) onwards
 pub record ShowsAt (nodes : List Node) (id level : ℕ) (p : ℤ → ℤ → ℕ) (a b : ℤ) : Type 0 where
   pub is_square : IsOf nodes id level
   pub looks : ShowsPlane (2 ^ level) (cell_of nodes level id) p a b

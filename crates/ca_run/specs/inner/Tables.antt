@@ -10,14 +10,14 @@ use Rattle.ca_bricks.specs.declared.cell_rule.CellRule.{CellRule}
 use Rattle.ca_run.specs.Memo.{LeapResult, FullLeap, Centre, LeapOfFour, Remembers}
 use Rattle.ca_memo.specs.Prelude.{MemoView, IsBoundedMemo, SlotsView}
 
--- the results in so many slots, of squares from one on
+-- the results in the first `room` slots, of squares from `square` onwards
 abbrev pub slot_results : ℕ → ℕ → List (Option ℕ) → List LeapResult
 slot_results zero square slots = []
 slot_results (suc room) square [] = []
 slot_results (suc room) square (None ∷ slots) = slot_results room (suc square) slots
 slot_results (suc room) square (Some centre ∷ slots) = FullLeap square centre ∷ slot_results room (suc square) slots
 
--- the results in pages, from the page of a number on
+-- the results in pages, from the page of a number onwards
 abbrev pub page_results : ℕ → List (Option Page) → List LeapResult
 page_results number [] = []
 page_results number (None ∷ pages) = page_results (suc number) pages

@@ -48,7 +48,7 @@ impl Span {
     }
 }
 
-// The pieces of a side of a box, with a margin of so many cells and a piece beyond it at both ends: none,
+// The pieces of a side of a box, with a margin of `margin` cells and a piece beyond it at both ends: none,
 // where they are too many. Places are counted from the first piece of all.
 fn span_of(low: usize, high: usize, margin: usize) -> Option<Span>
     requires least { 2 ^ 61 ≤ low }
@@ -71,7 +71,7 @@ fn span_of(low: usize, high: usize, margin: usize) -> Option<Span>
     })
 }
 
-/// Where the bricks of a box lie, with a margin of so many cells and a ring of bricks round it: nowhere,
+/// Where the bricks of a box lie, with a margin of `margin` cells and a ring of bricks round it: nowhere,
 /// where they are too many.
 pub(crate) fn frame_of(bounds: WideBounds, margin: usize) -> Option<Frame>
     requires near { IsNearBox bounds }

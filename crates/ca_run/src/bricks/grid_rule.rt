@@ -47,8 +47,8 @@ pub(crate) trait GridRule {
         ensures suits { IfOk result (λ found. IfSome found (suits self.now)) }
         ensures fresh { IfOk result (λ found. IfSome found (λ grid. IsNewGrid (Self.Grid.live_grid grid))) };
 
-    /// The grid n generations on. The run began with a tree, so many generations before. Each brick that is
-    /// stepped is counted before: no more in a generation than there are.
+    /// The grid n generations later. The run began with `first`, `reached` generations before the given grid.
+    /// Each brick that is stepped is counted before: no more in a generation than there are.
     fn grid_after<A: Automaton, W: Watch>(
         &self,
         grid: Self::Grid,

@@ -17,13 +17,12 @@ use ca_quad::Tree;
 use ca_work::{LeapFault, is_long, room_beside};
 
 impl<A: Automaton> Leaper<A> {
-    /// The tree n generations on. Its level is at most 64, and n at most 2^60.
+    /// The tree after n generations. The level of `tree` is at most 64, and n at most 2^60.
     ///
     /// # Errors
     ///
     /// `Memory` where there is no memory for more squares or results, and `Work` where as many units of work
-    /// are used up as may be. Every tree stays as it was, and later calls go on with what was worked out so
-    /// far.
+    /// are used up as may be. Every tree stays as it was, and later calls go on with what was computed so far.
     pub fn advance(&mut self, tree: Tree, n: u64) -> Result<Tree, LeapFault>
         requires { CanAdvance self.old.nodes tree n }
         ensures { Advances A (A.next_of self.old.rule) self.old tree n self.new result }
@@ -65,8 +64,8 @@ impl<A: Automaton> Leaper<A> {
         self.go_on(&tree, reached, n, watch)
     }
 
-    // The tree n generations on, from one that was reached on the way, by leaps. Where a run is long and
-    // makes too many squares, it goes on in a store of its own.
+    // The tree n generations after `first`, by leaps from one that was reached on the way. Where a run is long
+    // and makes too many squares, it goes on in a store of its own.
     fn go_on<W: Watch>(
         &mut self,
         first: &Tree,
@@ -136,7 +135,7 @@ impl<A: Automaton> Leaper<A> {
         Ok(())
     }
 
-    // The tree 2^j generations on, of the smallest level.
+    // The tree after 2^j generations, of the smallest level.
     pub(super) fn leap<W: Watch>(
         &mut self,
         tree: Tree,
@@ -152,7 +151,7 @@ impl<A: Automaton> Leaper<A> {
         ensures at_cost { GoesOnAtCost A self.old self.new (14 ^ max tree.level (j + 1)) 16380 }
         ensures work { EndsAtLimit self.new.spent result }
     {
-        // So all that is live 2^j generations on lies in the centre.
+        // So all that is live after 2^j generations lies in the centre.
         let part_level = self.store.level(tree.root).max(j + 1);
         let wide = self.padded_tree(tree, part_level + 2)?;
         let root = self.centre(wide.root, part_level, j, watch)?;

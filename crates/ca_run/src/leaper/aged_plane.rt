@@ -36,7 +36,7 @@ impl StatePlane for TwoStates {
     }
 }
 
-/// A plane of a grid of cells that age, under a rule of so many states.
+/// A plane of a grid of cells that age, under a rule of a given number of states.
 #[derive(Clone, Copy)]
 pub(crate) enum AgedPlane {
     /// The live cells.

@@ -24,7 +24,7 @@ impl<A: Automaton> Leaper<A> {
         [a, b, c, d, e, f, g, h, i, j, k, l, m, n, o, p]
     }
 
-    // The four cells in the middle of four squares of 2 by 2, one generation on.
+    // The four cells in the middle of four squares of 2 by 2, one generation later.
     pub(super) fn next_inner(&mut self, nw: Id, ne: Id, sw: Id, se: Id) -> Result<Id, Memory>
         requires { AreFour self.old.nodes 1 nw ne sw se }
         ensures leap { IfOk result (IsLeap (A.next_of self.old.rule) self.new.nodes 0 nw ne sw se) }
@@ -38,7 +38,7 @@ impl<A: Automaton> Leaper<A> {
         self.leaf(nw, ne, sw, se)
     }
 
-    // The four cells in the middle of a square of 4 by 4, one generation on.
+    // The four cells in the middle of a square of 4 by 4, one generation later.
     pub(super) fn next_four(&mut self, id: Id) -> Result<Id, Memory>
         requires { IsOf self.old.nodes id 2 }
         ensures centre { IfOk result (IsCentre (A.next_of self.old.rule) self.new.nodes id 0 0) }

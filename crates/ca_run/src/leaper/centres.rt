@@ -329,7 +329,7 @@ impl<A: Automaton> Leaper<A> {
         Ok((west, east))
     }
 
-    // The square in the middle of four, as far on as it can be known.
+    // The square in the middle of four, as far ahead as it can be known.
     #[cycle(leap)]
     #[tactic(auto, using(crate::proofs::CostSteps::in_turn))]
     fn leap_of_four<W: Watch>(
@@ -360,7 +360,7 @@ impl<A: Automaton> Leaper<A> {
         Ok(result_id)
     }
 
-    // The four cells in the middle of four squares of 2 by 2, one generation on, which are remembered: a
+    // The four cells in the middle of four squares of 2 by 2, one generation later, which are remembered: a
     // result, if the squares aren't empty.
     fn counted_inner<W: Watch>(
         &mut self,

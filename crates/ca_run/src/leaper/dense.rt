@@ -142,8 +142,8 @@ impl<A: Automaton> Leaper<A> {
         Ok(reached)
     }
 
-    // Whether so many bricks of a tree's plane, which were stepped in a generation, are likely copies of few: where each is
-    // unlike the others, the tree has several squares for each.
+    // Whether the `bricks` bricks of a tree's plane that were stepped in a generation are likely copies of few: where
+    // each is unlike the others, the tree has several squares for each.
     fn are_alike(&self, tree: &Tree, bricks: u64) -> Result<bool, Memory>
         requires { IsTree self.now.nodes tree.now }
     {
@@ -219,8 +219,8 @@ impl<A: Automaton> Leaper<A> {
         }))
     }
 
-    // The grid some generations on. The run began with a tree, so many generations before. The bricks that
-    // are stepped are counted.
+    // The grid `generations` generations later. The run began with `first`, `reached` generations before the
+    // given grid. The bricks that are stepped are counted.
     fn later_grid<R: GridRule, W: Watch>(
         &mut self,
         grid: R::Grid,
@@ -262,7 +262,7 @@ impl<A: Automaton> Leaper<A> {
         later
     }
 
-    // The grid of a tree with a margin of so many cells, where it is not too large.
+    // The grid of a tree with a margin of `margin` cells, where it is not too large.
     fn dense_grid<R: GridRule>(
         &self,
         alloc: Global,
@@ -285,7 +285,7 @@ impl<A: Automaton> Leaper<A> {
         rule.grid_of(self, alloc, tree, &frame)
     }
 
-    // The frame of a tree with a margin of so many cells, where it is not too large.
+    // The frame of a tree with a margin of `margin` cells, where it is not too large.
     fn dense_frame(&self, alloc: Global, tree: &Tree, margin: u64) -> Result<Option<Frame>, Memory>
         requires tree { IsTree self.now.nodes tree.now }
         requires margin { margin ≤ most_generations }

@@ -77,7 +77,7 @@ impl<A: Automaton> Leaper<A> {
         self.join(nw, ne, sw, se, 1)
     }
 
-    // The square of 4 by 4 of them from a place on.
+    // The square of 4 by 4 of them that starts at `place`.
     #[tactic(auto, using(crate::proofs::CostSteps::in_turn))]
     fn from_quarter(&mut self, cells: &[u8; 64], place: usize) -> Result<Id, Memory>
         requires { place ≤ 36 }
@@ -93,7 +93,7 @@ impl<A: Automaton> Leaper<A> {
         self.join(nw, ne, sw, se, 0)
     }
 
-    // The square of 2 by 2 of them from a place on.
+    // The square of 2 by 2 of them that starts at `place`.
     fn from_leaf(&mut self, cells: &[u8; 64], place: usize) -> Result<Id, Memory>
         requires { place ≤ 54 }
         ensures shows { (p : ℤ → ℤ → ℕ) (a b : ℤ) → StatesShow 2 cells.now place p a b

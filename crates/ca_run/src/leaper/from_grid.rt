@@ -20,7 +20,7 @@ pub(crate) trait SquareGrid {
     ghost live_grid: { Self → BrickGrid };
     // Each plane of bits is a grid, and they lie in one place.
     ghost is_whole: { Self → Type 0 };
-    // The planes show a plane of states, and have a margin of so many cells.
+    // The planes show a plane of states, and have a margin of this many cells.
     ghost shows_plane: { Self → ℕ → (ℤ → ℤ → ℕ) → Type 0 };
     // How many units of work a square of 8 by 8 cells takes at most.
     ghost units: { Self → ℕ };
@@ -112,8 +112,8 @@ impl<A: Automaton> Leaper<A> {
         })
     }
 
-    // The square of the words of a grid from a place on. `halvings` is how often its side of words can be
-    // halved: its level is that and 3.
+    // The square of the words of a grid from a place onwards. `halvings` is how often its side of words can
+    // be halved: its level is that and 3.
     #[cycle(from_grid)]
     pub(super) fn from_grid<S: SquareGrid>(
         &mut self,

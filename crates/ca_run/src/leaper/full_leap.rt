@@ -2,7 +2,7 @@
 
 use ca_quad::Id;
 
-/// A square, and its centre as far on as it can be known.
+/// A square, and its centre as far ahead as it can be known.
 #[derive(Clone, Copy, Drop)]
 pub(crate) struct FullLeap {
     pub(crate) square: Id,

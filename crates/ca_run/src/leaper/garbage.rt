@@ -27,8 +27,8 @@ const A_UNIT: usize = 4096;
 const KEPT: usize = 4;
 
 impl<A: Automaton> Leaper<A> {
-    // The tree n generations on, from one that was reached on the way, by leaps in a store of its own. Of the
-    // squares that there are, only so many of the first ones stay.
+    // The tree n generations after `first`, by leaps from one that was reached on the way, in a store of its
+    // own. Of the squares that there are, only the first `squares` stay.
     pub(super) fn leap_in_own_store<W: Watch>(
         &mut self,
         first: &Tree,
@@ -135,7 +135,7 @@ impl<A: Automaton> Leaper<A> {
         pace.is_worth_growing(self.store.count(), self.memo.looked_up())
     }
 
-    // Of the squares that there are, only so many of the first ones stay, and nothing is remembered.
+    // Of the squares that there are, only the first `squares` stay, and nothing is remembered.
     fn keep_first(&mut self, squares: usize)
         ensures nodes { self.new.nodes ≡ take squares self.old.nodes }
         ensures keeps { KeepsOn A self.old self.new }
@@ -148,8 +148,8 @@ impl<A: Automaton> Leaper<A> {
     }
 
     // The same tree in a new store, which takes the place of the one before, and the first squares of that
-    // one. What is remembered is forgotten first, so that its memory serves for the copies. Of these results,
-    // the last ones are remembered of the new store's squares, until there are so many of these.
+    // one. What is remembered is forgotten first, so that its memory serves for the copies. Of `leaps`, the
+    // last ones are remembered for the new store's squares, until there are `most` squares or more.
     fn change_store(
         &mut self,
         tree: Tree,
@@ -210,7 +210,7 @@ impl<A: Automaton> Leaper<A> {
         Ok(self.store.import(from, tree)?)
     }
 
-    // The tree n generations on of the first one, which lies in another store.
+    // The tree n generations after the first one, which lies in another store.
     fn leap_until<W: Watch>(
         &mut self,
         origin: &Store,
@@ -315,8 +315,8 @@ impl<A: Automaton> Leaper<A> {
         self.collect_garbage(tree, pace)
     }
 
-    // Where there are so many squares that the next leap likely has too few: the same tree, with more room for others, or in
-    // a new store.
+    // Where too few squares are likely left for the next leap: the same tree, with more room for others, or in a new
+    // store.
     fn make_room(&mut self, tree: Tree, pace: &mut Pace) -> Result<Tree, Memory>
         requires { IsTree self.old.nodes tree }
         ensures moved { IfOk result (IsCopyOfTree self.old.nodes tree self.new.nodes) }

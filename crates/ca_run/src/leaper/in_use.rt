@@ -79,8 +79,8 @@ impl<A: Automaton> Leaper<A> {
         })
     }
 
-    // Remembers results of another store's squares of copies of these, the last ones first, until there are so many squares,
-    // or memory is refused.
+    // Remembers results of another store's squares for copies of these, the last ones first, until there are `most`
+    // squares or more, or memory is refused.
     pub(super) fn keep_leaps(
         &mut self,
         from: &Store,

@@ -25,7 +25,7 @@ fn bricks_in_half(level: u8) -> usize
     1 << (level - 7)
 }
 
-// How far a place lies beyond the first of so many, where it is one of them.
+// How far a place lies beyond the first of `count` places, where it is one of them.
 fn place_from(place: usize, first: usize, count: usize) -> Option<usize>
     requires { first + count < 2 ^ 63 }
     ensures { MatchOption result ((place < first) ⊎ (first + count ≤ place))

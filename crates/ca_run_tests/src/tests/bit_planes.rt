@@ -75,7 +75,7 @@ fn runs_make_words(rt: HostRuntime) {
     }
 }
 
-/// How many words a run of a million cells and more has, from (1, 0) on.
+/// How many words a run of a million cells and more has, from (1, 0) onwards.
 fn count_of_long_run(alloc: Global) -> Result<usize, Memory> {
     let mut plane = BitPlane::new(alloc);
     add(&mut plane, (1, 0, 6_400_000))?;

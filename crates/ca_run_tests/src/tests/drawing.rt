@@ -25,7 +25,7 @@ const PAIR: &[Cell] = &[
     (999999999999, 999999999999, 1),
 ];
 
-/// The least level of a tree, a place with the scale, the width and the height of the window that begins
+/// The smallest level of a tree, a place with the scale, the width and the height of the window that begins
 /// there, and the picture.
 type View = (u8, (i128, i128, u8, u16, u16), &'static [u8]);
 

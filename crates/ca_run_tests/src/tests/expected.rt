@@ -38,7 +38,7 @@ pub(crate) fn plane_of(alloc: Global, cells: &[Cell]) -> Result<Plane, Memory> {
     moved_plane_of(alloc, cells, 0)
 }
 
-/// The same, where each cell is moved so many places to the right and down.
+/// The same, where each cell is moved by `places` to the right and down.
 pub(crate) fn moved_plane_of(alloc: Global, cells: &[Cell], places: i64) -> Result<Plane, Memory> {
     let mut plane = Plane::new(alloc);
     'cells: for &(y, x, state) in cells {

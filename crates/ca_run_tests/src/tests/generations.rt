@@ -1,4 +1,4 @@
-//! Planes after generations that were worked out by hand, by steps and by leaps.
+//! Planes after generations that were computed by hand, by steps and by leaps.
 
 ghost use Rattle.std.specs.Prelude.{◌+◌, ◌==◌, ◌&&◌, ◌||◌, if◌then◌else◌, slice_index, ◌<◌, IsTrue};
 ghost use Rattle.std.specs.List.{All};
@@ -106,7 +106,7 @@ fn is_later(found: &Result<Plane, RunFault>, cells: Option<&[Cell]>) -> bool {
     }
 }
 
-/// Whether so many steps come to these cells, or leave the reach, and one step where it is one.
+/// Whether n steps come to these cells, or leave the reach, and one step where n is 1.
 fn comes_to(alloc: Global, plane: &Plane, n: u64, later: Option<&[Cell]>) -> bool {
     has_two_states(plane)
         && is_later(&steps(alloc, &Life, plane, n), later)
@@ -126,7 +126,7 @@ fn generations_by_steps(rt: HostRuntime) -> Result<(), Fail> {
     Ok(())
 }
 
-/// Cells scattered over so many places in rows of so many columns, three of eight.
+/// Cells scattered over `places` places in rows of `columns` columns, three of eight.
 fn scattered(alloc: Global, places: u32, columns: u32) -> Result<Vec<Cell>, Memory> {
     let mut cells = Vec::new(alloc);
     let mut mixed = 1u32;
@@ -179,8 +179,8 @@ fn glider_64(alloc: Global) -> Result<Plane, Memory> {
     moved_plane_of(alloc, GLIDER, 16)
 }
 
-/// Whether a leaper that may remember and work out so much takes a glider 64 generations on, and how much it
-/// works out.
+/// Whether a leaper that may remember `memo` entries and do `work` units of work advances a glider by 64
+/// generations, and how many units it does.
 fn glider_by(alloc: Global, memo: usize, work: u64) -> Result<(bool, u64), LeapFault> {
     let (Ok(plane), Ok(later)) = (plane_of(alloc, GLIDER), glider_64(alloc)) else {
         return Err(LeapFault::Memory);
@@ -220,8 +220,8 @@ fn an_empty_plane_needs_no_work(rt: HostRuntime) {
     expect(&rt, found == Ok(true), "an empty plane without work");
 }
 
-/// How much a leaper that may do so much work uses up for n generations of a plane, and how many squares it
-/// adds.
+/// How much a leaper that may do `work` units of work uses up for n generations of a plane, and how many squares
+/// it adds.
 fn spent_by(alloc: Global, plane: &Plane, n: u64, work: u64) -> Result<(u64, usize), LeapFault> {
     let mut leaper = Leaper::new(alloc, Store::new(alloc), Life, 262144, work)?;
     let tree = leaper.load_plane(plane)?;
@@ -242,7 +242,7 @@ const SOUPS: &[(u64, u64, Result<u64, LeapFault>)] = &[
     (40, 0, Err(LeapFault::Work)),
 ];
 
-/// Whether at least so much is used up, or there is the same fault.
+/// Whether at least as much is used up as `wanted` says, or there is the same fault.
 fn is_spent(found: &Result<(u64, usize), LeapFault>, wanted: &Result<u64, LeapFault>) -> bool {
     match (found, wanted) {
         (Ok((used, _)), Ok(least)) => used >= least,

@@ -56,7 +56,7 @@ const CAUSES_OF_MEMORY: &[Cause] = &[
     Cause::BadTable(TableFault::Memory),
 ];
 
-/// Whether out of memory is all that is told of a claim that was refused for this.
+/// Whether out of memory is all that is reported of a claim that was refused for this.
 fn is_refused_for_memory(alloc: Global, cause: Cause) -> Result<bool, Memory> {
     let answer = Answer {
         line: 14,

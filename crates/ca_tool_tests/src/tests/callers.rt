@@ -133,7 +133,7 @@ const ANSWERS: &[Answer] = &[
     },
 ];
 
-/// Whether these are the answers, where a claim may take so much work.
+/// Whether these are the answers, where a claim may take `work` units of work.
 fn are_answers(
     alloc: Global,
     text: &[u8],
@@ -155,7 +155,7 @@ fn the_first_file_of_a_path_counts(rt: HostRuntime) {
     expect(&rt, found == Ok(true), "the first file of a path");
 }
 
-/// Without work a claim with cells to be worked out is refused, and the others are judged.
+/// Without work a claim with cells to be computed is refused, and the others are judged.
 const WORKLESS_ANSWERS: &[Answer] = &[
     Answer {
         line: 3,

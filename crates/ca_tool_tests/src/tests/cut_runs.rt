@@ -145,7 +145,7 @@ fn end_of(alloc: Global, run: &Run<'_>, out: &mut Dev<Narrow>) -> Result<u8, Too
     }
 }
 
-/// Whether a run on a device that has room for so many bytes writes as many of its text, and ends so.
+/// Whether a run on a device that has room for `room` bytes writes as many of its text, and ends so.
 fn is_cut(
     alloc: Global,
     run: &Run<'_>,

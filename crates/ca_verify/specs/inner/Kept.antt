@@ -17,7 +17,8 @@ pub record IsKeptOf (files : SuppliedFiles) (asked : ClaimText)
   pub within : index ≤ length asked.claims
   pub limited : AreGoodLimits limits
 
--- what is left to be judged of these files and claims, from the claim with this index on, each of which may take so much work
+-- what is left to be judged of these files and claims, from the claim with this index onwards, each of which may take
+-- `work` units of work
 abbrev pub left_from : SuppliedFiles → ClaimText → (index work : ℕ) → Judging
 left_from files asked index work = record {
   files = files;

@@ -11,7 +11,8 @@ most_halvings = 60
 abbrev pub most_looks : (n : ℕ) → ℕ
 most_looks n = min most_halvings (n - 1)
 
--- some of n generations are left in which a death is looked for, and can be halved so often; so many runs were taken till then
+-- `left` of n generations are left in which a death is looked for, and can be halved `halvings` times; `runs` runs were
+-- taken till then
 pub record TakesHalves (old new : ℕ) (left level n : ℕ) : Type 0 where
   pub runs : ℕ
   pub halvings : ℕ

@@ -18,7 +18,7 @@ use ca_evolution::{Observer, is_dead, tree_after};
 use ca_plane::Automaton;
 use ca_run::{LeapFault, Leaper};
 
-/// The least time after which the plane is empty, where it is before the claim's generations are over.
+/// The earliest time after which the plane is empty, where it is before the claim's generations are over.
 pub(super) fn first_death<A: Automaton, O: Observer>(
     leaper: &mut Leaper<A>,
     case: &Case,

@@ -112,7 +112,7 @@ fn return_anywhere<A: Automaton>(
     vector_if_back(leaper, *end, *pattern, dx, dy)
 }
 
-// The vector from the corner of a live pattern's least box to that of a tree's, where the tree isn't empty:
+// The vector from the corner of a live pattern's smallest box to that of a tree's, where the tree isn't empty:
 // no other can move the pattern onto the tree.
 fn corner_vector(
     alloc: Global,

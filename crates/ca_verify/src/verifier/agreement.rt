@@ -22,7 +22,7 @@ pub(crate) enum Disagreement {
     Large(WhichPattern),
     /// Their rules differ.
     Mixed,
-    /// A growth was refused.
+    /// An allocation failed.
     Memory,
 }
 

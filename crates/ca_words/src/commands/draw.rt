@@ -232,7 +232,7 @@ fn two_numbers(word: &str) -> Option<(i128, i128)> {
     }
 }
 
-// The fault of a value that clap doesn't know, told as it tells those that it does.
+// The fault of a value that clap doesn't know, reported as it reports those that it does.
 fn misfit(alloc: Global, value: &str, word: &str, wanted: &str) -> WordsFault {
     fault_of(format!(in alloc;
         "error: invalid value '{value}' for '{word}': not {wanted}\n\nFor more information, try '--help'.\n"

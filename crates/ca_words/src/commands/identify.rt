@@ -67,7 +67,7 @@ Examples:
 pub struct Search {
     /// How many generations of each pattern are looked at, where that is set.
     pub limit: Option<u64>,
-    /// Whether the codes of still lifes, oscillators and spaceships are told.
+    /// Whether the codes of still lifes, oscillators and spaceships are reported.
     pub codes: bool,
 }
 

@@ -54,14 +54,15 @@ pub struct PatternExtras {
     pub rule: Option<String>,
     /// The path of a folder where a rule file is looked for by the name of a pattern's rule.
     pub folder: Option<String>,
-    /// How many generations on each pattern is taken first, where that is asked for.
+    /// By how many generations each pattern is advanced first, where that is asked for.
     pub after: Option<u64>,
     /// What more there is to tell, and how much each pattern may take.
     pub extras: Extras,
 }
 
 impl PatternExtras {
-    /// How many generations on each pattern is taken. The words keep them within their limit, and more are brought within.
+    /// By how many generations each pattern is advanced. The words keep them within their limit, and more are brought
+    /// within.
     pub fn after(&self) -> u64
         ensures most { result ≤ most_generations }
         ensures value { result ≡ generations_of self.now.after }
@@ -70,7 +71,7 @@ impl PatternExtras {
     }
 }
 
-/// How many generations on the pattern is taken.
+/// By how many generations the pattern is advanced.
 pub fn after_word<'a>(alloc: Global) -> Arg<'a> {
     value_word(
         alloc,

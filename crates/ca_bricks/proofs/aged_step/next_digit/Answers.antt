@@ -7,7 +7,7 @@ use Rattle.ca_plane.specs.Prelude.{row_cells}
 use Rattle.ca_bricks.proofs.BrickRows.{rows_grow}
 use Rattle.ca_bricks.proofs.aged_step.next_digit.Goals as goal
 
--- a bit of the sum of two, or of a third where it is told
+-- a bit of the sum of two, or of a third where a fourth has one
 told_bit : (a b c t x f : ℕ) → bit_at t x ≡ f → bit_at (bit_or (bit_xor a b) (bit_and c t)) x ≡ max ((bit_at a x + bit_at b x) % 2) (min (bit_at c x) f)
 told_bit a b c t x f e =
     let one : bit_at (bit_xor a b) x ≡ (bit_at a x + bit_at b x) % 2 = omega (arith, bit_at_xor a b x, bit_at-lt a x, bit_at-lt b x) in

@@ -5,6 +5,6 @@ use Rattle.ca_bricks.specs.Prelude.{TileShows, GoesByCells}
 use Rattle.ca_bricks.specs.declared.cell_rule.CellRule.TheVariants.{ByCounting}
 use Rattle.ca_bricks.proofs.tile.later_counted.Given as goal
 
--- as many generations on as were counted
+-- the tile after as many generations as were counted
 abbrev pub invariant-generations : goal.invariant-generations
 invariant-generations g l = (next : List ℕ → ℕ) (p : ℤ → ℤ → ℕ) (a b : ℤ) → GoesByCells next (ByCounting l.fn.counting) → TileShows l.fn.tile.rows 0 p a b → TileShows l.now.rows l.counter (cells_after next p l.counter) a b

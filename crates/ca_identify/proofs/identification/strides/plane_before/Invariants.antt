@@ -5,7 +5,7 @@ use Rattle.ca_identify.specs.declared.identification.stage.First.{First}
 use Rattle.ca_identify.specs.inner.Stages.{AreMovedNowhere}
 use Rattle.ca_identify.proofs.identification.strides.plane_before.Given as goal
 
--- the later plane is none of the planes from some number on, moved
+-- the later plane is none of the planes from number `left` onwards, moved
 abbrev pub invariant-planes : goal.invariant-planes
 invariant-planes g l = record {
   goes_on : LeaperGrows _ l.fn.leaper l.leaper;

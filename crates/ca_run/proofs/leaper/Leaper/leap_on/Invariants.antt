@@ -3,7 +3,7 @@ use Rattle.ca_run.specs.Prelude.{LeaperGrows}
 use Rattle.ca_run.specs.inner.Dense.{HasReached, HasLeapt}
 use Rattle.ca_run.proofs.leaper.Leaper.leap_on.Given as goal
 
--- as many generations on as the first j binary digits of those that are left say, and what the leaps cost
+-- the tree after as many generations as the first j binary digits of those that are left say, and what the leaps cost
 abbrev pub invariant-digits : goal.invariant-digits
 invariant-digits g l = record {
   reached : HasReached (g.A.Automaton.next_of l.fn.self.rule) l.fn.self.nodes l.fn.first l.fn.n l.self.nodes l.reached;

@@ -5,7 +5,8 @@ use Rattle.ca_run.specs.inner.AtCost.{SpendsAtMost}
 use Rattle.ca_bricks.specs.Prelude.{AgedGridShows, AreAlike, IsBeside, IsNextAged, AgedBricksRest, HasBlankEdges, IsBlankAged, IsBlankRoundAged, AllHaveNeighbours, HasNeighbours, IsNotIn}
 use Rattle.ca_run.proofs.bricks.aged.AgeingGridRule.grid_after.Given as goal
 
--- the grid so many generations on, and which of its bricks are awake: at first those that see a live cell or have a dying one, as if the generation before were blank
+-- the grid after k generations, and which of its bricks are awake: at first those that see a live cell or have a dying
+-- one, as if the generation before were blank
 abbrev pub invariant-generations : goal.invariant-generations
 invariant-generations g l = record {
   shows : AgedGridShows l.grid (l.fn.n - l.k) (cells_after (g.A.Automaton.next_of l.fn.leaper.rule) (cell l.fn.leaper.nodes l.fn.first) (l.fn.reached + l.k));

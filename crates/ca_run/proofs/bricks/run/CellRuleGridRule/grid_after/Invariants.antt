@@ -5,7 +5,8 @@ use Rattle.ca_run.specs.inner.AtCost.{SpendsAtMost}
 use Rattle.ca_bricks.specs.Prelude.{GridShows, IsInPlace, AllHaveNeighbours, HasNeighbours, IsNotIn, IsNextBrick, BricksRest, HasBlankEdge, IsBlank, IsBlankRound}
 use Rattle.ca_run.proofs.bricks.run.CellRuleGridRule.grid_after.Given as goal
 
--- the grid so many generations on, and which of its bricks are awake: at first those that see a live cell, as if the generation before were blank
+-- the grid after k generations, and which of its bricks are awake: at first those that see a live cell, as if the
+-- generation before were blank
 abbrev pub invariant-generations : goal.invariant-generations
 invariant-generations g l = record {
   shows : GridShows l.grid (l.fn.n - l.k) (cells_after (g.A.Automaton.next_of l.fn.leaper.rule) (cell l.fn.leaper.nodes l.fn.first) (l.fn.reached + l.k));
