@@ -164,7 +164,7 @@ def try_seeming(tally, files):
 
 
 def try_paths(tally, files):
-    """A path with a byte that a shell doesn't take as it stands is the word FILE in what helps."""
+    """A path with a byte that a shell doesn't take as it stands, or that seems to be an option, is the word FILE in what helps."""
     for name in (b"a\x1b[2J", b"b\x7f", b"c\xc2\x9b", b"\xc3\xa9", b"d\\x1b", b"e;f", b"$(g)", b"`h`", b"i*", b"j'", b"k&l", b"m>n", b"o~p", b"{q,r}",
                  b"-s,t:u=v@w_x.y+Z"):
         path = os.path.join(files.folder, os.fsdecode(name))
@@ -172,6 +172,10 @@ def try_paths(tally, files):
                             (b"#C\rx", rb"tr '\r' '\n' < FILE")):
             write(path, data)
             try_explained(tally, f"the path {name}", path, "bad pattern: rle header", words)
+    write(os.path.join(files.folder, "-packed"), gzip.compress(GOOD))
+    claims = files.path("option.claims", "load a -packed\nstill a\n")
+    wanted = Outcome(b"line 2: refused, bad pattern: rle header\n  a: -packed, line 1\n  try: gunzip -c FILE\n", b"", 2)
+    tally.expect("a path that seems to be an option", run(["verify", "--explain", "--root", files.folder, claims]), wanted)
 
 
 def try_commands(tally, files):

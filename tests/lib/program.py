@@ -42,8 +42,9 @@ def escaped(text):
 
 
 def file_word(path):
-    """A path as it stands in a command that the program tells: itself where a shell takes each of its bytes as it stands, and else FILE."""
-    return path if re.fullmatch(rb"[0-9A-Za-z+,./:=@_-]*", path) else b"FILE"
+    """A path as it stands in a command that the program prints: itself where a shell takes each of its bytes as it stands and it seems to be no option, and
+    else FILE."""
+    return path if re.fullmatch(rb"(?!-)[0-9A-Za-z+,./:=@_-]*", path) else b"FILE"
 
 
 def ample(text):

@@ -77,9 +77,10 @@ rule_name (Some text) = text.items
 abbrev pub is_plain_byte : ℕ → Bool
 is_plain_byte b = (nat_le 43 b && nat_le b 58) || (nat_eq b 61 || (nat_le 64 b && nat_le b 90) || (nat_eq b 95 || (nat_le 97 b && nat_le b 122)))
 
--- a path as it may stand in a command that a reader may copy: where a shell takes each of its bytes as it stands; else the word FILE
+-- a path as it may stand in a command that a reader may copy: where a shell takes each of its bytes as it stands, and no command takes it for an option,
+-- which begins with `-`; else the word FILE
 abbrev pub file_word : List ℕ → List ℕ
-file_word path = if list_all is_plain_byte path then path else codes "FILE"
+file_word path = if not (begins path (45 ∷ [])) && list_all is_plain_byte path then path else codes "FILE"
 
 -- what helps in words, for the file of a path, whose rule text is this
 abbrev pub remedy_text : Remedy → List ℕ → Option (Vec ℕ Global) → List ℕ

@@ -145,12 +145,12 @@ fn is_plain_byte(byte: u8) -> bool
     matches!(byte, b'+'..=b':' | b'=' | b'@'..=b'Z' | b'_' | b'a'..=b'z')
 }
 
-/// A path as it may stand in a command that a reader may copy: where a shell takes each of its bytes as it stands; else
-/// the word FILE.
+/// A path as it may stand in a command that a reader may copy: where a shell takes each of its bytes as it stands, and
+/// no command takes it for an option, which begins with `-`; else the word FILE.
 pub fn file_word(path: &[u8]) -> &[u8]
     ensures { result.now ≡ file_word path.now }
 {
-    if is_plain(path) {
+    if !path.starts_with(b"-") && is_plain(path) {
         return path;
     }
     b"FILE"
