@@ -23,7 +23,7 @@ stands for 2^K by 2^K cells, and is `o` if one of them is live; the squares begi
   --at X,Y        80 by 40 characters at scale 0, with the cell X,Y in the upper left one; with --size, W by H;
                   with --scale, at scale K. X grows to the right, and Y downward.
 On a terminal, its columns and all but two of its lines stand in place of 80 by 40, and a line on standard error
-tells the box of the live cells, the scale and the generation, as `box 0 0 36 9, scale 0, gen 0`.
+gives the box of the live cells, the scale and the generation, as `box 0 0 36 9, scale 0, gen 0`.
 
 An empty plane is drawn as the cell 0,0 alone. `window too large` says that the cells don't fit, and `window
 out of range` that the window reaches beyond the columns and rows from -2^124 to 2^124 - 1 of its scale.

@@ -14,9 +14,9 @@ use clap::{Arg, ArgMatches, Command, value_parser};
 use std::alloc::{AllocError, Global};
 
 const HELP: &str =
-    "What is printed is a claim text. So `cafile identify *.rle > mine.claims; cafile verify mine.claims` proves a whole
-folder. The text begins with `claims 2`. For each file it has a line `load NAME PATH`, and the claim that is true of
-the pattern:
+    "What is printed is a claim text. So `cafile identify ./*.rle > mine.claims; cafile verify mine.claims` judges
+what was found of a folder. The text begins with `claims 2`. For each file it has a line `load NAME PATH`, and the claim
+that is true of the pattern:
   still NAME              some cell is live, and a generation later no cell has changed
   oscillator NAME P       P is the first number of generations after which the pattern is back
   spaceship NAME P DX DY  P is the first after which it is back, moved by DX to the right and DY down
@@ -25,8 +25,8 @@ or else a comment:
   # NAME: no cell is live
   # NAME: none of these within 65536 generations: N cells, in a box of W by H, after 65536
   # NAME: PATH: bad pattern: rle no end
-The second one tells how far the plane has grown: the live cells and the smallest box round them. The last one is of a
-file that can't be identified, with the reason as `cafile verify` tells it.
+The second one says how far the plane has grown: the live cells and the smallest box round them. The last one is of a
+file that can't be identified, with the reason that `cafile verify` gives.
 
 NAME is the file's name without its ending, with _ for blanks and for a # that it begins with. Where that is taken,
 it is followed by -2, -3 and so on. A path with a blank, and -, can't be in a claim text: such a file has a comment
@@ -36,7 +36,7 @@ Up to 65536 generations of a pattern are looked at, while patience lasts: a seco
 comment says `within` fewer. --limit N looks for periods and deaths of up to N generations, however long that takes.
 --memo N, --work N and --max-memory MB are as for verify, for each pattern.
 
---after N identifies the plane that each pattern has N generations on. No claim about the file says what that is, so
+--after N identifies the plane that each pattern has N generations later. No claim about the file says what that is, so
 there are comments alone: `# NAME after 1103 generations: still`, and so on.
 
 --apgcode adds a comment after a still life, an oscillator or a spaceship: `# NAME: xq4_153`. That is its apgcode, by which
@@ -47,7 +47,7 @@ none under hexagonal and Generations rules and under tables.
 names a folder, such as Golly's Rules: where a rule is NAME, and isn't known, the rule file is looked for there as
 DIR/NAME.rule. The text has a `rule` line for each rule file.
 
---explain tells on standard error of each file that is faulty which one it is, with the line of its fault, or the rule
+--explain says on standard error of each file that is faulty which one it is, with the line of its fault, or the rule
 that isn't known, as in `  codd.rle: rule Codd`. Where something helps, a further line says so: `  try: gunzip -c FILE`.
 
 On a terminal, a line on standard error shows how far a file is that takes over a second, as

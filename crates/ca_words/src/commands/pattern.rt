@@ -31,8 +31,8 @@ the rule is NAME, and --rule doesn't give its table, the rule file is looked for
             $(
                 "--after N ",
                 $does,
-                " the pattern as it is N generations on, and adds N to its generation. --memo, --work and
---max-memory bound what that takes, as `cafile verify --help` tells for claims.
+                " the pattern as it is N generations later, and adds N to its generation. --memo, --work and
+--max-memory bound what that takes, as `cafile verify --help` says of claims.
 
 ",
             )?
@@ -77,7 +77,7 @@ pub fn after_word<'a>(alloc: Global) -> Arg<'a> {
         alloc,
         "after",
         "N",
-        "Take the pattern N generations on first: 0 to 1152921504606846976 (2^60)",
+        "Take the pattern N generations later: 0 to 1152921504606846976 (2^60)",
     )
     .value_parser(value_parser!(u64).range(0..=1152921504606846976))
 }

@@ -61,16 +61,16 @@ and more work.
 
 --max-memory MB is for long runs of planes that never repeat or are large, and says as Golly's maximum memory how
 much is kept: 16384 squares for each megabyte, with what is remembered of them, or as many as the plane itself and one
-generation of it need. Where there are so many, squares that are no more in use are dropped, and the run takes longer.
-A claim isn't refused for it.
+generation of it need. Where this bound is reached, squares that are no longer in use are dropped, and the run takes
+longer. A claim isn't refused for it.
 
 --work N refuses a claim that needs more than N units of work: `line 2: refused, work`. A unit is the centre of
-one square after some generations that wasn't remembered, or one brick of 64 by 16 cells of a dense plane, one
-generation on. Squares that are made of bricks again, or copied in a long run, count too. Each claim has its own
-count and its own memo.
+one square after some generations that wasn't remembered, or one brick of 64 by 16 cells of a dense plane,
+stepped by one generation. Squares that are made of bricks again, or copied in a long run, count too. Each claim has
+its own count and its own memo.
 
 The status is 0 where every verdict is yes, 1 where some are no, and 2 where some are refused or there is a
-fault. A text that can't be read or is faulty is told on standard error, and the others are judged.
+fault. A text that can't be read or is faulty is reported on standard error, and the others are judged.
 
 Examples:
   cafile verify examples/block.claims examples/pulsar.claims
