@@ -30,7 +30,7 @@ HELP = {
                  "65536", "DIR/NAME.rule", "load NAME PATH", "still NAME", "oscillator NAME P",
                  "spaceship NAME P DX DY", "dies NAME N", "claims 2", "# NAME: no cell is live",
                  "# NAME: none of these within 65536 generations: N cells, in a box of W by H, after 65536", "# NAME: PATH: bad pattern: rle no end",
-                 "identify *.rle > mine.claims", "The status is 0, or 2"),
+                 "identify ./*.rle > mine.claims", "The status is 0, or 2"),
     "verify": ("CLAIMS", "--rules", "DIR/NAME.rule", "--explain", "--progress", "--memo", "--work", "rule PATH", "load NAME PATH", "still NAME",
                "oscillator NAME P", "spaceship NAME P DX DY", "becomes NAME N NAME2", "becomes NAME N NAME2 shift DX DY", "dies NAME N", "claims 2",
                "relative to the working directory", "hold no blanks", "- is standard input", "The status is 0", "1 where", "2 where"),
