@@ -40,8 +40,10 @@ LEAST, RATIO = 4_000_000, 1.8
 # squares, but not for more. How many times the known work such a run may take.
 GLIDERS, ROOM, BOUND = 16000, 353_000_000, 2000
 
-# The generations of a plane that grows in all directions, and the bytes of address space in which it is followed, though all its squares take twice as many.
+# The generations of a plane that grows in all directions, and the bytes of address space in which it is followed. Those of a longer run, and the bytes that don't
+# hold as many squares as it may keep: memory is refused on the way, with the squares of 1559 generations. With a tenth more it never is.
 FOLLOWED, LITTLE = 800, 40_000_000
+REFUSED, LESS = 1600, 80_000_000
 
 # The side of a soup whose RLE takes 11.6 million bytes, and the bytes of address space in which it is summed up and written anew: its live cells take
 # 139 million as a list.
@@ -60,6 +62,9 @@ FAR_CELLS, SIDE, GENERATIONS, LEAVES, TRANSITIONS, CLAIMS = 10000, 2500, 700, 81
 # Cells that lie far from each other: how many there are, the bytes of address space in which their RLE is summed up and written anew, and those for which their
 # squares are enough.
 LISTED_CELLS, LISTED_SPACE, SQUARES_SPACE = 50000, 60_000_000, 2_000_000_000
+
+# How many blocks far from each other make more than 3 million squares in a generation, and fewer than a store has room for at first.
+BLOCKS = 12000
 
 
 def within(space, seconds=None):
@@ -198,7 +203,7 @@ def try_unlisted_cells(tally, files):
 
 
 def try_less_memory(tally, files):
-    """A plane that is reached in ample space, in less, and a claim on another one that isn't."""
+    """A plane that is reached in ample space, in less, and a claim on another one that isn't; and one that is reached though memory is refused on the way."""
     plane = explosion()
     later = plane.after(GROWING, FOLLOWED)
     other, _ = later.with_changed(later.x, later.y)
@@ -210,6 +215,11 @@ def try_less_memory(tally, files):
     path = text.write("less.claims")
     for name, space in (("little space", LITTLE), ("ample space", AMPLE)):
         tally.expect(f"a long run, {name}", run(["verify", path], **within(space)), outcome(text.answers, False))
+    text = ClaimText(files)
+    for name, it in (("first", plane), ("latest", later.after(GROWING, REFUSED - FOLLOWED))):
+        text.load(name, rows.text_of(GROWING, it))
+    text.claim(f"becomes first {REFUSED} latest", "yes")
+    tally.expect("a longer run, too little space on the way", run(["verify", text.write("longer.claims")], **within(LESS)), outcome(text.answers, False))
 
 
 def try_a_store_of_its_own(tally, files):
@@ -274,11 +284,16 @@ def try_far_cells(tally, files, rule, states):
 
 
 def try_many_far_cells(tally, files):
-    """Nearly 7 million squares, which go over to the store of the end of a run."""
+    """Nearly 7 million squares; and a generation of still lifes that makes more than 3 million, from which its end goes over to a store of its own."""
     cells = far_cells(1, 2, 150000)
+    corner = ["--at", f"{-EDGE},{-EDGE}", "--size", "3,3", "--scale", "0"]
     path = files.path("many.rle", rle.tidy(cells, "B3/S23", 0, 2))
-    words = ["draw", path, "--after", "0", "--at", f"{-EDGE},{-EDGE}", "--size", "3,2", "--scale", "0"]
-    tally.expect(f"{len(cells)} far cells after no generation", run(words), ample(b"o..\n...\n"))
+    tally.expect(f"{len(cells)} far cells after no generation", run(["draw", path, "--after", "0", *corner]), ample(b"o..\n...\n...\n"))
+    chance = random.Random(BLOCKS)
+    places = {(-EDGE, -EDGE), *((chance.randrange(-EDGE, EDGE - 1), chance.randrange(-EDGE, EDGE - 1)) for _ in range(BLOCKS))}
+    blocks = {(x + right, y + down): 1 for x, y in places for right in (0, 1) for down in (0, 1)}
+    path = files.path("blocks.rle", rle.tidy(blocks, "B3/S23", 0, 2))
+    tally.expect(f"{len(places)} far blocks after a generation", run(["draw", path, "--after", "1", *corner]), ample(b"oo.\noo.\n...\n"))
 
 
 def main():
