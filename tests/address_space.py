@@ -9,9 +9,11 @@
 - Under an ample limit all is judged, and under each limit between, a line is the ample one or refused for lack of memory, or the text is out of
   memory.
 - A long run whose squares need more drops them and goes on, by shorter leaps, to the plane that is known.
+- One that is refused memory on its way drops squares, and reaches the plane that is known as well.
 - A run that goes on in a store of its own, and needs more there for one generation, is given up, and not tried again.
 - Cells that lie far from each other take some 45 squares each. `show` and `convert --to rle` need none of them for an RLE: where there is no room for them they
   sum it up and write it anew, and what needs the squares is refused as out of memory.
+- Millions of squares are read, and the end of a run is copied from among millions of others.
 - `identify` remembers no more boxes of squares than may be, however many it measures.
 """
 import os
@@ -40,8 +42,8 @@ LEAST, RATIO = 4_000_000, 1.8
 # squares, but not for more. How many times the known work such a run may take.
 GLIDERS, ROOM, BOUND = 16000, 353_000_000, 2000
 
-# The generations of a plane that grows in all directions, and the bytes of address space in which it is followed. Those of a longer run, and the bytes that don't
-# hold as many squares as it may keep: memory is refused on the way, with the squares of 1559 generations. With a tenth more it never is.
+# The generations of a plane that grows in all directions, and the bytes of address space in which it is followed. Those of a longer run, and the bytes that
+# don't hold as many squares as it may keep: memory is refused at generation 1559, and with a tenth more it isn't.
 FOLLOWED, LITTLE = 800, 40_000_000
 REFUSED, LESS = 1600, 80_000_000
 
