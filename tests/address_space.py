@@ -13,7 +13,6 @@
 - A run that goes on in a store of its own, and needs more there for one generation, is given up, and not tried again.
 - Cells that lie far from each other take some 45 squares each. `show` and `convert --to rle` need none of them for an RLE: where there is no room for them they
   sum it up and write it anew, and what needs the squares is refused as out of memory.
-- Millions of squares are read, and the end of a run is copied from among millions of others.
 - `identify` remembers no more boxes of squares than may be, however many it measures.
 """
 import os
@@ -64,9 +63,6 @@ FAR_CELLS, SIDE, GENERATIONS, LEAVES, TRANSITIONS, CLAIMS = 10000, 2500, 700, 81
 # Cells that lie far from each other: how many there are, the bytes of address space in which their RLE is summed up and written anew, and those for which their
 # squares are enough.
 LISTED_CELLS, LISTED_SPACE, SQUARES_SPACE = 50000, 60_000_000, 2_000_000_000
-
-# How many blocks far from each other make more than 3 million squares in a generation, and fewer than a store has room for at first.
-BLOCKS = 12000
 
 
 def within(space, seconds=None):
@@ -286,16 +282,11 @@ def try_far_cells(tally, files, rule, states):
 
 
 def try_many_far_cells(tally, files):
-    """Nearly 7 million squares; and a generation of still lifes that makes more than 3 million, from which its end goes over to a store of its own."""
+    """Nearly 7 million squares, opened and drawn."""
     cells = far_cells(1, 2, 150000)
-    corner = ["--at", f"{-EDGE},{-EDGE}", "--size", "3,3", "--scale", "0"]
     path = files.path("many.rle", rle.tidy(cells, "B3/S23", 0, 2))
-    tally.expect(f"{len(cells)} far cells after no generation", run(["draw", path, "--after", "0", *corner]), ample(b"o..\n...\n...\n"))
-    chance = random.Random(BLOCKS)
-    places = {(-EDGE, -EDGE), *((chance.randrange(-EDGE, EDGE - 1), chance.randrange(-EDGE, EDGE - 1)) for _ in range(BLOCKS))}
-    blocks = {(x + right, y + down): 1 for x, y in places for right in (0, 1) for down in (0, 1)}
-    path = files.path("blocks.rle", rle.tidy(blocks, "B3/S23", 0, 2))
-    tally.expect(f"{len(places)} far blocks after a generation", run(["draw", path, "--after", "1", *corner]), ample(b"oo.\noo.\n...\n"))
+    words = ["draw", path, "--after", "0", "--at", f"{-EDGE},{-EDGE}", "--size", "3,2", "--scale", "0"]
+    tally.expect(f"{len(cells)} far cells after no generation", run(words), ample(b"o..\n...\n"))
 
 
 def main():

@@ -404,6 +404,13 @@ def try_large_texts(texts):
 
 
 @over(LargeTexts)
+def try_after(texts):
+    """A generation of a square among 5 million others, which its end is copied from. The lower two of its cells have the last state and die; the others age."""
+    path = texts.path("after", all_fours(50))
+    texts.expect("5 million squares of four cells, after a generation", ["show", path, "--after", "1"], figures(1, 2, "0 0 2 1", rule="/2/50"))
+
+
+@over(LargeTexts)
 def try_far_cells(texts):
     """Cells at both ends of the range, and long diagonals and squares, of as many cells as an RLE may have and of more."""
     lines = []
@@ -471,5 +478,5 @@ def try_soups(texts):
 
 
 if __name__ == "__main__":
-    try_all(try_faults, try_good, try_cut_texts, try_random_planes, try_mutilated_texts, try_large_texts, try_far_cells, try_rows, try_many_nodes,
-            try_soups)
+    try_all(try_faults, try_good, try_cut_texts, try_random_planes, try_mutilated_texts, try_large_texts, try_after, try_far_cells, try_rows,
+            try_many_nodes, try_soups)
