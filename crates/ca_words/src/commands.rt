@@ -33,9 +33,7 @@ const HELP: &str = "Examples:
 pub fn program<'a>(alloc: Global) -> Result<Command<'a>, AllocError> {
     let program = Command::new(alloc, "cafile")
         .version("0.1.0")
-        .about(
-            "Reads and writes Golly's pattern files, and gives proved verdicts on claims about them",
-        )
+        .about("Reads and writes Golly's pattern files, and gives verdicts on claims about them")
         .after_help(HELP)
         .subcommand_required(true);
     let program = with_command(program, show::command(alloc))?;
