@@ -2,8 +2,9 @@
 """`cafile rule`: isotropic rules in Hensel's notation, MAP strings, B/S and Generations rules, written as rule tables, and texts that are refused.
 
 What is written is read by the reader of tests/lib/rule_table.py, and its next states are compared with those of tests/lib/isotropic.py and of
-tests/lib/steps.py, which know nothing of tables; and soups that the program runs under the written table with naive steps: small ones, which are leapt, cell by
-cell, by a counting that is found for the rule or by a diagram of it, and dense ones, which are stepped by one of these.
+tests/lib/steps.py, which know nothing of tables, and with those that Golly gives (tests/lib/rule_file_texts.py); and soups that the program runs under the
+written table with naive steps: small ones, which are leapt, cell by cell, by a counting that is found for the rule or by a diagram of it, and dense ones, which
+are stepped by one of these.
 """
 import random
 import tempfile
@@ -12,6 +13,7 @@ from lib import isotropic, steps
 from lib.program import Runs, Tally, fault, run
 from lib.rle import cells_and_rule, tidy
 from lib.rle_reader import Fault, rule_of
+from lib.rule_file_texts import AGEING_CELLS, GOLLY_STATES
 from lib.rule_table import read_table
 
 LIFE = "MAPARYXfhZofugWaH7oaIDogBZofuhogOiAaIDogIAAgAAWaH7oaIDogGiA6ICAAIAAaIDogIAAgACAAIAAAAAAAA"
@@ -35,6 +37,9 @@ REFUSED = (
     ("2-a/12/4", "unknown"), ("345/2/4V", "unknown"), ("345/2/4:T9,9", "bounded"), ("23/3/1", "unknown"), ("23/3/257", "unknown"), ("23/0/4", "wakes"), ("9/0/3", "unknown"),
     ("23/3/", "unknown"), ("23//", "unknown"), ("/2/3/", "unknown"), ("S23/B3/8", "unknown"),
     ("Ba2/S", "unknown"), ("B2w/S", "unknown"), ("B5t/S", "unknown"),
+    ("B2-a/S12:T9,9", "bounded"), ("B02-a/S12", "wakes"), ("B8c/S", "unknown"), ("B2t/S", "unknown"), ("B2-/S", "unknown"), ("B2ac-a/S", "unknown"),
+    ("B2a/S12V", "unknown"), ("23/3/4:T9,9", "bounded"), ("2-a/3/4", "unknown"), ("23/3/4V", "unknown"), (LIFE.replace("MAPA", "MAPg"), "wakes"),
+    (LIFE[:-1] + "B", "unknown"),
 )
 
 # Soups under rules whose diagrams have few nodes and many, and three that go by a counting that is found: the side, and the generations. Random MAP strings give the largest diagrams.
@@ -82,6 +87,11 @@ def written(runs, text):
     return table, path
 
 
+def named_table(text):
+    """The rule file of a text, under a name that is no rule's own."""
+    return run(["rule", text]).printed.replace(f"@RULE {text}\n".encode(), b"@RULE Named\n", 1)
+
+
 def two_states(runs, text, bits):
     """A rule of two states, with these next states for all 512 neighbourhoods."""
     table, path = written(runs, text)
@@ -110,12 +120,45 @@ def two_states(runs, text, bits):
         runs.complaints.append(f"{text}: after 5 generations {got}")
 
 
+def all_neighbourhoods(runs, text, bits):
+    """All 512 neighbourhoods, far from each other, and the cells in their middle a generation later under the table of a rule, as the program reads it."""
+    middles = {(9 * (number % 32), 9 * (number // 32)): number for number in range(512)}
+    live = {(x + dx, y + dy): 1 for (x, y), number in middles.items() for dx in (-1, 0, 1) for dy in (-1, 0, 1) if number >> (4 - 3 * dy - dx) & 1}
+    pattern = runs.path("neighbourhoods.rle", tidy(live, "Named", 0, 2))
+    got = run(["convert", pattern, "--to", "rle", "--after", "1", "--rule", runs.path("named.rule", named_table(text))])
+    runs.count += 1
+    later = cells_and_rule(got.printed.decode())[0] if got.status == 0 else None
+    if later is None or any(later.get(place, 0) != bits[number] for place, number in middles.items()):
+        runs.complaints.append(f"{text}: the neighbourhoods a generation later {got}")
+
+
+def golly_states(runs, text, digits):
+    """A rule under which Golly gives these next states for all 512 neighbourhoods."""
+    bits = [int(bit) for digit in digits for bit in f"{int(digit, 16):04b}"]
+    two_states(runs, text, bits)
+    all_neighbourhoods(runs, text, bits)
+
+
+def ageing_cell(runs, text, states, nine, following):
+    """A Generations rule of so many states, under which the middle one of nine cells goes on so: by its table, and as the program reads it."""
+    table, _ = written(runs, text)
+    if not table:
+        return
+    by_table = table.next(nine[4], tuple(nine[4 + 3 * dy + dx] for dx, dy in table.ring))
+    pattern = runs.path("nine.rle", tidy({(at % 3, at // 3): state for at, state in enumerate(nine) if state}, "Named", 0, states))
+    got = run(["convert", pattern, "--to", "rle", "--after", "1", "--rule", runs.path("named.rule", named_table(text))])
+    runs.count += 1
+    by_run = cells_and_rule(got.printed.decode())[0].get((1, 1), 0) if got.status == 0 else None
+    if (table.states, by_table, by_run) != (states, following, following):
+        runs.complaints.append(f"{text}: {nine} gives {by_table}, and {by_run} in a run, of {table.states} states {got.complaint}")
+
+
 def soup(runs, text, bits, side, count):
     """A soup of `side` cells a side after `count` generations, under the table of a rule, beside naive steps. The table has a name that is no rule's own."""
     table, _ = written(runs, text)
     if not table:
         return
-    path = runs.path("named.rule", run(["rule", text]).printed.replace(f"@RULE {text}\n".encode(), b"@RULE Named\n", 1))
+    path = runs.path("named.rule", named_table(text))
     chance = random.Random(f"{text} {side}")
     left, top = chance.randrange(-200, 200), chance.randrange(-200, 200)
     live = {(left + x, top + y) for x in range(side) for y in range(side) if chance.random() < 0.4}
@@ -131,7 +174,7 @@ def soup(runs, text, bits, side, count):
 def large_soup(runs, text, corners, side, count):
     """Soups of `side` cells a side, one from each of these corners, under a rule's own table, beside the same soups under that table with a state more, which
     go cell by cell. One large soup is stepped in many bricks; many small ones are leapt over, in many squares."""
-    written_table = run(["rule", text]).printed.replace(f"@RULE {text}\n".encode(), b"@RULE Named\n", 1)
+    written_table = named_table(text)
     chance = random.Random(f"{text} {side}")
     live = {(left + x, top + y): 1 for left, top in corners for x in range(side) for y in range(side) if chance.random() < 0.4}
     pattern = runs.path("named.rle", tidy(live, "Named", 0, 2))
@@ -168,7 +211,7 @@ def long_run(runs, text, bits):
 def small_tree(runs):
     """A blinker and a block under the table of a rule by whose diagram they go as in Life, after enough generations that it is made, and one by itself of a
     tree of the lowest levels."""
-    path = runs.path("named.rule", run(["rule", "B3-k/S23"]).printed.replace(b"@RULE B3-k/S23\n", b"@RULE Named\n", 1))
+    path = runs.path("named.rule", named_table("B3-k/S23"))
     column, row, block = ({(0, -1), (0, 0), (0, 1)}, {(-1, 0), (0, 0), (1, 0)}, {(-1, -1), (-1, 0), (0, -1), (0, 0)})
     for live, count, want in ((column, 65, row), (column, 64, column), (row, 1001, column), (block, 65, block), (block, 67, block)):
         pattern = runs.path("small.rle", tidy({it: 1 for it in live}, "Named", 0, 2))
@@ -237,6 +280,9 @@ def main():
         for text in BS_RULES:
             two_states(runs, text, counted_bits(steps.rule_of(rule_of(text.encode())[0])))
         runs.tell(tally, "B/S rules")
+        for text, digits in GOLLY_STATES.items():
+            golly_states(runs, text, digits)
+        runs.tell(tally, "next states of Golly")
         for text, side, count in (*DENSE, *((text, 70, 32) for text in list(maps())[-3:])):
             soup(runs, text, next_states(text), side, count)
         for text, side in (("B3/S23", 600), ("B34/S456", 500), ("B3-k/S23", 1000), ("B34w/S23", 400)):
@@ -252,6 +298,8 @@ def main():
         runs.tell(tally, "soups that are leapt over")
         for text in GENERATIONS:
             generations(runs, text)
+        for cell in AGEING_CELLS:
+            ageing_cell(runs, *cell)
         runs.tell(tally, "Generations rules")
         for text, told in REFUSED:
             runs.expect("a refused text", ["rule", text], fault(f"bad rule: {told}"))
