@@ -1,4 +1,0 @@
-//! The tests, by what they try.
-
-mod callers;
-mod texts;
