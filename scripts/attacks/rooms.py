@@ -51,6 +51,6 @@ class Base:
 
 
 def kept_of(root, crate):
-    """What is kept in the folder out/ of a crate."""
+    """What is kept in the folder out/ of a crate, without the unproved program."""
     out = os.path.join(root, "crates", crate, "out")
-    return os.listdir(out) if os.path.isdir(out) else []
+    return [it for it in os.listdir(out) if it != "unproved"] if os.path.isdir(out) else []

@@ -31,7 +31,7 @@ class NotJudged(Exception):
 def why(said):
     """The line that tells best why a command came to nothing."""
     found = OF_SOURCE.search(said)
-    return (found[0] if found else next(reversed(said.rstrip("\n").split("\n"))))[:300]
+    return (found[0] if found else said.rstrip("\n").split("\n")[-1])[:300]
 
 
 class Script:
