@@ -7,9 +7,7 @@ import re
 import subprocess
 
 from lib.program import MOST_WAITING, PROGRAM, ROOT, Tally, contents, run
-
-# A paragraph, and the block of text that follows it.
-QUOTED = re.compile(r"^([^\n]+)\n\n```(\w*)\n(.*?)^```$", re.MULTILINE | re.DOTALL)
+from lib.quoted import QUOTED
 
 # What pages name to show what is printed of a file that isn't there.
 LOST = {"examples/lost.rle", "examples/tables/lost.rule"}
