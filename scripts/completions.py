@@ -5,6 +5,9 @@ from scripts.help_text import HELP
 FILES = ("FILE", "CLAIMS", "RULEFILE")
 FOLDERS = ("DIR",)
 
+# Options after which the program ends.
+ENDS = ("--help", "--version")
+
 BASH = r"""# Completions of cafile for bash: source this file, or put it as ~/.local/share/bash-completion/completions/cafile.
 
 _cafile() {
@@ -79,6 +82,10 @@ end
 """
 
 
+# What stands in fish for no command.
+NONE = '""'
+
+
 def filled(template, **parts):
     """A template with its parts in their places."""
     for name, part in parts.items():
@@ -100,7 +107,7 @@ def bash_command(help_text):
         names.setdefault(bash_value(it), []).extend(it.names if it.value else ())
     values = "".join(f"                    {' | '.join(options)}) {value} ;;\n" for value, options in names.items() if options)
     options = " ".join(name for it in help_text.options for name in it.names)
-    return filled(BASH_COMMAND, name=help_text.name(), values=values, options=options, rest=bash_value(help_text.arguments[0]))
+    return filled(BASH_COMMAND, name=help_text.name(), values=values, options=options, rest=" ".join(map(bash_value, help_text.arguments[:1])) or ":")
 
 
 def bash(whole, commands):
@@ -126,11 +133,13 @@ def zsh_value(entry):
 
 
 def zsh_option(entry):
-    """The words of zsh for an option."""
-    if len(entry.names) > 1:
-        return f"'(- *)'{{{','.join(entry.names)}}}'[{zsh_text(entry.about)}]'"
-    value = f"=[{zsh_text(entry.about)}]:{zsh_text(entry.value)}:{zsh_value(entry)}" if entry.value else f"[{zsh_text(entry.about)}]"
-    return f"'{entry.names[0]}{value}'"
+    """The words of zsh for an option. Nothing stands beside one that ends the run."""
+    said = f"[{zsh_text(entry.about)}]" + (f":{entry.value}:{zsh_value(entry)}" if entry.value else "")
+    names = [it + ("=" if it.startswith("--") else "+") * bool(entry.value) for it in entry.names]
+    if len(names) == 1:
+        return f"'{names[0]}{said}'"
+    others = "- *" if entry.names[-1] in ENDS else " ".join(entry.names)
+    return f"'({others})'{{{','.join(names)}}}'{said}'"
 
 
 def zsh_argument(entry):
@@ -166,9 +175,9 @@ def fish_value(entry):
 
 
 def fish_option(name, entry):
-    """The line of fish for an option of a command, or of the program where that has no name."""
+    """The line of fish for an option of a command."""
     words = "".join(f" -l {it[2:]}" if it.startswith("--") else f" -s {it[1:]}" for it in entry.names)
-    return f"complete -c cafile -n '__cafile_has {name or chr(34) * 2}'{words}{fish_value(entry)} -d {fish_quoted(entry.about)}"
+    return f"complete -c cafile -n '__cafile_has {name}'{words}{fish_value(entry)} -d {fish_quoted(entry.about)}"
 
 
 def fish_command(help_text):
@@ -180,8 +189,8 @@ def fish_command(help_text):
 def fish(whole, commands):
     """The completions for fish."""
     names = [(it.names[0], fish_quoted(it.about)) for it in whole.commands]
-    lines = [f"complete -c cafile -n '__cafile_has \"\"' -f -a {name} -d {about}" for name, about in names]
-    lines += [fish_option("", it) for it in whole.options]
+    lines = [f"complete -c cafile -n '__cafile_has {NONE}' -f -a {name} -d {about}" for name, about in names]
+    lines += [fish_option(NONE, it) for it in whole.options]
     lines += [line for it in commands for line in fish_command(it)]
     lines += [f"complete -c cafile -n '__cafile_has {HELP}' -f -a {fish_quoted(' '.join(name for name, _ in names))}"]
     return filled(FISH, lines="\n".join(lines))

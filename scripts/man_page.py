@@ -54,7 +54,7 @@ def entry(it):
 
 def listed(lines):
     """The lines of an indented list. Each entry has its term and, after two blanks or deep below, what is said of it; lines below that are examples."""
-    if not any(re.match(r"  \S.*?(  |$)", it) and "  " in it.strip() for it in lines):
+    if not any("  " in it.strip() for it in lines):
         return shown(it.strip() for it in lines)
     told = []
     for line in lines:

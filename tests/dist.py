@@ -6,8 +6,8 @@ import hashlib
 import io
 import os
 import re
-import shutil
 import shlex
+import shutil
 import tarfile
 
 from lib.parts import try_all
@@ -156,7 +156,8 @@ def try_proved(unpacked):
     verdicts = [f"# low: {VERDICTS['low']}", f"# {KEPT}", f"# right: {VERDICTS['right']}", f"# cafile: {VERDICTS['cafile']}"]
     wanted = [
         f"# cafile {version}, whose answers are proved.",
-        f"# Commit: {unpacked.commit}", "# Kit: some-kit logic 0123", "# ./check ended with: 5 passed, 0 failed", f"# rt ci ended with: {SHARE}", "#", "# What rt ci said of each crate:", *verdicts,
+        f"# Commit: {unpacked.commit}", "# Kit: some-kit logic 0123", "# ./check ended with: 5 passed, 0 failed", f"# rt ci ended with: {SHARE}",
+        "#", "# What rt ci said of each crate:", *verdicts,
         "#", "# The SHA-256 sum of each other file, which `sha256sum -c PROVED` checks:"]
     tally.expect("what PROVED says", says, wanted)
     found = [os.path.relpath(os.path.join(at, it), unpacked.folder) for at, _, names in os.walk(unpacked.folder) for it in names if it != "PROVED"]
@@ -299,7 +300,7 @@ def try_fish(unpacked):
     """The completions of fish have each option in a line of its command."""
     tally, text = unpacked.tally, contents(unpacked.path("completions/cafile.fish")).decode()
     for name in unpacked.helps:
-        start = f"complete -c cafile -n '__cafile_has {name or chr(34) * 2}' "
+        start = "complete -c cafile -n '__cafile_has %s' " % (name or '""')
         lines = [it.partition(" -d ")[0] for it in text.split("\n") if it.startswith(start)]
         found = sorted(dashes + it for line in lines for dashes, letter in (("--", "l"), ("-", "s")) for it in re.findall(rf" -{letter} ([\w-]+)", line))
         tally.expect(f"fish: the options of {name or 'cafile'}", found, unpacked.option_names(name))
