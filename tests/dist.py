@@ -157,7 +157,7 @@ def try_proved(unpacked):
     wanted = [
         f"# cafile {version}, whose answers are proved.",
         f"# Commit: {unpacked.commit}", "# Kit: some-kit logic 0123", "# ./check ended with: 5 passed, 0 failed", f"# rt ci ended with: {SHARE}",
-        "#", "# What rt ci said of each crate:", *verdicts,
+        "#", "# What rt ci said of each crate, on the machine where it ran:", *verdicts,
         "#", "# The SHA-256 sum of each other file, which `sha256sum -c PROVED` checks:"]
     tally.expect("what PROVED says", says, wanted)
     found = [os.path.relpath(os.path.join(at, it), unpacked.folder) for at, _, names in os.walk(unpacked.folder) for it in names if it != "PROVED"]
