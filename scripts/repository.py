@@ -62,7 +62,12 @@ def read_lines():
 def crates_below(lines, name):
     """The crates of the repository that a crate stands on, each after those that it stands on itself."""
     found = []
-    for it in lines[name]:
-        if it in lines:
-            found += [below for below in [*crates_below(lines, it), it] if below not in found]
+
+    def find(crate):
+        for it in lines[crate]:
+            if it in lines and it not in found:
+                find(it)
+                found.append(it)
+
+    find(name)
     return found

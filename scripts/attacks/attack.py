@@ -4,6 +4,7 @@ import tempfile
 import time
 
 from scripts.attacks.commands import Commands
+from scripts.attacks.edits import COMMANDS
 from scripts.attacks.prover import RoundToProve, RoundToRefuse, tried_by_the_prover
 from scripts.attacks.record import Record
 from scripts.attacks.rooms import Base
@@ -18,7 +19,9 @@ class Attack:
         self.edits, self.commands, self.record = edits, Commands(), Record()
 
     def parted(self, crate):
-        """The edits of a crate that the prover has to refuse, and those that tests have to catch."""
+        """The edits of a crate that the prover has to refuse, and those that tests have to catch: all of commands, of which nothing is proved."""
+        if crate == COMMANDS:
+            return [], self.edits[crate]
         return [it for it in self.edits[crate] if not it.test], [it for it in self.edits[crate] if it.test]
 
     def leave_out(self, is_for_tests):
@@ -32,7 +35,7 @@ class Attack:
     def try_by_the_prover(self, jobs):
         """Tries the edits by the prover, so many crates at a time."""
         with tempfile.TemporaryDirectory(prefix="attack-") as folder:
-            base = Base(self.commands, self.record, ROOT, os.path.join(folder, "base"), [crate for crate in self.edits if self.edits[crate]])
+            base = Base(self.commands, self.record, ROOT, os.path.join(folder, "base"), [crate for crate in self.edits if self.edits[crate] and crate != COMMANDS])
             with self.commands.lanes(jobs) as lanes:
                 for done in [lanes.submit(self.try_crate, base, crate) for crate in base.crates]:
                     done.result()

@@ -4,6 +4,10 @@ import os
 from scripts.attacks.functions import functions_of
 
 
+# The folder of attacks/ whose edits change commands at the root, and no crate.
+COMMANDS = "commands"
+
+
 class BadEdit(Exception):
     """An edit that tries nothing."""
 
@@ -24,7 +28,7 @@ def write(path, text):
 
 
 class Edit:
-    """An edit of one crate: what it changes, and what has to catch it."""
+    """An edit of one crate, or of commands: what it changes, and what has to catch it."""
 
     def __init__(self, crate, path):
         self.crate, self.name, self.test, self.is_shape, self.changes = crate, os.path.basename(path)[: -len(".edit")], None, False, []
@@ -42,6 +46,10 @@ class Edit:
                 old = text
             elif kind == "new":
                 self.changes.append((file, old, text))
+
+    def folder_in(self, root):
+        """The folder of what is edited in a copy of the repository."""
+        return root if self.crate == COMMANDS else os.path.join(root, "crates", self.crate)
 
     def over(self, folder, texts):
         """The texts with this edit made over them, by path, and the functions whose bodies it changes, by the places of their heads: none where it
@@ -71,15 +79,15 @@ class Edit:
 
 
 def edits_of(root, crate):
-    """The edits of a crate: those of the gate, and then the others, by name."""
+    """The edits of a crate, or of the commands: those of the gate, and then the others, by name."""
     folders = [os.path.join(root, "crates", crate, "must-fail"), os.path.join(root, "attacks", crate)]
     paths = [os.path.join(folder, name) for folder in folders if os.path.isdir(folder) for name in sorted(os.listdir(folder))]
     return [Edit(crate, path) for path in paths if path.endswith(".edit")]
 
 
 def asked_edits(root, crates, words):
-    """The edits of these crates that the words name, by crate, and the words that name none."""
-    found = {crate: edits_of(root, crate) for crate in crates}
+    """The edits of these crates and of the commands that the words name, by crate, and the words that name none."""
+    found = {crate: edits_of(root, crate) for crate in [*crates, COMMANDS]}
     names = {crate: {crate, *(f"{crate}/{it.name}" for it in edits)} for crate, edits in found.items() if edits}
     asked = {crate: [it for it in found[crate] if not words or {crate, f"{crate}/{it.name}"} & {*words}] for crate in names}
     return {crate: edits for crate, edits in asked.items() if edits}, [it for it in words if it not in set().union(*names.values())]

@@ -51,6 +51,15 @@ class Script:
         with open(program, "rb") as file:
             return file.read()
 
+    @staticmethod
+    def take(copy, made):
+        """Puts a program that was made elsewhere into a copy."""
+        program = os.path.join(copy, MADE)
+        os.makedirs(os.path.dirname(program), exist_ok=True)
+        with open(program, "wb") as file:
+            file.write(made)
+        os.chmod(program, 0o755)
+
     def failure(self, copy):
         """The first line that tells a failure over the program of a copy, or none where the script passes."""
         program = os.path.join(copy, MADE)

@@ -3,7 +3,7 @@ import os
 import queue
 
 from scripts.attacks.copies import copy_of, over
-from scripts.attacks.edits import BadEdit
+from scripts.attacks.edits import COMMANDS, BadEdit
 from scripts.attacks.record import Outcome
 from scripts.attacks.tests import NotJudged, Script, test_of
 
@@ -21,12 +21,12 @@ class Trials:
         for at in range(min(self.jobs, len(edits))):
             self.spare.put(os.path.join(self.folder, str(at)))
             copy_of(self.plain, os.path.join(self.folder, str(at)), {})
-        names = sorted({it.test for it in edits}, key=lambda name: name.startswith("tests/"))
+        names = sorted({str(it.test) for it in edits}, key=lambda name: name.startswith("tests/"))
         with self.commands.lanes(self.jobs) as lanes:
             # they begin in this order, so that each waits only for what has begun
             program = lanes.submit(self.make_plain) if any(it.startswith("tests/") for it in names) else None
             tests = {name: lanes.submit(self.over_the_plain, name, program) for name in names}
-            for done in [lanes.submit(self.try_edit, edit, tests[edit.test], program) for edit in edits]:
+            for done in [lanes.submit(self.try_edit, edit, tests[str(edit.test)], program) for edit in edits]:
                 done.result()
 
     def make_plain(self):
@@ -62,11 +62,11 @@ class Trials:
 
     def outcome_of(self, edit, test, program, copy):
         """What came of an edit in this copy."""
-        folder = os.path.join(copy, "crates", edit.crate)
+        folder = edit.folder_in(copy)
         try:
             proven = test.result()
             texts, _ = edit.over(folder, {})
-            failed = over(folder, texts, lambda: failure(proven, copy, program))
+            failed = over(folder, texts, lambda: failure(edit, proven, copy, program))
         except BadEdit as error:
             return Outcome.FAILED, f"BAD EDIT: {error}"
         except NotJudged as error:
@@ -74,8 +74,11 @@ class Trials:
         return (Outcome.CAUGHT, f"caught by {edit.test}: {failed[:160]}") if failed else (Outcome.FAILED, f"NOT CAUGHT: {edit.test} passes with it")
 
 
-def failure(test, copy, program):
-    """The first line that tells that a test fails in an edited copy, or none where it passes."""
+def failure(edit, test, copy, program):
+    """The first line that tells that a test fails in an edited copy, or none where it passes. An edit of a command leaves the program as it is."""
+    if edit.crate == COMMANDS:
+        test.take(copy, program.result())
+        return test.failure(copy)
     made = test.make(copy)
     if made and made == program.result():
         raise BadEdit("the program is the same without it")
