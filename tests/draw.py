@@ -25,6 +25,9 @@ BRAIN = "x = 4, y = 4, rule = /2/3\n2.A$A2B$.2BA$.A!\n"
 GATE = "tests/files/tables/wireworld_or.rle"
 WIREWORLD = ["--rule", "examples/tables/wireworld.rule"]
 FULL, NOTHING = "examples/macrocell/full_square.mc", "examples/empty.rle"
+BLOCK = "#CXRLE Pos=-1,-1\nx = 2, y = 2, rule = B3/S23\n2o$2o!\n"
+STATES = "x = 4, y = 2, rule = /2/256\nABX$pApXqAyO!\n"
+TRILLION = f"#CXRLE Pos={-10**12},{-10**12}\nx = 1, y = 1, rule = B3/S23\no{2 * 10**12 - 1}${2 * 10**12 - 1}bo!\n"
 PAIR = f"#CXRLE Pos=-9,-9\nx = 1, y = 1, rule = B3/S23\no{10**9}$$o!\n"
 
 # Patterns, words, and the picture, drawn by hand.
@@ -62,6 +65,13 @@ BY_HAND = (
     (GATE, WIREWORLD, "BA......\n..C.....\n.CCCCCCC\n..C.....\nCC......\n"),
     (GATE, [*WIREWORLD, "--scale", "1"], "oo..\noooo\no...\n"),
     (GATE, [*WIREWORLD, "--after", "1"], "CB......\n..A.....\n.CCCCCCC\n..C.....\nCC......\n"),
+    (BLOCK, ["--size", "2,2"], "oo\noo\n"),
+    (BLOCK, ["--at", "-2,-2", "--size", "4,4"], "....\n.oo.\n.oo.\n....\n"),
+    (BLOCK, ["--at", "-2,-2", "--size", "2,2", "--scale", "1"], "oo\noo\n"),
+    (BLOCK, ["--at", "-4,-4", "--size", "4,4", "--scale", "1"], "....\n.oo.\n.oo.\n....\n"),
+    (STATES, [], "ABX.\nax**\n"),
+    (STATES, ["--scale", "1"], "oo\n"),
+    (TRILLION, ["--scale", "39"], "o...\n....\n....\n...o\n"),
     (NOTHING, [], ".\n"),
     (NOTHING, ["--size", "5,5"], ".\n"),
     (NOTHING, ["--scale", "3"], ".\n"),
@@ -79,6 +89,7 @@ IMAGES = (
     (GLIDER, ["--at", "0,0"], 1024, 1024, [255, 0] + [255] * 1022 + [255, 255, 0] + [255] * 1021 + [0, 0, 0] + [255] * 1021 + [255] * 1024 * 1021),
     (BRAIN, [], 4, 4, [255, 255, 0, 255, 0, 127, 127, 255, 255, 127, 127, 0, 255, 0, 255, 255]),
     (BRAIN, ["--scale", "1"], 2, 2, [0, 0, 0, 0]),
+    (STATES, [], 4, 2, [0, 1, 23, 255, 24, 47, 48, 254]),
     (NOTHING, [], 1, 1, [255]),
     (FULL, [], 1024, 1024, [0] * 1024 * 1024),
     (GLIDER, ["--zoom", "1"], 3, 3, [255, 0, 255, 255, 255, 0, 0, 0, 0]),
@@ -95,7 +106,7 @@ IMAGES = (
 
 # Patterns and words of which there is no window, and why.
 NO_WINDOW = (
-    (BLINKER, ["--size", "1,1"], "too large"), (BLINKER, ["--size", "1,40"], "too large"), (GLIDER, ["--size", "2,2", "--scale", "0"], "too large"),
+    (BLINKER, ["--size", "1,1"], "too large"), (BLINKER, ["--size", "1,40"], "too large"), (BLOCK, ["--size", "2,1"], "too large"), (GLIDER, ["--size", "2,2", "--scale", "0"], "too large"),
     (FULL, ["--scale", "0"], "too large"), (FULL, ["--scale", "47"], "too large"), (FULL, ["--size", "1,8192"], "too large"),
     (PAIR, ["--scale", "0", "--to", "pgm"], "too large"),
     (GLIDER, ["--at", f"{REACH},0", "--size", "1,1"], "out of range"), (GLIDER, ["--at", f"0,{-REACH - 1}", "--size", "1,1"], "out of range"),

@@ -229,6 +229,19 @@ def try_late_returns(tally, files):
                 tally.expect(f"{told} {words}", run(["identify", path, "--rule", rule, *words]), whole(f"rule {rule}\n{entry(f'turns_{period}', path, what)}"))
 
 
+def try_late_death(tally, files):
+    """Two gliders that fly towards each other and both die when they meet, after more than a million generations. That they do is seen here when they begin near
+    each other; where each begins so much further away, it takes four generations longer for each place."""
+    glider, places, generations = {(1, 0), (2, 1), (0, 2), (1, 2), (2, 2)}, 250001, 0
+    now = frozenset(glider | {(6 - x, 6 - y) for x, y in glider})
+    while now:
+        now, generations = next_live(now, {3}, {2, 3}), generations + 1
+    far = 6 + 2 * places
+    path = files.path("apart.rle", rle.tidy(dict.fromkeys(glider | {(far - x, far - y) for x, y in glider}, 1), "B3/S23", 0, 2))
+    told = f"dies {generations + 4 * places}"
+    tally.expect(f"gliders that meet late: {told}", run(["identify", path, "--limit", "1100000"]), whole(entry("apart", path, told)))
+
+
 def try_limits(tally):
     """A period that is the limit is found, and one that is one more isn't."""
     for path, told, limit in (("examples/pulsar.rle", "oscillator 3", 3), ("examples/glider.rle", "spaceship 4 1 1", 4),
@@ -736,7 +749,7 @@ def main():
     try_known(tally)
     try_true_claims(tally)
     try_limits(tally)
-    for trial in (try_squares, try_patience, try_growth, try_many_squares, try_long_periods, try_late_returns, try_after, try_all, try_names, try_odd_paths,
+    for trial in (try_squares, try_patience, try_growth, try_many_squares, try_long_periods, try_late_returns, try_late_death, try_after, try_all, try_names, try_odd_paths,
                   try_refused, try_rules, try_given_rule, try_codes, try_copies, try_large_codes, try_work_of_codes, try_long_codes, try_many):
         with tempfile.TemporaryDirectory() as folder:
             trial(tally, Folder(folder))

@@ -39,7 +39,9 @@ CLAIMS = (
     (("--work", "0"), {"b": BLOCK}, "becomes b 1 b shift 1 1", "refused, work"),
     (("--work", "0"), {"b": BLOCK}, "becomes b 0 b", "yes"),
     (("--work", "0"), {"e": EMPTY}, "becomes e 5 e", "yes"),
+    (("--work", "0", "--memo", "1"), {"e": EMPTY}, f"becomes e {1 << 60} e", "yes"),
     (("--work", "0"), {"e": EMPTY}, "still e", "no, empty"),
+    (("--work", "0"), {"g": GLIDER}, "becomes g 64 g", "refused, work"),
     (("--work", "0"), {"b": BLOCK, "g": GLIDER}, "becomes b 0 g", "no, cells differ after 0"),
     (("--work", "0"), {"s": SOUP}, "becomes s 100 s", "refused, work"),
     (("--work", "20000"), {"s": SOUP}, "becomes s 1000 s", "refused, work"),
@@ -64,8 +66,17 @@ FAULTS = (
     ("--work", "-1"), ("--work", "x"), ("--work", ""), ("--work", str(MOST_WORK + 1)), ("--work", "0x10"),
 )
 
-# Less work than a soup of four states needs, and enough.
-LITTLE, ENOUGH = 600000, 1000000
+# The rules of tables under which soups are leapt, the cells a side, the generations, how much work may be done, and whether that is enough. The first soup took
+# 816560 units, by the program's own count when this was written, and no value from outside.
+LEAPT = (
+    ("345/2/4", 200, 300, 600000, False),
+    ("345/2/4", 200, 300, 1000000, True),
+    ("23/3/3", 100, 40, 0, False),
+    ("23/3/3", 100, 40, 800, False),
+    ("23/3/3", 100, 40, MOST_WORK, True),
+    ("23/3/3", 100, 1000, 20000, False),
+    ("23/3/3", 100, 1000, MOST_WORK, True),
+)
 
 # No block needs this much work for a generation.
 AMPLE_WORK = 1000
@@ -179,15 +190,13 @@ def try_a_soup(tally, files):
 
 
 def try_least_work(tally, files):
-    """A soup of a table of four states is leapt, and each square of 4 by 4 cells that isn't empty is counted: the run took 816560 units, by the program's own
-    count when this was written, and no value from outside."""
-    text = claim_text(files.folder, {})
-    text.rule(ageing.table_of(AgeingRule.of("345/2/4"), "Ageing"))
-    text.load("s", rows.text_of("Ageing", rows.soup(random.Random(200), 200, 200)))
-    text.claim("becomes s 300 s", "no, cells differ after 300")
-    path = text.write()
-    for work, wanted in ((LITTLE, lines_outcome([(3, "refused, work")])), (ENOUGH, outcome(text.answers, False))):
-        tally.expect(f"a soup of four states, {work} units", run(["verify", "--work", str(work), path]), wanted)
+    """A soup of a table is leapt, and each square of 4 by 4 cells that isn't empty is counted."""
+    for rule, side, count, work, is_enough in LEAPT:
+        text = claim_text(files.folder, {})
+        text.rule(ageing.table_of(AgeingRule.of(rule), "Ageing"))
+        text.load("s", rows.text_of("Ageing", rows.soup(random.Random(side), side, side)))
+        text.claim(f"becomes s {count} s", f"no, cells differ after {count}" if is_enough else "refused, work")
+        tally.expect(f"a soup of a table of {rule} by {count}, {work} units", run(["verify", "--work", str(work), text.write()]), outcome(text.answers, False))
 
 
 def try_faults(tally, _):

@@ -21,7 +21,7 @@ the faulty line or the rule.
 Of claims with many allocations some are tried, of `show`, `convert` and `draw` all. tests/address_space.py has memory that is refused by the system itself.
 
 Last comes a call that no command reaches: a leap that is refused memory, and is asked for again then on the same leaper, comes to what it has to. A test of
-ca_run_tests has it, which is built where it isn't yet.
+ca_library_tests has it, which is built where it isn't yet.
 """
 import itertools
 import os
@@ -67,9 +67,9 @@ SEVERAL = (
     (("verify", "--explain", "--rules", "examples/rules"), ("verify/folder_of_rules", "explain/several", "explain/rules")),
 )
 
-# The tests of ca_run, the one of a refused leap, and how many allocations it makes at least: the leaper's memo, its store, its trees and its slots take more.
-CRATE = os.path.join(ROOT, "crates", "ca_run_tests")
-TESTS = os.path.join(CRATE, "out", "ca_run_tests_tests")
+# The tests of the libraries, the one of a refused leap, and how many allocations it makes at least: the leaper's memo, its store, its trees and its slots take more.
+CRATE = os.path.join(ROOT, "crates", "ca_library_tests")
+TESTS = os.path.join(CRATE, "out", "ca_library_tests_tests")
 LEAP, FEWEST = "tests::generations::a_refused_leap_goes_on", 20
 
 # Files of larger patterns, a soup in both formats, of which each allocation of `show`, of `convert` to either format and of `draw` is refused.
@@ -232,7 +232,7 @@ def try_for_good(tally, refusing, _):
 
 
 def are_built():
-    """Whether the tests of ca_run are there, or could be built."""
+    """Whether the tests of the libraries are there, or could be built."""
     if not os.access(TESTS, os.X_OK):
         subprocess.run(["rt", "test"], cwd=CRATE, stdin=subprocess.DEVNULL, stdout=subprocess.DEVNULL, stderr=subprocess.DEVNULL, check=False)
     return os.access(TESTS, os.X_OK)
@@ -241,7 +241,7 @@ def are_built():
 def try_leap(tally, refusing, _):
     """Each allocation of the test of a refused leap in turn: it passes as with ample memory."""
     if not are_built():
-        tally.tell("refused leaps", ["the tests of ca_run_tests could not be built"])
+        tally.tell("refused leaps", ["the tests of ca_library_tests could not be built"])
         return
     outcomes = refusing.until_unmet([LEAP], "REFUSE", itertools.count(1), program=TESTS)
     complaints = [f"allocation {number}: {it}" for number, it in outcomes.items() if (it.complaint, it.status) != (b"", 0)]
