@@ -14,7 +14,7 @@ MADE = os.path.join("crates", PROGRAM, "out", "unproved", PROGRAM)
 OF_SOURCE = re.compile(r"^.*\.rt:\d+:\d+: error.*$", re.MULTILINE)
 
 # The seconds that each test of a crate has, so that a busy machine fails none.
-MOST_SECONDS = "1000"
+MOST_SECONDS = "3000"
 
 # A test of a crate that failed, and not for want of time, and the last line where all ran.
 FAILED_TEST = re.compile(r"^test (\S+ \.\.\. FAILED)\n(?!.*no-answer)", re.MULTILINE)
