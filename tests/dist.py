@@ -13,7 +13,7 @@ import tarfile
 from lib.parts import try_all
 from lib.program import PROGRAM, Folder, Outcome, ample, contents, fault
 from lib.quoted import QUOTED
-from lib.checked_repository import CI, KEPT, SHARE, TIME, VERDICTS, CheckedRepository
+from lib.checked_repository import CI, FASTER, KEPT, SHARE, TIME, VERDICTS, CheckedRepository
 from lib.unpacked import Unpacked
 
 # How roff spells characters.
@@ -58,6 +58,8 @@ def try_checkouts(tally, files):
     got = repository.check()
     wanted = CI.replace("4 passed, 0 failed\n", "== tests/small.py\npassed a test\n5 passed, 0 failed\n")
     tally.expect("a check prints what it did, and nothing of the record", got, ample(wanted.encode()))
+    began, made = (os.stat(it).st_mtime for it in (os.path.join(repository.tools, "rt.began"), repository.program))
+    tally.tell("what is edited during a check is newer than its program", [] if made < began else [f"{made} isn't before {began}"])
     for name, remedy in (("git", "what is committed: install it"), ("rt", "which kit this is: install a kit of Rattle")):
         refusals.expect(f"no {name}", f"there is no command {name} on the path, which tells {remedy} first", PATH=repository.without(name))
     refusals.expect("another kit", "./check ran with another kit of Rattle: run ./check again", KIT="another-kit")
@@ -119,13 +121,36 @@ def try_programs(tally, files):
     tally.tell("the program is there again", [] if got.status == 0 else [str(got)])
 
 
+def names_in(archive):
+    """The names of an archive, without the folder that all are in."""
+    with tarfile.open(fileobj=io.BytesIO(gzip.decompress(archive))) as file:
+        return [it.partition("/")[2] for it in file.getnames()]
+
+
+def try_faster(tally, files):
+    """A program for processors of a higher level is packed only if ./build made it of this commit alone, and said its sum."""
+    repository = CheckedRepository(files.folder)
+    repository.check()
+    commit = repository.git("rev-parse", "HEAD")
+    note = b"cafile: packed without x86-64-v3/cafile, which ./build makes of a commit on such a processor\n"
+    for name, more in (("none", None), ("another commit", {"commits": [commit, "0" * 40]}), ("an edit", {"changes": [["build"], []]}), ("no level", {"level": None}),
+                       ("another sum", {"sum": "0" * 64}), ("a record of another kind", {"other": 1}), ("this commit", {})):
+        if more is not None:
+            repository.build(FASTER, **more)
+        got = repository.dist()
+        found = names_in(contents(repository.path("out/" + "".join(repository.archives()))))
+        is_packed = "x86-64-v3/cafile" in found
+        well = got.status == 0 and is_packed == (more == {}) and got.complaint == (b"" if is_packed else note) and "cafile" in found
+        tally.tell(f"a faster program: {name}", [] if well else [str(got), str(found)])
+
+
 def heads_of(archive):
     """What is wrong with the names, owners, modes and times of an archive."""
     with tarfile.open(fileobj=io.BytesIO(gzip.decompress(archive))) as file:
         members = file.getmembers()
     names = [it.name for it in members]
     top = names[0]
-    runnable = {top + "/cafile"}
+    runnable = {top + "/cafile", top + "/x86-64-v3/cafile"}
     complaints = [] if names == sorted({*names}) and all(it == top or it.startswith(top + "/") for it in names) else [f"names: {names}"]
     for it in members:
         wanted = 0o755 if it.isdir() or it.name in runnable else 0o644
@@ -146,6 +171,7 @@ def try_archive(unpacked):
     tally.tell("the heads of its files", heads_of(archive))
     tally.tell("the same bytes again", [] if archive == unpacked.again else ["differ"])
     tally.tell("the program is the one under test", [] if contents(unpacked.path("cafile")) == contents(PROGRAM) else ["differs"])
+    tally.tell("the faster program is the one that was built", [] if contents(unpacked.path("x86-64-v3/cafile")) == FASTER else ["differs"])
 
 
 def try_proved(unpacked):
@@ -156,6 +182,7 @@ def try_proved(unpacked):
     verdicts = [f"# low: {VERDICTS['low']}", f"# {KEPT}", f"# right: {VERDICTS['right']}", f"# cafile: {VERDICTS['cafile']}"]
     wanted = [
         f"# cafile {version}, whose answers are proved.",
+        "# x86-64-v3/cafile is made of the same proved sources by ./build, for processors of that level. The tests ran over cafile.",
         f"# Commit: {unpacked.commit}", "# Kit: some-kit logic 0123", "# ./check ended with: 5 passed, 0 failed", f"# rt ci ended with: {SHARE}",
         "#", "# What rt ci said of each crate, on the machine where it ran:", *verdicts,
         "#", "# The SHA-256 sum of each other file, which `sha256sum -c PROVED` checks:"]
@@ -319,4 +346,4 @@ def try_unpacked(tally, files):
 
 
 if __name__ == "__main__":
-    try_all(try_checkouts, try_checks, try_programs, try_unpacked)
+    try_all(try_checkouts, try_checks, try_programs, try_faster, try_unpacked)

@@ -1,4 +1,6 @@
 """A small repository with ./check and ./dist, over an `rt` that proves nothing and puts a program in place."""
+import hashlib
+import json
 import os
 import shutil
 import subprocess
@@ -15,6 +17,7 @@ if [ "$1" = version ]; then
     echo "${KIT:-some-kit logic 0123}"
     exit 0
 fi
+touch "$0.began"
 cat "$0.ci"
 [ -z "$IS_OPEN" ] || exit 1
 mkdir -p crates/cafile/out && cp "$0.program" crates/cafile/out/cafile
@@ -60,6 +63,10 @@ print("1 passed, 0 failed")
 
 # When its first commit was made, in seconds since 1970: 9 September 2001.
 TIME = 1000000000
+
+
+# A program for processors of a higher level.
+FASTER = b"#!/bin/sh\necho faster\n"
 
 
 class CheckedRepository(Folder):
@@ -118,6 +125,14 @@ class CheckedRepository(Folder):
         """The outcome of ./check."""
         return self.run([self.path("check")], **more)
 
+    def build(self, program, level="x86-64-v3", **more):
+        """Leaves the record that ./build leaves of a program, for processors of this level, of the commit that is there."""
+        commit, folder = self.git("rev-parse", "HEAD"), Folder(os.path.join(self.folder, "out", "build"))
+        os.makedirs(folder.folder, exist_ok=True)
+        folder.path("cafile", program)
+        record = {"commits": [commit, commit], "changes": [[], []], "level": level, "sum": hashlib.sha256(program).hexdigest(), **more}
+        folder.path("record.json", json.dumps(record))
+
     def restore(self, commit="HEAD"):
         """Goes back to a commit, without what came after it and what isn't committed."""
         self.git("reset", "--quiet", "--hard", commit)
@@ -137,6 +152,6 @@ class CheckedRepository(Folder):
         return plain
 
     def archives(self):
-        """The names of what stands in out/, but the record."""
+        """The names of what stands in out/, but the records."""
         out = os.path.join(self.folder, "out")
-        return sorted({*(os.listdir(out) if os.path.exists(out) else ())} - {"check"})
+        return sorted({*(os.listdir(out) if os.path.exists(out) else ())} - {"build", "check"})

@@ -5,7 +5,7 @@ import shutil
 import subprocess
 
 from lib.program import Folder, Outcome, contents
-from lib.checked_repository import TIME, CheckedRepository
+from lib.checked_repository import FASTER, TIME, CheckedRepository
 
 # An option's line in a list of help: its short name, its name, its value, and its possible values.
 OPTION = re.compile(r"^ +(?:(-\w), )?(--[a-z-]+)(?: <([A-Z,]+)>)?  .*?(?:\[possible values: (.*)\])?$", re.MULTILINE)
@@ -19,6 +19,7 @@ class Unpacked(Folder):
         repository = CheckedRepository(room)
         self.commit = repository.git("rev-parse", "HEAD")
         repository.check()
+        repository.build(FASTER)
         self.outcome = repository.dist()
         if self.outcome.status != 0:
             raise RuntimeError(f"./dist: {self.outcome}")
