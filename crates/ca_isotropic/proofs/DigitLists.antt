@@ -9,7 +9,7 @@ use Rattle.ca_rule.specs.declared.hood.Hood.TheVariants.{Moore}
 use Rattle.ca_rule.proofs.PrintedRules.{below_nine}
 use Rattle.ca_rule.proofs.ReadInwards.{digits-of}
 use Rattle.ca_isotropic.specs.Prelude.{live_neighbours, letter_of, parts, part_has, has_kind, isotropic_next, AreNineCells, counted_next}
-use Rattle.ca_isotropic.specs.inner.WrittenTables.{neighbourhoods}
+use Rattle.ca_isotropic.specs.WrittenTables.{neighbourhoods}
 use Rattle.ca_isotropic.proofs.Neighbourhoods.{each}
 
 digit-parts : (ds : List ℕ) → Every is_digit ds → parts ds ≡ map (λ d. d ∷ []) ds

@@ -4,7 +4,7 @@ use Rattle.std.specs.List.{list_all}
 use Rattle.std.proofs.lemmas.Bool.{and_parts}
 use Rattle.std.proofs.lemmas.Bool.Decides.{nat_tests}
 use Rattle.ca_isotropic.specs.Prelude.{turned, mirrored, letter_of, kinds_of, has_no_letter, has_kind, map_next, AreNineCells, counted_next, life_characters}
-use Rattle.ca_isotropic.specs.inner.WrittenTables.{neighbourhoods}
+use Rattle.ca_isotropic.specs.WrittenTables.{neighbourhoods}
 use Rattle.ca_isotropic.proofs.WrittenNext.{Holds, all-held}
 
 of-held : (test : List ℕ → Bool) (ms : List (List ℕ)) (nine : List ℕ) → list_all test ms ≡ true → Holds nine ms → test nine ≡ true

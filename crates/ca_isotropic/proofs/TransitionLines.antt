@@ -5,7 +5,7 @@ use Rattle.std.proofs.lemmas.Bool.{cases_Bool}
 use Rattle.std.proofs.lemmas.List.{map-append, append-nil}
 use Rattle.std.proofs.lemmas.List.FromFn.{filter_of_map_range_with_len_more}
 use Rattle.ca_plane.specs.Prelude.{text_of, Puts}
-use Rattle.ca_isotropic.specs.inner.WrittenTables.{transition_line, transition_lines, neighbourhood, neighbourhoods, changes}
+use Rattle.ca_isotropic.specs.WrittenTables.{transition_line, transition_lines, neighbourhood, neighbourhoods, changes}
 use Rattle.ca_isotropic.proofs.PutTexts.{put-more}
 
 pub kept : {X : Type 0} (P : X → Type 0) (test : X → Bool) (xs : List X) → AllByRecursion P xs → AllByRecursion P (filter test xs)

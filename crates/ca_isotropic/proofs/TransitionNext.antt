@@ -14,7 +14,7 @@ use Rattle.ca_rule.specs.declared.table.neighbourhood.Symmetry.TheVariants.{Iden
 use Rattle.ca_rule.specs.declared.table.slot.Slot.TheVariants.{Number, Variable}
 use Rattle.ca_rule.specs.inner.TableDistinct.{are_distinct}
 use Rattle.ca_rule.proofs.Distinct.{distinct-take}
-use Rattle.ca_isotropic.specs.inner.WrittenTables.{ring_of, neighbourhoods, changes}
+use Rattle.ca_isotropic.specs.WrittenTables.{ring_of, neighbourhoods, changes}
 use Rattle.ca_isotropic.proofs.WrittenTables.{AreBits, Written, written_transition}
 use Rattle.ca_isotropic.proofs.WrittenNext.{inputs_of, spread, all-held, inputs-tell, next-given, IsOfBits, all-of-bits}
 use Rattle.ca_isotropic.proofs.TransitionLines.{kept}

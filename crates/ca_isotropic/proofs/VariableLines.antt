@@ -10,8 +10,8 @@ use Rattle.ca_plane.proofs.Fronts.{every_append}
 use Rattle.ca_rule.specs.declared.table.slot.Slot.TheVariants.{Number, Variable}
 use Rattle.ca_rule.specs.Prelude.{States, admits, is_field, is_name, IsVariableLine, SaidStatements, StandsFor, SaysVariable, LinesSay, IsTable, table_from, states_among, number_of}
 use Rattle.ca_isotropic.specs.Prelude.{IsTableName}
-use Rattle.ca_isotropic.specs.inner.WrittenTables.{head_lines}
-use Rattle.ca_isotropic.specs.inner.GenerationsTables.{listed_states, least_of, variable_line, variable_lines}
+use Rattle.ca_isotropic.specs.WrittenTables.{head_lines}
+use Rattle.ca_isotropic.specs.GenerationsTables.{listed_states, least_of, variable_line, variable_lines}
 use Rattle.ca_isotropic.proofs.WrittenTables.{is_plain, IsSaid, one-line, no-blanks, no-comment, front-all, keeps-end, something-said, is_field_byte, IsFieldText, joined, plain-field, fields-back, joined-plain, are-fields, slot_text, number-text, number-stands}
 use Rattle.ca_isotropic.proofs.WrittenTables.{Written, written_line, written_transition, settings_of, said_of, IsWritable, IsGood, is-table}
 

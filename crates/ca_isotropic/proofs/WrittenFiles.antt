@@ -13,8 +13,8 @@ use Rattle.ca_rule.specs.declared.{counts.Counts.Counts, table.slot.Slot.Slot}
 use Rattle.ca_rule.specs.declared.table.slot.Slot.TheVariants.{Number, Variable}
 use Rattle.ca_rule.proofs.GenerationsAlike.{liveness-below}
 use Rattle.ca_isotropic.specs.Prelude.{IsTableName, WritesRule}
-use Rattle.ca_isotropic.specs.inner.WrittenTables.{head_lines, ring_of, neighbour_byte, neighbour_bytes, transition_line, transition_lines, neighbourhoods, changes}
-use Rattle.ca_isotropic.specs.inner.GenerationsTables.{listed_states, variable_line, variable_lines, dying_line, dying_lines}
+use Rattle.ca_isotropic.specs.WrittenTables.{head_lines, ring_of, neighbour_byte, neighbour_bytes, transition_line, transition_lines, neighbourhoods, changes}
+use Rattle.ca_isotropic.specs.GenerationsTables.{listed_states, variable_line, variable_lines, dying_line, dying_lines}
 use Rattle.ca_isotropic.proofs.PutTexts.{text-both, put-more, all-append}
 use Rattle.ca_isotropic.proofs.WrittenTables.{joined, joined-more, slot_text, Written, written_line, written_transition, settings_of, said_of, IsWritable, IsGood}
 use Rattle.ca_isotropic.proofs.WrittenNext.{inputs_of, spread, IsOfBits, all-of-bits}

@@ -7,7 +7,7 @@ use Rattle.std.specs.List.{range_with_len, AllByRecursion}
 use Rattle.std.proofs.lemmas.Bool.{cases_Bool}
 use Rattle.std.proofs.lemmas.Bool.Decides.{nat_tests}
 use Rattle.ca_isotropic.specs.Prelude.{number_of}
-use Rattle.ca_isotropic.specs.inner.WrittenTables.{ring_of, neighbourhood, neighbourhoods, changes}
+use Rattle.ca_isotropic.specs.WrittenTables.{ring_of, neighbourhood, neighbourhoods, changes}
 use Rattle.ca_isotropic.proofs.WrittenTables.{AreBits}
 
 -- ---- nine cells by their inputs

@@ -18,7 +18,7 @@ use Rattle.ca_rule.specs.Prelude.{are_digits, state_count, States, Transition, c
 use Rattle.ca_rule.specs.Prelude.{IsTransitionLine, Settings, SaidStatements, StandsFor, SaysTransition, LinesSay, IsTable, table_from}
 use Rattle.ca_rule.proofs.GenerationsPrinted.{are_digits-of, state_count-of}
 use Rattle.ca_isotropic.specs.Prelude.{IsTableName}
-use Rattle.ca_isotropic.specs.inner.WrittenTables.{head_lines}
+use Rattle.ca_isotropic.specs.WrittenTables.{head_lines}
 use Rattle.ca_isotropic.proofs.PutTexts.{all-append}
 
 -- ---- the lines of a text

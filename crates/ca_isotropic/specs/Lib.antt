@@ -3,6 +3,7 @@ pub mod Kinds
 pub mod Isotropic
 pub mod Map
 pub mod TextRules
+pub mod WrittenTables
+pub mod GenerationsTables
 pub mod RuleFiles
 pub mod Examples
-pub mod inner

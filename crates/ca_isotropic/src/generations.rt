@@ -3,9 +3,9 @@
 ghost use Rattle.std.specs.Prelude.{◌≡◌, ◌<◌, ◌≤◌, ◌-◌, ◌∷◌, [], ◌++◌, OnOk, IfOk};
 ghost use Rattle.ca_plane.specs.Prelude.{older, text_of, Puts};
 ghost use Rattle.ca_rule.specs.Prelude.{generations_next};
-ghost use Rattle.ca_isotropic.specs.RuleFiles.{IsTableName, WritesRule};
-ghost use Rattle.ca_isotropic.specs.inner.GenerationsTables.{listed_states, least_of, variable_line, variable_lines};
-ghost use Rattle.ca_isotropic.specs.inner.GenerationsTables.{dying_line, dying_lines};
+ghost use Rattle.ca_isotropic.specs.RuleFiles.{IsTableName, WritesRule, generations_bytes};
+ghost use Rattle.ca_isotropic.specs.GenerationsTables.{listed_states, least_of, variable_line, variable_lines};
+ghost use Rattle.ca_isotropic.specs.GenerationsTables.{dying_line, dying_lines};
 
 use crate::writing::{push_head, push_state, push_transitions};
 use ca_plane::Memory;
@@ -26,8 +26,10 @@ const VARIABLES: u8 = 16;
 /// Fails where there is no memory for it.
 pub fn generations_file(alloc: Global, name: &[u8], rule: &GenRule) -> Result<Vec<u8>, Memory>
     requires { IsTableName name.now }
-    ensures { IfOk result (λ file. WritesRule name.now rule.now.states
+    ensures written { IfOk result (λ file. WritesRule name.now rule.now.states
         (generations_next rule.now.survival rule.now.birth rule.now.states) file.items) }
+    ensures bytes { IfOk result (λ file. file.items ≡ generations_bytes name.now rule.now.states
+        (generations_next rule.now.survival rule.now.birth rule.now.states)) }
 {
     let mut out = Vec::new(alloc);
     push_head(&mut out, name, rule.states)?;

@@ -2,9 +2,9 @@
 
 ghost use Rattle.std.specs.Prelude.{◌≡◌, ◌<◌, ◌/◌, ◌%◌, ◌∷◌, ◌++◌, [], OnOk, IfOk, decimal};
 ghost use Rattle.ca_plane.specs.Prelude.{text_of, Puts};
-ghost use Rattle.ca_isotropic.specs.RuleFiles.{IsTableName, WritesRule};
-ghost use Rattle.ca_isotropic.specs.inner.WrittenTables.{head_lines, neighbour_byte, neighbour_bytes, transition_line};
-ghost use Rattle.ca_isotropic.specs.inner.WrittenTables.{transition_lines, neighbourhood};
+ghost use Rattle.ca_isotropic.specs.RuleFiles.{IsTableName, WritesRule, two_state_bytes};
+ghost use Rattle.ca_isotropic.specs.WrittenTables.{head_lines, neighbour_byte, neighbour_bytes, transition_line};
+ghost use Rattle.ca_isotropic.specs.WrittenTables.{transition_lines, neighbourhood};
 
 use ca_plane::text::{push_number, push_text};
 use ca_plane::{Automaton, Memory, Nine};
@@ -23,7 +23,8 @@ const NEIGHBOURHOODS: u16 = 512;
 pub fn table_file<A: Automaton>(alloc: Global, name: &[u8], rule: &A) -> Result<Vec<u8>, Memory>
     requires named { IsTableName name.now }
     requires two { A.state_count rule.now ≡ 2 }
-    ensures { IfOk result (λ file. WritesRule name.now 2 (A.next_of rule.now) file.items) }
+    ensures written { IfOk result (λ file. WritesRule name.now 2 (A.next_of rule.now) file.items) }
+    ensures bytes { IfOk result (λ file. file.items ≡ two_state_bytes name.now (A.next_of rule.now)) }
 {
     // A rule that tells its states is sound.
     let _states = rule.states();

@@ -1,6 +1,6 @@
 use Rattle.std.proofs.Common.{◌≤◌, ◌-◌}
 use Rattle.ca_plane.specs.Prelude.{text_of, Puts}
-use Rattle.ca_isotropic.specs.inner.GenerationsTables.{dying_lines}
+use Rattle.ca_isotropic.specs.GenerationsTables.{dying_lines}
 use Rattle.ca_isotropic.proofs.generations.push_dying_transitions.Given as goal
 
 -- the transitions of the states before are put

@@ -1,6 +1,6 @@
 use Rattle.std.proofs.Common.{◌≤◌, ◌-◌}
 use Rattle.ca_plane.specs.Prelude.{Puts}
-use Rattle.ca_isotropic.specs.inner.GenerationsTables.{listed_states}
+use Rattle.ca_isotropic.specs.GenerationsTables.{listed_states}
 use Rattle.ca_isotropic.proofs.generations.push_states.Given as goal
 
 -- the states before are put

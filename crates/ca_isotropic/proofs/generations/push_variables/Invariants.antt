@@ -1,5 +1,5 @@
 use Rattle.ca_plane.specs.Prelude.{text_of, Puts}
-use Rattle.ca_isotropic.specs.inner.GenerationsTables.{variable_lines}
+use Rattle.ca_isotropic.specs.GenerationsTables.{variable_lines}
 use Rattle.ca_isotropic.proofs.generations.push_variables.Given as goal
 
 -- the lines of the variables before are put

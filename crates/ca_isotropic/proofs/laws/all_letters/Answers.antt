@@ -1,5 +1,5 @@
 use Rattle.std.proofs.Common.{codes, refl}
-use Rattle.ca_isotropic.specs.inner.WrittenTables.{neighbourhoods}
+use Rattle.ca_isotropic.specs.WrittenTables.{neighbourhoods}
 use Rattle.ca_isotropic.proofs.Neighbourhoods.{same-kinds}
 use Rattle.ca_isotropic.proofs.laws.all_letters.Goals as goal
 

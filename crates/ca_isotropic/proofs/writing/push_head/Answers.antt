@@ -1,6 +1,6 @@
 use Rattle.std.proofs.Common.{[], ◌∷◌, ◌++◌, codes, decimal, sym, ap, ◌∙◌, append_assoc}
 use Rattle.ca_plane.specs.Prelude.{text_of}
-use Rattle.ca_isotropic.specs.inner.WrittenTables.{head_lines}
+use Rattle.ca_isotropic.specs.WrittenTables.{head_lines}
 use Rattle.ca_isotropic.proofs.PutTexts.{then-puts}
 use Rattle.ca_isotropic.proofs.writing.push_head.Goals as goal
 

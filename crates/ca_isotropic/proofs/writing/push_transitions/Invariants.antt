@@ -1,5 +1,5 @@
 use Rattle.ca_plane.specs.Prelude.{text_of, Puts}
-use Rattle.ca_isotropic.specs.inner.WrittenTables.{transition_lines}
+use Rattle.ca_isotropic.specs.WrittenTables.{transition_lines}
 use Rattle.ca_isotropic.proofs.writing.push_transitions.Given as goal
 
 -- the transitions of the numbers before are put

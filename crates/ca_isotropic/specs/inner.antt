@@ -1,3 +1,0 @@
--- Definitions that private contracts alone cite. No public contract rests on them.
-pub mod WrittenTables
-pub mod GenerationsTables
