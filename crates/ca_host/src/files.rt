@@ -1,6 +1,8 @@
 //! Files that are read whole.
 
-ghost use Rattle.std.specs.Prelude.{◌≡◌, ◌≢◌, [], map, IfOk, OnErr};
+ghost use Rattle.std.specs.Prelude.{◌≡◌, ◌≢◌, [], map, Some, None, IfOk, OnErr, MatchOption};
+ghost use Rattle.ca_host.specs.Files.{bytes_at, IsWholeFile};
+ghost use Rattle.ca_host.specs.Sources.{source_remaining};
 
 use crate::streams::Source;
 use ca_pattern::File;
@@ -22,7 +24,10 @@ pub struct LoadedFile {
 
 impl LoadedFile {
     // A file with this path and these bytes.
-    fn new(alloc: Global, path: &[u8], bytes: Vec<u8>) -> Result<LoadedFile, Memory> {
+    fn new(alloc: Global, path: &[u8], bytes: Vec<u8>) -> Result<LoadedFile, Memory>
+        ensures path { IfOk result (λ f. f.path.items ≡ path.now) }
+        ensures bytes { IfOk result (λ f. f.bytes.items ≡ bytes.items) }
+    {
         let path = Vec::from_slice(alloc, path)?;
         Ok(LoadedFile { path, bytes })
     }
@@ -57,13 +62,17 @@ pub fn read_source<R: Files + AllocGlobal>(
     rt: &R,
     path: &str,
     input: Stdin,
-) -> Result<Vec<u8>, InputFault> {
+) -> Result<Vec<u8>, InputFault>
+    ensures { IfOk result (λ v. IsWholeFile (source_remaining R.File.remaining) v.items) }
+{
     let mut source = open_source(rt, path, input)?;
     read_all(rt.alloc(), &mut source)
 }
 
 /// All bytes of a file.
-pub fn read_file<R: Files + AllocGlobal>(rt: &R, path: &str) -> Result<Vec<u8>, InputFault> {
+pub fn read_file<R: Files + AllocGlobal>(rt: &R, path: &str) -> Result<Vec<u8>, InputFault>
+    ensures { IfOk result (λ v. IsWholeFile R.File.remaining v.items) }
+{
     let mut file = Dev::new(open(rt, path)?);
     read_all(rt.alloc(), &mut file)
 }
@@ -101,7 +110,10 @@ pub struct LostFile {
 
 impl LostFile {
     /// The same for a run, whose bytes stay here.
-    pub fn view(&self) -> MissingFile<'_> {
+    pub fn view(&self) -> MissingFile<'_>
+        ensures path { result.path.now ≡ self.now.path.items }
+        ensures why { result.why ≡ self.now.why }
+    {
         MissingFile {
             path: self.path.as_slice(),
             why: self.why,
@@ -293,9 +305,16 @@ pub fn load_once<R: Files + AllocGlobal>(
 }
 
 /// The bytes of the first file with this path.
-pub fn bytes_at<'a>(files: &'a [LoadedFile], path: &[u8]) -> Option<&'a [u8]> {
-    let file = files.iter().find(|file| file.path.as_slice() == path)?;
-    Some(file.bytes.as_slice())
+pub fn bytes_at<'a>(files: &'a [LoadedFile], path: &[u8]) -> Option<&'a [u8]>
+    ensures { MatchOption result (bytes_at files.now path.now ≡ None)
+        (λ bytes. bytes_at files.now path.now ≡ Some bytes.now) }
+{
+    'files: for file in files {
+        if file.path.as_slice() == path {
+            return Some(file.bytes.as_slice());
+        }
+    }
+    None
 }
 
 /// The files as `verify` takes them. It takes memory only where there are some.
@@ -317,7 +336,13 @@ pub fn views<'a>(alloc: Global, loaded: &'a [LoadedFile]) -> Result<Vec<File<'a>
 pub fn missing_files<'a>(
     alloc: Global,
     lost: &'a [LostFile],
-) -> Result<Vec<MissingFile<'a>>, Memory> {
+) -> Result<Vec<MissingFile<'a>>, Memory>
+    ensures paths { IfOk result (λ missing.
+        map (λ f. f.path.now) missing.items ≡ map (λ f. f.path.items) lost.now) }
+    ensures reasons { IfOk result (λ missing.
+        map (λ f. f.why) missing.items ≡ map (λ f. f.why) lost.now) }
+    ensures memory { OnErr result (lost.now ≢ []) }
+{
     let mut missing = Vec::new(alloc);
     'files: for file in lost {
         missing.push(file.view())?;
@@ -329,7 +354,15 @@ pub fn missing_files<'a>(
 pub fn faulty_rules<'a>(
     alloc: Global,
     faulty: &'a [FaultyFile],
-) -> Result<Vec<FaultyRule<'a>>, Memory> {
+) -> Result<Vec<FaultyRule<'a>>, Memory>
+    ensures names { IfOk result (λ rules.
+        map (λ f. f.name.now) rules.items ≡ map (λ f. f.name.items) faulty.now) }
+    ensures paths { IfOk result (λ rules.
+        map (λ f. f.path.now) rules.items ≡ map (λ f. f.path.items) faulty.now) }
+    ensures faults { IfOk result (λ rules.
+        map (λ f. f.fault) rules.items ≡ map (λ f. f.fault) faulty.now) }
+    ensures memory { OnErr result (faulty.now ≢ []) }
+{
     let mut rules = Vec::new(alloc);
     'files: for file in faulty {
         rules.push(file.view())?;

@@ -35,6 +35,10 @@ pub enum Source<F> {
 }
 
 impl<F: Read> Read for Source<F> {
+    ghost use Rattle.ca_host.specs.Sources.{source_remaining};
+
+    ghost remaining = { source_remaining F.remaining };
+
     fn read(&mut self, buffer: &mut [u8]) -> io::Result<usize> {
         match self {
             Source::File(file) => file.read(buffer),
