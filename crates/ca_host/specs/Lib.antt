@@ -1,3 +1,4 @@
 pub mod Files
 pub mod RuleFiles
 pub mod Sources
+pub mod Unread

@@ -1,10 +1,14 @@
 //! Files that are read whole.
 
-ghost use Rattle.std.specs.Prelude.{◌≡◌, ◌≢◌, [], map, Some, None, IfOk, OnErr, MatchOption};
-ghost use Rattle.ca_host.specs.Files.{bytes_at, IsWholeFile};
+ghost use Rattle.std.specs.Prelude.{◌≡◌, ◌≢◌, ⊤, [], map, true, Some, None, IfOk, OnOk, IfErr, OnErr, MatchOption};
+ghost use Rattle.ca_report.specs.declared.absence.Absence.{Absence};
+ghost use Rattle.ca_host.specs.Files.{bytes_at, place_of, IsFoundAt, IsAbsentAt, GathersFiles, AddsOutcome, LoadsOnce, IsRuleFileOf};
+ghost use Rattle.ca_host.specs.Files.{LacksRuleFile};
+ghost use Rattle.ca_host.specs.Unread.{IsWholeFile, IsUnread};
 ghost use Rattle.ca_host.specs.Sources.{source_remaining};
 
 use crate::streams::Source;
+use crate::whole_files::{Unread, WholeFiles};
 use ca_pattern::File;
 use ca_plane::{Dev, Memory};
 use ca_report::{Absence, FaultyRule, InputFault, MissingFile, path_in, read_all, rule_path};
@@ -121,13 +125,6 @@ impl LostFile {
     }
 }
 
-// Why a file's bytes aren't there: it wasn't read, or memory is out.
-#[derive(Clone, Copy)]
-enum Unread {
-    Absent(Absence),
-    Memory,
-}
-
 /// The files that a claim text needs, in the order of its paths: those that can be read, and the others with the
 /// reason. No other file is opened. Where there is a root, they are looked for there, and none whose path may lead out
 /// of it is opened. Fails where there is no memory for them, of a text that makes a claim.
@@ -136,105 +133,133 @@ pub fn load_needed<R: Files + AllocGlobal>(
     claims: &Claims,
     root: &Option<String>,
 ) -> Result<NeededFiles, Memory>
-    ensures { OnErr result (claims.now.claims ≢ []) }
+    ensures files { IfOk result (GathersFiles (λ _ bytes. IsWholeFile R.File.remaining bytes) (λ _ _. ⊤) root.now claims.now) }
+    ensures memory { OnErr result (claims.now.claims ≢ []) }
+{
+    gather(rt.alloc(), rt, claims, root)
+}
+
+// The same of whatever gives files.
+fn gather<D: WholeFiles>(
+    alloc: Global,
+    disk: &D,
+    claims: &Claims,
+    root: &Option<String>,
+) -> Result<NeededFiles, Memory>
+    ensures files { IfOk result (GathersFiles D.gives D.lacks root.now claims.now) }
+    ensures memory { OnErr result (claims.now.claims ≢ []) }
 {
     let mut files = NeededFiles {
-        loaded: Vec::new(rt.alloc()),
-        missing: Vec::new(rt.alloc()),
+        loaded: Vec::new(alloc),
+        missing: Vec::new(alloc),
     };
     if claims.claim_count() == 0 {
         return Ok(files);
     }
-    let needed = claims.needed(rt.alloc())?;
-    for index in 0..claims.path_count() {
-        if needed.get(index) == Some(&true) {
-            add_file(rt, root, claims.path(index), &mut files)?;
-        }
+    let needed = claims.needed(alloc)?;
+    'paths: for index in 0..claims.path_count() {
+        add_if_needed(
+            alloc,
+            disk,
+            root,
+            claims.path(index),
+            needed[index],
+            &mut files,
+        )?;
     }
     Ok(files)
 }
 
-// Adds the file of a text's path, or why it isn't read.
-fn add_file<R: Files + AllocGlobal>(
-    rt: &R,
+// Adds the file of a text's path, or why it isn't read, where it is needed.
+fn add_if_needed<D: WholeFiles>(
+    alloc: Global,
+    disk: &D,
     root: &Option<String>,
     path: &[u8],
+    is_needed: bool,
     files: &mut NeededFiles,
-) -> Result<(), Memory> {
-    let alloc = rt.alloc();
-    match load_below(rt, root, path) {
-        Ok(bytes) => files.loaded.push(LoadedFile::new(alloc, path, bytes)?)?,
-        Err(Unread::Absent(why)) => {
-            let path = Vec::from_slice(alloc, path)?;
-            files.missing.push(LostFile { path, why })?;
-        }
-        Err(Unread::Memory) => return Err(Memory),
+) -> Result<(), Memory>
+    ensures { OnOk result (AddsOutcome D.gives D.lacks root.now path.now is_needed files.old files.new) }
+{
+    if is_needed {
+        return add_file(alloc, disk, root, path, files);
     }
     Ok(())
 }
 
-// The bytes of a text's file. Where there is a root, it is looked for there, and isn't opened where its path may lead
-// out of it.
-fn load_below<R: Files + AllocGlobal>(
-    rt: &R,
+// Adds the file of a text's path, or why it isn't read.
+fn add_file<D: WholeFiles>(
+    alloc: Global,
+    disk: &D,
     root: &Option<String>,
     path: &[u8],
-) -> Result<Vec<u8>, Unread> {
+    files: &mut NeededFiles,
+) -> Result<(), Memory>
+    ensures { OnOk result (AddsOutcome D.gives D.lacks root.now path.now true files.old files.new) }
+{
+    match bytes_below(alloc, disk, root, path) {
+        Ok(bytes) => {
+            let file = LoadedFile::new(alloc, path, bytes)?;
+            files.loaded.push(file)?;
+            Ok(())
+        }
+        Err(Unread::Absent(why)) => {
+            let path = Vec::from_slice(alloc, path)?;
+            files.missing.push(LostFile { path, why })?;
+            Ok(())
+        }
+        Err(Unread::Memory) => Err(Memory),
+    }
+}
+
+// The bytes of a text's file. Where there is a root, it is looked for there, and isn't opened where its path may lead
+// out of it.
+fn bytes_below<D: WholeFiles>(
+    alloc: Global,
+    disk: &D,
+    root: &Option<String>,
+    path: &[u8],
+) -> Result<Vec<u8>, Unread>
+    ensures found { IfOk result (λ v. IsFoundAt D.gives (place_of root.now path.now) v.items) }
+    ensures absent { IfErr result (IsUnread (IsAbsentAt D.lacks (place_of root.now path.now))) }
+{
     let Some(root) = root else {
-        return load_bytes(rt, path);
+        return disk.bytes_of(path);
     };
-    match path_in(rt.alloc(), root.as_bytes(), path) {
-        Ok(Some(place)) => load_bytes(rt, &place),
+    match path_in(alloc, root.as_bytes(), path) {
+        Ok(Some(place)) => disk.bytes_of(&place),
         Ok(None) => Err(Unread::Absent(Absence::Outside)),
         Err(_) => Err(Unread::Memory),
     }
 }
 
-// The bytes of the file of a path, if the path is UTF-8, and the file can be read and isn't too long.
-fn load_bytes<R: Files + AllocGlobal>(rt: &R, path: &[u8]) -> Result<Vec<u8>, Unread> {
-    let Ok(text) = str::from_utf8(path) else {
-        return Err(Unread::Absent(Absence::NotUtf8));
-    };
-    match read_file(rt, text) {
-        Ok(bytes) => Ok(bytes),
-        Err(InputFault::Read) => Err(Unread::Absent(why_unread(rt, text))),
-        Err(InputFault::TooLong) => Err(Unread::Absent(Absence::TooLong)),
-        Err(InputFault::Memory) => Err(Unread::Memory),
-    }
-}
-
-// Why a file couldn't be read, as far as a further look at its path tells it.
-fn why_unread<R: Files>(rt: &R, path: &str) -> Absence {
-    match fs::metadata(rt, path) {
-        Ok(found) if found.is_dir() => Absence::Folder,
-        Ok(_) => Absence::Unreadable,
-        Err(error) => match error.kind() {
-            ErrorKind::NotFound | ErrorKind::NotADirectory => Absence::NoFile,
-            _ => Absence::Unreadable,
-        },
-    }
-}
-
 // The bytes of the file of a path, if it can be read.
-fn found_bytes<R: Files + AllocGlobal>(rt: &R, path: &[u8]) -> Result<Option<Vec<u8>>, Memory> {
-    match load_bytes(rt, path) {
+fn found_bytes<D: WholeFiles>(disk: &D, path: &[u8]) -> Result<Option<Vec<u8>>, Memory>
+    ensures { IfOk result (λ found. MatchOption found ((why : Absence) × D.lacks path.now why)
+        (λ v. D.gives path.now v.items)) }
+{
+    match disk.bytes_of(path) {
         Ok(bytes) => Ok(Some(bytes)),
         Err(Unread::Absent(_)) => Ok(None),
         Err(Unread::Memory) => Err(Memory),
     }
 }
 
-/// The rule file with this name in a folder, if a file can have the name and it can be read.
-pub fn load_rule_file<R: Files + AllocGlobal>(
-    rt: &R,
+// The rule file with this name in a folder, if a file can have the name and it can be read.
+pub(crate) fn load_rule_file<D: WholeFiles>(
+    alloc: Global,
+    disk: &D,
     folder: &str,
     name: &[u8],
-) -> Result<Option<LoadedFile>, Memory> {
-    let Some(path) = rule_path(rt.alloc(), folder.as_bytes(), name)? else {
+) -> Result<Option<LoadedFile>, Memory>
+    ensures { IfOk result (λ found. MatchOption found (LacksRuleFile D.lacks folder.now name.now)
+        (λ file. IsRuleFileOf D.gives folder.now name.now file.path.items file.bytes.items)) }
+{
+    let Some(path) = rule_path(alloc, folder.as_bytes(), name)? else {
         return Ok(None);
     };
-    match found_bytes(rt, &path)? {
-        Some(bytes) => Ok(Some(LoadedFile::new(rt.alloc(), &path, bytes)?)),
+    match found_bytes(disk, &path)? {
+        Some(bytes) => Ok(Some(LoadedFile::new(alloc, &path, bytes)?)),
         None => Ok(None),
     }
 }
@@ -294,13 +319,33 @@ pub fn load_once<R: Files + AllocGlobal>(
     path: &[u8],
     label: &[u8],
     files: &mut Vec<LoadedFile>,
-) -> Result<(), Memory> {
+) -> Result<(), Memory>
+    ensures ok { OnOk result (LoadsOnce (λ _ bytes. IsWholeFile R.File.remaining bytes) (λ _ _. ⊤)
+        path.now label.now files.old.items files.new.items) }
+    ensures err { OnErr result (files.new.items ≡ files.old.items) }
+{
+    add_once(rt.alloc(), rt, path, label, files)
+}
+
+// The same of whatever gives files.
+fn add_once<D: WholeFiles>(
+    alloc: Global,
+    disk: &D,
+    path: &[u8],
+    label: &[u8],
+    files: &mut Vec<LoadedFile>,
+) -> Result<(), Memory>
+    ensures ok { OnOk result (LoadsOnce D.gives D.lacks path.now label.now files.old.items files.new.items) }
+    ensures err { OnErr result (files.new.items ≡ files.old.items) }
+{
     if bytes_at(files, label).is_some() {
         return Ok(());
     }
-    if let Some(bytes) = found_bytes(rt, path)? {
-        files.push(LoadedFile::new(rt.alloc(), label, bytes)?)?;
-    }
+    let Some(bytes) = found_bytes(disk, path)? else {
+        return Ok(());
+    };
+    let file = LoadedFile::new(alloc, label, bytes)?;
+    files.push(file)?;
     Ok(())
 }
 

@@ -6,6 +6,7 @@ mod files;
 mod progress;
 mod rules;
 mod streams;
+mod whole_files;
 
 pub use files::{
     FaultyFile, LoadedFile, LoadedText, LostFile, NeededFiles, bytes_at, check_folder,

@@ -108,7 +108,7 @@ impl RuleFiles {
         let Some(name) = self.unknown_rule(rt.alloc(), pattern)? else {
             return Ok(None);
         };
-        let Some(file) = load_rule_file(rt, folder, &name)? else {
+        let Some(file) = load_rule_file(rt.alloc(), rt, folder, &name)? else {
             return Ok(None);
         };
         self.keep(rt.alloc(), &name, &file)
