@@ -1,11 +1,13 @@
 -- Tables of rule files, and those that are put after others.
-use Rattle.std.specs.Prelude.{◌≡◌, ◌≢◌, ℕ, ◌⊎◌, List, [], ◌∷◌, ◌++◌, Vec}
+use Rattle.std.specs.Prelude.{◌≡◌, ◌≢◌, ℕ, ◌⊎◌, List, [], ◌∷◌, ◌++◌, Vec, Option, None, Some}
 use Rattle.std.specs.declared.alloc.Global.{Global}
 use Rattle.ca_rule.specs.Prelude.{IsRuleFault, TableRule, IsTableTextFault}
 use Rattle.ca_rule.specs.declared.fault.RuleFault.TheVariants as rule_fault
+use Rattle.ca_host.specs.Files.{Gives, Lacks, IsRuleFileOf, LacksRuleFile}
+use Rattle.ca_host.specs.declared.files.FaultyFile.{FaultyFile}
 use Rattle.ca_host.specs.declared.rules.NamedTable.{NamedTable}
 use Rattle.ca_host.specs.declared.rules.NamedTable.TheVariants.{Good, OtherName, Faulty}
-use Rattle.ca_pattern.specs.Prelude.{HoldsRuleText, IsQuietTable, IsTableFault}
+use Rattle.ca_pattern.specs.Prelude.{HoldsRuleText, IsQuietTable, IsTableFault, IsUnreadFile}
 use Rattle.ca_rule.specs.declared.table.fault.TableFault.TheVariants as table_fault
 use Rattle.ca_report.specs.declared.fault.ToolFault.{ToolFault}
 use Rattle.ca_report.specs.declared.fault.ToolFault.TheVariants.{BadTable, Memory}
@@ -30,14 +32,31 @@ IsBadTable bytes (BadTable fault) = IsTableFault bytes fault
 IsBadTable bytes Memory = IsTableTextFault bytes table_fault.Memory ⊎ ((table : TableRule) × IsQuietTable bytes table)
 IsBadTable bytes told = ⊥
 
--- there is one more, that of some rule file, and it has this name
-abbrev pub AddsTableNamed : (name : List ℕ) → (old new : List TableRule) → Type 0
-AddsTableNamed name old new = (bytes : List ℕ) × (table : TableRule) × IsQuietTable bytes table × (table.name ≡ name) × (new ≡ old ++ table ∷ [])
-
 -- this is the rule text of a pattern file with these bytes, and it names no rule: none in its own notation, and none of the tables
 abbrev pub IsUnknownRuleOf : (bytes : List ℕ) → List TableRule → (name : List ℕ) → Type 0
 IsUnknownRuleOf bytes tables name = HoldsRuleText name bytes × IsRuleFault name tables rule_fault.Unknown
 
--- there is one more, of the name that is such a rule text
-abbrev pub AddsTableFor : (bytes : List ℕ) → (old new : List TableRule) → Type 0
-AddsTableFor bytes old new = (name : List ℕ) × IsUnknownRuleOf bytes old name × AddsTableNamed name old new
+-- the pattern file isn't read, or its rule text has no such fault
+abbrev pub HasNoUnknownRule : (bytes : List ℕ) → List TableRule → Type 0
+HasNoUnknownRule bytes tables = IsUnreadFile bytes ⊎ ((text : List ℕ) × HoldsRuleText text bytes × (IsRuleFault text tables rule_fault.Unknown → ⊥))
+
+-- tables and paths of rule files
+pub record Kept : Type 0 where
+  pub tables : List TableRule
+  pub paths : List (Vec ℕ Global)
+
+-- there is one more table, that of the rule file with these bytes, and it has this name; and its path
+pub record AddsRuleFile (name path bytes : List ℕ) (old new : Kept) : Type 0 where
+  pub added : (table : TableRule) × IsQuietTable bytes table × (table.name ≡ name) × (new.tables ≡ old.tables ++ table ∷ [])
+  pub beside : AddsPath path old.paths new.paths
+
+-- a rule file with this path and these bytes that was looked for by a name is added, where it has a good table of that name; is let go, where it has one of another; and is told where it is faulty
+abbrev pub IsKept : (name path bytes : List ℕ) → Option FaultyFile → (old new : Kept) → Type 0
+IsKept name path bytes None old new = AddsRuleFile name path bytes old new ⊎ ((new ≡ old) × ((table : TableRule) × IsQuietTable bytes table × (table.name ≢ name)))
+IsKept name path bytes (Some file) old new = (new ≡ old) × (file.name.items ≡ name) × (file.path.items ≡ path) × IsTableFault bytes file.fault
+
+-- for a pattern file with these bytes whose rule is unknown, the rule file of that rule's name in the folder is so kept, where there is one; else nothing is
+abbrev pub KeepsFound : Gives → Lacks → (folder pattern : List ℕ) → Option FaultyFile → (old new : Kept) → Type 0
+KeepsFound gives lacks folder pattern found old new =
+    ((new ≡ old) × (found ≡ None) × (HasNoUnknownRule pattern old.tables ⊎ ((name : List ℕ) × IsUnknownRuleOf pattern old.tables name × LacksRuleFile lacks folder name)))
+    ⊎ ((name : List ℕ) × IsUnknownRuleOf pattern old.tables name × ((path : List ℕ) × (bytes : List ℕ) × IsRuleFileOf gives folder name path bytes × IsKept name path bytes found old new))

@@ -1,13 +1,14 @@
 //! The rule files of a run, and those that are looked for in a folder by the name of a rule.
 
-ghost use Rattle.std.specs.Prelude.{◌≡◌, ◌⊎◌, [], ◌∷◌, ◌++◌, IfOk, IfErr, IfSome, OnOk, OnErr, vec_len};
+ghost use Rattle.std.specs.Prelude.{◌≡◌, ⊤, [], ◌∷◌, ◌++◌, IfOk, IfErr, OnOk, OnErr, MatchOption, vec_len};
 ghost use Rattle.ca_rule.specs.Prelude.{IsTableTextFault};
 ghost use Rattle.ca_rule.specs.declared.table.fault.TableFault.TheVariants as table_fault;
-ghost use Rattle.ca_host.specs.RuleFiles.{IsNamedTable, AddsTableOf, AddsPath, AddsTableNamed, AddsTableFor};
-ghost use Rattle.ca_host.specs.RuleFiles.{IsBadTable, IsUnknownRuleOf};
-ghost use Rattle.ca_pattern.specs.Prelude.{IsTableFault};
+ghost use Rattle.ca_host.specs.RuleFiles.{IsNamedTable, AddsTableOf, AddsPath, IsBadTable, IsUnknownRuleOf};
+ghost use Rattle.ca_host.specs.RuleFiles.{HasNoUnknownRule, IsKept, KeepsFound, Kept};
+ghost use Rattle.ca_host.specs.Unread.{IsWholeFile};
 
 use crate::files::{FaultyFile, LoadedFile, load_rule_file};
+use crate::whole_files::WholeFiles;
 use ca_pattern::rule_text_of;
 use ca_plane::Memory;
 use ca_report::ToolFault;
@@ -57,7 +58,8 @@ pub struct RuleFiles {
 impl RuleFiles {
     /// None yet.
     pub fn new(alloc: Global) -> RuleFiles
-        ensures { result.tables.items ≡ [] }
+        ensures tables { result.tables.items ≡ [] }
+        ensures paths { result.paths.items ≡ [] }
     {
         RuleFiles {
             paths: Vec::new(alloc),
@@ -76,6 +78,7 @@ impl RuleFiles {
         ensures path { OnOk result (AddsPath path.now self.old.paths.items self.new.paths.items) }
         ensures fault { IfErr result (IsBadTable bytes.now) }
         ensures err { OnErr result (self.new.tables.items ≡ self.old.tables.items) }
+        ensures err_paths { OnErr result (self.new.paths.items ≡ self.old.paths.items) }
     {
         let table = match Table::parse(alloc, bytes) {
             Ok(table) => table,
@@ -102,21 +105,42 @@ impl RuleFiles {
         folder: &str,
         pattern: &[u8],
     ) -> Result<Option<FaultyFile>, Memory>
-        ensures { (self.new.tables.items ≡ self.old.tables.items)
-            ⊎ AddsTableFor pattern.now self.old.tables.items self.new.tables.items }
+        ensures found { IfOk result (λ found.
+            KeepsFound (λ _ bytes. IsWholeFile R.File.remaining bytes) (λ _ _. ⊤) folder.now pattern.now found
+            (record { tables = self.old.tables.items; paths = self.old.paths.items })
+            (record { tables = self.new.tables.items; paths = self.new.paths.items })) }
+        ensures tables { OnErr result (self.new.tables.items ≡ self.old.tables.items) }
+        ensures paths { OnErr result (self.new.paths.items ≡ self.old.paths.items) }
     {
-        let Some(name) = self.unknown_rule(rt.alloc(), pattern)? else {
+        self.find_in(rt.alloc(), rt, folder, pattern)
+    }
+
+    // The same of whatever gives files.
+    fn find_in<D: WholeFiles>(
+        &mut self,
+        alloc: Global,
+        disk: &D,
+        folder: &str,
+        pattern: &[u8],
+    ) -> Result<Option<FaultyFile>, Memory>
+        ensures found { IfOk result (λ found. KeepsFound D.gives D.lacks folder.now pattern.now found
+            (record { tables = self.old.tables.items; paths = self.old.paths.items })
+            (record { tables = self.new.tables.items; paths = self.new.paths.items })) }
+        ensures tables { OnErr result (self.new.tables.items ≡ self.old.tables.items) }
+        ensures paths { OnErr result (self.new.paths.items ≡ self.old.paths.items) }
+    {
+        let Some(name) = self.unknown_rule(alloc, pattern)? else {
             return Ok(None);
         };
-        let Some(file) = load_rule_file(rt.alloc(), rt, folder, &name)? else {
+        let Some(file) = load_rule_file(alloc, disk, folder, &name)? else {
             return Ok(None);
         };
-        self.keep(rt.alloc(), &name, &file)
+        self.keep(alloc, &name, &file)
     }
 
     // The rule text of a pattern file that is read, where its rule is unknown.
     fn unknown_rule(&self, alloc: Global, pattern: &[u8]) -> Result<Option<Vec<u8>>, Memory>
-        ensures { IfOk result (λ found. IfSome found
+        ensures { IfOk result (λ found. MatchOption found (HasNoUnknownRule pattern.now self.now.tables.items)
             (λ name. IsUnknownRuleOf pattern.now self.now.tables.items name.items)) }
     {
         let Some(text) = rule_text_of(alloc, pattern)? else {
@@ -135,10 +159,11 @@ impl RuleFiles {
         name: &[u8],
         file: &LoadedFile,
     ) -> Result<Option<FaultyFile>, Memory>
-        ensures kept { (self.new.tables.items ≡ self.old.tables.items)
-            ⊎ AddsTableNamed name.now self.old.tables.items self.new.tables.items }
-        ensures faulty { IfOk result (λ found. IfSome found
-            (λ f. IsTableFault file.now.bytes.items f.fault)) }
+        ensures kept { IfOk result (λ found. IsKept name.now file.now.path.items file.now.bytes.items found
+            (record { tables = self.old.tables.items; paths = self.old.paths.items })
+            (record { tables = self.new.tables.items; paths = self.new.paths.items })) }
+        ensures tables { OnErr result (self.new.tables.items ≡ self.old.tables.items) }
+        ensures paths { OnErr result (self.new.paths.items ≡ self.old.paths.items) }
     {
         let file = file.view();
         match table_named(alloc, name, file.bytes)? {
@@ -156,6 +181,7 @@ impl RuleFiles {
         ensures ok { OnOk result (self.new.tables.items ≡ self.old.tables.items ++ table ∷ []) }
         ensures path { OnOk result (AddsPath path.now self.old.paths.items self.new.paths.items) }
         ensures err { OnErr result (self.new.tables.items ≡ self.old.tables.items) }
+        ensures err_paths { OnErr result (self.new.paths.items ≡ self.old.paths.items) }
     {
         let path = Vec::from_slice(alloc, path)?;
         self.paths.push(path)?;
