@@ -1,1 +1,4 @@
 pub mod Words
+pub mod Values
+pub mod Requests
+pub mod RawWords

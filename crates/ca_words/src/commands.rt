@@ -9,6 +9,9 @@ mod rule;
 mod show;
 mod verify;
 
+ghost use Rattle.std.specs.Prelude.{IfOk, map};
+ghost use Rattle.ca_words.specs.Requests.{IsAskedFor};
+
 use crate::request::{Request, WordsFault};
 use clap::{ArgMatches, Command};
 pub use identify::Search;
@@ -59,7 +62,9 @@ pub fn request_of(
     alloc: Global,
     matches: &ArgMatches<'_>,
     raw: Vec<Vec<u8>>,
-) -> Result<Request, WordsFault> {
+) -> Result<Request, WordsFault>
+    ensures { IfOk result (IsAskedFor matches.now (map (λ word. word.items) raw.items)) }
+{
     match matches.subcommand() {
         Some(("identify", words)) => identify::request(alloc, words, raw),
         _ if !raw.is_empty() => Err(WordsFault::Usage),

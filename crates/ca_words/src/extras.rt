@@ -1,11 +1,11 @@
 //! What a run is asked for besides claims or patterns, and how much each of these may take.
 
-ghost use Rattle.std.specs.Prelude.{◌≡◌, codes};
+ghost use Rattle.std.specs.Prelude.{◌≡◌};
 ghost use Rattle.ca_pattern.specs.Prelude.{AreGoodLimits};
-ghost use Rattle.ca_words.specs.Words.{IsNumberAfter, memo_of, work_of, squares_of};
+ghost use Rattle.ca_words.specs.{Words.memo_of, Words.work_of, Words.squares_of, Requests.AreExtras};
 
 use crate::arguments::{MOST_MEMORY, flag_word, memo_word, memory_word, work_word};
-use crate::values::number_value;
+use crate::values::{flag_value, number_value};
 use ca_pattern::Limits;
 use ca_plane::limits::MOST_MEMO;
 use clap::{ArgMatches, Command};
@@ -79,14 +79,11 @@ pub fn with_extras<'a>(alloc: Global, command: Command<'a>) -> Result<Command<'a
 
 /// What the words ask for.
 pub fn extras_of(words: &ArgMatches<'_>) -> Extras
-    ensures memo { IsNumberAfter words.now (codes "memo") result.memo }
-    ensures work { IsNumberAfter words.now (codes "work") result.work }
-    ensures memory { IsNumberAfter words.now (codes "max-memory") result.memory }
+    ensures { AreExtras words.now result }
 {
-    let explained = words.get_flag("explain");
     Extras {
-        explained,
-        progress: words.get_flag("progress"),
+        explained: flag_value(words, "explain"),
+        progress: flag_value(words, "progress"),
         memo: number_value(words, "memo"),
         work: number_value(words, "work"),
         memory: number_value(words, "max-memory"),

@@ -2,6 +2,7 @@
 
 ghost use Rattle.std.specs.Prelude.{◌≡◌, Some, string_bytes, IfOk};
 ghost use Rattle.ca_words.specs.Words.{IsTextAfter, IsNumberAfter};
+ghost use Rattle.ca_words.specs.Values.{IsFlag, AreTextsOf, IsByteAfter, IsTarget};
 
 use crate::request::WordsFault;
 use ca_pattern::Target;
@@ -23,7 +24,9 @@ pub fn values_of(
     alloc: Global,
     words: &ArgMatches<'_>,
     name: &str,
-) -> Result<Vec<String>, WordsFault> {
+) -> Result<Vec<String>, WordsFault>
+    ensures { IfOk result (λ all. AreTextsOf words.now name.now all.items) }
+{
     let Some(values) = words.get_strs(name) else {
         return Err(WordsFault::Usage);
     };
@@ -67,7 +70,28 @@ pub fn number_value(words: &ArgMatches<'_>, name: &str) -> Option<u64>
     words.get_one(name)
 }
 
+/// The number below 256 that is given after a word, where that stands there.
+pub fn byte_value(words: &ArgMatches<'_>, name: &str) -> Option<u8>
+    ensures { IsByteAfter words.now name.now result }
+{
+    words.get_one(name)
+}
+
+/// Whether the words have this flag.
+pub fn flag_value(words: &ArgMatches<'_>, name: &str) -> bool
+    ensures { IsFlag words.now name.now result }
+{
+    let value: Option<bool> = words.get_one(name);
+    value.unwrap_or(false)
+}
+
 /// The format to write, where the words say one.
-pub fn target_of(words: &ArgMatches<'_>) -> Option<Target> {
-    Target::of_word(words.get_str("to")?)
+pub fn target_of(words: &ArgMatches<'_>) -> Option<Target>
+    ensures { IsTarget words.now result }
+{
+    match words.get_str("to") {
+        Some("rle") => Some(Target::Rle),
+        Some("mc") => Some(Target::Mc),
+        _ => None,
+    }
 }

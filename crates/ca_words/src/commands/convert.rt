@@ -1,5 +1,8 @@
 //! The command `convert`.
 
+ghost use Rattle.std.specs.Prelude.{IfOk};
+ghost use Rattle.ca_words.specs.Requests.{IsConvert};
+
 use crate::arguments::{file_word, target_word};
 use crate::commands::pattern::{pattern_help, with_pattern_words, write_request};
 use crate::request::{Request, WordsFault};
@@ -35,7 +38,9 @@ pub fn command<'a>(alloc: Global) -> Result<Command<'a>, AllocError> {
 }
 
 /// What its words ask for.
-pub fn request(alloc: Global, words: &ArgMatches<'_>) -> Result<Request, WordsFault> {
+pub fn request(alloc: Global, words: &ArgMatches<'_>) -> Result<Request, WordsFault>
+    ensures { IfOk result (IsConvert words.now) }
+{
     let Some(target) = target_of(words) else {
         return Err(WordsFault::Usage);
     };

@@ -1,11 +1,14 @@
 //! The command `draw`.
 
-ghost use Rattle.std.specs.Prelude.{◌≡◌, ◌≢◌, ℕ, ◌≤◌, pos, unwrap_or, MatchOption};
+ghost use Rattle.std.specs.Prelude.{◌≡◌, ◌≢◌, ℕ, ◌≤◌, pos, unwrap_or, MatchOption, IfOk, OnOk, IfSome};
 ghost use Rattle.ca_words.specs.Words.{scale_of};
+ghost use Rattle.ca_words.specs.Values.{IsCorner, IsSize, IsSizeText, IsPairText, IsWholeNumberText};
+ghost use Rattle.ca_words.specs.Requests.{IsDraw, IsDrawn, IsImageFormat, IsZoomable};
 
 use crate::arguments::{file_word, value_word, with_rule_words};
 use crate::commands::pattern::{after_word, pattern_help, with_limits, write_request};
 use crate::request::{Request, WordsFault};
+use crate::values::byte_value;
 use ca_draw::{ImageFormat, MOST_SIDE, Size, View};
 use ca_quad::Spot;
 use ca_report::{DrawRequest, Form};
@@ -116,18 +119,20 @@ fn format_word<'a>(alloc: Global) -> Arg<'a> {
 }
 
 /// What its words ask for.
-pub fn request(alloc: Global, words: &ArgMatches<'_>) -> Result<Request, WordsFault> {
+pub fn request(alloc: Global, words: &ArgMatches<'_>) -> Result<Request, WordsFault>
+    ensures { IfOk result (IsDraw words.now) }
+{
     let form = Form::Picture(draw_request(alloc, words)?);
     write_request(alloc, words, form)
 }
 
-fn draw_request(alloc: Global, words: &ArgMatches<'_>) -> Result<DrawRequest, WordsFault> {
+fn draw_request(alloc: Global, words: &ArgMatches<'_>) -> Result<DrawRequest, WordsFault>
+    ensures { IfOk result (IsDrawn words.now) }
+{
     let format = format_of(words);
-    let scale: Option<u8> = words.get_one("scale");
-    let zoom: Option<u8> = words.get_one("zoom");
-    if zoom.is_some() {
-        check_zoom(alloc, format, scale)?;
-    }
+    let scale = byte_value(words, "scale");
+    let zoom = byte_value(words, "zoom");
+    check_zoom(alloc, format, scale, zoom)?;
     let corner = corner_value(alloc, words)?;
     let size = size_of(alloc, words)?;
     Ok(DrawRequest {
@@ -136,7 +141,9 @@ fn draw_request(alloc: Global, words: &ArgMatches<'_>) -> Result<DrawRequest, Wo
     })
 }
 
-fn format_of(words: &ArgMatches<'_>) -> ImageFormat {
+fn format_of(words: &ArgMatches<'_>) -> ImageFormat
+    ensures { IsImageFormat words.now result }
+{
     match words.get_str("to") {
         Some("pgm") => ImageFormat::Pgm,
         _ => ImageFormat::Text,
@@ -144,7 +151,17 @@ fn format_of(words: &ArgMatches<'_>) -> ImageFormat {
 }
 
 // A zoom is one of an image at scale 0.
-fn check_zoom(alloc: Global, format: ImageFormat, scale: Option<u8>) -> Result<(), WordsFault> {
+fn check_zoom(
+    alloc: Global,
+    format: ImageFormat,
+    scale: Option<u8>,
+    zoom: Option<u8>,
+) -> Result<(), WordsFault>
+    ensures { OnOk result (IsZoomable format scale zoom) }
+{
+    if zoom.is_none() {
+        return Ok(());
+    }
     if format != ImageFormat::Pgm {
         return Err(misplaced_zoom(alloc, "without '--to pgm'"));
     }
@@ -174,7 +191,9 @@ fn view_of(corner: Option<Spot>, size: Option<Size>, scale: Option<u8>, zoom: Op
 }
 
 // The cell of `--at X,Y`, where that stands there.
-fn corner_value(alloc: Global, words: &ArgMatches<'_>) -> Result<Option<Spot>, WordsFault> {
+fn corner_value(alloc: Global, words: &ArgMatches<'_>) -> Result<Option<Spot>, WordsFault>
+    ensures { IfOk result (IsCorner words.now) }
+{
     let Some(word) = words.get_str("at") else {
         return Ok(None);
     };
@@ -190,7 +209,9 @@ fn corner_value(alloc: Global, words: &ArgMatches<'_>) -> Result<Option<Spot>, W
 }
 
 // The size of `--size W,H`, where that stands there.
-fn size_of(alloc: Global, words: &ArgMatches<'_>) -> Result<Option<Size>, WordsFault> {
+fn size_of(alloc: Global, words: &ArgMatches<'_>) -> Result<Option<Size>, WordsFault>
+    ensures { IfOk result (IsSize words.now) }
+{
     let Some(word) = words.get_str("size") else {
         return Ok(None);
     };
@@ -205,7 +226,9 @@ fn size_of(alloc: Global, words: &ArgMatches<'_>) -> Result<Option<Size>, WordsF
     }
 }
 
-fn size_from(word: &str) -> Option<Size> {
+fn size_from(word: &str) -> Option<Size>
+    ensures { IfSome result (IsSizeText word.now) }
+{
     let (width, height) = two_numbers(word)?;
     Some(Size {
         width: side_from(width)?,
@@ -224,11 +247,19 @@ fn side_from(number: i128) -> Option<u16>
 }
 
 // The numbers of a word such as `3,-4`.
-fn two_numbers(word: &str) -> Option<(i128, i128)> {
+fn two_numbers(word: &str) -> Option<(i128, i128)>
+    ensures { IfSome result (λ numbers. IsPairText word.now numbers.0 numbers.1) }
+{
     let (first, second) = word.split_once(',')?;
-    match (first.parse(), second.parse()) {
-        (Ok(first), Ok(second)) => Some((first, second)),
-        _ => None,
+    Some((whole_number(first)?, whole_number(second)?))
+}
+
+fn whole_number(word: &str) -> Option<i128>
+    ensures { IfSome result (IsWholeNumberText word.now) }
+{
+    match word.parse() {
+        Ok(number) => Some(number),
+        Err(_) => None,
     }
 }
 

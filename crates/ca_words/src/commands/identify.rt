@@ -1,14 +1,14 @@
 //! The command `identify`.
 
-ghost use Rattle.std.specs.Prelude.{codes};
-ghost use Rattle.ca_words.specs.Words.{IsNumberAfter};
+ghost use Rattle.std.specs.Prelude.{IfOk, map};
+ghost use Rattle.ca_words.specs.Requests.{IsSearch, IsIdentify};
 
 use crate::arguments::{flag_word, path_words, value_word, with_rule_words};
 use crate::commands::pattern::{after_word, pattern_extras};
 use crate::extras::with_extras;
 use crate::raw::path_bytes;
 use crate::request::{Request, WordsFault};
-use crate::values::{number_value, values_of};
+use crate::values::{flag_value, number_value, values_of};
 use ca_plane::limits::LONGEST_PERIOD;
 use clap::{Arg, ArgMatches, Command, value_parser};
 use std::alloc::{AllocError, Global};
@@ -111,7 +111,9 @@ pub fn request(
     alloc: Global,
     words: &ArgMatches<'_>,
     raw: Vec<Vec<u8>>,
-) -> Result<Request, WordsFault> {
+) -> Result<Request, WordsFault>
+    ensures { IfOk result (IsIdentify words.now (map (λ word. word.items) raw.items)) }
+{
     let paths = values_of(alloc, words, "FILE")?;
     let paths = path_bytes(alloc, &paths, raw)?;
     let search = search_of(words);
@@ -124,10 +126,10 @@ pub fn request(
 }
 
 fn search_of(words: &ArgMatches<'_>) -> Search
-    ensures limit { IsNumberAfter words.now (codes "limit") result.limit }
+    ensures { IsSearch words.now result }
 {
     Search {
         limit: number_value(words, "limit"),
-        codes: words.get_flag("apgcode"),
+        codes: flag_value(words, "apgcode"),
     }
 }

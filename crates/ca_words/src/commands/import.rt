@@ -1,7 +1,7 @@
 //! The command `import`.
 
-ghost use Rattle.std.specs.Prelude.{codes, IfOk};
-ghost use Rattle.ca_words.specs.Words.{IsTextAfter};
+ghost use Rattle.std.specs.Prelude.{IfOk};
+ghost use Rattle.ca_words.specs.Requests.{AreImportWords, IsImport};
 
 use crate::arguments::{target_word, value_word};
 use crate::request::{Request, WordsFault};
@@ -65,13 +65,15 @@ fn source_word<'a>(alloc: Global) -> Arg<'a> {
 }
 
 /// What its words ask for.
-pub fn request(alloc: Global, words: &ArgMatches<'_>) -> Result<Request, WordsFault> {
+pub fn request(alloc: Global, words: &ArgMatches<'_>) -> Result<Request, WordsFault>
+    ensures { IfOk result (IsImport words.now) }
+{
     let import = import_of(alloc, words)?;
     Ok(Request::Import(import))
 }
 
 fn import_of(alloc: Global, words: &ArgMatches<'_>) -> Result<ImportWords, WordsFault>
-    ensures rule { IfOk result (λ import. IsTextAfter words.now (codes "rule") import.rule) }
+    ensures { IfOk result (AreImportWords words.now) }
 {
     Ok(ImportWords {
         path: value_of(alloc, words, "FILE")?,

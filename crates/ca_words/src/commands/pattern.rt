@@ -1,8 +1,8 @@
 //! What commands on pattern files share: words for rules, generations and limits, and help on these.
 
-ghost use Rattle.std.specs.Prelude.{◌≡◌, ◌≤◌, codes, IfOk};
+ghost use Rattle.std.specs.Prelude.{◌≡◌, ◌≤◌, IfOk};
 ghost use Rattle.ca_plane.specs.Prelude.{most_generations};
-ghost use Rattle.ca_words.specs.Words.{IsTextAfter, IsNumberAfter, generations_of};
+ghost use Rattle.ca_words.specs.{Words.generations_of, Requests.ArePatternExtras, Requests.IsWritten};
 
 use crate::arguments::{flag_word, memo_word, memory_word, value_word, with_rule_words, work_word};
 use crate::extras::{Extras, extras_of};
@@ -116,7 +116,9 @@ pub fn write_request(
     alloc: Global,
     words: &ArgMatches<'_>,
     form: Form,
-) -> Result<Request, WordsFault> {
+) -> Result<Request, WordsFault>
+    ensures { IfOk result (IsWritten words.now form) }
+{
     let path = value_of(alloc, words, "FILE")?;
     let extras = pattern_extras(alloc, words)?;
     Ok(Request::Write { path, form, extras })
@@ -124,12 +126,7 @@ pub fn write_request(
 
 /// What the words say of rules, generations, and what these may take.
 pub fn pattern_extras(alloc: Global, words: &ArgMatches<'_>) -> Result<PatternExtras, WordsFault>
-    ensures rule { IfOk result (λ extras. IsTextAfter words.now (codes "rule") extras.rule) }
-    ensures folder { IfOk result (λ extras. IsTextAfter words.now (codes "rules") extras.folder) }
-    ensures after { IfOk result (λ extras. IsNumberAfter words.now (codes "after") extras.after) }
-    ensures memo { IfOk result (λ extras. IsNumberAfter words.now (codes "memo") extras.extras.memo) }
-    ensures work { IfOk result (λ extras. IsNumberAfter words.now (codes "work") extras.extras.work) }
-    ensures memory { IfOk result (λ extras. IsNumberAfter words.now (codes "max-memory") extras.extras.memory) }
+    ensures { IfOk result (ArePatternExtras words.now) }
 {
     Ok(PatternExtras {
         rule: path_value(alloc, words, "rule")?,

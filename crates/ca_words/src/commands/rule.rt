@@ -1,5 +1,8 @@
 //! The command `rule`.
 
+ghost use Rattle.std.specs.Prelude.{IfOk};
+ghost use Rattle.ca_words.specs.Requests.{IsRuleFile};
+
 use crate::request::{Request, WordsFault};
 use crate::values::value_of;
 use clap::{Arg, ArgMatches, Command};
@@ -34,7 +37,9 @@ pub fn command<'a>(alloc: Global) -> Result<Command<'a>, AllocError> {
 }
 
 /// What its words ask for.
-pub fn request(alloc: Global, words: &ArgMatches<'_>) -> Result<Request, WordsFault> {
+pub fn request(alloc: Global, words: &ArgMatches<'_>) -> Result<Request, WordsFault>
+    ensures { IfOk result (IsRuleFile words.now) }
+{
     let text = value_of(alloc, words, "TEXT")?;
     Ok(Request::RuleFile { text })
 }

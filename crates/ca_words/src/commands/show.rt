@@ -1,5 +1,8 @@
 //! The command `show`.
 
+ghost use Rattle.std.specs.Prelude.{IfOk};
+ghost use Rattle.ca_words.specs.Requests.{IsShow};
+
 use crate::arguments::file_word;
 use crate::commands::pattern::{pattern_help, with_pattern_words, write_request};
 use crate::request::{Request, WordsFault};
@@ -39,6 +42,8 @@ pub fn command<'a>(alloc: Global) -> Result<Command<'a>, AllocError> {
 }
 
 /// What its words ask for.
-pub fn request(alloc: Global, words: &ArgMatches<'_>) -> Result<Request, WordsFault> {
+pub fn request(alloc: Global, words: &ArgMatches<'_>) -> Result<Request, WordsFault>
+    ensures { IfOk result (IsShow words.now) }
+{
     write_request(alloc, words, Form::Text(TextForm::Summary))
 }

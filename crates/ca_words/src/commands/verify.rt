@@ -1,7 +1,7 @@
 //! The command `verify`.
 
-ghost use Rattle.std.specs.Prelude.{codes, IfOk};
-ghost use Rattle.ca_words.specs.Words.{IsTextAfter};
+ghost use Rattle.std.specs.Prelude.{IfOk};
+ghost use Rattle.ca_words.specs.Requests.{AreFolders, IsVerify};
 
 use crate::arguments::{flag_word, folder_word, path_words, value_word};
 use crate::extras::{extras_of, with_extras};
@@ -119,7 +119,9 @@ pub fn command<'a>(alloc: Global) -> Result<Command<'a>, AllocError> {
 }
 
 /// What its words ask for.
-pub fn request(alloc: Global, words: &ArgMatches<'_>) -> Result<Request, WordsFault> {
+pub fn request(alloc: Global, words: &ArgMatches<'_>) -> Result<Request, WordsFault>
+    ensures { IfOk result (IsVerify words.now) }
+{
     let paths = values_of(alloc, words, "CLAIMS")?;
     let folders = folders_of(alloc, words)?;
     let extras = extras_of(words);
@@ -131,8 +133,7 @@ pub fn request(alloc: Global, words: &ArgMatches<'_>) -> Result<Request, WordsFa
 }
 
 fn folders_of(alloc: Global, words: &ArgMatches<'_>) -> Result<Folders, WordsFault>
-    ensures rules { IfOk result (λ folders. IsTextAfter words.now (codes "rules") folders.rules) }
-    ensures root { IfOk result (λ folders. IsTextAfter words.now (codes "root") folders.root) }
+    ensures { IfOk result (AreFolders words.now) }
 {
     Ok(Folders {
         rules: path_value(alloc, words, "rules")?,
