@@ -1,7 +1,7 @@
 #!/usr/bin/env -S python3 -B
 """The words that the program is started with, and how it reads files.
 
-- Help and version, faulty words, and files that aren't there, can't be read, or are as long as a file may be.
+- Help and version, faulty words, more words than most runs have, and files that aren't there, can't be read, or are as long as a file may be.
 - Standard input, by the path `-`, which no other path is. And /dev/stdin, a path as any, whose bytes a pipe gives once: each file is read once.
 - Files that are cut after each of their bytes, beside the RLE and the macrocell that tests/macrocell.py cuts, and numbers at their limits.
 - Pipes that give bytes for ever, of which a run ends within seconds.
@@ -38,6 +38,9 @@ HELP = {
 
 SHOW, TO_RLE, TO_MC = ["show", "-"], ["convert", "-", "--to", "rle"], ["convert", "-", "--to", "mc"]
 SPREAD_RULE, SPREAD = "examples/tables/spread.rule", "examples/tables/spread_1.rle"
+
+# How many texts without a claim stand before one that has some.
+MANY = 30000
 
 # What `identify --limit 1` tells of that pattern, a plus of five cells: a cell next to one live cell alone becomes live.
 GROWTH = "none of these within 1 generation: 9 cells, in a box of 5 by 5, after 1"
@@ -181,6 +184,13 @@ def try_claim_texts(tally, files):
     tally.expect("a claim text without end", run(["verify", "/dev/zero"]), fault("too long /dev/zero"))
     text = files.path("text.claims", b"load \xff \xfe.rle\nstill \xff\n\x00\n")
     tally.expect("a claim text that isn't UTF-8", run(["verify", text]), fault("claims line 3: syntax"))
+
+
+def try_many_words(tally, files):
+    """A claim text behind many that hold no claim is judged too."""
+    nothing = files.path("n", b"")
+    words = ["verify", *[nothing] * MANY, "examples/block.claims"]
+    tally.expect(f"{MANY} texts and one more", run(words), Outcome(b"examples/block.claims: line 2: yes\n", b"", 0))
 
 
 def try_pipes(tally, files):
@@ -456,7 +466,7 @@ def main():
     tally = Tally()
     for it in (try_help, try_limits_in_help, try_words, try_texts_on_input, try_input_among_texts, try_patterns_on_input, try_once, try_input_in_pieces):
         it(tally)
-    for it in (try_claim_texts, try_pipes, try_patterns, try_faulty_input, try_other_paths, try_cut, try_shown, try_endless):
+    for it in (try_claim_texts, try_many_words, try_pipes, try_patterns, try_faulty_input, try_other_paths, try_cut, try_shown, try_endless):
         with tempfile.TemporaryDirectory() as folder:
             it(tally, Folder(folder))
     tally.finish()

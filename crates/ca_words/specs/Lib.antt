@@ -1,4 +1,5 @@
 pub mod Words
 pub mod Values
-pub mod Requests
 pub mod RawWords
+pub mod Requests
+pub mod Folders

@@ -1,5 +1,8 @@
 //! What the words of the command line ask for.
 
+ghost use Rattle.std.specs.Prelude.{◌≡◌, option_map, string_bytes};
+ghost use Rattle.ca_words.specs.Folders.{folder_of_rules, folder_of_texts};
+
 use crate::commands::{Folders, ImportWords, PatternExtras, Search};
 use crate::extras::Extras;
 use ca_report::Form;
@@ -39,7 +42,9 @@ pub enum Request {
 
 impl Request {
     /// The folder where rule files are looked for, if there is one.
-    pub fn rules_folder(&self) -> Option<&str> {
+    pub fn rules_folder(&self) -> Option<&str>
+        ensures { option_map (λ folder. folder.now) result ≡ folder_of_rules self.now }
+    {
         match self {
             Request::Write { extras, .. } | Request::Identify { extras, .. } => {
                 path_text(&extras.folder)
@@ -50,7 +55,9 @@ impl Request {
     }
 
     /// The folder in which the paths of claim texts are looked for, if there is one.
-    pub fn root(&self) -> Option<&str> {
+    pub fn root(&self) -> Option<&str>
+        ensures { option_map (λ folder. folder.now) result ≡ folder_of_texts self.now }
+    {
         match self {
             Request::Verify { folders, .. } => path_text(&folders.root),
             _ => None,
@@ -58,7 +65,9 @@ impl Request {
     }
 }
 
-fn path_text(path: &Option<String>) -> Option<&str> {
+fn path_text(path: &Option<String>) -> Option<&str>
+    ensures { option_map (λ text. text.now) result ≡ option_map string_bytes path.now }
+{
     match path {
         Some(path) => Some(path.as_str()),
         None => None,
