@@ -1,5 +1,5 @@
 -- What flags, texts and small numbers a command line has.
-use Rattle.std.specs.Prelude.{◌≡◌, ◌≢◌, ℕ, ℤ, pos, ◌<◌, ◌≤◌, ◌^◌, ◌++◌, Bool, true, false, List, ◌∷◌, Option, None, Some, option_map, map, codes, String, string_bytes}
+use Rattle.std.specs.Prelude.{◌≡◌, ◌≢◌, ℕ, ℤ, pos, ◌<◌, ◌≤◌, ◌^◌, ◌++◌, Bool, true, false, List, ◌∷◌, Option, None, Some, is_some, option_map, map, codes, String, string_bytes}
 use Rattle.std.specs.Str.Parse.{IsNumeral, digits_value, without_leading_plus, without_leading_sign, signed_digits_value}
 use Rattle.clap.specs.Matches.{found_of, matched_of, one_text, raw_values, first_value}
 use Rattle.clap.specs.declared.parser.matches.ArgMatches.{ArgMatches}
@@ -7,11 +7,25 @@ use Rattle.ca_pattern.specs.declared.format.Format.{Format}
 use Rattle.ca_pattern.specs.declared.format.Format.TheVariants.{Rle, Mc}
 use Rattle.ca_draw.specs.declared.{view.Size.Size}
 use Rattle.ca_quad.specs.declared.{tree.Spot.Spot}
+use Rattle.ca_words.specs.declared.{request.WordsFault.WordsFault}
+use Rattle.ca_words.specs.declared.request.WordsFault.TheVariants.{Memory}
 
 -- a flag is set exactly where clap has the text `true` for it
 abbrev pub IsFlag : ArgMatches → (name : List ℕ) → Bool → Type 0
 IsFlag words name true = one_text (found_of words) name ≡ Some (codes "true")
 IsFlag words name false = one_text (found_of words) name ≢ Some (codes "true")
+
+-- clap found a value for this word
+abbrev pub IsGiven : ArgMatches → (name : List ℕ) → Type 0
+IsGiven words name = is_some (first_value (found_of words) name) ≡ true
+
+-- where this word is there, it has a value
+abbrev pub HasValueIfThere : ArgMatches → (name : List ℕ) → Type 0
+HasValueIfThere words name = is_some (matched_of (found_of words) name) ≡ is_some (first_value (found_of words) name)
+
+-- the fault is that an allocation failed
+abbrev pub IsWantOfMemory : WordsFault → Type 0
+IsWantOfMemory fault = fault ≡ Memory
 
 -- all the texts of a word, in order
 abbrev pub AreTextsOf : {A : Type 0} → ArgMatches → (name : List ℕ) → List (String A) → Type 0

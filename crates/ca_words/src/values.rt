@@ -1,8 +1,9 @@
 //! The values of a command's words, copied.
 
-ghost use Rattle.std.specs.Prelude.{◌≡◌, Some, string_bytes, IfOk};
+ghost use Rattle.std.specs.Prelude.{◌≡◌, Some, true, is_some, codes, string_bytes, IfOk, IfErr};
+ghost use Rattle.clap.specs.Matches.{found_of, matched_of};
 ghost use Rattle.ca_words.specs.Words.{IsTextAfter, IsNumberAfter};
-ghost use Rattle.ca_words.specs.Values.{IsFlag, AreTextsOf, IsByteAfter, IsTarget};
+ghost use Rattle.ca_words.specs.Values.{IsFlag, AreTextsOf, IsByteAfter, IsTarget, IsGiven, HasValueIfThere, IsWantOfMemory};
 
 use crate::request::WordsFault;
 use ca_pattern::Target;
@@ -11,7 +12,8 @@ use std::alloc::Global;
 
 /// The value of a word that is required.
 pub fn value_of(alloc: Global, words: &ArgMatches<'_>, name: &str) -> Result<String, WordsFault>
-    ensures { IfOk result (λ value. IsTextAfter words.now name.now (Some value)) }
+    ensures value { IfOk result (λ value. IsTextAfter words.now name.now (Some value)) }
+    ensures fault { IsGiven words.now name.now → IfErr result IsWantOfMemory }
 {
     let Some(word) = words.get_str(name) else {
         return Err(WordsFault::Usage);
@@ -25,7 +27,8 @@ pub fn values_of(
     words: &ArgMatches<'_>,
     name: &str,
 ) -> Result<Vec<String>, WordsFault>
-    ensures { IfOk result (λ all. AreTextsOf words.now name.now all.items) }
+    ensures values { IfOk result (λ all. AreTextsOf words.now name.now all.items) }
+    ensures fault { is_some (matched_of (found_of words.now) name.now) ≡ true → IfErr result IsWantOfMemory }
 {
     let Some(values) = words.get_strs(name) else {
         return Err(WordsFault::Usage);
@@ -40,7 +43,8 @@ pub fn values_of(
 }
 
 fn copy_word(alloc: Global, word: &str) -> Result<String, WordsFault>
-    ensures { IfOk result (λ text. string_bytes text ≡ word.now) }
+    ensures text { IfOk result (λ text. string_bytes text ≡ word.now) }
+    ensures fault { IfErr result IsWantOfMemory }
 {
     let Ok(text) = String::from_str(alloc, word) else {
         return Err(WordsFault::Memory);
@@ -54,7 +58,8 @@ pub fn path_value(
     words: &ArgMatches<'_>,
     name: &str,
 ) -> Result<Option<String>, WordsFault>
-    ensures { IfOk result (λ path. IsTextAfter words.now name.now path) }
+    ensures path { IfOk result (λ path. IsTextAfter words.now name.now path) }
+    ensures fault { HasValueIfThere words.now name.now → IfErr result IsWantOfMemory }
 {
     if !words.contains_id(name) {
         return Ok(None);

@@ -1,6 +1,7 @@
 //! The command `convert`.
 
-ghost use Rattle.std.specs.Prelude.{IfOk};
+ghost use Rattle.std.specs.Prelude.{None, codes, IfOk, IfErr};
+ghost use Rattle.ca_words.specs.Values.{IsGiven, HasValueIfThere, IsTarget, IsWantOfMemory};
 ghost use Rattle.ca_words.specs.Requests.{IsConvert};
 
 use crate::arguments::{file_word, target_word};
@@ -39,7 +40,9 @@ pub fn command<'a>(alloc: Global) -> Result<Command<'a>, AllocError> {
 
 /// What its words ask for.
 pub fn request(alloc: Global, words: &ArgMatches<'_>) -> Result<Request, WordsFault>
-    ensures { IfOk result (IsConvert words.now) }
+    ensures request { IfOk result (IsConvert words.now) }
+    ensures fault { IsGiven words.now (codes "FILE") → HasValueIfThere words.now (codes "rule") → HasValueIfThere words.now (codes "rules")
+        → (IsTarget words.now None → ⊥) → IfErr result IsWantOfMemory }
 {
     let Some(target) = target_of(words) else {
         return Err(WordsFault::Usage);

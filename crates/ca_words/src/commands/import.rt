@@ -1,6 +1,7 @@
 //! The command `import`.
 
-ghost use Rattle.std.specs.Prelude.{IfOk};
+ghost use Rattle.std.specs.Prelude.{codes, IfOk, IfErr};
+ghost use Rattle.ca_words.specs.Values.{IsGiven, HasValueIfThere, IsWantOfMemory};
 ghost use Rattle.ca_words.specs.Requests.{AreImportWords, IsImport};
 
 use crate::arguments::{target_word, value_word};
@@ -66,14 +67,16 @@ fn source_word<'a>(alloc: Global) -> Arg<'a> {
 
 /// What its words ask for.
 pub fn request(alloc: Global, words: &ArgMatches<'_>) -> Result<Request, WordsFault>
-    ensures { IfOk result (IsImport words.now) }
+    ensures request { IfOk result (IsImport words.now) }
+    ensures fault { IsGiven words.now (codes "FILE") → HasValueIfThere words.now (codes "rule") → IfErr result IsWantOfMemory }
 {
     let import = import_of(alloc, words)?;
     Ok(Request::Import(import))
 }
 
 fn import_of(alloc: Global, words: &ArgMatches<'_>) -> Result<ImportWords, WordsFault>
-    ensures { IfOk result (AreImportWords words.now) }
+    ensures import { IfOk result (AreImportWords words.now) }
+    ensures fault { IsGiven words.now (codes "FILE") → HasValueIfThere words.now (codes "rule") → IfErr result IsWantOfMemory }
 {
     Ok(ImportWords {
         path: value_of(alloc, words, "FILE")?,

@@ -1,6 +1,7 @@
 //! What commands on pattern files share: words for rules, generations and limits, and help on these.
 
-ghost use Rattle.std.specs.Prelude.{◌≡◌, ◌≤◌, IfOk};
+ghost use Rattle.std.specs.Prelude.{◌≡◌, ◌≤◌, codes, IfOk, IfErr};
+ghost use Rattle.ca_words.specs.Values.{IsGiven, HasValueIfThere, IsWantOfMemory};
 ghost use Rattle.ca_plane.specs.Prelude.{most_generations};
 ghost use Rattle.ca_words.specs.{Words.generations_of, Requests.ArePatternExtras, Requests.IsWritten};
 
@@ -117,7 +118,9 @@ pub fn write_request(
     words: &ArgMatches<'_>,
     form: Form,
 ) -> Result<Request, WordsFault>
-    ensures { IfOk result (IsWritten words.now form) }
+    ensures request { IfOk result (IsWritten words.now form) }
+    ensures fault { IsGiven words.now (codes "FILE") → HasValueIfThere words.now (codes "rule") → HasValueIfThere words.now (codes "rules")
+        → IfErr result IsWantOfMemory }
 {
     let path = value_of(alloc, words, "FILE")?;
     let extras = pattern_extras(alloc, words)?;
@@ -126,7 +129,8 @@ pub fn write_request(
 
 /// What the words say of rules, generations, and what these may take.
 pub fn pattern_extras(alloc: Global, words: &ArgMatches<'_>) -> Result<PatternExtras, WordsFault>
-    ensures { IfOk result (ArePatternExtras words.now) }
+    ensures extras { IfOk result (ArePatternExtras words.now) }
+    ensures fault { HasValueIfThere words.now (codes "rule") → HasValueIfThere words.now (codes "rules") → IfErr result IsWantOfMemory }
 {
     Ok(PatternExtras {
         rule: path_value(alloc, words, "rule")?,

@@ -1,6 +1,7 @@
 //! The command `rule`.
 
-ghost use Rattle.std.specs.Prelude.{IfOk};
+ghost use Rattle.std.specs.Prelude.{codes, IfOk, IfErr};
+ghost use Rattle.ca_words.specs.Values.{IsGiven, IsWantOfMemory};
 ghost use Rattle.ca_words.specs.Requests.{IsRuleFile};
 
 use crate::request::{Request, WordsFault};
@@ -38,7 +39,8 @@ pub fn command<'a>(alloc: Global) -> Result<Command<'a>, AllocError> {
 
 /// What its words ask for.
 pub fn request(alloc: Global, words: &ArgMatches<'_>) -> Result<Request, WordsFault>
-    ensures { IfOk result (IsRuleFile words.now) }
+    ensures request { IfOk result (IsRuleFile words.now) }
+    ensures fault { IsGiven words.now (codes "TEXT") → IfErr result IsWantOfMemory }
 {
     let text = value_of(alloc, words, "TEXT")?;
     Ok(Request::RuleFile { text })

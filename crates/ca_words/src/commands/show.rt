@@ -1,6 +1,7 @@
 //! The command `show`.
 
-ghost use Rattle.std.specs.Prelude.{IfOk};
+ghost use Rattle.std.specs.Prelude.{codes, IfOk, IfErr};
+ghost use Rattle.ca_words.specs.Values.{IsGiven, HasValueIfThere, IsWantOfMemory};
 ghost use Rattle.ca_words.specs.Requests.{IsShow};
 
 use crate::arguments::file_word;
@@ -43,7 +44,9 @@ pub fn command<'a>(alloc: Global) -> Result<Command<'a>, AllocError> {
 
 /// What its words ask for.
 pub fn request(alloc: Global, words: &ArgMatches<'_>) -> Result<Request, WordsFault>
-    ensures { IfOk result (IsShow words.now) }
+    ensures request { IfOk result (IsShow words.now) }
+    ensures fault { IsGiven words.now (codes "FILE") → HasValueIfThere words.now (codes "rule") → HasValueIfThere words.now (codes "rules")
+        → IfErr result IsWantOfMemory }
 {
     write_request(alloc, words, Form::Text(TextForm::Summary))
 }

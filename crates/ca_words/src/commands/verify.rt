@@ -1,6 +1,8 @@
 //! The command `verify`.
 
-ghost use Rattle.std.specs.Prelude.{IfOk};
+ghost use Rattle.std.specs.Prelude.{◌≡◌, true, is_some, codes, IfOk, IfErr};
+ghost use Rattle.clap.specs.Matches.{found_of, matched_of};
+ghost use Rattle.ca_words.specs.Values.{HasValueIfThere, IsWantOfMemory};
 ghost use Rattle.ca_words.specs.Requests.{AreFolders, IsVerify};
 
 use crate::arguments::{flag_word, folder_word, path_words, value_word};
@@ -120,7 +122,9 @@ pub fn command<'a>(alloc: Global) -> Result<Command<'a>, AllocError> {
 
 /// What its words ask for.
 pub fn request(alloc: Global, words: &ArgMatches<'_>) -> Result<Request, WordsFault>
-    ensures { IfOk result (IsVerify words.now) }
+    ensures request { IfOk result (IsVerify words.now) }
+    ensures fault { is_some (matched_of (found_of words.now) (codes "CLAIMS")) ≡ true → HasValueIfThere words.now (codes "rules")
+        → HasValueIfThere words.now (codes "root") → IfErr result IsWantOfMemory }
 {
     let paths = values_of(alloc, words, "CLAIMS")?;
     let folders = folders_of(alloc, words)?;
@@ -133,7 +137,8 @@ pub fn request(alloc: Global, words: &ArgMatches<'_>) -> Result<Request, WordsFa
 }
 
 fn folders_of(alloc: Global, words: &ArgMatches<'_>) -> Result<Folders, WordsFault>
-    ensures { IfOk result (AreFolders words.now) }
+    ensures folders { IfOk result (AreFolders words.now) }
+    ensures fault { HasValueIfThere words.now (codes "rules") → HasValueIfThere words.now (codes "root") → IfErr result IsWantOfMemory }
 {
     Ok(Folders {
         rules: path_value(alloc, words, "rules")?,
