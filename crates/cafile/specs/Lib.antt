@@ -1,3 +1,7 @@
+pub mod Contents
 pub mod ImportFaults
+pub mod Imports
+pub mod NamedRules
+pub mod Runs
 pub mod Scopes
 pub mod Terminals

@@ -1,16 +1,24 @@
 //! The command `identify`.
 
-ghost use Rattle.std.specs.Prelude.{◌≡◌, ◌≤◌};
-ghost use Rattle.ca_plane.specs.Prelude.{longest_period};
+ghost use Rattle.std.specs.Prelude.{◌≡◌, ◌≢◌, ◌≤◌, ◌⊎◌, ◌++◌, ◌∷◌, ℕ, [], length, map, slice_get, false, IfOk, IfErr, IfSome, OnOk, OnErr};
+ghost use Rattle.std.specs.List.{filter_map};
+ghost use Rattle.ca_plane.specs.Prelude.{longest_period, most_generations};
+ghost use Rattle.ca_pattern.specs.Prelude.{AreGoodLimits};
+ghost use Rattle.ca_catalog.specs.Prelude.{is_claim_path};
 ghost use Rattle.cafile.specs.Scopes.{scope_of};
+ghost use Rattle.cafile.specs.Contents.{loaded_at, handed_at, file_at, read_at, StandsForBytes, IsLookedFor};
+ghost use Rattle.cafile.specs.Runs.{IsTask, WritesClaims, EndsClaims};
+ghost use Rattle.cafile.specs.declared.identify.PathContent.{PathContent};
+ghost use Rattle.cafile.specs.declared.identify.FileContent.{FileContent};
 
 use crate::FAULT;
 use ca_answers::{Cause, Scope};
 use ca_catalog_runs::identify_run;
+use ca_evolution::Observer;
 use ca_host::{FaultyFile, Heading, Progress, RuleFiles, Streams, read_file};
 use ca_pattern::File;
-use ca_plane::Memory;
 use ca_plane::limits::LONGEST_PERIOD;
+use ca_plane::{Dev, Memory};
 use ca_report::DetailedFault;
 use ca_tool::{
     Catalog, Content, Fault, InputFault, KnownRules, RunFiles, Subject, Task, ToolFault, complain,
@@ -18,6 +26,7 @@ use ca_tool::{
 };
 use ca_words::{PatternExtras, Search};
 use std::alloc::Global;
+use std::io::Write;
 use std::rt::{Clock, Files};
 
 // What the file of a path gave.
@@ -27,6 +36,13 @@ enum FileContent {
     Missing(Cause),
     // The rule file that has the name of its rule isn't good.
     FaultyRule(FaultyFile),
+}
+
+// A path of the words, and what its file gave.
+#[derive(Drop)]
+struct PathContent<'a> {
+    path: &'a [u8],
+    content: FileContent,
 }
 
 // Why no claim text is written, and the path of the file that this is about.
@@ -74,16 +90,16 @@ fn write_claims<'a, R: Files + Clock + AllocGlobal>(
         check_path(folder.as_str())?;
     }
     let mut rules = rule_files(rt, &extras.rule)?;
-    let Ok(mut contents) = load_contents(rt, paths) else {
+    let Ok(mut loaded) = load_contents(rt, paths) else {
         return Err(Failure::of(OUT_OF_MEMORY));
     };
     if let Some(folder) = &extras.folder {
-        find_rules(rt, folder.as_str(), &mut contents, &mut rules);
+        find_rules(rt, folder.as_str(), &mut loaded, &mut rules);
     }
-    let Ok(files) = read_files(rt.alloc(), paths, &contents) else {
+    let Ok(files) = read_files(rt.alloc(), &loaded) else {
         return Err(Failure::of(OUT_OF_MEMORY));
     };
-    let catalog = match run(rt, paths, &contents, &rules, search, extras, streams) {
+    let catalog = match run(rt, paths, &loaded, &rules, search, extras, streams) {
         Ok(catalog) => catalog,
         Err(fault) => return Err(Failure::of(Fault::Tool(fault))),
     };
@@ -128,20 +144,25 @@ fn rule_files<'a, R: Files + AllocGlobal>(
     }
 }
 
-// What the files of the paths gave, in order. A file that no claim text can name isn't opened, nor is one whose path isn't
-// UTF-8.
-fn load_contents<R: Files + AllocGlobal>(
+// What the files of the paths gave, in order.
+fn load_contents<'a, R: Files + AllocGlobal>(
     rt: &R,
-    paths: &[Vec<u8>],
-) -> Result<Vec<FileContent>, Memory> {
-    let mut contents = Vec::new(rt.alloc());
+    paths: &'a [Vec<u8>],
+) -> Result<Vec<PathContent<'a>>, Memory>
+    ensures { IfOk result (λ loaded. map (λ f. f.path.now) loaded.items ≡ map (λ p. p.items) paths.now) }
+{
+    let mut loaded = Vec::new(rt.alloc());
     'paths: for path in paths {
-        contents.push(load_content(rt, path))?;
+        let content = load_content(rt, path);
+        loaded.push(PathContent { path, content })?;
     }
-    Ok(contents)
+    Ok(loaded)
 }
 
-fn load_content<R: Files + AllocGlobal>(rt: &R, path: &[u8]) -> FileContent {
+// What the file of a path gave. One that no claim text can name isn't opened, nor is one whose path isn't UTF-8.
+fn load_content<R: Files + AllocGlobal>(rt: &R, path: &[u8]) -> FileContent
+    ensures { is_claim_path path.now ≡ false → result ≡ FileContent.Missing Cause.NoFile }
+{
     if !is_claim_path(path) {
         return FileContent::Missing(Cause::NoFile);
     }
@@ -161,23 +182,43 @@ fn load_content<R: Files + AllocGlobal>(rt: &R, path: &[u8]) -> FileContent {
 fn find_rules<R: Files + AllocGlobal>(
     rt: &R,
     folder: &str,
-    contents: &mut [FileContent],
+    loaded: &mut [PathContent<'_>],
     rules: &mut RuleFiles,
-) {
-    for index in 0..contents.len() {
-        if let Some(fault) = find_rule(rt, folder, &contents[index], rules) {
-            contents[index] = fault;
-        }
+)
+    ensures number { length loaded.new ≡ length loaded.old }
+    ensures each { (i : ℕ) (old new : PathContent) → slice_get loaded.old i ≡ Some old → slice_get loaded.new i ≡ Some new
+        → IsLookedFor old new }
+{
+    for index in 0..loaded.len() {
+        find_rule(rt, folder, &mut loaded[index], rules);
     }
 }
 
-// Looks for the rule file of one pattern, and answers what its file gives where that is faulty, or memory is out.
+// Looks for the rule file of the pattern of one file. Where that is faulty, or memory is out, this stands in place of the
+// bytes.
 fn find_rule<R: Files + AllocGlobal>(
+    rt: &R,
+    folder: &str,
+    file: &mut PathContent<'_>,
+    rules: &mut RuleFiles,
+)
+    ensures { IsLookedFor file.old file.new }
+{
+    if let Some(failure) = rule_failure(rt, folder, &file.content, rules) {
+        file.content = failure;
+    }
+}
+
+// Looks for the rule file of a pattern, and answers what stands in place of its bytes where that is faulty, or memory is
+// out.
+fn rule_failure<R: Files + AllocGlobal>(
     rt: &R,
     folder: &str,
     content: &FileContent,
     rules: &mut RuleFiles,
-) -> Option<FileContent> {
+) -> Option<FileContent>
+    ensures { IfSome result (StandsForBytes content.now) }
+{
     let FileContent::Bytes(bytes) = content else {
         return None;
     };
@@ -210,79 +251,122 @@ fn scope_of(limit: Option<u64>) -> Scope
     }
 }
 
+// What is done with each file by the words.
+fn task_of(search: Search, extras: &PatternExtras) -> Task
+    ensures asked { IsTask search extras.now result }
+    ensures few { result.generations ≤ most_generations }
+    ensures limits { AreGoodLimits result.limits }
+    ensures some { 1 ≤ result.scope.limit }
+    ensures most { result.scope.limit ≤ longest_period }
+{
+    Task {
+        generations: extras.after(),
+        limits: extras.extras.limits(),
+        scope: scope_of(search.limit),
+        codes: search.codes,
+    }
+}
+
 // Writes the claim text, and answers what came of the files.
 fn run<'a, R: Files + Clock + AllocGlobal>(
     rt: &R,
     paths: &'a [Vec<u8>],
-    contents: &'a [FileContent],
+    loaded: &'a [PathContent<'a>],
     rules: &RuleFiles,
     search: Search,
     extras: &PatternExtras,
     streams: &mut Streams,
 ) -> Result<Catalog<'a>, ToolFault> {
-    let Ok(subjects) = subjects(rt.alloc(), paths, contents) else {
+    let task = task_of(search, extras);
+    let heading = Heading::Files {
+        paths,
+        after: task.generations,
+        limit: task.scope.limit,
+    };
+    let squares = extras.extras.most_squares();
+    let errors = &mut streams.errors;
+    let mut observer = Progress::new(rt, errors, heading, extras.extras.progress, squares);
+    let output = &mut streams.output;
+    write_text_of(rt.alloc(), loaded, rules, task, output, &mut observer)
+}
+
+// Writes the claim text on these files, under these rule files.
+fn write_text_of<'a, W: Write, O: Observer>(
+    alloc: Global,
+    loaded: &'a [PathContent<'a>],
+    rules: &RuleFiles,
+    task: Task,
+    output: &mut Dev<W>,
+    observer: &mut O,
+) -> Result<Catalog<'a>, ToolFault>
+    requires few { task.generations ≤ most_generations }
+    requires limits { AreGoodLimits task.limits }
+    requires some { 1 ≤ task.scope.limit }
+    requires most { task.scope.limit ≤ longest_period }
+    ensures writes { IfOk result (WritesClaims W.contents output.old output.new rules.now task loaded.now) }
+    ensures ends { IfErr result (λ fault. (fault ≡ ToolFault.Memory) ⊎ EndsClaims W.contents output.old output.new
+        rules.now task loaded.now fault) }
+{
+    let Ok(subjects) = subjects(alloc, loaded) else {
         return Err(ToolFault::Memory);
     };
     let known = KnownRules {
         paths: &rules.paths,
         tables: &rules.tables,
     };
-    let scope = scope_of(search.limit);
-    let heading = Heading::Files {
-        paths,
-        after: extras.after(),
-        limit: scope.limit,
-    };
-    let squares = extras.extras.most_squares();
-    let errors = &mut streams.errors;
-    let mut observer = Progress::new(rt, errors, heading, extras.extras.progress, squares);
-    let task = Task {
-        generations: extras.after(),
-        limits: extras.extras.limits(),
-        scope,
-        codes: search.codes,
-    };
-    identify_run(
-        rt.alloc(),
-        &subjects,
-        &known,
-        task,
-        &mut streams.output,
-        &mut observer,
-    )
+    identify_run(alloc, &subjects, &known, task, output, observer)
 }
 
 // The files as `identify_run` takes them.
-fn subjects<'a>(
-    alloc: Global,
-    paths: &'a [Vec<u8>],
-    contents: &'a [FileContent],
-) -> Result<Vec<Subject<'a>>, Memory> {
+fn subjects<'a>(alloc: Global, loaded: &'a [PathContent<'a>]) -> Result<Vec<Subject<'a>>, Memory>
+    ensures each { IfOk result (λ subjects. map handed_at subjects.items ≡ map loaded_at loaded.now) }
+    ensures memory { OnErr result (loaded.now ≢ []) }
+{
     let mut subjects = Vec::new(alloc);
-    'paths: for (path, content) in paths.iter().zip(contents.iter()) {
-        let content = match content {
-            FileContent::Bytes(bytes) => Content::Bytes(bytes),
-            FileContent::Missing(cause) => Content::Missing(*cause),
-            FileContent::FaultyRule(faulty) => Content::FaultyRule(faulty.view()),
-        };
-        subjects.push(Subject { path, content })?;
+    'files: for file in loaded {
+        subjects.push(subject_of(file))?;
     }
     Ok(subjects)
 }
 
+fn subject_of<'a>(file: &'a PathContent<'a>) -> Subject<'a>
+    ensures { handed_at result ≡ loaded_at file.now }
+{
+    let content = match &file.content {
+        FileContent::Bytes(bytes) => Content::Bytes(bytes),
+        FileContent::Missing(cause) => Content::Missing(*cause),
+        FileContent::FaultyRule(faulty) => Content::FaultyRule(faulty.view()),
+    };
+    Subject {
+        path: file.path,
+        content,
+    }
+}
+
 // The files that were read.
-fn read_files<'a>(
-    alloc: Global,
-    paths: &'a [Vec<u8>],
-    contents: &'a [FileContent],
-) -> Result<Vec<File<'a>>, Memory> {
+fn read_files<'a>(alloc: Global, loaded: &'a [PathContent<'a>]) -> Result<Vec<File<'a>>, Memory>
+    ensures each { IfOk result (λ files. map file_at files.items ≡ filter_map read_at loaded.now) }
+    ensures memory { OnErr result (loaded.now ≢ []) }
+{
     let mut files = Vec::new(alloc);
-    'paths: for (path, content) in paths.iter().zip(contents.iter()) {
-        if let FileContent::Bytes(bytes) = content {
-            files.push(File { path, bytes })?;
-        }
+    'files: for file in loaded {
+        put_read(file, &mut files)?;
     }
     Ok(files)
+}
+
+// Puts the file of a path after the others, if it was read.
+fn put_read<'a>(file: &'a PathContent<'a>, files: &mut Vec<File<'a>>) -> Result<(), Memory>
+    ensures { OnOk result (map file_at files.new.items
+        ≡ map file_at files.old.items ++ filter_map read_at (file.now ∷ [])) }
+{
+    if let FileContent::Bytes(bytes) = &file.content {
+        files.push(File {
+            path: file.path,
+            bytes,
+        })?;
+    }
+    Ok(())
 }
 
 // Tells the line of a faulty rule file that the words name, where that is asked for.

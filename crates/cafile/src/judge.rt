@@ -2,16 +2,20 @@
 
 ghost use Rattle.std.specs.Prelude.{◌≡◌, ◌++◌, [], codes, IfOk, OnErr, IsTrue, if◌then◌else◌};
 ghost use Rattle.ca_report.specs.Prelude.{escaped};
+ghost use Rattle.ca_answers.specs.Prelude.{contents};
+ghost use Rattle.ca_verdict_lines.specs.Prelude.{all_claims, WritesReport};
+ghost use Rattle.ca_words.specs.Words.{work_of};
 
 use crate::FAULT;
 use crate::named_rules::with_named_rules;
+use ca_evolution::Observer;
 use ca_host::{
     Heading, LoadedText, Progress, Streams, faulty_rules, load_needed, missing_files, read_source,
     views,
 };
 use ca_pattern::File;
-use ca_plane::Memory;
 use ca_plane::text::push_text;
+use ca_plane::{Dev, Memory};
 use ca_text::{ClaimFault, Claims, read_claims};
 use ca_tool::{
     Fault, InputFault, ReportStyle, ToolFault, complain, complain_with_path, explain_claims,
@@ -19,6 +23,7 @@ use ca_tool::{
 };
 use ca_words::{Extras, Folders};
 use std::alloc::Global;
+use std::io::Write;
 use std::rt::{Clock, Files};
 
 /// Judges the claim texts of these paths, one after another, and answers the greatest of their exit statuses.
@@ -124,7 +129,7 @@ fn verify_text<R: Files + Clock + AllocGlobal>(
         missing: &missing,
         files: &files,
     };
-    judge(rt, &text.claims, &style, extras, streams, has_note)
+    judge(rt, &text.claims, &style, extras, streams, has_note).map_err(Fault::Tool)
 }
 
 // The claims, and the files that they need. Where there is a folder of rules, rules are looked for there.
@@ -167,24 +172,47 @@ fn judge<R: Files + Clock + AllocGlobal>(
     extras: Extras,
     streams: &mut Streams,
     has_note: &mut bool,
-) -> Result<u8, Fault> {
-    let limits = extras.limits();
-    let output = &mut streams.output;
+) -> Result<u8, ToolFault> {
     let heading = Heading::Claims {
         before: style.before,
     };
     let squares = extras.most_squares();
     let errors = &mut streams.errors;
     let mut observer = Progress::new(rt, errors, heading, extras.progress, squares);
-    let result = verify_watched(
+    let output = &mut streams.output;
+    report(
         rt.alloc(),
+        claims,
+        style,
+        extras,
+        output,
+        &mut observer,
+        has_note,
+    )
+}
+
+// Writes what is true of the claims, within the limits that the words set.
+fn report<W: Write, O: Observer>(
+    alloc: Global,
+    claims: &Claims,
+    style: &ReportStyle<'_>,
+    extras: Extras,
+    output: &mut Dev<W>,
+    observer: &mut O,
+    has_note: &mut bool,
+) -> Result<u8, ToolFault>
+    ensures { WritesReport W.contents output.old output.new
+        (all_claims (contents style.now.files.now) claims.now (work_of extras.work)) style.now result }
+{
+    let limits = extras.limits();
+    verify_watched(
+        alloc,
         claims,
         style.files,
         limits,
         style,
         output,
-        &mut observer,
+        observer,
         has_note,
-    );
-    result.map_err(Fault::Tool)
+    )
 }

@@ -1,11 +1,16 @@
 //! Rule files that are looked for in a folder by the names of the rules of claims' patterns.
 
+ghost use Rattle.std.specs.Prelude.{◌≡◌, ◌⊎◌, IfOk, OnOk};
+ghost use Rattle.ca_text.specs.Prelude.{with_rule_line};
+ghost use Rattle.cafile.specs.NamedRules.{label_of, AddsRuleLines, AddsFaulty};
+
 use ca_claims::unknown_rules;
 use ca_host::{
     FaultyFile, LoadedFile, LoadedText, NamedTable, bytes_at, load_once, table_named, views,
 };
 use ca_plane::Memory;
 use ca_plane::text::push_text;
+use ca_rule::TableFault;
 use ca_text::{Claims, WordSet};
 use ca_tool::rule_path;
 use std::alloc::Global;
@@ -20,22 +25,41 @@ pub fn with_named_rules<R: Files + AllocGlobal>(
     folder: &str,
     has_root: bool,
     mut text: LoadedText,
-) -> Result<LoadedText, Memory> {
+) -> Result<LoadedText, Memory>
+    ensures claims { IfOk result (λ new. AddsRuleLines folder.now has_root text.claims new.claims) }
+    ensures missing { IfOk result (λ new. new.missing ≡ text.missing) }
+{
     let names = unknown_names(rt.alloc(), &text.claims, &text.files)?;
     for index in 0..names.len() {
-        let name = names.word(index);
-        if let Some(path) = rule_path(rt.alloc(), folder.as_bytes(), name)? {
-            let label = file_label(rt.alloc(), &path, has_root)?;
-            load_once(rt, &path, &label, &mut text.files)?;
-            text = with_named_rule(rt.alloc(), name, &path, &label, text)?;
-        }
+        text = with_rule_for(rt, folder, has_root, names.word(index), text)?;
     }
     Ok(text)
 }
 
+// The same text with the rule file of the folder that has this name.
+fn with_rule_for<R: Files + AllocGlobal>(
+    rt: &R,
+    folder: &str,
+    has_root: bool,
+    name: &[u8],
+    mut text: LoadedText,
+) -> Result<LoadedText, Memory>
+    ensures claims { IfOk result (λ new. AddsRuleLines folder.now has_root text.claims new.claims) }
+    ensures missing { IfOk result (λ new. new.missing ≡ text.missing) }
+{
+    let Some(path) = rule_path(rt.alloc(), folder.as_bytes(), name)? else {
+        return Ok(text);
+    };
+    let label = file_label(rt.alloc(), &path, has_root)?;
+    load_once(rt, &path, &label, &mut text.files)?;
+    with_named_rule(rt.alloc(), name, &path, &label, text)
+}
+
 // The path under which a rule file of the folder stands among the files. Where the text's paths are looked for in a
 // root, they are other files than those of these paths here: so it begins with a blank, which no word does.
-fn file_label(alloc: Global, path: &[u8], has_root: bool) -> Result<Vec<u8>, Memory> {
+fn file_label(alloc: Global, path: &[u8], has_root: bool) -> Result<Vec<u8>, Memory>
+    ensures { IfOk result (λ label. label.items ≡ label_of path.now has_root) }
+{
     let mut label = Vec::new(alloc);
     if has_root {
         push_text(&mut label, b" ")?;
@@ -52,7 +76,13 @@ fn with_named_rule(
     path: &[u8],
     label: &[u8],
     mut text: LoadedText,
-) -> Result<LoadedText, Memory> {
+) -> Result<LoadedText, Memory>
+    ensures claims { IfOk result (λ new. (new.claims ≡ text.claims) ⊎ (new.claims ≡ with_rule_line text.claims label.now)) }
+    ensures files { IfOk result (λ new. new.files ≡ text.files) }
+    ensures faulty { IfOk result (λ new. (new.faulty.items ≡ text.faulty.items)
+        ⊎ AddsFaulty name.now path.now text.faulty.items new.faulty.items) }
+    ensures missing { IfOk result (λ new. new.missing ≡ text.missing) }
+{
     let Some(bytes) = bytes_at(&text.files, label) else {
         return Ok(text);
     };
@@ -63,11 +93,25 @@ fn with_named_rule(
         }
         NamedTable::OtherName => Ok(text),
         NamedTable::Faulty(fault) => {
-            text.faulty
-                .push(FaultyFile::new(alloc, name, path, fault)?)?;
+            add_faulty(alloc, name, path, fault, &mut text.faulty)?;
             Ok(text)
         }
     }
+}
+
+// Puts a faulty rule file after the others.
+fn add_faulty(
+    alloc: Global,
+    name: &[u8],
+    path: &[u8],
+    fault: TableFault,
+    faulty: &mut Vec<FaultyFile>,
+) -> Result<(), Memory>
+    ensures { OnOk result (AddsFaulty name.now path.now faulty.old.items faulty.new.items) }
+{
+    let file = FaultyFile::new(alloc, name, path, fault)?;
+    faulty.push(file)?;
+    Ok(())
 }
 
 // The rule texts of the claims' patterns that name no rule.

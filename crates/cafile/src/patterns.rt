@@ -1,5 +1,10 @@
 //! The commands `show`, `convert` and `draw`.
 
+ghost use Rattle.std.specs.Prelude.{◌≡◌, ◌≤◌, [], unwrap_or, option_map, string_bytes};
+ghost use Rattle.ca_plane.specs.Prelude.{most_generations};
+ghost use Rattle.ca_pattern.specs.Prelude.{AreGoodLimits};
+ghost use Rattle.ca_words.specs.Words.{memo_of, work_of, generations_of};
+
 use crate::FAULT;
 use crate::terminal::{on_terminal, terminal_room};
 use ca_draw::ImageFormat;
@@ -149,6 +154,20 @@ fn known_rules<R: Files + AllocGlobal>(
     }
 }
 
+// How far a pattern is taken on by the words, and what that may take.
+fn evolution_of(extras: &PatternExtras) -> Evolution
+    ensures generations { result.generations ≡ generations_of extras.now.after }
+    ensures few { result.generations ≤ most_generations }
+    ensures limits { AreGoodLimits result.limits }
+    ensures memo { result.limits.memo ≡ memo_of extras.now.extras.memo }
+    ensures work { result.limits.work ≡ work_of extras.now.extras.work }
+{
+    Evolution {
+        generations: extras.after(),
+        limits: extras.extras.limits(),
+    }
+}
+
 // Writes what is asked of the pattern file. Where it is advanced by some generations, the line of progress tells how
 // far that is.
 fn run<R: Clock + AllocGlobal>(
@@ -159,10 +178,7 @@ fn run<R: Clock + AllocGlobal>(
     extras: &PatternExtras,
     streams: &mut Streams,
 ) -> Result<u8, DetailedFault<ToolFault>> {
-    let evolution = Evolution {
-        generations: extras.after(),
-        limits: extras.extras.limits(),
-    };
+    let evolution = evolution_of(extras);
     let heading = Heading::Run { path: pattern.path };
     let squares = extras.extras.most_squares();
     let errors = &mut streams.errors;
@@ -214,7 +230,9 @@ fn refuse_rules(
     }
 }
 
-fn named_path(rule: &Option<String>) -> &[u8] {
+fn named_path(rule: &Option<String>) -> &[u8]
+    ensures { result.now ≡ unwrap_or (option_map string_bytes rule.now) [] }
+{
     match rule {
         Some(path) => path.as_bytes(),
         None => b"",

@@ -1,13 +1,18 @@
 //! The commands `import` and `rule`, which write files that other commands read.
 
+ghost use Rattle.std.specs.Prelude.{◌≡◌, IfOk, IfErr};
+ghost use Rattle.ca_import.specs.Written.{IsImportText, IsImportTextFault};
+ghost use Rattle.cafile.specs.Imports.{rule_asked};
+
 use crate::import_complaint::complain_of_import;
 use crate::{FAULT, write_text};
 use ca_host::{Streams, read_source};
-use ca_import::import_text;
+use ca_import::{ImportTextFault, import_text};
 use ca_isotropic::{RuleFileFault, rule_file};
 use ca_pattern::ConvertFault;
 use ca_tool::{Fault, ToolFault, complain};
 use ca_words::ImportWords;
+use std::alloc::Global;
 use std::rt::Files;
 
 /// The rule of a text that names none, unless the words give one.
@@ -24,16 +29,30 @@ pub fn import_file<R: Files + AllocGlobal>(
         Ok(bytes) => bytes,
         Err(fault) => return refuse(&Fault::Input(fault), path.as_bytes(), streams),
     };
-    let rule = match &words.rule {
-        Some(rule) => rule.as_bytes(),
-        None => USUAL_RULE,
-    };
-    match import_text(rt.alloc(), &bytes, rule, words.target) {
+    match imported(rt.alloc(), &bytes, words) {
         Ok(text) => write_text(&text, streams),
         Err(fault) => {
             let _ = complain_of_import(fault, &mut streams.errors);
             FAULT
         }
+    }
+}
+
+// The text of the pattern of a text with these bytes, in the format that the words ask for.
+fn imported(alloc: Global, bytes: &[u8], words: &ImportWords) -> Result<Vec<u8>, ImportTextFault>
+    ensures written { IfOk result (λ text. IsImportText bytes.now (rule_asked words.now.rule) words.now.target text.items) }
+    ensures fault { IfErr result (IsImportTextFault bytes.now (rule_asked words.now.rule) words.now.target) }
+{
+    import_text(alloc, bytes, rule_of(&words.rule), words.target)
+}
+
+// The rule of a text that names none, where the words may give this one.
+fn rule_of(given: &Option<String>) -> &[u8]
+    ensures { result.now ≡ rule_asked given.now }
+{
+    match given {
+        Some(rule) => rule.as_bytes(),
+        None => USUAL_RULE,
     }
 }
 

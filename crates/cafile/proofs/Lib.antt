@@ -1,0 +1,3 @@
+pub mod Handing
+pub mod Looking
+pub mod RuleLines
