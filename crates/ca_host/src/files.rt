@@ -5,7 +5,7 @@ ghost use Rattle.ca_report.specs.declared.absence.Absence.{Absence};
 ghost use Rattle.ca_host.specs.Files.{bytes_at, place_of, IsFoundAt, IsAbsentAt, GathersFiles, AddsOutcome, LoadsOnce, IsRuleFileOf};
 ghost use Rattle.ca_host.specs.Files.{LacksRuleFile};
 ghost use Rattle.ca_host.specs.Unread.{IsWholeFile, IsUnread};
-ghost use Rattle.ca_host.specs.Sources.{source_remaining};
+ghost use Rattle.ca_host.specs.Sources.{source_remaining, IsSourceOf};
 
 use crate::streams::Source;
 use crate::whole_files::{Unread, WholeFiles};
@@ -53,7 +53,9 @@ pub fn open_source<R: Files>(
     rt: &R,
     path: &str,
     input: Stdin,
-) -> Result<Dev<Source<R::File>>, InputFault> {
+) -> Result<Dev<Source<R::File>>, InputFault>
+    ensures { IfOk result (λ source. IsSourceOf path.now source.inner) }
+{
     if path == "-" {
         return Ok(Dev::new(Source::Input(input)));
     }
