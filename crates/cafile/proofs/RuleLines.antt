@@ -1,6 +1,5 @@
 -- Rule lines that are added to a text.
 use Rattle.std.proofs.Common.{◌≡◌, ℕ, ◌⊎◌, List, [], ◌∷◌, ◌++◌, Bool, true, false, Option, Some, Result, Ok, Err, IfOk, MatchOption, Vec, refl, subst, sym, ap, ◌∙◌, inl, inr}
-use Rattle.std.specs.List.{All}
 use Rattle.std.proofs.lemmas.List.Elements.{All-append, All-nil, All-push}
 use Rattle.ca_text.specs.Prelude.{ClaimText, with_rule_line}
 use Rattle.ca_report.specs.RulePaths.{rule_path, is_file_name}

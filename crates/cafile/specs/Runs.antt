@@ -1,5 +1,5 @@
 -- What a run of the program writes of files, as the words ask.
-use Rattle.std.specs.Prelude.{◌≡◌, ℕ, map, List, Option, None, Some}
+use Rattle.std.specs.Prelude.{◌≡◌, ℕ, map, List, Option}
 use Rattle.ca_plane.specs.Prelude.{Counted}
 use Rattle.ca_report.specs.declared.fault.ToolFault.{ToolFault}
 use Rattle.ca_catalog.specs.declared.{known_rules.KnownRules.KnownRules, task.Task.Task, entry.Subject.Subject, entry.Entry.Entry}

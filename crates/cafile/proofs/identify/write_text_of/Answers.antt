@@ -1,4 +1,4 @@
-use Rattle.std.proofs.Common.{◌≡◌, ◌∙◌, ap, map}
+use Rattle.std.proofs.Common.{◌∙◌, ap, map}
 use Rattle.cafile.specs.Contents.{handed_at}
 use Rattle.cafile.proofs.Handing.{claims_written, claims_ended}
 use Rattle.cafile.proofs.identify.write_text_of.Goals as goal
