@@ -1,8 +1,9 @@
 #!/usr/bin/env -S python3 -B
 """Claim texts and patterns that are very large.
 
-No limit is hidden between a few lines and 100000, a few files and as many, or a few cells and some millions.
-The texts and patterns are made here, of blocks, blinkers and gliders, so that their verdicts are known.
+No limit is hidden between a few lines and 100000, a few files and as many, a few cells and some millions, or words of a few bytes and of a million.
+The texts and patterns are made here, of blocks, blinkers and gliders, so that their verdicts are known. Of files that are as long as any may be the last item
+decides the answer, so that they are read to their end.
 """
 import itertools
 import random
@@ -13,7 +14,8 @@ from lib import rle
 from lib.claim_text import ClaimText, outcome
 from lib.long_texts import BLINKER, BLOCK, MANY_LINES, long_text, spelled
 from lib.parts import over, try_all
-from lib.program import Folder, ample, fault, lines_outcome, run
+from lib.program import MAX_FILE, Folder, Outcome, ample, fault, figures, lines_outcome, run
+from lib.remedies import explained
 from lib.work import excess, timed
 
 # The cells a side of a pattern whose file is long and whose squares are few, how many claims there are about two such, and how many times the known work
@@ -35,6 +37,44 @@ KINDS = (
     ("still state", "refused, state too large", "state: {state}"), ("becomes block 0 high", "refused, mixed rules", None),
     ("spaceship full 1 1 0", "refused, too many cells", "full: {full}"),
 )
+
+# Two leaves of a macrocell, a block and a blinker, and a root of two blocks. The last line makes one of a block and a blinker.
+TWO_LEAVES = "[M2]\n**$**\n$$$...***\n4 1 1 0 0\n"
+
+# A table under which a lone cell of state 1 stays as it is, but for the last line.
+TURNED_TABLE = "@RULE Turned\n@TABLE\nn_states:3\nneighborhood:vonNeumann\nsymmetries:none\n2,0,0,0,0,1\n"
+TURNED = "x = 1, y = 1, rule = Turned\nA!\n"
+
+COMMENT, EXCLAMATION, HEADER = "# nothing is said here\n", "! nothing is said here\n", "x = 1, y = 1, rule = B3/S23\n"
+GLIDER = {(0, 0): 1, (1, 0): 1, (2, 0): 1, (2, 1): 1, (1, 2): 1}
+
+# Files of as many bytes as a file may have: how each begins, what stands in it again and again up to its end, the end, and what kind of file it is.
+LONGEST = (
+    ("a comment of a line", f"load block {BLOCK}\nload blinker {BLINKER}\nstill block\n#", "x", "\nstill blinker", "claims"),
+    ("many comments", f"load block {BLOCK}\nload blinker {BLINKER}\nstill block\n", COMMENT, "\nstill blinker", "claims"),
+    ("blank lines", f"load block {BLOCK}\nload blinker {BLINKER}\nstill block\n", "\n", "\nstill blinker", "claims"),
+    ("many comments", TWO_LEAVES, COMMENT, "\n4 1 2 0 0\n", "macrocell"),
+    ("white space", TWO_LEAVES, " \t\n", "\n4 1 2 0 0", "macrocell"),
+    ("white space", HEADER + "2o$2o", " \n", "\n3$11b3o!", "rle"),
+    ("a comment of a line", HEADER + "2o$2o\n#", "x", "\n3$11b3o!", "rle"),
+    ("a comment before the header", "#C ", "x", "\n" + HEADER + "2o$2o3$11b3o!", "rle"),
+    ("many comments", TURNED_TABLE, COMMENT, "\n1,0,0,0,0,2\n", "rule"),
+)
+
+# The same of texts that are imported, with their cells.
+LONGEST_IMPORTS = (
+    ("plaintext with comments", "O\n", EXCLAMATION, "\n..O", {(0, 0): 1, (2, 1): 1}),
+    ("plaintext of one row", "", ".", "O", {(MAX_FILE - 1, 0): 1}),
+    ("Life 1.06 with comments", "#Life 1.06\n0 0\n", COMMENT, "\n5 7", {(0, 0): 1, (5, 7): 1}),
+    ("Life 1.05 with comments", "#Life 1.05\n#P 0 0\n*\n", COMMENT, "\n#P 5 7\n*", {(0, 0): 1, (5, 7): 1}),
+    ("an apgcode after blank lines", "", "\n", "xq4_153", GLIDER),
+)
+
+
+def longest(begin, filler, end):
+    """A text of as many bytes as a file may have."""
+    room = MAX_FILE - len(begin) - len(end)
+    return (begin + filler * (room // len(filler)) + filler[:room % len(filler)] + end).encode()
 
 
 class Texts(Folder):
@@ -249,6 +289,99 @@ def try_long_planes(texts):
     texts.tally.expect("stripes of 8388608 cells, from mc to rle", run(["convert", path, "--to", "rle"]), ample(text.encode()))
 
 
+def expect_longest(texts, name, kind, path, line):
+    """What the commands tell of the longest file of this kind, whose last line has this number: an oscillator of period 2, and not the still life that stands
+    there without its end."""
+    def expect(words, wanted):
+        texts.tally.expect(f"67108864 bytes, {name}, {' '.join(words[:1])} of {kind}", run(words), wanted)
+
+    if kind == "claims":
+        expect(["verify", path], lines_outcome([(3, "yes"), (line, "no, cells differ after 1")]))
+        return
+    words, given, pattern, own = [], "", path, "longest"
+    if kind == "rule":
+        words, given, pattern, own = ["--rule", path], f"rule {path}\n", texts.path("turned.rle", TURNED), "turned"
+    text = f"{given}load {own} {pattern}\noscillator {own} 2\n"
+    first = text.count("\n")
+    expect(["verify", texts.path("longest.claims", f"{text}still {own}")], lines_outcome([(first, "yes"), (first + 1, "no, cells differ after 1")]))
+    expect(["identify", *words, pattern], ample(f"claims 2\n{text}".encode()))
+    shown = {"macrocell": (7, "-8 -8 14 4", "macrocell", "B3/S23"), "rle": (7, "0 0 14 5", "rle", "B3/S23"), "rule": (1, "0 0 1 1", "rle", "Turned")}[kind]
+    expect(["show", *words, pattern], figures(0, *shown))
+    at, drawn = {"macrocell": ("4,-6", "o\n"), "rle": ("12,3", "o\n"), "rule": ("0,0", "B\n")}[kind]
+    expect(["draw", *words, "--after", "1", "--at", at, "--size", "1,1", pattern], ample(drawn.encode()))
+
+
+@over(Texts)
+def try_longest(texts):
+    """Files that are as long as any may be, whose last item decides the answer."""
+    for name, begin, filler, end, kind in LONGEST:
+        text = longest(begin, filler, end)
+        expect_longest(texts, name, kind, texts.path("longest", text), text.rstrip().count(b"\n") + 1)
+    for name, begin, filler, end, cells in LONGEST_IMPORTS:
+        path = texts.path("longest", longest(begin, filler, end))
+        texts.tally.expect(f"67108864 bytes, {name}", run(["import", path]), ample(rle.tidy(cells, "B3/S23", 0, 2)))
+
+
+@over(Texts)
+def try_long_words(texts):
+    """Names, paths, numbers and rule texts of thousands of bytes and more, in claim texts, pattern files and rule files."""
+    block, dot = BLOCK, texts.path("dot.rle", "x = 1, y = 1\no!\n")
+    for count in (300, 6001, 150001, 1000000):
+        text = texts.text()
+        first, second, third = (f"{it}{'n' * count}" for it in "abc")
+        lost = text.load_path(third, texts.folder + "/lost")
+        text.load_path(first, block)
+        text.load_path(second, dot)
+        text.claim(f"still {first}", "yes")
+        text.claim(f"becomes {second} 1 {second}", "no, cells differ after 1", f"{second} at 0,0: 0 after 1 generation, claimed 1")
+        text.claim(f"becomes {first} {'0' * count}7 {first}", "yes")
+        text.claim(f"oscillator {first} {'0' * count}2", "no, the same after 1, shifted by 0,0")
+        text.claim(f"still {third}", "refused, no file", f"{third}: ".encode() + lost + b": no such file")
+        texts.judge(f"names of {count} bytes", text)
+    for count in (301, 2001, 3900):
+        path = "./" * ((count - len(block)) // 2) + block
+        missing = path.replace("block", "lost")
+        text = texts.text()
+        text.load_path("long", path)
+        text.load_path("lost", missing)
+        text.claim("still long", "yes")
+        text.claim("still lost", "refused, no file", f"lost: {missing}: no such file")
+        texts.judge(f"paths of {len(path)} bytes", text)
+        for command in (["show"], ["convert", "--to", "mc"], ["draw"]):
+            texts.tally.expect(f"{command[0]}, a path of {len(path)} bytes", run([*command, path]), run([*command, block]))
+            texts.tally.expect(f"{command[0]}, a lost path of {len(path)} bytes", run([*command, missing]), fault(f"cannot read {missing}"))
+        texts.tally.expect(f"identify, a path of {len(path)} bytes", run(["identify", path, missing]),
+                           Outcome(f"claims 2\nload block {path}\nstill block\n# lost: {missing}: no file\n".encode(), b"", 2))
+    for count in (301, 6001, 150001):
+        name = "r" * count
+        path, table = texts.path("named.rle", f"x = 1, y = 1, rule = {name}\nA!\n"), texts.path("named.rule", TURNED_TABLE.replace("Turned", name))
+        told = f"{path}: rule {name}".encode()
+        for words in ([], ["--rules", texts.folder]):
+            texts.tally.expect(f"an unknown rule of {count} bytes {' '.join(words[:1])}", run(["show", "--explain", *words, path]),
+                               explained("bad rule: unknown", told))
+            text = texts.text()
+            text.load_path("p", path)
+            text.claim("still p", "refused, bad rule: unknown", b"p: " + told)
+            texts.tally.expect(f"a claim under an unknown rule of {count} bytes {' '.join(words[:1])}", run(["verify", "--explain", *words, text.write()]),
+                               outcome(text.answers, True))
+            texts.tally.expect(f"identify, an unknown rule of {count} bytes {' '.join(words[:1])}", run(["identify", *words, path]),
+                               Outcome(f"claims 2\n# named: {path}: bad rule: unknown\n".encode(), b"", 2))
+        texts.tally.expect(f"a table whose name has {count} bytes", run(["show", "--rule", table, path]), figures(0, 1, "0 0 1 1", "rle", name))
+        texts.expect(f"a rule line of a table whose name has {count} bytes", [f"rule {table}", f"load p {path}", "still p"], lines_outcome([(3, "yes")]))
+
+
+@over(Texts)
+def try_long_imports(texts):
+    """2000000 cells of Life 1.06, from the last to the first, and rows of 10000 cells of plaintext."""
+    path = texts.path("cells.lif", "#Life 1.06\n" + "".join(f"{x} {y}\n" for y in reversed(range(1000)) for x in reversed(range(2000))))
+    rows = "#CXRLE Pos=0,0\nx = 2000, y = 1000, rule = B3/S23\n" + rle.folded([*(["2000o", "$"] * 1000)[:-1], "!"]) + "\n"
+    texts.tally.expect("2000000 cells of Life 1.06", run(["import", path]), ample(rows.encode()))
+    path = texts.path("rows.cells", "O" * 10000 + "\n" + ".O" * 5000 + "\n" + "." * 9999 + "O\n")
+    items = ["10000o", "$", *["b", "o"] * 5000, "$", "9999b", "o", "!"]
+    texts.tally.expect("rows of 10000 cells of plaintext", run(["import", path]),
+                       ample(f"#CXRLE Pos=0,0\nx = 10000, y = 3, rule = B3/S23\n{rle.folded(items)}\n".encode()))
+
+
 if __name__ == "__main__":
     try_all(try_long_texts, try_kinds, try_rule_files, try_many_files, try_more_files, try_one_reading, try_periods, try_many_cells, try_ships,
-            try_the_most_cells, try_many_states, try_long_planes)
+            try_the_most_cells, try_many_states, try_long_planes, try_longest, try_long_words, try_long_imports)
