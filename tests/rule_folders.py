@@ -6,6 +6,7 @@ faulty rule file refuses.
 """
 import itertools
 import os
+import subprocess
 import tempfile
 
 from lib.claim_text import ClaimText, outcome, printed, status_of
@@ -352,6 +353,93 @@ def try_claims_on_faulty(files):
         files.judge("a grid", text)
 
 
+@as_one_test(ClaimRules, "a folder of rules, claims, several faulty")
+def try_several_faulty(files):
+    """Two faulty rule files and a missing one beside a good one, in texts whose patterns come in each order: each pattern is told of its own, a claim about two
+    of the first."""
+    files.table("Good")
+    rules = {"Good": None, "Cut": (STILL.replace("NAME", "Cut") + "1,0,0\n", b"line 6 syntax"), "Bare": ("@RULE Bare\n@TABLE\n", b"line 2 states"),
+             "Lost": None}
+    for name, content in rules.items():
+        if content:
+            files.rule(f"{name}.rule", content[0])
+    for order in itertools.permutations(rules):
+        text, notes = files.text(), {"Good": None}
+        for name in order:
+            path = text.load(name, rle_of(name))
+            if name != "Good":
+                note = name.encode() + b": " + path + b": rule " + name.encode()
+                notes[name] = note + (b": " + files.path(f"rules/{name}.rule").encode() + b": " + rules[name][1] if rules[name] else b"")
+        for one, two in itertools.product(order, repeat=2):
+            note = notes[one] or notes[two]
+            text.claim(f"becomes {one} 1 {two}", *((UNKNOWN, note) if note else ("yes",)))
+        files.judge(f"several faulty, {' '.join(order)}", text)
+
+
+@as_one_test(ClaimRules, "a folder of rules, claims, elsewhere")
+def try_elsewhere(files):
+    """No rule file stands for one of the folder: neither one of the working directory nor one of the folder above, with each command."""
+    above = files.path("S.rule", STILL.replace("NAME", "S"))
+    work = files.path("work")
+    os.mkdir(work)
+    for path in (f"{work}/S.rule", above, f"{work}/S", f"{files.rules}/S"):
+        with open(path, "w", encoding="utf-8") as file:
+            file.write(STILL.replace("NAME", "S"))
+    pattern, refused = files.path("s.rle", rle_of("S")), b"line 2: refused, bad rule: unknown\n"
+    claims = files.path("s.claims", f"load s {pattern}\nstill s\n")
+    for folder in (files.rules, "../rules"):
+        words = ["--rules", folder]
+        for command in COMMANDS:
+            files.check("elsewhere", with_file(command, pattern, *words), fault("bad rule: unknown"), cwd=work)
+        files.check("elsewhere", ["identify", *words, pattern], Outcome(f"claims 2\n# s: {pattern}: bad rule: unknown\n".encode(), b"", 2), cwd=work)
+        files.check("elsewhere", ["verify", *words, claims], Outcome(refused, b"", 2), cwd=work)
+
+
+@as_one_test(ClaimRules, "a folder of rules, claims, longer paths")
+def try_longer_paths(files):
+    """Patterns whose paths begin with that of the rule file, and go on."""
+    files.table("S", TURN)
+    begun = files.path("rules/S.rule.rle", rle_of("S"))
+    text = files.text()
+    text.load_path("begun", begun)
+    text.load_path("more", files.path("rules/S.rule~", rle_of("S", "B")))
+    for name in ("one", "two"):
+        text.load(name, rle_of("S"))
+    text.claim("still begun", "no, cells differ after 1", "begun at 0,0: 2 after 1 generation, claimed 1")
+    text.claim("becomes begun 1 more", "yes")
+    text.claim("becomes two 1 more", "yes")
+    text.claim("becomes one 0 begun", "yes")
+    files.judge("a path that begins with that of the rule file", text)
+
+
+def once(files, content, words, wanted):
+    """The run, over a rule file that is a pipe which gives this content once, comes to that."""
+    pipe = os.path.join(files.rules, "Once.rule")
+    writer = subprocess.Popen(["sh", "-c", 'cat "$0" > "$1"', files.path("content", content), pipe])
+    files.check("a rule file that is read once", words, wanted)
+    writer.kill()
+    writer.wait()
+
+
+@as_one_test(ClaimRules, "a folder of rules, claims, read once")
+def try_once(files):
+    """A rule file that several patterns name is read once, a faulty one too: a run that opens the pipe once more doesn't end."""
+    files.pipe("Once")
+    rule = files.path("rules/Once.rule")
+    for content, told in ((TURN.replace("NAME", "Once"), None), ("@RULE Once\n", "line 1 no table"), (STILL.replace("NAME", "Twice"), "")):
+        text = files.text()
+        for name in ("one", "two", "three"):
+            path = text.load(name, rle_of("Once")).decode()
+            note = f"{name}: {path}: rule Once" + (f": {rule}: {told}" if told else "")
+            text.claim(f"still {name}", *(("no, cells differ after 1", f"{name} at 0,0: 2 after 1 generation, claimed 1") if told is None else (UNKNOWN, note)))
+        for explained_too in (False, True):
+            words = ["verify", "--rules", files.rules, text.write(), *["--explain"] * explained_too]
+            once(files, content, words, outcome(text.answers, explained_too))
+    paths = [files.path(f"{name}.rle", rle_of("Once")) for name in "abc"]
+    lines = f"claims 2\nrule {rule}\n" + "".join(f"load {name} {path}\nstill {name}\n" for name, path in zip("abc", paths))
+    once(files, STILL.replace("NAME", "Once"), ["identify", "--rules", files.rules, *paths], ample(lines.encode()))
+
+
 @as_one_test(ClaimRules, "a folder of rules, claims, not read")
 def try_claims_unread(files):
     """A rule file that isn't there, or can't be read, is as none; a folder that is none is a fault before any text is read."""
@@ -482,13 +570,13 @@ def try_layout(files):
     text.load("golly", rle_of("Golly"))
     text.claim("still golly", "yes")
     files.judge("Golly's sections", text)
-    for rank in range(200):
+    for rank in range(300):
         files.table(f"R{rank}", TURN if rank % 2 else STILL)
     text = files.text()
-    for rank in range(200):
+    for rank in range(300):
         text.load(f"p{rank}", rle_of(f"R{rank}"))
         text.claim(f"still p{rank}", *(("no, cells differ after 1", f"p{rank} at 0,0: 2 after 1 generation, claimed 1") if rank % 2 else ("yes",)))
-    files.judge("two hundred rules", text)
+    files.judge("three hundred rules", text)
 
 
 @as_one_test(ClaimRules, "a folder of rules, claims, many patterns")
@@ -506,4 +594,5 @@ def try_many_patterns(files):
 
 if __name__ == "__main__":
     try_all(try_found, try_names, try_faulty, try_given, try_given_after, try_unread, try_unneeded, try_claims_found, try_several_texts,
-            try_claimed_names, try_claims_on_faulty, try_claims_unread, try_rule_lines, try_pairs, try_claims_unneeded, try_layout, try_many_patterns)
+            try_claimed_names, try_claims_on_faulty, try_several_faulty, try_elsewhere, try_longer_paths, try_once,
+            try_claims_unread, try_rule_lines, try_pairs, try_claims_unneeded, try_layout, try_many_patterns)
