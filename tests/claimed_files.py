@@ -287,6 +287,34 @@ def try_root_words(tally, files):
         tally.tell(f"{command[0]} has no root", [] if got.status == 2 and not got.printed else [str(got)])
 
 
+def try_root_of_many(tally, files):
+    """Each of up to twelve texts is judged under the root: what is in it is found, though the working directory has another file there, and nothing outside is
+    opened, though it is there too, or is a pipe that nobody writes."""
+    os.mkdir(files.path("work"))
+    os.mkdir(files.path("root/own"))
+    files.path("root/own/one.rle", BLOCK)
+    for it in ("work/block.rle", "work/only.rle"):
+        files.path(it, BLOCK.replace("2o$2o", "3o"))
+    os.mkfifo(files.path("work/pipe"))
+    paths = ("block.rle", "own/one.rle", "only.rle", files.path("work/block.rle"), files.path("root/block.rle"), "../root/block.rle", "../work/block.rle",
+             "sub/block.rle")
+    inside = ("block.rle", "own/one.rle", "sub/block.rle")
+    for count in (1, 2, 5, 6, 12):
+        texts, told, status = [], "", 0
+        for at in range(count):
+            own = [paths[(at + step) % len(paths)] for step in range(1 + at % 3)]
+            texts.append(files.path(f"{at}.claims", text_of(own)))
+            verdicts = ["yes" if it in inside else REFUSED for it in own]
+            before = f"{texts[-1]}: " if count > 1 else ""
+            told += "".join(f"{before}line {len(own) + 1 + number}: {verdict}\n" for number, verdict in enumerate(verdicts))
+            status = max(status, 2 * (REFUSED in verdicts))
+        for words in (["verify", "--root", files.root, *texts], ["verify", *texts, "--root", files.root, "--progress"]):
+            tally.expect(f"{count} texts under a root", run(words, cwd=files.path("work")), Outcome(told.encode(), b"", status))
+    texts = [files.path("pipe.claims", text_of(["pipe"])), *[files.path("block.claims", text_of(["block.rle"]))] * 5]
+    told = "".join(f"{it}: line 2: {'yes' if at else REFUSED}\n" for at, it in enumerate(texts))
+    tally.expect("a pipe beside a root", run(["verify", "--root", files.root, *texts], cwd=files.path("work"), timeout=60), Outcome(told.encode(), b"", 2))
+
+
 def try_pipe_outside(tally, files):
     """A pipe outside isn't opened: a run that opens it waits."""
     pipe = files.path("pipe")
@@ -323,7 +351,7 @@ def main():
     tally = Tally()
     try_missing(tally)
     try_opened(tally)
-    for it in (try_root_paths, try_root_rule_lines, try_root_and_folder, try_root_words, try_pipe_outside):
+    for it in (try_root_paths, try_root_rule_lines, try_root_and_folder, try_root_words, try_root_of_many, try_pipe_outside):
         with tempfile.TemporaryDirectory() as folder:
             it(tally, Root(folder))
     tally.finish()
