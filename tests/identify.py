@@ -552,6 +552,18 @@ def try_rules(tally, files):
     noted = f"  rule file: {os.path.join(folder, 'C.rule')}, line 3\n".encode()
     both("a faulty rule file of a folder, explained", ["--explain", "--rules", folder, c, a], f"rule {one}\n# of_C: {c}: bad table: states\n{still[a]}", 2,
          noted)
+    table("Z.rule", "@RULE Z\n@TABLE\nn_states:3\n\nneighborhood:Margolus\n")
+    z = files.path("of_Z.rle", pattern_of("Z"))
+    for words in ([a, c, b, z], [a, b, z, c, block], [block, z, a, block, c], [z, a, c, z, b]):
+        text, notes, taken = "", b"", []
+        for path, name in zip(words, names_of(words)):
+            told = {c: "states", z: "neighborhood"}.get(path)
+            text += f"# {name}: {path}: bad table: {told}\n" if told else entry(name, path, "still")
+            notes += f"  rule file: {os.path.join(folder, 'C.rule' if path == c else 'Z.rule')}, line {3 if path == c else 5}\n".encode() if told else b""
+            taken += [{a: one, b: two}[path]] if path in (a, b) else []
+        text = "".join(f"rule {it}\n" for it in taken) + text
+        both(f"faulty rule files of some of {len(words)} files", ["--rules", folder, *words], text, 2)
+        both(f"faulty rule files of some of {len(words)} files, explained", ["--explain", *words, "--rules", folder], text, 2, notes)
     table("D.rule", rule_text("A"))
     d = files.path("of_D.rle", pattern_of("D"))
     both("a rule file of another name", ["--rules", folder, d, a], f"rule {one}\n# of_D: {d}: bad rule: unknown\n{still[a]}", 2)
@@ -738,10 +750,24 @@ def try_many(tally, files):
     long = paths[0].replace("/", "/" + "./" * 1900, 1)
     lines = [entry(f"p-{number + 1}" if number else "p", long, "still") for number in range(300)]
     tally.expect("a text of more than a million bytes", run(["identify", *[long] * len(lines)]), whole("".join(lines)))
-    count = 16000
+    count = 20002
     got, seconds = timed(["identify", *["examples/block.rle"] * count])
     lines = [entry(f"block-{number + 1}" if number else "block", "examples/block.rle", "still") for number in range(count)]
     tally.tell(f"{count} files of one name", ([] if got == whole("".join(lines)) else [str(got)]) + excess(seconds, 20))
+
+
+def try_many_words(tally, files):
+    """100000 words, of which a few name a file."""
+    there = {0: BLOCK, 1: GLIDER, 49999: BLOCK, 50000: "x = 1, y = 1\nz!", 99998: GLIDER, 99999: BLOCK}
+    for number, text in there.items():
+        files.path(str(number), text)
+    told = {BLOCK: "still", GLIDER: "spaceship 4 1 1"}
+    lines = []
+    for number in range(100000):
+        text = there.get(number)
+        refused = "bad pattern: rle syntax, line 2" if text else "no file"
+        lines.append(entry(str(number), str(number), told[text]) if text in told else f"# {number}: {number}: {refused}\n")
+    tally.expect("100000 words", run(["identify", *map(str, range(100000))], cwd=files.folder), whole("".join(lines), status=2))
 
 
 def main():
@@ -750,7 +776,7 @@ def main():
     try_true_claims(tally)
     try_limits(tally)
     for trial in (try_squares, try_patience, try_growth, try_many_squares, try_long_periods, try_late_returns, try_late_death, try_after, try_all, try_names, try_odd_paths,
-                  try_refused, try_rules, try_given_rule, try_codes, try_copies, try_large_codes, try_work_of_codes, try_long_codes, try_many):
+                  try_refused, try_rules, try_given_rule, try_codes, try_copies, try_large_codes, try_work_of_codes, try_long_codes, try_many, try_many_words):
         with tempfile.TemporaryDirectory() as folder:
             trial(tally, Folder(folder))
     tally.finish()
