@@ -25,9 +25,9 @@ from lib.planes import distinct_squares
 from lib.parts import try_each
 from lib.program import MOST_WAITING, PROGRAM, ROOT, Outcome, Tally, run
 from lib.refusing import refusing_program
+from lib.shown import WIPE, digits, identified_shown, shown_of
 from lib.terminal import on_terminal
 
-WIPE = b"\r\x1b[K"
 PENTOMINO, OSCILLATOR = "examples/r_pentomino.rle", "tests/files/pentadecathlon.rle"
 
 # Steps of the clock in milliseconds: claims take a second before anything is shown, after something is, or never.
@@ -40,15 +40,6 @@ LOAD_BLOCK = "load block examples/block.rle\n"
 
 # How long the first lines are waited for, in seconds. They take a small part of one.
 SECONDS = 600
-
-
-def digits(count):
-    """The generations that are reached one after another where a plane is leapt over: a further binary digit of their number each, beginning with none."""
-    reached = [0]
-    for at in range(count.bit_length()):
-        if count >> at & 1:
-            reached.append(count % (2 << at))
-    return count, reached
 
 
 def each(count):
@@ -85,17 +76,6 @@ class Watched(ClaimText):
     def shown(self, milliseconds, before=b""):
         """What is shown of each claim, where each look at the clock finds it `milliseconds` further: a list of writes for each."""
         return [shown_of(before + b"line %d" % answer.line, runs, milliseconds) for answer, runs in zip(self.answers, self.runs)]
-
-
-def shown_of(heading, runs, milliseconds):
-    """What is shown of a claim or a file, after this heading."""
-    lines, looks = [], 0
-    for generations, reached in runs:
-        for it in reached:
-            looks += 1
-            if looks * milliseconds >= 1000:
-                lines.append(heading + b": %d of %d generation%s" % (it, generations, b"s" * (generations != 1)))
-    return b"".join(WIPE + it for it in lines) + (WIPE if lines else b"")
 
 
 def claims(files):
@@ -200,23 +180,6 @@ def try_order(tally, refusing, files):
     tally.expect("wiped before the verdict", got, Outcome(wanted, b"", 1))
 
 
-def identified_shown(path, limit, generations, milliseconds, begun=0):
-    """What `identify` shows of a file, which it looks at for `generations`, beginning `begun` after the pattern: each time that the run to there has reached is
-    shown after a second, and then, at most twice a second, how many were looked at; the first look is before the first of them."""
-    lines, last, time_now = [], None, 0
-    for reached in digits(begun)[1][1:]:
-        time_now += milliseconds
-        if time_now >= 1000:
-            lines.append(f"{path}: {reached} of {begun} generation{'s' * (begun != 1)}".encode())
-            last = time_now
-    for reached in range(generations):
-        time_now += milliseconds
-        if time_now >= (1000 if last is None else last + 500):
-            lines.append(f"{path}: {reached} of {limit} generations".encode())
-            last = time_now
-    return b"".join(WIPE + it for it in lines) + (WIPE if lines else b"")
-
-
 def try_identify(tally, refusing, files):
     """`identify` shows the file's path and the generations that were looked at, at most twice a second."""
     grown = "none of these within 20 generations: 32 cells, in a box of 12 by 8, after 20"
@@ -243,6 +206,26 @@ def try_identify(tally, refusing, files):
         tally.expect(f"identify, wiped before the lines of each file, {step}", got, Outcome(both, b"", 2))
     got, _ = refusing.run([*words, "--progress"], {"CLOCK_FAILS": 1})
     tally.expect("identify, no clock", got, Outcome(printed, b"", 2))
+
+
+def try_many_files(tally, refusing, files):
+    """What is shown of each of twenty files, and of the claims of as many texts: its own path, and how far it is."""
+    with open(os.path.join(ROOT, "examples", "glider.rle"), "rb") as file:
+        glider = file.read()
+    paths = [files.path(f"{number}.rle", glider) for number in range(20)]
+    lines = "".join(["claims 2\n", *(f"load {number} {path}\nspaceship {number} 4 1 1\n" for number, path in enumerate(paths))])
+    shown = b"".join(identified_shown(path, 20, 4, 1000) for path in paths)
+    got, _ = refusing.run(["identify", "--limit", "20", "--progress", *paths], {"CLOCK_STEP": 1000})
+    tally.expect("identify, 20 files", got, Outcome(lines.encode(), shown, 0))
+    lines = "".join(["claims 2\n", *(f"load {number} {path}\n# {number} after 3 generations: spaceship 4 1 1\n" for number, path in enumerate(paths))])
+    got, _ = refusing.run(["identify", "--limit", "20", "--after", "3", "--progress", *paths], {"CLOCK_STEP": 1000})
+    shown = b"".join(identified_shown(path, 20, 4, 1000, 3) for path in paths)
+    tally.expect("identify --after, 20 files", got, Outcome(lines.encode(), shown, 0))
+    texts = [files.path(f"{number}.claims", f"load g {path}\n{chr(10) * number}becomes g 3 g\n") for number, path in enumerate(paths)]
+    lines = "".join(f"{text}: line {2 + number}: no, cells differ after 3\n" for number, text in enumerate(texts))
+    shown = b"".join(shown_of(f"{text}: line {2 + number}".encode(), [digits(3)], 1000) for number, text in enumerate(texts))
+    got, _ = refusing.run(["verify", "--progress", *texts], {"CLOCK_STEP": 1000})
+    tally.expect("verify, 20 texts", got, Outcome(lines.encode(), shown, 1))
 
 
 def try_identify_after(tally, refusing, _):
@@ -510,7 +493,7 @@ def try_head(tally, files):
 def main():
     tally = Tally()
     with refusing_program(tally, "progress") as (_, refusing):
-        parts = (try_claims, try_identify, try_identify_after, try_identify_results, try_after, try_notes, try_dense, try_order, try_closed,
+        parts = (try_claims, try_identify, try_many_files, try_identify_after, try_identify_results, try_after, try_notes, try_dense, try_order, try_closed,
                  try_terminal, try_results, try_refused_memory, try_the_clock, try_quick)
         try_each(tally, parts if refusing else (), refusing)
     try_each(tally, (try_stopped, try_stopped_identify, try_head))
