@@ -33,6 +33,9 @@ WINDOWS = {**PATTERN, "--at": "0,0", "--size": "2,2", "--scale": "1", "--zoom": 
 SEARCH = {**PATTERN, "--limit": "3", "--apgcode": None}
 CLAIMED = {**LIMITS, "--rules": "rules", "--root": "root"}
 
+# Options beside which `identify` has other work to do.
+SEARCHED = ("--limit", "--apgcode")
+
 # Values that an option doesn't take, and the fault, or None where the library that reads the words tells it.
 FAULTY = {"--memo": ("0", None), "--work": ("-1", None), "--max-memory": ("0", None), "--after": ("x", None), "--limit": ("0", None), "--at": ("5", None),
           "--size": ("0,1", None), "--scale": ("125", None), "--zoom": ("65", None), "--to": ("png", None), "--rule": ("lost.rule", "cannot read lost.rule"),
@@ -48,6 +51,9 @@ def sets_of(options):
 def words_of(said, options):
     """The words of these options."""
     return [word for it in said for word in (it, options[it]) if word is not None]
+
+# How long a glider goes in runs of which much is remembered, and else computed again and again; and more work than any of them needs.
+LONG, ENOUGH_WORK = 1 << 40, 1 << 20
 
 
 class Pairs:
@@ -210,10 +216,43 @@ def try_verify(tally, refusing, files):
     pairs.tell(tally, "verify")
 
 
+def least_work(words, folder):
+    """The smallest work with which a run isn't refused."""
+    low, high = 0, ENOUGH_WORK
+    while high - low > 1:
+        middle = (low + high) // 2
+        low, high = (low, middle) if run([*words, "--work", str(middle)], cwd=folder).status == 0 else (middle, high)
+    return high
+
+
+def try_memo(tally, refusing, files):
+    """A small memo beside each other option: with it a long run needs more work than without. How much work that is, is the program's own count."""
+    pairs = Pairs(refusing, files)
+    far = LONG // 4
+    files.path("far.rle", f"#CXRLE Pos={far},{far}\n" + GLIDER_TEXT)
+    files.path("long.claims", f"load glider glider.rle\nload far far.rle\nbecomes glider {LONG} far\n")
+    for name in ("glider.rle", "far.rle"):
+        os.symlink(f"../{name}", files.path(f"root/{name}"))
+    after = ["glider.rle", "--after", str(LONG)]
+    for words, options in ((["show", *after], PATTERN), (["convert", *after, "--to", "mc"], PATTERN), (["draw", *after, "--to", "pgm"], WINDOWS),
+                           (["identify", *after], SEARCH), (["verify", "long.claims"], CLAIMED)):
+        usual = least_work(words, files.folder)
+        for name in options:
+            if name in ("--memo", "--work", "--after", "--to"):
+                continue
+            beside = [*words, *words_of([name], options)]
+            work = ["--work", str(least_work(beside, files.folder) if name in SEARCHED else usual)]
+            small = run([*beside, *work, "--memo", "1"], cwd=files.folder)
+            pairs.count += 1
+            if run([*beside, *work], cwd=files.folder).status or small.status != 2 or b"work" not in small.printed + small.complaint:
+                pairs.complaints.append(f"{' '.join([*beside, *work])} --memo 1: {small}")
+    pairs.tell(tally, "a small memo")
+
+
 def main():
     tally = Tally()
     with refusing_program(tally, "options in pairs") as (_, refusing):
-        try_each(tally, (try_commands, try_draw, try_identify, try_verify) if refusing else (), refusing)
+        try_each(tally, (try_commands, try_draw, try_identify, try_verify, try_memo) if refusing else (), refusing)
     tally.finish()
 
 
