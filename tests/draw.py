@@ -243,6 +243,11 @@ def try_the_largest(tally, files):
     text = macrocell.tidy(macrocell.Pattern(macrocell.Tree(squares, root, 13), "B3/S23", 0), 2)
     path, wanted = files.path("largest.mc", text), "".join(row * 128 + "\n" for row in tile) * 128
     tally.expect("the largest picture", run(["draw", path, "--size", "8192,8192"]), ample(wanted.encode()))
+    greys = [bytes({"o": 0, ".": 255}[it] for it in row) for row in tile]
+    wanted = b"P5\n4096 4096\n255\n" + b"".join(row * 64 for row in greys) * 64
+    tally.expect("a large image", run(["draw", path, "--at", "-2048,-2048", "--size", "4096,4096", "--to", "pgm"]), ample(wanted))
+    wanted = b"P5\n4096 4096\n255\n" + b"".join(b"".join(bytes([it]) * 64 for it in row) * 64 for row in greys)
+    tally.expect("a large image at a zoom", run(["draw", path, "--at", "0,0", "--size", "4096,4096", "--zoom", "64", "--to", "pgm"]), ample(wanted))
 
 
 def try_after(tally, files):
