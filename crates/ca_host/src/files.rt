@@ -2,8 +2,8 @@
 
 ghost use Rattle.std.specs.Prelude.{◌≡◌, ◌≢◌, ⊤, [], map, true, Some, None, IfOk, OnOk, IfErr, OnErr, MatchOption};
 ghost use Rattle.ca_report.specs.declared.absence.Absence.{Absence};
-ghost use Rattle.ca_host.specs.Files.{bytes_at, place_of, IsFoundAt, IsAbsentAt, GathersFiles, AddsOutcome, LoadsOnce, IsRuleFileOf};
-ghost use Rattle.ca_host.specs.Files.{LacksRuleFile};
+ghost use Rattle.ca_host.specs.Files.{bytes_at, place_of, IsFoundAt, IsAbsentAt, GathersFiles, AddsOutcome};
+ghost use Rattle.ca_host.specs.Files.{LoadsOnce, IsRuleFileOf, LacksRuleFile};
 ghost use Rattle.ca_host.specs.Unread.{IsWholeFile, IsUnread};
 ghost use Rattle.ca_host.specs.Sources.{source_remaining, IsSourceOf};
 
@@ -135,7 +135,8 @@ pub fn load_needed<R: Files + AllocGlobal>(
     claims: &Claims,
     root: &Option<String>,
 ) -> Result<NeededFiles, Memory>
-    ensures files { IfOk result (GathersFiles (λ _ bytes. IsWholeFile R.File.remaining bytes) (λ _ _. ⊤) root.now claims.now) }
+    ensures files { IfOk result (GathersFiles (λ _ bytes. IsWholeFile R.File.remaining bytes) (λ _ _. ⊤)
+        root.now claims.now) }
     ensures memory { OnErr result (claims.now.claims ≢ []) }
 {
     gather(rt.alloc(), rt, claims, root)
