@@ -13,7 +13,7 @@ import tempfile
 from lib import apgcode, golden, remedies, rle
 from lib.gallery import found
 from lib.program import ROOT, Folder, Outcome, Tally, ample, fault, run
-from lib.steps import next_live
+from lib.steps import drifted, next_live
 from lib.work import excess, timed
 
 # Patterns whose claims are known from elsewhere: the field's names for them, or docs/CLAIMS.md.
@@ -169,20 +169,6 @@ def try_squares(tally, files):
         complaints = [] if len(kinds) >= least else [f"only {kinds}"]
         got = run(["identify", "--limit", str(limit), *paths])
         tally.tell(f"{count - 1} squares under {rule}: {sorted(kinds)}", complaints + ([] if got == whole(lines) else [f"wanted {lines!r}", str(got)]))
-
-
-def drifted(cells, later, times):
-    """The cells after `times` times four generations, where `later` has those after four: each group of neighbours is there again, or is a glider, which is one
-    place further, and none meets another."""
-    ways, end, left = [(0, 0), (1, 1), (1, -1), (-1, 1), (-1, -1)], set(), set(cells)
-    while left:
-        group = found = {left.pop()}
-        while found:
-            found = {(x + i, y + j) for x, y in found for i in (-1, 0, 1) for j in (-1, 0, 1)} & left
-            left, group = left - found, group | found
-        east, south = next(way for way in ways if {(x + way[0], y + way[1]) for x, y in group} <= later)
-        end |= {(x + times * east, y + times * south) for x, y in group}
-    return end
 
 
 def try_long_periods(tally, files):

@@ -13,7 +13,7 @@ import resource
 from lib import macrocell, rle
 from lib.claim_text import ClaimText, outcome
 from lib.golly import AFTER, LEAPS
-from lib.planes import distinct_squares
+from lib.planes import distinct_squares, far_cells
 from lib.parts import over, try_all
 from lib.program import ROOT, Folder, contents
 from lib.rows import Rows, text_of
@@ -396,11 +396,10 @@ def try_a_million_squares(claims):
 @over(Claims)
 def try_beside_many_squares(claims):
     """A small pattern is leapt in a store that has the squares of a large one: some 7 million, of cells far apart, each of which takes 44."""
-    chance, count = random.Random(1), 1 << 20
-    far = "".join(f"{chance.randrange(2 * FAR)}bo{chance.randrange(1, 2 * FAR // CELLS)}$" for _ in range(CELLS))
+    count = 1 << 20
     text = claims.text()
     text.load_path("gun", "examples/gun.rle")
-    text.load("far", f"#CXRLE Pos={-FAR},{-FAR}\nx = 1, y = 1, rule = B3/S23\n{far}!\n")
+    text.load("far", far_cells(CELLS))
     text.claim(f"becomes gun {count} far", f"no, cells differ after {count}")
     claims.judge("a gun beside cells far apart", text, most=WAITING)
 

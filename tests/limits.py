@@ -10,17 +10,20 @@
 - Long runs that make too many squares for one store. They go on in a store of their own, and end with the plane that is known. They stay within the memory of the
   squares that they may have, and within the work of what they compute.
 """
+import math
+import os
 import random
 import re
 import tempfile
 
-from lib import ageing, rle, rows
+from lib import ageing, macrocell, rle, rows
 from lib.ageing import AgeingRule
 from lib.claim_text import ClaimText, outcome
 from lib.golly import AFTER, LEAPS
-from lib.planes import FLIGHT, GROWING, explosion, far_gliders
+from lib.planes import FLIGHT, GROWING, explosion, far_cells, far_gliders
 from lib.parts import try_all
-from lib.program import Folder, Outcome, ample, fault, figures, lines_outcome, run
+from lib.program import ROOT, Folder, Outcome, ample, contents, fault, figures, lines_outcome, run
+from lib.steps import drifted, next_live
 
 BLOCK = "x = 2, y = 2, rule = B3/S23\n2o$2o!\n"
 EMPTY = "x = 0, y = 0, rule = B3/S23\n!\n"
@@ -121,6 +124,20 @@ COPIED = ("B1357/S1357", 64, 4096, 1066866)
 # A pattern of lib/golly.py, the generations, and the units of work that the run takes where it keeps a megabyte of squares and results; and fewer units, by which
 # it ends all the same where it keeps all of them.
 ROOM, FEWEST = ("acorn", 8192, 42304), 30000
+
+# The same pattern so late that no step comes there, and units of work by which it is reached; and where it keeps a megabyte, fewer by which it isn't, and more by
+# which it is. It takes some 32500 units, and some 60500 in a megabyte.
+LATE, LATE_UNITS, FEW_UNITS, MANY_UNITS = 1 << 40, 37000, 50000, 75000
+
+# Runs of which the least work is found: the rule and the side of a soup, and the generations. They are stepped, or leapt under a table.
+LEAST = (("B3/S23", 100, 100), ("B2/S013V", 60, 64), ("345/2/4", 60, 64), ("table", 40, 40))
+
+# How many guns lie in a plane, so far from each other that no glider of one comes to another one by that many generations. The squares of a run of the plane
+# are more than so many, which repeat, so that all are kept.
+GUNS, SQUARE_OF_A_GUN, SHOTS, KEPT_SQUARES = 3600, 1 << 22, 1 << 20, 8000000
+
+# Fewer guns beside cells far apart: how many these are, the megabytes by which garbage is collected where there are more than so many squares.
+FEWER_GUNS, BESIDE, MEGABYTES, COLLECTED = 2000, 76000, 400, 4500000
 
 # Patterns of examples/ that are back at no time, the cells and the box that they have after 65536 generations (by Golly), and the units of work by which
 # `identify` tells so. It leaps or strides: one that looks at each generation takes many times as many.
@@ -249,6 +266,53 @@ def try_limits_of_commands(tally, files):
     tally.tell("each command needs as much work", others if claim <= more < 2 * claim else [*others, f"identify needs {more} units, verify {claim}"])
 
 
+def soup_run(files, rule, side, count):
+    """A soup under a rule, or a table of one: its path, the words for its rule, its cells after some generations by naive steps, the text of its rule, and how many
+    states that has."""
+    if rule in ("table", "345/2/4"):
+        of, chance = AgeingRule.of("345/2/4"), random.Random(side)
+        cells = {(x, y): chance.randrange(1, of.states) for x in range(side) for y in range(side) if chance.random() < 0.4}
+        name, states, later = "Ageing" if rule == "table" else rule, of.states, ageing.after(cells, of, count)
+        words = ["--rule", files.path("ageing.rule", ageing.table_of(of, name))] if rule == "table" else []
+    else:
+        soup = rows.soup(random.Random(side), side, side)
+        cells, later = (dict.fromkeys(it.cells(), 1) for it in (soup, soup.after(rule, count)))
+        name, states, words = rule, 2, []
+    return files.path(f"{side}.rle", rle.tidy(cells, name, 0, states)), words, later, name, states
+
+
+def try_least_work_of_soups(tally, files):
+    """Each command that runs a soup ends with the least work that it needs, and is refused with one unit less. Where it is stepped, all of them need as much."""
+    for rule, side, count in LEAST:
+        path, words, later, name, states = soup_run(files, rule, side, count)
+        left, top = (min(it) for it in zip(*later))
+        wide, high = (max(it) - min(it) + 1 for it in zip(*later))
+        text = ClaimText(Folder(tempfile.mkdtemp(dir=files.folder)))
+        if words:
+            text.rule_path(words[1])
+        text.load_path("soup", path)
+        text.load("later", rle.tidy(later, name, 0, states))
+        text.claim(f"becomes soup {count} later", "yes")
+        judged, refused = outcome(text.answers, False), lines_outcome([(text.answers[0].line, "refused, work")])
+        after = [path, "--after", str(count), *words]
+        picture = "".join(".o"[(left + x, top) in later] for x in range(20)) + "\n"
+        most = {}
+        for run_of, done, less in (
+            (["verify", text.write()], judged, refused),
+            (["show", *after], figures(count, len(later), f"{left} {top} {wide} {high}", "rle", name), fault("work")),
+            (["convert", *after, "--to", "rle"], ample(rle.tidy(later, name, count, states)), fault("work")),
+            (["draw", *after, "--at", f"{left},{top}", "--size", "20,1", "--scale", "0"], ample(picture.encode()), fault("work")),
+        ):
+            most[run_of[0]] = work = least_work(run_of, done)
+            complaints = []
+            for units, wanted in ((work, done), (2 * work, done), (work - 1, less), (work // 2, less), (0, less)):
+                got = run([*run_of, "--work", str(units)])
+                complaints += [] if got == wanted else [f"{units} units: wanted {wanted}, got {got}"]
+            tally.tell(f"{run_of[0]}, a soup of {rule} by {count}, {work} units", complaints if work < ENOUGH_WORK else ["no work is enough"])
+        others = [f"{name} needs {work} units, verify {most['verify']}" for name, work in most.items() if work != most["verify"]]
+        tally.tell(f"a soup of {rule} by {count} takes each command as much work", [] if words else others)
+
+
 def try_no_generations(tally, files):
     """A large plane after no generations needs no work, with a memo of one entry."""
     text = rle.tidy(WIDE, "B3/S23", 0, 2)
@@ -322,6 +386,24 @@ def try_room(tally, _):
     tally.expect(f"{name} by {count} in a megabyte: {FEWEST} units", run([*few, "--work", str(FEWEST)]), Outcome(b"", b"cafile: work\n", 2))
 
 
+def late_acorn():
+    """The live cells of the acorn after LATE generations: what Golly made of it has settled, but for gliders, which fly on."""
+    _, _, _, count = next(it for it in AFTER if it[0] == "acorn")
+    settled = later = frozenset(macrocell.read(contents(os.path.join(ROOT, LEAPS, "acorn_after.mc"))).tree.cells())
+    for _ in range(4):
+        later = next_live(later, {3}, {2, 3})
+    return drifted(settled, later, (LATE - count) // 4)
+
+
+def try_late_room(tally, _):
+    """A run as far as no step comes, within its work and not within less, where it keeps all squares and few."""
+    cells = macrocell.tree_of(dict.fromkeys(late_acorn(), 1))
+    shown = figures(LATE, cells.population(), " ".join(map(str, cells.box())), "rle")
+    words = ["show", f"{LEAPS}/acorn.rle", "--after", str(LATE)]
+    for more, units, wanted in (([], LATE_UNITS, shown), (["--max-memory", "1"], FEW_UNITS, fault("work")), (["--max-memory", "1"], MANY_UNITS, shown)):
+        tally.expect(f"the acorn by {LATE} {' '.join(more)}: {units} units", run([*words, *more, "--work", str(units)]), wanted)
+
+
 def try_room_of_claims(tally, files):
     """The same of a claim."""
     name, count, _ = ROOM
@@ -353,6 +435,45 @@ def try_identification(tally, _):
     tally.expect(f"{name} is back late: {units} units", run(words), Outcome(told.encode(), b"", 0))
 
 
+def squares_seen(got):
+    """The squares of which a run told while it went on."""
+    return [100000 * (10 * int(it[1]) + int(it[2])) for it in re.finditer(rb"(\d+)\.(\d) million squares", got.complaint)]
+
+
+def guns(count):
+    """An RLE text of so many guns far from each other, and the corners of their squares."""
+    chance, side = random.Random(count), math.isqrt(count)
+    places = [tuple(SQUARE_OF_A_GUN * at + chance.randrange(SQUARE_OF_A_GUN // 2) for at in (k % side, k // side)) for k in range(count)]
+    cells = rle.cells_and_rule(contents(os.path.join(ROOT, "examples", "gun.rle")).decode())[0]
+    return rle.tidy({(x + i, y + j): 1 for x, y in places for i, j in cells}, "B3/S23", 0, 2), places
+
+
+def try_many_guns(tally, files):
+    """Guns whose gliders meet no other gun: the plane is that of each gun as Golly made it, and all squares of the run are kept, since they repeat."""
+    text, places = guns(GUNS)
+    after = macrocell.read(contents(os.path.join(ROOT, LEAPS, "gun_after.mc"))).tree
+    left, top, wide, high = after.box()
+    (west, east), (north, south) = ((min(it), max(it)) for it in zip(*places))
+    shown = figures(SHOTS, GUNS * after.population(), f"{west + left} {north + top} {east - west + wide} {south - north + high}", "rle")
+    got = run(["show", files.path("guns.rle", text), "--after", str(SHOTS), "--progress"])
+    squares = squares_seen(got)
+    well = (got.printed, got.status) == (shown.printed, 0) and squares == sorted(squares) and squares[-1] > KEPT_SQUARES
+    tally.tell(f"{GUNS} guns by {SHOTS}", [] if well else [f"wanted {shown}, got {got}, squares {squares}"])
+
+
+def try_collected_guns(tally, files):
+    """A run that repeats and has room for squares beside those of another plane: garbage is collected where there are more than most runs ever have."""
+    text = ClaimText(files)
+    text.load("guns", guns(FEWER_GUNS)[0])
+    text.load("far", far_cells(BESIDE))
+    text.claim(f"becomes guns {SHOTS} far", f"no, cells differ after {SHOTS}")
+    got = run(["verify", "--progress", "--max-memory", str(MEGABYTES), text.write()])
+    squares = squares_seen(got)
+    collected = [one for one, other in zip(squares, squares[1:]) if 2 * other < one]
+    well = (got.printed, got.status) == (outcome(text.answers, False).printed, 1) and max(collected, default=0) > COLLECTED
+    tally.tell(f"{FEWER_GUNS} guns beside cells far apart", [] if well else [f"{got}, squares {squares}"])
+
+
 def judge_squares(tally, folder, name, texts, generations, verdict, *words):
     """Expects the verdict on a pattern that is to become another one, in a run that leaves squares behind and never has too many."""
     text = ClaimText(Folder(folder))
@@ -360,9 +481,9 @@ def judge_squares(tally, folder, name, texts, generations, verdict, *words):
         text.load(which, it)
     text.claim(f"becomes first {generations} later", verdict)
     got = run(["verify", "--progress", *words, text.write()])
-    squares = [10 * int(it[1]) + int(it[2]) for it in re.finditer(rb"(\d+)\.(\d) million squares", got.complaint)]
+    squares = squares_seen(got)
     # some are left behind, so later there are fewer
-    well = got.printed == f"line 3: {verdict}\n".encode() and squares != sorted(squares) and 100000 * max(squares) <= MOST_SQUARES
+    well = got.printed == f"line 3: {verdict}\n".encode() and squares != sorted(squares) and max(squares) <= MOST_SQUARES
     tally.tell(name, [] if well else [f"{got}, squares {squares}"])
 
 
@@ -378,5 +499,5 @@ def try_full_stores(tally, files):
 
 
 if __name__ == "__main__":
-    try_all(try_claims, try_each_by_itself, try_a_soup, try_least_work, try_limits_of_commands, try_no_generations, try_patterns, try_soups, try_copies,
-            try_room_of_claims, try_full_stores, try_faults, try_room, try_identification)
+    try_all(try_claims, try_each_by_itself, try_a_soup, try_least_work, try_limits_of_commands, try_least_work_of_soups, try_no_generations, try_patterns, try_soups, try_copies,
+            try_room_of_claims, try_full_stores, try_many_guns, try_collected_guns, try_faults, try_room, try_late_room, try_identification)

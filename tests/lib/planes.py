@@ -62,6 +62,13 @@ def explosion():
     return Rows(0, 0, (square[0] | 3 << 600, *square[1:]))
 
 
+def far_cells(count, rule="B3/S23"):
+    """An RLE text of so many cells far from each other, each of which takes 44 squares."""
+    chance = random.Random(1)
+    cells = "".join(f"{chance.randrange(2 * EDGE)}bo{chance.randrange(1, 2 * EDGE // count)}$" for _ in range(count))
+    return f"#CXRLE Pos={-EDGE},{-EDGE}\nx = 1, y = 1, rule = {rule}\n{cells}!\n"
+
+
 def far_gliders(count):
     """A claim text's two patterns of `count` gliders far from each other: as they are, and the same after FLIGHT generations."""
     chance = random.Random(count)

@@ -26,6 +26,10 @@ class Rows:
         """The number of live cells."""
         return sum(f"{row:b}".count("1") for row in self.rows)
 
+    def cells(self):
+        """The places of the live cells."""
+        return [(self.x + x, y) for y, row in enumerate(self.rows, self.y) for x in range(row.bit_length()) if row >> x & 1]
+
     def moved(self, x, y):
         """The plane, moved."""
         return Rows(self.x + x, self.y + y, self.rows)

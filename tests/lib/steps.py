@@ -83,3 +83,17 @@ def aged(cells, rule):
     later = {place: 1 if state == 1 and around[place] in rule.survival else state + 1 for place, state in cells.items()}
     later |= {place: 1 for place, count in around.items() if place not in cells and count in rule.birth}
     return {place: state for place, state in later.items() if state < rule.states}
+
+
+def drifted(cells, later, times):
+    """The cells after `times` times four generations, where `later` has those after four: each group of neighbours is there again, or is a glider, which is one
+    place further, and none meets another."""
+    ways, end, left = [(0, 0), (1, 1), (1, -1), (-1, 1), (-1, -1)], set(), set(cells)
+    while left:
+        group = found = {left.pop()}
+        while found:
+            found = {(x + i, y + j) for x, y in found for i in (-1, 0, 1) for j in (-1, 0, 1)} & left
+            left, group = left - found, group | found
+        east, south = next(way for way in ways if {(x + way[0], y + way[1]) for x, y in group} <= later)
+        end |= {(x + times * east, y + times * south) for x, y in group}
+    return end
