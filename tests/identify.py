@@ -12,7 +12,7 @@ import tempfile
 
 from lib import apgcode, golden, remedies, rle
 from lib.gallery import found
-from lib.program import ROOT, Folder, Outcome, Tally, ample, fault, run
+from lib.program import ROOT, Folder, Outcome, Tally, ample, fault, lines_outcome, run
 from lib.steps import drifted, next_live
 from lib.work import excess, timed
 
@@ -200,32 +200,85 @@ def turning(lengths, goes):
     return f"@RULE Turns\n@TABLE\nn_states:{first}\nneighborhood:vonNeumann\nsymmetries:none\n" + "\n".join([*lines, ""]), cells, first
 
 
+# How far a pattern is looked at where no limit is set, and numbers of states of cells that are back together after 115150 generations.
+USUAL_LIMIT, LONG_LENGTHS = 65536, (2, 25, 47, 49)
+
+
 def try_late_returns(tally, files):
     """Oscillators and spaceships that are back late: a generation or three after the first 512, one before and one after as many again, and much later; as far as
     their period, and as far as the generation before it."""
     for goes in (False, True):
-        for lengths in ((19, 27), (5, 103), (11, 93), (25, 41), (39, 40, 41)):
+        for lengths in ((19, 27), (5, 103), (11, 93), (25, 41), (39, 40, 41), LONG_LENGTHS):
             period = math.prod(lengths)
             text, cells, states = turning(lengths, goes)
             rule = files.path(f"turns_{period}.rule", text.replace("Turns", f"Turns_{period}"))
             path = files.path(f"turns_{period}.rle", rle.tidy(cells, f"Turns_{period}", 0, states))
             told = f"spaceship {period} {period} 0" if goes else f"oscillator {period}"
             none = none_within(period - 1, len(cells), 1, 3 * len(cells) - 2)
-            for words, what in (((), told), (("--limit", str(period)), told), (("--limit", str(period - 1)), none)):
+            usual = told if period <= USUAL_LIMIT else none_within(USUAL_LIMIT, len(cells), 1, 3 * len(cells) - 2)
+            for words, what in (((), usual), (("--limit", str(period)), told), (("--limit", str(period - 1)), none)):
                 tally.expect(f"{told} {words}", run(["identify", path, "--rule", rule, *words]), whole(f"rule {rule}\n{entry(f'turns_{period}', path, what)}"))
 
 
-def try_late_death(tally, files):
-    """Two gliders that fly towards each other and both die when they meet, after more than a million generations. That they do is seen here when they begin near
-    each other; where each begins so much further away, it takes four generations longer for each place."""
-    glider, places, generations = {(1, 0), (2, 1), (0, 2), (1, 2), (2, 2)}, 250001, 0
+# Places by which gliders are apart that meet late, and generations after which others do.
+PLACES, DEATHS = 250001, (2000, 10000)
+
+
+def meeting(places):
+    """Two gliders that fly towards each other and both die when they meet, the generations until then, and the last live plane, moved. That they do is seen here
+    when they begin near each other; where each begins so many places further away, it takes four generations longer for each place."""
+    glider, generations = {(1, 0), (2, 1), (0, 2), (1, 2), (2, 2)}, 0
     now = frozenset(glider | {(6 - x, 6 - y) for x, y in glider})
     while now:
-        now, generations = next_live(now, {3}, {2, 3}), generations + 1
+        last, now, generations = now, next_live(now, {3}, {2, 3}), generations + 1
     far = 6 + 2 * places
-    path = files.path("apart.rle", rle.tidy(dict.fromkeys(glider | {(far - x, far - y) for x, y in glider}, 1), "B3/S23", 0, 2))
-    told = f"dies {generations + 4 * places}"
+    return frozenset(glider | {(far - x, far - y) for x, y in glider}), generations + 4 * places, last
+
+
+def try_late_death(tally, files):
+    """Gliders that meet after more than a million generations."""
+    cells, generations, _ = meeting(PLACES)
+    path = files.path("apart.rle", rle.tidy(dict.fromkeys(cells, 1), "B3/S23", 0, 2))
+    told = f"dies {generations}"
     tally.expect(f"gliders that meet late: {told}", run(["identify", path, "--limit", "1100000"]), whole(entry("apart", path, told)))
+
+
+def try_deaths(tally, files):
+    """Gliders that die after known generations, and how they are judged: where it is claimed then, just before, just after and far later."""
+    for generations in DEATHS:
+        cells, begun, last = meeting((generations + 3) // 4)
+        # the gliders begin so much later
+        for _ in range(begun - generations):
+            cells = next_live(cells, {3}, {2, 3})
+        name = f"meet_{generations}"
+        path = files.path(f"{name}.rle", rle.tidy(dict.fromkeys(cells, 1), "B3/S23", 0, 2))
+        told = f"dies {generations}"
+        for words in ((), ("--limit", str(generations)), ("--limit", "4294967295")):
+            tally.expect(f"gliders: {told} {' '.join(words)}", run(["identify", path, *words]), whole(entry(name, path, told)))
+        none = none_of(last, generations - 1)
+        tally.expect(f"gliders, looked at as far as {generations - 1}", run(["identify", path, "--limit", str(generations - 1)]), whole(entry(name, path, none)))
+        judged = ((generations, "yes"), (generations - 1, f"no, cells differ after {generations - 1}"), (generations + 1, f"no, empty after {generations}"),
+                  (4 * generations, f"no, empty after {generations}"), (1 << 60, f"no, empty after {generations}"))
+        claims = "".join(f"dies gliders {count}\n" for count, _ in judged)
+        text = files.path(f"{name}.claims", f"claims 2\nload gliders {path}\n{claims}")
+        tally.expect(f"gliders: {told}, judged", run(["verify", text]), lines_outcome([(at, verdict) for at, (_, verdict) in enumerate(judged, 3)]))
+
+
+def try_longest_limit(tally, _):
+    """A gun is looked at as far as can be. In each 60 generations two gliders of five cells come, and all fly 15 places away: that it does so is seen here."""
+    limit, path = (1 << 32) - 1, "examples/gun.rle"
+    now = frozenset(rle.cells_and_rule(open(os.path.join(ROOT, path), encoding="utf-8").read())[0])
+    # when the first gliders are away from the gun, its last ones are as far as they are after the limit
+    begun, grown = 600 + limit % 60, []
+    for generation in range(begun + 121):
+        if (generation - begun) % 60 == 0 and generation >= begun:
+            grown.append((len(now), *(max(it) - min(it) + 1 for it in zip(*now))))
+        now = next_live(now, {3}, {2, 3})
+    each = [tuple(later - before for before, later in zip(*pair)) for pair in zip(grown, grown[1:])]
+    tally.tell("what a gun makes in 60 generations", [] if each[0] == each[1] == (10, 15, 15) else [str(each)])
+    times = (limit - begun) // 60
+    tally.expect(f"a gun, as far as {limit}", run(["identify", path, "--limit", str(limit)]),
+                 whole(entry("gun", path, none_within(limit, *(size + times * more for size, more in zip(grown[0], each[0]))))))
 
 
 def try_limits(tally):
@@ -761,8 +814,9 @@ def main():
     try_known(tally)
     try_true_claims(tally)
     try_limits(tally)
-    for trial in (try_squares, try_patience, try_growth, try_many_squares, try_long_periods, try_late_returns, try_late_death, try_after, try_all, try_names, try_odd_paths,
-                  try_refused, try_rules, try_given_rule, try_codes, try_copies, try_large_codes, try_work_of_codes, try_long_codes, try_many, try_many_words):
+    for trial in (try_squares, try_patience, try_growth, try_many_squares, try_long_periods, try_late_returns, try_late_death, try_deaths, try_longest_limit,
+                  try_after, try_all, try_names, try_odd_paths, try_refused, try_rules, try_given_rule, try_codes, try_copies, try_large_codes, try_work_of_codes,
+                  try_long_codes, try_many, try_many_words):
         with tempfile.TemporaryDirectory() as folder:
             trial(tally, Folder(folder))
     tally.finish()
