@@ -173,7 +173,7 @@ def try_squares(tally, files):
 
 def try_long_periods(tally, files):
     """Cells that each go through states of their own in turn: the period is the product of the numbers of these states, which have no common divisor."""
-    for lengths, words in (((39, 40, 41), ()), ((39, 40, 41), ("--limit", "65537")), ((40, 41, 43), ("--limit", "70520"))):
+    for lengths, words in (((39, 40, 41), ()), ((39, 40, 41), ("--limit", "65537")), ((40, 41, 43), ("--limit", "70520")), ((2, 25, 47, 49), ("--limit", "115150"))):
         first, period, lines, cells = 1, 1, [], {}
         for at, length in enumerate(lengths):
             lines += [f"{first + step},0,0,0,0,{first + (step + 1) % length}" for step in range(length)]
@@ -200,23 +200,18 @@ def turning(lengths, goes):
     return f"@RULE Turns\n@TABLE\nn_states:{first}\nneighborhood:vonNeumann\nsymmetries:none\n" + "\n".join([*lines, ""]), cells, first
 
 
-# How far a pattern is looked at where no limit is set, and numbers of states of cells that are back together after 115150 generations.
-USUAL_LIMIT, LONG_LENGTHS = 65536, (2, 25, 47, 49)
-
-
 def try_late_returns(tally, files):
     """Oscillators and spaceships that are back late: a generation or three after the first 512, one before and one after as many again, and much later; as far as
     their period, and as far as the generation before it."""
     for goes in (False, True):
-        for lengths in ((19, 27), (5, 103), (11, 93), (25, 41), (39, 40, 41), LONG_LENGTHS):
+        for lengths in ((19, 27), (5, 103), (11, 93), (25, 41), (39, 40, 41)):
             period = math.prod(lengths)
             text, cells, states = turning(lengths, goes)
             rule = files.path(f"turns_{period}.rule", text.replace("Turns", f"Turns_{period}"))
             path = files.path(f"turns_{period}.rle", rle.tidy(cells, f"Turns_{period}", 0, states))
             told = f"spaceship {period} {period} 0" if goes else f"oscillator {period}"
             none = none_within(period - 1, len(cells), 1, 3 * len(cells) - 2)
-            usual = told if period <= USUAL_LIMIT else none_within(USUAL_LIMIT, len(cells), 1, 3 * len(cells) - 2)
-            for words, what in (((), usual), (("--limit", str(period)), told), (("--limit", str(period - 1)), none)):
+            for words, what in (((), told), (("--limit", str(period)), told), (("--limit", str(period - 1)), none)):
                 tally.expect(f"{told} {words}", run(["identify", path, "--rule", rule, *words]), whole(f"rule {rule}\n{entry(f'turns_{period}', path, what)}"))
 
 
