@@ -16,6 +16,7 @@ from lib.ageing import AgeingRule
 from lib.claim_text import ClaimText, outcome
 from lib.macrocell import EDGE
 from lib.parts import try_all
+from lib.planes import Packed, far_cells, text_of_copies
 from lib.program import run
 from lib.small_planes import moved
 
@@ -133,6 +134,13 @@ AGED_CORNERS = (
 )
 
 AGED_PLACED = (("/2/3", 33), ("23/3/8", 65), ("345/2/4", 40), ("345/2/256", 34))
+
+# Planes of many bricks: the rule, the side of a soup under it, how many of its cells are dead in a hundred, the columns and rows of copies of it, and the
+# generations. The copies lie at all alignments to squares of 16 by 16 cells, so that the planes are stepped.
+MANY_BRICKS = (("B3/S23", 1000, 93, 10, 10, 33), ("23/3/8", 300, 60, 10, 9, 33))
+
+# A soup, and cells far apart that take more than 2 million squares beside it.
+BESIDE, FAR_CELLS = ("B3/S23", 300, 129), 46000
 
 
 def place_of_change(chance, plane):
@@ -324,6 +332,50 @@ def try_large(tally, files):
         text.judge(tally, f"{wide} by {high} cells, {rule}, from {before.population()} live cells to {later.population()}")
 
 
+def copied(chance, side, across, down, count):
+    """The places of so many copies of a soup, no two of which meet within `count` generations: each is some cells beside the corner of a square of its own."""
+    pitch = side + 2 * count + HIGH + 2
+    return [(pitch * i + chance.randrange(HIGH), pitch * j + chance.randrange(HIGH)) for i in range(across) for j in range(down)]
+
+
+def try_many_bricks(tally, files):
+    """Planes of copies of a soup, which become copies of what the soup becomes, and nothing else: one cell is another of the last copy."""
+    for name, side, dead, across, down, count in MANY_BRICKS:
+        chance = random.Random(side)
+        places = copied(chance, side, across, down, count)
+        if "B" in name:
+            states, kind = 2, name
+            soup = rows.Rows(0, 0, tuple(sum((chance.randrange(100) >= dead) << x for x in range(side)) for _ in range(side)))
+            cells, later = (dict.fromkeys(it.cells(), 1) for it in (soup, soup.after(kind, count)))
+        else:
+            kind = AgeingRule.of(name)
+            states = kind.states
+            cells = {(x, y): chance.randrange(1, states) for x in range(side) for y in range(side) if chance.randrange(100) >= dead}
+            later = ageing.after(cells, kind, count)
+        text, before, after = ClaimText(files), *(Packed.of(it, states) for it in (cells, later))
+        changed = Packed.of(small_planes.one_changed(chance, later, states), states)
+        copies = [(after, place) for place in places]
+        for of, content in (("soups", [(before, place) for place in places]), ("later", copies), ("other", [*copies[:-1], (changed, places[-1])])):
+            text.load(of, text_of_copies(name, states, content))
+        text.claim(f"becomes soups {count} later", "yes")
+        text.claim(f"becomes soups {count} other", f"no, cells differ after {count}")
+        wide, high = ((max(it) - min(it) + side) for it in zip(*places))
+        small_planes.judge(tally, f"{(wide + WIDE - 1) // WIDE * ((high + HIGH - 1) // HIGH)} bricks of {name}", text)
+
+
+def try_beside_far_cells(tally, files):
+    """A soup is stepped in a store that has the squares of cells far away: what it becomes has those cells, and no others, less than what is claimed."""
+    rule, side, count = BESIDE
+    soup = rows.soup(random.Random(side), side, side)
+    text = ClaimText(files)
+    text.load("soup", rows.text_of(rule, soup))
+    text.load("far", far_cells(FAR_CELLS, rule))
+    text.load("later", rows.text_of(rule, soup.after(rule, count)))
+    text.claim(f"becomes soup {count} far", f"no, cells differ after {count}")
+    text.claim(f"becomes soup {count} later", "yes")
+    small_planes.judge(tally, f"a soup beside {FAR_CELLS} cells far apart", text)
+
+
 def try_golly(tally, files):
     """Soups of 100 by 100 cells have as many live cells as Golly tells, and these take as many columns and rows."""
     for rule, count, population, wide, high in GOLLY:
@@ -419,5 +471,5 @@ def try_aged_golly(tally, files):
 
 
 if __name__ == "__main__":
-    try_all(try_rules, try_places, try_rest, try_busy, try_waking, try_gliders, try_deaths, try_apart, try_large, try_golly, try_aged_rules,
-            try_aged_places, try_aged_edges, try_dying, try_aged_rest, try_aged_golly)
+    try_all(try_rules, try_places, try_rest, try_busy, try_waking, try_gliders, try_deaths, try_apart, try_large, try_many_bricks, try_beside_far_cells,
+            try_golly, try_aged_rules, try_aged_places, try_aged_edges, try_dying, try_aged_rest, try_aged_golly)

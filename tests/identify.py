@@ -173,7 +173,8 @@ def try_squares(tally, files):
 
 def try_long_periods(tally, files):
     """Cells that each go through states of their own in turn: the period is the product of the numbers of these states, which have no common divisor."""
-    for lengths, words in (((39, 40, 41), ()), ((39, 40, 41), ("--limit", "65537")), ((40, 41, 43), ("--limit", "70520")), ((2, 25, 47, 49), ("--limit", "115150"))):
+    for lengths, words in (((39, 40, 41), ()), ((39, 40, 41), ("--limit", "65537")), ((40, 41, 43), ("--limit", "70520")),
+                           ((2, 25, 47, 49), ("--limit", "115150"))):
         first, period, lines, cells = 1, 1, [], {}
         for at, length in enumerate(lengths):
             lines += [f"{first + step},0,0,0,0,{first + (step + 1) % length}" for step in range(length)]
@@ -251,7 +252,8 @@ def try_deaths(tally, files):
         for words in ((), ("--limit", str(generations)), ("--limit", "4294967295")):
             tally.expect(f"gliders: {told} {' '.join(words)}", run(["identify", path, *words]), whole(entry(name, path, told)))
         none = none_of(last, generations - 1)
-        tally.expect(f"gliders, looked at as far as {generations - 1}", run(["identify", path, "--limit", str(generations - 1)]), whole(entry(name, path, none)))
+        limit = str(generations - 1)
+        tally.expect(f"gliders, looked at as far as {limit}", run(["identify", path, "--limit", limit]), whole(entry(name, path, none)))
         judged = ((generations, "yes"), (generations - 1, f"no, cells differ after {generations - 1}"), (generations + 1, f"no, empty after {generations}"),
                   (4 * generations, f"no, empty after {generations}"), (1 << 60, f"no, empty after {generations}"))
         claims = "".join(f"dies gliders {count}\n" for count, _ in judged)

@@ -172,6 +172,26 @@ def try_dense(tally, refusing, files):
               CLOCK_STEP=step)
 
 
+def try_aged(tally, refusing, files):
+    """A dense plane under a Generations rule, which is stepped too: claims, and runs of each command."""
+    chance = random.Random(6)
+    cells = {(x, y): chance.randrange(1, 4) for x in range(80) for y in range(80) if chance.random() < 0.4}
+    path = files.path("aged.rle", rle.tidy(cells, "345/2/4", 0, 4))
+    last = ageing.after(cells, AgeingRule.of("345/2/4"), 99)
+    later = ageing.after(last, AgeingRule.of("345/2/4"), 1)
+    tally.tell("a Generations plane changes", [] if last != later else ["it doesn't"])
+    text = Watched(files)
+    text.load_path("soup", path)
+    text.load("later", rle.tidy(later, "345/2/4", 0, 4))
+    text.long_claim("becomes soup 100 later", "yes", each(100))
+    text.long_claim("becomes soup 99 later", "no, cells differ after 99", each(99))
+    for step in STEPS:
+        judge(tally, refusing, "a Generations plane", ["--progress", text.write()], b"".join(it.text(False) for it in text.answers), b"".join(text.shown(step)),
+              1, CLOCK_STEP=step)
+        got, _ = refusing.run(["convert", path, "--to", "rle", "--after", "100", "--progress"], {"CLOCK_STEP": step})
+        tally.expect(f"a Generations plane, converted, {step}", got, Outcome(rle.tidy(later, "345/2/4", 100, 4), shown_of(path.encode(), [each(100)], step), 0))
+
+
 def try_order(tally, refusing, files):
     """Where both outputs go the same way, the line is wiped before the verdict's line."""
     text = claims(files)
@@ -226,6 +246,16 @@ def try_many_files(tally, refusing, files):
     shown = b"".join(shown_of(f"{text}: line {2 + number}".encode(), [digits(3)], 1000) for number, text in enumerate(texts))
     got, _ = refusing.run(["verify", "--progress", *texts], {"CLOCK_STEP": 1000})
     tally.expect("verify, 20 texts", got, Outcome(lines.encode(), shown, 1))
+
+
+def try_identify_by_strides(tally, refusing, _):
+    """`identify` shows the end of each stride of a pattern that is back late, and how far it looks at most."""
+    for path, period, limits in (("examples/period_57960.rle", 57960, (65536, 57960, 70000)), ("tests/files/period_840.rle", 840, (840, 900, 1000, 65536))):
+        name = os.path.basename(path).removesuffix(".rle")
+        for limit, step in itertools.product(limits, STEPS):
+            got, _ = refusing.run(["identify", "--limit", str(limit), path, "--progress"], {"CLOCK_STEP": step})
+            wanted = Outcome(f"claims 2\nload {name} {path}\noscillator {name} {period}\n".encode(), identified_shown(path, limit, period, step), 0)
+            tally.expect(f"identify by strides, {name} as far as {limit}, {step}", got, wanted)
 
 
 def try_identify_after(tally, refusing, _):
@@ -493,8 +523,8 @@ def try_head(tally, files):
 def main():
     tally = Tally()
     with refusing_program(tally, "progress") as (_, refusing):
-        parts = (try_claims, try_identify, try_many_files, try_identify_after, try_identify_results, try_after, try_notes, try_dense, try_order, try_closed,
-                 try_terminal, try_results, try_refused_memory, try_the_clock, try_quick)
+        parts = (try_claims, try_identify, try_many_files, try_identify_by_strides, try_identify_after, try_identify_results, try_after, try_notes, try_dense,
+                 try_aged, try_order, try_closed, try_terminal, try_results, try_refused_memory, try_the_clock, try_quick)
         try_each(tally, parts if refusing else (), refusing)
     try_each(tally, (try_stopped, try_stopped_identify, try_head))
     tally.finish()

@@ -1,7 +1,9 @@
 """Large planes of squares that don't repeat, of macrocells and of cells that lie far apart."""
 import math
 import random
+from dataclasses import dataclass
 
+from lib import rle
 from lib.macrocell import EDGE
 from lib.rows import Rows, text_of
 
@@ -60,6 +62,39 @@ def explosion():
     chance = random.Random(1)
     square = tuple(chance.getrandbits(8) for _ in range(8))
     return Rows(0, 0, (square[0] | 3 << 600, *square[1:]))
+
+
+@dataclass(frozen=True)
+class Packed:
+    """The rows of some cells as items of RLE: for each its place, that of its first cell, the items, and the place after its last cell."""
+
+    rows: tuple
+
+    @staticmethod
+    def of(cells, states):
+        """The rows of cells that are given by their states at places, under a rule of so many states."""
+        by_rows = {}
+        for (x, y), state in cells.items():
+            by_rows.setdefault(y, []).append((x, state))
+        return Packed(tuple((y, min(row)[0], "".join(rle.row_items(sorted(row), min(row)[0], states)), max(row)[0] + 1) for y, row in by_rows.items()))
+
+
+def text_of_copies(rule, states, copies):
+    """An RLE text of packed cells, each moved by its vector, none of which overlaps another one's columns in a row: for planes that take too long cell by cell."""
+    dead, lines = "b" if states == 2 else ".", {}
+    for packed, (dx, dy) in copies:
+        for y, first, items, end in packed.rows:
+            lines.setdefault(y + dy, []).append((first + dx, items, end + dx))
+    left, top = min(row[0] for line in lines.values() for row in line), min(lines)
+    written, above = [], top
+    for y in sorted(lines):
+        written.append(rle.counted(y - above, "$") if y > above else "")
+        at, above = left, y
+        for first, items, end in sorted(lines[y]):
+            written += [rle.counted(first - at, dead) if first > at else "", items]
+            at = end
+        written.append("\n")
+    return f"#CXRLE Pos={left},{top}\nx = 1, y = 1, rule = {rule}\n{''.join(written)}!\n"
 
 
 def far_cells(count, rule="B3/S23"):

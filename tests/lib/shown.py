@@ -24,6 +24,15 @@ def shown_of(heading, runs, milliseconds):
     return b"".join(WIPE + it for it in lines) + (WIPE if lines else b"")
 
 
+# How many generations are looked at one by one, and how many a stride has.
+ONE_BY_ONE = 512
+
+
+def looked_at_before(generations, limit):
+    """How many generations were looked at before each look of `identify` at a plane that it looks at for so many: all by one, or later by strides."""
+    return [*range(min(generations, ONE_BY_ONE)), *(min(it + ONE_BY_ONE, limit) - 1 for it in range(ONE_BY_ONE, generations, ONE_BY_ONE))]
+
+
 def identified_shown(path, limit, generations, milliseconds, begun=0):
     """What `identify` shows of a file, which it looks at for `generations`, beginning `begun` after the pattern: each time that the run to there has reached is
     shown after a second, and then, at most twice a second, how many were looked at; the first look is before the first of them."""
@@ -33,7 +42,7 @@ def identified_shown(path, limit, generations, milliseconds, begun=0):
         if time_now >= 1000:
             lines.append(f"{path}: {reached} of {begun} generation{'s' * (begun != 1)}".encode())
             last = time_now
-    for reached in range(generations):
+    for reached in looked_at_before(generations, limit):
         time_now += milliseconds
         if time_now >= (1000 if last is None else last + 500):
             lines.append(f"{path}: {reached} of {limit} generations".encode())
