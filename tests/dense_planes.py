@@ -364,7 +364,7 @@ def try_many_bricks(tally, files):
 
 
 def try_beside_far_cells(tally, files):
-    """A soup is stepped in a store that has the squares of cells far away: what it becomes has those cells, and no others, less than what is claimed."""
+    """A soup is stepped in a store that has the squares of cells far away, and then in one that hasn't."""
     rule, side, count = BESIDE
     soup = rows.soup(random.Random(side), side, side)
     text = ClaimText(files)

@@ -125,8 +125,8 @@ COPIED = ("B1357/S1357", 64, 4096, 1066866)
 # it ends all the same where it keeps all of them.
 ROOM, FEWEST = ("acorn", 8192, 42304), 30000
 
-# The same pattern so late that no step comes there, and units of work by which it is reached; and where it keeps a megabyte, fewer by which it isn't, and more by
-# which it is. It takes some 32500 units, and some 60500 in a megabyte.
+# The same pattern so late that no step comes there, and units of work by which it is reached; and where it keeps a megabyte, fewer by which it isn't, and more
+# by which it is. It takes some 32500 units, and some 60500 in a megabyte.
 LATE, LATE_UNITS, FEW_UNITS, MANY_UNITS = 1 << 40, 37000, 50000, 75000
 
 # Runs of which the least work is found: the rule and the side of a soup, and the generations. They are stepped, or leapt under a table.
@@ -267,8 +267,8 @@ def try_limits_of_commands(tally, files):
 
 
 def soup_run(files, rule, side, count):
-    """A soup under a rule, or a table of one: its path, the words for its rule, its cells after some generations by naive steps, the text of its rule, and how many
-    states that has."""
+    """A soup under a rule, or a table of one: its path, the words for its rule, its cells after some generations by naive steps, the text of its rule, and how
+    many states that has."""
     if rule in ("table", "345/2/4"):
         of, chance = AgeingRule.of("345/2/4"), random.Random(side)
         cells = {(x, y): chance.randrange(1, of.states) for x in range(side) for y in range(side) if chance.random() < 0.4}
@@ -282,7 +282,7 @@ def soup_run(files, rule, side, count):
 
 
 def try_least_work_of_soups(tally, files):
-    """Each command that runs a soup ends with the least work that it needs, and is refused with one unit less. Where it is stepped, all of them need as much."""
+    """Each command that runs a soup ends with the least work that it needs, and is refused with one unit less. Where it is stepped, all need as much."""
     for rule, side, count in LEAST:
         path, words, later, name, states = soup_run(files, rule, side, count)
         left, top = (min(it) for it in zip(*later))
@@ -499,5 +499,6 @@ def try_full_stores(tally, files):
 
 
 if __name__ == "__main__":
-    try_all(try_claims, try_each_by_itself, try_a_soup, try_least_work, try_limits_of_commands, try_least_work_of_soups, try_no_generations, try_patterns, try_soups, try_copies,
-            try_room_of_claims, try_full_stores, try_many_guns, try_collected_guns, try_faults, try_room, try_late_room, try_identification)
+    try_all(try_claims, try_each_by_itself, try_a_soup, try_least_work, try_limits_of_commands, try_least_work_of_soups, try_no_generations, try_patterns,
+            try_soups, try_copies, try_room_of_claims, try_full_stores, try_many_guns, try_collected_guns, try_faults, try_room, try_late_room,
+            try_identification)

@@ -80,7 +80,7 @@ class Packed:
 
 
 def text_of_copies(rule, states, copies):
-    """An RLE text of packed cells, each moved by its vector, none of which overlaps another one's columns in a row: for planes that take too long cell by cell."""
+    """An RLE text of packed cells, each moved by its vector, none of which overlaps another one's columns in a row: of more cells than can be listed."""
     dead, lines = "b" if states == 2 else ".", {}
     for packed, (dx, dy) in copies:
         for y, first, items, end in packed.rows:
