@@ -8,6 +8,8 @@
 
 Each plane is claimed to become what it does, which is true, and the same with one cell changed, which isn't. Under B/S rules the verdict has to name that cell.
 """
+import functools
+import operator
 import random
 import re
 
@@ -135,9 +137,9 @@ AGED_CORNERS = (
 
 AGED_PLACED = (("/2/3", 33), ("23/3/8", 65), ("345/2/4", 40), ("345/2/256", 34))
 
-# Planes of many bricks: the rule, the side of a soup under it, how many of its cells are dead in a hundred, the columns and rows of copies of it, and the
-# generations. The copies lie at all alignments to squares of 16 by 16 cells, so that the planes are stepped.
-MANY_BRICKS = (("B3/S23", 1000, 93, 10, 10, 33), ("23/3/8", 300, 60, 10, 9, 33))
+# Planes of many bricks: the rule, the side of a soup under it, the columns and rows of copies of it, and the generations. The copies lie at different alignments
+# to squares of 16 by 16 cells, and near each other, so that the planes are stepped.
+MANY_BRICKS = (("B3/S23", 3500, 3, 3, 33), ("23/3/8", 300, 10, 9, 33))
 
 # A soup, and cells far apart that take more than 2 million squares beside it.
 BESIDE, FAR_CELLS = ("B3/S23", 300, 129), 46000
@@ -340,17 +342,18 @@ def copied(chance, side, across, down, count):
 
 def try_many_bricks(tally, files):
     """Planes of copies of a soup, which become copies of what the soup becomes, and nothing else: one cell is another of the last copy."""
-    for name, side, dead, across, down, count in MANY_BRICKS:
+    for name, side, across, down, count in MANY_BRICKS:
         chance = random.Random(side)
         places = copied(chance, side, across, down, count)
         if "B" in name:
             states, kind = 2, name
-            soup = rows.Rows(0, 0, tuple(sum((chance.randrange(100) >= dead) << x for x in range(side)) for _ in range(side)))
+            # a cell in sixteen is live
+            soup = rows.Rows(0, 0, tuple(functools.reduce(operator.and_, (chance.getrandbits(side) for _ in range(4))) for _ in range(side)))
             cells, later = (dict.fromkeys(it.cells(), 1) for it in (soup, soup.after(kind, count)))
         else:
             kind = AgeingRule.of(name)
             states = kind.states
-            cells = {(x, y): chance.randrange(1, states) for x in range(side) for y in range(side) if chance.randrange(100) >= dead}
+            cells = {(x, y): chance.randrange(1, states) for x in range(side) for y in range(side) if chance.random() < 0.4}
             later = ageing.after(cells, kind, count)
         text, before, after = ClaimText(files), *(Packed.of(it, states) for it in (cells, later))
         changed = Packed.of(small_planes.one_changed(chance, later, states), states)

@@ -28,7 +28,7 @@ class Rows:
 
     def cells(self):
         """The places of the live cells."""
-        return [(self.x + x, y) for y, row in enumerate(self.rows, self.y) for x in range(row.bit_length()) if row >> x & 1]
+        return [(self.x + it.start(), y) for y, row in enumerate(self.rows, self.y) for it in re.finditer("1", f"{row:b}"[::-1])]
 
     def moved(self, x, y):
         """The plane, moved."""
