@@ -4,8 +4,8 @@
     python3 -B -m scripts.record proved FOLDER
     python3 -B -m scripts.record end FOLDER LAST_LINE
 
-`begin` notes the commit, and what isn't committed; `proved` the program that `rt ci` made; `end` what is there at the end, and puts the record in place
-with FOLDER/log. Until then the record stands in FOLDER. Where something of this isn't known, the record says so.
+`begin` notes the commit, and what isn't committed; `proved` the program that `rt ci` made, of which it keeps a copy; `end` what is there at the end, and puts
+the record in place with that copy and FOLDER/log. Until then the record stands in FOLDER. Where something of this isn't known, the record says so.
 """
 import hashlib
 import json
@@ -17,9 +17,12 @@ import sys
 from dataclasses import asdict, dataclass
 
 from scripts.checkout import find_changes, find_commit
-from scripts.repository import PROVED, ROOT, say
+from scripts.repository import PROGRAM, PROVED, ROOT, say
 
 RECORDS = os.path.join(ROOT, "out", "check")
+
+# The program that was checked.
+CHECKED = os.path.join(RECORDS, PROGRAM)
 
 
 @dataclass
@@ -84,15 +87,16 @@ def write(record, folder):
 
 
 def put_in_place(folder):
-    """Puts what stands in a folder in place of the last check's log and record. A record always stands beside its own log."""
+    """Puts what stands in a folder in place of the last check's. A record always stands beside its own log and program."""
     os.makedirs(RECORDS, exist_ok=True)
     record = os.path.join(RECORDS, "record.json")
     if os.path.exists(record):
         os.remove(record)
-    for name in ("log", "record.json"):
-        path = os.path.join(RECORDS, name)
-        shutil.copyfile(os.path.join(folder, name), path + ".new")
-        os.replace(path + ".new", path)
+    for name in ("log", PROGRAM, "record.json"):
+        source, path = (os.path.join(it, name) for it in (folder, RECORDS))
+        if os.path.exists(source):
+            shutil.copy2(source, path + ".new")
+            os.replace(path + ".new", path)
 
 
 def note(step, folder, last_line=""):
@@ -101,7 +105,8 @@ def note(step, folder, last_line=""):
     if step == "begin":
         record.commit, record.changes, record.kit = find_commit(), find_changes(), find_kit()
     elif step == "proved":
-        record.proved = sum_of(PROVED)
+        shutil.copy2(PROVED, folder)
+        record.proved = sum_of(os.path.join(folder, PROGRAM))
     else:
         record.tested, record.last_line = sum_of(os.environ.get("CAFILE", PROVED)), last_line
         record.commit_at_end, record.changes_at_end = find_commit(), find_changes()

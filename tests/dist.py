@@ -107,16 +107,19 @@ def try_checks(tally, files):
 
 
 def try_programs(tally, files):
-    """Programs that aren't the one that was checked."""
+    """Programs that aren't the one that was checked, of which the check keeps a copy: a later build changes nothing."""
     refusals = Refusals(tally, files.folder)
     repository = refusals.repository
     repository.check()
-    program = contents(repository.program)
-    Folder(os.path.dirname(repository.program)).path("cafile", program + b"\0")
-    refusals.expect("another program", "crates/cafile/out/cafile isn't the program that ./check tested: run ./check again")
     os.remove(repository.program)
-    refusals.expect("no program", "there is no program crates/cafile/out/cafile: run ./check again")
-    shutil.copy(os.path.join(repository.tools, "rt.program"), repository.program)
+    got = repository.dist()
+    tally.tell("a program that was built later", [] if got.status == 0 else [str(got)])
+    program = contents(repository.checked)
+    Folder(os.path.dirname(repository.checked)).path("cafile", program + b"\0")
+    refusals.expect("another program", "out/check/cafile isn't the program that ./check tested: run ./check again")
+    os.remove(repository.checked)
+    refusals.expect("no program", "there is no program out/check/cafile: run ./check again")
+    repository.check()
     got = repository.dist()
     tally.tell("the program is there again", [] if got.status == 0 else [str(got)])
 

@@ -75,7 +75,7 @@ class CheckedRepository(Folder):
     def __init__(self, room):
         super().__init__(os.path.join(room, "repository"))
         self.room, self.tools = room, os.path.join(room, "tools")
-        self.program = os.path.join(self.folder, "crates", "cafile", "out", "cafile")
+        self.program, self.checked = (os.path.join(self.folder, *it, "cafile") for it in (("crates", "cafile", "out"), ("out", "check")))
         for it in ("docs", "tests"):
             os.makedirs(os.path.join(self.folder, it))
         for it in PARTS:
