@@ -131,3 +131,37 @@ pub word_window : {E : Type 0} (old new : List Node) (four : Neighbours) (place 
 word_window old new four place level word (Ok id) is h =
     subst (λ l. ShowsFrom new id l (cells_of_four old l four) place.x place.y) (sym is.is_level) (record { is_square = h.is_square; has_cells = λ x y i j. h.has_cells x y ∙ is.has_cells x y i j })
 word_window old new four place level word (Err e) is h = tt
+
+-- a cell of a word is 0 or 1
+word_low : (word x y : ℕ) → word_cells word x y ≤ 1
+word_low word x y =
+    elim (below_or_not x 8) [
+      | inl h ↦ subst (λ n. n ≤ 1) (sym (cell_bit word x y h)) (omega (arith, bit_at-lt word (8 * y + x)))
+      | inr h ↦
+          let e : nat_lt x 8 ≡ false = grind (arith, nat_tests) in
+          let f : word_cells word x y ≡ 0 = rw e refl in
+          omega (arith, f)
+    ]
+
+-- and so are those of four squares that are words
+module _ (nodes : List Node) (four : Neighbours) (nw ne sw se : ℕ) (a : (x y : ℕ) → cell_of nodes 3 four.nw x y ≡ word_cells nw x y) (b : (x y : ℕ) → cell_of nodes 3 four.ne x y ≡ word_cells ne x y)
+    (c : (x y : ℕ) → cell_of nodes 3 four.sw x y ≡ word_cells sw x y) (d : (x y : ℕ) → cell_of nodes 3 four.se x y ≡ word_cells se x y) where
+  low_as : (n word x y : ℕ) → n ≡ word_cells word x y → n ≤ 1
+  low_as n word x y e = subst (λ m. m ≤ 1) (sym e) (word_low word x y)
+
+  pub words_low : (x y : ℕ) → cells_of_four nodes 3 four x y ≤ 1
+  words_low x y =
+      let p = cell_of nodes 3 four.nw in
+      let q = cell_of nodes 3 four.ne in
+      let r = cell_of nodes 3 four.sw in
+      let s = cell_of nodes 3 four.se in
+      elim (below_or_not x 8) [
+        | inl i ↦ elim (below_or_not y 8) [
+          | inl j ↦ low_as _ nw x y (in_nw 8 p q r s x y i j ∙ a x y)
+          | inr j ↦ low_as _ sw x (y - 8) (in_sw 8 p q r s x y i j ∙ c x (y - 8))
+        ]
+        | inr i ↦ elim (below_or_not y 8) [
+          | inl j ↦ low_as _ ne (x - 8) y (in_ne 8 p q r s x y i j ∙ b (x - 8) y)
+          | inr j ↦ low_as _ se (x - 8) (y - 8) (in_se 8 p q r s x y i j ∙ d (x - 8) (y - 8))
+        ]
+      ]

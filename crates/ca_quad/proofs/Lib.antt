@@ -39,3 +39,5 @@ pub mod Words
 pub mod WordExtents
 pub mod MoreStates
 pub mod CutWords
+pub mod KnownSquares
+pub mod KnownCuts

@@ -1,7 +1,11 @@
 -- Values that belong to squares.
-use Rattle.std.specs.Prelude.{ℕ, ◌==◌, List, Option}
+use Rattle.std.specs.Prelude.{◌≢◌, ℕ, ◌==◌, List, Option, None}
 use Rattle.std.specs.Map.{lookup}
 
 -- the value of the square with this id, if it has one
 abbrev pub square_value : {V : Type 0} → List (ℕ × V) → ℕ → Option V
 square_value values id = lookup (λ (other : ℕ). id == other) values
+
+-- each square that had a value has one
+abbrev pub KeepValues : {V : Type 0} → List (ℕ × V) → List (ℕ × V) → Type 0
+KeepValues old new = (id : ℕ) → square_value old id ≢ None → square_value new id ≢ None

@@ -51,6 +51,11 @@ abbrev pub level : Square → ℕ
 level (Four nw ne sw se) = 1
 level (Parts k nw ne sw se) = k
 
+-- the square has four parts, and not four cells
+abbrev pub IsParted : Square → Type 0
+IsParted (Four nw ne sw se) = ⊥
+IsParted (Parts k nw ne sw se) = Unit {0}
+
 -- the level of an id's square
 abbrev pub level_of : List Node → ℕ → ℕ
 level_of nodes id = level (square_of nodes id)

@@ -1,5 +1,5 @@
 -- Squares that are cut out of four that lie together.
-use Rattle.std.specs.Prelude.{◌≡◌, ℕ, ◌+◌, ◌*◌, ◌<◌, ◌^◌, ◌%◌, nat_lt, if◌then◌else◌, List, slice_index, Option, Some}
+use Rattle.std.specs.Prelude.{◌≡◌, ◌≢◌, ℕ, ◌+◌, ◌*◌, ◌<◌, ◌≤◌, ◌⊎◌, ◌^◌, ◌%◌, nat_lt, if◌then◌else◌, List, slice_index, Option, Some, None}
 use Rattle.std.specs.Map.{lookup}
 use Rattle.ca_quad.specs.declared.{neighbours.Neighbours.Neighbours, node.Node.Node, store.cut.Offset.Offset}
 use Rattle.ca_quad.specs.{contracts.neighbours.NeighboursPartialEq.TheImpl.eq-value, Squares.joined_cells, Squares.cell_of, Trees.AreFour}
@@ -27,6 +27,18 @@ cut_value values four = lookup (λ (other : Neighbours). (eq-value).it four othe
 -- each is cut out of its four
 abbrev pub AreCuts : List Node → Offset → List (Neighbours × ℕ) → Type 0
 AreCuts nodes offset values = (four : Neighbours) (id : ℕ) → cut_value values four ≡ Some id → IsCut nodes offset four id
+
+-- each four for which a square was remembered have one
+abbrev pub KeepCuts : List (Neighbours × ℕ) → List (Neighbours × ℕ) → Type 0
+KeepCuts old new = (four : Neighbours) → cut_value old four ≢ None → cut_value new four ≢ None
+
+-- what is cut out of the four is cut out of their parts: they have some, it isn't the first of them, and no word has their cells
+pub record IsCutInParts (nodes : List Node) (offset : Offset) (squares : Neighbours) : Type 0 where
+  pub level : ℕ
+  pub four : AreNeighbours nodes level squares
+  pub parted : 2 ≤ level
+  pub apart : (offset.x % 2 ^ level ≢ 0) ⊎ (offset.y % 2 ^ level ≢ 0)
+  pub wordless : level ≡ 3 → (x : ℕ) × (y : ℕ) × (2 ≤ cells_of_four nodes 3 squares x y)
 
 -- sixteen squares of this level, row by row, show cells side by side
 abbrev pub AreSixteen : List Node → ℕ → (ℕ → ℕ → ℕ) → List ℕ → Type 0

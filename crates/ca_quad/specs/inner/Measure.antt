@@ -1,7 +1,7 @@
 -- What a walk over a square finds out of it from the same of its parts.
 use Rattle.std.specs.Prelude.{◌≡◌, ℕ, ◌+◌, ◌≤◌, ◌^◌, ◌⊎◌, List, Some}
 use Rattle.ca_quad.specs.declared.node.Node.{Node}
-use Rattle.ca_quad.specs.{Squares.IsOf, Squares.joined_cells, Squares.cell_of, SquareValues.square_value, Trees.IsIn}
+use Rattle.ca_quad.specs.{Squares.IsOf, Squares.joined_cells, Squares.cell_of, Squares.IsParted, Squares.square_of, SquareValues.square_value, Trees.IsIn, inner.Numbered.IsNumberOfNode}
 
 -- beyond this side every cell is 0
 abbrev pub EndsWithin : ℕ → (ℕ → ℕ → ℕ) → Type 0
@@ -20,3 +20,7 @@ IsMeasureOf is nodes id value = (level : ℕ) → IsOf nodes id level → is (ce
 -- each value is the measure of one of these squares
 abbrev pub AreMeasures : {V : Type 0} → ((ℕ → ℕ → ℕ) → ℕ → V → Type 0) → List Node → List (ℕ × V) → Type 0
 AreMeasures is nodes values = (id : ℕ) (value : _) → square_value values id ≡ Some value → IsIn nodes id × IsMeasureOf is nodes id value
+
+-- the square's parts are looked at: it has some, and no number tells all its cells
+abbrev pub IsLookedUp : List Node → ℕ → Type 0
+IsLookedUp nodes id = IsParted (square_of nodes id) × ((n : ℕ) → ¬ IsNumberOfNode nodes id n)

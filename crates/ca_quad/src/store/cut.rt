@@ -1,9 +1,9 @@
 //! Squares that are cut out of four that lie together.
 
-ghost use Rattle.std.specs.Prelude.{◌≡◌, ℕ, suc, ◌+◌, ◌*◌, ◌<◌, ◌≤◌, ◌^◌, ◌%◌, IfOk, OnOk};
+ghost use Rattle.std.specs.Prelude.{◌≡◌, ◌≢◌, ℕ, suc, ◌+◌, ◌*◌, ◌<◌, ◌≤◌, ◌^◌, ◌%◌, None, IsOk, IfOk, OnOk};
 ghost use Rattle.ca_quad.specs.Sound.{Grows};
 ghost use Rattle.ca_quad.specs.inner.Cut.{AreNeighbours, cells_of_four, half_of, overlapping_fours, neighbours_at, IsCut};
-ghost use Rattle.ca_quad.specs.inner.Cut.{AreCuts, AreSixteen, AreSixteenCells};
+ghost use Rattle.ca_quad.specs.inner.Cut.{AreCuts, AreSixteen, AreSixteenCells, cut_value, IsCutInParts, KeepCuts};
 ghost use Rattle.ca_quad.specs.inner.Window.{ShowsFrom};
 
 use super::Store;
@@ -33,6 +33,9 @@ impl Store {
         requires cuts { AreCuts self.old offset cuts.old }
         ensures cut { IfOk result (IsCut self.new offset four) }
         ensures cuts { OnOk result (AreCuts self.new offset cuts.new) }
+        ensures remembered { OnOk result (IsCutInParts self.old offset four → cut_value cuts.new four ≢ None) }
+        ensures again { IsCutInParts self.old offset four → cut_value cuts.old four ≢ None → IsOk result }
+        ensures kept { OnOk result (KeepCuts cuts.old cuts.new) }
         ensures grows { Grows self.old self.new }
     {
         let _ = &self.nodes;

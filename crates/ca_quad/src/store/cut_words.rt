@@ -1,8 +1,8 @@
 //! Squares of 8 by 8 cells of two states that are cut out of four, as words.
 
-ghost use Rattle.std.specs.Prelude.{◌≡◌, ℕ, ◌+◌, ◌-◌, ◌*◌, ◌/◌, ◌<◌, ◌≤◌, ◌^◌, IfSome};
+ghost use Rattle.std.specs.Prelude.{◌≡◌, ℕ, ◌+◌, ◌-◌, ◌*◌, ◌/◌, ◌<◌, ◌≤◌, ◌^◌, IsSome, IfSome};
 ghost use Rattle.ca_plane.specs.Prelude.{word_cells};
-ghost use Rattle.ca_quad.specs.inner.Cut.{AreNeighbours, IsCutWord};
+ghost use Rattle.ca_quad.specs.inner.Cut.{AreNeighbours, cells_of_four, IsCutWord};
 
 use super::Store;
 use super::cut::Offset;
@@ -15,7 +15,8 @@ impl Store {
         requires four { AreNeighbours self.now level four }
         requires x { place.x < 2 ^ level }
         requires y { place.y < 2 ^ level }
-        ensures { IfSome result (IsCutWord self.now level four place) }
+        ensures word { IfSome result (IsCutWord self.now level four place) }
+        ensures states { IsSome result → (x y : ℕ) → cells_of_four self.now 3 four x y ≤ 1 }
     {
         if level != 3 {
             return None;

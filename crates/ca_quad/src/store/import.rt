@@ -1,10 +1,11 @@
 //! Trees of another store, and the squares that a store had at first.
 
-ghost use Rattle.std.specs.Prelude.{◌≡◌, ◌≤◌, ◌⊎◌, ◌+◌, ℤ, length, take, IfOk, OnOk, MatchOption};
+ghost use Rattle.std.specs.Prelude.{◌≡◌, ◌≢◌, ◌≤◌, ◌⊎◌, ◌+◌, ℤ, None, length, take, IsOk, IfOk, OnOk, MatchOption};
 ghost use Rattle.ca_quad.specs.Sound.{IsSoundStore, Grows, most_nodes};
 ghost use Rattle.ca_quad.specs.Trees.{IsIn, IsTree, cell, IsTrimmed};
-ghost use Rattle.ca_quad.specs.Squares.{place_id};
+ghost use Rattle.ca_quad.specs.Squares.{IsParted, place_id, square_of};
 ghost use Rattle.ca_quad.specs.Added.{IsCopy, AreCopies, AddsCopies};
+ghost use Rattle.ca_quad.specs.SquareValues.{square_value, KeepValues};
 
 use super::{MOST, Store};
 use crate::id::Id;
@@ -64,7 +65,8 @@ impl Store {
     }
 
     /// The square of the same level and cells as one of another store. Copies of some of that store's squares are known, and
-    /// those that are made become known, so that what several squares share is looked at once.
+    /// those that are made become known, so that what several squares share is looked at once. Nothing is made where
+    /// the copy of a square with parts is known, and then no memory is wanted.
     ///
     /// # Errors
     ///
@@ -80,6 +82,10 @@ impl Store {
         requires copies { AreCopies from.now self.old copies.old }
         ensures copy { IfOk result (IsCopy from.now self.new id) }
         ensures copies { OnOk result (AreCopies from.now self.new copies.new) }
+        ensures remembered { OnOk result (IsParted (square_of from.now id)
+            → square_value copies.new id ≢ None) }
+        ensures again { IsParted (square_of from.now id) → square_value copies.old id ≢ None → IsOk result }
+        ensures kept { OnOk result (KeepValues copies.old copies.new) }
         ensures added { AddsCopies from.now id self.old self.new }
         ensures grows { Grows self.old self.new }
         ensures sound { IsSoundStore from.now }

@@ -1,12 +1,13 @@
 //! The one walk over a square that looks at each square in it once.
 
-ghost use Rattle.std.specs.Prelude.{◌≡◌, ℕ, ◌≤◌, ◌^◌, List, IfSome, IfOk, OnOk};
+ghost use Rattle.std.specs.Prelude.{◌≡◌, ◌≢◌, ℕ, ◌≤◌, ◌^◌, List, None, IsSome, IfSome, IsOk, IfOk, OnOk};
 ghost use Rattle.ca_quad.specs.declared.node.Node.{Node as Kept};
 ghost use Rattle.ca_quad.specs.declared.square.Square.TheVariants.{Four};
 ghost use Rattle.ca_quad.specs.Squares.{one_cell, square_of};
 ghost use Rattle.ca_quad.specs.Sound.{IsSoundStore};
+ghost use Rattle.ca_quad.specs.SquareValues.{square_value, KeepValues};
 ghost use Rattle.ca_quad.specs.Trees.{IsIn};
-ghost use Rattle.ca_quad.specs.inner.Measure.{IsJoined, IsMeasureOf, AreMeasures};
+ghost use Rattle.ca_quad.specs.inner.Measure.{IsJoined, IsMeasureOf, AreMeasures, IsLookedUp};
 ghost use Rattle.ca_quad.specs.inner.Numbered.{IsNumberOfNode};
 
 use super::Store;
@@ -47,6 +48,9 @@ impl Store {
         requires measures { AreMeasures M.is self.now measures.old }
         ensures measure { IfOk result (IsMeasureOf M.is self.now id) }
         ensures measures { OnOk result (AreMeasures M.is self.now measures.new) }
+        ensures remembered { OnOk result (IsLookedUp self.now id → square_value measures.new id ≢ None) }
+        ensures again { square_value measures.old id ≢ None → IsOk result }
+        ensures kept { OnOk result (KeepValues measures.old measures.new) }
     {
         if let Some(measure) = self.number_measure(id) {
             return Ok(measure);
@@ -71,7 +75,8 @@ impl Store {
     // What the number of a square's cells tells, where it has one.
     fn number_measure<M: Measure>(&self, id: Id) -> Option<M>
         requires { IsIn self.now id }
-        ensures { IfSome result (IsMeasureOf M.is self.now id) }
+        ensures measure { IfSome result (IsMeasureOf M.is self.now id) }
+        ensures number { IsSome result → (n : ℕ) × IsNumberOfNode self.now id n }
     {
         let cells = self.number(id)?;
         M::of_number(cells)

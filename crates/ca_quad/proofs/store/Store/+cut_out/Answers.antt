@@ -1,10 +1,12 @@
-use Rattle.std.proofs.Common.{◌≡◌, ℕ, suc, IfOk, ◌-◌, ◌≤◌, sym, subst, arith}
+use Rattle.std.proofs.Common.{◌≡◌, ℕ, suc, IfOk, ◌-◌, ◌≤◌, refl, sym, subst, arith}
 use Rattle.std.proofs.lemmas.Bool.Decides.{nat_tests}
 use Rattle.ca_quad.specs.Prelude.{IsSoundStore}
 use Rattle.ca_quad.specs.inner.Cut.{AreNeighbours, cells_of_four, IsCut}
 use Rattle.ca_quad.specs.inner.Window.{ShowsFrom}
 use Rattle.ca_quad.proofs.Cuts.{still_cuts, cuts_stay, one_cut_more, first_cut, made_cut, are_four, rest_low, group_stays, lead_to_parts, can_join_cuts, cuts_joined}
 use Rattle.ca_quad.proofs.CutWords.{word_window}
+use Rattle.ca_quad.proofs.KnownCuts.{cut_known, cut_keeps, is_apart, has_parts, has_no_word}
+use Rattle.ca_quad.proofs.KnownSquares.{so_on_ok}
 use Rattle.ca_quad.proofs.FilledSquares.{grows_three, grows_four, grows_five}
 use Rattle.ca_quad.proofs.Growth.{grows_same, grows_on}
 use Rattle.ca_quad.proofs.store.Store.+cut_out.Goals as goal
@@ -27,7 +29,7 @@ returns-then-place-eq0-2-clause-cut t c =
 pub returns-in-Some-clause-cut : goal.returns-in-Some-clause-cut
 returns-in-Some-clause-cut t c =
     made_cut c.args.self.now (subst IsSoundStore c.self.view_is c.self.invariant) c.args.four c.args.offset c.remainders-place.result c.level-level.result c.level-level.ensures.level c.requires.four c.remainders-place.ensures.x c.remainders-place.ensures.y c.from_word.new.self c.from_word.ensures.grows c.from_word.result
-    (word_window c.args.self.now c.from_word.new.self c.args.four c.remainders-place.result c.level-level.result c.in-Some.word c.from_word.result c.in-Some.ensures c.from_word.ensures.shows)
+    (word_window c.args.self.now c.from_word.new.self c.args.four c.remainders-place.result c.level-level.result c.in-Some.word c.from_word.result c.in-Some.ensures.word c.from_word.ensures.shows)
 
 pub returns-in-Some-clause-cuts : goal.returns-in-Some-clause-cuts
 returns-in-Some-clause-cuts t c = still_cuts c.args.self.now c.from_word.new.self c.from_word.result (subst IsSoundStore c.self.view_is c.self.invariant) c.from_word.ensures.grows c.args.offset c.args.cuts.now c.requires.cuts
@@ -113,3 +115,35 @@ cut_word-requires-clause-x t c = rest_low c.args.offset.x c.level-level.result c
 
 pub cut_word-requires-clause-y : goal.cut_word-requires-clause-y
 cut_word-requires-clause-y t c = rest_low c.args.offset.y c.level-level.result c.remainders-place.result.y c.remainders-place.ensures.y
+
+pub returns-then-place-eq0-2-clause-remembered : goal.returns-then-place-eq0-2-clause-remembered
+returns-then-place-eq0-2-clause-remembered t c = λ parts.
+    let zero_x : c.remainders-place.result.x ≡ 0 = grind (arith, nat_tests) in
+    let zero_y : c.remainders-place.result.y ≡ 0 = grind (arith, nat_tests) in
+    absurd (is_apart c.args.self.now c.args.offset c.remainders-place.result c.args.four c.level-level.result c.level-level.ensures.level c.remainders-place.ensures.x c.remainders-place.ensures.y parts zero_x zero_y)
+
+pub returns-then-level-eq1-clause-remembered : goal.returns-then-level-eq1-clause-remembered
+returns-then-level-eq1-clause-remembered t c =
+    let one : c.level-level.result ≡ 1 = grind (arith, nat_tests) in
+    so_on_ok c.cut_cells.result (λ parts. absurd (has_parts c.args.self.now c.args.offset c.remainders-place.result c.args.four c.level-level.result c.level-level.ensures.level c.remainders-place.ensures.x c.remainders-place.ensures.y parts one))
+
+pub returns-then-level-eq1-clause-again : goal.returns-then-level-eq1-clause-again
+returns-then-level-eq1-clause-again t c = λ parts some.
+    let one : c.level-level.result ≡ 1 = grind (arith, nat_tests) in
+    absurd (has_parts c.args.self.now c.args.offset c.remainders-place.result c.args.four c.level-level.result c.level-level.ensures.level c.remainders-place.ensures.x c.remainders-place.ensures.y parts one)
+
+pub returns-in-Some-clause-remembered : goal.returns-in-Some-clause-remembered
+returns-in-Some-clause-remembered t c =
+    so_on_ok c.from_word.result (λ parts. absurd (has_no_word c.args.self.now c.args.offset c.remainders-place.result c.args.four c.level-level.result c.level-level.ensures.level c.remainders-place.ensures.x c.remainders-place.ensures.y parts c.in-Some.ensures.word.is_level (c.in-Some.ensures.states refl)))
+
+pub returns-in-Some-clause-again : goal.returns-in-Some-clause-again
+returns-in-Some-clause-again t c = λ parts some.
+    absurd (has_no_word c.args.self.now c.args.offset c.remainders-place.result c.args.four c.level-level.result c.level-level.ensures.level c.remainders-place.ensures.x c.remainders-place.ensures.y parts c.in-Some.ensures.word.is_level (c.in-Some.ensures.states refl))
+
+pub returns-clause-remembered : goal.returns-clause-remembered
+returns-clause-remembered t c = λ parts. cut_known c.cut_out-4.new.cuts c.put.new.self c.args.four c.in_ok-cut.cut c.in_ok-put.ensures
+
+pub returns-clause-kept : goal.returns-clause-kept
+returns-clause-kept t c = λ four some.
+    cut_keeps c.cut_out-4.new.cuts c.put.new.self c.args.four c.in_ok-cut.cut c.in_ok-put.ensures four
+    (c.in_ok-se.ensures.kept four (c.in_ok-sw.ensures.kept four (c.in_ok-ne.ensures.kept four (c.in_ok-nw.ensures.kept four some))))

@@ -3,6 +3,7 @@ use Rattle.ca_quad.specs.Prelude.{IsSoundStore, Grows, IsPartOf, IsCopy, AddsCop
 use Rattle.ca_quad.proofs.CopiedSquares.{copies_stay, still_copies, parts_four, parts_copied}
 use Rattle.ca_quad.proofs.AddedSquares.{none_added, added_on, added_in_part, ok_added, one_added, added_two, added_three, added_four}
 use Rattle.ca_quad.proofs.FilledSquares.{grows_five}
+use Rattle.ca_quad.proofs.KnownSquares.{four_unparted, so_on_ok, put_known, put_keeps}
 use Rattle.ca_quad.proofs.Measures.{one_more}
 use Rattle.ca_quad.proofs.store.Store.+import_square.Goals as goal
 use Rattle.ca_quad.proofs.store.Store.+import_square.Goals.{After-import_square-in-Parts-3, In_ok-copy-in-Parts}
@@ -103,3 +104,21 @@ returns-in_ok-put-in-Parts-clause-added t c =
     let a = goal.at.returns-in_ok-put-in-Parts-clause-added t c in
     added_on c.args.from.now c.args.id c.args.self.now c.import_square-in-Parts-3.new.self c.join.new.self c.import_square-in-Parts-3.ensures.grows.sound c.join.ensures.grows
     (four_added t a.After-import_square-in-Parts-3) (square_added t a.In_ok-copy-in-Parts)
+
+pub returns-in-Four-clause-remembered : goal.returns-in-Four-clause-remembered
+returns-in-Four-clause-remembered t c =
+    so_on_ok c.leaf.result (λ parted. absurd (four_unparted c.args.from.now c.args.id c.in-Four.nw c.in-Four.ne c.in-Four.sw c.in-Four.se c.in-Four.ensures.shows parted))
+
+pub returns-in-Four-clause-again : goal.returns-in-Four-clause-again
+returns-in-Four-clause-again t c = λ parted some. absurd (four_unparted c.args.from.now c.args.id c.in-Four.nw c.in-Four.ne c.in-Four.sw c.in-Four.se c.in-Four.ensures.shows parted)
+
+pub returns-in-Four-clause-kept : goal.returns-in-Four-clause-kept
+returns-in-Four-clause-kept t c = so_on_ok c.leaf.result (λ id some. some)
+
+pub returns-in_ok-put-in-Parts-clause-remembered : goal.returns-in_ok-put-in-Parts-clause-remembered
+returns-in_ok-put-in-Parts-clause-remembered t c = λ parted. put_known c.import_square-in-Parts-3.new.copies c.put.new.self c.args.id c.in_ok-copy-in-Parts.copy c.in_ok-put-in-Parts.ensures.ok
+
+pub returns-in_ok-put-in-Parts-clause-kept : goal.returns-in_ok-put-in-Parts-clause-kept
+returns-in_ok-put-in-Parts-clause-kept t c = λ id some.
+    put_keeps c.import_square-in-Parts-3.new.copies c.put.new.self c.args.id c.in_ok-copy-in-Parts.copy c.in_ok-put-in-Parts.ensures.ok id
+    (c.in_ok-se-in-Parts.ensures.kept id (c.in_ok-sw-in-Parts.ensures.kept id (c.in_ok-ne-in-Parts.ensures.kept id (c.in_ok-nw-in-Parts.ensures.kept id some))))

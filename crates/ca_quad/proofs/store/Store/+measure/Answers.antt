@@ -1,5 +1,6 @@
 use Rattle.ca_quad.specs.Prelude.{IsIn}
 use Rattle.ca_quad.specs.inner.Measure.{IsMeasureOf}
+use Rattle.ca_quad.proofs.KnownSquares.{four_unparted, put_known, put_keeps}
 use Rattle.ca_quad.proofs.Measures.{measure_parts, one_more}
 use Rattle.ca_quad.proofs.store.Store.+measure.Goals as goal
 
@@ -16,3 +17,14 @@ pub returns-in_ok-put-in-Parts-clause-measures : goal.returns-in_ok-put-in-Parts
 returns-in_ok-put-in-Parts-clause-measures g t c =
     one_more (λ id value. IsIn c.args.self.now id × IsMeasureOf g.M.Measure.is c.args.self.now id value) c.measure-in-Parts-3.new.measures c.put.new.self c.args.id c.of_four-measure.result c.in_ok-se-in-Parts.ensures.measures
     (c.requires.known, returns-in_ok-put-in-Parts-clause-measure g t c) c.in_ok-put-in-Parts.ensures.ok
+
+pub returns-in-Four-clause-remembered : goal.returns-in-Four-clause-remembered
+returns-in-Four-clause-remembered g t c = λ looked. absurd (four_unparted c.args.self.now c.args.id c.in-Four.nw c.in-Four.ne c.in-Four.sw c.in-Four.se c.in-Four.ensures.shows looked.0)
+
+pub returns-in_ok-put-in-Parts-clause-remembered : goal.returns-in_ok-put-in-Parts-clause-remembered
+returns-in_ok-put-in-Parts-clause-remembered g t c = λ looked. put_known c.measure-in-Parts-3.new.measures c.put.new.self c.args.id c.of_four-measure.result c.in_ok-put-in-Parts.ensures.ok
+
+pub returns-in_ok-put-in-Parts-clause-kept : goal.returns-in_ok-put-in-Parts-clause-kept
+returns-in_ok-put-in-Parts-clause-kept g t c = λ id some.
+    put_keeps c.measure-in-Parts-3.new.measures c.put.new.self c.args.id c.of_four-measure.result c.in_ok-put-in-Parts.ensures.ok id
+    (c.in_ok-se-in-Parts.ensures.kept id (c.in_ok-sw-in-Parts.ensures.kept id (c.in_ok-ne-in-Parts.ensures.kept id (c.in_ok-nw-in-Parts.ensures.kept id some))))
