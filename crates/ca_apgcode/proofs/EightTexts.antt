@@ -1,11 +1,11 @@
 -- The least of the eight texts of a plane.
 use Rattle.std.proofs.Common.{Result, Ok, Err, IfOk, Vec, Global, ◌≡◌, ℕ, ◌<◌, List, [], ◌∷◌, length, refl, sym, ap, subst, ◌∙◌, inl, inr, ◌⊎◌, ℤ, neg_ℤ, arith}
 use Rattle.std.proofs.lemmas.Int.{ints}
-use Rattle.ca_apgcode.specs.Prelude.{Precedes, IsLeastText, IsTextOf, IsTurnedText, IsLeastAmong, turned}
+use Rattle.ca_apgcode.specs.Prelude.{Precedes, IsTextOf, IsTurnedText, IsLeastAmong, turned}
 use Rattle.ca_apgcode.specs.declared.orientation.Orientation.TheVariants.{Upright, QuarterTurn, HalfTurn, ThreeQuarterTurn, EastWest, NorthSouth, Diagonal, Antidiagonal}
-use Rattle.ca_apgcode.specs.inner.Least.{lesser, least_from}
+use Rattle.ca_apgcode.specs.inner.Least.{lesser}
 use Rattle.ca_apgcode.specs.inner.Rounds.{IsLeastWith}
-use Rattle.ca_apgcode.proofs.Leasts.{IsLeastText-from, is_each}
+use Rattle.ca_apgcode.proofs.Leasts.{IsLeastText, least_from, IsLeastText-from, is_each}
 use Rattle.ca_apgcode.proofs.Lengths.{shorter_first}
 use Rattle.ca_apgcode.proofs.PlaneBoxes.{one_text_of}
 

@@ -9,8 +9,18 @@ use Rattle.std.specs.declared.cmp.Ordering.TheVariants.{Less, Equal, Greater}
 use Rattle.std.specs.FinMap.{nat_cmp-IsAntisymmetric, slice_cmp-IsAntisymmetric}
 use Rattle.std.proofs.lemmas.Bool.{cases_Bool, false≢true}
 use Rattle.std.proofs.lemmas.Cmp.{on_total, then_total, nat_cmp_total, nat_list_cmp_total, upto, tied_itself, alike_right}
-use Rattle.ca_apgcode.specs.Prelude.{representation_cmp, Precedes, IsLeastText}
-use Rattle.ca_apgcode.specs.inner.Least.{lesser, least_from}
+use Rattle.ca_apgcode.specs.Prelude.{representation_cmp, Precedes}
+use Rattle.ca_apgcode.specs.inner.Least.{lesser}
+
+-- it is one of the texts, and none of them comes before it
+pub record IsLeastText (texts : List (List ℕ)) (least : List ℕ) : Type 0 where
+  pub is_one : Contains texts least
+  pub is_first : AllByRecursion (λ text. Precedes text least → ⊥) texts
+
+-- the least of a text and others
+abbrev pub least_from : List (List ℕ) → List ℕ → List ℕ
+least_from [] least = least
+least_from (text ∷ texts) least = least_from texts (lesser text least)
 
 -- it is a total order
 pub total : IsTotalOrder representation_cmp
@@ -108,12 +118,6 @@ pub is_each : (P : List ℕ → Type 0) (texts : List (List ℕ)) (text : List �
 is_each P [] text each (k, below, is) = elim below [ ]
 is_each P (first ∷ texts) text each (zero, below, is) = subst P is each.0
 is_each P (first ∷ texts) text each (suc k, below, is) = is_each P texts text each.1 (k, omega (arith, below), is)
-
-pub one_least : (texts : List (List ℕ)) (one other : List ℕ) → IsLeastText texts one → IsLeastText texts other → one ≡ other
-one_least texts one other first second =
-    firsts_same one other
-    (is_each (λ text. Precedes text other → ⊥) texts one second.is_first first.is_one)
-    (is_each (λ text. Precedes text one → ⊥) texts other first.is_first second.is_one)
 
 -- what comes before a text comes before each that doesn't come before that one
 pub precedes_after : (text one other : List ℕ) → Precedes text one → (Precedes other one → ⊥) → Precedes text other

@@ -1,9 +1,8 @@
 -- The order of representations: an apgcode has the least one of its pattern's phases in each of the eight turns and
 -- reflections (LifeWiki, "Apgcode").
-use Rattle.std.specs.Prelude.{◌≡◌, ℕ, List, length, Contains}
+use Rattle.std.specs.Prelude.{◌≡◌, ℕ, List, length}
 use Rattle.std.specs.Ordering.{nat_cmp, ordering_then}
 use Rattle.std.specs.Cmp.Lexicographic.{slice_cmp}
-use Rattle.std.specs.List.{AllByRecursion}
 use Rattle.std.specs.declared.cmp.Ordering.{Ordering}
 use Rattle.std.specs.declared.cmp.Ordering.TheVariants.{Less}
 
@@ -14,8 +13,3 @@ representation_cmp one other = ordering_then (nat_cmp (length one) (length other
 -- the first one comes before the second
 abbrev pub Precedes : List ℕ → List ℕ → Type 0
 Precedes one other = representation_cmp one other ≡ Less
-
--- it is one of the texts, and none of them comes before it
-pub record IsLeastText (texts : List (List ℕ)) (least : List ℕ) : Type 0 where
-  pub is_one : Contains texts least
-  pub is_first : AllByRecursion (λ text. Precedes text least → ⊥) texts

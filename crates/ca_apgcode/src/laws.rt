@@ -3,7 +3,6 @@
 ghost use Rattle.std.specs.Prelude.{◌≡◌, ◌≢◌, ℕ, ℤ, List};
 ghost use Rattle.ca_apgcode.specs.Grids.{GridCells, IsGrid, cell};
 ghost use Rattle.ca_apgcode.specs.Representation.{IsRepresentation, IsCode};
-ghost use Rattle.ca_apgcode.specs.Order.{IsLeastText};
 ghost use Rattle.ca_apgcode.specs.Orientations.{AreAmong};
 ghost use Rattle.ca_apgcode.specs.Objects.{IsObjectCode, IsTextOf, LiesWithin};
 ghost use Rattle.ca_apgcode.specs.declared.object.ObjectKind.{ObjectKind};
@@ -29,12 +28,6 @@ pub fn one_text()
 /// A text is the representation of one picture in its smallest box at most, so it gives the cells back.
 pub fn one_picture()
     ensures { (one other : GridCells) (text : List ℕ) → IsCode one text → IsCode other text → one ≡ other }
-{}
-
-/// Some representations have one least one.
-pub fn one_least()
-    ensures { (texts : List (List ℕ)) (one other : List ℕ) → IsLeastText texts one → IsLeastText texts other
-        → one ≡ other }
 {}
 
 /// Objects of one kind and one number have one code at most, where each phase of one is a copy of some phase of the

@@ -20,7 +20,7 @@ mod writing;
 pub use fault::ReadFault;
 pub use grid::{Grid, MOST_SIDE};
 pub use object::{ObjectKind, object_code};
-pub use order::{compare, least};
+pub use order::compare;
 pub use orientation::Orientation;
 pub use phases::least_with;
 pub use reading::read_representation;

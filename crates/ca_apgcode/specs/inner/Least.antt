@@ -1,13 +1,8 @@
--- The least of some texts.
-use Rattle.std.specs.Prelude.{ℕ, List, [], ◌∷◌, if◌then◌else◌}
+-- The first of two texts.
+use Rattle.std.specs.Prelude.{ℕ, List, if◌then◌else◌}
 use Rattle.std.specs.Ordering.{is_lt}
 use Rattle.ca_apgcode.specs.Order.{representation_cmp}
 
 -- the first of two texts, and the second where they are one
 abbrev pub lesser : List ℕ → List ℕ → List ℕ
 lesser one other = if is_lt (representation_cmp one other) then one else other
-
--- the least of a text and others
-abbrev pub least_from : List (List ℕ) → List ℕ → List ℕ
-least_from [] least = least
-least_from (text ∷ texts) least = least_from texts (lesser text least)
