@@ -13,6 +13,7 @@ use Rattle.ca_rule.specs.declared.{counts.Counts.Counts, table.slot.Slot.Slot}
 use Rattle.ca_rule.specs.declared.table.slot.Slot.TheVariants.{Number, Variable}
 use Rattle.ca_rule.proofs.GenerationsAlike.{liveness-below}
 use Rattle.ca_isotropic.specs.Prelude.{IsTableName, WritesRule}
+use Rattle.ca_isotropic.specs.RuleFiles.{generations_bytes}
 use Rattle.ca_isotropic.specs.WrittenTables.{head_lines, ring_of, neighbour_byte, neighbour_bytes, transition_line, transition_lines, neighbourhoods, changes}
 use Rattle.ca_isotropic.specs.GenerationsTables.{listed_states, variable_line, variable_lines, dying_line, dying_lines}
 use Rattle.ca_isotropic.proofs.PutTexts.{text-both, put-more, all-append}
@@ -260,3 +261,13 @@ state-more from state old now new low before put =
       whole = put.whole ∙ ap (λ l. l ++ (decimal state ++ 44 ∷ [])) before.whole ∙ append_assoc old (listed_states from (state - from)) (decimal state ++ 44 ∷ [])
           ∙ ap (λ l. old ++ l) (sym (ap (listed_states from) (sym one) ∙ listed-more from (state - from) state sum));
     }
+
+-- the four parts of the file of a Generations rule, put one after another, are its bytes
+pub parts-put : (name : List ℕ) (states : ℕ) (next : List ℕ → ℕ) (none head variables live file : List ℕ) → none ≡ [] → Puts none head (text_of (head_lines name states))
+    → Puts head variables (text_of (variable_lines states 16)) → Puts variables live (text_of (transition_lines true next 512))
+    → Puts live file (text_of (dying_lines states (states - 2))) → file ≡ generations_bytes name states next
+parts-put name states next none head variables live file empty to_head to_variables to_live to_dying =
+    let first = to_head.whole ∙ ap (λ l. l ++ text_of (head_lines name states)) empty in
+    let second = to_variables.whole ∙ ap (λ l. l ++ text_of (variable_lines states 16)) first in
+    let third = to_live.whole ∙ ap (λ l. l ++ text_of (transition_lines true next 512)) second in
+    to_dying.whole ∙ ap (λ l. l ++ text_of (dying_lines states (states - 2))) third
