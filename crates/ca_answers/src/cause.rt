@@ -24,7 +24,8 @@ pub enum Cause {
     /// A pattern's file doesn't read. Its fault is never out of memory here.
     #[error("{0}")]
     BadPattern(PatternFault),
-    /// A pattern's rule text names no rule, neither in B/S notation nor among the tables.
+    /// A pattern's rule text names no rule: none in B/S notation or of the family Generations, and none of the
+    /// tables.
     #[error("{0}")]
     BadRule(RuleFault),
     /// A pattern has a cell whose state isn't below the number of its rule's states.

@@ -10,8 +10,8 @@ use ca_quad::Store;
 use ca_run::Leaper;
 use std::alloc::Global;
 
-/// A leaper over the squares of a store, which has computed nothing yet, and may remember and compute as
-/// much as the limits say.
+/// A leaper over the squares of a store under a rule, which has used up no work yet, and may remember and
+/// compute as much as the limits say.
 ///
 /// # Errors
 ///

@@ -12,7 +12,7 @@ pub enum ConvertFault {
     /// The bytes don't read. Their fault is never out of memory here.
     #[error("{0}")]
     BadPattern(PatternFault),
-    /// The rule text names no rule, neither in B/S notation nor among the tables.
+    /// The rule text names no rule: none in B/S notation or of the family Generations, and none of the tables.
     #[error("{0}")]
     BadRule(RuleFault),
     /// A cell has a state that isn't below the number of the rule's states.
