@@ -1,0 +1,2 @@
+pub mod ApartPlanes
+pub mod Sums

@@ -1,0 +1,106 @@
+-- Lists of parts of which each two are apart, and their states added.
+use Rattle.std.proofs.Common.{◌≡◌, ◌≢◌, ℕ, zero, suc, ◌+◌, ◌<◌, List, [], ◌∷◌, length, get_or, ◌⊎◌, inl, inr, refl, sym, ap, ◌∙◌, arith, subst}
+use Rattle.std.specs.Prelude.{ℤ, replicate}
+use Rattle.std.specs.List.{All, AllPairs, Contains, sum_by}
+use Rattle.std.proofs.lemmas.Bool.{cases_eq, cases_lt}
+use Rattle.std.proofs.lemmas.List.{get_or_default}
+use Rattle.std.proofs.lemmas.List.Elements.{All-head, All-tail}
+use Rattle.std.proofs.lemmas.List.Sums.{sum_by-cons}
+use Rattle.ca_plane.specs.Prelude.{Picture, cell, after, cells_after}
+use Rattle.ca_plane.proofs.After.{around-same, after_same, after_none}
+use Rattle.ca_parts.specs.Prelude.{NeverMeet, together}
+use Rattle.ca_parts.proofs.ApartPlanes.{StayApart, both, after_both, StayApart-both, StayApart-same}
+
+-- ---- places of a list
+
+-- what holds of each two elements holds of the first and each later one,
+pub AllPairs-head : {X : Type 0} (R : X → X → Type 0) (x : X) (xs : List X) → AllPairs R (x ∷ xs) → All (R x) xs
+AllPairs-head R x xs pairs = λ k d low. pairs 0 (suc k) d (omega arith) (omega arith)
+
+-- and of each two later ones
+pub AllPairs-tail : {X : Type 0} (R : X → X → Type 0) (x : X) (xs : List X) → AllPairs R (x ∷ xs) → AllPairs R xs
+AllPairs-tail R x xs pairs = λ i j d low high. pairs (suc i) (suc j) d (omega arith) (omega arith)
+
+-- an element is the one at its place
+at_place : {X : Type 0} (xs : List X) (k : ℕ) (x d : X) → k < length xs → get_or xs k x ≡ x → get_or xs k d ≡ x
+at_place xs k x d low is = get_or_default xs k d x low ∙ is
+
+-- two elements are the same, or what holds of each two elements holds of them
+pub same_or_two : {X : Type 0} (R : X → X → Type 0) → ((x y : X) → R x y → R y x) → (xs : List X) (x y : X) → AllPairs R xs → Contains xs x → Contains xs y → (x ≡ y) ⊎ R x y
+same_or_two R turned xs x y pairs (i, low, is) (j, high, are) =
+    elim (cases_lt i j) [
+      | inl less ↦ inr (subst (λ z. R x z) (at_place xs j y x high are) (subst (λ z. R z (get_or xs j x)) is (pairs i j x less high)))
+      | inr from ↦ elim (cases_lt j i) [
+        | inl less ↦ inr (turned y x (subst (λ z. R y z) (at_place xs i x y low is) (subst (λ z. R z (get_or xs i y)) are (pairs j i y less low))))
+        | inr to ↦
+            let same : i ≡ j = omega arith in
+            inl (sym is ∙ ap (λ k. get_or xs k x) same ∙ at_place xs j y x high are)
+      ]
+    ]
+
+-- an element of the rest is one of the list
+pub Contains-later : {X : Type 0} (x y : X) (ys : List X) → Contains ys x → Contains (y ∷ ys) x
+Contains-later x y ys (k, low, is) = (suc k, omega arith, is)
+
+-- ---- sums
+
+-- a sum that isn't 0 has an element that isn't 0
+pub one_of_sum : {X : Type 0} (f : X → ℕ) (xs : List X) → sum_by f xs ≢ 0 → (x : X) × Contains xs x × (f x ≢ 0)
+one_of_sum f [] some = absurd (some refl)
+one_of_sum f (x ∷ xs) some =
+    elim (cases_eq (f x) 0) [
+      | inl none ↦
+          let found = one_of_sum f xs (λ z. some (sum_by-cons f x xs ∙ (let sum : f x + sum_by f xs ≡ 0 = omega arith in sum))) in
+          (found.0, Contains-later found.0 x xs found.1, found.2)
+      | inr here ↦ (x, (0, omega arith, refl), here)
+    ]
+
+-- a sum of zeros
+pub sum_of_none : {X : Type 0} (f : X → ℕ) (xs : List X) → All (λ x. f x ≡ 0) xs → sum_by f xs ≡ 0
+sum_of_none f [] none = refl
+sum_of_none f (x ∷ xs) none =
+    let first : f x ≡ 0 = All-head (λ y. f y ≡ 0) x xs none in
+    let rest = sum_of_none f xs (All-tail (λ y. f y ≡ 0) x xs none) in
+    sum_by-cons f x xs ∙ (let sum : f x + sum_by f xs ≡ 0 = omega arith in sum)
+
+-- where all others are 0, the sum is the one
+sum_of_one : {X : Type 0} (f : X → ℕ) (R : X → X → Type 0) → ((x y : X) → R x y → R y x) → (xs : List X) (k : ℕ) (x : X) → AllPairs R xs
+    → ((y : X) → R x y → f y ≡ 0) → k < length xs → get_or xs k x ≡ x → sum_by f xs ≡ f x
+sum_of_one f R turned [] k x pairs none low is = absurd (omega arith)
+sum_of_one f R turned (y ∷ ys) zero x pairs none low is =
+    let rest = sum_of_none f ys (λ k d within. none (get_or ys k d) (subst (λ z. R z (get_or ys k d)) is (AllPairs-head R y ys pairs k d within))) in
+    let here : f y ≡ f x = ap f is in
+    sum_by-cons f y ys ∙ (let sum : f y + sum_by f ys ≡ f x = omega arith in sum)
+sum_of_one f R turned (y ∷ ys) (suc k) x pairs none low is =
+    let within : k < length ys = omega arith in
+    let rest = sum_of_one f R turned ys k x (AllPairs-tail R y ys pairs) none within is in
+    let here : f y ≡ 0 = none y (turned y x (subst (λ z. R y z) is (AllPairs-head R y ys pairs k x within))) in
+    sum_by-cons f y ys ∙ (let sum : f y + sum_by f ys ≡ f x = omega arith in sum)
+
+pub sum_alone : {X : Type 0} (f : X → ℕ) (R : X → X → Type 0) → ((x y : X) → R x y → R y x) → (xs : List X) (x : X) → AllPairs R xs
+    → ((y : X) → R x y → f y ≡ 0) → Contains xs x → sum_by f xs ≡ f x
+sum_alone f R turned xs x pairs none (k, low, is) = sum_of_one f R turned xs k x pairs none low is
+
+-- ---- parts that never meet
+
+-- what stays apart from each of the parts stays apart from them together
+StayApart-together : (next : List ℕ → ℕ) → next (replicate 9 0) ≡ 0 → (p : Picture) (parts : List Picture) → All (NeverMeet next p) parts → AllPairs (NeverMeet next) parts
+    → StayApart next (cell p) (together parts)
+StayApart-together next quiet p [] all pairs n x y =
+    inr (around-same (cells_after next (together []) n) (λ _ _. 0) x y (λ u v _. after_none next quiet n u v))
+StayApart-together next quiet p (q ∷ qs) all pairs n x y =
+    StayApart-same next (cell p) (both (cell q) (together qs)) (together (q ∷ qs)) (λ x y. sum_by-cons (λ r. cell r x y) q qs)
+    (StayApart-both next quiet (cell p) (cell q) (together qs) (All-head (NeverMeet next p) q qs all)
+    (StayApart-together next quiet p qs (All-tail (NeverMeet next p) q qs all) (AllPairs-tail (NeverMeet next) q qs pairs))
+    (StayApart-together next quiet q qs (AllPairs-head (NeverMeet next) q qs pairs) (AllPairs-tail (NeverMeet next) q qs pairs)))
+    n x y
+
+-- so parts of which no two ever meet go on each as if it were alone
+pub after_together : (next : List ℕ → ℕ) → next (replicate 9 0) ≡ 0 → (parts : List Picture) → AllPairs (NeverMeet next) parts
+    → (n : ℕ) (x y : ℤ) → cells_after next (together parts) n x y ≡ sum_by (λ p. after next p n x y) parts
+after_together next quiet [] pairs n x y = after_none next quiet n x y
+after_together next quiet (p ∷ ps) pairs n x y =
+    after_same next (together (p ∷ ps)) (both (cell p) (together ps)) n (λ u v. sum_by-cons (λ r. cell r u v) p ps) x y
+    ∙ after_both next quiet (cell p) (together ps) (StayApart-together next quiet p ps (AllPairs-head (NeverMeet next) p ps pairs) (AllPairs-tail (NeverMeet next) p ps pairs)) n x y
+    ∙ ap (λ s. after next p n x y + s) (after_together next quiet ps (AllPairs-tail (NeverMeet next) p ps pairs) n x y)
+    ∙ sym (sum_by-cons (λ r. after next r n x y) p ps)

@@ -1,0 +1,31 @@
+-- Pictures that have no part in one another's next cells, and those that come back (our own). A rule is given by the next
+-- state of nine cells.
+use Rattle.std.specs.Prelude.{◌≡◌, ◌≢◌, ℕ, ◌≤◌, ℤ, ◌⊎◌, List, replicate}
+use Rattle.std.specs.List.{sum_by}
+use Rattle.ca_plane.specs.Prelude.{Picture, cell, around, after, IsAfter, shifted}
+
+-- no window of three by three cells sees live cells of both
+abbrev pub AreApart : (ℤ → ℤ → ℕ) → (ℤ → ℤ → ℕ) → Type 0
+AreApart f g = (x y : ℤ) → (around f x y ≡ replicate 9 0) ⊎ (around g x y ≡ replicate 9 0)
+
+-- after each number of generations, 0 too, the two pictures are apart, when each of them goes on alone
+abbrev pub NeverMeet : (List ℕ → ℕ) → Picture → Picture → Type 0
+NeverMeet next p q = (n : ℕ) → AreApart (after next p n) (after next q n)
+
+-- the state at (x, y) of pictures together: the sum of their states there, of which one at most isn't 0 where they are apart
+abbrev pub together : List Picture → ℤ → ℤ → ℕ
+together parts x y = sum_by (λ p. cell p x y) parts
+
+-- after some generations, at least one, the picture is there again, moved by some vector or none: alone, a live one is a
+-- still life, an oscillator or a spaceship
+abbrev pub ComesBack : (List ℕ → ℕ) → Picture → Type 0
+ComesBack next p = (n : ℕ) × (1 ≤ n) × (dx : ℤ) × (dy : ℤ) × IsAfter next p n (shifted p dx dy)
+
+-- e comes back, and one generation later it is p
+pub record IsEarlier (next : List ℕ → ℕ) (e p : Picture) : Type 0 where
+  pub back : ComesBack next e
+  pub later : IsAfter next e 1 p
+
+-- where p is live, q has the same state
+abbrev pub LiesIn : Picture → Picture → Type 0
+LiesIn p q = (x y : ℤ) → cell p x y ≢ 0 → cell p x y ≡ cell q x y
