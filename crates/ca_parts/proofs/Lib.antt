@@ -1,2 +1,10 @@
+pub mod Lists
 pub mod ApartPlanes
 pub mod Sums
+pub mod LaterPictures
+pub mod Returning
+pub mod LaterDivisions
+pub mod Drifts
+pub mod FinestDivisions
+pub mod EarlierPictures
+pub mod EarlierDivisions

@@ -1,46 +1,15 @@
--- Lists of parts of which each two are apart, and their states added.
-use Rattle.std.proofs.Common.{◌≡◌, ◌≢◌, ℕ, zero, suc, ◌+◌, ◌<◌, List, [], ◌∷◌, length, get_or, ◌⊎◌, inl, inr, refl, sym, ap, ◌∙◌, arith, subst}
+-- States of parts, added.
+use Rattle.std.proofs.Common.{◌≡◌, ◌≢◌, ℕ, zero, suc, ◌+◌, ◌<◌, List, [], ◌∷◌, length, get_or, inl, inr, refl, sym, ap, ◌∙◌, arith, subst}
 use Rattle.std.specs.Prelude.{ℤ, replicate}
 use Rattle.std.specs.List.{All, AllPairs, Contains, sum_by}
-use Rattle.std.proofs.lemmas.Bool.{cases_eq, cases_lt}
-use Rattle.std.proofs.lemmas.List.{get_or_default}
+use Rattle.std.proofs.lemmas.Bool.{cases_eq}
 use Rattle.std.proofs.lemmas.List.Elements.{All-head, All-tail}
 use Rattle.std.proofs.lemmas.List.Sums.{sum_by-cons}
 use Rattle.ca_plane.specs.Prelude.{Picture, cell, after, cells_after}
 use Rattle.ca_plane.proofs.After.{around-same, after_same, after_none}
 use Rattle.ca_parts.specs.Prelude.{NeverMeet, together}
 use Rattle.ca_parts.proofs.ApartPlanes.{StayApart, both, after_both, StayApart-both, StayApart-same}
-
--- ---- places of a list
-
--- what holds of each two elements holds of the first and each later one,
-pub AllPairs-head : {X : Type 0} (R : X → X → Type 0) (x : X) (xs : List X) → AllPairs R (x ∷ xs) → All (R x) xs
-AllPairs-head R x xs pairs = λ k d low. pairs 0 (suc k) d (omega arith) (omega arith)
-
--- and of each two later ones
-pub AllPairs-tail : {X : Type 0} (R : X → X → Type 0) (x : X) (xs : List X) → AllPairs R (x ∷ xs) → AllPairs R xs
-AllPairs-tail R x xs pairs = λ i j d low high. pairs (suc i) (suc j) d (omega arith) (omega arith)
-
--- an element is the one at its place
-at_place : {X : Type 0} (xs : List X) (k : ℕ) (x d : X) → k < length xs → get_or xs k x ≡ x → get_or xs k d ≡ x
-at_place xs k x d low is = get_or_default xs k d x low ∙ is
-
--- two elements are the same, or what holds of each two elements holds of them
-pub same_or_two : {X : Type 0} (R : X → X → Type 0) → ((x y : X) → R x y → R y x) → (xs : List X) (x y : X) → AllPairs R xs → Contains xs x → Contains xs y → (x ≡ y) ⊎ R x y
-same_or_two R turned xs x y pairs (i, low, is) (j, high, are) =
-    elim (cases_lt i j) [
-      | inl less ↦ inr (subst (λ z. R x z) (at_place xs j y x high are) (subst (λ z. R z (get_or xs j x)) is (pairs i j x less high)))
-      | inr from ↦ elim (cases_lt j i) [
-        | inl less ↦ inr (turned y x (subst (λ z. R y z) (at_place xs i x y low is) (subst (λ z. R z (get_or xs i y)) are (pairs j i y less low))))
-        | inr to ↦
-            let same : i ≡ j = omega arith in
-            inl (sym is ∙ ap (λ k. get_or xs k x) same ∙ at_place xs j y x high are)
-      ]
-    ]
-
--- an element of the rest is one of the list
-pub Contains-later : {X : Type 0} (x y : X) (ys : List X) → Contains ys x → Contains (y ∷ ys) x
-Contains-later x y ys (k, low, is) = (suc k, omega arith, is)
+use Rattle.ca_parts.proofs.Lists.{AllPairs-head, AllPairs-tail, Contains-later}
 
 -- ---- sums
 

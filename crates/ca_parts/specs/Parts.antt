@@ -1,7 +1,7 @@
 -- Pictures that have no part in one another's next cells, and those that come back (our own). A rule is given by the next
 -- state of nine cells.
 use Rattle.std.specs.Prelude.{◌≡◌, ◌≢◌, ℕ, ◌≤◌, ℤ, ◌⊎◌, List, replicate}
-use Rattle.std.specs.List.{sum_by}
+use Rattle.std.specs.List.{AllPairs, sum_by}
 use Rattle.ca_plane.specs.Prelude.{Picture, cell, around, after, IsAfter, shifted}
 
 -- no window of three by three cells sees live cells of both
@@ -15,6 +15,11 @@ NeverMeet next p q = (n : ℕ) → AreApart (after next p n) (after next q n)
 -- the state at (x, y) of pictures together: the sum of their states there, of which one at most isn't 0 where they are apart
 abbrev pub together : List Picture → ℤ → ℤ → ℕ
 together parts x y = sum_by (λ p. cell p x y) parts
+
+-- the cells are those of these pictures together, of which each two are apart
+pub record FallsInto (cells : ℤ → ℤ → ℕ) (parts : List Picture) : Type 0 where
+  pub apart : AllPairs (λ p q. AreApart (cell p) (cell q)) parts
+  pub whole : (x y : ℤ) → cells x y ≡ together parts x y
 
 -- after some generations, at least one, the picture is there again, moved by some vector or none: alone, a live one is a
 -- still life, an oscillator or a spaceship

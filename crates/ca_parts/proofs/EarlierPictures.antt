@@ -1,0 +1,59 @@
+-- What a picture that comes back was one generation earlier.
+use Rattle.std.proofs.Common.{◌≡◌, ◌≢◌, ℕ, suc, ◌+◌, List, [], ◌∷◌, inl, inr, sym, ap, ap₂, ◌∙◌, arith}
+use Rattle.std.specs.Prelude.{ℤ, pos, ◌+ℤ◌, ◌-ℤ◌, ◌*ℤ◌, replicate}
+use Rattle.std.specs.List.{All}
+use Rattle.std.proofs.Math.Nat.{mul-zero}
+use Rattle.std.proofs.lemmas.Int.{ints}
+use Rattle.std.proofs.lemmas.List.Elements.{All-nil, All-cons}
+use Rattle.ca_plane.specs.Prelude.{Picture, cell, after, IsAfter, IsSame, cells_after}
+use Rattle.ca_plane.proofs.After.{after_same}
+use Rattle.ca_parts.specs.Prelude.{ComesBack, IsEarlier}
+use Rattle.ca_parts.proofs.Returning.{IsBackBy, back_times, after_seen_so, common_time}
+use Rattle.ca_parts.proofs.LaterPictures.{live_or_not}
+use Rattle.ca_parts.proofs.LaterDivisions.{nothing_comes, after_stands}
+use Rattle.ca_parts.proofs.Drifts.{no_drift}
+
+-- what is back by a vector after l + 1 generations shows what the later picture is after l
+pub seen_earlier : (next : List ℕ → ℕ) (e p : Picture) (l : ℕ) (u v : ℤ) → IsAfter next e 1 p → IsBackBy next (cell e) (suc l) u v
+    → (x y : ℤ) → cell e x y ≡ after next p l (x +ℤ u) (y +ℤ v)
+seen_earlier next e p l u v later back x y =
+    let sum : suc l ≡ 1 + l = omega arith in
+    sym (back x y) ∙ ap (λ k. after next e k (x +ℤ u) (y +ℤ v)) sum ∙ sym (after_stands next e p 1 later l (x +ℤ u) (y +ℤ v))
+
+-- a plane that is itself, moved, is itself, moved k times
+moved_often : (next : List ℕ → ℕ) (f : ℤ → ℤ → ℕ) (u v : ℤ) → ((x y : ℤ) → f (x +ℤ u) (y +ℤ v) ≡ f x y) → (k : ℕ) (x y : ℤ) → f (x +ℤ (pos k *ℤ u)) (y +ℤ (pos k *ℤ v)) ≡ f x y
+moved_often next f u v same k x y =
+    sym (ap (λ j. cells_after next f j (x +ℤ (pos k *ℤ u)) (y +ℤ (pos k *ℤ v))) (mul-zero k)) ∙ back_times next f 0 k u v same x y
+
+-- two pictures that are both earlier than the same live cells are the same
+same_earlier : (next : List ℕ → ℕ) (e d p q : Picture) (l : ℕ) (a b u v : ℤ) → IsAfter next e 1 p → IsAfter next d 1 q → IsSame p q → (x y : ℤ) → cell p x y ≢ 0
+    → IsBackBy next (cell e) (suc l) a b → IsBackBy next (cell d) (suc l) u v → IsSame e d
+same_earlier next e d p q l a b u v one two same x y live back again =
+    let w = u -ℤ a in
+    let z = v -ℤ b in
+    let seen : (s t : ℤ) → cell e (s +ℤ w) (t +ℤ z) ≡ cell d s t = λ s t.
+        let ax : (s +ℤ w) +ℤ a ≡ s +ℤ u = omega (arith, ints) in
+        let ay : (t +ℤ z) +ℤ b ≡ t +ℤ v = omega (arith, ints) in
+        seen_earlier next e p l a b one back (s +ℤ w) (t +ℤ z) ∙ ap₂ (after next p l) ax ay
+        ∙ after_same next (cell p) (cell q) l same (s +ℤ u) (t +ℤ v) ∙ sym (seen_earlier next d q l u v two again s t) in
+    let turns : (s t : ℤ) → cell p (s +ℤ w) (t +ℤ z) ≡ cell p s t = λ s t.
+        sym (one (s +ℤ w) (t +ℤ z)) ∙ after_seen_so next (cell d) (cell e) w z seen 1 s t ∙ two s t ∙ sym (same s t) in
+    let (none, nor) = no_drift p x y w z (λ k dead. live (sym (moved_often next (cell p) w z turns k x y) ∙ dead)) in
+    λ s t.
+        let ax : s ≡ s +ℤ w = omega (arith, ints, none) in
+        let ay : t ≡ t +ℤ z = omega (arith, ints, nor) in
+        ap₂ (cell e) ax ay ∙ seen s t
+
+-- so a picture that comes back is earlier than one picture at most, and one at most is earlier
+pub one_earlier : (next : List ℕ → ℕ) → next (replicate 9 0) ≡ 0 → (e d p q : Picture) → IsEarlier next e p → IsEarlier next d q → IsSame p q → IsSame e d
+one_earlier next quiet e d p q one two same =
+    let comes : All (ComesBack next) (e ∷ d ∷ []) = All-cons (ComesBack next) e (d ∷ []) one.back (All-cons (ComesBack next) d [] two.back (All-nil (ComesBack next))) in
+    let (l, all) = common_time next (e ∷ d ∷ []) comes in
+    let (a, b, back) = all 0 e (omega arith) in
+    let (u, v, again) = all 1 e (omega arith) in
+    elim (live_or_not p) [
+      | inl (x, y, live) ↦ same_earlier next e d p q l a b u v one.later two.later same x y live back again
+      | inr dead ↦ λ x y.
+          seen_earlier next e p l a b one.later back x y ∙ nothing_comes next quiet (cell p) dead l (x +ℤ a) (y +ℤ b)
+          ∙ sym (nothing_comes next quiet (cell q) (λ s t. sym (same s t) ∙ dead s t) l (x +ℤ u) (y +ℤ v)) ∙ sym (seen_earlier next d q l u v two.later again x y)
+    ]
