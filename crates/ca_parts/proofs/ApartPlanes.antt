@@ -1,14 +1,14 @@
--- Planes that are apart at all times go on each as if it were alone.
-use Rattle.std.proofs.Common.{◌≡◌, ◌≢◌, ℕ, zero, suc, ◌+◌, List, [], ◌∷◌, get_or, ◌⊎◌, inl, inr, refl, ap, ◌∙◌, arith}
+-- Planes that are apart go on each as if it were alone.
+use Rattle.std.proofs.Common.{◌≡◌, ◌≢◌, ℕ, zero, suc, ◌+◌, ◌<◌, List, [], ◌∷◌, get_or, ◌⊎◌, inl, inr, refl, ap, ◌∙◌, arith}
 use Rattle.std.specs.Prelude.{ℤ, replicate}
 use Rattle.std.proofs.lemmas.Bool.{cases_eq}
 use Rattle.ca_plane.specs.Prelude.{around, cells_after}
 use Rattle.ca_plane.proofs.After.{around-same, after_same}
 use Rattle.ca_parts.specs.Prelude.{AreApart}
 
--- after each number of generations, 0 too, the two planes are apart, when each of them goes on alone
-abbrev pub StayApart : (List ℕ → ℕ) → (ℤ → ℤ → ℕ) → (ℤ → ℤ → ℕ) → Type 0
-StayApart next f g = (n : ℕ) → AreApart (cells_after next f n) (cells_after next g n)
+-- after each number of generations below n the two planes are apart, when each of them goes on alone
+abbrev pub StayApart : (List ℕ → ℕ) → ℕ → (ℤ → ℤ → ℕ) → (ℤ → ℤ → ℕ) → Type 0
+StayApart next n f g = (m : ℕ) → m < n → AreApart (cells_after next f m) (cells_after next g m)
 
 -- the two planes together
 abbrev pub both : (ℤ → ℤ → ℕ) → (ℤ → ℤ → ℕ) → ℤ → ℤ → ℕ
@@ -101,22 +101,23 @@ one_live f g x y apart a b = elim (apart x y) [ inl e ↦ a (ap (λ l. get_or l 
 
 -- ---- over the generations
 
--- planes that stay apart go on each as if it were alone
-pub after_both : (next : List ℕ → ℕ) → next (replicate 9 0) ≡ 0 → (f g : ℤ → ℤ → ℕ) → StayApart next f g
-    → (n : ℕ) (x y : ℤ) → cells_after next (both f g) n x y ≡ cells_after next f n x y + cells_after next g n x y
-after_both next quiet f g apart zero x y = refl
-after_both next quiet f g apart (suc n) x y =
-    ap next (around-same (cells_after next (both f g) n) (both (cells_after next f n) (cells_after next g n)) x y (λ u v _. after_both next quiet f g apart n u v))
-    ∙ next-both next quiet (cells_after next f n) (cells_after next g n) x y (apart n x y)
+-- as long as planes are apart they go on each as if it were alone
+pub after_both : (next : List ℕ → ℕ) → next (replicate 9 0) ≡ 0 → (f g : ℤ → ℤ → ℕ) (n : ℕ) → StayApart next n f g
+    → (x y : ℤ) → cells_after next (both f g) n x y ≡ cells_after next f n x y + cells_after next g n x y
+after_both next quiet f g zero apart x y = refl
+after_both next quiet f g (suc n) apart x y =
+    ap next (around-same (cells_after next (both f g) n) (both (cells_after next f n) (cells_after next g n)) x y
+    (λ u v _. after_both next quiet f g n (λ m low. apart m (omega arith)) u v))
+    ∙ next-both next quiet (cells_after next f n) (cells_after next g n) x y (apart n (omega arith) x y)
 
 -- what stays apart from two planes, which stay apart, stays apart from both together
-pub StayApart-both : (next : List ℕ → ℕ) → next (replicate 9 0) ≡ 0 → (f g h : ℤ → ℤ → ℕ) → StayApart next f g → StayApart next f h → StayApart next g h → StayApart next f (both g h)
-StayApart-both next quiet f g h fg fh gh n =
-    AreApart-same (cells_after next f n) (both (cells_after next g n) (cells_after next h n)) (cells_after next f n) (cells_after next (both g h) n)
-    (λ x y. refl) (after_both next quiet g h gh n)
-    (AreApart-both (cells_after next f n) (cells_after next g n) (cells_after next h n) (fg n) (fh n))
+pub StayApart-both : (next : List ℕ → ℕ) → next (replicate 9 0) ≡ 0 → (n : ℕ) (f g h : ℤ → ℤ → ℕ) → StayApart next n f g → StayApart next n f h → StayApart next n g h → StayApart next n f (both g h)
+StayApart-both next quiet n f g h fg fh gh m low =
+    AreApart-same (cells_after next f m) (both (cells_after next g m) (cells_after next h m)) (cells_after next f m) (cells_after next (both g h) m)
+    (λ x y. refl) (after_both next quiet g h m (λ k below. gh k (omega arith)))
+    (AreApart-both (cells_after next f m) (cells_after next g m) (cells_after next h m) (fg m low) (fh m low))
 
 -- planes with the same cells stay apart too
-pub StayApart-same : (next : List ℕ → ℕ) (f g g' : ℤ → ℤ → ℕ) → ((x y : ℤ) → g' x y ≡ g x y) → StayApart next f g → StayApart next f g'
-StayApart-same next f g g' same apart n =
-    AreApart-same (cells_after next f n) (cells_after next g n) (cells_after next f n) (cells_after next g' n) (λ x y. refl) (after_same next g' g n same) (apart n)
+pub StayApart-same : (next : List ℕ → ℕ) (n : ℕ) (f g g' : ℤ → ℤ → ℕ) → ((x y : ℤ) → g' x y ≡ g x y) → StayApart next n f g → StayApart next n f g'
+StayApart-same next n f g g' same apart m low =
+    AreApart-same (cells_after next f m) (cells_after next g m) (cells_after next f m) (cells_after next g' m) (λ x y. refl) (after_same next g' g m same) (apart m low)

@@ -28,11 +28,13 @@ bound : (p : Picture) → (b : ℕ) × ((x y : ℤ) → cell p x y ≢ 0 → IsN
 bound [] = (0, λ x y live. absurd (live refl))
 bound (e ∷ es) =
     let rest = bound es in
-    let b : ℕ = rest.0 + size e.0.x e.0.y in
-    (b, λ x y live. elim (cases_Bool (int_eq y e.0.y && int_eq x e.0.x)) [
-      | inl here ↦ let place = place-from_true x y e.0 here in IsNear-itself rest.0 x y e.0.x e.0.y place.1 place.0
-      | inr other ↦ IsNear-more rest.0 b x y (omega arith) (rest.1 x y (λ z. live (cond-false _ e.1 (cell es x y) other ∙ z)))
-    ])
+    let b : ℕ = rest.0 + size e.0.x e.0.y in (
+      b,
+      λ x y live. elim (cases_Bool (int_eq y e.0.y && int_eq x e.0.x)) [
+        | inl here ↦ let place = place-from_true x y e.0 here in IsNear-itself rest.0 x y e.0.x e.0.y place.1 place.0
+        | inr other ↦ IsNear-more rest.0 b x y (omega arith) (rest.1 x y (λ z. live (cond-false _ e.1 (cell es x y) other ∙ z)))
+      ],
+    )
 
 -- ---- one coordinate
 

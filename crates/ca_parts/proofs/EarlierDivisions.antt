@@ -9,46 +9,15 @@ use Rattle.ca_plane.specs.Prelude.{Picture, cell, around, after, IsAfter, IsLive
 use Rattle.ca_plane.proofs.After.{around-same, around-nine_states, after_again}
 use Rattle.ca_parts.specs.Prelude.{AreApart, NeverMeet, together, ComesBack, IsEarlier, LiesIn, FallsInto, IsDivision, IsSettled, IsFinest, IsFirstSettled}
 use Rattle.ca_parts.proofs.Lists.{All-zip, AllPairs-zip, AllZip-turned, AllZip-with, beside, same_or_two}
-use Rattle.ca_parts.proofs.ApartPlanes.{Within, around-within, AreApart-same, AreApart-within, AreApart-turned, one_live}
-use Rattle.ca_parts.proofs.Sums.{one_of_sum, sum_alone}
+use Rattle.ca_parts.proofs.ApartPlanes.{Within, AreApart-same, AreApart-within, AreApart-turned, one_live}
+use Rattle.ca_parts.proofs.Sums.{one_of_sum, sum_alone, apart_before}
+use Rattle.ca_parts.proofs.PartsWithin.{lies_on}
 use Rattle.ca_parts.proofs.LaterPictures.{picture_after, IsAfter-picture_after, live_or_not}
-use Rattle.ca_parts.proofs.LaterDivisions.{nothing_comes, after_stands, after_division, IsDivision-later, IsSettled-later, pictures_after}
+use Rattle.ca_parts.proofs.LaterDivisions.{nothing_comes, after_stands, IsDivision-later, IsSettled-later, pictures_after}
 use Rattle.ca_parts.proofs.Returning.{IsBackBy, IsBackAt, back_times, after_return, common_time_of_both}
 use Rattle.ca_parts.proofs.Drifts.{no_drift, times-minus}
 use Rattle.ca_parts.proofs.FinestDivisions.{NeverMeet-turned, one_part, part_here, part_there}
 use Rattle.ca_parts.proofs.EarlierPictures.{seen_earlier}
-
--- ---- what lies in a part goes on in it
-
-module _ (next : List ℕ → ℕ) (quiet : next (replicate 9 0) ≡ 0) (cells : ℤ → ℤ → ℕ) where
-  -- a window that sees a part of a division sees nothing else
-  window_of_part : (parts : List Picture) → IsDivision next cells parts → (p : Picture) → Contains parts p → (n : ℕ) (x y : ℤ)
-      → (around (after next p n) x y ≢ replicate 9 0) → around (cells_after next cells n) x y ≡ around (after next p n) x y
-  window_of_part parts division p has n x y some =
-      let empty : (q : Picture) → NeverMeet next p q → around (after next q n) x y ≡ replicate 9 0 = λ q never. elim (never n x y) [ inl e ↦ absurd (some e) | inr e ↦ e ] in
-      let at : (a b : ℤ) → ((q : Picture) → around (after next q n) x y ≡ replicate 9 0 → after next q n a b ≡ 0) → cells_after next cells n a b ≡ after next p n a b =
-          λ a b none. after_division next quiet cells parts division n a b
-          ∙ sum_alone (λ q. after next q n a b) (NeverMeet next) (NeverMeet-turned next) parts p division.apart (λ q never. none q (empty q never)) has in
-      let nw = at _ _ (λ q e. ap (λ l. get_or l 0 0) e) in
-      let n' = at _ _ (λ q e. ap (λ l. get_or l 1 0) e) in
-      let ne = at _ _ (λ q e. ap (λ l. get_or l 2 0) e) in
-      let w = at _ _ (λ q e. ap (λ l. get_or l 3 0) e) in
-      let here = at _ _ (λ q e. ap (λ l. get_or l 4 0) e) in
-      let e' = at _ _ (λ q e. ap (λ l. get_or l 5 0) e) in
-      let sw = at _ _ (λ q e. ap (λ l. get_or l 6 0) e) in
-      let s = at _ _ (λ q e. ap (λ l. get_or l 7 0) e) in
-      let se = at _ _ (λ q e. ap (λ l. get_or l 8 0) e) in
-      cc
-
-  -- a part of a division that lies in a part of another one lies in it at all times
-  lies_on : (ps qs : List Picture) → IsDivision next cells ps → IsDivision next cells qs → (p q : Picture) → Contains ps p → Contains qs q → LiesIn p q
-      → (n : ℕ) → Within (after next p n) (after next q n)
-  lies_on ps qs one two p q hasp hasq lies zero x y live = lies x y live
-  lies_on ps qs one two p q hasp hasq lies (suc n) x y live =
-      let some : around (after next p n) x y ≢ replicate 9 0 = λ e. live (ap next e ∙ quiet) in
-      let before = lies_on ps qs one two p q hasp hasq lies n in
-      let more : around (after next q n) x y ≢ replicate 9 0 = λ e. some (around-within (after next p n) (after next q n) x y before e) in
-      ap next (sym (window_of_part ps one p hasp n x y some) ∙ window_of_part qs two q hasq n x y more)
 
 -- a part of the next plane's finest division comes of one part of each division of this plane
 record ComesOf (next : List ℕ → ℕ) (parts : List Picture) (p : Picture) : Type 0 where
@@ -69,7 +38,7 @@ comes_of next quiet cells parts ds finest division p has =
       has = has_d;
       within = λ n x y live.
           let sum : 1 + n ≡ suc n = omega arith in
-          lies_on next quiet (cells_after next cells 1) parts later finest.division next_division p q has (j, low, is) lies n x y live
+          lies_on next quiet (cells_after next cells 1) parts later finest.division.whole next_division p q has (j, low, is) lies n (apart_before next parts finest.division.apart n) x y live
           ∙ after_stands next d q 1 stands n x y ∙ ap (λ k. after next d k x y) sum;
     }
 
@@ -79,22 +48,21 @@ one_vector : (next : List ℕ → ℕ) → next (replicate 9 0) ≡ 0 → (e p d
 one_vector next quiet e p d l a b u v x y later within back again live =
     let q = picture_after next d 1 in
     let stays : (k : ℕ) → cell q (x +ℤ (pos k *ℤ (a -ℤ u))) (y +ℤ (pos k *ℤ (b -ℤ v))) ≢ 0 = λ k dead.
-        let t : ℕ = k * suc l in
-        let kx = x +ℤ (pos k *ℤ a) in
-        let ky = y +ℤ (pos k *ℤ b) in
-        let mx = x +ℤ (pos k *ℤ (a -ℤ u)) in
-        let my = y +ℤ (pos k *ℤ (b -ℤ v)) in
-        let ax : kx ≡ mx +ℤ (pos k *ℤ u) = rw (times-minus k a u) (omega (arith, ints)) in
-        let ay : ky ≡ my +ℤ (pos k *ℤ v) = rw (times-minus k b v) (omega (arith, ints)) in
-        let turned : 1 + k * suc l ≡ k * suc l + 1 = omega arith in
-        let more : suc (k * suc l) ≡ k * suc l + 1 = omega arith in
-        let shown : after next p (k * suc l) kx ky ≡ cell p x y =
-            after_stands next e p 1 later (k * suc l) kx ky ∙ ap (λ j. after next e j kx ky) turned
-            ∙ after_return next (cell e) (k * suc l) (pos k *ℤ a) (pos k *ℤ b) (back_times next (cell e) (suc l) k a b back) 1 x y ∙ later x y in
-        let still : after next p (k * suc l) kx ky ≢ 0 = λ z. live (sym shown ∙ z) in
-        still (within (k * suc l) kx ky still ∙ ap (λ j. after next d j kx ky) more ∙ ap₂ (after next d (k * suc l + 1)) ax ay
-        ∙ after_return next (cell d) (k * suc l) (pos k *ℤ u) (pos k *ℤ v) (back_times next (cell d) (suc l) k u v again) 1 mx my
-        ∙ IsAfter-picture_after next quiet d 1 mx my ∙ dead) in
+    let kx = x +ℤ (pos k *ℤ a) in
+    let ky = y +ℤ (pos k *ℤ b) in
+    let mx = x +ℤ (pos k *ℤ (a -ℤ u)) in
+    let my = y +ℤ (pos k *ℤ (b -ℤ v)) in
+    let ax : kx ≡ mx +ℤ (pos k *ℤ u) = rw (times-minus k a u) (omega (arith, ints)) in
+    let ay : ky ≡ my +ℤ (pos k *ℤ v) = rw (times-minus k b v) (omega (arith, ints)) in
+    let turned : 1 + k * suc l ≡ k * suc l + 1 = omega arith in
+    let more : suc (k * suc l) ≡ k * suc l + 1 = omega arith in
+    let shown : after next p (k * suc l) kx ky ≡ cell p x y =
+    after_stands next e p 1 later (k * suc l) kx ky ∙ ap (λ j. after next e j kx ky) turned
+    ∙ after_return next (cell e) (k * suc l) (pos k *ℤ a) (pos k *ℤ b) (back_times next (cell e) (suc l) k a b back) 1 x y ∙ later x y in
+    let still : after next p (k * suc l) kx ky ≢ 0 = λ z. live (sym shown ∙ z) in
+    still (within (k * suc l) kx ky still ∙ ap (λ j. after next d j kx ky) more ∙ ap₂ (after next d (k * suc l + 1)) ax ay
+    ∙ after_return next (cell d) (k * suc l) (pos k *ℤ u) (pos k *ℤ v) (back_times next (cell d) (suc l) k u v again) 1 mx my
+    ∙ IsAfter-picture_after next quiet d 1 mx my ∙ dead) in
     let (none, nor) = no_drift q x y (a -ℤ u) (b -ℤ v) stays in
     (omega (arith, ints, none), omega (arith, ints, nor))
 
@@ -282,12 +250,12 @@ earlier_is_finest next quiet cells parts es finest zip falls =
     let turned = AllZip-turned (IsEarlier next) es parts zip in
     let then : AllPairs (λ e f. (n : ℕ) → AreApart (after next e (suc n)) (after next f (suc n))) es =
     AllPairs-zip (λ p e. IsEarlier next e p) (NeverMeet next) (λ e f. (n : ℕ) → AreApart (after next e (suc n)) (after next f (suc n)))
-        (λ p q e f one two never n.
-        let sum : 1 + n ≡ suc n = omega arith in
-        AreApart-same (after next p n) (after next q n) (after next e (suc n)) (after next f (suc n))
-            (λ x y. sym (after_stands next e p 1 one.later n x y ∙ ap (λ k. after next e k x y) sum))
-            (λ x y. sym (after_stands next f q 1 two.later n x y ∙ ap (λ k. after next f k x y) sum)) (never n))
-        parts es turned finest.division.apart in
+    (λ p q e f one two never n.
+    let sum : 1 + n ≡ suc n = omega arith in
+    AreApart-same (after next p n) (after next q n) (after next e (suc n)) (after next f (suc n))
+    (λ x y. sym (after_stands next e p 1 one.later n x y ∙ ap (λ k. after next e k x y) sum))
+    (λ x y. sym (after_stands next f q 1 two.later n x y ∙ ap (λ k. after next f k x y) sum)) (never n))
+    parts es turned finest.division.apart in
     record {
       division = record {
         live = All-zip (λ p e. IsEarlier next e p) IsLive IsLive (λ p e is live. IsLive-earlier next quiet e p is.later live) parts es turned finest.division.live;
@@ -320,9 +288,11 @@ IsFinest-same next f g parts same finest = record {
 settled_since : (next : List ℕ → ℕ) → next (replicate 9 0) ≡ 0 → (cells : ℤ → ℤ → ℕ) (m n : ℕ) → m ≤ n → IsSettled next (cells_after next cells m) → IsSettled next (cells_after next cells n)
 settled_since next quiet cells m n early settled =
     let (parts, division) = IsSettled-later next quiet (cells_after next cells m) (n - m) settled in
-    let sum : n ≡ m + (n - m) = omega (arith, early) in
-    (parts, IsDivision-same next (cells_after next (cells_after next cells m) (n - m)) (cells_after next cells n) parts
-        (λ x y. ap (λ k. cells_after next cells k x y) sum ∙ sym (after_again next cells m (n - m) x y)) division)
+    let sum : n ≡ m + (n - m) = omega (arith, early) in (
+      parts,
+      IsDivision-same next (cells_after next (cells_after next cells m) (n - m)) (cells_after next cells n) parts
+          (λ x y. ap (λ k. cells_after next cells k x y) sum ∙ sym (after_again next cells m (n - m) x y)) division,
+    )
 
 -- where this plane doesn't fall into what the parts were, it isn't settled, and none before it is
 pub first_settled : (next : List ℕ → ℕ) → next (replicate 9 0) ≡ 0 → (cells : ℤ → ℤ → ℕ) (n : ℕ) (parts es : List Picture) → IsFinest next (cells_after next cells (n + 1)) parts

@@ -1,16 +1,17 @@
 -- What a picture that comes back was one generation earlier.
-use Rattle.std.proofs.Common.{◌≡◌, ◌≢◌, ℕ, suc, ◌+◌, List, [], ◌∷◌, inl, inr, sym, ap, ap₂, ◌∙◌, arith}
-use Rattle.std.specs.Prelude.{ℤ, pos, ◌+ℤ◌, ◌-ℤ◌, ◌*ℤ◌, replicate}
+use Rattle.std.proofs.Common.{◌≡◌, ◌≢◌, ℕ, zero, suc, ◌+◌, List, [], ◌∷◌, inl, inr, sym, ap, ap₂, ◌∙◌, arith}
+use Rattle.std.specs.Prelude.{ℤ, pos, neg_ℤ, ◌+ℤ◌, ◌-ℤ◌, ◌*ℤ◌, replicate}
 use Rattle.std.specs.List.{All}
 use Rattle.std.proofs.Math.Nat.{mul-zero}
 use Rattle.std.proofs.lemmas.Int.{ints}
 use Rattle.std.proofs.lemmas.List.Elements.{All-nil, All-cons}
-use Rattle.ca_plane.specs.Prelude.{Picture, cell, after, IsAfter, IsSame, cells_after}
+use Rattle.ca_plane.specs.Prelude.{Picture, cell, shifted, after, IsAfter, IsSame, cells_after}
 use Rattle.ca_plane.proofs.After.{after_same}
+use Rattle.ca_plane.proofs.Shifts.{cell-shifted}
 use Rattle.ca_parts.specs.Prelude.{ComesBack, IsEarlier}
-use Rattle.ca_parts.proofs.Returning.{IsBackBy, back_times, after_seen_so, common_time}
-use Rattle.ca_parts.proofs.LaterPictures.{live_or_not}
-use Rattle.ca_parts.proofs.LaterDivisions.{nothing_comes, after_stands}
+use Rattle.ca_parts.proofs.Returning.{IsBackBy, IsBackBy-from_shifted, shifted-from_IsBackBy, back_times, after_seen_so, common_time}
+use Rattle.ca_parts.proofs.LaterPictures.{live_or_not, picture_after, IsAfter-picture_after}
+use Rattle.ca_parts.proofs.LaterDivisions.{nothing_comes, after_stands, ComesBack-later}
 use Rattle.ca_parts.proofs.Drifts.{no_drift}
 
 -- what is back by a vector after l + 1 generations shows what the later picture is after l
@@ -32,17 +33,17 @@ same_earlier next e d p q l a b u v one two same x y live back again =
     let w = u -ℤ a in
     let z = v -ℤ b in
     let seen : (s t : ℤ) → cell e (s +ℤ w) (t +ℤ z) ≡ cell d s t = λ s t.
-        let ax : (s +ℤ w) +ℤ a ≡ s +ℤ u = omega (arith, ints) in
-        let ay : (t +ℤ z) +ℤ b ≡ t +ℤ v = omega (arith, ints) in
-        seen_earlier next e p l a b one back (s +ℤ w) (t +ℤ z) ∙ ap₂ (after next p l) ax ay
-        ∙ after_same next (cell p) (cell q) l same (s +ℤ u) (t +ℤ v) ∙ sym (seen_earlier next d q l u v two again s t) in
+    let ax : (s +ℤ w) +ℤ a ≡ s +ℤ u = omega (arith, ints) in
+    let ay : (t +ℤ z) +ℤ b ≡ t +ℤ v = omega (arith, ints) in
+    seen_earlier next e p l a b one back (s +ℤ w) (t +ℤ z) ∙ ap₂ (after next p l) ax ay
+    ∙ after_same next (cell p) (cell q) l same (s +ℤ u) (t +ℤ v) ∙ sym (seen_earlier next d q l u v two again s t) in
     let turns : (s t : ℤ) → cell p (s +ℤ w) (t +ℤ z) ≡ cell p s t = λ s t.
-        sym (one (s +ℤ w) (t +ℤ z)) ∙ after_seen_so next (cell d) (cell e) w z seen 1 s t ∙ two s t ∙ sym (same s t) in
+    sym (one (s +ℤ w) (t +ℤ z)) ∙ after_seen_so next (cell d) (cell e) w z seen 1 s t ∙ two s t ∙ sym (same s t) in
     let (none, nor) = no_drift p x y w z (λ k dead. live (sym (moved_often next (cell p) w z turns k x y) ∙ dead)) in
     λ s t.
-        let ax : s ≡ s +ℤ w = omega (arith, ints, none) in
-        let ay : t ≡ t +ℤ z = omega (arith, ints, nor) in
-        ap₂ (cell e) ax ay ∙ seen s t
+    let ax : s ≡ s +ℤ w = omega (arith, ints, none) in
+    let ay : t ≡ t +ℤ z = omega (arith, ints, nor) in
+    ap₂ (cell e) ax ay ∙ seen s t
 
 -- so a picture that comes back is earlier than one picture at most, and one at most is earlier
 pub one_earlier : (next : List ℕ → ℕ) → next (replicate 9 0) ≡ 0 → (e d p q : Picture) → IsEarlier next e p → IsEarlier next d q → IsSame p q → IsSame e d
@@ -57,3 +58,40 @@ one_earlier next quiet e d p q one two same =
           seen_earlier next e p l a b one.later back x y ∙ nothing_comes next quiet (cell p) dead l (x +ℤ a) (y +ℤ b)
           ∙ sym (nothing_comes next quiet (cell q) (λ s t. sym (same s t) ∙ dead s t) l (x +ℤ u) (y +ℤ v)) ∙ sym (seen_earlier next d q l u v two.later again x y)
     ]
+
+-- ---- there is one
+
+-- a picture that is another one, moved, comes back as that does
+ComesBack-moved : (next : List ℕ → ℕ) (p e : Picture) (u v : ℤ) → ((x y : ℤ) → cell p (x +ℤ u) (y +ℤ v) ≡ cell e x y) → ComesBack next p → ComesBack next e
+ComesBack-moved next p e u v seen (n, some, a, b, there) =
+    let back = IsBackBy-from_shifted next p n a b there in (
+      n,
+      some,
+      a,
+      b,
+      shifted-from_IsBackBy next e n a b (λ x y.
+          let ax : (x +ℤ a) +ℤ u ≡ (x +ℤ u) +ℤ a = omega (arith, ints) in
+          let ay : (y +ℤ b) +ℤ v ≡ (y +ℤ v) +ℤ b = omega (arith, ints) in
+          sym (after_seen_so next (cell e) (cell p) u v seen n (x +ℤ a) (y +ℤ b)) ∙ ap₂ (after next p n) ax ay ∙ back (x +ℤ u) (y +ℤ v) ∙ seen x y),
+    )
+
+-- before it is back, a picture that comes back was another one
+pub some_earlier : (next : List ℕ → ℕ) → next (replicate 9 0) ≡ 0 → (p : Picture) → ComesBack next p → (e : Picture) × IsEarlier next e p
+some_earlier next quiet p (zero, some, u, v, there) = absurd (omega arith)
+some_earlier next quiet p (suc n, some, u, v, there) =
+    let before = picture_after next p n in
+    let stands = IsAfter-picture_after next quiet p n in
+    let e = shifted before (neg_ℤ u) (neg_ℤ v) in
+    let seen : (x y : ℤ) → cell before (x +ℤ u) (y +ℤ v) ≡ cell e x y = λ x y.
+    let ax : x +ℤ u ≡ x -ℤ neg_ℤ u = omega (arith, ints) in
+    let ay : y +ℤ v ≡ y -ℤ neg_ℤ v = omega (arith, ints) in
+    ap₂ (cell before) ax ay ∙ sym (cell-shifted before (neg_ℤ u) (neg_ℤ v) x y) in
+    let sum : n + 1 ≡ suc n = omega arith in (
+      e,
+      record {
+        back = ComesBack-moved next before e u v seen (ComesBack-later next p before n stands (suc n, some, u, v, there));
+        later = λ x y.
+            sym (after_seen_so next (cell e) (cell before) u v seen 1 x y) ∙ after_stands next p before n stands 1 (x +ℤ u) (y +ℤ v)
+            ∙ ap (λ k. after next p k (x +ℤ u) (y +ℤ v)) sum ∙ IsBackBy-from_shifted next p (suc n) u v there x y;
+      },
+    )

@@ -30,7 +30,7 @@ pub part_here : (next : List ℕ → ℕ) → next (replicate 9 0) ≡ 0 → (ce
 part_here next quiet cells parts division p has n x y live =
     after_division next quiet cells parts division n x y
     ∙ sum_alone (λ q. after next q n x y) (NeverMeet next) (NeverMeet-turned next) parts p division.apart
-      (λ q never. elim (cases_eq (after next q n x y) 0) [ inl e ↦ e | inr too ↦ absurd (one_live (after next p n) (after next q n) x y (never n) live too) ]) has
+    (λ q never. elim (cases_eq (after next q n x y) 0) [ inl e ↦ e | inr too ↦ absurd (one_live (after next p n) (after next q n) x y (never n) live too) ]) has
 
 -- where a plane is live at some time, a part of its division is
 pub part_there : (next : List ℕ → ℕ) → next (replicate 9 0) ≡ 0 → (cells : ℤ → ℤ → ℕ) (parts : List Picture) → IsDivision next cells parts

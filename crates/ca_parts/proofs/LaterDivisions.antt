@@ -8,7 +8,7 @@ use Rattle.ca_plane.proofs.After.{after_same, after_again, after_none}
 use Rattle.ca_parts.specs.Prelude.{NeverMeet, together, ComesBack, IsDivision, IsSettled}
 use Rattle.ca_parts.proofs.Lists.{AllZip-map, All-zip, AllPairs-zip}
 use Rattle.ca_parts.proofs.ApartPlanes.{AreApart-same}
-use Rattle.ca_parts.proofs.Sums.{after_together}
+use Rattle.ca_parts.proofs.Sums.{after_together, apart_before}
 use Rattle.ca_parts.proofs.LaterPictures.{picture_after, IsAfter-picture_after, live_or_not}
 use Rattle.ca_parts.proofs.Returning.{IsBackBy-from_shifted, shifted-from_IsBackBy, after_return, back_late}
 
@@ -36,10 +36,15 @@ IsLive-later next quiet p q n comes stands live =
 pub ComesBack-later : (next : List ℕ → ℕ) (p q : Picture) (n : ℕ) → IsAfter next p n q → ComesBack next p → ComesBack next q
 ComesBack-later next p q n stands (m, some, u, v, there) =
     let turned : n + m ≡ m + n = omega arith in
-    let back = IsBackBy-from_shifted next p m u v there in
-    (m, some, u, v, shifted-from_IsBackBy next q m u v (λ x y.
-        after_stands next p q n stands m (x +ℤ u) (y +ℤ v) ∙ ap (λ k. after next p k (x +ℤ u) (y +ℤ v)) turned
-        ∙ after_return next (cell p) m u v back n x y ∙ stands x y))
+    let back = IsBackBy-from_shifted next p m u v there in (
+      m,
+      some,
+      u,
+      v,
+      shifted-from_IsBackBy next q m u v (λ x y.
+          after_stands next p q n stands m (x +ℤ u) (y +ℤ v) ∙ ap (λ k. after next p k (x +ℤ u) (y +ℤ v)) turned
+          ∙ after_return next (cell p) m u v back n x y ∙ stands x y),
+    )
 
 -- and pictures that never meet don't meet later
 pub NeverMeet-later : (next : List ℕ → ℕ) (p p' q q' : Picture) (n : ℕ) → IsAfter next p n q → IsAfter next p' n q' → NeverMeet next p p' → NeverMeet next q q'
@@ -59,7 +64,7 @@ together-later next n x y (p ∷ ps) (q ∷ qs) zip =
 pub after_division : (next : List ℕ → ℕ) → next (replicate 9 0) ≡ 0 → (cells : ℤ → ℤ → ℕ) (parts : List Picture) → IsDivision next cells parts
     → (n : ℕ) (x y : ℤ) → cells_after next cells n x y ≡ sum_by (λ p. after next p n x y) parts
 after_division next quiet cells parts division n x y =
-    after_same next cells (together parts) n division.whole x y ∙ after_together next quiet parts division.apart n x y
+    after_same next cells (together parts) n division.whole x y ∙ after_together next quiet parts n (apart_before next parts division.apart n) x y
 
 pub IsDivision-later : (next : List ℕ → ℕ) → next (replicate 9 0) ≡ 0 → (cells : ℤ → ℤ → ℕ) (n : ℕ) (parts later : List Picture) → IsDivision next cells parts
     → AllZip (λ p q. IsAfter next p n q) parts later → IsDivision next (cells_after next cells n) later

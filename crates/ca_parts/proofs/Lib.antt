@@ -6,5 +6,7 @@ pub mod Returning
 pub mod LaterDivisions
 pub mod Drifts
 pub mod FinestDivisions
+pub mod PartsWithin
+pub mod LinkedParts
 pub mod EarlierPictures
 pub mod EarlierDivisions

@@ -80,10 +80,12 @@ common_time next (p ∷ ps) back =
     let (n, some, u, v, there) = first in
     let (m, all) = common_time next ps (All-tail (ComesBack next) p ps back) in
     let (l, is) = product n (suc m) some (omega arith) in
-    let turned : suc l ≡ suc m * n = omega (arith, is) in
-    (l, All-cons (IsBackAt next (suc l)) p ps
-        (IsBackAt-times next n (suc m) (suc l) turned p (u, v, IsBackBy-from_shifted next p n u v there))
-        (All-weaker (IsBackAt next (suc m)) (IsBackAt next (suc l)) (IsBackAt-times next (suc m) n (suc l) is) ps all))
+    let turned : suc l ≡ suc m * n = omega (arith, is) in (
+      l,
+      All-cons (IsBackAt next (suc l)) p ps
+          (IsBackAt-times next n (suc m) (suc l) turned p (u, v, IsBackBy-from_shifted next p n u v there))
+          (All-weaker (IsBackAt next (suc m)) (IsBackAt next (suc l)) (IsBackAt-times next (suc m) n (suc l) is) ps all),
+    )
 
 -- and so are those of two lists
 pub common_time_of_both : (next : List ℕ → ℕ) (ps qs : List Picture) → All (ComesBack next) ps → All (ComesBack next) qs
@@ -92,9 +94,11 @@ common_time_of_both next ps qs one two =
     let (m, all) = common_time next ps one in
     let (n, more) = common_time next qs two in
     let (l, is) = product (suc n) (suc m) (omega arith) (omega arith) in
-    let turned : suc l ≡ suc m * suc n = omega (arith, is) in
-    (l, All-weaker (IsBackAt next (suc m)) (IsBackAt next (suc l)) (IsBackAt-times next (suc m) (suc n) (suc l) is) ps all,
-        All-weaker (IsBackAt next (suc n)) (IsBackAt next (suc l)) (IsBackAt-times next (suc n) (suc m) (suc l) turned) qs more)
+    let turned : suc l ≡ suc m * suc n = omega (arith, is) in (
+      l,
+      All-weaker (IsBackAt next (suc m)) (IsBackAt next (suc l)) (IsBackAt-times next (suc m) (suc n) (suc l) is) ps all,
+      All-weaker (IsBackAt next (suc n)) (IsBackAt next (suc l)) (IsBackAt-times next (suc n) (suc m) (suc l) turned) qs more,
+    )
 
 -- what comes back is as it was, moved, after some number of generations that is no less than n
 pub back_late : (next : List ℕ → ℕ) (p : Picture) → ComesBack next p → (n : ℕ) → (k : ℕ) × (u : ℤ) × (v : ℤ) × IsBackBy next (cell p) (n + k) u v

@@ -7,8 +7,8 @@ use Rattle.std.proofs.lemmas.List.Elements.{All-head, All-tail}
 use Rattle.std.proofs.lemmas.List.Sums.{sum_by-cons}
 use Rattle.ca_plane.specs.Prelude.{Picture, cell, after, cells_after}
 use Rattle.ca_plane.proofs.After.{around-same, after_same, after_none}
-use Rattle.ca_parts.specs.Prelude.{NeverMeet, together}
-use Rattle.ca_parts.proofs.ApartPlanes.{StayApart, both, after_both, StayApart-both, StayApart-same}
+use Rattle.ca_parts.specs.Prelude.{AreApartBefore, NeverMeet, together}
+use Rattle.ca_parts.proofs.ApartPlanes.{AreApart-turned, StayApart, both, after_both, StayApart-both, StayApart-same}
 use Rattle.ca_parts.proofs.Lists.{AllPairs-head, AllPairs-tail, Contains-later}
 
 -- ---- sums
@@ -50,26 +50,35 @@ pub sum_alone : {X : Type 0} (f : X → ℕ) (R : X → X → Type 0) → ((x y 
     → ((y : X) → R x y → f y ≡ 0) → Contains xs x → sum_by f xs ≡ f x
 sum_alone f R turned xs x pairs none (k, low, is) = sum_of_one f R turned xs k x pairs none low is
 
--- ---- parts that never meet
+-- ---- parts that are apart
 
 -- what stays apart from each of the parts stays apart from them together
-StayApart-together : (next : List ℕ → ℕ) → next (replicate 9 0) ≡ 0 → (p : Picture) (parts : List Picture) → All (NeverMeet next p) parts → AllPairs (NeverMeet next) parts
-    → StayApart next (cell p) (together parts)
-StayApart-together next quiet p [] all pairs n x y =
-    inr (around-same (cells_after next (together []) n) (λ _ _. 0) x y (λ u v _. after_none next quiet n u v))
-StayApart-together next quiet p (q ∷ qs) all pairs n x y =
-    StayApart-same next (cell p) (both (cell q) (together qs)) (together (q ∷ qs)) (λ x y. sum_by-cons (λ r. cell r x y) q qs)
-    (StayApart-both next quiet (cell p) (cell q) (together qs) (All-head (NeverMeet next p) q qs all)
-    (StayApart-together next quiet p qs (All-tail (NeverMeet next p) q qs all) (AllPairs-tail (NeverMeet next) q qs pairs))
-    (StayApart-together next quiet q qs (AllPairs-head (NeverMeet next) q qs pairs) (AllPairs-tail (NeverMeet next) q qs pairs)))
-    n x y
+StayApart-together : (next : List ℕ → ℕ) → next (replicate 9 0) ≡ 0 → (n : ℕ) (p : Picture) (parts : List Picture) → All (AreApartBefore next n p) parts → AllPairs (AreApartBefore next n) parts
+    → StayApart next n (cell p) (together parts)
+StayApart-together next quiet n p [] all pairs m low x y =
+    inr (around-same (cells_after next (together []) m) (λ _ _. 0) x y (λ u v _. after_none next quiet m u v))
+StayApart-together next quiet n p (q ∷ qs) all pairs m low x y =
+    StayApart-same next n (cell p) (both (cell q) (together qs)) (together (q ∷ qs)) (λ x y. sum_by-cons (λ r. cell r x y) q qs)
+    (StayApart-both next quiet n (cell p) (cell q) (together qs) (All-head (AreApartBefore next n p) q qs all)
+    (StayApart-together next quiet n p qs (All-tail (AreApartBefore next n p) q qs all) (AllPairs-tail (AreApartBefore next n) q qs pairs))
+    (StayApart-together next quiet n q qs (AllPairs-head (AreApartBefore next n) q qs pairs) (AllPairs-tail (AreApartBefore next n) q qs pairs)))
+    m low x y
 
--- so parts of which no two ever meet go on each as if it were alone
-pub after_together : (next : List ℕ → ℕ) → next (replicate 9 0) ≡ 0 → (parts : List Picture) → AllPairs (NeverMeet next) parts
-    → (n : ℕ) (x y : ℤ) → cells_after next (together parts) n x y ≡ sum_by (λ p. after next p n x y) parts
-after_together next quiet [] pairs n x y = after_none next quiet n x y
-after_together next quiet (p ∷ ps) pairs n x y =
+-- so parts go on each as if it were alone, as long as each two are apart
+pub after_together : (next : List ℕ → ℕ) → next (replicate 9 0) ≡ 0 → (parts : List Picture) (n : ℕ) → AllPairs (AreApartBefore next n) parts
+    → (x y : ℤ) → cells_after next (together parts) n x y ≡ sum_by (λ p. after next p n x y) parts
+after_together next quiet [] n pairs x y = after_none next quiet n x y
+after_together next quiet (p ∷ ps) n pairs x y =
+    let rest = AllPairs-tail (AreApartBefore next n) p ps pairs in
     after_same next (together (p ∷ ps)) (both (cell p) (together ps)) n (λ u v. sum_by-cons (λ r. cell r u v) p ps) x y
-    ∙ after_both next quiet (cell p) (together ps) (StayApart-together next quiet p ps (AllPairs-head (NeverMeet next) p ps pairs) (AllPairs-tail (NeverMeet next) p ps pairs)) n x y
-    ∙ ap (λ s. after next p n x y + s) (after_together next quiet ps (AllPairs-tail (NeverMeet next) p ps pairs) n x y)
+    ∙ after_both next quiet (cell p) (together ps) n (StayApart-together next quiet n p ps (AllPairs-head (AreApartBefore next n) p ps pairs) rest) x y
+    ∙ ap (λ s. after next p n x y + s) (after_together next quiet ps n rest x y)
     ∙ sym (sum_by-cons (λ r. after next r n x y) p ps)
+
+-- parts that never meet are apart before each number of generations
+pub apart_before : (next : List ℕ → ℕ) (parts : List Picture) → AllPairs (NeverMeet next) parts → (n : ℕ) → AllPairs (AreApartBefore next n) parts
+apart_before next parts pairs n = λ i j d low high m _. pairs i j d low high m
+
+-- the order of pictures that are apart doesn't matter
+pub AreApartBefore-turned : (next : List ℕ → ℕ) (n : ℕ) (p q : Picture) → AreApartBefore next n p q → AreApartBefore next n q p
+AreApartBefore-turned next n p q apart m low = AreApart-turned (after next p m) (after next q m) (apart m low)

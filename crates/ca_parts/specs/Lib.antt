@@ -1,3 +1,4 @@
 pub mod Prelude
 pub mod Parts
+pub mod Links
 pub mod Divisions

@@ -1,14 +1,18 @@
 -- Pictures that have no part in one another's next cells, and those that come back (our own). A rule is given by the next
 -- state of nine cells.
-use Rattle.std.specs.Prelude.{◌≡◌, ◌≢◌, ℕ, ◌≤◌, ℤ, ◌⊎◌, List, replicate}
+use Rattle.std.specs.Prelude.{◌≡◌, ◌≢◌, ℕ, ◌<◌, ◌≤◌, ℤ, ◌⊎◌, List, replicate}
 use Rattle.std.specs.List.{AllPairs, sum_by}
 use Rattle.ca_plane.specs.Prelude.{Picture, cell, around, after, IsAfter, shifted}
 
 -- no window of three by three cells sees live cells of both
-abbrev pub AreApart : (ℤ → ℤ → ℕ) → (ℤ → ℤ → ℕ) → Type 0
+abbrev pub AreApart : (f g : ℤ → ℤ → ℕ) → Type 0
 AreApart f g = (x y : ℤ) → (around f x y ≡ replicate 9 0) ⊎ (around g x y ≡ replicate 9 0)
 
--- after each number of generations, 0 too, the two pictures are apart, when each of them goes on alone
+-- after each number of generations below n the two pictures are apart, when each of them goes on alone
+abbrev pub AreApartBefore : (List ℕ → ℕ) → ℕ → Picture → Picture → Type 0
+AreApartBefore next n p q = (m : ℕ) → m < n → AreApart (after next p m) (after next q m)
+
+-- so they are after each number of generations, 0 too
 abbrev pub NeverMeet : (List ℕ → ℕ) → Picture → Picture → Type 0
 NeverMeet next p q = (n : ℕ) → AreApart (after next p n) (after next q n)
 

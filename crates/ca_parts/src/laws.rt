@@ -1,13 +1,14 @@
-//! Laws of parts that never meet and of settled planes, over the definitions alone. They hold of every rule under which
-//! nothing is born where nothing is live.
+//! Laws of parts that never meet and of settled planes, over the definitions alone. They hold of every rule
+//! under which nothing is born where nothing is live.
 
 ghost use Rattle.std.specs.Prelude.{◌≡◌, ◌≢◌, ℕ, ◌+◌, ℤ, List, replicate};
-ghost use Rattle.std.specs.List.{All, AllPairs, AllZip, Any, sum_by};
+ghost use Rattle.std.specs.List.{All, AllPairs, AllZip, Any, Contains, sum_by};
 ghost use Rattle.ca_plane.specs.Prelude.{Picture, cell, after, IsAfter, IsSame, cells_after};
-ghost use Rattle.ca_parts.specs.Prelude.{NeverMeet, together, FallsInto, IsEarlier, LiesIn, IsDivision, IsSettled, IsFiner, IsFinest, IsFirstSettled};
+ghost use Rattle.ca_parts.specs.Prelude.{AreApart, AreApartBefore, NeverMeet, together, FallsInto, ComesBack};
+ghost use Rattle.ca_parts.specs.Prelude.{IsEarlier, LiesIn, IsLinked, IsDivision, IsSettled, IsFiner, IsFinest, IsFirstSettled};
 
-/// Parts that never meet go on as if each of them were alone: after n generations the plane of all of them has the
-/// cells that each one has then, together.
+/// As long as parts are apart, each goes on as if it were alone: after n generations the plane of all of them has
+/// the cells that each one has then, together. So it is at all times of parts that never meet.
 pub fn apart_parts_go_on_alone()
     ensures two { (next : List ℕ → ℕ) → next (replicate 9 0) ≡ 0 → (p q : Picture) → NeverMeet next p q
         → (n : ℕ) (x y : ℤ) → cells_after next (λ u v. cell p u v + cell q u v) n x y
@@ -15,9 +16,13 @@ pub fn apart_parts_go_on_alone()
     ensures all { (next : List ℕ → ℕ) → next (replicate 9 0) ≡ 0 → (parts : List Picture)
         → AllPairs (NeverMeet next) parts → (n : ℕ) (x y : ℤ)
         → cells_after next (together parts) n x y ≡ sum_by (λ p. after next p n x y) parts }
+    ensures before { (next : List ℕ → ℕ) → next (replicate 9 0) ≡ 0 → (parts : List Picture) (n : ℕ)
+        → AllPairs (AreApartBefore next n) parts → (x y : ℤ)
+        → cells_after next (together parts) n x y ≡ sum_by (λ q. after next q n x y) parts }
 {}
 
-/// A settled plane stays settled: what a division's parts are after n generations is a division of the plane then.
+/// A settled plane stays settled: what a division's parts are after n generations is a division of the plane
+/// then.
 pub fn settled_stays_settled()
     ensures settled { (next : List ℕ → ℕ) → next (replicate 9 0) ≡ 0 → (cells : ℤ → ℤ → ℕ) (n : ℕ)
         → IsSettled next cells → IsSettled next (cells_after next cells n) }
@@ -26,29 +31,51 @@ pub fn settled_stays_settled()
         → AllZip (λ p q. IsAfter next p n q) parts later → IsDivision next (cells_after next cells n) later }
 {}
 
-/// The same cells have one finest division at most: each part of one shows the same cells as a part of the other.
+/// The same cells have one finest division at most: each part of one shows the same cells as a part of the
+/// other.
 pub fn one_finest_division()
     ensures { (next : List ℕ → ℕ) (cells : ℤ → ℤ → ℕ) (one two : List Picture) → IsFinest next cells one
         → IsFinest next cells two → All (λ p. Any (IsSame p) two) one }
 {}
 
-/// Pictures that come back, and are the same one generation later, are the same.
+/// Where a plane falls into linked parts, each of them lies in a part of every division.
+pub fn linked_parts_lie_in_parts()
+    ensures { (next : List ℕ → ℕ) → next (replicate 9 0) ≡ 0 → (cells : ℤ → ℤ → ℕ)
+        (parts others : List Picture) → FallsInto cells parts → All (λ p. IsLinked (cell p)) parts
+        → IsDivision next cells others → IsFiner parts others }
+{}
+
+/// Where parts lie each in a part of a division, and are apart for n generations, but after n two of them aren't,
+/// one part of the division holds both.
+pub fn meeting_parts_lie_in_one_part()
+    ensures { (next : List ℕ → ℕ) → next (replicate 9 0) ≡ 0 → (cells : ℤ → ℤ → ℕ)
+        (parts others : List Picture) (n : ℕ) (p q : Picture) → ((x y : ℤ) → cells x y ≡ together parts x y)
+        → IsDivision next cells others → IsFiner parts others → AllPairs (AreApartBefore next n) parts
+        → Contains parts p → Contains parts q → (AreApart (after next p n) (after next q n) → ⊥)
+        → Any (λ d. LiesIn p d × LiesIn q d) others }
+{}
+
+/// What comes back was one picture, one generation earlier, that comes back too, and no other one.
 pub fn one_earlier()
-    ensures { (next : List ℕ → ℕ) → next (replicate 9 0) ≡ 0 → (one two p q : Picture) → IsEarlier next one p
-        → IsEarlier next two q → IsSame p q → IsSame one two }
+    ensures some { (next : List ℕ → ℕ) → next (replicate 9 0) ≡ 0 → (p : Picture) → ComesBack next p
+        → (e : Picture) × IsEarlier next e p }
+    ensures no_other { (next : List ℕ → ℕ) → next (replicate 9 0) ≡ 0 → (one two p q : Picture)
+        → IsEarlier next one p → IsEarlier next two q → IsSame p q → IsSame one two }
 {}
 
-/// Where a division is finer than another one, each part of that one is some of its parts together: a cell of the
-/// part is the cell of one of these, which lies in it.
+/// Where a division is finer than another one, each part of that one is some of its parts together: each cell of
+/// the part is a cell of one of these, which lies in it.
 pub fn coarse_parts_are_made_of_fine_ones()
-    ensures { (next : List ℕ → ℕ) → next (replicate 9 0) ≡ 0 → (cells : ℤ → ℤ → ℕ) (fine coarse : List Picture)
-        → IsDivision next cells fine → IsDivision next cells coarse → IsFiner fine coarse
-        → All (λ q. (x y : ℤ) → cell q x y ≢ 0 → Any (λ p. LiesIn p q × (cell p x y ≡ cell q x y)) fine) coarse }
+    ensures { (next : List ℕ → ℕ) → next (replicate 9 0) ≡ 0 → (cells : ℤ → ℤ → ℕ)
+        (fine coarse : List Picture) → IsDivision next cells fine → IsDivision next cells coarse
+        → IsFiner fine coarse
+        → All (λ q. (x y : ℤ) → cell q x y ≢ 0
+        → Any (λ p. LiesIn p q × (cell p x y ≡ cell q x y)) fine) coarse }
 {}
 
-/// Whether a plane is settled, of which the finest division is known one generation later, is told by what each
-/// part was then: the plane is settled if it falls into these earlier pictures, which are then its finest division,
-/// and only if it does. Where it doesn't, the later plane is the first one that is settled.
+/// Where the finest division of the next plane is known, and what each of its parts was one generation earlier,
+/// a plane is settled if it falls into these earlier pictures, which are then its finest division, and only if
+/// it does. Where it doesn't, the next plane is the first one that is settled.
 pub fn earlier_parts_tell_if_settled()
     ensures finest { (next : List ℕ → ℕ) → next (replicate 9 0) ≡ 0 → (cells : ℤ → ℤ → ℕ)
         (parts earlier : List Picture) → IsFinest next (cells_after next cells 1) parts

@@ -1,5 +1,8 @@
-use Rattle.ca_parts.proofs.EarlierPictures.{one_earlier}
+use Rattle.ca_parts.proofs.EarlierPictures.{one_earlier, some_earlier}
 use Rattle.ca_parts.proofs.laws.one_earlier.Goals as goal
 
-pub returns : goal.returns
-returns c = one_earlier
+pub returns-clause-some : goal.returns-clause-some
+returns-clause-some c = some_earlier
+
+pub returns-clause-no_other : goal.returns-clause-no_other
+returns-clause-no_other c = one_earlier
