@@ -1,6 +1,6 @@
 //! Results that cost little: tables of bounded size remember them, and may drop any.
 
-ghost use Rattle.std.specs.Prelude.{◌≡◌, ℕ, ◌⊎◌, ◌≤◌, [], length, IfSome};
+ghost use Rattle.std.specs.Prelude.{◌≡◌, ℕ, ◌⊎◌, ◌<◌, ◌≤◌, [], length, IfSome};
 ghost use Rattle.ca_memo.specs.SlotResults.{HasRecent};
 
 use crate::slot_key::SlotKey;
@@ -13,7 +13,9 @@ const FIRST: usize = 1024;
 
 /// How many slots `entries` entries of a memo make: none, if they are too few for a table.
 pub fn slot_count(entries: usize) -> usize
-    ensures { result ≤ entries }
+    ensures few { entries < 1024 → result ≡ 0 }
+    ensures many { 1024 ≤ entries → result ≡ entries }
+    ensures most { result ≤ entries }
 {
     if entries < FIRST { 0 } else { entries }
 }
