@@ -4,9 +4,9 @@ use Rattle.std.specs.Prelude.{flat_map}
 use Rattle.std.proofs.lemmas.List.{map-append}
 use Rattle.ca_rule.specs.declared.table.neighbourhood.Neighbourhood.{Neighbourhood}
 use Rattle.ca_rule.specs.declared.table.neighbourhood.Neighbourhood.TheVariants.{VonNeumann, Moore, Hexagonal, OneDimensional}
-use Rattle.ca_rule.specs.Prelude.{ring, ring_size, forward_order, picks, every_order, orders, States, Transition}
+use Rattle.ca_rule.specs.Prelude.{ring, ring_size, forward_order, picks, every_order, orders, places, States, Transition}
 use Rattle.ca_rule.specs.declared.table.neighbourhood.Symmetry.TheVariants.{Permute}
-use Rattle.ca_rule.specs.inner.TablePlaces.{places, outcome_at}
+use Rattle.ca_rule.specs.inner.TablePlaces.{outcome_at}
 use Rattle.ca_rule.specs.inner.TableSearch.{least_outcome}
 
 -- a pick with one more element among the others

@@ -1,20 +1,21 @@
 -- What a table gives by the orders of its symmetry, and by the places to which they lead.
-use Rattle.std.proofs.Common.{◌≡◌, ℕ, List, [], ◌∷◌, map, zip, slice_index, refl, ap, ◌∙◌, Some, None, unwrap_or, true, false, inl, inr, arith}
+use Rattle.std.proofs.Common.{◌≡◌, ◌≢◌, ℕ, List, [], ◌∷◌, map, zip, slice_index, refl, ap, ◌∙◌, Some, None, unwrap_or, true, false, inl, inr, arith}
 use Rattle.std.specs.List.{list_all}
 use Rattle.std.proofs.lemmas.Bool.{cases_Bool}
 use Rattle.std.proofs.lemmas.Bool.Decides.{nat_tests}
 use Rattle.ca_rule.specs.declared.table.{slot.Slot.Slot, neighbourhood.Neighbourhood.Neighbourhood, neighbourhood.Symmetry.Symmetry}
+use Rattle.ca_rule.specs.declared.table.neighbourhood.Symmetry.TheVariants.{Identity, Rotate4, Rotate4Reflect, ReflectHorizontal, Rotate8, Rotate8Reflect, Rotate2, Rotate3, Rotate6, Rotate6Reflect, Reflect, Permute}
 use Rattle.std.specs.Prelude.{if◌then◌else◌}
-use Rattle.ca_rule.specs.Prelude.{ring, orders, States, Transition, admits, cells_in_order, fits, result_state, outcome, next_by, table_next}
+use Rattle.ca_rule.specs.Prelude.{places, ring, orders, States, Transition, admits, cells_in_order, fits, result_state, outcome, next_by, table_next, two_may_fit, orders_may_fit}
 use Rattle.ca_rule.specs.inner.TableStored.{stored_table}
-use Rattle.ca_rule.specs.inner.TablePlaces.{places, begins_at_centre, slots_admit, admits_centre, outcome_at, next_at}
+use Rattle.ca_rule.specs.inner.TablePlaces.{begins_at_centre, slots_admit, admits_centre, outcome_at, next_at}
 
 -- the cells at the places of an order's positions
 cells-at : (h : Neighbourhood) (nine order : List ℕ) → map (slice_index nine) (map (slice_index (ring h)) order) ≡ map (λ position. slice_index nine (slice_index (ring h) position)) order
 cells-at h nine [] = refl
 cells-at h nine (p ∷ ps) = ap (λ l. slice_index nine (slice_index (ring h) p) ∷ l) (cells-at h nine ps)
 
-arranged-at : (h : Neighbourhood) (nine order : List ℕ) → map (slice_index nine) (places h order) ≡ cells_in_order h nine order
+pub arranged-at : (h : Neighbourhood) (nine order : List ℕ) → map (slice_index nine) (places h order) ≡ cells_in_order h nine order
 arranged-at h nine order = ap (λ l. slice_index nine 4 ∷ l) (cells-at h nine order)
 
 outcome-at : (h : Neighbourhood) (variables : List States) (nine : List ℕ) (t : Transition) (gs : List (List ℕ)) → outcome_at variables nine t (map (places h) gs) ≡ outcome h variables nine t gs
@@ -53,3 +54,19 @@ outcome-uncentred variables nine t (p ∷ ps) all not_here =
         let same : q ≡ 4 = grind (arith, nat_tests) in
         let here : admits variables s (slice_index nine q) ≡ false = ap (λ k. admits variables s (slice_index nine k)) same ∙ none in
         rw here refl
+
+-- under each symmetry but one, slots may fit under two orders where they may at the places to which two lead
+pub fit-unpermuted : (states : ℕ) (variables : List States) (h : Neighbourhood) (s : Symmetry) (v : ℕ) (slots : List Slot) → s ≢ Permute
+    → orders_may_fit states variables h s v slots ≡ two_may_fit states variables v slots (map (places h) (orders h s))
+fit-unpermuted states variables h Permute v slots other = absurd (other refl)
+fit-unpermuted states variables h Identity v slots other = refl
+fit-unpermuted states variables h Rotate4 v slots other = refl
+fit-unpermuted states variables h Rotate4Reflect v slots other = refl
+fit-unpermuted states variables h ReflectHorizontal v slots other = refl
+fit-unpermuted states variables h Rotate8 v slots other = refl
+fit-unpermuted states variables h Rotate8Reflect v slots other = refl
+fit-unpermuted states variables h Rotate2 v slots other = refl
+fit-unpermuted states variables h Rotate3 v slots other = refl
+fit-unpermuted states variables h Rotate6 v slots other = refl
+fit-unpermuted states variables h Rotate6Reflect v slots other = refl
+fit-unpermuted states variables h Reflect v slots other = refl

@@ -93,7 +93,7 @@ split-last [] some = absurd (omega arith)
 split-last (s ∷ []) some = refl
 split-last (s ∷ t ∷ ss) some = ap (λ l. s ∷ l) (split-last (t ∷ ss) (omega arith))
 
-zip-length : (R : List ℕ → Slot → Type 0) (xs : List (List ℕ)) (ys : List Slot) → AllZip R xs ys → length xs ≡ length ys
+pub zip-length : (R : List ℕ → Slot → Type 0) (xs : List (List ℕ)) (ys : List Slot) → AllZip R xs ys → length xs ≡ length ys
 zip-length R [] [] h = refl
 zip-length R [] (y ∷ ys) h = absurd h
 zip-length R (x ∷ xs) [] h = absurd h

@@ -1,6 +1,6 @@
 -- The neighbourhoods of rule tables and their symmetries (Golly Help, File Formats: rule tables; that the orders of a
 -- symmetry are taken in lexicographic order, and which orders the hexagonal symmetries have, is our own).
-use Rattle.std.specs.Prelude.{ℕ, zero, suc, ◌+◌, ◌-◌, ◌%◌, List, [], ◌∷◌, ◌++◌, Bool, true, false, ◌==◌, nat_lt, map, length, flat_map, if◌then◌else◌}
+use Rattle.std.specs.Prelude.{ℕ, zero, suc, ◌+◌, ◌-◌, ◌%◌, List, [], ◌∷◌, ◌++◌, Bool, true, false, ◌==◌, nat_lt, map, length, flat_map, slice_index, if◌then◌else◌}
 use Rattle.std.specs.List.{range_with_len}
 use Rattle.ca_rule.specs.declared.table.neighbourhood.{Neighbourhood.Neighbourhood, Symmetry.Symmetry}
 use Rattle.ca_rule.specs.declared.table.neighbourhood.Neighbourhood.TheVariants.{VonNeumann, Moore, Hexagonal, OneDimensional}
@@ -87,3 +87,7 @@ abbrev pub orders : Neighbourhood → Symmetry → List (List ℕ)
 orders neighbourhood Identity = forward_order (ring_size neighbourhood) 0 ∷ []
 orders neighbourhood Permute = every_order (ring_size neighbourhood) (forward_order (ring_size neighbourhood) 0)
 orders neighbourhood symmetry = round_orders neighbourhood symmetry
+
+-- the places among nine cells of the cells that the slots take under an order, the centre's first
+abbrev pub places : Neighbourhood → List ℕ → List ℕ
+places neighbourhood order = 4 ∷ map (slice_index (ring neighbourhood)) order

@@ -31,6 +31,6 @@ pub use rule_laws::{
 };
 pub use spelling::lists_of;
 pub use table::{
-    Neighbourhood, Slot, Symmetry, Table, TableFault, one_table, table_or_fault, worked_cells,
-    worked_orders, worked_texts, worked_transitions,
+    Neighbourhood, Slot, Symmetry, Table, TableFault, one_table, table_or_fault, untied_tables,
+    worked_cells, worked_orders, worked_texts, worked_transitions,
 };

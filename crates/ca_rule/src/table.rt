@@ -21,6 +21,7 @@ pub(crate) mod statement;
 pub(crate) mod statement_fault;
 pub(crate) mod statements;
 mod text_laws;
+mod ties;
 mod transition;
 mod transition_index;
 pub(crate) mod transition_slots;
@@ -30,7 +31,7 @@ use ca_plane::{Automaton, Nine};
 pub use fault::TableFault;
 use head::table_lines;
 use indexed::{IndexedTransitions, first_outcome};
-pub use laws::{worked_cells, worked_orders, worked_texts, worked_transitions};
+pub use laws::{untied_tables, worked_cells, worked_orders, worked_texts, worked_transitions};
 pub use neighbourhood::{Neighbourhood, Symmetry};
 pub(crate) use parts_fault::PartsFault;
 use placement::Orders;
@@ -75,6 +76,7 @@ impl Table {
     ghost use Rattle.ca_rule.specs.TableNext.{Transition as TransitionValue, table_next};
     ghost use Rattle.ca_rule.specs.TableText.{IsTable};
     ghost use Rattle.ca_rule.specs.TableFaults.{IsTableTextFault};
+    ghost use Rattle.ca_rule.specs.TableTies.{has_ties};
     ghost use Rattle.ca_rule.specs.inner.TableStored.{stored_table, is_below, IsPartsFault};
 
     /// The table of a rule file's text, or what is wrong with its first faulty line. Out of memory comes only
@@ -148,6 +150,16 @@ impl Table {
             symmetry,
             indexed,
         })
+    }
+
+    /// Whether the table has a tie: a transition that may give one neighbourhood two states, by a result
+    /// variable, each under an order in which it fits. The first of these orders decides here; Golly may take
+    /// the state of another. No table without a tie has such a transition.
+    pub fn has_ties(&self) -> bool
+        ensures { result ≡ has_ties self.now }
+    {
+        self.indexed
+            .have_ties(self.states, self.neighbourhood, self.symmetry)
     }
 
     /// The name that the file's `@RULE` line gives.

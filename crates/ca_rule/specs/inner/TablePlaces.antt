@@ -1,12 +1,8 @@
 -- Where the slots of a transition take their cells.
 use Rattle.std.specs.Prelude.{◌≡◌, ℕ, Bool, true, false, ◌==◌, List, [], ◌∷◌, Option, Some, None, unwrap_or, slice_index, map, zip, if◌then◌else◌}
 use Rattle.ca_rule.specs.declared.table.{neighbourhood.Neighbourhood.Neighbourhood, neighbourhood.Symmetry.Symmetry, slot.Slot.Slot}
-use Rattle.ca_rule.specs.TableOrders.{ring, orders}
+use Rattle.ca_rule.specs.TableOrders.{orders, places}
 use Rattle.ca_rule.specs.TableNext.{States, Transition, SlotCell, admits, fits, result_state}
-
--- the places among nine cells of the cells that the slots take under an order, the centre's first
-abbrev pub places : Neighbourhood → List ℕ → List ℕ
-places neighbourhood order = 4 ∷ map (slice_index (ring neighbourhood)) order
 
 -- these are the places in each order of the symmetry
 abbrev pub ArePlacesOf : Neighbourhood → Symmetry → List (List ℕ) → Type 0

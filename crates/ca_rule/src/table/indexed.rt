@@ -6,8 +6,10 @@ ghost use Rattle.ca_rule.specs.inner.TableSearch.{placements_of};
 ghost use Rattle.ca_rule.specs.inner.TablePlaces.{begins_at_centre, next_at};
 ghost use Rattle.ca_rule.specs.inner.TransitionIndices.{IsIndex, AreIndices};
 
+use crate::table::neighbourhood::{Neighbourhood, Symmetry};
 use crate::table::placement::Orders;
 use crate::table::state_set::StateSet;
+use crate::table::ties::one_may_tie;
 use crate::table::transition::Transition;
 use crate::table::transition_index::TransitionIndex;
 use ca_plane::{Memory, Nine};
@@ -34,7 +36,9 @@ impl Model for IndexedTransitions {
 
 impl IndexedTransitions {
     ghost use Rattle.std.specs.Prelude.{◌≡◌, ◌≤◌, true, IfOk};
-    ghost use Rattle.std.specs.List.{list_all};
+    ghost use Rattle.std.specs.List.{list_all, list_any};
+    ghost use Rattle.ca_rule.specs.TableNext.{Transition as TransitionValue};
+    ghost use Rattle.ca_rule.specs.TableTies.{may_tie};
     ghost use Rattle.ca_rule.specs.inner.TableSearch.{placements_of};
     ghost use Rattle.ca_rule.specs.inner.TablePlaces.{begins_at_centre, next_at};
     ghost use Rattle.ca_rule.specs.inner.TransitionIndices.{Lines};
@@ -60,6 +64,26 @@ impl IndexedTransitions {
             transitions,
             indices,
         })
+    }
+
+    /// Whether one of the transitions has a tie, in a table of so many states.
+    pub(crate) fn have_ties(
+        &self,
+        states: u16,
+        neighbourhood: Neighbourhood,
+        symmetry: Symmetry,
+    ) -> bool
+        requires { states ≤ 256 }
+        ensures { result ≡ list_any (λ (t : TransitionValue).
+            may_tie states self.now.variables neighbourhood symmetry t.inputs t.result) self.now.transitions }
+    {
+        one_may_tie(
+            states,
+            &self.variables,
+            neighbourhood,
+            symmetry,
+            &self.transitions,
+        )
     }
 
     /// What the first transition gives that fits in one of the orders; where none fits, the centre stays.

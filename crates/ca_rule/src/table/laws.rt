@@ -1,7 +1,8 @@
 //! What holds of the orders of symmetries and of next cells under rule tables, said of the definitions alone.
 //! These functions are of no use to a program: each has laws for its contract.
 
-ghost use Rattle.std.specs.Prelude.{◌≡◌, [], ◌∷◌, ◌++◌, true, false, Some, codes};
+ghost use Rattle.std.specs.Prelude.{◌≡◌, ◌<◌, ℕ, List, [], ◌∷◌, ◌++◌, true, false, length, Some, codes};
+ghost use Rattle.std.specs.List.{All, AllByRecursion};
 ghost use Rattle.ca_rule.specs.TableOrders.{orders};
 ghost use Rattle.ca_rule.specs.TableLines.{lines_said, setting, is_setting, begins_variable, is_name, fields_of, IsVariableLine};
 ghost use Rattle.ca_rule.specs.TableText.{IsTable};
@@ -9,6 +10,7 @@ ghost use Rattle.ca_rule.specs.TableFaults.{IsTableTextFault};
 ghost use Rattle.ca_rule.specs.declared.table.fault.TableFault.TheVariants.{NoRuleLine, NoTable, States, Neighborhood};
 ghost use Rattle.ca_rule.specs.declared.table.fault.TableFault.TheVariants.{Symmetries};
 ghost use Rattle.ca_rule.specs.TableNext.{TableRule};
+ghost use Rattle.ca_rule.specs.TableTies.{has_ties, GivesOneState};
 ghost use Rattle.ca_plane.specs.Prelude.{text_of};
 ghost use Rattle.ca_rule.specs.TableExamples.{file_with, file_of, digits, digit_lists, table_cells, HasOrders, unturned_cells};
 ghost use Rattle.ca_rule.specs.TableExamples.{cells_by_one, cells_by_two, cells_south, one_neighbour, like_neighbours};
@@ -122,4 +124,12 @@ pub fn worked_texts()
         (file_with (codes "3") (codes "Margolus") (codes "rotate4") (codes "0a000a")) (Neighborhood 6) }
     ensures symmetry_is_unknown { IsTableTextFault
         (file_with (codes "3") (codes "vonNeumann") (codes "rotate8") (codes "0a000a")) (Symmetries 6) }
+{}
+
+/// A transition of a table without ties gives a neighbourhood one state, whichever of the orders decides under
+/// which it fits.
+pub fn untied_tables()
+    ensures { (bytes : List ℕ) (table : TableRule) (nine : List ℕ) → IsTable bytes table → length nine ≡ 9
+        → All (λ s. s < table.states) nine → has_ties table ≡ false
+        → AllByRecursion (GivesOneState table nine) table.transitions }
 {}

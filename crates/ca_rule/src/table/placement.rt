@@ -51,7 +51,10 @@ pub(crate) fn as_it_stands(neighbourhood: Neighbourhood) -> &'static [u8]
 
 /// For each order of the symmetry, except `permute`: the places of the slots' cells among nine, the centre's
 /// first. A symmetry that the neighbourhood doesn't have has none.
-fn placements(neighbourhood: Neighbourhood, symmetry: Symmetry) -> &'static [&'static [u8]]
+pub(crate) fn placements(
+    neighbourhood: Neighbourhood,
+    symmetry: Symmetry,
+) -> &'static [&'static [u8]]
     ensures { symmetry ≢ Permute → ArePlacesOf neighbourhood symmetry (map (λ p. p.now) result.now) }
 {
     match neighbourhood {

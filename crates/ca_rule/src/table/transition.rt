@@ -74,6 +74,20 @@ impl Transition {
         }
     }
 
+    /// The slots, the centre's first.
+    pub(crate) fn inputs(&self) -> &[Slot]
+        ensures { result.now ≡ self.now.inputs }
+    {
+        &self.inputs
+    }
+
+    /// The result.
+    pub(crate) fn becomes(&self) -> Slot
+        ensures { result ≡ self.now.result }
+    {
+        self.result
+    }
+
     /// How many slots there are.
     pub(crate) fn len(&self) -> usize
         ensures { result ≡ length self.now.inputs }
