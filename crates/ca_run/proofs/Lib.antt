@@ -7,6 +7,7 @@ pub mod Bases
 pub mod Leap
 pub mod Levels
 pub mod Trees
+pub mod Within
 pub mod PlaneLevels
 pub mod ReadWords
 pub mod LiveFrames

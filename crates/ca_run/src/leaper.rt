@@ -1,11 +1,11 @@
 //! Leaps by powers of two over shared squares (Gosper, "Exploiting regularities in large cellular spaces").
 
-ghost use Rattle.std.specs.Prelude.{◌≡◌, ℕ, suc, ◌+◌, ◌≤◌, ◌/◌, ℤ, max, OnOk, IsOk, IfOk, IfErr, IfSome};
+ghost use Rattle.std.specs.Prelude.{◌≡◌, ℕ, suc, ◌+◌, ◌≤◌, ◌/◌, ℤ, OnOk, IsOk, IfOk, IfErr, IfSome};
 ghost use Rattle.ca_quad.specs.Prelude.{IsOf, one_cell, joined_cells, IsSoundStore, AreFour, ShowsSquare};
 ghost use Rattle.ca_run.specs.Centre.{IsCentre, IsLeap};
 ghost use Rattle.ca_run.specs.Leaping.{LeaperGrows};
 ghost use Rattle.ca_work.specs.Prelude.{EndsAtLimit};
-ghost use Rattle.ca_run.specs.inner.AtCost.{GoesOnAtCost};
+ghost use Rattle.ca_run.specs.inner.AtCost.{GoesOnAtCost, limited};
 ghost use Rattle.ca_bricks.specs.Prelude.{GoesByCells};
 ghost use Rattle.ca_run.specs.inner.Shown.{ShowsAt, FourShow};
 ghost use Rattle.ca_plane.specs.Prelude.{most_memo};
@@ -136,34 +136,12 @@ impl<A: Automaton> Leaper<A> {
         self.work.limit()
     }
 
-    /// Lets `limit` units of work be used up in all, or as many as are used up already, where these are more. So
-    /// a caller may allow a part of its work a share of what is left, and the rest after it.
-    pub fn limit_work(&mut self, limit: u64)
-        ensures limited { self.new ≡ record {
-          rule = self.old.rule;
-          nodes = self.old.nodes;
-          memo = self.old.memo;
-          spent = record { used = self.old.spent.used; limit = max self.old.spent.used limit };
-        } }
+    // Lets `limit` units of work be used up in all, or as many as are used up already, where these are more.
+    fn set_work_limit(&mut self, limit: u64)
+        ensures lowered { self.new ≡ limited self.old limit }
         ensures most { self.old.spent.used ≤ self.old.spent.limit }
     {
         self.work.set_limit(limit);
-    }
-
-    /// Counts units of work that are done beside the leaper, before they are done.
-    ///
-    /// # Errors
-    ///
-    /// Fails where no more are left.
-    pub fn spend(&mut self, units: u64) -> Result<(), LeapFault>
-        ensures goes_on { LeaperGrows A self.old self.new }
-        ensures same { self.new.nodes ≡ self.old.nodes }
-        ensures most { self.new.spent.used ≤ self.old.spent.used + units }
-        ensures counts { OnOk result (self.new.spent.used ≡ self.old.spent.used + units) }
-        ensures work { EndsAtLimit self.new.spent result }
-        ensures err { IfErr result (λ fault. fault ≡ LeapFault.Work) }
-    {
-        self.charge(units)
     }
 
     // Counts units of work before they are done.

@@ -1,5 +1,5 @@
 -- What a leaper's calls leave, and at which cost (our own).
-use Rattle.std.specs.Prelude.{ℕ, ◌+◌, ◌≤◌}
+use Rattle.std.specs.Prelude.{ℕ, ◌+◌, ◌≤◌, max}
 use Rattle.ca_work.specs.Prelude.{Spent, Spends}
 use Rattle.ca_run.specs.Leaping.{LeaperView, LeaperGrows, Costs}
 
@@ -13,3 +13,7 @@ pub record GoesOnAtCost (Rule : Type 0) (old new : LeaperView Rule) (units squar
 pub record SpendsAtMost (old new : Spent) (units : ℕ) : Type 0 where
   pub spends : Spends old new
   pub most : new.used ≤ old.used + units
+
+-- the same leaper, with another limit of work, of at least what is used up
+abbrev pub limited : {Rule : Type 0} → LeaperView Rule → (limit : ℕ) → LeaperView Rule
+limited l limit = record { rule = l.rule; nodes = l.nodes; memo = l.memo; spent = record { used = l.spent.used; limit = max l.spent.used limit } }

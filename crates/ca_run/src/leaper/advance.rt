@@ -2,7 +2,7 @@
 
 ghost use Rattle.std.specs.Prelude.{◌≡◌, ℤ, ◌+◌, ◌<◌, ◌≤◌, ◌^◌, max, Ok, IsOk, IfOk, OnOk, ◌*◌, ◌-◌, ◌⊎◌};
 ghost use Rattle.ca_quad.specs.Prelude.{IsSoundStore, IsTree, cell, IsTrimmed};
-ghost use Rattle.ca_run.specs.Advanced.{CanAdvance, IsAdvanced, Advances};
+ghost use Rattle.ca_run.specs.Advanced.{CanAdvance, IsAdvanced, Advances, AdvancesWithin};
 ghost use Rattle.ca_run.specs.Leaping.{LeaperGrows};
 ghost use Rattle.ca_work.specs.Prelude.{EndsAtLimit};
 ghost use Rattle.ca_run.specs.inner.AtCost.{GoesOnAtCost};
@@ -47,6 +47,39 @@ impl<A: Automaton> Leaper<A> {
     {
         self.learn_cell_rule(n)?;
         self.advance_known(tree, n, watch)
+    }
+
+    /// The same where that takes no more units of work than until `most` are used up in all, or as many as are used up
+    /// already, where these are more. None where it takes more: then these are used up.
+    ///
+    /// # Errors
+    ///
+    /// As for `advance`: `Work` where as many units are used up as may be, and not where `most` are.
+    pub fn advance_within<W: Watch>(
+        &mut self,
+        tree: Tree,
+        n: u64,
+        most: u64,
+        watch: &mut W,
+    ) -> Result<Option<Tree>, LeapFault>
+        requires { CanAdvance self.old.nodes tree n }
+        ensures { AdvancesWithin A (A.next_of self.old.rule) self.old tree n most self.new result }
+    {
+        let limit = self.work_limit();
+        self.set_work_limit(most.min(limit));
+        let found = self.advance_watched(tree, n, watch);
+        let used = self.used();
+        self.set_work_limit(limit);
+        match found {
+            Ok(later) => Ok(Some(later)),
+            Err(LeapFault::Memory) => Err(LeapFault::Memory),
+            Err(LeapFault::Work) => {
+                if used < limit {
+                    return Ok(None);
+                }
+                Err(LeapFault::Work)
+            }
+        }
     }
 
     // The same, with what is known of the rule.
