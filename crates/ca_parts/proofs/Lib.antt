@@ -10,3 +10,5 @@ pub mod PartsWithin
 pub mod LinkedParts
 pub mod EarlierPictures
 pub mod EarlierDivisions
+pub mod RowOrder
+pub mod TwoApart

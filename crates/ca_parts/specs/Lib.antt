@@ -2,3 +2,4 @@ pub mod Prelude
 pub mod Parts
 pub mod Links
 pub mod Divisions
+pub mod inner

@@ -2,11 +2,15 @@
 -- state of nine cells.
 use Rattle.std.specs.Prelude.{◌≡◌, ◌≢◌, ℕ, ◌<◌, ◌≤◌, ℤ, ◌⊎◌, List, replicate}
 use Rattle.std.specs.List.{AllPairs, sum_by}
-use Rattle.ca_plane.specs.Prelude.{Picture, cell, around, after, IsAfter, shifted}
+use Rattle.ca_plane.specs.Prelude.{Picture, cell, around, after, IsAfter, shifted, IsWithin}
 
 -- no window of three by three cells sees live cells of both
 abbrev pub AreApart : (f g : ℤ → ℤ → ℕ) → Type 0
 AreApart f g = (x y : ℤ) → (around f x y ≡ replicate 9 0) ⊎ (around g x y ≡ replicate 9 0)
+
+-- no live cell of one lies within n of a live cell of the other
+abbrev pub AreFurther : ℕ → (f g : ℤ → ℤ → ℕ) → Type 0
+AreFurther n f g = (x y u v : ℤ) → f x y ≢ 0 → g u v ≢ 0 → IsWithin n x y u v → ⊥
 
 -- after each number of generations below n the two pictures are apart, when each of them goes on alone
 abbrev pub AreApartBefore : (List ℕ → ℕ) → ℕ → Picture → Picture → Type 0

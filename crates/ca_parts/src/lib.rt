@@ -2,4 +2,8 @@
 //! alone, that they are the only finest ones, and how one generation earlier is judged.
 #![tactic(auto)]
 
+mod apart;
 pub mod laws;
+mod rows;
+
+pub use apart::{apart_planes_are_further_than_two, are_apart, are_apart_when_moved};

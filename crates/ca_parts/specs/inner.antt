@@ -1,0 +1,3 @@
+-- What only private contracts speak of.
+pub mod Apart
+pub mod Rows
