@@ -1,6 +1,6 @@
 //! How long leaps are, and how many squares a store may have, where a run makes too many.
 
-ghost use Rattle.std.specs.Prelude.{◌≡◌, ℕ, ◌+◌, ◌-◌, ◌<◌, ◌≤◌, ◌^◌, true};
+ghost use Rattle.std.specs.Prelude.{◌≡◌, ℕ, ◌+◌, ◌-◌, ◌<◌, ◌≤◌, ◌^◌, max, min, true};
 ghost use Rattle.ca_work.specs.Tries.{tries, most_tries};
 
 // How many squares a store may have at first, and how many more than before, where no fewer are allowed.
@@ -20,7 +20,9 @@ const REPEATED: usize = 4;
 const MOST_REPEATS: u8 = 3;
 
 /// With how many squares a leap is given up in a store that had `squares` before, where `most` are allowed.
-pub fn room_beside(squares: usize, most: usize) -> usize {
+pub fn room_beside(squares: usize, most: usize) -> usize
+    ensures { result ≡ max (min (squares + min (2 ^ 20) most) (2 ^ 64 - 1)) (min (2 ^ 22) most) }
+{
     squares.saturating_add(MORE.min(most)).max(ROOM.min(most))
 }
 
@@ -98,7 +100,8 @@ impl Pace {
 
     /// Whether a store that has `squares` squares had better keep them, and have room for twice as many.
     pub fn is_worth_growing(self, squares: usize, looked_up: usize) -> bool
-        ensures { result ≡ true → self.room < 2 ^ 64 - 1 }
+        ensures allowed { result ≡ true → self.room < self.most }
+        ensures low { result ≡ true → self.room < 2 ^ 64 - 1 }
     {
         self.room < self.most && self.is_repeating(squares, looked_up)
     }

@@ -1,6 +1,6 @@
 //! Work that is counted.
 
-ghost use Rattle.std.specs.Prelude.{◌≡◌, ◌+◌, ◌<◌, ◌≤◌, ◌^◌, max, OnOk, IfErr};
+ghost use Rattle.std.specs.Prelude.{◌≡◌, ◌+◌, ◌<◌, ◌≤◌, ◌^◌, max, IsOk, OnOk, IfErr};
 ghost use Rattle.ca_work.specs.Spending.{Spends, EndsAtLimit};
 
 use crate::fault::LeapFault;
@@ -56,9 +56,10 @@ impl Work {
         self.limit = self.used.max(limit);
     }
 
-    /// Counts `units` units of work before they are done. Where fewer are left, all are used up, and nothing is
-    /// to be done.
+    /// Counts `units` units of work before they are done. Only where fewer are left is this refused: then all are used
+    /// up, and nothing is to be done.
     pub fn charge(&mut self, units: u64) -> Result<(), LeapFault>
+        ensures enough { self.old.used + units ≤ self.old.limit → IsOk result }
         ensures counts { OnOk result (self.new.used ≡ self.old.used + units) }
         ensures most { self.new.used ≤ self.old.used + units }
         ensures fits { self.new.used < 2 ^ 64 }
