@@ -1,13 +1,14 @@
 -- Numbers that count down, digit by digit.
-use Rattle.std.proofs.Common.{◌≡◌, ℕ, zero, suc, ◌+◌, ◌-◌, ◌*◌, ◌/◌, ◌%◌, ◌<◌, ◌^◌, min, max, inl, inr, ◌⊎◌, List, [], ◌∷◌, length, get_or, take, slice_set, refl, sym, ap, ap₂, ◌∙◌, arith}
+use Rattle.std.proofs.Common.{◌≡◌, ℕ, zero, suc, ◌+◌, ◌-◌, ◌*◌, ◌/◌, ◌%◌, ◌<◌, ◌≤◌, ◌^◌, min, max, inl, inr, ◌⊎◌, List, [], ◌∷◌, length, get_or, take, slice_set, refl, sym, ap, ap₂, ◌∙◌, arith}
 use Rattle.std.specs.Int.{bit_at}
 use Rattle.std.specs.List.{All}
-use Rattle.std.proofs.Math.Nat.{two-pow-succ}
+use Rattle.std.proofs.Math.Nat.{two-pow-succ, div-eq_of_lt}
 use Rattle.std.proofs.lemmas.Bool.{cases_eq}
 use Rattle.std.proofs.lemmas.Grind.{get_or-set_at}
 use Rattle.std.proofs.lemmas.List.{get_or-set_other, get_or_default, length-set}
 use Rattle.std.proofs.lemmas.Nat.Bits.{bit_at_lowest, bit_at-suc, bit_at-lt}
 use Rattle.ca_plane.specs.Prelude.{row_cells}
+use Rattle.ca_plane.proofs.Numbers.{below_or_not}
 use Rattle.ca_bricks.specs.declared.grid.BrickGrid.{BrickGrid}
 use Rattle.ca_bricks.specs.Prelude.{number_at, IsInPlace}
 
@@ -109,3 +110,13 @@ put_size grids k count w long size all j d h = elim (cases_eq j k) [
 
 pub in_place_again : (a b c : BrickGrid) → IsInPlace a b → IsInPlace b c → IsInPlace a c
 in_place_again a b c h k = record { x = k.x ∙ h.x; y = k.y ∙ h.y; across = k.across ∙ h.across; down = k.down ∙ h.down }
+
+-- ---- how many digits a number has
+
+-- where dividing by a power of two leaves something, that isn't more than the number
+pub power_within : (n d : ℕ) → (n / 2 ^ d ≡ 0 → ⊥) → 2 ^ d ≤ n
+power_within n d some = elim (below_or_not n (2 ^ d)) [ inl low ↦ absurd (some (div-eq_of_lt low)) | inr many ↦ many ]
+
+-- where fewer digits than these are too few, no number of digits that is enough is less
+pub least_digits : (states digits : ℕ) → 2 ≤ states → ((d : ℕ) → d < digits → 2 ^ d ≤ states - 2) → (d : ℕ) → states < 2 + 2 ^ d → digits ≤ d
+least_digits states digits two few d fits = elim (below_or_not d digits) [ inl low ↦ absurd (omega (arith, few d low, two, fits)) | inr many ↦ many ]

@@ -23,10 +23,11 @@ pub struct AgedGrid {
     pub states: u16,
 }
 
-/// How many binary digits the number of a dying cell has: it is at most that of the states without two.
+/// How many binary digits the number of a dying cell has: as few as tell the number of the states without two.
 pub fn digit_count(states: u16) -> usize
     requires { 2 ≤ states }
     ensures enough { states < 2 + 2 ^ result }
+    ensures least { (d : ℕ) → states < 2 + 2 ^ d → result ≤ d }
     ensures few { result ≤ 16 }
 {
     let most = states - 2;

@@ -1,6 +1,6 @@
 //! The bricks that wake.
 
-ghost use Rattle.std.specs.Prelude.{◌≡◌, ◌+◌, ◌<◌, ◌^◌, [], IfOk, OnOk};
+ghost use Rattle.std.specs.Prelude.{◌≡◌, ◌+◌, ◌<◌, ◌^◌, [], IsOk, IfOk, OnOk};
 ghost use Rattle.ca_bricks.specs.Bricks.{HasNeighbours, IsNotIn, QueueGrows};
 
 use ca_plane::Memory;
@@ -56,6 +56,7 @@ impl Queue {
         requires { across + count < 2 ^ 63 }
         ensures grows { OnOk result (QueueGrows across count self.old self.new) }
         ensures woken { OnOk result (HasNeighbours across count t → IsNotIn self.new t → word ≡ 0) }
+        ensures calm { word ≡ 0 → IsOk result × (self.new ≡ self.old) }
     {
         if word == 0 || t <= across || t >= count || t + across + 1 >= count {
             return Ok(());

@@ -1,6 +1,6 @@
 //! Which bricks are awake.
 
-ghost use Rattle.std.specs.Prelude.{◌≡◌, ℕ, ◌+◌, ◌<◌, ◌^◌, [], length, get_or, true, IfOk, OnOk};
+ghost use Rattle.std.specs.Prelude.{◌≡◌, ℕ, ◌+◌, ◌<◌, ◌^◌, [], length, get_or, true, false, IsOk, IfOk, OnOk};
 ghost use Rattle.ca_bricks.specs.Bricks.{HasNeighbours, IsNotIn, IsBlank, IsBlankRound};
 ghost use Rattle.ca_bricks.specs.Bricks.{AllHaveNeighbours, HasBlankEdge, QueueGrows};
 
@@ -69,7 +69,9 @@ pub fn wake_next(
     requires room { across + count < 2 ^ 63 }
     requires inside { AllHaveNeighbours across count queue.old }
     ensures inside { OnOk result (AllHaveNeighbours across count awake.new.items) }
+    ensures calm { is_first ≡ false → IsOk result }
     ensures queue { OnOk result ((t : ℕ) → IsNotIn awake.new.items t → IsNotIn queue.old t) }
+    ensures only { OnOk result (is_first ≡ false → awake.new.items ≡ queue.old) }
     ensures again { OnOk result (is_first ≡ true → (t : ℕ) → HasNeighbours across count t
         → IsNotIn awake.new.items t → IsNotIn awake.old.items t) }
     ensures empty { OnOk result (queue.new ≡ []) }
