@@ -1,5 +1,5 @@
 -- What a pattern is found to be, by the claims that are true of it, and why that isn't found out.
-use Rattle.std.specs.Prelude.{◌≡◌, ℕ, ◌+◌, ◌*◌, ◌^◌, ◌≤◌, ◌<◌, ℤ, List, Some}
+use Rattle.std.specs.Prelude.{◌≡◌, ℕ, ◌+◌, ◌*◌, ◌^◌, ◌≤◌, ◌<◌, min, ℤ, List, Some}
 use Rattle.ca_plane.specs.Prelude.{Picture, cell, IsLive, IsLeastBox, after, IsAfter, HasPopulation}
 use Rattle.ca_quad.specs.Prelude.{HoldsAll}
 use Rattle.ca_rule.specs.Prelude.{TableRule, RuleValue, next_of}
@@ -51,19 +51,18 @@ IsIdentityAfter next cells n limit identity = (later : Picture) × IsAfter next 
 abbrev pub MayNeedWork : ℕ → (ℕ → ℤ → ℤ → ℕ) → (limit : ℕ) → Type 0
 MayNeedWork work stages limit = (level : ℕ) → 1 ≤ level → ((n : ℕ) → n < limit → HoldsAll level (stages n)) → work ≤ limit * 14 ^ (level + 3)
 
--- a look with this scope may end before its limit: nothing is found, and the units of work for which it has patience are no more than a look up to the
--- limit may need
-abbrev pub MayEndEarly : (List ℕ → ℕ) → Picture → Scope → Identity → Type 0
-MayEndEarly next cells scope identity = (growth : Growth) × (identity ≡ Unknown growth)
-    × (units : ℕ) × (scope.patience ≡ Some units) × MayNeedWork units (after next cells) scope.limit
+-- a look with this scope may end before its limit: nothing is found, and it took the units of work for which the scope has patience, at least
+abbrev pub MayEndEarly : Scope → Look → Type 0
+MayEndEarly scope look = (growth : Growth) × (look.identity ≡ Unknown growth) × (units : ℕ) × (scope.patience ≡ Some units) × (units ≤ look.work)
 
--- what a look at the cells with this scope finds: what they are within the generations that were looked at, one at least. These are all up to the limit
--- of the scope, but where patience ended the look
+-- what a look at the cells with this scope finds: what they are within the generations that were looked at, the first two at least. These are all up to
+-- the limit of the scope, but where patience ended the look. It took no more work than a look up to that limit may need
 pub record IsLook (next : List ℕ → ℕ) (cells : Picture) (scope : Scope) (look : Look) : Type 0 where
-  pub some : 1 ≤ look.limit
+  pub least : min 2 scope.limit ≤ look.limit
   pub most : look.limit ≤ scope.limit
   pub identity : IsIdentity next cells look.limit look.identity
-  pub early : look.limit < scope.limit → MayEndEarly next cells scope look.identity
+  pub work : MayNeedWork look.work (after next cells) scope.limit
+  pub early : look.limit < scope.limit → MayEndEarly scope look
 
 -- the same of the plane n generations after these cells
 abbrev pub IsLookAfter : (List ℕ → ℕ) → Picture → (n : ℕ) → Scope → Look → Type 0

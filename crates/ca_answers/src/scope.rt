@@ -33,4 +33,6 @@ pub struct Look {
     pub identity: Identity,
     /// The generations within which it is that: all up to the limit of the scope, unless patience ended the look.
     pub limit: u64,
+    /// The units of work that it took.
+    pub work: u64,
 }

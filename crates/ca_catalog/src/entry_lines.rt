@@ -192,7 +192,11 @@ fn push_identified(
     ensures { OnOk result (Puts out.old.items out.new.items
         (identified_lines generations name.now path.now found.now)) }
 {
-    let Look { identity, limit } = found.look;
+    let Look {
+        identity,
+        limit,
+        ..
+    } = found.look;
     push_pieces(out, &load_pieces(name, path))?;
     push_found(out, generations, limit, name, identity)?;
     match &found.code {

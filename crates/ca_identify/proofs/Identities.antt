@@ -203,13 +203,17 @@ found_later next p cells n nodes start IsFound result shows is told =
 -- ---- looks
 
 -- one that goes to the end of its scope
-pub whole_look : (next : List ℕ → ℕ) (cells : Picture) (scope : Scope) (identity : Identity) → 1 ≤ scope.limit → IsIdentity next cells scope.limit identity
-    → IsLook next cells scope (record { identity = identity; limit = scope.limit })
-whole_look next cells scope identity some is = record { some = some; most = omega arith; identity = is; early = λ less. absurd (omega (arith, less)) }
+pub whole_look : (next : List ℕ → ℕ) (cells : Picture) (scope : Scope) (identity : Identity) (work : ℕ) → IsIdentity next cells scope.limit identity → MayNeedWork work (after next cells) scope.limit
+    → IsLook next cells scope (record { identity = identity; limit = scope.limit; work = work })
+whole_look next cells scope identity work is needs = record { least = omega arith; most = omega arith; identity = is; work = needs; early = λ less. absurd (omega (arith, less)) }
 
--- a search of some cells' tree may need as much work as is used up
-pub search_needs : (next : List ℕ → ℕ) (p : ℤ → ℤ → ℕ) (cells : Picture) → ((x y : ℤ) → plane.cell cells x y ≡ p x y) → (old mid new units limit : ℕ) → old ≤ mid → mid + units ≤ new
-    → TakesSearch old new (cells_after next p) limit → MayNeedWork units (after next cells) limit
-search_needs next p cells shows old mid new units limit rises used takes level some holds =
+-- no work is no more than any that may be needed
+pub no_work_needed : (stages : ℕ → ℤ → ℤ → ℕ) (limit : ℕ) → MayNeedWork 0 stages limit
+no_work_needed stages limit level some holds = omega arith
+
+-- a search of some cells' tree may need as much work as it took
+pub search_needs : (next : List ℕ → ℕ) (p : ℤ → ℤ → ℕ) (cells : Picture) → ((x y : ℤ) → plane.cell cells x y ≡ p x y) → (old new work limit : ℕ) → old + work ≡ new
+    → TakesSearch old new (cells_after next p) limit → MayNeedWork work (after next cells) limit
+search_needs next p cells shows old new work limit took takes level some holds =
     let most = takes level some (λ m less x y live. holds m less x y (λ none. live (sym (later next p cells shows m x y) ∙ none))) in
-    omega (arith, rises, used, most)
+    omega (arith, took, most)

@@ -1,28 +1,28 @@
--- How what calls take of a leaper's work adds up.
-use Rattle.std.proofs.Common.{◌≡◌, ℕ, ◌≤◌, max, sym, subst, arith}
-use Rattle.ca_run.specs.Prelude.{LeaperView, LeaperGrows}
+-- Until how many units of a leaper's work are used up its calls go on.
+use Rattle.std.proofs.Common.{◌≡◌, ℕ, ◌≤◌, min, max, Result, sym, subst, arith}
+use Rattle.std.specs.Prelude.{IfErr}
+use Rattle.std.specs.Result.{IsErrAnd}
+use Rattle.std.proofs.lemmas.Result.{err_from_is_err_and}
+use Rattle.ca_work.specs.Prelude.{Spent, Spends, EndsAtLimit}
+use Rattle.ca_work.specs.declared.fault.LeapFault.{LeapFault}
+use Rattle.ca_work.specs.declared.fault.LeapFault.TheVariants.{Work}
+use Rattle.ca_identify.specs.inner.Stages.{EndsAfter}
 
--- ---- a share of the work
+module _ {T : Type 0} (r : Result T LeapFault) (fault : LeapFault) (passed : IsErrAnd r (λ given. given ≡ fault)) where
+  -- what holds of a fault holds of the same one that is passed on
+  same_fault : (P : LeapFault → Type 0) → P fault → IfErr r P
+  same_fault P holds =
+      let p = err_from_is_err_and r passed in
+      subst (λ o. IfErr o P) (sym p.1) (subst P (sym p.2) holds)
 
--- the same leaper, with another limit of at least what is used up
-abbrev pub limited : {Rule : Type 0} → LeaperView Rule → ℕ → LeaperView Rule
-limited l limit = record { rule = l.rule; nodes = l.nodes; memo = l.memo; spent = record { used = l.spent.used; limit = max l.spent.used limit } }
+  -- what wants work only where the leaper's limit is used up wants it only where a share is
+  pub ends_after : (until : ℕ) (spent : Spent) → (fault ≡ Work → spent.used ≡ spent.limit) → EndsAfter until spent r
+  ends_after until spent told = same_fault (λ f. f ≡ Work → min until spent.limit ≤ spent.used) (λ is. let all = told is in omega (arith, all))
 
--- one that begins with a lower limit, goes on, and ends with the first one again
-module _ {Rule : Type 0} (old : LeaperView Rule) (low most : ℕ) {lower mid new : LeaperView Rule} (begins : lower ≡ limited old low) (on : LeaperGrows Rule lower mid) (within : mid.spent.used ≤ mid.spent.limit)
-    (ends : new ≡ limited mid most) where
-  goes : LeaperGrows Rule (limited old low) mid
-  goes = subst (λ l. LeaperGrows Rule l mid) begins on
-
-  -- takes no more than the lower one
-  pub share_takes : new.spent.used ≤ max old.spent.used low
-  share_takes =
-      let same = goes.spends.limit in
-      subst (λ (l : LeaperView Rule). l.spent.used ≤ max old.spent.used low) (sym ends) (omega (arith, same, within))
-
-  -- and it's as if it had gone on with the first one
-  pub share_goes_on : most ≡ old.spent.limit → old.spent.used ≤ old.spent.limit → low ≤ old.spent.limit → LeaperGrows Rule old new
-  share_goes_on all first less =
-      let same = goes.spends.limit in
-      subst (LeaperGrows Rule old) (sym ends)
-      (record { rule = goes.rule; grows = goes.grows; memo = goes.memo; spends = record { limit = omega (arith, same, within, all, first, less); rises = goes.spends.rises } })
+  -- and the other way round, where the share is all that may be used
+  pub ends_at_limit : (until : ℕ) (old new : Spent) → until ≡ old.limit → old.used ≤ old.limit → Spends old new → new.used ≤ max old.used until
+      → (fault ≡ Work → min until new.limit ≤ new.used) → EndsAtLimit new r
+  ends_at_limit until old new whole fits on bounded told = same_fault (λ f. f ≡ Work → new.used ≡ new.limit) (λ is.
+      let same = on.limit in
+      let end = told is in
+      omega (arith, whole, fits, same, bounded, end))

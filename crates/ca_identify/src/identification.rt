@@ -7,7 +7,7 @@ ghost use Rattle.ca_run.specs.Prelude.{LeaperGrows};
 ghost use Rattle.ca_work.specs.Prelude.{EndsAtLimit};
 ghost use Rattle.ca_answers.specs.Prelude.{IsLookAt, IsUnidentifiedAfter};
 ghost use Rattle.ca_pattern.specs.Prelude.{AreGoodLimits, ShowsTree, IsPattern, IsStart};
-ghost use Rattle.ca_identify.specs.TreeLooks.{IsTreeLook, TakesRunAndSearch};
+ghost use Rattle.ca_identify.specs.TreeLooks.{IsTreeLook, TakesRunAndSearch, TakesRunAndLook};
 
 mod early;
 mod ending;
@@ -15,6 +15,7 @@ mod growth;
 mod leaps;
 mod patience;
 mod search;
+mod share;
 mod stage;
 mod strides;
 mod walk;
@@ -39,7 +40,7 @@ use std::alloc::Global;
 ///
 /// The limit is that of the scope, from 1 to 4294967295 generations. Where the scope has patience for a number of units
 /// of work, they bound what the generations after the first two take. Where they are used up before it is found what
-/// the plane is, that is no error: the look ends with the generations that were looked at by then, one at least.
+/// the plane is, that is no error: the look ends with the generations that were looked at by then, the first two at least.
 ///
 /// The observer sees how far the run to the plane is, each generation that is looked at by itself, and the end of each
 /// stride; no leap, and no line.
@@ -103,6 +104,8 @@ pub fn look_at_plane<A: Automaton, O: Observer>(
     ensures goes_on { LeaperGrows A leaper.old leaper.new }
     ensures takes { TakesRunAndSearch leaper.old.spent.used leaper.new.spent.used pattern.level generations
         (cells_after (A.next_of leaper.old.rule) (cell leaper.old.nodes pattern)) scope.limit }
+    ensures counted { IfOk result (λ found. TakesRunAndLook leaper.old.spent.used leaper.new.spent.used
+        pattern.level generations found.look) }
     ensures work { EndsAtLimit leaper.new.spent result }
 {
     // Says what holds of every leaper.
@@ -115,6 +118,7 @@ pub fn look_at_plane<A: Automaton, O: Observer>(
             look: Look {
                 identity: Identity::Empty,
                 limit: scope.limit,
+                work: 0,
             },
         });
     };

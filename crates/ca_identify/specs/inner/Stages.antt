@@ -1,5 +1,5 @@
 -- What a live pattern's plane shows after some generations, and what work it takes to see it.
-use Rattle.std.specs.Prelude.{◌≡◌, ℕ, ◌+◌, ◌-◌, ◌*◌, ◌^◌, ◌≤◌, ◌<◌, ℤ, List, Option, Some, None, replicate, slice_get}
+use Rattle.std.specs.Prelude.{◌≡◌, ℕ, ◌+◌, ◌-◌, ◌*◌, ◌^◌, ◌≤◌, ◌<◌, min, ℤ, List, Option, Some, None, Result, IfErr, replicate, slice_get}
 use Rattle.ca_plane.specs.declared.point.Bounds.{Bounds}
 use Rattle.ca_plane.specs.Prelude.{Picture, IsLive, shifted, cells_after, IsAfter, longest_period}
 use Rattle.ca_plane.specs.Plane as plane
@@ -12,6 +12,9 @@ use Rattle.ca_identify.specs.declared.identification.strides.Stride.TheVariants.
 use Rattle.ca_answers.specs.declared.identity.Growth.{Growth}
 use Rattle.ca_answers.specs.Prelude.{IsGrowth}
 use Rattle.ca_evolution.specs.Prelude.{step_work}
+use Rattle.ca_work.specs.Prelude.{Spent}
+use Rattle.ca_work.specs.declared.fault.LeapFault.{LeapFault}
+use Rattle.ca_work.specs.declared.fault.LeapFault.TheVariants.{Work}
 use Rattle.ca_text.specs.Prelude.{IsShift, IsChanged, IsNowhere}
 use Rattle.ca_pattern.specs.Prelude.{IsBroad, IsWide, ShowsTree, HasLive, IsStart, IsLaterTree}
 use Rattle.ca_pattern.specs.inner.LifeSpans.{IsLifeSpan}
@@ -90,6 +93,10 @@ TakesSearchFrom old new stages begun limit =
 abbrev pub TakesEarly : (old new : ℕ) → (stages : ℕ → ℤ → ℤ → ℕ) → (begun sure limit : ℕ) → Type 0
 TakesEarly old new stages begun sure limit =
     (level : ℕ) → 1 ≤ level → ((m : ℕ) → m < limit → HoldsAll level (stages m)) → new ≤ old + (sure - begun) * step_work level + early_work limit
+
+-- want of work is reported only where `until` units of work are used up, or as many as may be
+abbrev pub EndsAfter : {T : Type 0} → (until : ℕ) → Spent → Result T LeapFault → Type 0
+EndsAfter until spent result = IfErr result (λ fault. fault ≡ Work → min until spent.limit ≤ spent.used)
 
 -- a live pattern is back so for the first time
 pub record IsReturn (next : List ℕ → ℕ) (cells : Picture) (again : Recurrence) : Type 0 where

@@ -1,29 +1,31 @@
 //! The planes of a pattern's first generations, with which later ones are compared.
 
-ghost use Rattle.std.specs.Prelude.{◌≡◌, ◌++◌, ◌∷◌, [], OnOk, IfOk, IfSome};
+ghost use Rattle.std.specs.Prelude.{◌≡◌, ◌≤◌, ◌++◌, ◌∷◌, [], max, OnOk, IfOk, IfSome};
 ghost use Rattle.ca_quad.specs.Prelude.{AreSquareBoxes, IsTree, IsTrimmed, cell};
 ghost use Rattle.ca_run.specs.Prelude.{LeaperGrows};
 ghost use Rattle.ca_identify.specs.inner.Stages.{CanSearch, IsFirst, AreEarly};
 
+use super::share::later_within;
 use super::stage::First;
-use ca_evolution::later_tree;
 use ca_plane::{Automaton, Memory};
 use ca_quad::{SquareBoxes, Store, Tree};
-use ca_run::{LeapFault, Leaper, Unwatched};
+use ca_run::{LeapFault, Leaper};
 use std::alloc::Global;
 
 /// The planes of a live pattern after 0, 1, 2 .. generations, below `generations`: up to the first that is dead, or
-/// lies far from the origin.
+/// lies far from the origin. `Work` is reported where `until` units of work are used up.
 pub(super) fn early_planes<A: Automaton>(
     alloc: Global,
     leaper: &mut Leaper<A>,
     first: &First,
     generations: u64,
+    until: u64,
 ) -> Result<Vec<First>, LeapFault>
     requires first { CanSearch (A.next_of leaper.old.rule) leaper.old.nodes first.now generations }
     ensures early { IfOk result (λ planes. AreEarly (A.next_of leaper.old.rule)
         (cell leaper.old.nodes first.now.tree) leaper.new.nodes planes.items) }
     ensures goes_on { LeaperGrows A leaper.old leaper.new }
+    ensures bounded { leaper.new.spent.used ≤ max leaper.old.spent.used until }
 {
     let mut boxes = SquareBoxes::new(alloc);
     let mut planes = Vec::new(alloc);
@@ -32,7 +34,7 @@ pub(super) fn early_planes<A: Automaton>(
         let Some(plane) = near_plane(alloc, leaper.store(), &now, &mut boxes)? else {
             return Ok(planes);
         };
-        let tree = later_tree(leaper, now, 1, &mut Unwatched)?;
+        let tree = later_within(leaper, now, 1, until)?;
         push_plane(&mut planes, plane)?;
         now = tree;
     }

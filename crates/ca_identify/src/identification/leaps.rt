@@ -1,21 +1,22 @@
 //! What leaps show of a pattern that isn't back soon: that it isn't within the limit, and how far it has grown.
 
-ghost use Rattle.std.specs.Prelude.{◌≡◌, ◌+◌, ◌-◌, ◌*◌, ◌≤◌, None, IfOk, IfSome, IsTrue};
+ghost use Rattle.std.specs.Prelude.{◌≡◌, ◌+◌, ◌-◌, ◌*◌, ◌≤◌, max, None, IfOk, IfSome, IsTrue};
 ghost use Rattle.ca_plane.specs.Prelude.{Picture, longest_period, most_generations};
 ghost use Rattle.ca_quad.specs.Prelude.{cell};
 ghost use Rattle.ca_run.specs.Prelude.{LeaperGrows};
-ghost use Rattle.ca_work.specs.Prelude.{EndsAtLimit};
 ghost use Rattle.ca_steps.specs.Prelude.{IsWiderByAtMost};
 ghost use Rattle.ca_answers.specs.Prelude.{IsIdentity};
 ghost use Rattle.ca_answers.specs.declared.identity.Identity.TheVariants.{Unknown};
-ghost use Rattle.ca_identify.specs.inner.Stages.{CanSearch, IsLater, IsFirstBox, box_of, HasNoReturn, EndsWithin, leap_work};
+ghost use Rattle.ca_identify.specs.inner.Stages.{CanSearch, IsLater, IsFirstBox, box_of, HasNoReturn, EndsWithin};
+ghost use Rattle.ca_identify.specs.inner.Stages.{EndsAfter, leap_work};
 ghost use Rattle.ca_pattern.specs.Prelude.{IsWideBox, ShowsTree};
 
 use super::growth::growth_of;
+use super::share::{later_within, share_end};
 use super::stage::First;
 use super::walk::{Walk, look_on};
 use ca_answers::Growth;
-use ca_evolution::{is_dead, later_tree};
+use ca_evolution::is_dead;
 use ca_plane::Automaton;
 use ca_quad::WideBounds;
 use ca_run::{LeapFault, Leaper, Unwatched};
@@ -34,14 +35,15 @@ const SHARE: u64 = 1024;
 const MOST_SHARE: u64 = 1 << 20;
 
 /// How far the plane of a pattern has grown after as many generations as the limit, where leaps show that the
-/// pattern is none of what can be claimed up to then, and a share of the work is enough for them. It is known
-/// that the pattern isn't back within the generations that were seen.
+/// pattern is none of what can be claimed up to then, and a share of the work is enough for them, which ends where
+/// `until` units are used up at the latest. It is known that the pattern isn't back within the generations that were seen.
 pub(super) fn growth_by_leaps<A: Automaton>(
     alloc: Global,
     leaper: &mut Leaper<A>,
     first: &First,
     seen: u64,
     limit: u64,
+    until: u64,
 ) -> Result<Option<Growth>, LeapFault>
     requires first { CanSearch (A.next_of leaper.old.rule) leaper.old.nodes first.now limit }
     requires some { 1 ≤ seen }
@@ -50,31 +52,33 @@ pub(super) fn growth_by_leaps<A: Automaton>(
         → HasNoReturn (A.next_of leaper.old.rule) cells seen → IfOk result (λ found. IfSome found
         (λ growth. IsIdentity (A.next_of leaper.old.rule) cells limit (Unknown growth))) }
     ensures goes_on { LeaperGrows A leaper.old leaper.new }
+    ensures bounded { leaper.new.spent.used ≤ max leaper.old.spent.used until }
     ensures takes { leaper.new.spent.used ≤ leaper.old.spent.used + leap_work limit }
-    ensures work { EndsAtLimit leaper.new.spent result }
+    ensures work { EndsAfter until leaper.new.spent result }
 {
     if seen == limit {
         return Ok(None);
     }
-    let most = leaper.work_limit();
     let used = leaper.used();
-    let share = (limit * SHARE).min(MOST_SHARE).min((most - used) / 2);
-    leaper.limit_work(used + share);
-    let grown = growth_if_not_back(alloc, leaper, first, seen, limit);
-    leaper.limit_work(most);
+    let share = (limit * SHARE)
+        .min(MOST_SHARE)
+        .min(until.saturating_sub(used) / 2);
+    let end = share_end(used, share, until);
+    let grown = growth_if_not_back(alloc, leaper, first, seen, limit, end);
     match grown {
         Err(LeapFault::Work) => Ok(None),
         other => other,
     }
 }
 
-// The same, as far as the work goes.
+// The same, until `until` units of work are used up.
 fn growth_if_not_back<A: Automaton>(
     alloc: Global,
     leaper: &mut Leaper<A>,
     first: &First,
     seen: u64,
     limit: u64,
+    until: u64,
 ) -> Result<Option<Growth>, LeapFault>
     requires first { CanSearch (A.next_of leaper.old.rule) leaper.old.nodes first.now limit }
     requires some { 1 ≤ seen }
@@ -83,11 +87,12 @@ fn growth_if_not_back<A: Automaton>(
         → HasNoReturn (A.next_of leaper.old.rule) cells seen → IfOk result (λ found. IfSome found
         (λ growth. IsIdentity (A.next_of leaper.old.rule) cells limit (Unknown growth))) }
     ensures goes_on { LeaperGrows A leaper.old leaper.new }
+    ensures bounded { leaper.new.spent.used ≤ max leaper.old.spent.used until }
 {
-    if !has_no_return(alloc, leaper, first, seen, limit, NEAR)? {
+    if !has_no_return(alloc, leaper, first, seen, limit, NEAR, until)? {
         return Ok(None);
     }
-    growth_after(alloc, leaper, first, limit)
+    growth_after(alloc, leaper, first, limit, until)
 }
 
 /// How far the plane of a pattern that isn't back up to the limit has grown after as many generations, if it isn't
@@ -97,14 +102,16 @@ pub(super) fn growth_after<A: Automaton>(
     leaper: &mut Leaper<A>,
     first: &First,
     limit: u64,
+    until: u64,
 ) -> Result<Option<Growth>, LeapFault>
     requires first { CanSearch (A.next_of leaper.old.rule) leaper.old.nodes first.now limit }
     ensures growth { (cells : Picture) → ShowsTree leaper.old.nodes first.now.tree cells
         → HasNoReturn (A.next_of leaper.old.rule) cells limit → IfOk result (λ found. IfSome found
         (λ growth. IsIdentity (A.next_of leaper.old.rule) cells limit (Unknown growth))) }
     ensures goes_on { LeaperGrows A leaper.old leaper.new }
+    ensures bounded { leaper.new.spent.used ≤ max leaper.old.spent.used until }
 {
-    let last = later_tree(leaper, first.tree, limit, &mut Unwatched)?;
+    let last = later_within(leaper, first.tree, limit, until)?;
     if is_dead(leaper.store(), &last) {
         return Ok(None);
     }
@@ -122,6 +129,7 @@ fn has_no_return<A: Automaton>(
     seen: u64,
     limit: u64,
     times: u64,
+    until: u64,
 ) -> Result<bool, LeapFault>
     requires first { CanSearch (A.next_of leaper.old.rule) leaper.old.nodes first.now limit }
     requires some { 1 ≤ seen }
@@ -132,19 +140,28 @@ fn has_no_return<A: Automaton>(
         → HasNoReturn (A.next_of leaper.old.rule) cells seen
         → IfOk result (λ never. IsTrue never → HasNoReturn (A.next_of leaper.old.rule) cells limit) }
     ensures goes_on { LeaperGrows A leaper.old leaper.new }
+    ensures bounded { leaper.new.spent.used ≤ max leaper.old.spent.used until }
 {
-    let found = later_plane(alloc, leaper, first, seen, limit, times * limit)?;
+    let found = later_plane(alloc, leaper, first, seen, limit, times * limit, until)?;
     let Some(later) = found else {
         return Ok(true);
     };
     if times < FAR {
-        return has_no_return(alloc, leaper, first, seen, limit, (2 * times).min(FAR));
+        return has_no_return(
+            alloc,
+            leaper,
+            first,
+            seen,
+            limit,
+            (2 * times).min(FAR),
+            until,
+        );
     }
     // It may lie too far from the origin to be looked at.
     if later.tree.level > 62 {
         return Ok(false);
     }
-    is_back_soon(alloc, leaper, &later, seen)
+    is_back_soon(alloc, leaper, &later, seen, until)
 }
 
 // The tree of the plane after `generations` generations, and its box, unless it is dead or has grown too far.
@@ -155,6 +172,7 @@ fn later_plane<A: Automaton>(
     seen: u64,
     limit: u64,
     generations: u64,
+    until: u64,
 ) -> Result<Option<First>, LeapFault>
     requires first { CanSearch (A.next_of leaper.old.rule) leaper.old.nodes first.now limit }
     requires some { 1 ≤ seen }
@@ -167,9 +185,10 @@ fn later_plane<A: Automaton>(
         (IsLater (A.next_of leaper.old.rule) (cell leaper.old.nodes first.now.tree) generations
         leaper.new.nodes)) }
     ensures goes_on { LeaperGrows A leaper.old leaper.new }
+    ensures bounded { leaper.new.spent.used ≤ max leaper.old.spent.used until }
 {
     let _ = seen;
-    let end = later_tree(leaper, first.tree, generations, &mut Unwatched)?;
+    let end = later_within(leaper, first.tree, generations, until)?;
     let tree = &end;
     let Some(bounds) = leaper.store().bounds(alloc, *tree)? else {
         return Ok(None);
@@ -209,13 +228,23 @@ fn is_back_soon<A: Automaton>(
     leaper: &mut Leaper<A>,
     settled: &First,
     seen: u64,
+    until: u64,
 ) -> Result<bool, LeapFault>
     requires settled { CanSearch (A.next_of leaper.old.rule) leaper.old.nodes settled.now seen }
     ensures back { (cells : Picture) → ShowsTree leaper.old.nodes settled.now.tree cells
         → IfOk result (λ back. IsTrue back → EndsWithin (A.next_of leaper.old.rule) cells seen) }
     ensures goes_on { LeaperGrows A leaper.old leaper.new }
+    ensures bounded { leaper.new.spent.used ≤ max leaper.old.spent.used until }
 {
     let mut walk = Walk::from(alloc, settled.tree);
-    let ending = look_on(alloc, leaper, settled, &mut walk, seen, &mut Unwatched)?;
+    let ending = look_on(
+        alloc,
+        leaper,
+        settled,
+        &mut walk,
+        seen,
+        until,
+        &mut Unwatched,
+    )?;
     Ok(ending.is_some())
 }

@@ -1,21 +1,21 @@
 //! A pattern's plane, looked at after one generation after the other.
 
-ghost use Rattle.std.specs.Prelude.{◌≡◌, ◌+◌, ◌-◌, ◌≤◌, List, IfOk, OnOk, OnErr};
+ghost use Rattle.std.specs.Prelude.{◌≡◌, ◌+◌, ◌-◌, ◌≤◌, max, List, IfOk, OnOk, OnErr};
 ghost use Rattle.ca_quad.specs.declared.node.Node.{Node};
 ghost use Rattle.ca_plane.specs.Prelude.{cells_after};
 ghost use Rattle.ca_quad.specs.Prelude.{AreSquareBoxes, cell};
 ghost use Rattle.ca_run.specs.Prelude.{LeaperGrows};
-ghost use Rattle.ca_work.specs.Prelude.{EndsAtLimit};
-ghost use Rattle.ca_identify.specs.inner.Stages.{CanSearch, CanLookOn, IsStage, IsHalted, IsLookedAt};
+ghost use Rattle.ca_identify.specs.inner.Stages.{CanSearch, CanLookOn, IsStage, IsHalted, IsLookedAt, EndsAfter};
 ghost use Rattle.ca_pattern.specs.Prelude.{IsLaterTree};
 ghost use Rattle.ca_evolution.specs.Prelude.{TakesSteps, step_work};
 
 use super::ending::Ending;
+use super::share::later_within;
 use super::stage::{First, Stage, stage_of};
-use ca_evolution::{Observer, later_tree};
+use ca_evolution::Observer;
 use ca_plane::Automaton;
 use ca_quad::{SquareBoxes, Tree};
-use ca_run::{LeapFault, Leaper, Unwatched};
+use ca_run::{LeapFault, Leaper};
 use std::alloc::Global;
 
 /// How far a pattern's plane was looked at: the tree after `generations` generations, and the boxes of squares that
@@ -43,13 +43,14 @@ impl Walk {
 }
 
 /// Goes on to `end` generations after the pattern, and gives how the pattern ends by then, if it does. Where it fails,
-/// the walk is at the last generation that was looked at.
+/// the walk is at the last generation that was looked at. `Work` is reported where `until` units are used up.
 pub(super) fn look_on<A: Automaton, O: Observer>(
     alloc: Global,
     leaper: &mut Leaper<A>,
     first: &First,
     walk: &mut Walk,
     end: u64,
+    until: u64,
     observer: &mut O,
 ) -> Result<Option<Ending>, LeapFault>
     requires walk { CanLookOn (A.next_of leaper.old.rule) leaper.old.nodes first.now walk.old end }
@@ -61,7 +62,8 @@ pub(super) fn look_on<A: Automaton, O: Observer>(
     ensures takes { TakesSteps leaper.old.spent.used leaper.new.spent.used
         (cells_after (A.next_of leaper.old.rule) (cell leaper.old.nodes first.now.tree)) end
         (end - walk.old.generations) }
-    ensures work { EndsAtLimit leaper.new.spent result }
+    ensures bounded { leaper.new.spent.used ≤ max leaper.old.spent.used until }
+    ensures work { EndsAfter until leaper.new.spent result }
 {
     'generations: while walk.generations < end {
         let generations = walk.generations + 1;
@@ -72,6 +74,7 @@ pub(super) fn look_on<A: Automaton, O: Observer>(
             first,
             walk.tree,
             walk.generations,
+            until,
             &mut walk.boxes,
         )?;
         if let Some(ending) = later.stage.ending(generations) {
@@ -97,6 +100,7 @@ fn step<A: Automaton>(
     first: &First,
     now: Tree,
     generations: u64,
+    until: u64,
     boxes: &mut SquareBoxes,
 ) -> Result<LaterStage, LeapFault>
     requires first { CanSearch (A.next_of leaper.old.rule) leaper.old.nodes first.now (generations + 1) }
@@ -112,10 +116,11 @@ fn step<A: Automaton>(
     ensures boxes { OnOk result (AreSquareBoxes leaper.new.nodes boxes.new) }
     ensures goes_on { LeaperGrows A leaper.old leaper.new }
     ensures takes { leaper.new.spent.used ≤ leaper.old.spent.used + step_work now.level }
-    ensures work { EndsAtLimit leaper.new.spent result }
+    ensures bounded { leaper.new.spent.used ≤ max leaper.old.spent.used until }
+    ensures work { EndsAfter until leaper.new.spent result }
 {
     let _ = generations;
-    let tree = later_tree(leaper, now, 1, &mut Unwatched)?;
+    let tree = later_within(leaper, now, 1, until)?;
     let stage = stage_of(alloc, leaper, first, &tree, boxes)?;
     Ok(LaterStage { tree, stage })
 }

@@ -6,7 +6,7 @@ use Rattle.ca_identify.specs.declared.tree_look.TreeLook.{TreeLook}
 use Rattle.ca_answers.specs.Prelude.{IsLook}
 use Rattle.ca_identify.specs.inner.Stages.{TakesSearch}
 use Rattle.ca_identify.specs.TreeLooks.{TakesRunAndSearch}
-use Rattle.ca_identify.proofs.Identities.{found_later, whole_look}
+use Rattle.ca_identify.proofs.Identities.{found_later, whole_look, no_work_needed}
 use Rattle.ca_pattern.specs.Prelude.{ShowsTree, IsStart}
 use Rattle.ca_pattern.proofs.LeaptTrees.{shows_stays}
 use Rattle.ca_pattern.proofs.Nearby.{later_outside}
@@ -64,8 +64,8 @@ returns-in_default-clause-look g c = λ cells shows.
     let start = c.in_ok-start.start in
     let dead = subst (λ s. IsDead (cell s start)) c.store-2.ensures.nodes (rw c.in_default.is at c.in_ok-bounds.ensures) in
     let (later, stands, told) = found_later next (cell c.args.leaper.now.nodes c.args.pattern) cells c.args.generations mid start (λ last (found : TreeLook). ShowsTree mid found.tree last × IsLook next last c.args.scope found.look)
-    (Ok (record { tree = start; look = record { identity = Empty; limit = c.args.scope.limit } })) shows c.in_ok-start.ensures.later
-    (λ last shown. (shown, whole_look next last c.args.scope Empty c.requires.some (λ live. live.2 (shown live.0 live.1 ∙ dead live.0 live.1)))) in
+    (Ok (record { tree = start; look = record { identity = Empty; limit = c.args.scope.limit; work = 0 } })) shows c.in_ok-start.ensures.later
+    (λ last shown. (shown, whole_look next last c.args.scope Empty 0 (λ live. live.2 (shown live.0 live.1 ∙ dead live.0 live.1)) (no_work_needed _ c.args.scope.limit))) in
     (later, stands, told.0, told.1)
 
 pub returns-in_default-clause-start : goal.returns-in_default-clause-start
@@ -104,3 +104,9 @@ returns-in_err-found-clause-takes g c = all_take g (goal.at.returns-in_err-found
 
 pub returns-clause-takes : goal.returns-clause-takes
 returns-clause-takes g c = all_take g (goal.at.returns-clause-takes g c).In_ok-start _ c.in_ok-found.ensures.takes
+
+pub returns-in_default-clause-counted : goal.returns-in_default-clause-counted
+returns-in_default-clause-counted g c = (c.later_tree.new.leaper.spent.used, c.in_ok-start.ensures.takes, c.in_ok-start.ensures.goes_on.spends.rises, omega arith)
+
+pub returns-clause-counted : goal.returns-clause-counted
+returns-clause-counted g c = (c.later_tree.new.leaper.spent.used, c.in_ok-start.ensures.takes, c.in_ok-start.ensures.goes_on.spends.rises, c.in_ok-found.ensures.counted)

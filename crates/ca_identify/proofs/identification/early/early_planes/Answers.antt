@@ -24,6 +24,7 @@ generations-init g c =
       now = subst (λ (l : List First). IsLaterTree next (cell s0 tree) (length l) s0 tree) (sym none) (first_tree next s0 tree c.requires.first.is_first.start);
       early = λ k plane at. absurd (none-some plane (subst (λ (l : List First). slice_get l k ≡ Some plane) none at));
       boxes = c.new-boxes.ensures _;
+      bounded = omega arith;
     }
 
 pub near_plane-requires-clause-tree : goal.near_plane-requires-clause-tree
@@ -35,8 +36,8 @@ near_plane-requires-clause-trimmed g c = subst (λ s. IsTrimmed s c.generations.
 pub near_plane-requires-clause-boxes : goal.near_plane-requires-clause-boxes
 near_plane-requires-clause-boxes g c = subst (λ s. AreSquareBoxes s c.generations.boxes) (sym c.store.ensures.nodes) c.generations.invariant.boxes
 
-pub later_tree-requires : goal.later_tree-requires
-later_tree-requires g c =
+pub later_within-requires : goal.later_within-requires
+later_within-requires g c =
     let inv = c.generations.invariant in
     let s = c.generations.leaper.nodes in
     let now = inv.now in
@@ -57,7 +58,7 @@ generations-preserved g c =
     let rule = c.args.leaper.now.rule in
     let first = cell c.args.leaper.now.nodes c.args.first.now.tree in
     let s = c.generations.leaper.nodes in
-    let new = c.later_tree.new.leaper.nodes in
+    let new = c.later_within.new.leaper.nodes in
     let planes = c.generations.planes.items in
     let plane = c.in-Some.plane in
     let n = length planes in
@@ -78,8 +79,12 @@ generations-preserved g c =
       now = subst (λ (l : List First). IsLaterTree (next rule) first (length l) new c.in_ok-tree.tree) (sym pushed) (subst (λ k. IsLaterTree (next rule) first k new c.in_ok-tree.tree) (sym more) later);
       early = subst (λ (l : List First). AreEarly (next rule) first new l) (sym pushed) early;
       boxes = boxes_stay s new inv.goes_on.grows.sound on.grows _ (subst (λ t. AreSquareBoxes t c.near_plane.new.boxes) c.store.ensures.nodes c.in_ok-plane.ensures.boxes);
+      bounded = let bounded = inv.bounded in omega (arith, bounded, c.in_ok-tree.ensures.bounded);
     }
 
 pub returns-in_err-push_plane-clause-goes_on : goal.returns-in_err-push_plane-clause-goes_on
 returns-in_err-push_plane-clause-goes_on g c =
     goes_on_again _ _ _ _ c.generations.invariant.goes_on c.in_ok-tree.ensures.goes_on
+
+pub returns-in_err-tree-clause-goes_on : goal.returns-in_err-tree-clause-goes_on
+returns-in_err-tree-clause-goes_on g c = goes_on_again _ _ _ _ c.generations.invariant.goes_on c.in_err-tree.ensures.goes_on

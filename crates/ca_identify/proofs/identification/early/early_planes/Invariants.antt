@@ -1,4 +1,4 @@
-use Rattle.std.proofs.Common.{◌-◌, length}
+use Rattle.std.proofs.Common.{◌-◌, ◌≤◌, max, length}
 use Rattle.ca_quad.specs.Prelude.{AreSquareBoxes, cell}
 use Rattle.ca_run.specs.Prelude.{LeaperGrows}
 use Rattle.ca_pattern.specs.Prelude.{IsLaterTree}
@@ -12,6 +12,7 @@ invariant-generations g l = record {
   now : IsLaterTree (g.A.Automaton.next_of l.fn.leaper.rule) (cell l.fn.leaper.nodes l.fn.first.tree) (length l.planes.items) l.leaper.nodes l.now;
   early : AreEarly (g.A.Automaton.next_of l.fn.leaper.rule) (cell l.fn.leaper.nodes l.fn.first.tree) l.leaper.nodes l.planes.items;
   boxes : AreSquareBoxes l.leaper.nodes l.boxes;
+  bounded : l.leaper.spent.used ≤ max l.fn.leaper.spent.used l.until;
 }
 
 abbrev pub decreases-generations : goal.decreases-generations

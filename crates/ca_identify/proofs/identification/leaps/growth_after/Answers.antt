@@ -7,8 +7,8 @@ use Rattle.ca_identify.proofs.LaterLeapers.{later_low}
 use Rattle.ca_identify.proofs.Stages.{start_goes_on}
 use Rattle.ca_identify.proofs.identification.leaps.growth_after.Goals as goal
 
-pub later_tree-requires : goal.later_tree-requires
-later_tree-requires g c =
+pub later_within-requires : goal.later_within-requires
+later_within-requires g c =
     start_goes_on _ c.args.leaper.now.nodes c.args.first.now.tree c.requires.first.quiet c.requires.first.is_first.start c.args.limit (omega (arith, c.requires.first.most))
 
 pub growth_of-requires-clause-low : goal.growth_of-requires-clause-low
@@ -20,6 +20,6 @@ growth_of-requires-clause-live g c =
 
 pub returns-clause-growth : goal.returns-clause-growth
 returns-clause-growth g c = λ cells shows without.
-    found_growth (g.A.Automaton.next_of c.args.leaper.now.rule) c.requires.first.quiet c.args.leaper.now.nodes c.args.first.now c.requires.first.is_first cells shows c.args.limit without c.later_tree.new.leaper.nodes
+    found_growth (g.A.Automaton.next_of c.args.leaper.now.rule) c.requires.first.quiet c.args.leaper.now.nodes c.args.first.now c.requires.first.is_first cells shows c.args.limit without c.later_within.new.leaper.nodes
     c.in_ok-last.last c.in_ok-last.ensures.later (subst (λ s. HasLive (cell s c.in_ok-last.last)) c.store.ensures.nodes (c.if-is_dead.ensures.live refl)) c.in_ok-growth.growth
     (subst (λ s. IsGrowthOf s c.in_ok-last.last c.in_ok-growth.growth) c.store-2.ensures.nodes c.in_ok-growth.ensures)

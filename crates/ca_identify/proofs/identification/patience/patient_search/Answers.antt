@@ -1,15 +1,13 @@
-use Rattle.std.proofs.Common.{subst}
-use Rattle.std.specs.Prelude.{IfOk}
-use Rattle.ca_plane.specs.Prelude.{Picture}
-use Rattle.ca_run.specs.Prelude.{LeaperView}
-use Rattle.ca_answers.specs.Prelude.{IsIdentity}
-use Rattle.ca_pattern.specs.Prelude.{ShowsTree}
+use Rattle.std.proofs.Common.{arith}
+use Rattle.ca_identify.proofs.Spending.{ends_at_limit}
 use Rattle.ca_identify.proofs.identification.patience.patient_search.Goals as goal
 
 pub returns-in-Ok-clause-identity : goal.returns-in-Ok-clause-identity
-returns-in-Ok-clause-identity g c = λ cells shows.
-    let next = g.A.Automaton.next_of in
-    let tree = c.args.first.now.tree in
-    let told = subst (λ (l : LeaperView _). (cells : Picture) → ShowsTree l.nodes tree cells → IfOk c.search-found.result (IsIdentity (next l.rule) cells c.args.span.limit))
-    c.limit_work.ensures.limited c.search-found.ensures.identity cells shows in
-    rw c.in-Ok.is at told
+returns-in-Ok-clause-identity g c = λ cells shows. rw c.in-Ok.is at (c.search-found.ensures.identity cells shows)
+
+-- it may use up all
+pub returns-in_err-identity-clause-work : goal.returns-in_err-identity-clause-work
+returns-in_err-identity-clause-work g c =
+    let fits = c.used-used.ensures.most in
+    ends_at_limit c.from_residual.result c.in_err-identity.field-0.0 c.from_residual.ensures.1 c.work_limit-most.result c.args.leaper.now.spent c.search.new.leaper.spent c.work_limit-most.ensures
+    (omega (arith, c.used-used.ensures.value, fits)) c.in_err-identity.ensures.goes_on.spends c.in_err-identity.ensures.bounded c.in_err-identity.ensures.work

@@ -10,10 +10,10 @@ use Rattle.ca_identify.proofs.identification.search.early_look.Goals.{In_ok-one}
 
 module _ (g : _) (c : In_ok-one g) where
   -- what all takes
-  pub all_take : (new : ℕ) → new ≤ c.look_on.new.leaper.spent.used + early_work c.args.limit
-      → TakesEarly c.args.leaper.now.spent.used new (cells_after (g.A.Automaton.next_of c.args.leaper.now.rule) (cell c.args.leaper.now.nodes c.args.first.now.tree)) c.args.walk.now.generations c.args.sure c.args.limit
+  pub all_take : (new : ℕ) → new ≤ c.look_on.new.leaper.spent.used + early_work c.args.reach.limit
+      → TakesEarly c.args.leaper.now.spent.used new (cells_after (g.A.Automaton.next_of c.args.leaper.now.rule) (cell c.args.leaper.now.nodes c.args.first.now.tree)) c.args.walk.now.generations c.args.sure c.args.reach.limit
   all_take new takes =
-      step_then_early _ c.look_on.new.leaper.spent.used new (cells_after (g.A.Automaton.next_of c.args.leaper.now.rule) (cell c.args.leaper.now.nodes c.args.first.now.tree)) c.args.walk.now.generations c.args.sure c.args.limit
+      step_then_early _ c.look_on.new.leaper.spent.used new (cells_after (g.A.Automaton.next_of c.args.leaper.now.rule) (cell c.args.leaper.now.nodes c.args.first.now.tree)) c.args.walk.now.generations c.args.sure c.args.reach.limit
       (omega (arith, c.requires.sure, c.requires.within)) c.in_ok-one.ensures.takes takes
 
 pub look_on-requires : goal.look_on-requires
@@ -21,7 +21,7 @@ look_on-requires g c = record { walk = walk_nearer c.requires.walk c.args.sure (
 
 pub returns-in_err-one-clause-takes : goal.returns-in_err-one-clause-takes
 returns-in_err-one-clause-takes g c =
-    step_then_early _ _ _ (cells_after (g.A.Automaton.next_of c.args.leaper.now.rule) (cell c.args.leaper.now.nodes c.args.first.now.tree)) c.args.walk.now.generations c.args.sure c.args.limit
+    step_then_early _ _ _ (cells_after (g.A.Automaton.next_of c.args.leaper.now.rule) (cell c.args.leaper.now.nodes c.args.first.now.tree)) c.args.walk.now.generations c.args.sure c.args.reach.limit
     (omega (arith, c.requires.sure, c.requires.within)) c.in_err-one.ensures.takes (omega arith)
 
 pub returns-in_err-one-clause-halted : goal.returns-in_err-one-clause-halted
@@ -40,7 +40,7 @@ pub look_within_share-requires-clause-walk : goal.look_within_share-requires-cla
 look_within_share-requires-clause-walk g c =
     let walked = rw c.in_default.is at c.in_ok-one.ensures.found in
     let end = walked.2 in
-    walks_on g.A.Automaton.next_of c.in_ok-one.ensures.goes_on c.requires.walk.pattern c.look_on.new.walk c.args.limit (omega arith) (omega (arith, end, c.requires.sure, c.requires.within)) walked.0
+    walks_on g.A.Automaton.next_of c.in_ok-one.ensures.goes_on c.requires.walk.pattern c.look_on.new.walk c.args.reach.limit (omega arith) (omega (arith, end, c.requires.sure, c.requires.within)) walked.0
 
 pub look_within_share-requires-clause-begun : goal.look_within_share-requires-clause-begun
 look_within_share-requires-clause-begun g c =

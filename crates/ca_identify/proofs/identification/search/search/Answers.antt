@@ -29,35 +29,35 @@ module _ (g : _) (c : In_ok-soon g) where
   first = cell c.args.leaper.now.nodes c.args.first.now.tree
 
   -- the pattern can be searched from there
-  pub from_early : CanSearch (g.A.Automaton.next_of c.early_look.new.leaper.rule) c.early_look.new.leaper.nodes c.args.first.now c.args.limit
-  from_early = search_stays g.A.Automaton.next_of c.in_ok-soon.ensures.goes_on c.requires.walk.pattern c.args.limit (omega arith)
+  pub from_early : CanSearch (g.A.Automaton.next_of c.early_look.new.leaper.rule) c.early_look.new.leaper.nodes c.args.first.now c.args.reach.limit
+  from_early = search_stays g.A.Automaton.next_of c.in_ok-soon.ensures.goes_on c.requires.walk.pattern c.args.reach.limit (omega arith)
 
   -- what all takes, with planes, leaps and strides, and steps that are left
-  pub all_take : (leapt new : ℕ) → leapt ≤ c.early_look.new.leaper.spent.used + early_work c.args.limit + leap_work c.args.limit + leap_work c.args.limit
-      → TakesSteps leapt new (cells_after next first) c.args.limit (c.args.limit - c.sure_generations-sure.result)
-      → TakesSearchFrom c.args.leaper.now.spent.used new (cells_after next first) c.args.walk.now.generations c.args.limit
+  pub all_take : (leapt new : ℕ) → leapt ≤ c.early_look.new.leaper.spent.used + early_work c.args.reach.limit + leap_work c.args.reach.limit + leap_work c.args.reach.limit
+      → TakesSteps leapt new (cells_after next first) c.args.reach.limit (c.args.reach.limit - c.sure_generations-sure.result)
+      → TakesSearchFrom c.args.leaper.now.spent.used new (cells_after next first) c.args.walk.now.generations c.args.reach.limit
   all_take leapt new leaps rest =
-      whole_search _ c.early_look.new.leaper.spent.used leapt new (cells_after next first) c.args.walk.now.generations c.sure_generations-sure.result c.args.limit
+      whole_search _ c.early_look.new.leaper.spent.used leapt new (cells_after next first) c.args.walk.now.generations c.sure_generations-sure.result c.args.reach.limit
       (omega (arith, c.sure_generations-sure.ensures.begun)) (omega (arith, c.requires.within, c.sure_generations-sure.ensures.within)) c.in_ok-soon.ensures.takes leaps rest
 
   -- with no more steps
-  pub leaps_take : (new : ℕ) → new ≤ c.early_look.new.leaper.spent.used + early_work c.args.limit + leap_work c.args.limit + leap_work c.args.limit
-      → TakesSearchFrom c.args.leaper.now.spent.used new (cells_after next first) c.args.walk.now.generations c.args.limit
-  leaps_take new leaps = all_take new new leaps (no_step new new (cells_after next first) c.args.limit (c.args.limit - c.sure_generations-sure.result) refl)
+  pub leaps_take : (new : ℕ) → new ≤ c.early_look.new.leaper.spent.used + early_work c.args.reach.limit + leap_work c.args.reach.limit + leap_work c.args.reach.limit
+      → TakesSearchFrom c.args.leaper.now.spent.used new (cells_after next first) c.args.walk.now.generations c.args.reach.limit
+  leaps_take new leaps = all_take new new leaps (no_step new new (cells_after next first) c.args.reach.limit (c.args.reach.limit - c.sure_generations-sure.result) refl)
 
 pub returns-in_err-soon-clause-takes : goal.returns-in_err-soon-clause-takes
 returns-in_err-soon-clause-takes g c =
-    early_search _ _ (cells_after (g.A.Automaton.next_of c.args.leaper.now.rule) (cell c.args.leaper.now.nodes c.args.first.now.tree)) c.args.walk.now.generations c.sure_generations-sure.result c.args.limit
+    early_search _ _ (cells_after (g.A.Automaton.next_of c.args.leaper.now.rule) (cell c.args.leaper.now.nodes c.args.first.now.tree)) c.args.walk.now.generations c.sure_generations-sure.result c.args.reach.limit
     (omega (arith, c.sure_generations-sure.ensures.begun)) (omega (arith, c.requires.within, c.sure_generations-sure.ensures.within)) c.in_err-soon.ensures.takes
 
 pub returns-in_err-soon-clause-halted : goal.returns-in_err-soon-clause-halted
-returns-in_err-soon-clause-halted g c = on_err _ _ (halted_within c.in_err-soon.ensures.halted c.args.walk.now.generations c.args.limit (omega arith) (omega (arith, c.requires.within)))
+returns-in_err-soon-clause-halted g c = on_err _ _ (halted_within c.in_err-soon.ensures.halted c.args.walk.now.generations c.args.reach.limit (omega arith) (omega (arith, c.requires.within)))
 
 pub returns-in-Some-clause-identity : goal.returns-in-Some-clause-identity
 returns-in-Some-clause-identity g c = λ cells shows.
     let found = rw c.in-Some.is at c.in_ok-soon.ensures.found in
     let time = found.1 in
-    c.identity_of.ensures (g.A.Automaton.next_of c.args.leaper.now.rule) cells c.args.limit (omega (arith, time, c.requires.within)) c.requires.walk.pattern.most (found.0 cells shows)
+    c.identity_of.ensures (g.A.Automaton.next_of c.args.leaper.now.rule) cells c.args.reach.limit (omega (arith, time, c.requires.within)) c.requires.walk.pattern.most (found.0 cells shows)
 
 pub returns-in-Some-clause-takes : goal.returns-in-Some-clause-takes
 returns-in-Some-clause-takes g c = leaps_take g (goal.at.returns-in-Some-clause-takes g c).In_ok-soon _ (omega arith)
@@ -83,12 +83,12 @@ returns-in_err-planes-clause-takes g c =
 -- the walk is halted there, wherever the leaper goes on to
 module _ (g : _) (c : In_default g) where
   pub halted_there : {new : LeaperView _} → LeaperGrows _ c.early_look.new.leaper new
-      → IsHalted (g.A.Automaton.next_of c.args.leaper.now.rule) (cell c.args.leaper.now.nodes c.args.first.now.tree) new.nodes c.args.walk.now.generations c.args.limit c.early_look.new.walk
+      → IsHalted (g.A.Automaton.next_of c.args.leaper.now.rule) (cell c.args.leaper.now.nodes c.args.first.now.tree) new.nodes c.args.walk.now.generations c.args.reach.limit c.early_look.new.walk
   halted_there on =
       let walked = rw c.in_default.is at c.in_ok-soon.ensures.found in
       let one = walked.1 in
       let end = walked.2 in
-      halted_here (walk_stays c.in_ok-soon.ensures.goes_on.grows.sound on.grows walked.0) c.args.walk.now.generations c.args.limit
+      halted_here (walk_stays c.in_ok-soon.ensures.goes_on.grows.sound on.grows walked.0) c.args.walk.now.generations c.args.reach.limit
       (omega (arith, one, c.sure_generations-sure.ensures.begun)) (omega (arith, end, c.requires.within))
 
 pub returns-in_err-planes-clause-halted : goal.returns-in_err-planes-clause-halted
@@ -110,7 +110,7 @@ growth_by_leaps-requires g c =
     let sure = walked.1 in
     let end = walked.2 in
     record {
-      first = search_stays g.A.Automaton.next_of (on_planes g (goal.at.growth_by_leaps-requires g c).In_ok-planes) c.requires.walk.pattern c.args.limit (omega arith);
+      first = search_stays g.A.Automaton.next_of (on_planes g (goal.at.growth_by_leaps-requires g c).In_ok-planes) c.requires.walk.pattern c.args.reach.limit (omega arith);
       some = omega (arith, sure, c.sure_generations-sure.ensures.some);
       within = omega (arith, end, c.requires.within);
     }
@@ -137,7 +137,7 @@ returns-in-Some-grown-clause-identity g c = λ cells shows.
     let walked = rw c.in_default.is at c.in_ok-soon.ensures.found in
     let told = rw c.in-Some-grown.is at c.in_ok-grown.ensures.growth in
     pictures_before g.A.Automaton.next_of (on_planes g a.In_ok-planes) c.requires.walk.pattern
-    (λ n p. HasNoReturn n p c.early_look.new.walk.generations → IsIdentity n p c.args.limit (Unknown c.in-Some-grown.growth)) told cells shows
+    (λ n p. HasNoReturn n p c.early_look.new.walk.generations → IsIdentity n p c.args.reach.limit (Unknown c.in-Some-grown.growth)) told cells shows
     (λ m some within. picture_nowhere (next g a.In_ok-soon) (first g a.In_ok-soon) cells shows m (walked.0.others m some within).1)
 
 pub returns-in-Some-grown-clause-takes : goal.returns-in-Some-grown-clause-takes
@@ -162,7 +162,7 @@ identity_by_strides-requires-clause-walk g c =
     let a = (goal.at.identity_by_strides-requires-clause-walk g c).In_default-grown in
     let walked = rw c.in_default.is at c.in_ok-soon.ensures.found in
     let end = walked.2 in
-    walks_on g.A.Automaton.next_of (on g a) c.requires.walk.pattern c.early_look.new.walk c.args.limit (omega arith) (omega (arith, end, c.requires.within))
+    walks_on g.A.Automaton.next_of (on g a) c.requires.walk.pattern c.early_look.new.walk c.args.reach.limit (omega arith) (omega (arith, end, c.requires.within))
     (walk_stays c.in_ok-soon.ensures.goes_on.grows.sound (from g a).grows walked.0)
 
 pub identity_by_strides-requires-clause-early : goal.identity_by_strides-requires-clause-early
@@ -194,7 +194,7 @@ returns-in-Some-strided-clause-takes g c =
 pub returns-in-Some-strided-clause-identity : goal.returns-in-Some-strided-clause-identity
 returns-in-Some-strided-clause-identity g c =
     pictures_before g.A.Automaton.next_of (on g (goal.at.returns-in-Some-strided-clause-identity g c).In_default-grown) c.requires.walk.pattern
-    (λ n p. IsIdentity n p c.args.limit c.in-Some-strided.identity) (rw c.in-Some-strided.is at c.in_ok-strided.ensures.identity)
+    (λ n p. IsIdentity n p c.args.reach.limit c.in-Some-strided.identity) (rw c.in-Some-strided.is at c.in_ok-strided.ensures.identity)
 
 pub returns-in-Some-strided-clause-goes_on : goal.returns-in-Some-strided-clause-goes_on
 returns-in-Some-strided-clause-goes_on g c = goes_on_again _ _ _ _ (on g (goal.at.returns-in-Some-strided-clause-goes_on g c).In_default-grown) c.identity_by_strides.ensures.goes_on
@@ -206,7 +206,7 @@ returns-in_err-strided-clause-halted g c =
     let begun = c.identity_by_strides.ensures.begun in
     let told = as_before g.A.Automaton.next_of (on g (goal.at.returns-in_err-strided-clause-halted g c).In_default-grown) c.requires.walk.pattern
     (λ n p. IsWalk n p c.identity_by_strides.new.leaper.nodes c.identity_by_strides.new.walk) c.identity_by_strides.ensures.walk in
-    on_err _ _ (halted_here told c.args.walk.now.generations c.args.limit (omega (arith, begun, one, c.sure_generations-sure.ensures.begun)) c.identity_by_strides.ensures.within)
+    on_err _ _ (halted_here told c.args.walk.now.generations c.args.reach.limit (omega (arith, begun, one, c.sure_generations-sure.ensures.begun)) c.identity_by_strides.ensures.within)
 
 -- ---- the generations that are left
 
@@ -220,12 +220,12 @@ module _ (g : _) (c : In_default-strided g) where
   -- what all takes, with the last steps
   pub late_take : (new : ℕ)
       → TakesSteps c.identity_by_strides.new.leaper.spent.used new
-      (cells_after (g.A.Automaton.next_of c.identity_by_strides.new.leaper.rule) (cell c.identity_by_strides.new.leaper.nodes c.args.first.now.tree)) c.args.limit
-      (c.args.limit - c.identity_by_strides.new.walk.generations)
-      → TakesSearchFrom c.args.leaper.now.spent.used new (cells_after (g.A.Automaton.next_of c.args.leaper.now.rule) (cell c.args.leaper.now.nodes c.args.first.now.tree)) c.args.walk.now.generations c.args.limit
+      (cells_after (g.A.Automaton.next_of c.identity_by_strides.new.leaper.rule) (cell c.identity_by_strides.new.leaper.nodes c.args.first.now.tree)) c.args.reach.limit
+      (c.args.reach.limit - c.identity_by_strides.new.walk.generations)
+      → TakesSearchFrom c.args.leaper.now.spent.used new (cells_after (g.A.Automaton.next_of c.args.leaper.now.rule) (cell c.args.leaper.now.nodes c.args.first.now.tree)) c.args.walk.now.generations c.args.reach.limit
   late_take new takes =
       let stages = cells_after (g.A.Automaton.next_of c.args.leaper.now.rule) (cell c.args.leaper.now.nodes c.args.first.now.tree) in
-      let limit = c.args.limit in
+      let limit = c.args.reach.limit in
       let leapt = c.identity_by_strides.new.leaper.spent.used in
       let left = limit - c.identity_by_strides.new.walk.generations in
       let walked = rw c.in_default.is at c.in_ok-soon.ensures.found in
@@ -246,7 +246,7 @@ look_on-requires g c =
     let s3 = c.identity_by_strides.new.leaper.nodes in
     let walk = c.identity_by_strides.new.walk in
     let told = as_before rules (on g a.In_default-grown) c.requires.walk.pattern (λ n p. IsWalk n p s3 walk) c.in_ok-strided.ensures.walk in
-    record { walk = walks_on rules (on_strides g a.In_default-strided) c.requires.walk.pattern walk c.args.limit (omega arith) c.in_ok-strided.ensures.within told }
+    record { walk = walks_on rules (on_strides g a.In_default-strided) c.requires.walk.pattern walk c.args.reach.limit (omega arith) c.in_ok-strided.ensures.within told }
 
 pub returns-in_err-late-clause-halted : goal.returns-in_err-late-clause-halted
 returns-in_err-late-clause-halted g c =
@@ -254,8 +254,8 @@ returns-in_err-late-clause-halted g c =
     let one = walked.1 in
     let begun = c.in_ok-strided.ensures.begun in
     let told = as_before g.A.Automaton.next_of (on_strides g (goal.at.returns-in_err-late-clause-halted g c).In_default-strided) c.requires.walk.pattern
-    (λ n p. IsHalted n p c.look_on.new.leaper.nodes c.identity_by_strides.new.walk.generations c.args.limit c.look_on.new.walk) c.in_err-late.ensures.halted in
-    on_err _ _ (halted_within told c.args.walk.now.generations c.args.limit (omega (arith, begun, one, c.sure_generations-sure.ensures.begun)) (omega arith))
+    (λ n p. IsHalted n p c.look_on.new.leaper.nodes c.identity_by_strides.new.walk.generations c.args.reach.limit c.look_on.new.walk) c.in_err-late.ensures.halted in
+    on_err _ _ (halted_within told c.args.walk.now.generations c.args.reach.limit (omega (arith, begun, one, c.sure_generations-sure.ensures.begun)) (omega arith))
 
 pub returns-in_err-late-clause-takes : goal.returns-in_err-late-clause-takes
 returns-in_err-late-clause-takes g c = late_take g (goal.at.returns-in_err-late-clause-takes g c).In_default-strided _ c.in_err-late.ensures.takes
@@ -285,7 +285,7 @@ pub returns-in-Some-late-clause-identity : goal.returns-in-Some-late-clause-iden
 returns-in-Some-late-clause-identity g c = λ cells shows.
     let found = rw c.in-Some-late.is at c.in_ok-late.ensures.found in
     let ends = as_before g.A.Automaton.next_of (on_strides g (goal.at.returns-in-Some-late-clause-identity g c).In_default-strided) c.requires.walk.pattern (λ n p. EndSo n p c.in-Some-late.ending) found.0 in
-    c.identity_of-in-Some-late.ensures (g.A.Automaton.next_of c.args.leaper.now.rule) cells c.args.limit found.1 c.requires.walk.pattern.most (ends cells shows)
+    c.identity_of-in-Some-late.ensures (g.A.Automaton.next_of c.args.leaper.now.rule) cells c.args.reach.limit found.1 c.requires.walk.pattern.most (ends cells shows)
 
 -- ---- none of all generations
 
@@ -297,7 +297,7 @@ module _ (g : _) (c : In_default-late g) (on_till : LeaperGrows _ c.args.leaper.
       as_before g.A.Automaton.next_of on_till c.requires.walk.pattern (λ n p. IsWalk n p c.look_on.new.leaper.nodes c.look_on.new.walk) walked.0
 
   -- all generations were
-  pub last_time : c.look_on.new.walk.generations ≡ c.args.limit
+  pub last_time : c.look_on.new.walk.generations ≡ c.args.reach.limit
   last_time =
       let walked = rw c.in_default-late.is at c.in_ok-late.ensures.found in
       let least = walked.1 in
@@ -326,7 +326,7 @@ returns-in_err-growth-clause-halted g c =
     let a = goal.at.returns-in_err-growth-clause-halted g c in
     let on_till = on_strides g a.In_default-strided in
     let end = last_time g a.In_default-late on_till in
-    on_err _ _ (halted_here (last_walk g a.In_default-late on_till) c.args.walk.now.generations c.args.limit (omega (arith, end, c.requires.begun, c.requires.within)) (omega (arith, end)))
+    on_err _ _ (halted_here (last_walk g a.In_default-late on_till) c.args.walk.now.generations c.args.reach.limit (omega (arith, end, c.requires.begun, c.requires.within)) (omega (arith, end)))
 
 pub returns-clause-identity : goal.returns-clause-identity
 returns-clause-identity g c = λ cells shows.
@@ -338,5 +338,5 @@ returns-clause-identity g c = λ cells shows.
     let end = last_time g a.In_default-late on_till in
     let new = c.look_on.new.leaper.nodes in
     let tree = c.look_on.new.walk.tree in
-    found_none next c.requires.walk.pattern.quiet c.args.leaper.now.nodes c.args.first.now c.requires.walk.pattern.is_first cells shows c.args.limit (subst (AreOtherUpTo next p) end walk.others) new tree
+    found_none next c.requires.walk.pattern.quiet c.args.leaper.now.nodes c.args.first.now c.requires.walk.pattern.is_first cells shows c.args.reach.limit (subst (AreOtherUpTo next p) end walk.others) new tree
     (subst (λ n. IsLaterTree next p n new tree) end walk.now) c.in_ok-growth.growth (subst (λ s. IsGrowthOf s tree c.in_ok-growth.growth) c.store.ensures.nodes c.in_ok-growth.ensures)

@@ -60,6 +60,7 @@ planes-preserved g c =
     (trees_stay s0 s c.store.ensures.sound inv.goes_on.grows here.tree (c.requires.early (c.planes.left - 1) here there).start.is_tree) (trees_stay s0 s c.store.ensures.sound inv.goes_on.grows later c.requires.later.is_tree) told in
     record {
       goes_on = goes_on_again _ c.args.leaper.now c.planes.leaper c.stage_of.new.leaper inv.goes_on c.in_ok-stage.ensures.goes_on;
+      spent = c.in_ok-stage.ensures.spent ∙ inv.spent;
       boxes = c.in_ok-stage.ensures.boxes;
       within = omega (arith, within);
       nowhere = λ k plane from at.

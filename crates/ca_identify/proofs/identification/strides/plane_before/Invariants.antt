@@ -9,6 +9,7 @@ use Rattle.ca_identify.proofs.identification.strides.plane_before.Given as goal
 abbrev pub invariant-planes : goal.invariant-planes
 invariant-planes g l = record {
   goes_on : LeaperGrows _ l.fn.leaper l.leaper;
+  spent : l.leaper.spent ≡ l.fn.leaper.spent;
   boxes : AreSquareBoxes l.leaper.nodes l.boxes;
   within : l.left ≤ length l.early;
   nowhere : (k : ℕ) (plane : First) → l.left ≤ k → slice_get l.early k ≡ Some plane → AreMovedNowhere (cell l.fn.leaper.nodes plane.tree) (cell l.fn.leaper.nodes l.later);

@@ -21,6 +21,7 @@ strides-init g c = record {
   boxes = c.new-boxes.ensures _;
   begun = omega arith;
   within = c.requires.walk.within;
+  bounded = omega arith;
 }
 
 pub stride_to-requires-clause-early : goal.stride_to-requires-clause-early
@@ -69,6 +70,7 @@ strides-preserved g c =
       boxes = c.in_ok-tree.ensures.boxes;
       begun = let begun = inv.begun in omega (arith, begun, c.min-end.ensures, c.strides-test.true);
       within = omega (arith, c.min-end.ensures);
+      bounded = let bounded = inv.bounded in omega (arith, bounded, c.in_ok-tree.ensures.bounded);
     }
 
 -- ---- where the pattern ends
@@ -77,7 +79,7 @@ pub returns-in-End-clause-identity : goal.returns-in-End-clause-identity
 returns-in-End-clause-identity g c = λ cells shows.
     let a = (goal.at.returns-in-End-clause-identity g c).In_ok-tree in
     let (within, ends) = subst (IsStride (next g a) (first g a) c.min-end.result c.stride_to.new.leaper.nodes) c.in-End.is (told g a) in
-    c.identity_of.ensures (next g a) cells c.args.limit (omega (arith, within, c.min-end.ensures)) c.requires.walk.pattern.most (ends cells shows)
+    c.identity_of.ensures (next g a) cells c.args.reach.limit (omega (arith, within, c.min-end.ensures)) c.requires.walk.pattern.most (ends cells shows)
 
 pub returns-in-End-clause-walk : goal.returns-in-End-clause-walk
 returns-in-End-clause-walk g c = walk_stays c.strides.invariant.goes_on.grows.sound c.in_ok-tree.ensures.goes_on.grows c.strides.invariant.walk
@@ -89,13 +91,13 @@ returns-in-End-clause-goes_on g c = on_stride g (goal.at.returns-in-End-clause-g
 
 pub unknown_after-requires : goal.unknown_after-requires
 unknown_after-requires g c =
-    record { first = search_stays g.A.Automaton.next_of (on_stride g (goal.at.unknown_after-requires g c).In_ok-tree) c.requires.walk.pattern c.args.limit (omega arith) }
+    record { first = search_stays g.A.Automaton.next_of (on_stride g (goal.at.unknown_after-requires g c).In_ok-tree) c.requires.walk.pattern c.args.reach.limit (omega arith) }
 
 pub returns-in-Never-clause-identity : goal.returns-in-Never-clause-identity
 returns-in-Never-clause-identity g c = λ cells shows.
     let a = (goal.at.returns-in-Never-clause-identity g c).In_ok-tree in
     let never = subst (IsStride (next g a) (first g a) c.min-end.result c.stride_to.new.leaper.nodes) c.in-Never.is (told g a) in
-    pictures_before g.A.Automaton.next_of (on_stride g a) c.requires.walk.pattern (λ n p. HasNoReturn n p c.args.limit → IfOk c.unknown_after.result (λ found. IfSome found (IsIdentity n p c.args.limit)))
+    pictures_before g.A.Automaton.next_of (on_stride g a) c.requires.walk.pattern (λ n p. HasNoReturn n p c.args.reach.limit → IfOk c.unknown_after.result (λ found. IfSome found (IsIdentity n p c.args.reach.limit)))
     c.unknown_after.ensures.identity cells shows (λ m some within. picture_nowhere (next g a) (first g a) cells shows m (never m some))
 
 pub returns-in-Never-clause-walk : goal.returns-in-Never-clause-walk

@@ -1,4 +1,4 @@
-use Rattle.std.proofs.Common.{◌-◌, ◌≤◌}
+use Rattle.std.proofs.Common.{◌-◌, ◌≤◌, max}
 use Rattle.ca_quad.specs.Prelude.{AreSquareBoxes, cell}
 use Rattle.ca_run.specs.Prelude.{LeaperGrows}
 use Rattle.ca_identify.specs.inner.Stages.{IsWalk, AreEarly}
@@ -12,8 +12,9 @@ invariant-strides g l = record {
   early : AreEarly (g.A.Automaton.next_of l.fn.leaper.rule) (cell l.fn.leaper.nodes l.fn.first.tree) l.leaper.nodes l.early;
   boxes : AreSquareBoxes l.leaper.nodes l.boxes;
   begun : l.fn.walk.generations ≤ l.walk.generations;
-  within : l.walk.generations ≤ l.fn.limit;
+  within : l.walk.generations ≤ l.fn.reach.limit;
+  bounded : l.leaper.spent.used ≤ max l.fn.leaper.spent.used l.fn.reach.until;
 }
 
 abbrev pub decreases-strides : goal.decreases-strides
-decreases-strides g l = l.limit - l.walk.generations
+decreases-strides g l = l.reach.limit - l.walk.generations

@@ -1,9 +1,10 @@
-use Rattle.std.proofs.Common.{◌≡◌, ℕ, ◌+◌, ◌-◌, ◌≤◌, ◌<◌, List, take, refl, sym, subst, ◌∙◌, arith}
+use Rattle.std.proofs.Common.{◌≡◌, ℕ, ◌+◌, ◌-◌, ◌≤◌, ◌<◌, max, List, take, refl, sym, subst, ◌∙◌, arith}
 use Rattle.std.specs.Prelude.{ℤ, replicate, slice_get, Some}
 use Rattle.ca_plane.specs.Prelude.{cells_after}
 use Rattle.ca_quad.specs.Prelude.{IsDead, cell}
 use Rattle.ca_quad.proofs.Measures.{boxes_stay}
 use Rattle.ca_quad.proofs.Trims.{trees_stay}
+use Rattle.ca_work.specs.Prelude.{Spent}
 use Rattle.ca_run.specs.Prelude.{LeaperGrows}
 use Rattle.ca_run.proofs.LeaperGrowth.{goes_on_again}
 use Rattle.ca_identify.specs.declared.identification.stage.First.{First}
@@ -17,9 +18,9 @@ use Rattle.ca_identify.proofs.Strides.{element_at, part_at, at_part, nowhere_as,
 use Rattle.ca_identify.proofs.identification.strides.stride_to.Goals as goal
 use Rattle.ca_identify.proofs.identification.strides.stride_to.Goals.{In_ok-later, In_ok-before, In-Some, In_ok-stage}
 
-pub later_tree-requires : goal.later_tree-requires
-later_tree-requires g c =
-    stride_can_go (g.A.Automaton.next_of c.args.leaper.now.rule) (cell c.args.leaper.now.nodes c.args.first.now.tree) c.args.walk.now.generations c.args.end c.requires.walk.within
+pub later_within-requires : goal.later_within-requires
+later_within-requires g c =
+    stride_can_go (g.A.Automaton.next_of c.args.leaper.now.rule) (cell c.args.leaper.now.nodes c.args.first.now.tree) c.args.walk.now.generations c.args.reach.limit c.requires.walk.within
     c.args.leaper.now.nodes c.args.walk.now.tree c.requires.walk.is_walk.now c.requires.walk.pattern.quiet c.requires.walk.pattern.is_first.start.within c.requires.walk.pattern.most
 
 -- the tree at the end
@@ -36,15 +37,15 @@ module _ (g : _) (c : In_ok-later g) where
   quiet : next (replicate 9 0) ≡ 0
   quiet = c.requires.walk.pattern.quiet
 
-  end_tree : IsLaterTree next first c.args.end c.later_tree.new.leaper.nodes c.in_ok-later.later
-  end_tree = stride_tree next first c.args.walk.now.generations c.args.end c.requires.walk.within c.args.leaper.now.nodes c.args.walk.now.tree c.requires.walk.is_walk.now c.later_tree.new.leaper.nodes c.in_ok-later.later
+  end_tree : IsLaterTree next first c.args.reach.limit c.later_within.new.leaper.nodes c.in_ok-later.later
+  end_tree = stride_tree next first c.args.walk.now.generations c.args.reach.limit c.requires.walk.within c.args.leaper.now.nodes c.args.walk.now.tree c.requires.walk.is_walk.now c.later_within.new.leaper.nodes c.in_ok-later.later
       c.in_ok-later.ensures.later
 
   -- what an early plane's tree shows now
-  early_shows : (k : ℕ) (plane : First) → slice_get c.args.early.now k ≡ Some plane → (x y : ℤ) → cell c.later_tree.new.leaper.nodes plane.tree x y ≡ stages k x y
+  early_shows : (k : ℕ) (plane : First) → slice_get c.args.early.now k ≡ Some plane → (x y : ℤ) → cell c.later_within.new.leaper.nodes plane.tree x y ≡ stages k x y
   early_shows k plane at x y =
       let is = c.requires.early k plane at in
-      trees_stay c.args.leaper.now.nodes c.later_tree.new.leaper.nodes c.requires.walk.pattern.sound c.in_ok-later.ensures.goes_on.grows plane.tree is.is_first.start.is_tree x y ∙ is.shows x y
+      trees_stay c.args.leaper.now.nodes c.later_within.new.leaper.nodes c.requires.walk.pattern.sound c.in_ok-later.ensures.goes_on.grows plane.tree is.is_first.start.is_tree x y ∙ is.shows x y
 
 pub returns-then-is_dead-clause-stride : goal.returns-then-is_dead-clause-stride
 returns-then-is_dead-clause-stride g c = λ x y.
@@ -54,31 +55,31 @@ returns-then-is_dead-clause-stride g c = λ x y.
     sym ((end_tree g a).shows x y) ∙ dead x y
 
 pub returns-then-is_dead-clause-boxes : goal.returns-then-is_dead-clause-boxes
-returns-then-is_dead-clause-boxes g c = boxes_stay c.args.leaper.now.nodes c.later_tree.new.leaper.nodes c.requires.walk.pattern.sound c.in_ok-later.ensures.goes_on.grows _ c.requires.boxes
+returns-then-is_dead-clause-boxes g c = boxes_stay c.args.leaper.now.nodes c.later_within.new.leaper.nodes c.requires.walk.pattern.sound c.in_ok-later.ensures.goes_on.grows _ c.requires.boxes
 
 pub plane_before-requires-clause-early : goal.plane_before-requires-clause-early
 plane_before-requires-clause-early g c = λ k plane at.
-    let there = part_at c.args.early.now (c.args.end - c.args.walk.now.generations) k plane at in
-    first_stays c.args.leaper.now.nodes c.later_tree.new.leaper.nodes c.requires.walk.pattern.sound c.in_ok-later.ensures.goes_on.grows plane (c.requires.early k plane there.0).is_first
+    let there = part_at c.args.early.now (c.args.reach.limit - c.args.walk.now.generations) k plane at in
+    first_stays c.args.leaper.now.nodes c.later_within.new.leaper.nodes c.requires.walk.pattern.sound c.in_ok-later.ensures.goes_on.grows plane (c.requires.early k plane there.0).is_first
 
 pub plane_before-requires-clause-boxes : goal.plane_before-requires-clause-boxes
-plane_before-requires-clause-boxes g c = boxes_stay c.args.leaper.now.nodes c.later_tree.new.leaper.nodes c.requires.walk.pattern.sound c.in_ok-later.ensures.goes_on.grows _ c.requires.boxes
+plane_before-requires-clause-boxes g c = boxes_stay c.args.leaper.now.nodes c.later_within.new.leaper.nodes c.requires.walk.pattern.sound c.in_ok-later.ensures.goes_on.grows _ c.requires.boxes
 
 pub returns-in_default-clause-stride : goal.returns-in_default-clause-stride
 returns-in_default-clause-stride g c =
     let a = (goal.at.returns-in_default-clause-stride g c).In_ok-later in
-    let s1 = c.later_tree.new.leaper.nodes in
+    let s1 = c.later_within.new.leaper.nodes in
     let later = c.in_ok-later.later in
-    let steps = c.args.end - c.args.walk.now.generations in
+    let steps = c.args.reach.limit - c.args.walk.now.generations in
     let is = end_tree g a in
     let live = subst (λ s. HasLive (cell s later)) c.store.ensures.nodes (c.if-is_dead.ensures.live refl) in
     let before = rw c.in_default.is at c.in_ok-before.ensures.before in
-    let nowhere : (j : ℕ) → j < steps → c.args.end - c.args.end ≤ j → AreMovedNowhere (stages g a j) (stages g a c.args.end) = λ j less all.
+    let nowhere : (j : ℕ) → j < steps → c.args.reach.limit - c.args.reach.limit ≤ j → AreMovedNowhere (stages g a j) (stages g a c.args.reach.limit) = λ j less all.
     let found = element_at c.args.early.now j (omega (arith, less, c.requires.near, c.requires.more)) in
-    nowhere_as (cell s1 found.0.tree) (cell s1 later) (stages g a j) (stages g a c.args.end) (early_shows g a j found.0 found.1) is.shows
+    nowhere_as (cell s1 found.0.tree) (cell s1 later) (stages g a j) (stages g a c.args.reach.limit) (early_shows g a j found.0 found.1) is.shows
     (before j found.0 (at_part c.args.early.now steps j found.0 less found.1)) in (
       later_stays c.in_ok-later.ensures.goes_on.grows.sound c.in_ok-before.ensures.goes_on.grows is,
-      stride_others (next g a) (first g a) (quiet g a) c.args.walk.now.generations c.args.end c.args.end (omega arith) c.requires.walk.is_walk.others (live_as (cell s1 later) (stages g a c.args.end) is.shows live) nowhere,
+      stride_others (next g a) (first g a) (quiet g a) c.args.walk.now.generations c.args.reach.limit c.args.reach.limit (omega arith) c.requires.walk.is_walk.others (live_as (cell s1 later) (stages g a c.args.reach.limit) is.shows live) nowhere,
     )
 
 -- how the leaper goes on till the planes are compared
@@ -86,23 +87,33 @@ module _ (g : _) (c : In_ok-before g) where
   on_before : LeaperGrows _ c.args.leaper.now c.plane_before.new.leaper
   on_before = goes_on_again _ _ _ _ c.in_ok-later.ensures.goes_on c.in_ok-before.ensures.goes_on
 
+  -- and how much is used up then
+  before_bounded : c.plane_before.new.leaper.spent.used ≤ max c.args.leaper.now.spent.used c.args.reach.until
+  before_bounded = subst (λ (s : Spent). s.used ≤ max c.args.leaper.now.spent.used c.args.reach.until) (sym c.in_ok-before.ensures.spent) c.in_ok-later.ensures.bounded
+
+pub returns-in_err-before-clause-bounded : goal.returns-in_err-before-clause-bounded
+returns-in_err-before-clause-bounded g c = subst (λ (s : Spent). s.used ≤ max c.args.leaper.now.spent.used c.args.reach.until) (sym c.plane_before.ensures.spent) c.in_ok-later.ensures.bounded
+
+pub returns-in_default-clause-bounded : goal.returns-in_default-clause-bounded
+returns-in_default-clause-bounded g c = before_bounded g (goal.at.returns-in_default-clause-bounded g c).In_ok-before
+
 pub returns-in_default-clause-goes_on : goal.returns-in_default-clause-goes_on
 returns-in_default-clause-goes_on g c = goes_on_again _ _ _ _ c.in_ok-later.ensures.goes_on c.in_ok-before.ensures.goes_on
 
 -- the last of the planes of which the tree at the end is one, moved
 module _ (g : _) (c : In-Some g) where
-  found : IsLastMovedFrom c.later_tree.new.leaper.nodes (take (c.args.end - c.args.walk.now.generations) c.args.early.now) (cell c.later_tree.new.leaper.nodes c.in_ok-later.later) c.in-Some.before
+  found : IsLastMovedFrom c.later_within.new.leaper.nodes (take (c.args.reach.limit - c.args.walk.now.generations) c.args.early.now) (cell c.later_within.new.leaper.nodes c.in_ok-later.later) c.in-Some.before
   found = rw c.in-Some.is at c.in_ok-before.ensures.before
 
-  there : (slice_get c.args.early.now c.in-Some.before ≡ Some found.0.0) × (c.in-Some.before < c.args.end - c.args.walk.now.generations)
-  there = part_at c.args.early.now (c.args.end - c.args.walk.now.generations) c.in-Some.before found.0.0 found.0.1
+  there : (slice_get c.args.early.now c.in-Some.before ≡ Some found.0.0) × (c.in-Some.before < c.args.reach.limit - c.args.walk.now.generations)
+  there = part_at c.args.early.now (c.args.reach.limit - c.args.walk.now.generations) c.in-Some.before found.0.0 found.0.1
 
 pub stage_after-requires-clause-walk : goal.stage_after-requires-clause-walk
 stage_after-requires-clause-walk g c =
     let a = goal.at.stage_after-requires-clause-walk g c in
     let on = on_before g a.In_ok-before in
     let less = (there g a.In-Some).1 in
-    walks_on g.A.Automaton.next_of on c.requires.walk.pattern c.args.walk.now (c.args.end - c.in-Some.before) (omega arith) (omega (arith, less)) (walk_stays c.requires.walk.pattern.sound on.grows c.requires.walk.is_walk)
+    walks_on g.A.Automaton.next_of on c.requires.walk.pattern c.args.walk.now (c.args.reach.limit - c.in-Some.before) (omega arith) (omega (arith, less)) (walk_stays c.requires.walk.pattern.sound on.grows c.requires.walk.is_walk)
 
 -- what is shown when the pattern may be back
 module _ (g : _) (c : In_ok-stage g) where
@@ -112,8 +123,8 @@ module _ (g : _) (c : In_ok-stage g) where
       (goes_on_again _ _ _ _ c.in_ok-later.ensures.goes_on c.in_ok-before.ensures.goes_on) c.in_ok-stage.ensures.goes_on
 
   told : (on : LeaperGrows _ c.args.leaper.now c.plane_before.new.leaper) → IsStage (cell c.args.leaper.now.nodes c.args.first.now.tree)
-      (cells_after (g.A.Automaton.next_of c.args.leaper.now.rule) (cell c.args.leaper.now.nodes c.args.first.now.tree) (c.args.end - c.in-Some.before)) c.in_ok-stage.stage
-  told on = as_before g.A.Automaton.next_of on c.requires.walk.pattern (λ n p. IsStage p (cells_after n p (c.args.end - c.in-Some.before)) c.in_ok-stage.stage) c.in_ok-stage.ensures.stage
+      (cells_after (g.A.Automaton.next_of c.args.leaper.now.rule) (cell c.args.leaper.now.nodes c.args.first.now.tree) (c.args.reach.limit - c.in-Some.before)) c.in_ok-stage.stage
+  told on = as_before g.A.Automaton.next_of on c.requires.walk.pattern (λ n p. IsStage p (cells_after n p (c.args.reach.limit - c.in-Some.before)) c.in_ok-stage.stage) c.in_ok-stage.ensures.stage
 
 pub returns-in_err-stage-clause-goes_on : goal.returns-in_err-stage-clause-goes_on
 returns-in_err-stage-clause-goes_on g c =
@@ -129,10 +140,10 @@ pub returns-in-Some-ending-clause-stride : goal.returns-in-Some-ending-clause-st
 returns-in-Some-ending-clause-stride g c =
     let at = goal.at.returns-in-Some-ending-clause-stride g c in
     let a = at.In_ok-later in
-    let s1 = c.later_tree.new.leaper.nodes in
+    let s1 = c.later_within.new.leaper.nodes in
     let later = c.in_ok-later.later in
     let n = c.args.walk.now.generations in
-    let end = c.args.end in
+    let end = c.args.reach.limit in
     let q = end - c.in-Some.before in
     let ending = c.in-Some-ending.ending in
     let ends = sym c.ending.ensures ∙ c.in-Some-ending.is in
@@ -159,16 +170,33 @@ returns-in-None-clause-stride g c =
     let at = goal.at.returns-in-None-clause-stride g c in
     let a = at.In_ok-later in
     let s0 = c.args.leaper.now.nodes in
-    let s1 = c.later_tree.new.leaper.nodes in
+    let s1 = c.later_within.new.leaper.nodes in
     let later = c.in_ok-later.later in
     let j = c.in-Some.before in
-    let q = c.args.end - j in
+    let q = c.args.reach.limit - j in
     let (last, after) = found g at.In-Some in
     let held = there g at.In-Some in
     let less = held.1 in
     let plane = last.0 in
     let (cells, same) = tree_picture s0 c.args.first.now.tree in
     let (settled, shown) = tree_picture s1 plane.tree in
-    let moved = moved_as (cell s1 plane.tree) (cell s1 later) (stages g a j) (stages g a c.args.end) (early_shows g a j plane held.0) (end_tree g a).shows last.2 last.3 last.4 in
+    let moved = moved_as (cell s1 plane.tree) (cell s1 later) (stages g a j) (stages g a c.args.reach.limit) (early_shows g a j plane held.0) (end_tree g a).shows last.2 last.3 last.4 in
     let other = subst (IsStage (first g a) (stages g a q)) (no_ending c.in_ok-stage.stage q (sym c.ending.ensures ∙ c.in-None.is)) (told g at.In_ok-stage (on_before g at.In_ok-before)) in
-    never_again (next g a) (first g a) cells settled (λ x y. sym (same x y)) j c.args.end (omega (arith, less)) (λ x y. sym (shown x y) ∙ early_shows g a j plane held.0 x y) last.2 last.3 moved other.1
+    never_again (next g a) (first g a) cells settled (λ x y. sym (same x y)) j c.args.reach.limit (omega (arith, less)) (λ x y. sym (shown x y) ∙ early_shows g a j plane held.0 x y) last.2 last.3 moved other.1
+
+-- ---- what is used up at last
+
+pub returns-in_err-stage-clause-bounded : goal.returns-in_err-stage-clause-bounded
+returns-in_err-stage-clause-bounded g c =
+    let before = before_bounded g (goal.at.returns-in_err-stage-clause-bounded g c).In_ok-before in
+    omega (arith, before, c.stage_after.ensures.bounded)
+
+pub returns-in-Some-ending-clause-bounded : goal.returns-in-Some-ending-clause-bounded
+returns-in-Some-ending-clause-bounded g c =
+    let before = before_bounded g (goal.at.returns-in-Some-ending-clause-bounded g c).In_ok-before in
+    omega (arith, before, c.in_ok-stage.ensures.bounded)
+
+pub returns-in-None-clause-bounded : goal.returns-in-None-clause-bounded
+returns-in-None-clause-bounded g c =
+    let before = before_bounded g (goal.at.returns-in-None-clause-bounded g c).In_ok-before in
+    omega (arith, before, c.in_ok-stage.ensures.bounded)

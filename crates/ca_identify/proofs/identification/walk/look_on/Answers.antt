@@ -47,6 +47,7 @@ generations-init g c = record {
   walk = c.requires.walk.is_walk;
   begun = omega arith;
   within = c.requires.walk.within;
+  bounded = omega arith;
   takes = no_step _ _ _ c.args.end (c.args.walk.now.generations - c.args.walk.now.generations) refl;
 }
 
@@ -116,6 +117,7 @@ generations-preserved g c =
       };
       begun = omega (arith, begun);
       within = omega (arith, c.generations-test.true);
+      bounded = let bounded = inv.bounded in omega (arith, bounded, c.in_ok-later.ensures.bounded);
       takes = subst (TakesSteps c.args.leaper.now.spent.used c.step.new.leaper.spent.used (stages g a) c.args.end) sum (took g a);
     }
 

@@ -1,4 +1,4 @@
-use Rattle.std.proofs.Common.{◌-◌, ◌≤◌}
+use Rattle.std.proofs.Common.{◌-◌, ◌≤◌, max}
 use Rattle.ca_plane.specs.Prelude.{cells_after}
 use Rattle.ca_quad.specs.Prelude.{cell}
 use Rattle.ca_run.specs.Prelude.{LeaperGrows}
@@ -13,6 +13,7 @@ invariant-generations g l = record {
   walk : IsWalk (g.A.Automaton.next_of l.fn.leaper.rule) (cell l.fn.leaper.nodes l.fn.first.tree) l.leaper.nodes l.walk;
   begun : l.fn.walk.generations ≤ l.walk.generations;
   within : l.walk.generations ≤ l.fn.end;
+  bounded : l.leaper.spent.used ≤ max l.fn.leaper.spent.used l.until;
   takes : TakesSteps l.fn.leaper.spent.used l.leaper.spent.used (cells_after (g.A.Automaton.next_of l.fn.leaper.rule) (cell l.fn.leaper.nodes l.fn.first.tree)) l.fn.end (l.walk.generations - l.fn.walk.generations);
 }
 
