@@ -1,5 +1,5 @@
 -- A plane whose next one is settled: what its parts were one generation earlier.
-use Rattle.std.proofs.Common.{◌≡◌, ◌≢◌, ℕ, zero, suc, ◌+◌, ◌*◌, ◌-◌, ◌≤◌, List, map, get_or, inl, inr, refl, sym, ap, ap₂, ◌∙◌, arith, subst}
+use Rattle.std.proofs.Common.{◌≡◌, ◌≢◌, ℕ, zero, suc, ◌+◌, ◌*◌, List, map, get_or, inl, inr, refl, sym, ap, ap₂, ◌∙◌, arith, subst}
 use Rattle.std.specs.Prelude.{ℤ, pos, ◌+ℤ◌, ◌-ℤ◌, ◌*ℤ◌, replicate}
 use Rattle.std.specs.List.{All, AllPairs, AllZip, Any, Contains}
 use Rattle.std.proofs.lemmas.Bool.{cases_eq}
@@ -7,13 +7,13 @@ use Rattle.std.proofs.lemmas.Int.{ints}
 use Rattle.std.proofs.lemmas.List.Elements.{All-contains, All-contains_itself, Contains-get_or}
 use Rattle.ca_plane.specs.Prelude.{Picture, cell, around, after, IsAfter, IsLive, cells_after}
 use Rattle.ca_plane.proofs.After.{around-same, around-nine_states, after_again}
-use Rattle.ca_parts.specs.Prelude.{AreApart, NeverMeet, together, ComesBack, IsEarlier, LiesIn, FallsInto, IsDivision, IsSettled, IsFinest, IsFirstSettled}
+use Rattle.ca_parts.specs.Prelude.{AreApart, NeverMeet, together, ComesBack, IsEarlier, LiesIn, FallsInto, IsDivision, IsSettled, IsFinest}
 use Rattle.ca_parts.proofs.Lists.{All-zip, AllPairs-zip, AllZip-turned, AllZip-with, beside, same_or_two}
 use Rattle.ca_parts.proofs.ApartPlanes.{Within, AreApart-same, AreApart-within, AreApart-turned, one_live}
 use Rattle.ca_parts.proofs.Sums.{one_of_sum, sum_alone, apart_before}
 use Rattle.ca_parts.proofs.PartsWithin.{lies_on}
 use Rattle.ca_parts.proofs.LaterPictures.{picture_after, IsAfter-picture_after, live_or_not}
-use Rattle.ca_parts.proofs.LaterDivisions.{nothing_comes, after_stands, IsDivision-later, IsSettled-later, pictures_after}
+use Rattle.ca_parts.proofs.LaterDivisions.{nothing_comes, after_stands, IsDivision-later, pictures_after}
 use Rattle.ca_parts.proofs.Returning.{IsBackBy, IsBackAt, back_times, after_return, common_time_of_both}
 use Rattle.ca_parts.proofs.Drifts.{no_drift, times-minus}
 use Rattle.ca_parts.proofs.FinestDivisions.{NeverMeet-turned, one_part, part_here, part_there}
@@ -104,7 +104,7 @@ AreApartNow p q = AreApart (cell p) (cell q)
 record Look (next : List ℕ → ℕ) (cells : ℤ → ℤ → ℕ) (parts es ds : List Picture) : Type 0 where
   quiet : next (replicate 9 0) ≡ 0
   finest : IsFinest next (cells_after next cells 1) parts
-  zip : AllZip (IsEarlier next) es parts
+  zip : AllZip (IsEarlier next 1) es parts
   division : IsDivision next cells ds
   l : ℕ
   earlier_back : All (IsBackAt next (suc l)) es
@@ -112,20 +112,20 @@ record Look (next : List ℕ → ℕ) (cells : ℤ → ℤ → ℕ) (parts es ds
 
 -- there is such a number
 look_of : (next : List ℕ → ℕ) (cells : ℤ → ℤ → ℕ) (parts es ds : List Picture) → next (replicate 9 0) ≡ 0 → IsFinest next (cells_after next cells 1) parts
-    → AllZip (IsEarlier next) es parts → IsDivision next cells ds → Look next cells parts es ds
+    → AllZip (IsEarlier next 1) es parts → IsDivision next cells ds → Look next cells parts es ds
 look_of next cells parts es ds quiet finest zip division =
     let comes : All (ComesBack next) es =
-    All-zip (λ p e. IsEarlier next e p) (Contains parts) (ComesBack next) (λ p e is _. is.back) parts es (AllZip-turned (IsEarlier next) es parts zip) (All-contains_itself parts) in
+    All-zip (λ p e. IsEarlier next 1 e p) (Contains parts) (ComesBack next) (λ p e is _. is.back) parts es (AllZip-turned (IsEarlier next 1) es parts zip) (All-contains_itself parts) in
     let (l, one, two) = common_time_of_both next es ds comes division.back in
     record { quiet = quiet; finest = finest; zip = zip; division = division; l = l; earlier_back = one; back = two }
 
 module _ (next : List ℕ → ℕ) (cells : ℤ → ℤ → ℕ) (parts es ds : List Picture) (look : Look next cells parts es ds) where
   -- an earlier picture beside its part
   abbrev Beside : Picture → Picture → Type 0
-  Beside e p = IsEarlier next e p × IsBackAt next (suc look.l) e
+  Beside e p = IsEarlier next 1 e p × IsBackAt next (suc look.l) e
 
   pairs : AllZip (λ e p. Beside e p) es parts
-  pairs = AllZip-with (IsEarlier next) (IsBackAt next (suc look.l)) es parts look.zip look.earlier_back
+  pairs = AllZip-with (IsEarlier next 1) (IsBackAt next (suc look.l)) es parts look.zip look.earlier_back
 
   turned_pairs : AllZip (λ p e. Beside e p) parts es
   turned_pairs = AllZip-turned (λ e p. Beside e p) es parts pairs
@@ -230,7 +230,7 @@ module _ (next : List ℕ → ℕ) (cells : ℤ → ℤ → ℕ) (parts es ds : 
 
 -- a settled plane, whose next one has this finest division, is that of what its parts were one generation earlier
 pub earlier_of_settled : (next : List ℕ → ℕ) → next (replicate 9 0) ≡ 0 → (cells : ℤ → ℤ → ℕ) (parts es : List Picture) → IsFinest next (cells_after next cells 1) parts
-    → AllZip (IsEarlier next) es parts → IsSettled next cells → FallsInto cells es
+    → AllZip (IsEarlier next 1) es parts → IsSettled next cells → FallsInto cells es
 earlier_of_settled next quiet cells parts es finest zip (ds, division) =
     let look = look_of next cells parts es ds quiet finest zip division in
     record { apart = earlier_apart next cells parts es ds look; whole = earlier_whole next cells parts es ds look }
@@ -245,11 +245,11 @@ IsLive-earlier next quiet e p later (x, y, live) =
 
 -- and where they are apart and this plane is theirs together, they are its finest division
 pub earlier_is_finest : (next : List ℕ → ℕ) → next (replicate 9 0) ≡ 0 → (cells : ℤ → ℤ → ℕ) (parts es : List Picture) → IsFinest next (cells_after next cells 1) parts
-    → AllZip (IsEarlier next) es parts → FallsInto cells es → IsFinest next cells es
+    → AllZip (IsEarlier next 1) es parts → FallsInto cells es → IsFinest next cells es
 earlier_is_finest next quiet cells parts es finest zip falls =
-    let turned = AllZip-turned (IsEarlier next) es parts zip in
+    let turned = AllZip-turned (IsEarlier next 1) es parts zip in
     let then : AllPairs (λ e f. (n : ℕ) → AreApart (after next e (suc n)) (after next f (suc n))) es =
-    AllPairs-zip (λ p e. IsEarlier next e p) (NeverMeet next) (λ e f. (n : ℕ) → AreApart (after next e (suc n)) (after next f (suc n)))
+    AllPairs-zip (λ p e. IsEarlier next 1 e p) (NeverMeet next) (λ e f. (n : ℕ) → AreApart (after next e (suc n)) (after next f (suc n)))
     (λ p q e f one two never n.
     let sum : 1 + n ≡ suc n = omega arith in
     AreApart-same (after next p n) (after next q n) (after next e (suc n)) (after next f (suc n))
@@ -258,8 +258,8 @@ earlier_is_finest next quiet cells parts es finest zip falls =
     parts es turned finest.division.apart in
     record {
       division = record {
-        live = All-zip (λ p e. IsEarlier next e p) IsLive IsLive (λ p e is live. IsLive-earlier next quiet e p is.later live) parts es turned finest.division.live;
-        back = All-zip (λ p e. IsEarlier next e p) IsLive (ComesBack next) (λ p e is live. is.back) parts es turned finest.division.live;
+        live = All-zip (λ p e. IsEarlier next 1 e p) IsLive IsLive (λ p e is live. IsLive-earlier next quiet e p is.later live) parts es turned finest.division.live;
+        back = All-zip (λ p e. IsEarlier next 1 e p) IsLive (ComesBack next) (λ p e is live. is.back) parts es turned finest.division.live;
         apart = λ i j d low high. apart_always (get_or es i d) (get_or es j d) (falls.apart i j d low high) (then i j d low high);
         whole = falls.whole;
       };
@@ -269,37 +269,3 @@ earlier_is_finest next quiet cells parts es finest zip falls =
     apart_always : (e f : Picture) → AreApartNow e f → ((n : ℕ) → AreApart (after next e (suc n)) (after next f (suc n))) → NeverMeet next e f
     apart_always e f now then zero = now
     apart_always e f now then (suc n) = then n
-
--- ---- the first settled plane
-
--- a division of a plane is one of the same cells
-IsDivision-same : (next : List ℕ → ℕ) (f g : ℤ → ℤ → ℕ) (parts : List Picture) → ((x y : ℤ) → g x y ≡ f x y) → IsDivision next f parts → IsDivision next g parts
-IsDivision-same next f g parts same division =
-    record { live = division.live; back = division.back; apart = division.apart; whole = λ x y. same x y ∙ division.whole x y }
-
--- and so is a finest one
-IsFinest-same : (next : List ℕ → ℕ) (f g : ℤ → ℤ → ℕ) (parts : List Picture) → ((x y : ℤ) → g x y ≡ f x y) → IsFinest next f parts → IsFinest next g parts
-IsFinest-same next f g parts same finest = record {
-  division = IsDivision-same next f g parts same finest.division;
-  finest = λ others division. finest.finest others (IsDivision-same next g f others (λ x y. sym (same x y)) division);
-}
-
--- a plane that was settled at some time is settled at each later one
-settled_since : (next : List ℕ → ℕ) → next (replicate 9 0) ≡ 0 → (cells : ℤ → ℤ → ℕ) (m n : ℕ) → m ≤ n → IsSettled next (cells_after next cells m) → IsSettled next (cells_after next cells n)
-settled_since next quiet cells m n early settled =
-    let (parts, division) = IsSettled-later next quiet (cells_after next cells m) (n - m) settled in
-    let sum : n ≡ m + (n - m) = omega (arith, early) in (
-      parts,
-      IsDivision-same next (cells_after next (cells_after next cells m) (n - m)) (cells_after next cells n) parts
-          (λ x y. ap (λ k. cells_after next cells k x y) sum ∙ sym (after_again next cells m (n - m) x y)) division,
-    )
-
--- where this plane doesn't fall into what the parts were, it isn't settled, and none before it is
-pub first_settled : (next : List ℕ → ℕ) → next (replicate 9 0) ≡ 0 → (cells : ℤ → ℤ → ℕ) (n : ℕ) (parts es : List Picture) → IsFinest next (cells_after next cells (n + 1)) parts
-    → AllZip (IsEarlier next) es parts → (FallsInto (cells_after next cells n) es → ⊥) → IsFirstSettled next cells (n + 1)
-first_settled next quiet cells n parts es finest zip out = record {
-  settled = (parts, finest.division);
-  first = λ m less settled.
-      let step = IsFinest-same next (cells_after next cells (n + 1)) (cells_after next (cells_after next cells n) 1) parts (after_again next cells n 1) finest in
-      out (earlier_of_settled next quiet (cells_after next cells n) parts es step zip (settled_since next quiet cells m n (omega (arith, less)) settled));
-}

@@ -46,7 +46,7 @@ same_earlier next e d p q l a b u v one two same x y live back again =
     ap₂ (cell e) ax ay ∙ seen s t
 
 -- so a picture that comes back is earlier than one picture at most, and one at most is earlier
-pub one_earlier : (next : List ℕ → ℕ) → next (replicate 9 0) ≡ 0 → (e d p q : Picture) → IsEarlier next e p → IsEarlier next d q → IsSame p q → IsSame e d
+pub one_earlier : (next : List ℕ → ℕ) → next (replicate 9 0) ≡ 0 → (e d p q : Picture) → IsEarlier next 1 e p → IsEarlier next 1 d q → IsSame p q → IsSame e d
 one_earlier next quiet e d p q one two same =
     let comes : All (ComesBack next) (e ∷ d ∷ []) = All-cons (ComesBack next) e (d ∷ []) one.back (All-cons (ComesBack next) d [] two.back (All-nil (ComesBack next))) in
     let (l, all) = common_time next (e ∷ d ∷ []) comes in
@@ -76,7 +76,7 @@ ComesBack-moved next p e u v seen (n, some, a, b, there) =
     )
 
 -- before it is back, a picture that comes back was another one
-pub some_earlier : (next : List ℕ → ℕ) → next (replicate 9 0) ≡ 0 → (p : Picture) → ComesBack next p → (e : Picture) × IsEarlier next e p
+pub some_earlier : (next : List ℕ → ℕ) → next (replicate 9 0) ≡ 0 → (p : Picture) → ComesBack next p → (e : Picture) × IsEarlier next 1 e p
 some_earlier next quiet p (zero, some, u, v, there) = absurd (omega arith)
 some_earlier next quiet p (suc n, some, u, v, there) =
     let before = picture_after next p n in

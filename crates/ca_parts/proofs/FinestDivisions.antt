@@ -9,7 +9,7 @@ use Rattle.ca_parts.specs.Prelude.{NeverMeet, LiesIn, IsDivision, IsFiner, IsFin
 use Rattle.ca_parts.proofs.Lists.{same_or_two}
 use Rattle.ca_parts.proofs.ApartPlanes.{AreApart-turned, one_live}
 use Rattle.ca_parts.proofs.Sums.{one_of_sum, sum_alone}
-use Rattle.ca_parts.proofs.LaterDivisions.{after_division}
+use Rattle.ca_parts.proofs.LaterDivisions.{after_division, IsDivision-same}
 
 -- the order of pictures that never meet doesn't matter
 pub NeverMeet-turned : (next : List ℕ → ℕ) (p q : Picture) → NeverMeet next p q → NeverMeet next q p
@@ -71,3 +71,10 @@ made_of_fine next quiet cells fine coarse one two finer = λ k d low x y live.
     let same : r ≡ q = one_part next coarse r q two.apart (j, in_two, are) hasq 0 x y (λ z. here (lies x y here ∙ z)) live in
     let lies_too = subst (λ (s : Picture). LiesIn p s) same lies in
     (i, p, within, is, (lies_too, lies_too x y here))
+
+-- a finest division of a plane is one of the same cells
+pub IsFinest-same : (next : List ℕ → ℕ) (f g : ℤ → ℤ → ℕ) (parts : List Picture) → ((x y : ℤ) → g x y ≡ f x y) → IsFinest next f parts → IsFinest next g parts
+IsFinest-same next f g parts same finest = record {
+  division = IsDivision-same next f g parts same finest.division;
+  finest = λ others division. finest.finest others (IsDivision-same next g f others (λ x y. sym (same x y)) division);
+}

@@ -1,5 +1,5 @@
 -- A division's parts after n generations are a division of the plane then.
-use Rattle.std.proofs.Common.{◌≡◌, ℕ, ◌+◌, List, [], ◌∷◌, map, inl, inr, refl, sym, ap, ap₂, ◌∙◌, arith}
+use Rattle.std.proofs.Common.{◌≡◌, ℕ, ◌+◌, ◌-◌, ◌≤◌, List, [], ◌∷◌, map, inl, inr, refl, sym, ap, ap₂, ◌∙◌, arith}
 use Rattle.std.specs.Prelude.{ℤ, ◌+ℤ◌, replicate}
 use Rattle.std.specs.List.{AllZip, sum_by}
 use Rattle.std.proofs.lemmas.List.Sums.{sum_by-cons}
@@ -52,7 +52,7 @@ NeverMeet-later next p p' q q' n one two never m =
     AreApart-same (after next p (n + m)) (after next p' (n + m)) (after next q m) (after next q' m) (after_stands next p q n one m) (after_stands next p' q' n two m) (never (n + m))
 
 -- later pictures together
-together-later : (next : List ℕ → ℕ) (n : ℕ) (x y : ℤ) (ps qs : List Picture) → AllZip (λ p q. IsAfter next p n q) ps qs → sum_by (λ p. after next p n x y) ps ≡ together qs x y
+pub together-later : (next : List ℕ → ℕ) (n : ℕ) (x y : ℤ) (ps qs : List Picture) → AllZip (λ p q. IsAfter next p n q) ps qs → sum_by (λ p. after next p n x y) ps ≡ together qs x y
 together-later next n x y [] [] zip = refl
 together-later next n x y [] (q ∷ qs) zip = absurd zip
 together-later next n x y (p ∷ ps) [] zip = absurd zip
@@ -86,3 +86,18 @@ pub IsSettled-later : (next : List ℕ → ℕ) → next (replicate 9 0) ≡ 0 �
 IsSettled-later next quiet cells n (parts, division) =
     let later = map (λ p. picture_after next p n) parts in
     (later, IsDivision-later next quiet cells n parts later division (pictures_after next quiet parts n))
+
+-- a division of a plane is one of the same cells
+pub IsDivision-same : (next : List ℕ → ℕ) (f g : ℤ → ℤ → ℕ) (parts : List Picture) → ((x y : ℤ) → g x y ≡ f x y) → IsDivision next f parts → IsDivision next g parts
+IsDivision-same next f g parts same division =
+    record { live = division.live; back = division.back; apart = division.apart; whole = λ x y. same x y ∙ division.whole x y }
+
+-- a plane that was settled at some time is settled at each later one
+pub settled_since : (next : List ℕ → ℕ) → next (replicate 9 0) ≡ 0 → (cells : ℤ → ℤ → ℕ) (m n : ℕ) → m ≤ n → IsSettled next (cells_after next cells m) → IsSettled next (cells_after next cells n)
+settled_since next quiet cells m n early settled =
+    let (parts, division) = IsSettled-later next quiet (cells_after next cells m) (n - m) settled in
+    let sum : n ≡ m + (n - m) = omega (arith, early) in (
+      parts,
+      IsDivision-same next (cells_after next (cells_after next cells m) (n - m)) (cells_after next cells n) parts
+          (λ x y. ap (λ k. cells_after next cells k x y) sum ∙ sym (after_again next cells m (n - m) x y)) division,
+    )

@@ -12,3 +12,4 @@ pub mod EarlierPictures
 pub mod EarlierDivisions
 pub mod RowOrder
 pub mod TwoApart
+pub mod EarlierGenerations

@@ -80,6 +80,20 @@ AllZip-turned R [] (y ∷ ys) zip = absurd zip
 AllZip-turned R (x ∷ xs) [] zip = absurd zip
 AllZip-turned R (x ∷ xs) (y ∷ ys) zip = (zip.0, AllZip-turned R xs ys zip.1)
 
+-- what follows of each two beside each other
+pub AllZip-weaker : {X Y : Type 0} (R S : X → Y → Type 0) → ((x : X) (y : Y) → R x y → S x y) → (xs : List X) (ys : List Y) → AllZip R xs ys → AllZip S xs ys
+AllZip-weaker R S passes [] [] zip = tt
+AllZip-weaker R S passes [] (y ∷ ys) zip = absurd zip
+AllZip-weaker R S passes (x ∷ xs) [] zip = absurd zip
+AllZip-weaker R S passes (x ∷ xs) (y ∷ ys) zip = (passes x y zip.0, AllZip-weaker R S passes xs ys zip.1)
+
+-- and of what a function gives of the first ones
+pub AllZip-of_map : {X Y : Type 0} (R S : X → Y → Type 0) (f : X → X) → ((x : X) (y : Y) → R x y → S (f x) y) → (xs : List X) (ys : List Y) → AllZip R xs ys → AllZip S (map f xs) ys
+AllZip-of_map R S f passes [] [] zip = tt
+AllZip-of_map R S f passes [] (y ∷ ys) zip = absurd zip
+AllZip-of_map R S f passes (x ∷ xs) [] zip = absurd zip
+AllZip-of_map R S f passes (x ∷ xs) (y ∷ ys) zip = (passes x y zip.0, AllZip-of_map R S f passes xs ys zip.1)
+
 -- what holds of each element of the first list, too
 pub AllZip-with : {X Y : Type 0} (R : X → Y → Type 0) (P : X → Type 0) (xs : List X) (ys : List Y) → AllZip R xs ys → All P xs → AllZip (λ x y. R x y × P x) xs ys
 AllZip-with R P [] [] zip all = tt

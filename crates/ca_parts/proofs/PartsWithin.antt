@@ -42,14 +42,14 @@ module _ (next : List ℕ → ℕ) (quiet : next (replicate 9 0) ≡ 0) (cells :
       let more : around (after next q n) x y ≢ replicate 9 0 = λ e. some (around-within (after next p n) (after next q n) x y before e) in
       ap next (sym (window_of_part ps whole n apart p hasp x y some) ∙ window_of_part qs division.whole n (apart_before next qs division.apart (suc n)) q hasq x y more)
 
-  -- so where two of the parts meet, one part of each division holds both
-  pub meeting_parts : (ps qs : List Picture) → ((x y : ℤ) → cells x y ≡ together ps x y) → IsDivision next cells qs → IsFiner ps qs → (n : ℕ) → AllPairs (AreApartBefore next n) ps
-      → (p q : Picture) → Contains ps p → Contains ps q → (AreApart (after next p n) (after next q n) → ⊥) → Any (λ d. LiesIn p d × LiesIn q d) qs
-  meeting_parts ps qs whole division finer n apart p q hasp hasq meet =
-      let (i, c, low, is, one) = All-contains (λ r. Any (LiesIn r) qs) ps p finer hasp in
-      let (j, d, below, are, two) = All-contains (λ r. Any (LiesIn r) qs) ps q finer hasq in
-      elim (same_or_two (NeverMeet next) (NeverMeet-turned next) qs c d division.apart (i, low, is) (j, below, are)) [
-        | inl same ↦ (j, d, below, are, (subst (λ (r : Picture). LiesIn p r) same one, two))
-        | inr never ↦ absurd (meet (AreApart-within (after next c n) (after next d n) (after next p n) (after next q n)
-            (lies_on ps qs whole division p c hasp (i, low, is) one n apart) (lies_on ps qs whole division q d hasq (j, below, are) two n apart) (never n)))
-      ]
+-- so where two parts, each in a part of a division, are the first that meet, one part of the division holds both
+pub meeting_parts : (next : List ℕ → ℕ) → next (replicate 9 0) ≡ 0 → (cells : ℤ → ℤ → ℕ) (ps qs : List Picture) (n : ℕ) (p q : Picture) → ((x y : ℤ) → cells x y ≡ together ps x y)
+    → IsDivision next cells qs → IsFiner ps qs → AllPairs (AreApartBefore next n) ps → Contains ps p → Contains ps q → (AreApart (after next p n) (after next q n) → ⊥) → Any (λ d. LiesIn p d × LiesIn q d) qs
+meeting_parts next quiet cells ps qs n p q whole division finer apart hasp hasq meet =
+    let (i, c, low, is, one) = All-contains (λ r. Any (LiesIn r) qs) ps p finer hasp in
+    let (j, d, below, are, two) = All-contains (λ r. Any (LiesIn r) qs) ps q finer hasq in
+    elim (same_or_two (NeverMeet next) (NeverMeet-turned next) qs c d division.apart (i, low, is) (j, below, are)) [
+      | inl same ↦ (j, d, below, are, (subst (λ (r : Picture). LiesIn p r) same one, two))
+      | inr never ↦ absurd (meet (AreApart-within (after next c n) (after next d n) (after next p n) (after next q n)
+          (lies_on next quiet cells ps qs whole division p c hasp (i, low, is) one n apart) (lies_on next quiet cells ps qs whole division q d hasq (j, below, are) two n apart) (never n)))
+    ]

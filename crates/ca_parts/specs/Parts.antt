@@ -34,10 +34,10 @@ pub record FallsInto (cells : ℤ → ℤ → ℕ) (parts : List Picture) : Type
 abbrev pub ComesBack : (List ℕ → ℕ) → Picture → Type 0
 ComesBack next p = (n : ℕ) × (1 ≤ n) × (dx : ℤ) × (dy : ℤ) × IsAfter next p n (shifted p dx dy)
 
--- e comes back, and one generation later it is p
-pub record IsEarlier (next : List ℕ → ℕ) (e p : Picture) : Type 0 where
+-- e comes back, and n generations later it is p
+pub record IsEarlier (next : List ℕ → ℕ) (n : ℕ) (e p : Picture) : Type 0 where
   pub back : ComesBack next e
-  pub later : IsAfter next e 1 p
+  pub later : IsAfter next e n p
 
 -- where p is live, q has the same state
 abbrev pub LiesIn : Picture → Picture → Type 0

@@ -55,12 +55,12 @@ pub fn meeting_parts_lie_in_one_part()
         → Any (λ d. LiesIn p d × LiesIn q d) others }
 {}
 
-/// What comes back was one picture, one generation earlier, that comes back too, and no other one.
+/// What comes back was one picture, any number of generations earlier, that comes back too, and no other one.
 pub fn one_earlier()
-    ensures some { (next : List ℕ → ℕ) → next (replicate 9 0) ≡ 0 → (p : Picture) → ComesBack next p
-        → (e : Picture) × IsEarlier next e p }
-    ensures no_other { (next : List ℕ → ℕ) → next (replicate 9 0) ≡ 0 → (one two p q : Picture)
-        → IsEarlier next one p → IsEarlier next two q → IsSame p q → IsSame one two }
+    ensures some { (next : List ℕ → ℕ) → next (replicate 9 0) ≡ 0 → (p : Picture) (n : ℕ) → ComesBack next p
+        → (e : Picture) × IsEarlier next n e p }
+    ensures no_other { (next : List ℕ → ℕ) → next (replicate 9 0) ≡ 0 → (n : ℕ) (one two p q : Picture)
+        → IsEarlier next n one p → IsEarlier next n two q → IsSame p q → IsSame one two }
 {}
 
 /// Where a division is finer than another one, each part of that one is some of its parts together: each cell of
@@ -73,18 +73,23 @@ pub fn coarse_parts_are_made_of_fine_ones()
         → Any (λ p. LiesIn p q × (cell p x y ≡ cell q x y)) fine) coarse }
 {}
 
-/// Where the finest division of the next plane is known, and what each of its parts was one generation earlier,
-/// a plane is settled if it falls into these earlier pictures, which are then its finest division, and only if
-/// it does. Where it doesn't, the next plane is the first one that is settled.
+/// Where the finest division of the plane after n generations is known, and what each of its parts was n generations
+/// earlier, the plane is settled only if its finest division is into these earlier pictures. And that it is if they
+/// are the plane together, and apart before n generations. Where the plane one generation earlier doesn't fall into
+/// them, the plane with that finest division is the first one that is settled.
 pub fn earlier_parts_tell_if_settled()
-    ensures finest { (next : List ℕ → ℕ) → next (replicate 9 0) ≡ 0 → (cells : ℤ → ℤ → ℕ)
+    ensures settled { (next : List ℕ → ℕ) → next (replicate 9 0) ≡ 0 → (n : ℕ) (cells : ℤ → ℤ → ℕ)
+        (parts earlier : List Picture) → IsFinest next (cells_after next cells n) parts
+        → AllZip (IsEarlier next n) earlier parts → IsSettled next cells → IsFinest next cells earlier }
+    ensures finest { (next : List ℕ → ℕ) → next (replicate 9 0) ≡ 0 → (n : ℕ) (cells : ℤ → ℤ → ℕ)
+        (parts earlier : List Picture) → IsFinest next (cells_after next cells n) parts
+        → AllZip (IsEarlier next n) earlier parts → AllPairs (AreApartBefore next n) earlier
+        → ((x y : ℤ) → cells x y ≡ together earlier x y) → IsFinest next cells earlier }
+    ensures step { (next : List ℕ → ℕ) → next (replicate 9 0) ≡ 0 → (cells : ℤ → ℤ → ℕ)
         (parts earlier : List Picture) → IsFinest next (cells_after next cells 1) parts
-        → AllZip (IsEarlier next) earlier parts → FallsInto cells earlier → IsFinest next cells earlier }
-    ensures settled { (next : List ℕ → ℕ) → next (replicate 9 0) ≡ 0 → (cells : ℤ → ℤ → ℕ)
-        (parts earlier : List Picture) → IsFinest next (cells_after next cells 1) parts
-        → AllZip (IsEarlier next) earlier parts → IsSettled next cells → FallsInto cells earlier }
+        → AllZip (IsEarlier next 1) earlier parts → FallsInto cells earlier → IsFinest next cells earlier }
     ensures first { (next : List ℕ → ℕ) → next (replicate 9 0) ≡ 0 → (cells : ℤ → ℤ → ℕ) (n : ℕ)
         (parts earlier : List Picture) → IsFinest next (cells_after next cells (n + 1)) parts
-        → AllZip (IsEarlier next) earlier parts → (FallsInto (cells_after next cells n) earlier → ⊥)
+        → AllZip (IsEarlier next 1) earlier parts → (FallsInto (cells_after next cells n) earlier → ⊥)
         → IsFirstSettled next cells (n + 1) }
 {}
