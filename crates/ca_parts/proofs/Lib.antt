@@ -13,3 +13,6 @@ pub mod EarlierDivisions
 pub mod RowOrder
 pub mod TwoApart
 pub mod EarlierGenerations
+pub mod Turns
+pub mod ShownCourses
+pub mod SweptPlanes

@@ -2,3 +2,5 @@
 pub use Rattle.ca_parts.specs.Parts.{AreApart, AreApartBefore, NeverMeet, together, FallsInto, ComesBack, IsEarlier, LiesIn}
 pub use Rattle.ca_parts.specs.Divisions.{IsDivision, IsSettled, IsFiner, IsFinest, IsFirstSettled}
 pub use Rattle.ca_parts.specs.Links.{HasLive, IsLinked}
+pub use Rattle.ca_parts.specs.Phases.{Course, ArePhases, IsCourse}
+pub use Rattle.ca_parts.specs.Meetings.{IsMeeting, IsFirstMeeting}

@@ -1,3 +1,6 @@
 -- What only private contracts speak of.
 pub mod Apart
 pub mod Rows
+pub mod Courses
+pub mod Tracks
+pub mod Sweeps

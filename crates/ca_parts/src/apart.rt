@@ -33,9 +33,9 @@ pub fn apart_planes_are_further_than_two()
 
 // How far a plane is moved.
 #[derive(Clone, Copy)]
-struct Way {
-    dx: i128,
-    dy: i128,
+pub(crate) struct Way {
+    pub(crate) dx: i128,
+    pub(crate) dy: i128,
 }
 
 impl Way {
@@ -65,7 +65,7 @@ impl Way {
 }
 
 // Whether no live cell of the first plane, moved, is within 2 of a live cell of the other.
-fn are_further(one: &Plane, way: Way, other: &Plane) -> bool
+pub(crate) fn are_further(one: &Plane, way: Way, other: &Plane) -> bool
     requires { IsShortWay way }
     ensures { IsTrue result ↔ AreFurtherWhenMoved one.now way.dx way.dy other.now }
 {

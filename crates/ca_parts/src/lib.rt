@@ -4,6 +4,11 @@
 
 mod apart;
 pub mod laws;
+mod meeting;
+mod phases;
 mod rows;
+mod track;
 
 pub use apart::{apart_planes_are_further_than_two, are_apart, are_apart_when_moved};
+pub use meeting::{Meeting, first_meeting};
+pub use phases::Phases;

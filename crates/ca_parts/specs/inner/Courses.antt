@@ -1,0 +1,72 @@
+-- What the planes of one period show after any number of generations (our own).
+use Rattle.std.specs.Prelude.{◌≡◌, ◌≢◌, ℕ, ◌*◌, ◌/◌, ◌%◌, ◌<◌, ◌≤◌, ℤ, pos, ◌*ℤ◌, ◌-ℤ◌, List, [], length, slice_index_or, Option, Some, None}
+use Rattle.ca_plane.specs.declared.point.Bounds.{Bounds}
+use Rattle.ca_plane.specs.Prelude.{Picture, cell, shifted, IsInBox, IsInPlane}
+use Rattle.ca_parts.specs.declared.apart.Way.{Way}
+use Rattle.ca_parts.specs.declared.meeting.Meeting.{Meeting}
+use Rattle.ca_parts.specs.declared.meeting.Meeting.TheVariants.{Never, At, Later}
+use Rattle.ca_parts.specs.Parts.{AreApart}
+use Rattle.ca_parts.specs.Phases.{Course}
+
+-- the plane at k, and nothing where there is none
+abbrev pub plane_at : List Picture → ℕ → Picture
+plane_at planes k = slice_index_or planes k []
+
+-- the picture after n generations
+abbrev pub shown : Course → ℕ → Picture
+shown course n =
+    shifted (plane_at course.planes (n % length course.planes)) (pos (n / length course.planes) *ℤ course.dx) (pos (n / length course.planes) *ℤ course.dy)
+
+-- the two pictures are apart then
+abbrev pub AreApartAfter : Course → Course → ℕ → Type 0
+AreApartAfter one other n = AreApart (cell (shown one n)) (cell (shown other n))
+
+-- the same as of pictures that go on alone
+abbrev pub IsShownMeeting : Course → Course → ℕ → Meeting → Type 0
+IsShownMeeting one other most Never = (n : ℕ) → AreApartAfter one other n
+IsShownMeeting one other most (At n) = (AreApartAfter one other n → ⊥) × ((m : ℕ) → m < n → AreApartAfter one other m) × (n ≤ most)
+IsShownMeeting one other most Later = (n : ℕ) → n ≤ most → AreApartAfter one other n
+
+-- both periods end after n generations
+pub record EndPeriods (one other : Course) (n : ℕ) : Type 0 where
+  pub turns : ℕ
+  pub others : ℕ
+  pub first : n ≡ turns * length one.planes
+  pub second : n ≡ others * length other.planes
+
+-- both go the same way over the same time
+pub record GoOneWay (one other : Course) : Type 0 where
+  pub across : pos (length other.planes) *ℤ one.dx ≡ pos (length one.planes) *ℤ other.dx
+  pub down : pos (length other.planes) *ℤ one.dy ≡ pos (length one.planes) *ℤ other.dy
+
+-- both periods end after n generations, and both pictures have gone the same way by then
+pub record ClosesRound (one other : Course) (n : ℕ) : Type 0 where
+  pub turns : ℕ
+  pub others : ℕ
+  pub first : n ≡ turns * length one.planes
+  pub second : n ≡ others * length other.planes
+  pub across : pos turns *ℤ one.dx ≡ pos others *ℤ other.dx
+  pub down : pos turns *ℤ one.dy ≡ pos others *ℤ other.dy
+
+-- a box in the square of a plane
+pub record IsNearBox (box : Bounds) : Type 0 where
+  pub low : IsInPlane (record { y = box.y0; x = box.x0 })
+  pub high : IsInPlane (record { y = box.y1; x = box.x1 })
+
+-- the box holds all live cells of the planes before this number
+abbrev pub HoldsBefore : List Picture → ℕ → Bounds → Type 0
+HoldsBefore planes n box = (k : ℕ) → k < n → (x y : ℤ) → cell (plane_at planes k) x y ≢ 0 → IsInBox box x y
+
+-- the place is in the box; in none there is no place
+abbrev pub IsInSweep : Option Bounds → ℤ → ℤ → Type 0
+IsInSweep (Some box) x y = IsInBox box x y
+IsInSweep None x y = ⊥
+
+-- the same of a box that may be none
+abbrev pub SweepsBefore : List Picture → ℕ → Option Bounds → Type 0
+SweepsBefore planes n sweep = (k : ℕ) → k < n → (x y : ℤ) → cell (plane_at planes k) x y ≢ 0 → IsInSweep sweep x y
+
+-- the way between the two parts after n generations
+pub record IsWayBetween (one other : Course) (n : ℕ) (way : Way) : Type 0 where
+  pub across : way.dx ≡ (pos (n / length one.planes) *ℤ one.dx) -ℤ (pos (n / length other.planes) *ℤ other.dx)
+  pub down : way.dy ≡ (pos (n / length one.planes) *ℤ one.dy) -ℤ (pos (n / length other.planes) *ℤ other.dy)
