@@ -19,7 +19,7 @@ const BRICKS: usize = 15;
 // The bricks in the middle, which are stepped. The others see no live cell.
 const MIDDLE: [usize; 3] = [4, 7, 10];
 
-/// What a generation counts as work: as many bricks as have others on all sides, where the last brick of a row lies beside the
+/// What a generation would count as work: as many bricks as have others on all sides, where the last brick of a row lies beside the
 /// first one of the next row, as in ca_bricks.
 pub(crate) const WORK: u64 = 7;
 

@@ -1,12 +1,10 @@
 //! Codes that are found without the trees of an object's phases.
 
-ghost use Rattle.std.specs.Prelude.{◌≡◌, ◌≤◌, ◌+◌, ◌-◌, ◌*◌, ℕ, ℤ, List, replicate, IfOk, IfSome};
+ghost use Rattle.std.specs.Prelude.{◌≡◌, ◌≤◌, ℕ, ℤ, List, replicate, IfOk, IfSome};
 ghost use Rattle.ca_plane.specs.Prelude.{cells_after, longest_period, Picture};
 ghost use Rattle.ca_quad.specs.Prelude.{cell};
-ghost use Rattle.ca_run.specs.Prelude.{LeaperGrows};
-ghost use Rattle.ca_work.specs.Prelude.{EndsAtLimit};
 ghost use Rattle.ca_apgcode.specs.Prelude.{IsObjectCode};
-ghost use Rattle.ca_answers.specs.Prelude.{IsIdentity, IsCodeOf, HasGoodPeriod, steps_of};
+ghost use Rattle.ca_answers.specs.Prelude.{IsIdentity, IsCodeOf, HasGoodPeriod};
 ghost use Rattle.ca_pattern.specs.Prelude.{IsNearTree, ShowsTree};
 ghost use Rattle.ca_object_code.specs.Countings.{MayGoBy};
 ghost use Rattle.ca_object_code.specs.inner.Large.{IsBackBy};
@@ -15,9 +13,9 @@ use crate::large::is_too_large;
 use crate::small::least_of_small;
 use ca_answers::Identity;
 use ca_apgcode::{ObjectKind, object_code};
-use ca_plane::{Automaton, Counting};
+use ca_plane::{Automaton, Counting, Memory};
 use ca_quad::{SquareBoxes, Tree};
-use ca_run::{LeapFault, Leaper};
+use ca_run::Leaper;
 use ca_text::Kind;
 use std::alloc::Global;
 
@@ -25,21 +23,17 @@ use std::alloc::Global;
 /// the rule goes by a counting. None says nothing.
 pub fn quick_code<A: Automaton>(
     alloc: Global,
-    leaper: &mut Leaper<A>,
+    leaper: &Leaper<A>,
     tree: &Tree,
     identity: Identity,
     counting: Option<Counting>,
-) -> Result<Option<Vec<u8>>, LeapFault>
-    requires tree { IsNearTree leaper.old.nodes tree.now }
+) -> Result<Option<Vec<u8>>, Memory>
+    requires tree { IsNearTree leaper.now.nodes tree.now }
     requires period { HasGoodPeriod identity }
-    ensures code { (next : List ℕ → ℕ) (cells : Picture) (limit : ℕ) → next (replicate 9 0) ≡ 0
-        → MayGoBy next (cell leaper.old.nodes tree.now) counting → IsIdentity next cells limit identity
-        → ShowsTree leaper.old.nodes tree.now cells
+    ensures { (next : List ℕ → ℕ) (cells : Picture) (limit : ℕ) → next (replicate 9 0) ≡ 0
+        → MayGoBy next (cell leaper.now.nodes tree.now) counting → IsIdentity next cells limit identity
+        → ShowsTree leaper.now.nodes tree.now cells
         → IfOk result (λ found. IfSome found (λ code. IsCodeOf next cells identity code.items)) }
-    ensures goes_on { LeaperGrows A leaper.old leaper.new }
-    ensures same { leaper.new.nodes ≡ leaper.old.nodes }
-    ensures takes { leaper.new.spent.used ≤ leaper.old.spent.used + 7 * steps_of identity }
-    ensures work { EndsAtLimit leaper.new.spent result }
 {
     // Says what holds of every leaper.
     let _ = leaper.store();
@@ -64,23 +58,19 @@ pub fn quick_code<A: Automaton>(
 // The code of the first `period` phases.
 fn code_of_phases<A: Automaton>(
     alloc: Global,
-    leaper: &mut Leaper<A>,
+    leaper: &Leaper<A>,
     tree: &Tree,
     kind: ObjectKind,
     period: u64,
     counting: Option<Counting>,
-) -> Result<Option<Vec<u8>>, LeapFault>
-    requires tree { IsNearTree leaper.old.nodes tree.now }
+) -> Result<Option<Vec<u8>>, Memory>
+    requires tree { IsNearTree leaper.now.nodes tree.now }
     requires some { 1 ≤ period }
     requires most { period ≤ longest_period }
-    ensures code { (next : List ℕ → ℕ) (dx dy : ℤ) → next (replicate 9 0) ≡ 0
-        → MayGoBy next (cell leaper.old.nodes tree.now) counting
-        → IsBackBy next (cell leaper.old.nodes tree.now) period dx dy → IfOk result (λ found. IfSome found
-        (λ code. IsObjectCode kind period (cells_after next (cell leaper.old.nodes tree.now)) period code.items)) }
-    ensures goes_on { LeaperGrows A leaper.old leaper.new }
-    ensures same { leaper.new.nodes ≡ leaper.old.nodes }
-    ensures takes { leaper.new.spent.used ≤ leaper.old.spent.used + 7 * (period - 1) }
-    ensures work { EndsAtLimit leaper.new.spent result }
+    ensures { (next : List ℕ → ℕ) (dx dy : ℤ) → next (replicate 9 0) ≡ 0
+        → MayGoBy next (cell leaper.now.nodes tree.now) counting
+        → IsBackBy next (cell leaper.now.nodes tree.now) period dx dy → IfOk result (λ found. IfSome found
+        (λ code. IsObjectCode kind period (cells_after next (cell leaper.now.nodes tree.now)) period code.items)) }
 {
     let mut boxes = SquareBoxes::new(alloc);
     let Some(bounds) = leaper.store().bounds_with(alloc, *tree, &mut boxes)? else {

@@ -4,8 +4,6 @@ ghost use Rattle.std.specs.Prelude.{◌≡◌, ◌≤◌, ◌+◌, ◌-◌, ◌*
 ghost use Rattle.ca_plane.specs.Prelude.{cells_after};
 ghost use Rattle.ca_bricks.specs.Prelude.{GoesBy};
 ghost use Rattle.ca_quad.specs.Prelude.{AreSquareBoxes, cell};
-ghost use Rattle.ca_run.specs.Prelude.{LeaperGrows};
-ghost use Rattle.ca_work.specs.Prelude.{EndsAtLimit};
 ghost use Rattle.ca_apgcode.specs.Prelude.{IsBoxRound, IsLeastOfPhases};
 ghost use Rattle.ca_pattern.specs.Prelude.{IsNearTree};
 ghost use Rattle.ca_object_code.specs.Countings.{HasTwoStates};
@@ -16,30 +14,33 @@ use crate::frame_box::box_of_rows;
 use ca_apgcode::{Grid, least_with};
 use ca_plane::{Automaton, Counting, Memory};
 use ca_quad::{SquareBoxes, Tree};
-use ca_run::{LeapFault, Leaper};
+use ca_run::Leaper;
 use std::alloc::Global;
 
 /// The least text of the first `count` phases, where all of them fit into 40 by 40 cells and the rule goes by this
-/// counting. None says nothing.
+/// counting. None says nothing. They aren't results of the leaper, and aren't counted as work, but are stepped only where as
+/// many units of work are left as their bricks would be.
 pub(crate) fn least_of_small<A: Automaton>(
     alloc: Global,
-    leaper: &mut Leaper<A>,
+    leaper: &Leaper<A>,
     tree: &Tree,
     boxes: &mut SquareBoxes,
     count: u64,
     counting: Counting,
-) -> Result<Option<Vec<u8>>, LeapFault>
-    requires tree { IsNearTree leaper.old.nodes tree.now }
-    requires boxes { AreSquareBoxes leaper.old.nodes boxes.old }
+) -> Result<Option<Vec<u8>>, Memory>
+    requires tree { IsNearTree leaper.now.nodes tree.now }
+    requires boxes { AreSquareBoxes leaper.now.nodes boxes.old }
     requires some { 1 ≤ count }
     ensures least { (next : List ℕ → ℕ) → GoesBy next counting → next (replicate 9 0) ≡ 0
-        → HasTwoStates (cell leaper.old.nodes tree.now) → IfOk result (λ found. IfSome found
-        (λ least. IsLeastOfPhases (cells_after next (cell leaper.old.nodes tree.now)) count (Some least.items))) }
-    ensures goes_on { LeaperGrows A leaper.old leaper.new }
-    ensures same { leaper.new.nodes ≡ leaper.old.nodes }
-    ensures takes { leaper.new.spent.used ≤ leaper.old.spent.used + 7 * (count - 1) }
-    ensures work { EndsAtLimit leaper.new.spent result }
+        → HasTwoStates (cell leaper.now.nodes tree.now) → IfOk result (λ found. IfSome found
+        (λ least. IsLeastOfPhases (cells_after next (cell leaper.now.nodes tree.now)) count (Some least.items))) }
+    ensures left { IfOk result (λ found. IfSome found
+        (λ _. leaper.now.spent.used + 7 * (count - 1) ≤ leaper.now.spent.limit)) }
 {
+    let left = leaper.work_limit() - leaper.used();
+    if left / WORK < count - 1 {
+        return Ok(None);
+    }
     let Some(first) = box_round(alloc, leaper.store(), tree, boxes)? else {
         return Ok(None);
     };
@@ -49,7 +50,6 @@ pub(crate) fn least_of_small<A: Automaton>(
     let mut least = least_with(alloc, None, &first)?;
     let mut now = first;
     'phases: for n in 0..count - 1 {
-        leaper.spend(WORK)?;
         let Some(later) = next_box(alloc, &now, counting)? else {
             return Ok(None);
         };

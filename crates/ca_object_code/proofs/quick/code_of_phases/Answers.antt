@@ -17,8 +17,8 @@ is_too_large-requires-clause-wide g c =
 pub least_of_small-requires-clause-boxes : goal.least_of_small-requires-clause-boxes
 least_of_small-requires-clause-boxes g c = subst (λ s. AreSquareBoxes s c.bounds_with.new.boxes) c.store.ensures.nodes c.in_ok-bounds.ensures.boxes
 
-pub returns-then-is_too_large-clause-code : goal.returns-then-is_too_large-clause-code
-returns-then-is_too_large-clause-code g c = λ next dx dy quiet may back.
+pub returns-then-is_too_large : goal.returns-then-is_too_large
+returns-then-is_too_large g c = λ next dx dy quiet may back.
     let p = cell c.args.leaper.now.nodes c.args.tree.now in
     let least = subst (λ s. IsLeastWideBox (cell s c.args.tree.now) c.in-Some.bounds) c.store.ensures.nodes (rw c.in-Some.is at c.in_ok-bounds.ensures.bounds) in
     record {
@@ -27,8 +27,8 @@ returns-then-is_too_large-clause-code g c = λ next dx dy quiet may back.
       whole = c.in_ok-number.ensures ∙ ap (λ n. code_text c.args.kind n None) c.from.ensures;
     }
 
-pub returns-clause-code : goal.returns-clause-code
-returns-clause-code g c = λ next dx dy quiet may back.
+pub returns : goal.returns
+returns g c = λ next dx dy quiet may back.
     let by = subst (MayGoBy next (cell c.args.leaper.now.nodes c.args.tree.now)) c.in-Some-counting.is may in
     record {
       text = Some c.in-Some-2.least.items;

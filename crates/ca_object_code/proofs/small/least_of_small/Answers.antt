@@ -2,7 +2,6 @@ use Rattle.std.proofs.Common.{◌≡◌, ◌+◌, Some, refl, sym, subst, ◌∙
 use Rattle.ca_plane.specs.Prelude.{cells_after}
 use Rattle.ca_quad.specs.Prelude.{AreSquareBoxes, cell}
 use Rattle.ca_plane.proofs.After.{after_again}
-use Rattle.ca_run.proofs.LeaperGrowth.{goes_on_same, goes_on_again}
 use Rattle.ca_apgcode.specs.Prelude.{IsBoxRound, IsLeastOfPhases}
 use Rattle.ca_apgcode.proofs.PhaseTexts.{least_none}
 use Rattle.ca_apgcode.proofs.PlaneBoxes.{box_as}
@@ -21,9 +20,6 @@ phases-init g c =
     let nodes = c.args.leaper.now.nodes in
     let tree = c.args.tree.now in
     record {
-      goes_on = goes_on_same _ c.args.leaper.now c.store.ensures.sound;
-      same = refl;
-      takes = omega arith;
       found = λ next by quiet two.
           let p = cell nodes tree in
           let box = subst (λ s. IsBoxRound (cell s tree) c.in-Some.first) c.store.ensures.nodes (rw c.in-Some.is at c.in_ok-first.ensures.grid) in
@@ -33,11 +29,7 @@ phases-init g c =
 pub phases-preserved : goal.phases-preserved
 phases-preserved g c =
     let inv = c.phases.invariant in
-    let told = c.in_ok-spend.ensures in
     record {
-      goes_on = goes_on_again _ c.args.leaper.now c.phases.leaper c.spend.new.self inv.goes_on told.goes_on;
-      same = told.same ∙ inv.same;
-      takes = omega (arith, inv.takes, told.most);
       found = λ next by quiet two.
           let p = cell c.args.leaper.now.nodes c.args.tree.now in
           let n = c.phases.n in
