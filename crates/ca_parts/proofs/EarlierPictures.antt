@@ -1,5 +1,5 @@
--- What a picture that comes back was one generation earlier.
-use Rattle.std.proofs.Common.{◌≡◌, ◌≢◌, ℕ, zero, suc, ◌+◌, List, [], ◌∷◌, inl, inr, sym, ap, ap₂, ◌∙◌, arith}
+-- What a picture that comes back was some generations earlier.
+use Rattle.std.proofs.Common.{◌≡◌, ◌≢◌, ℕ, zero, suc, ◌+◌, List, [], ◌∷◌, inl, inr, refl, sym, ap, ap₂, ◌∙◌, arith}
 use Rattle.std.specs.Prelude.{ℤ, pos, neg_ℤ, ◌+ℤ◌, ◌-ℤ◌, ◌*ℤ◌, replicate}
 use Rattle.std.specs.List.{All}
 use Rattle.std.proofs.Math.Nat.{mul-zero}
@@ -95,3 +95,35 @@ some_earlier next quiet p (suc n, some, u, v, there) =
             ∙ ap (λ k. after next p k (x +ℤ u) (y +ℤ v)) sum ∙ IsBackBy-from_shifted next p (suc n) u v there x y;
       },
     )
+
+-- ---- several generations
+
+-- what is n + 1 generations earlier is one generation earlier than something that is n generations earlier
+module _ (next : List ℕ → ℕ) (quiet : next (replicate 9 0) ≡ 0) where
+  nearer : (n : ℕ) (e p : Picture) → IsEarlier next (suc n) e p → IsEarlier next n (picture_after next e 1) p
+  nearer n e p is =
+      let stands = IsAfter-picture_after next quiet e 1 in
+      let sum : 1 + n ≡ suc n = omega arith in
+      record {
+        back = ComesBack-later next e (picture_after next e 1) 1 stands is.back;
+        later = λ x y. after_stands next e (picture_after next e 1) 1 stands n x y ∙ ap (λ k. after next e k x y) sum ∙ is.later x y;
+      }
+
+  one_step : (e : Picture) → ComesBack next e → IsEarlier next 1 e (picture_after next e 1)
+  one_step e comes = record { back = comes; later = IsAfter-picture_after next quiet e 1 }
+
+  -- what comes back was some picture n generations earlier,
+  pub some_earlier_by : (p : Picture) (n : ℕ) → ComesBack next p → (e : Picture) × IsEarlier next n e p
+  some_earlier_by p zero comes = (p, record { back = comes; later = λ x y. refl })
+  some_earlier_by p (suc n) comes =
+      let (e, is) = some_earlier_by p n comes in
+      let (d, was) = some_earlier next quiet e is.back in
+      let sum : suc n ≡ 1 + n = omega arith in
+      (d, record { back = was.back; later = λ x y. ap (λ k. after next d k x y) sum ∙ sym (after_stands next d e 1 was.later n x y) ∙ is.later x y })
+
+  -- and no other one
+  pub one_earlier_by : (n : ℕ) (e d p q : Picture) → IsEarlier next n e p → IsEarlier next n d q → IsSame p q → IsSame e d
+  one_earlier_by zero e d p q one two same = λ x y. one.later x y ∙ same x y ∙ sym (two.later x y)
+  one_earlier_by (suc n) e d p q one two same =
+      one_earlier next quiet e d (picture_after next e 1) (picture_after next d 1) (one_step e one.back) (one_step d two.back)
+      (one_earlier_by n (picture_after next e 1) (picture_after next d 1) p q (nearer n e p one) (nearer n d q two) same)

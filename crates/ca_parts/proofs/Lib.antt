@@ -9,10 +9,11 @@ pub mod FinestDivisions
 pub mod PartsWithin
 pub mod LinkedParts
 pub mod EarlierPictures
+pub mod LongRun
 pub mod EarlierDivisions
 pub mod RowOrder
 pub mod TwoApart
-pub mod EarlierGenerations
 pub mod Turns
 pub mod ShownCourses
 pub mod SweptPlanes
+pub mod Ends

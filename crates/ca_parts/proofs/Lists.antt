@@ -87,16 +87,14 @@ AllZip-weaker R S passes [] (y ∷ ys) zip = absurd zip
 AllZip-weaker R S passes (x ∷ xs) [] zip = absurd zip
 AllZip-weaker R S passes (x ∷ xs) (y ∷ ys) zip = (passes x y zip.0, AllZip-weaker R S passes xs ys zip.1)
 
--- and of what a function gives of the first ones
-pub AllZip-of_map : {X Y : Type 0} (R S : X → Y → Type 0) (f : X → X) → ((x : X) (y : Y) → R x y → S (f x) y) → (xs : List X) (ys : List Y) → AllZip R xs ys → AllZip S (map f xs) ys
-AllZip-of_map R S f passes [] [] zip = tt
-AllZip-of_map R S f passes [] (y ∷ ys) zip = absurd zip
-AllZip-of_map R S f passes (x ∷ xs) [] zip = absurd zip
-AllZip-of_map R S f passes (x ∷ xs) (y ∷ ys) zip = (passes x y zip.0, AllZip-of_map R S f passes xs ys zip.1)
-
 -- what holds of each element of the first list, too
 pub AllZip-with : {X Y : Type 0} (R : X → Y → Type 0) (P : X → Type 0) (xs : List X) (ys : List Y) → AllZip R xs ys → All P xs → AllZip (λ x y. R x y × P x) xs ys
 AllZip-with R P [] [] zip all = tt
 AllZip-with R P [] (y ∷ ys) zip all = absurd zip
 AllZip-with R P (x ∷ xs) [] zip all = absurd zip
 AllZip-with R P (x ∷ xs) (y ∷ ys) zip all = ((zip.0, All-head P x xs all), AllZip-with R P xs ys zip.1 (All-tail P x xs all))
+
+-- and what holds of each element of the second
+pub AllZip-with_other : {X Y : Type 0} (R : X → Y → Type 0) (P : Y → Type 0) (xs : List X) (ys : List Y) → AllZip R xs ys → All P ys → AllZip (λ x y. R x y × P y) xs ys
+AllZip-with_other R P xs ys zip all =
+    AllZip-turned (λ y x. R x y × P y) ys xs (AllZip-with (λ y x. R x y) P ys xs (AllZip-turned R xs ys zip) all)

@@ -64,7 +64,7 @@ back_times next f m (suc k) u v back x y =
 -- ---- a common time
 
 -- a picture that is back at some time is back at each multiple of it
-IsBackAt-times : (next : List ℕ → ℕ) (m k l : ℕ) → l ≡ k * m → (p : Picture) → IsBackAt next m p → IsBackAt next l p
+pub IsBackAt-times : (next : List ℕ → ℕ) (m k l : ℕ) → l ≡ k * m → (p : Picture) → IsBackAt next m p → IsBackAt next l p
 IsBackAt-times next m k l is p (u, v, back) =
     (pos k *ℤ u, pos k *ℤ v, subst (λ j. IsBackBy next (cell p) j (pos k *ℤ u) (pos k *ℤ v)) (sym is) (back_times next (cell p) m k u v back))
 

@@ -39,6 +39,11 @@ pub record IsEarlier (next : List ℕ → ℕ) (n : ℕ) (e p : Picture) : Type 
   pub back : ComesBack next e
   pub later : IsAfter next e n p
 
+-- e comes back, and from some generation on p is what e is then: what p is in the long run, as of now
+pub record IsEnd (next : List ℕ → ℕ) (p e : Picture) : Type 0 where
+  pub back : ComesBack next e
+  pub alike : (n : ℕ) × ((x y : ℤ) → after next p n x y ≡ after next e n x y)
+
 -- where p is live, q has the same state
 abbrev pub LiesIn : Picture → Picture → Type 0
 LiesIn p q = (x y : ℤ) → cell p x y ≢ 0 → cell p x y ≡ cell q x y

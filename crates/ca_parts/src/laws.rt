@@ -3,9 +3,10 @@
 
 ghost use Rattle.std.specs.Prelude.{◌≡◌, ◌≢◌, ℕ, ◌+◌, ℤ, List, replicate};
 ghost use Rattle.std.specs.List.{All, AllPairs, AllZip, Any, Contains, sum_by};
-ghost use Rattle.ca_plane.specs.Prelude.{Picture, cell, after, IsAfter, IsSame, cells_after};
+ghost use Rattle.ca_plane.specs.Prelude.{Picture, cell, after, IsAfter, IsSame, IsLive, cells_after};
 ghost use Rattle.ca_parts.specs.Prelude.{AreApart, AreApartBefore, NeverMeet, together, FallsInto, ComesBack};
-ghost use Rattle.ca_parts.specs.Prelude.{IsEarlier, LiesIn, IsLinked, IsDivision, IsSettled, IsFiner, IsFinest, IsFirstSettled};
+ghost use Rattle.ca_parts.specs.Prelude.{IsEarlier, IsEnd, LiesIn, IsLinked, IsDivision, IsSettled, IsFiner, IsFinest};
+ghost use Rattle.ca_parts.specs.Prelude.{IsFirstSettled};
 
 /// As long as parts are apart, each goes on as if it were alone: after n generations the plane of all of them has
 /// the cells that each one has then, together. So it is at all times of parts that never meet.
@@ -92,4 +93,35 @@ pub fn earlier_parts_tell_if_settled()
         (parts earlier : List Picture) → IsFinest next (cells_after next cells (n + 1)) parts
         → AllZip (IsEarlier next 1) earlier parts → (FallsInto (cells_after next cells n) earlier → ⊥)
         → IsFirstSettled next cells (n + 1) }
+{}
+
+/// What a picture is in the long run, as of now: where it comes back from some generation on, there is such an end,
+/// and no picture has two.
+pub fn one_end()
+    ensures some { (next : List ℕ → ℕ) → next (replicate 9 0) ≡ 0 → (p q : Picture) (n : ℕ) → IsAfter next p n q
+        → ComesBack next q → (e : Picture) × IsEnd next p e }
+    ensures no_other { (next : List ℕ → ℕ) → next (replicate 9 0) ≡ 0 → (p one two : Picture) → IsEnd next p one
+        → IsEnd next p two → IsSame one two }
+{}
+
+/// Where parts never meet, an end lies in each division's part in which its picture does. So of parts that lie each
+/// in a part of every division, if the plane is settled, the ends never meet and are the plane together. And live
+/// ones of them that do so are its finest division.
+pub fn ends_tell_if_settled()
+    ensures within { (next : List ℕ → ℕ) → next (replicate 9 0) ≡ 0 → (cells : ℤ → ℤ → ℕ)
+        (parts ends : List Picture) → AllPairs (NeverMeet next) parts
+        → ((x y : ℤ) → cells x y ≡ together parts x y) → AllZip (IsEnd next) parts ends
+        → (others : List Picture) → IsDivision next cells others → IsFiner parts others
+        → AllZip (λ p e. Any (λ d. LiesIn p d × LiesIn e d) others) parts ends }
+    ensures settled { (next : List ℕ → ℕ) → next (replicate 9 0) ≡ 0 → (cells : ℤ → ℤ → ℕ)
+        (parts ends : List Picture) → AllPairs (NeverMeet next) parts
+        → ((x y : ℤ) → cells x y ≡ together parts x y) → AllZip (IsEnd next) parts ends
+        → ((others : List Picture) → IsDivision next cells others → IsFiner parts others)
+        → IsSettled next cells → AllPairs (NeverMeet next) ends × ((x y : ℤ) → cells x y ≡ together ends x y) }
+    ensures finest { (next : List ℕ → ℕ) → next (replicate 9 0) ≡ 0 → (cells : ℤ → ℤ → ℕ)
+        (parts ends : List Picture) → AllPairs (NeverMeet next) parts
+        → ((x y : ℤ) → cells x y ≡ together parts x y) → AllZip (IsEnd next) parts ends
+        → ((others : List Picture) → IsDivision next cells others → IsFiner parts others)
+        → (lives : List Picture) → All IsLive lives → All (Contains ends) lives → AllPairs (NeverMeet next) lives
+        → ((x y : ℤ) → cells x y ≡ together lives x y) → IsFinest next cells lives }
 {}

@@ -1,5 +1,4 @@
-use Rattle.ca_parts.proofs.EarlierDivisions.{earlier_is_finest}
-use Rattle.ca_parts.proofs.EarlierGenerations.{earlier_finest, earlier_settled, first_settled}
+use Rattle.ca_parts.proofs.EarlierDivisions.{earlier_settled, earlier_finest, earlier_step, first_settled}
 use Rattle.ca_parts.proofs.laws.earlier_parts_tell_if_settled.Goals as goal
 
 pub returns-clause-settled : goal.returns-clause-settled
@@ -9,7 +8,7 @@ pub returns-clause-finest : goal.returns-clause-finest
 returns-clause-finest c = earlier_finest
 
 pub returns-clause-step : goal.returns-clause-step
-returns-clause-step c = earlier_is_finest
+returns-clause-step c = earlier_step
 
 pub returns-clause-first : goal.returns-clause-first
 returns-clause-first c = first_settled

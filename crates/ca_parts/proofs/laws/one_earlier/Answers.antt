@@ -1,4 +1,4 @@
-use Rattle.ca_parts.proofs.EarlierGenerations.{one_earlier_by, some_earlier_by}
+use Rattle.ca_parts.proofs.EarlierPictures.{one_earlier_by, some_earlier_by}
 use Rattle.ca_parts.proofs.laws.one_earlier.Goals as goal
 
 pub returns-clause-some : goal.returns-clause-some
