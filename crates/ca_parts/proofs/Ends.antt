@@ -4,7 +4,7 @@ use Rattle.std.specs.Prelude.{ℤ, replicate}
 use Rattle.std.specs.List.{All, AllPairs, AllZip, Any, Contains}
 use Rattle.std.proofs.lemmas.List.Elements.{All-contains, All-contains_itself}
 use Rattle.ca_plane.specs.Prelude.{Picture, after, IsAfter, IsLive, IsSame}
-use Rattle.ca_parts.specs.Prelude.{NeverMeet, together, ComesBack, IsEnd, LiesIn, IsDivision, IsFiner, IsSettled, IsFinest}
+use Rattle.ca_parts.specs.Prelude.{NeverMeet, together, ComesBack, IsEnd, LiesIn, IsDivision, IsFiner, IsFinerThanAll, IsSettled, IsFinest}
 use Rattle.ca_parts.proofs.Lists.{All-zip, AllZip-turned, AllZip-weaker, AllZip-with_other}
 use Rattle.ca_parts.proofs.Sums.{apart_before}
 use Rattle.ca_parts.proofs.LaterPictures.{picture_after, IsAfter-picture_after}
@@ -77,13 +77,13 @@ module _ (next : List ℕ → ℕ) (quiet : next (replicate 9 0) ≡ 0) (cells :
       ends parts (AllZip-with_other (λ e p. GoesOnAs next 0 look.l e p × IsBackAt next (0 + look.l) e) (Contains parts) ends parts look.zip (All-contains_itself parts)))
 
   -- the ends of a settled plane's parts never meet, and are the plane together
-  pub ends_of_settled : ((others : List Picture) → IsDivision next cells others → IsFiner parts others) → IsSettled next cells → AllPairs (NeverMeet next) ends × ((x y : ℤ) → cells x y ≡ together ends x y)
+  pub ends_of_settled : IsFinerThanAll next cells parts → IsSettled next cells → AllPairs (NeverMeet next) ends × ((x y : ℤ) → cells x y ≡ together ends x y)
   ends_of_settled fine (ds, division) =
       let look = look_at ds division (fine ds division) in
       (never_meet next cells 0 parts ends ds look, whole_of next cells 0 parts ends ds look)
 
   -- and where live ones of them never meet, and are the plane together, they are its finest division
-  pub ends_are_finest : ((others : List Picture) → IsDivision next cells others → IsFiner parts others) → (lives : List Picture) → All IsLive lives → All (Contains ends) lives
+  pub ends_are_finest : IsFinerThanAll next cells parts → (lives : List Picture) → All IsLive lives → All (Contains ends) lives
       → AllPairs (NeverMeet next) lives → ((x y : ℤ) → cells x y ≡ together lives x y) → IsFinest next cells lives
   ends_are_finest fine lives live among apart sum =
       let back : All (ComesBack next) ends = All-zip (IsEnd next) (Contains parts) (ComesBack next) (λ p e is _. is.back) parts ends zip (All-contains_itself parts) in

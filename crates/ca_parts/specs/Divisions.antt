@@ -19,10 +19,14 @@ IsSettled next cells = (parts : List Picture) × IsDivision next cells parts
 abbrev pub IsFiner : List Picture → List Picture → Type 0
 IsFiner fine coarse = All (λ p. Any (LiesIn p) coarse) fine
 
+-- each of these parts lies in a part of every division of the cells
+abbrev pub IsFinerThanAll : (List ℕ → ℕ) → (ℤ → ℤ → ℕ) → List Picture → Type 0
+IsFinerThanAll next cells parts = (others : List Picture) → IsDivision next cells others → IsFiner parts others
+
 -- a division that is finer than every division of these cells
 pub record IsFinest (next : List ℕ → ℕ) (cells : ℤ → ℤ → ℕ) (parts : List Picture) : Type 0 where
   pub division : IsDivision next cells parts
-  pub finest : (others : List Picture) → IsDivision next cells others → IsFiner parts others
+  pub finest : IsFinerThanAll next cells parts
 
 -- after n generations the plane is settled, and after fewer it isn't
 pub record IsFirstSettled (next : List ℕ → ℕ) (cells : ℤ → ℤ → ℕ) (n : ℕ) : Type 0 where

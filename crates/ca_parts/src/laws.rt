@@ -5,8 +5,8 @@ ghost use Rattle.std.specs.Prelude.{◌≡◌, ◌≢◌, ℕ, ◌+◌, ℤ, Lis
 ghost use Rattle.std.specs.List.{All, AllPairs, AllZip, Any, Contains, sum_by};
 ghost use Rattle.ca_plane.specs.Prelude.{Picture, cell, after, IsAfter, IsSame, IsLive, cells_after};
 ghost use Rattle.ca_parts.specs.Prelude.{AreApart, AreApartBefore, NeverMeet, together, FallsInto, ComesBack};
-ghost use Rattle.ca_parts.specs.Prelude.{IsEarlier, IsEnd, LiesIn, IsLinked, IsDivision, IsSettled, IsFiner, IsFinest};
-ghost use Rattle.ca_parts.specs.Prelude.{IsFirstSettled};
+ghost use Rattle.ca_parts.specs.Prelude.{IsEarlier, IsEnd, LiesIn, IsLinked, IsDivision, IsSettled, IsFiner};
+ghost use Rattle.ca_parts.specs.Prelude.{IsFinerThanAll, IsFinest, IsFirstSettled};
 
 /// As long as parts are apart, each goes on as if it were alone: after n generations the plane of all of them has
 /// the cells that each one has then, together. So it is at all times of parts that never meet.
@@ -70,14 +70,14 @@ pub fn coarse_parts_are_made_of_fine_ones()
     ensures { (next : List ℕ → ℕ) → next (replicate 9 0) ≡ 0 → (cells : ℤ → ℤ → ℕ)
         (fine coarse : List Picture) → IsDivision next cells fine → IsDivision next cells coarse
         → IsFiner fine coarse
-        → All (λ q. (x y : ℤ) → cell q x y ≢ 0
-        → Any (λ p. LiesIn p q × (cell p x y ≡ cell q x y)) fine) coarse }
+        → All (λ q. (x y : ℤ) → cell q x y ≢ 0 → Any (λ p. LiesIn p q × (cell p x y ≡ cell q x y)) fine)
+        coarse }
 {}
 
-/// Where the finest division of the plane after n generations is known, and what each of its parts was n generations
-/// earlier, the plane is settled only if its finest division is into these earlier pictures. And that it is if they
-/// are the plane together, and apart before n generations. Where the plane one generation earlier doesn't fall into
-/// them, the plane with that finest division is the first one that is settled.
+/// Where the finest division of the plane after n generations is known, and what each of its parts was n
+/// generations earlier, the plane is settled only if its finest division is into these earlier pictures. And that
+/// it is if they are the plane together, and apart before n generations. Where the plane one generation earlier
+/// doesn't fall into them, the plane with that finest division is the first one that is settled.
 pub fn earlier_parts_tell_if_settled()
     ensures settled { (next : List ℕ → ℕ) → next (replicate 9 0) ≡ 0 → (n : ℕ) (cells : ℤ → ℤ → ℕ)
         (parts earlier : List Picture) → IsFinest next (cells_after next cells n) parts
@@ -95,17 +95,17 @@ pub fn earlier_parts_tell_if_settled()
         → IsFirstSettled next cells (n + 1) }
 {}
 
-/// What a picture is in the long run, as of now: where it comes back from some generation on, there is such an end,
-/// and no picture has two.
+/// What a picture is in the long run, as of now: where it comes back from some generation on, there is such an
+/// end, and no picture has two.
 pub fn one_end()
-    ensures some { (next : List ℕ → ℕ) → next (replicate 9 0) ≡ 0 → (p q : Picture) (n : ℕ) → IsAfter next p n q
-        → ComesBack next q → (e : Picture) × IsEnd next p e }
-    ensures no_other { (next : List ℕ → ℕ) → next (replicate 9 0) ≡ 0 → (p one two : Picture) → IsEnd next p one
-        → IsEnd next p two → IsSame one two }
+    ensures some { (next : List ℕ → ℕ) → next (replicate 9 0) ≡ 0 → (p q : Picture) (n : ℕ)
+        → IsAfter next p n q → ComesBack next q → (e : Picture) × IsEnd next p e }
+    ensures no_other { (next : List ℕ → ℕ) → next (replicate 9 0) ≡ 0 → (p one two : Picture)
+        → IsEnd next p one → IsEnd next p two → IsSame one two }
 {}
 
-/// Where parts never meet, an end lies in each division's part in which its picture does. So of parts that lie each
-/// in a part of every division, if the plane is settled, the ends never meet and are the plane together. And live
+/// Where parts never meet, an end lies in each division's part in which its picture does. So of parts that are
+/// finer than every division, if the plane is settled, the ends never meet and are the plane together. And live
 /// ones of them that do so are its finest division.
 pub fn ends_tell_if_settled()
     ensures within { (next : List ℕ → ℕ) → next (replicate 9 0) ≡ 0 → (cells : ℤ → ℤ → ℕ)
@@ -116,12 +116,12 @@ pub fn ends_tell_if_settled()
     ensures settled { (next : List ℕ → ℕ) → next (replicate 9 0) ≡ 0 → (cells : ℤ → ℤ → ℕ)
         (parts ends : List Picture) → AllPairs (NeverMeet next) parts
         → ((x y : ℤ) → cells x y ≡ together parts x y) → AllZip (IsEnd next) parts ends
-        → ((others : List Picture) → IsDivision next cells others → IsFiner parts others)
-        → IsSettled next cells → AllPairs (NeverMeet next) ends × ((x y : ℤ) → cells x y ≡ together ends x y) }
+        → IsFinerThanAll next cells parts → IsSettled next cells
+        → AllPairs (NeverMeet next) ends × ((x y : ℤ) → cells x y ≡ together ends x y) }
     ensures finest { (next : List ℕ → ℕ) → next (replicate 9 0) ≡ 0 → (cells : ℤ → ℤ → ℕ)
         (parts ends : List Picture) → AllPairs (NeverMeet next) parts
         → ((x y : ℤ) → cells x y ≡ together parts x y) → AllZip (IsEnd next) parts ends
-        → ((others : List Picture) → IsDivision next cells others → IsFiner parts others)
-        → (lives : List Picture) → All IsLive lives → All (Contains ends) lives → AllPairs (NeverMeet next) lives
+        → IsFinerThanAll next cells parts → (lives : List Picture) → All IsLive lives
+        → All (Contains ends) lives → AllPairs (NeverMeet next) lives
         → ((x y : ℤ) → cells x y ≡ together lives x y) → IsFinest next cells lives }
 {}
