@@ -17,3 +17,7 @@ pub mod Turns
 pub mod ShownCourses
 pub mod SweptPlanes
 pub mod Ends
+pub mod Taken
+pub mod Chains
+pub mod Stretches
+pub mod Partitions

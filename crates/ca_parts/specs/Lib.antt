@@ -1,7 +1,7 @@
 pub mod Prelude
 pub mod Parts
-pub mod Links
 pub mod Divisions
 pub mod Phases
 pub mod Meetings
+pub mod Components
 pub mod inner

@@ -4,3 +4,4 @@ pub mod Rows
 pub mod Courses
 pub mod Tracks
 pub mod Sweeps
+pub mod Taking

@@ -1,9 +1,6 @@
-use Rattle.std.proofs.Common.{subst, sym}
-use Rattle.std.specs.Prelude.{ℤ}
 use Rattle.std.specs.Int.{w64}
 use Rattle.std.proofs.lemmas.Int.{to_z-of_z}
 use Rattle.ca_plane.specs.Prelude.{cell, shifted}
-use Rattle.ca_parts.specs.inner.Apart.{AreFurtherWhenMoved}
 use Rattle.ca_parts.proofs.TwoApart.{further-moved, moved-further, apart_from_further, further_from_apart}
 use Rattle.ca_parts.proofs.apart.are_apart_when_moved.Goals as goal
 

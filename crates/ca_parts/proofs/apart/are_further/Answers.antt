@@ -1,5 +1,3 @@
-use Rattle.std.specs.Prelude.{IsTrue, ◌↔◌}
-use Rattle.ca_parts.specs.inner.Apart.{AreFurtherWhenMoved}
 use Rattle.ca_parts.proofs.TwoApart.{further-back, back-further}
 use Rattle.ca_parts.proofs.apart.are_further.Goals as goal
 
