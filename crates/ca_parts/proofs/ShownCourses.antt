@@ -1,10 +1,10 @@
 -- What a part that comes back shows after any number of generations, by its planes over one period.
-use Rattle.std.proofs.Common.{◌≡◌, ◌≢◌, ℕ, zero, suc, ◌+◌, ◌-◌, ◌*◌, ◌/◌, ◌%◌, ◌<◌, ◌≤◌, List, [], length, sym, refl, ap, ap₂, ◌∙◌, subst, inl, inr, ◌⊎◌, arith}
-use Rattle.std.specs.Prelude.{ℤ, pos, neg_ℤ, ◌+ℤ◌, ◌-ℤ◌, ◌*ℤ◌, ◌≤ℤ◌, replicate}
+use Rattle.std.proofs.Common.{◌≡◌, ◌≢◌, ℕ, zero, suc, ◌+◌, ◌*◌, ◌/◌, ◌%◌, ◌<◌, ◌≤◌, List, length, sym, ap, ap₂, ◌∙◌, subst, inl, inr, ◌⊎◌, arith}
+use Rattle.std.specs.Prelude.{ℤ, pos, neg_ℤ, ◌+ℤ◌, ◌-ℤ◌, ◌*ℤ◌, ◌≤ℤ◌}
 use Rattle.std.proofs.Math.Nat.{mul-zero}
 use Rattle.std.proofs.lemmas.Nat.{mod_below, div-add-mod', div-mul-add, mod-mul-add}
 use Rattle.std.proofs.lemmas.Int.{ints}
-use Rattle.ca_plane.specs.Prelude.{Picture, cell, shifted, around, after, IsAfter, cells_after, IsWithin}
+use Rattle.ca_plane.specs.Prelude.{Picture, cell, shifted, after, IsAfter}
 use Rattle.ca_plane.proofs.Shifts.{cell-shifted}
 use Rattle.ca_plane.proofs.After.{around-nine_states}
 use Rattle.ca_parts.specs.declared.{track.Track.Track, meeting.Meeting.Meeting}
@@ -47,11 +47,13 @@ shown_from_apart next p q one other phases phases_too n apart =
 
 pub IsMeeting-from_shown : (next : List ℕ → ℕ) (p q : Picture) (one other : Course) (most : ℕ) (meeting : Meeting) → ArePhases next p one → ArePhases next q other → IsShownMeeting one other most meeting → IsMeeting next p q most meeting
 IsMeeting-from_shown next p q one other most Never phases phases_too shown = λ n. apart_from_shown next p q one other phases phases_too n (shown n)
-IsMeeting-from_shown next p q one other most (At n) phases phases_too shown =
-    (record {
-      meet = λ apart. shown.0 (shown_from_apart next p q one other phases phases_too n apart);
-      before = λ m less. apart_from_shown next p q one other phases phases_too m (shown.1 m less);
-    }, shown.2)
+IsMeeting-from_shown next p q one other most (At n) phases phases_too shown = (
+  record {
+    meet = λ apart. shown.0 (shown_from_apart next p q one other phases phases_too n apart);
+    before = λ m less. apart_from_shown next p q one other phases phases_too m (shown.1 m less);
+  },
+  shown.2,
+)
 IsMeeting-from_shown next p q one other most Later phases phases_too shown = λ n within. apart_from_shown next p q one other phases phases_too n (shown n within)
 
 -- ---- on an axis
@@ -125,9 +127,9 @@ apart_from_between p q ax ay bx by dx dy across down far =
 pub between_from_apart : (p q : Picture) (ax ay bx by dx dy : ℤ) → dx ≡ ax -ℤ bx → dy ≡ ay -ℤ by → AreApart (cell (shifted p ax ay)) (cell (shifted q bx by)) → AreFurtherWhenMoved p dx dy q
 between_from_apart p q ax ay bx by dx dy across down apart =
     let back : (x y : ℤ) → cell q x y ≡ cell (shifted q bx by) (bx +ℤ x) (by +ℤ y) = λ x y.
-      let ex : x ≡ (bx +ℤ x) -ℤ bx = omega (arith, ints) in
-      let ey : y ≡ (by +ℤ y) -ℤ by = omega (arith, ints) in
-      ap₂ (cell q) ex ey ∙ sym (cell-shifted q bx by (bx +ℤ x) (by +ℤ y)) in
+    let ex : x ≡ (bx +ℤ x) -ℤ bx = omega (arith, ints) in
+    let ey : y ≡ (by +ℤ y) -ℤ by = omega (arith, ints) in
+    ap₂ (cell q) ex ey ∙ sym (cell-shifted q bx by (bx +ℤ x) (by +ℤ y)) in
     moved-further p dx dy q (further_from_apart (cell (shifted p dx dy)) (cell q)
     (AreApart-moved (cell (shifted p ax ay)) (cell (shifted q bx by)) (cell (shifted p dx dy)) (cell q) bx by
     (λ x y. shifted-seen p dx dy ax ay bx by x y (omega (arith, ints, across)) (omega (arith, ints, down))) back apart))

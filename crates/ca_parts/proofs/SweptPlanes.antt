@@ -1,5 +1,5 @@
 -- Boxes round all that the planes of a part show.
-use Rattle.std.proofs.Common.{◌≡◌, ◌≢◌, ℕ, ◌+◌, ◌<◌, ◌≤◌, List, [], length, get_or, Option, Some, None, sym, subst, refl, ◌∙◌, below_more}
+use Rattle.std.proofs.Common.{◌≡◌, ◌≢◌, ℕ, ◌+◌, ◌<◌, List, [], length, get_or, Option, Some, None, sym, subst, refl, ◌∙◌, below_more}
 use Rattle.std.specs.Prelude.{ℤ, IfSome, IsNone}
 use Rattle.std.proofs.lemmas.List.{get_or_default}
 use Rattle.std.proofs.lemmas.List.Elements.{All-contains}
@@ -12,7 +12,7 @@ use Rattle.ca_parts.specs.inner.Courses.{plane_at, IsNearBox, IsInSweep, SweepsB
 pub IsNearBox-least : (p : Picture) (box : Bounds) → IsSparse p → IsLeastBox p box → IsNearBox box
 IsNearBox-least p box sparse least =
     let at : (x y : ℤ) → cell p x y ≢ 0 → IsInPlane (record { y = y; x = x }) = λ x y live.
-      All-contains (λ (e : Point × ℕ). IsInPlane e.0) p (record { y = y; x = x }, cell p x y) sparse.places (Contains-cell p x y live) in
+    All-contains (λ (e : Point × ℕ). IsInPlane e.0) p (record { y = y; x = x }, cell p x y) sparse.places (Contains-cell p x y live) in
     let left = at box.x0 least.left.0 least.left.1 in
     let right = at box.x1 least.right.0 least.right.1 in
     let top = at least.top.0 box.y0 least.top.1 in

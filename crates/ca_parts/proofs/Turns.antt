@@ -1,5 +1,5 @@
 -- Turns of two parts, each of which goes a step further after each of its periods.
-use Rattle.std.proofs.Common.{◌≡◌, ℕ, suc, ◌+◌, ◌-◌, ◌*◌, ◌/◌, ◌%◌, ◌^◌, ◌<◌, ◌≤◌, Bool, true, false, sym, refl, ap, ap₂, ◌∙◌, arith, to_z, of_z}
+use Rattle.std.proofs.Common.{◌≡◌, ℕ, suc, ◌+◌, ◌-◌, ◌*◌, ◌/◌, ◌%◌, ◌^◌, ◌<◌, ◌≤◌, Bool, true, false, sym, ap, ◌∙◌, arith, to_z, of_z}
 use Rattle.std.specs.Prelude.{ℤ, pos, negsuc, neg_ℤ, ◌+ℤ◌, ◌-ℤ◌, ◌*ℤ◌, ◌≤ℤ◌, ◌<ℤ◌, ◌↔◌, IsTrue}
 use Rattle.std.specs.Int.Signed.{le_z}
 use Rattle.std.specs.Int.{w128}
@@ -8,7 +8,7 @@ use Rattle.std.proofs.lemmas.Nat.{le-div, mod_below, div-add-mod'}
 use Rattle.std.proofs.lemmas.Int.{ints, by_lt_z}
 use Rattle.ca_parts.specs.declared.track.Track.{Track}
 use Rattle.ca_parts.specs.inner.Apart.{IsShort}
-use Rattle.ca_parts.specs.inner.Tracks.{IsTrack, IsCoordinate, IsLongWay, IsWide, IsLengthOf, way, LiesBefore, GoesNoFaster, GoAlike}
+use Rattle.ca_parts.specs.inner.Tracks.{IsTrack, IsCoordinate, IsLongWay, IsWide, IsLengthOf, way, LiesBefore, GoesNoFaster}
 
 -- ---- a number of steps
 
@@ -83,7 +83,7 @@ LiesBefore-later one other n k s t bounded bounded_too slow long long_too wide l
     let (a, turns) = turns_between one.period n k bounded.some late in
     let (b, others) = turns_between other.period n k bounded_too.some late in
     let gain = gains_little one.step other.step s t one.period other.period (n / one.period) a (n / other.period) b (k - n) bounded.some bounded_too.some slow
-        turns.most turns.least others.most others.least long long_too in
+    turns.most turns.least others.most others.least long long_too in
     let told = rw (turns.more, others.more) at gain in
     stays_wide one.last other.first (way one n) (way one k) (way other n) (way other k) s t told wide
 

@@ -1,14 +1,14 @@
 -- When two pictures meet that go on alone (our own).
-use Rattle.std.specs.Prelude.{ℕ, ◌<◌, ◌≤◌, List}
+use Rattle.std.specs.Prelude.{ℕ, ◌≤◌, List}
 use Rattle.ca_plane.specs.Prelude.{Picture, after}
 use Rattle.ca_parts.specs.declared.meeting.Meeting.{Meeting}
 use Rattle.ca_parts.specs.declared.meeting.Meeting.TheVariants.{Never, At, Later}
-use Rattle.ca_parts.specs.Parts.{AreApart, NeverMeet}
+use Rattle.ca_parts.specs.Parts.{AreApart, AreApartBefore, NeverMeet}
 
--- after n generations the two aren't apart, and after each fewer number they are
+-- after n generations the two aren't apart, and after each smaller number they are
 pub record IsFirstMeeting (next : List ℕ → ℕ) (p q : Picture) (n : ℕ) : Type 0 where
   pub meet : AreApart (after next p n) (after next q n) → ⊥
-  pub before : (m : ℕ) → m < n → AreApart (after next p m) (after next q m)
+  pub before : AreApartBefore next n p q
 
 -- they never meet; they meet first after that many generations, which are no more than `most`; or they are apart after each
 -- number of generations up to `most`

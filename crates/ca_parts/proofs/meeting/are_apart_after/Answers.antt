@@ -1,5 +1,5 @@
 use Rattle.std.proofs.Common.{ℕ, ◌/◌, ◌%◌, length}
-use Rattle.std.specs.Prelude.{ℤ, pos, ◌*ℤ◌}
+use Rattle.std.specs.Prelude.{pos, ◌*ℤ◌}
 use Rattle.ca_plane.specs.Prelude.{Picture}
 use Rattle.ca_parts.specs.inner.Courses.{plane_at}
 use Rattle.ca_parts.proofs.ShownCourses.{apart_from_between, between_from_apart}
@@ -15,7 +15,7 @@ returns-in-Some c =
     let others_plane : Picture = plane_at other.planes (c.args.n % length other.planes) in
     let told = rw (c.plane_after.ensures, c.plane_after-in-Some.ensures) at c.are_further.ensures in (
       λ yes. apart_from_between plane others_plane (pos turns *ℤ one.dx) (pos turns *ℤ one.dy) (pos others *ℤ other.dx) (pos others *ℤ other.dy)
-        c.in-Some.way.dx c.in-Some.way.dy c.in-Some.ensures.some.across c.in-Some.ensures.some.down (told.0 yes),
+          c.in-Some.way.dx c.in-Some.way.dy c.in-Some.ensures.some.across c.in-Some.ensures.some.down (told.0 yes),
       λ apart. told.1 (between_from_apart plane others_plane (pos turns *ℤ one.dx) (pos turns *ℤ one.dy) (pos others *ℤ other.dx) (pos others *ℤ other.dy)
-        c.in-Some.way.dx c.in-Some.way.dy c.in-Some.ensures.some.across c.in-Some.ensures.some.down apart),
+          c.in-Some.way.dx c.in-Some.way.dy c.in-Some.ensures.some.across c.in-Some.ensures.some.down apart),
     )

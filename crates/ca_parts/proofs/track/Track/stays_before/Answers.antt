@@ -1,5 +1,5 @@
 use Rattle.std.proofs.Common.{◌≡◌, refl, subst, arith, to_z, of_z}
-use Rattle.std.specs.Prelude.{ℤ, ◌+ℤ◌, pos}
+use Rattle.std.specs.Prelude.{ℤ}
 use Rattle.std.specs.Int.{w64}
 use Rattle.std.proofs.lemmas.Int.{ints}
 use Rattle.ca_parts.specs.inner.Tracks.{IsLengthOf, LiesBefore}
