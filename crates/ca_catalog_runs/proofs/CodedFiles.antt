@@ -1,5 +1,5 @@
 -- What is found of the plane of a file's pattern with its code, and what finding it may need.
-use Rattle.std.proofs.Common.{◌≡◌, ℕ, suc, ◌+◌, ◌*◌, ◌^◌, ◌≤◌, List, Option, Some, None, Vec, Global, Bool, true, false, inl, inr, refl, sym, subst, ◌∙◌, arith, zero, ap}
+use Rattle.std.proofs.Common.{◌≡◌, ℕ, suc, ◌+◌, ◌*◌, ◌^◌, ◌≤◌, List, Option, Some, None, Vec, Global, Bool, true, false, inl, inr, refl, sym, subst, ◌∙◌, arith, ap}
 use Rattle.std.specs.Prelude.{ℤ, option_map, MatchOption, IsTrue, ◌↔◌}
 use Rattle.std.proofs.Math.Nat.{mul-le-mul_right}
 use Rattle.std.proofs.lemmas.Bool.{false≢true}
@@ -94,39 +94,20 @@ look_alone next p old new start n limit takes digits level short some holds =
 power_next : (g h : ℕ) → h ≡ suc g → 14 ^ h ≡ 14 * 14 ^ g
 power_next g h e = subst (λ k. 14 ^ k ≡ 14 * 14 ^ g) (sym e) (power_suc g)
 
-some_power : (g : ℕ) → 1 ≤ 14 ^ g
-some_power zero = omega arith
-some_power (suc g) = let more = power_suc g in let before = some_power g in omega (arith, more, before)
-
-seven_under : (level : ℕ) → 7 ≤ 14 ^ (level + 2)
-seven_under level = let more = power_next (level + 1) (level + 2) (omega arith) in let some = some_power (level + 1) in omega (arith, more, some)
-
-seven_below : (level : ℕ) → 7 ≤ 14 ^ (level + 3)
-seven_below level = let more = power_next (level + 2) (level + 3) (omega arith) in let some = some_power (level + 2) in omega (arith, more, some)
-
--- a look, and 7 units for each of some steps
-pub look_then_quick : (next : List ℕ → ℕ) (p : ℤ → ℤ → ℕ) (old mid new start n limit steps : ℕ) → TakesRunAndSearch old mid start n (cells_after next p) limit → steps ≤ limit → new ≤ mid + 7 * steps → TakesRunAndTwice old new start n (cells_after next p) limit
-look_then_quick next p old mid new start n limit steps look few takes digits level short some holds =
-    let first = look digits level short some holds in
-    let high : 7 * limit ≤ 14 ^ (level + 3) * limit = mul-le-mul_right limit (seven_below level) in
-    let twice : 2 * limit * 14 ^ (level + 3) ≡ limit * 14 ^ (level + 3) + 14 ^ (level + 3) * limit = omega arith in
-    omega (arith, first, few, takes, high, twice)
-
--- a look, and steps from there, of which each was tried quickly before
-pub look_then_steps : (next : List ℕ → ℕ) (p : ℤ → ℤ → ℕ) (old mid tried new start n limit steps : ℕ) (nodes : List Node) (tree : Tree) → TakesRunAndSearch old mid start n (cells_after next p) limit
-    → ((x y : ℤ) → trees.cell nodes tree x y ≡ cells_after next p n x y) → steps ≤ limit → tried ≤ mid + 7 * steps → TakesSteps tried new (cells_after next (trees.cell nodes tree)) steps steps
+-- a look, and steps from there
+pub look_then_steps : (next : List ℕ → ℕ) (p : ℤ → ℤ → ℕ) (old mid new start n limit steps : ℕ) (nodes : List Node) (tree : Tree) → TakesRunAndSearch old mid start n (cells_after next p) limit
+    → ((x y : ℤ) → trees.cell nodes tree x y ≡ cells_after next p n x y) → steps ≤ limit → TakesSteps mid new (cells_after next (trees.cell nodes tree)) steps steps
     → TakesRunAndTwice old new start n (cells_after next p) limit
-look_then_steps next p old mid tried new start n limit steps nodes tree look shows few quick takes digits level short some holds =
+look_then_steps next p old mid new start n limit steps nodes tree look shows few takes digits level short some holds =
     let x = 14 ^ (level + 2) in
     let first = look digits level short some holds in
     let most = takes level some (λ m less u v live. holds m (omega (arith, less, few)) u v (λ none. live (after_same next (trees.cell nodes tree) (cells_after next p n) m shows u v ∙ after_again next p n m u v ∙ none))) in
     let all : steps * (14 * x) ≤ limit * (14 * x) = mul-le-mul_right (14 * x) few in
-    let seven : 7 * steps ≤ x * steps = mul-le-mul_right steps (seven_under level) in
     let sum : steps * (14 * x) ≡ steps * (13 * x) + x * steps = omega arith in
     let up : 14 ^ (level + 3) ≡ 14 * x = power_next (level + 2) (level + 3) (omega arith) in
     let top : limit * 14 ^ (level + 3) ≡ limit * (14 * x) = ap (λ k. limit * k) up in
     let twice : 2 * limit * 14 ^ (level + 3) ≡ limit * 14 ^ (level + 3) + limit * 14 ^ (level + 3) = omega arith in
-    omega (arith, first, most, quick, all, seven, sum, top, twice)
+    omega (arith, first, most, all, sum, top, twice)
 
 -- where all `work` units of work are used up, a run from the tree of a pattern, and steps, may need as many
 pub file_needs_twice : (next : List ℕ → ℕ) (cells : Picture) (stored : StoredTree) → IsTreeOf (plane.cell cells) stored → (old new work n limit : ℕ) → old ≡ 0 → new ≡ work

@@ -1,14 +1,13 @@
-use Rattle.std.proofs.Common.{None, Some, refl, sym, subst, ◌∙◌}
+use Rattle.std.proofs.Common.{None, Some, refl, sym, subst}
 use Rattle.std.specs.Prelude.{MatchOption}
 use Rattle.ca_plane.specs.Prelude.{cells_after}
 use Rattle.ca_quad.specs.Prelude.{cell}
 use Rattle.ca_evolution.specs.Prelude.{TakesSteps}
-use Rattle.ca_pattern.specs.Prelude.{IsStart, ShowsTree}
 use Rattle.ca_pattern.proofs.Starts.{near_start}
 use Rattle.ca_answers.specs.Prelude.{IsNoObject, IsCodeOf, steps_of}
 use Rattle.ca_catalog_runs.specs.inner.CodedLooks.{IsFoundCode}
 use Rattle.ca_object_code.proofs.FrameShows.{later_by}
-use Rattle.ca_catalog_runs.proofs.CodedFiles.{found_period, found_steps, found_shows, found_code, look_alone, look_then_quick, look_then_steps}
+use Rattle.ca_catalog_runs.proofs.CodedFiles.{found_period, found_steps, found_shows, found_code, look_alone, look_then_steps}
 use Rattle.ca_catalog_runs.proofs.coded_files.look_and_code.Goals as goal
 
 pub code_of_tree-requires-clause-period : goal.code_of_tree-requires-clause-period
@@ -31,7 +30,7 @@ returns-in-Some-clause-found g c = λ cells shows.
     let identity = found.look.identity in
     let (later, stands, shown, look) = c.in_ok-found.ensures.look cells shows in
     let by = later_by next c.args.counting (cell old c.args.pattern) (cell new found.tree) c.args.generations (found_shows next old new c.args.pattern c.args.generations c.args.scope found c.in_ok-found.ensures.look) c.requires.counting in
-    let quick = rw c.in-Some.is at (c.in_ok-quick.ensures.code next later found.look.limit (g.met.A.Automaton.quiet c.args.leaper.now.rule c.store.ensures.rule) by look.identity shown) in (
+    let quick = rw c.in-Some.is at (c.in_ok-quick.ensures next later found.look.limit (g.met.A.Automaton.quiet c.args.leaper.now.rule c.store.ensures.rule) by look.identity shown) in (
       later,
       stands,
       look,
@@ -39,20 +38,10 @@ returns-in-Some-clause-found g c = λ cells shows.
     )
 
 pub returns-in_err-quick-clause-takes : goal.returns-in_err-quick-clause-takes
-returns-in_err-quick-clause-takes g c =
-    let next = g.A.Automaton.next_of c.args.leaper.now.rule in
-    let old = c.args.leaper.now in
-    let found = c.in_ok-found.found in
-    look_then_quick next (cell old.nodes c.args.pattern) old.spent.used c.look_at_plane.new.leaper.spent.used c.quick_code.new.leaper.spent.used c.args.pattern.level c.args.generations c.args.scope.limit (steps_of found.look.identity)
-    c.in_ok-found.ensures.takes (found_steps next old.nodes c.look_at_plane.new.leaper.nodes c.args.pattern c.args.generations c.args.scope found c.in_ok-found.ensures.look) c.quick_code.ensures.takes
+returns-in_err-quick-clause-takes g c = look_alone (g.A.Automaton.next_of c.args.leaper.now.rule) (cell c.args.leaper.now.nodes c.args.pattern) _ _ _ _ _ c.in_ok-found.ensures.takes
 
 pub returns-in-Some-clause-takes : goal.returns-in-Some-clause-takes
-returns-in-Some-clause-takes g c =
-    let next = g.A.Automaton.next_of c.args.leaper.now.rule in
-    let old = c.args.leaper.now in
-    let found = c.in_ok-found.found in
-    look_then_quick next (cell old.nodes c.args.pattern) old.spent.used c.look_at_plane.new.leaper.spent.used c.quick_code.new.leaper.spent.used c.args.pattern.level c.args.generations c.args.scope.limit (steps_of found.look.identity)
-    c.in_ok-found.ensures.takes (found_steps next old.nodes c.look_at_plane.new.leaper.nodes c.args.pattern c.args.generations c.args.scope found c.in_ok-found.ensures.look) c.in_ok-quick.ensures.takes
+returns-in-Some-clause-takes g c = look_alone (g.A.Automaton.next_of c.args.leaper.now.rule) (cell c.args.leaper.now.nodes c.args.pattern) _ _ _ _ _ c.in_ok-found.ensures.takes
 
 pub returns-then-not-coded-clause-found : goal.returns-then-not-coded-clause-found
 returns-then-not-coded-clause-found g c = λ cells shows.
@@ -60,9 +49,6 @@ returns-then-not-coded-clause-found g c = λ cells shows.
     let found = c.in_ok-found.found in
     let (later, stands, shown, look) = c.in_ok-found.ensures.look cells shows in
     (later, stands, look, subst (λ b. IsFoundCode next later found.look.identity b None) (sym c.if-not-coded.true) refl)
-
-pub code_of_tree-requires-clause-pattern : goal.code_of_tree-requires-clause-pattern
-code_of_tree-requires-clause-pattern g c = subst (λ s. IsStart s c.in_ok-found.found.tree) (sym c.in_ok-quick.ensures.same) c.in_ok-found.ensures.start
 
 pub returns-clause-found : goal.returns-clause-found
 returns-clause-found g c = λ cells shows.
@@ -72,13 +58,13 @@ returns-clause-found g c = λ cells shows.
     let identity = c.in_ok-found.found.look.identity in
     let code = c.in_ok-code.code in
     let (later, stands, shown, look) = c.in_ok-found.ensures.look cells shows in
-    let rule = c.in_ok-quick.ensures.goes_on.rule ∙ c.in_ok-found.ensures.goes_on.rule in (
+    let rule = c.in_ok-found.ensures.goes_on.rule in (
       later,
       stands,
       look,
       subst (λ b. IsFoundCode (next old) later identity b code) (sym c.if-not-coded.false)
           (found_code (next old) later identity code
-          (subst (λ r. MatchOption code (IsNoObject identity) (λ text. IsCodeOf (next r) later identity text.items)) rule (c.in_ok-code.ensures.code later (subst (λ s. ShowsTree s tree later) (sym c.in_ok-quick.ensures.same) shown)))),
+          (subst (λ r. MatchOption code (IsNoObject identity) (λ text. IsCodeOf (next r) later identity text.items)) rule (c.in_ok-code.ensures.code later shown))),
     )
 
 pub returns-in_err-found-clause-takes : goal.returns-in_err-found-clause-takes
@@ -92,27 +78,23 @@ returns-in_err-code-clause-takes g c =
     let next = g.A.Automaton.next_of in
     let old = c.args.leaper.now in
     let mid = c.look_at_plane.new.leaper in
-    let tried = c.quick_code.new.leaper in
     let new = c.code_of_tree.new.leaper in
     let found = c.in_ok-found.found in
     let steps = steps_of found.look.identity in
-    look_then_steps (next old.rule) (cell old.nodes c.args.pattern) old.spent.used mid.spent.used tried.spent.used new.spent.used c.args.pattern.level c.args.generations c.args.scope.limit steps mid.nodes found.tree
+    look_then_steps (next old.rule) (cell old.nodes c.args.pattern) old.spent.used mid.spent.used new.spent.used c.args.pattern.level c.args.generations c.args.scope.limit steps mid.nodes found.tree
     c.in_ok-found.ensures.takes (found_shows (next old.rule) old.nodes mid.nodes c.args.pattern c.args.generations c.args.scope found c.in_ok-found.ensures.look)
-    (found_steps (next old.rule) old.nodes mid.nodes c.args.pattern c.args.generations c.args.scope found c.in_ok-found.ensures.look) c.in_ok-quick.ensures.takes
-    (subst (λ r. TakesSteps tried.spent.used new.spent.used (cells_after (next r) (cell mid.nodes found.tree)) steps steps) (c.in_ok-quick.ensures.goes_on.rule ∙ c.in_ok-found.ensures.goes_on.rule)
-    (subst (λ s. TakesSteps tried.spent.used new.spent.used (cells_after (next tried.rule) (cell s found.tree)) steps steps) c.in_ok-quick.ensures.same c.code_of_tree.ensures.takes))
+    (found_steps (next old.rule) old.nodes mid.nodes c.args.pattern c.args.generations c.args.scope found c.in_ok-found.ensures.look)
+    (subst (λ r. TakesSteps mid.spent.used new.spent.used (cells_after (next r) (cell mid.nodes found.tree)) steps steps) c.in_ok-found.ensures.goes_on.rule c.code_of_tree.ensures.takes)
 
 pub returns-clause-takes : goal.returns-clause-takes
 returns-clause-takes g c =
     let next = g.A.Automaton.next_of in
     let old = c.args.leaper.now in
     let mid = c.look_at_plane.new.leaper in
-    let tried = c.quick_code.new.leaper in
     let new = c.code_of_tree.new.leaper in
     let found = c.in_ok-found.found in
     let steps = steps_of found.look.identity in
-    look_then_steps (next old.rule) (cell old.nodes c.args.pattern) old.spent.used mid.spent.used tried.spent.used new.spent.used c.args.pattern.level c.args.generations c.args.scope.limit steps mid.nodes found.tree
+    look_then_steps (next old.rule) (cell old.nodes c.args.pattern) old.spent.used mid.spent.used new.spent.used c.args.pattern.level c.args.generations c.args.scope.limit steps mid.nodes found.tree
     c.in_ok-found.ensures.takes (found_shows (next old.rule) old.nodes mid.nodes c.args.pattern c.args.generations c.args.scope found c.in_ok-found.ensures.look)
-    (found_steps (next old.rule) old.nodes mid.nodes c.args.pattern c.args.generations c.args.scope found c.in_ok-found.ensures.look) c.in_ok-quick.ensures.takes
-    (subst (λ r. TakesSteps tried.spent.used new.spent.used (cells_after (next r) (cell mid.nodes found.tree)) steps steps) (c.in_ok-quick.ensures.goes_on.rule ∙ c.in_ok-found.ensures.goes_on.rule)
-    (subst (λ s. TakesSteps tried.spent.used new.spent.used (cells_after (next tried.rule) (cell s found.tree)) steps steps) c.in_ok-quick.ensures.same c.in_ok-code.ensures.takes))
+    (found_steps (next old.rule) old.nodes mid.nodes c.args.pattern c.args.generations c.args.scope found c.in_ok-found.ensures.look)
+    (subst (λ r. TakesSteps mid.spent.used new.spent.used (cells_after (next r) (cell mid.nodes found.tree)) steps steps) c.in_ok-found.ensures.goes_on.rule c.in_ok-code.ensures.takes)
