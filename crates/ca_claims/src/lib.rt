@@ -17,5 +17,5 @@ pub use ca_text::{
     ClaimFault, Claims, Kind, WordSet, no_fault_in_claim_text, one_fault, one_meaning, read_claims,
     worked_examples,
 };
-pub use ca_verify::{Judge, verdict_laws, verify};
+pub use ca_verify::{Judge, look_up, verdict_laws, verify};
 pub use unknown::unknown_rules;

@@ -5,6 +5,7 @@ mod claims_remedy;
 mod complaint;
 mod explanation;
 mod fault;
+mod ties;
 mod verification_run;
 
 pub use ca_catalog::{Catalog, Content, KnownRules, Subject, Task, is_claim_path, says_its_claims};
@@ -22,4 +23,5 @@ pub use claims_remedy::explain_claims;
 pub use complaint::{complain, complain_with_path};
 pub use explanation::{RunFiles, explain, has_explanation};
 pub use fault::Fault;
+pub use ties::explain_ties;
 pub use verification_run::{verify_run, verify_watched};

@@ -12,6 +12,7 @@ ghost use Rattle.cafile.specs.declared.identify.PathContent.{PathContent};
 ghost use Rattle.cafile.specs.declared.identify.FileContent.{FileContent};
 
 use crate::FAULT;
+use crate::ties::tell_ties;
 use ca_answers::{Cause, Scope};
 use ca_catalog_runs::identify_run;
 use ca_evolution::Observer;
@@ -99,6 +100,7 @@ fn write_claims<'a, R: Files + Clock + AllocGlobal>(
     let Ok(files) = read_files(rt.alloc(), &loaded) else {
         return Err(Failure::of(OUT_OF_MEMORY));
     };
+    tell_ties(&rules.tables, extras.extras.explained, streams);
     let catalog = match run(rt, paths, &loaded, &rules, search, extras, streams) {
         Ok(catalog) => catalog,
         Err(fault) => return Err(Failure::of(Fault::Tool(fault))),

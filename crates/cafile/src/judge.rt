@@ -8,6 +8,7 @@ ghost use Rattle.ca_words.specs.Words.{work_of};
 
 use crate::FAULT;
 use crate::named_rules::with_named_rules;
+use crate::ties::tell_claimed_ties;
 use ca_evolution::Observer;
 use ca_host::{
     Heading, LoadedText, Progress, Streams, faulty_rules, load_needed, missing_files, read_source,
@@ -122,6 +123,7 @@ fn verify_text<R: Files + Clock + AllocGlobal>(
     let Ok(files) = views(rt.alloc(), &text.files) else {
         return Err(Fault::Input(InputFault::Memory));
     };
+    tell_claimed_ties(rt.alloc(), &text.claims, &files, extras.explained, streams);
     let style = ReportStyle {
         before: &before,
         explained: extras.explained,

@@ -7,6 +7,7 @@ ghost use Rattle.ca_words.specs.Words.{memo_of, work_of, generations_of};
 
 use crate::FAULT;
 use crate::terminal::{on_terminal, terminal_room};
+use crate::ties::tell_ties;
 use ca_draw::ImageFormat;
 use ca_host::{FaultyFile, Heading, Progress, RuleFiles, Streams, open_source, read_file};
 use ca_pattern::File;
@@ -69,6 +70,7 @@ pub fn write_pattern<R: Env + Files + Clock + AllocGlobal>(
         Ok(rules) => rules,
         Err(unknown) => return refuse_rules(&unknown, pattern, extras, streams),
     };
+    tell_ties(&rules.tables, extras.extras.explained, streams);
     match run(rt, asked, pattern, &rules.tables, extras, streams) {
         Ok(status) => status,
         Err(refused) => {

@@ -49,6 +49,7 @@ DIR/NAME.rule. The text has a `rule` line for each rule file.
 
 --explain says on standard error of each file that is faulty which one it is, with the line of its fault, or the rule
 that isn't known, as in `  codd.rle: rule Codd`. Where something helps, a further line says so: `  try: gunzip -c FILE`.
+It also tells of a rule file under which Golly may take other states.
 
 On a terminal, a line on standard error shows how far a file is that takes over a second, as
 `glider.rle: 904 of 65536 generations`. --progress shows it also where standard error is no terminal.

@@ -26,7 +26,8 @@ A pattern under a rule such as B3/S23 or 345/2/4 needs none. --rules names a fol
 the rule is NAME, and --rule doesn't give its table, the rule file is looked for there as DIR/NAME.rule.
 
 --explain adds a line to a refusal: the file with the line of its fault, or the rule that isn't known, as in
-`  codd.rle: rule Codd`. Where something helps, a further line says so: `  try: gunzip -c FILE`.
+`  codd.rle: rule Codd`. Where something helps, a further line says so: `  try: gunzip -c FILE`. It also tells of a rule
+file under which Golly may take other states.
 
 ",
             $(

@@ -49,6 +49,7 @@ absolute or has `..` among its parts is never opened: `refused, no file`. A link
 --explain adds a line after a no or a refusal that has more to tell: the pattern's name with a cell that
 differs, or with its file and the line of the fault, the rule that isn't known, or why there is no file; or the
 rule file. Where something helps against the fault of a pattern's file, a further line says so: `  try: gunzip -c FILE`.
+On standard error it tells of a rule file under which Golly may take other states.
 On a terminal, `cafile: --explain says more` ends a run of which it does.
 
 On a terminal, a line on standard error shows how far a claim is that takes over a second, as
