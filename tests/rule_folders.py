@@ -435,9 +435,12 @@ def try_once(files):
         for explained_too in (False, True):
             words = ["verify", "--rules", files.rules, text.write(), *["--explain"] * explained_too]
             once(files, content, words, outcome(text.answers, explained_too))
-    paths = [files.path(f"{name}.rle", rle_of("Once")) for name in "abc"]
-    lines = f"claims 2\nrule {rule}\n" + "".join(f"load {name} {path}\nstill {name}\n" for name, path in zip("abc", paths))
-    once(files, STILL.replace("NAME", "Once"), ["identify", "--rules", files.rules, *paths], ample(lines.encode()))
+    paths = {name: files.path(f"{name}.rle", rle_of("Once")) for name in "abc"}
+    lines = f"rule {rule}\n" + "".join(f"load {name} {path}\nstill {name}\n" for name, path in paths.items())
+    once(files, STILL.replace("NAME", "Once"), ["identify", "--rules", files.rules, *paths.values()], ample(f"claims 2\n{lines}".encode()))
+    for content, told in (("@RULE Once\n", "bad table: no table"), (STILL.replace("NAME", "Twice"), "bad rule: unknown")):
+        lines = "".join(f"# {name}: {path}: {told}\n" for name, path in paths.items())
+        once(files, content, ["identify", "--rules", files.rules, *paths.values()], Outcome(f"claims 2\n{lines}".encode(), b"", 2))
 
 
 @as_one_test(ClaimRules, "a folder of rules, claims, not read")

@@ -1,2 +1,3 @@
 mod Found
+mod Looks
 mod Outcomes

@@ -5,7 +5,6 @@ use Rattle.std.specs.Str.{bytes_eq}
 use Rattle.std.specs.List.{AllZip}
 use Rattle.ca_text.specs.Prelude.{ClaimText, IsNeeded}
 use Rattle.ca_report.specs.Outside.{lies_outside, path_in}
-use Rattle.ca_report.specs.RulePaths.{is_file_name, rule_path}
 use Rattle.ca_report.specs.declared.absence.Absence.{Absence}
 use Rattle.ca_report.specs.declared.absence.Absence.TheVariants.{Outside}
 use Rattle.ca_host.specs.declared.files.{LoadedFile.LoadedFile, LostFile.LostFile, NeededFiles.NeededFiles}
@@ -95,13 +94,3 @@ abbrev pub LoadsOnce : Gives → Lacks → (path label : List ℕ) → (old new 
 LoadsOnce gives lacks path label old new =
     (IsSome (bytes_at old label) × (new ≡ old))
     ⊎ ((bytes_at old label ≡ None) × (((why : Absence) × lacks path why × (new ≡ old)) ⊎ AddsFile gives path label old new))
-
--- this is the rule file of a name in a folder
-pub record IsRuleFileOf (gives : Gives) (folder name place bytes : List ℕ) : Type 0 where
-  pub named : is_file_name name ≡ true
-  pub stands : place ≡ rule_path folder name
-  pub given : gives place bytes
-
--- there is none: no file can have the name, or it isn't read
-abbrev pub LacksRuleFile : Lacks → (folder name : List ℕ) → Type 0
-LacksRuleFile lacks folder name = (is_file_name name ≡ false) ⊎ ((why : Absence) × lacks (rule_path folder name) why)

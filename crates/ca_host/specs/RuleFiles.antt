@@ -3,8 +3,6 @@ use Rattle.std.specs.Prelude.{◌≡◌, ◌≢◌, ℕ, ◌⊎◌, List, [], �
 use Rattle.std.specs.declared.alloc.Global.{Global}
 use Rattle.ca_rule.specs.Prelude.{IsRuleFault, TableRule, IsTableTextFault}
 use Rattle.ca_rule.specs.declared.fault.RuleFault.TheVariants as rule_fault
-use Rattle.ca_host.specs.Files.{Gives, Lacks, IsRuleFileOf, LacksRuleFile}
-use Rattle.ca_host.specs.declared.files.FaultyFile.{FaultyFile}
 use Rattle.ca_host.specs.declared.rules.NamedTable.{NamedTable}
 use Rattle.ca_host.specs.declared.rules.NamedTable.TheVariants.{Good, OtherName, Faulty}
 use Rattle.ca_pattern.specs.Prelude.{HoldsRuleText, IsQuietTable, IsTableFault, IsUnreadFile}
@@ -49,14 +47,3 @@ pub record Kept : Type 0 where
 pub record AddsRuleFile (name path bytes : List ℕ) (old new : Kept) : Type 0 where
   pub added : (table : TableRule) × IsQuietTable bytes table × (table.name ≡ name) × (new.tables ≡ old.tables ++ table ∷ [])
   pub beside : AddsPath path old.paths new.paths
-
--- a rule file with this path and these bytes that was looked for by a name is added, where it has a good table of that name; is let go, where it has one of another; and is told where it is faulty
-abbrev pub IsKept : (name path bytes : List ℕ) → Option FaultyFile → (old new : Kept) → Type 0
-IsKept name path bytes None old new = AddsRuleFile name path bytes old new ⊎ ((new ≡ old) × ((table : TableRule) × IsQuietTable bytes table × (table.name ≢ name)))
-IsKept name path bytes (Some file) old new = (new ≡ old) × (file.name.items ≡ name) × (file.path.items ≡ path) × IsTableFault bytes file.fault
-
--- for a pattern file with these bytes whose rule is unknown, the rule file of that rule's name in the folder is so kept, where there is one; else nothing is
-abbrev pub KeepsFound : Gives → Lacks → (folder pattern : List ℕ) → Option FaultyFile → (old new : Kept) → Type 0
-KeepsFound gives lacks folder pattern found old new =
-    ((new ≡ old) × (found ≡ None) × (HasNoUnknownRule pattern old.tables ⊎ ((name : List ℕ) × IsUnknownRuleOf pattern old.tables name × LacksRuleFile lacks folder name)))
-    ⊎ ((name : List ℕ) × IsUnknownRuleOf pattern old.tables name × ((path : List ℕ) × (bytes : List ℕ) × IsRuleFileOf gives folder name path bytes × IsKept name path bytes found old new))

@@ -3,7 +3,7 @@
 ghost use Rattle.std.specs.Prelude.{◌≡◌, ◌≢◌, ⊤, [], map, true, Some, None, IfOk, OnOk, IfErr, OnErr, MatchOption};
 ghost use Rattle.ca_report.specs.declared.absence.Absence.{Absence};
 ghost use Rattle.ca_host.specs.Files.{bytes_at, place_of, IsFoundAt, IsAbsentAt, GathersFiles, AddsOutcome};
-ghost use Rattle.ca_host.specs.Files.{LoadsOnce, IsRuleFileOf, LacksRuleFile};
+ghost use Rattle.ca_host.specs.Files.{LoadsOnce};
 ghost use Rattle.ca_host.specs.Unread.{IsWholeFile, IsUnread};
 ghost use Rattle.ca_host.specs.Sources.{source_remaining, IsSourceOf};
 
@@ -11,7 +11,7 @@ use crate::streams::Source;
 use crate::whole_files::{Unread, WholeFiles};
 use ca_pattern::File;
 use ca_plane::{Dev, Memory};
-use ca_report::{Absence, FaultyRule, InputFault, MissingFile, path_in, read_all, rule_path};
+use ca_report::{Absence, FaultyRule, InputFault, MissingFile, path_in, read_all};
 use ca_rule::TableFault;
 use ca_text::Claims;
 use std::alloc::Global;
@@ -237,7 +237,7 @@ fn bytes_below<D: WholeFiles>(
 }
 
 // The bytes of the file of a path, if it can be read.
-fn found_bytes<D: WholeFiles>(disk: &D, path: &[u8]) -> Result<Option<Vec<u8>>, Memory>
+pub(crate) fn found_bytes<D: WholeFiles>(disk: &D, path: &[u8]) -> Result<Option<Vec<u8>>, Memory>
     ensures { IfOk result (λ found. MatchOption found ((why : Absence) × D.lacks path.now why)
         (λ v. D.gives path.now v.items)) }
 {
@@ -245,25 +245,6 @@ fn found_bytes<D: WholeFiles>(disk: &D, path: &[u8]) -> Result<Option<Vec<u8>>, 
         Ok(bytes) => Ok(Some(bytes)),
         Err(Unread::Absent(_)) => Ok(None),
         Err(Unread::Memory) => Err(Memory),
-    }
-}
-
-// The rule file with this name in a folder, if a file can have the name and it can be read.
-pub(crate) fn load_rule_file<D: WholeFiles>(
-    alloc: Global,
-    disk: &D,
-    folder: &str,
-    name: &[u8],
-) -> Result<Option<LoadedFile>, Memory>
-    ensures { IfOk result (λ found. MatchOption found (LacksRuleFile D.lacks folder.now name.now)
-        (λ file. IsRuleFileOf D.gives folder.now name.now file.path.items file.bytes.items)) }
-{
-    let Some(path) = rule_path(alloc, folder.as_bytes(), name)? else {
-        return Ok(None);
-    };
-    match found_bytes(disk, &path)? {
-        Some(bytes) => Ok(Some(LoadedFile::new(alloc, &path, bytes)?)),
-        None => Ok(None),
     }
 }
 

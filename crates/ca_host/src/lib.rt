@@ -3,6 +3,7 @@
 #![tactic(auto)]
 
 mod files;
+mod lookups;
 mod progress;
 mod rules;
 mod streams;
@@ -13,6 +14,8 @@ pub use files::{
     faulty_rules, load_needed, load_once, missing_files, open_source, read_file, read_source,
     views,
 };
+pub use lookups::{Look, NamedLook};
 pub use progress::{Heading, Progress};
 pub use rules::{NamedTable, RuleFiles, table_named};
 pub use streams::{Source, Streams};
+pub use whole_files::{Unread, WholeFiles};

@@ -1,20 +1,16 @@
-//! The rule files of a run, and those that are looked for in a folder by the name of a rule.
+//! The rule files of a run, and what one holds that is looked for by the name of a rule.
 
-ghost use Rattle.std.specs.Prelude.{◌≡◌, ⊤, [], ◌∷◌, ◌++◌, IfOk, IfErr, OnOk, OnErr, MatchOption, vec_len};
+ghost use Rattle.std.specs.Prelude.{◌≡◌, [], ◌∷◌, ◌++◌, IfOk, IfErr, OnOk, OnErr, MatchOption, vec_len};
 ghost use Rattle.ca_rule.specs.Prelude.{IsTableTextFault};
 ghost use Rattle.ca_rule.specs.declared.table.fault.TableFault.TheVariants as table_fault;
 ghost use Rattle.ca_host.specs.RuleFiles.{IsNamedTable, AddsTableOf, AddsPath, IsBadTable, IsUnknownRuleOf};
-ghost use Rattle.ca_host.specs.RuleFiles.{HasNoUnknownRule, IsKept, KeepsFound, Kept};
-ghost use Rattle.ca_host.specs.Unread.{IsWholeFile};
+ghost use Rattle.ca_host.specs.RuleFiles.{HasNoUnknownRule};
 
-use crate::files::{FaultyFile, LoadedFile, load_rule_file};
-use crate::whole_files::WholeFiles;
 use ca_pattern::rule_text_of;
 use ca_plane::Memory;
 use ca_report::ToolFault;
 use ca_rule::{Table, TableFault, is_unknown_rule};
 use std::alloc::Global;
-use std::rt::Files;
 
 /// What a rule file holds that is looked for by a name.
 #[derive(Drop)]
@@ -91,55 +87,8 @@ impl RuleFiles {
         }
     }
 
-    /// Looks in a folder for the rule file of the pattern file with these bytes, where its rule text names no rule: none in
-    /// its own notation, and no table of these rule files. Where its table has that name, it is put after the others.
-    /// One that can't be read is as none, and so is one whose table has another name. Answers the file where it is
-    /// faulty.
-    ///
-    /// # Errors
-    ///
-    /// Fails where there is no memory for the pattern or the file. The rule files are as before then.
-    pub fn find<R: Files + AllocGlobal>(
-        &mut self,
-        rt: &R,
-        folder: &str,
-        pattern: &[u8],
-    ) -> Result<Option<FaultyFile>, Memory>
-        ensures found { IfOk result (λ found.
-            KeepsFound (λ _ bytes. IsWholeFile R.File.remaining bytes) (λ _ _. ⊤) folder.now pattern.now found
-            (record { tables = self.old.tables.items; paths = self.old.paths.items })
-            (record { tables = self.new.tables.items; paths = self.new.paths.items })) }
-        ensures tables { OnErr result (self.new.tables.items ≡ self.old.tables.items) }
-        ensures paths { OnErr result (self.new.paths.items ≡ self.old.paths.items) }
-    {
-        self.find_in(rt.alloc(), rt, folder, pattern)
-    }
-
-    // The same of whatever gives files.
-    fn find_in<D: WholeFiles>(
-        &mut self,
-        alloc: Global,
-        disk: &D,
-        folder: &str,
-        pattern: &[u8],
-    ) -> Result<Option<FaultyFile>, Memory>
-        ensures found { IfOk result (λ found. KeepsFound D.gives D.lacks folder.now pattern.now found
-            (record { tables = self.old.tables.items; paths = self.old.paths.items })
-            (record { tables = self.new.tables.items; paths = self.new.paths.items })) }
-        ensures tables { OnErr result (self.new.tables.items ≡ self.old.tables.items) }
-        ensures paths { OnErr result (self.new.paths.items ≡ self.old.paths.items) }
-    {
-        let Some(name) = self.unknown_rule(alloc, pattern)? else {
-            return Ok(None);
-        };
-        let Some(file) = load_rule_file(alloc, disk, folder, &name)? else {
-            return Ok(None);
-        };
-        self.keep(alloc, &name, &file)
-    }
-
     // The rule text of a pattern file that is read, where its rule is unknown.
-    fn unknown_rule(&self, alloc: Global, pattern: &[u8]) -> Result<Option<Vec<u8>>, Memory>
+    pub(crate) fn unknown_rule(&self, alloc: Global, pattern: &[u8]) -> Result<Option<Vec<u8>>, Memory>
         ensures { IfOk result (λ found. MatchOption found (HasNoUnknownRule pattern.now self.now.tables.items)
             (λ name. IsUnknownRuleOf pattern.now self.now.tables.items name.items)) }
     {
@@ -152,32 +101,8 @@ impl RuleFiles {
         Ok(None)
     }
 
-    // Keeps a file that was looked for by this name, where its table has it. Answers the file where it is faulty.
-    fn keep(
-        &mut self,
-        alloc: Global,
-        name: &[u8],
-        file: &LoadedFile,
-    ) -> Result<Option<FaultyFile>, Memory>
-        ensures kept { IfOk result (λ found. IsKept name.now file.now.path.items file.now.bytes.items found
-            (record { tables = self.old.tables.items; paths = self.old.paths.items })
-            (record { tables = self.new.tables.items; paths = self.new.paths.items })) }
-        ensures tables { OnErr result (self.new.tables.items ≡ self.old.tables.items) }
-        ensures paths { OnErr result (self.new.paths.items ≡ self.old.paths.items) }
-    {
-        let file = file.view();
-        match table_named(alloc, name, file.bytes)? {
-            NamedTable::Good(table) => {
-                self.put(alloc, file.path, table)?;
-                Ok(None)
-            }
-            NamedTable::OtherName => Ok(None),
-            NamedTable::Faulty(fault) => Ok(Some(FaultyFile::new(alloc, name, file.path, fault)?)),
-        }
-    }
-
     // Puts a path and a table after the others.
-    fn put(&mut self, alloc: Global, path: &[u8], table: Table) -> Result<(), Memory>
+    pub(crate) fn put(&mut self, alloc: Global, path: &[u8], table: Table) -> Result<(), Memory>
         ensures ok { OnOk result (self.new.tables.items ≡ self.old.tables.items ++ table ∷ []) }
         ensures path { OnOk result (AddsPath path.now self.old.paths.items self.new.paths.items) }
         ensures err { OnErr result (self.new.tables.items ≡ self.old.tables.items) }

@@ -13,13 +13,13 @@ use std::rt::Files;
 
 /// Why a file's bytes aren't there: it wasn't read, or memory is out.
 #[derive(Clone, Copy)]
-pub(crate) enum Unread {
+pub enum Unread {
     Absent(Absence),
     Memory,
 }
 
 /// What gives the bytes of whole files by their paths.
-pub(crate) trait WholeFiles {
+pub trait WholeFiles {
     // These may be the bytes of the file of a path.
     ghost gives: { (path bytes : List ℕ) → Type 0 };
 

@@ -1,3 +1,3 @@
+pub mod FolderRules
 pub mod Handing
-pub mod Looking
 pub mod RuleLines

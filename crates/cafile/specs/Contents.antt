@@ -1,7 +1,6 @@
 -- What the files of paths gave, and what is handed on of them.
-use Rattle.std.specs.Prelude.{◌≡◌, ℕ, ◌⊎◌, List, Option, None, Some}
+use Rattle.std.specs.Prelude.{ℕ, List, Option, None, Some}
 use Rattle.ca_answers.specs.declared.cause.Cause.{Cause}
-use Rattle.ca_answers.specs.declared.cause.Cause.TheVariants as cause
 use Rattle.ca_rule.specs.declared.table.fault.TableFault.{TableFault}
 use Rattle.ca_pattern.specs.declared.file.File.{File}
 use Rattle.ca_catalog.specs.declared.{entry.Content.Content, entry.Subject.Subject}
@@ -49,14 +48,3 @@ read_at file = if_read file.path.now file.content where
   if_read path (loaded.Bytes bytes) = Some (record { path = path; gave = Bytes bytes.items })
   if_read path (loaded.Missing cause) = None
   if_read path (loaded.FaultyRule faulty) = None
-
--- what stands in place of a file's bytes: its rule file, which is faulty, or want of memory
-abbrev pub StandsForBytes : (old new : FileContent) → Type 0
-StandsForBytes (loaded.Bytes bytes) (loaded.FaultyRule faulty) = Unit {0}
-StandsForBytes (loaded.Bytes bytes) (loaded.Missing why) = why ≡ cause.Memory
-StandsForBytes old new = ⊥
-
--- what a path's file gave once its rule file was looked for: what it gave before, or what stands in place of its bytes
-pub record IsLookedFor (old new : PathContent) : Type 0 where
-  pub path : new.path.now ≡ old.path.now
-  pub content : (new.content ≡ old.content) ⊎ StandsForBytes old.content new.content

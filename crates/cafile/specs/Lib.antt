@@ -1,4 +1,5 @@
 pub mod Contents
+pub mod FolderRules
 pub mod ImportFaults
 pub mod Imports
 pub mod NamedRules

@@ -1,17 +1,18 @@
 //! The command `identify`.
 
-ghost use Rattle.std.specs.Prelude.{◌≡◌, ◌≢◌, ◌≤◌, ◌⊎◌, ◌++◌, ◌∷◌, ℕ, [], length, map, slice_get, false, IfOk, IfErr, IfSome, OnOk, OnErr};
+ghost use Rattle.std.specs.Prelude.{◌≡◌, ◌≢◌, ◌≤◌, ◌⊎◌, ◌++◌, ◌∷◌, ℕ, [], map, false, IfOk, IfErr, OnOk, OnErr};
 ghost use Rattle.std.specs.List.{filter_map};
 ghost use Rattle.ca_plane.specs.Prelude.{longest_period, most_generations};
 ghost use Rattle.ca_pattern.specs.Prelude.{AreGoodLimits};
 ghost use Rattle.ca_catalog.specs.Prelude.{is_claim_path};
 ghost use Rattle.cafile.specs.Scopes.{scope_of};
-ghost use Rattle.cafile.specs.Contents.{loaded_at, handed_at, file_at, read_at, StandsForBytes, IsLookedFor};
+ghost use Rattle.cafile.specs.Contents.{loaded_at, handed_at, file_at, read_at};
 ghost use Rattle.cafile.specs.Runs.{IsTask, WritesClaims, EndsClaims};
 ghost use Rattle.cafile.specs.declared.identify.PathContent.{PathContent};
 ghost use Rattle.cafile.specs.declared.identify.FileContent.{FileContent};
 
 use crate::FAULT;
+use crate::folder_rules::find_rules;
 use crate::ties::tell_ties;
 use ca_answers::{Cause, Scope};
 use ca_catalog_runs::identify_run;
@@ -30,20 +31,20 @@ use std::alloc::Global;
 use std::io::Write;
 use std::rt::{Clock, Files};
 
-// What the file of a path gave.
+/// What the file of a path gave.
 #[derive(Drop)]
-enum FileContent {
+pub enum FileContent {
     Bytes(Vec<u8>),
     Missing(Cause),
-    // The rule file that has the name of its rule isn't good.
+    /// The rule file that has the name of its rule isn't good.
     FaultyRule(FaultyFile),
 }
 
-// A path of the words, and what its file gave.
+/// A path of the words, and what its file gave.
 #[derive(Drop)]
-struct PathContent<'a> {
-    path: &'a [u8],
-    content: FileContent,
+pub struct PathContent<'a> {
+    pub path: &'a [u8],
+    pub content: FileContent,
 }
 
 // Why no claim text is written, and the path of the file that this is about.
@@ -95,7 +96,7 @@ fn write_claims<'a, R: Files + Clock + AllocGlobal>(
         return Err(Failure::of(OUT_OF_MEMORY));
     };
     if let Some(folder) = &extras.folder {
-        find_rules(rt, folder.as_str(), &mut loaded, &mut rules);
+        find_rules(rt.alloc(), rt, folder.as_str(), &mut loaded, &mut rules);
     }
     let Ok(files) = read_files(rt.alloc(), &loaded) else {
         return Err(Failure::of(OUT_OF_MEMORY));
@@ -175,59 +176,6 @@ fn load_content<R: Files + AllocGlobal>(rt: &R, path: &[u8]) -> FileContent
         Ok(bytes) => FileContent::Bytes(bytes),
         Err(InputFault::Memory) => FileContent::Missing(Cause::Memory),
         Err(InputFault::Read | InputFault::TooLong) => FileContent::Missing(Cause::NoFile),
-    }
-}
-
-// Looks in a folder for the rule files of those patterns whose rules aren't known. One that is found and good is
-// put after the others; where one is faulty, the file that names it gives that rule file, with its fault, in place
-// of its bytes.
-fn find_rules<R: Files + AllocGlobal>(
-    rt: &R,
-    folder: &str,
-    loaded: &mut [PathContent<'_>],
-    rules: &mut RuleFiles,
-)
-    ensures number { length loaded.new ≡ length loaded.old }
-    ensures each { (i : ℕ) (old new : PathContent) → slice_get loaded.old i ≡ Some old → slice_get loaded.new i ≡ Some new
-        → IsLookedFor old new }
-{
-    for index in 0..loaded.len() {
-        find_rule(rt, folder, &mut loaded[index], rules);
-    }
-}
-
-// Looks for the rule file of the pattern of one file. Where that is faulty, or memory is out, this stands in place of the
-// bytes.
-fn find_rule<R: Files + AllocGlobal>(
-    rt: &R,
-    folder: &str,
-    file: &mut PathContent<'_>,
-    rules: &mut RuleFiles,
-)
-    ensures { IsLookedFor file.old file.new }
-{
-    if let Some(failure) = rule_failure(rt, folder, &file.content, rules) {
-        file.content = failure;
-    }
-}
-
-// Looks for the rule file of a pattern, and answers what stands in place of its bytes where that is faulty, or memory is
-// out.
-fn rule_failure<R: Files + AllocGlobal>(
-    rt: &R,
-    folder: &str,
-    content: &FileContent,
-    rules: &mut RuleFiles,
-) -> Option<FileContent>
-    ensures { IfSome result (StandsForBytes content.now) }
-{
-    let FileContent::Bytes(bytes) = content else {
-        return None;
-    };
-    match rules.find(rt, folder, bytes) {
-        Ok(None) => None,
-        Ok(Some(faulty)) => Some(FileContent::FaultyRule(faulty)),
-        Err(_) => Some(FileContent::Missing(Cause::Memory)),
     }
 }
 

@@ -149,7 +149,8 @@ fn known_rules<R: Files + AllocGlobal>(
     let Some(folder) = &extras.folder else {
         return Ok(rules);
     };
-    match rules.find(rt, folder.as_str(), pattern) {
+    let mut looks = Vec::new(rt.alloc());
+    match rules.find(rt.alloc(), rt, folder.as_str(), pattern, &mut looks) {
         Ok(None) => Ok(rules),
         Ok(Some(faulty)) => Err(UnknownRules::Found(faulty)),
         Err(_) => Err(UnknownRules::Named(ToolFault::Memory)),
