@@ -1,3 +1,4 @@
 pub mod FolderRules
 pub mod Handing
+pub mod Passed
 pub mod RuleLines

@@ -1,5 +1,6 @@
 pub mod Contents
 pub mod FolderRules
+pub mod Folders
 pub mod ImportFaults
 pub mod Imports
 pub mod NamedRules
