@@ -48,7 +48,7 @@ use std::marker::Model;
 // The table has room for these at most, some 100 gigabytes of squares, and an id for any place among them.
 const MOST: usize = 9 << 28;
 
-/// Squares of cells, each kept once. An id names one as long as the store lasts.
+/// Squares of cells, each kept once. An id names one as long as the store lasts: no call on the store changes which.
 ///
 /// A store is full where it keeps 2415919104 of them, those that are named by their cells not counted. What
 /// would keep one then fails with `Memory`, though memory may be there, also where the square is kept already.

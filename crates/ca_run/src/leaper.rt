@@ -146,6 +146,7 @@ impl<A: Automaton> Leaper<A> {
 
     // Counts units of work before they are done.
     fn charge(&mut self, units: u64) -> Result<(), LeapFault>
+        ensures enough { self.old.spent.used + units ≤ self.old.spent.limit → IsOk result }
         ensures at_cost { GoesOnAtCost A self.old self.new units 0 }
         ensures same { self.new.nodes ≡ self.old.nodes }
         ensures counts { OnOk result (self.new.spent.used ≡ self.old.spent.used + units) }

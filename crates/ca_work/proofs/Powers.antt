@@ -1,6 +1,6 @@
 -- Powers in the count of work: of 14 for each level, and of 2 for the digits of a number of generations.
-use Rattle.std.proofs.Common.{◌≡◌, ℕ, suc, ◌+◌, ◌-◌, ◌*◌, ◌/◌, ◌^◌, ◌<◌, ◌≤◌, inl, inr, arith}
-use Rattle.std.proofs.Math.Nat.{pow-succ', one-le-pow, pow-le-pow_right, div-eq_of_lt}
+use Rattle.std.proofs.Common.{◌≡◌, ℕ, suc, ◌+◌, ◌-◌, ◌*◌, ◌/◌, ◌^◌, ◌<◌, ◌≤◌, inl, inr, subst, arith}
+use Rattle.std.proofs.Math.Nat.{pow-succ', one-le-pow, pow-le-pow_right, div-eq_of_lt, lt-mul-div-succ}
 use Rattle.std.proofs.Math.Pow.{pow_mono}
 use Rattle.ca_plane.proofs.Numbers.{below_or_not}
 
@@ -24,6 +24,13 @@ long_run n k d low some time = elim (below_or_not d (15 - k)) [
       absurd (omega (arith, some, none))
   | inr e ↦ omega (arith, e, low)
 ]
+
+-- and one that is less has as few
+pub short_run : (n k : ℕ) → k ≤ 14 → n / 2 ^ (14 - k) ≡ 0 → (d : ℕ) × ((n < 2 ^ d) × (k + d ≤ 14))
+short_run n k low none =
+    let some : 1 ≤ 2 ^ (14 - k) = one-le-pow (14 - k) 2 (omega arith) in
+    let below : n < 2 ^ (14 - k) * (0 + 1) = subst (λ q. n < 2 ^ (14 - k) * (q + 1)) none (lt-mul-div-succ n some) in
+    (14 - k, (omega (arith, below), omega (arith, low)))
 
 -- what can be counted is less than 14 to the power of 17
 pub countable_cost : (k d used : ℕ) → 15 ≤ k + d → used < 2 ^ 64 → used ≤ 14 ^ (k + d + 2)

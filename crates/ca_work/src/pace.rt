@@ -1,6 +1,6 @@
 //! How long leaps are, and how many squares a store may have, where a run makes too many.
 
-ghost use Rattle.std.specs.Prelude.{◌≡◌, ℕ, ◌+◌, ◌-◌, ◌<◌, ◌≤◌, ◌^◌, max, min, true};
+ghost use Rattle.std.specs.Prelude.{◌≡◌, ℕ, ◌+◌, ◌-◌, ◌<◌, ◌≤◌, ◌^◌, max, min, true, false};
 ghost use Rattle.ca_work.specs.Tries.{tries, most_tries};
 
 // How many squares a store may have at first, and how many more than before, where no fewer are allowed.
@@ -26,9 +26,11 @@ pub fn room_beside(squares: usize, most: usize) -> usize
     squares.saturating_add(MORE.min(most)).max(ROOM.min(most))
 }
 
-/// Whether the cells of a run of n generations from a tree of this level may be many.
+/// Whether the cells of a run of n generations from a tree of this level may be many: where the level and the binary
+/// digits of n sum to 15 or more. Where they sum to 14 or less, the run hardly makes more squares than fit.
 pub fn is_long(level: u8, n: u64) -> bool
-    ensures { result ≡ true → (d : ℕ) → n < 2 ^ d → 15 ≤ level + d }
+    ensures long { result ≡ true → (d : ℕ) → n < 2 ^ d → 15 ≤ level + d }
+    ensures short { result ≡ false → (d : ℕ) × ((n < 2 ^ d) × (level + d ≤ 14)) }
 {
     level > 14 || n >> (14 - level) > 0
 }

@@ -55,13 +55,16 @@ impl Store {
         Some(Id::at_place(place))
     }
 
-    /// Keeps the first `count` squares, and gives the memory of the others back. The id of one that is gone names none
-    /// after that, or one that comes later.
-    pub fn keep_first(&mut self, count: usize)
-        ensures { self.new ≡ take count self.old }
+    /// The store of the first `count` squares alone, each under the id that it has. The memory of the others is given
+    /// back, and their ids end with the store that made them.
+    pub fn first_squares(self, count: usize) -> Store
+        ensures first { result ≡ take count self }
+        ensures named { Grows result self }
     {
-        self.nodes.truncate(count);
-        self.nodes.shrink_to_fit();
+        let mut nodes = self.nodes;
+        nodes.truncate(count);
+        nodes.shrink_to_fit();
+        Store { nodes }
     }
 
     /// The square of the same level and cells as one of another store. Copies of some of that store's squares are known, and

@@ -1,6 +1,6 @@
 //! Generations of a grid.
 
-ghost use Rattle.std.specs.Prelude.{◌≡◌, ◌+◌, ◌<◌, ◌^◌, ⊤, length, min, IfOk, OnOk};
+ghost use Rattle.std.specs.Prelude.{◌≡◌, ◌+◌, ◌<◌, ◌≤◌, ◌^◌, ⊤, length, min, IsOk, IfOk, OnOk};
 ghost use Rattle.std.proofs.Common.{lit≤};
 ghost use Rattle.ca_bricks.specs.Prelude.{GoesByCells};
 ghost use Rattle.ca_work.specs.Prelude.{EndsAtLimit};
@@ -17,6 +17,7 @@ use std::alloc::Global;
 
 // Counts the bricks of a list before they are stepped, but no more than there are.
 pub(super) fn count_steps(work: &mut Work, awake: &[usize], count: usize) -> Result<u64, LeapFault>
+    ensures enough { work.old.used + min (length awake.now) count ≤ work.old.limit → IsOk result }
     ensures steps { IfOk result (λ steps. steps ≡ min (length awake.now) count) }
     ensures counts { OnOk result (work.new.used ≡ work.old.used + min (length awake.now) count) }
     ensures charged { SpendsAtMost work.old work.new count }

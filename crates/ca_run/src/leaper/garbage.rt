@@ -2,7 +2,7 @@
 //! collected from time to time: all squares are dropped but those of the tree and, where the run repeats, of
 //! results in use.
 
-ghost use Rattle.std.specs.Prelude.{◌≡◌, ◌+◌, ◌-◌, ◌*◌, ◌/◌, ◌≤◌, ◌<◌, ◌^◌, true, length, take, IfOk, OnOk, OnErr};
+ghost use Rattle.std.specs.Prelude.{◌≡◌, ◌+◌, ◌-◌, ◌*◌, ◌/◌, ◌≤◌, ◌<◌, ◌^◌, true, length, take, IfOk, IfErr, OnOk, OnErr};
 ghost use Rattle.ca_quad.specs.Prelude.{Grows, IsTree};
 ghost use Rattle.ca_run.specs.Advanced.{CanAdvance, IsAdvanced};
 ghost use Rattle.ca_run.specs.Leaping.{LeaperGrows};
@@ -28,7 +28,8 @@ const KEPT: usize = 4;
 
 impl<A: Automaton> Leaper<A> {
     // The tree n generations after `first`, by leaps from one that was reached on the way, in a store of its
-    // own. Of the squares that there are, only the first `squares` stay.
+    // own. Of the squares that there are, only the first `squares` stay: those that the run began with, so that a
+    // caller has ids of no others.
     pub(super) fn leap_in_own_store<W: Watch>(
         &mut self,
         first: &Tree,
@@ -142,9 +143,8 @@ impl<A: Automaton> Leaper<A> {
         ensures spent { self.new.spent ≡ self.old.spent }
     {
         let alloc = self.recent_centres.allocator();
-        let mut before = self.exchange(Store::new(alloc));
-        before.keep_first(squares);
-        self.exchange(before);
+        let before = self.exchange(Store::new(alloc));
+        self.exchange(before.first_squares(squares));
     }
 
     // The same tree in a new store, which takes the place of the one before, and the first squares of that
@@ -166,13 +166,12 @@ impl<A: Automaton> Leaper<A> {
         ensures err { OnErr result (self.new ≡ self.old) }
     {
         let alloc = self.recent_centres.allocator();
-        let mut before = self.exchange(Store::new(alloc));
+        let before = self.exchange(Store::new(alloc));
         let mut copies = SquareMap::new(alloc);
         match self.import_tree(&before, tree, &mut copies) {
             Ok(copy) => {
                 self.keep_leaps(&before, leaps, most, &mut copies);
-                before.keep_first(squares);
-                Ok((copy, before))
+                Ok((copy, before.first_squares(squares)))
             }
             Err(fault) => {
                 self.exchange(before);
@@ -204,6 +203,8 @@ impl<A: Automaton> Leaper<A> {
         ensures made { length self.new.nodes + 4096 * self.old.spent.used
             ≤ length self.old.nodes + 4096 * self.new.spent.used }
         ensures few { self.new.spent.used ≤ self.old.spent.used + (length from.now / 4096 + 1) }
+        ensures enough { self.old.spent.used + (length from.now / 4096 + 1) ≤ self.old.spent.limit
+            → IfErr result (λ fault. fault ≡ LeapFault.Memory) }
         ensures work { EndsAtLimit self.new.spent result }
     {
         self.charge((from.count() / A_UNIT + 1) as u64)?;

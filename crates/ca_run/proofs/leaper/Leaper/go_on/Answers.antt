@@ -73,7 +73,7 @@ returns-in-Err-Memory-clause-costs g c =
     let leapt = subst (λ l. HasLeapt _ l first c.args.reached.generations c.args.n 61 c.leap_on.new.self) c.set_room.ensures c.in-Err-Memory.ensures.costs in
     let before = leapt.later 61 (omega (arith, c.requires.first.time)) in
     inr (record {
-      long = c.is_long-long.ensures c.if-long-2.true;
+      long = c.is_long-long.ensures.long c.if-long-2.true;
       used = omega (arith, c.used-used.ensures.value);
       made = omega (arith, before.made, c.leap_in_own_store-end.ensures.made);
     })
