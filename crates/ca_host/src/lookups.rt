@@ -144,12 +144,7 @@ fn look_of(looks: &[NamedLook], name: &[u8]) -> Option<Look>
 }
 
 // The rule file at this path with this name, where it is faulty.
-fn told(
-    alloc: Global,
-    name: &[u8],
-    path: &[u8],
-    look: Look,
-) -> Result<Option<FaultyFile>, Memory>
+fn told(alloc: Global, name: &[u8], path: &[u8], look: Look) -> Result<Option<FaultyFile>, Memory>
     ensures told { IfOk result (IsTold name.now path.now look) }
     ensures err { OnErr result (look ≢ look_kind.Found) }
 {

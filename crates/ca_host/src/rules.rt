@@ -88,7 +88,11 @@ impl RuleFiles {
     }
 
     // The rule text of a pattern file that is read, where its rule is unknown.
-    pub(crate) fn unknown_rule(&self, alloc: Global, pattern: &[u8]) -> Result<Option<Vec<u8>>, Memory>
+    pub(crate) fn unknown_rule(
+        &self,
+        alloc: Global,
+        pattern: &[u8],
+    ) -> Result<Option<Vec<u8>>, Memory>
         ensures { IfOk result (λ found. MatchOption found (HasNoUnknownRule pattern.now self.now.tables.items)
             (λ name. IsUnknownRuleOf pattern.now self.now.tables.items name.items)) }
     {

@@ -23,14 +23,7 @@ pub fn find_rules<D: WholeFiles>(
 {
     let mut looks = Vec::new(alloc);
     for index in 0..loaded.len() {
-        find_rule(
-            alloc,
-            disk,
-            folder,
-            &mut loaded[index],
-            rules,
-            &mut looks,
-        );
+        find_rule(alloc, disk, folder, &mut loaded[index], rules, &mut looks);
     }
 }
 

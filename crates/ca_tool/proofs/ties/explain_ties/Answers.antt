@@ -13,5 +13,7 @@ tables-preserved g c = record {
 -- or this one's in part
 pub returns-in-Err : goal.returns-in-Err
 returns-in-Err g c =
-    record { sends = sends_at tie_line g.W.Write.contents _ _ _ c.args.tables.now c.tables.table-index _ c.table-item.result _ _ c.in-Err.fault (omega arith) c.table-item.is refl
-    c.tables.invariant.sent c.tables.invariant.kept c.in-Err.ensures }
+    record {
+      sends = sends_at tie_line g.W.Write.contents _ _ _ c.args.tables.now c.tables.table-index _ c.table-item.result _ _ c.in-Err.fault (omega arith) c.table-item.is refl
+          c.tables.invariant.sent c.tables.invariant.kept c.in-Err.ensures;
+    }

@@ -12,7 +12,7 @@ returns-clause-found g c =
     let name = c.in-Some.name in
     let path = c.in-Some-2.path in
     let unknown = at_some (HasNoUnknownRule c.args.pattern.now c.args.self.now.tables.items) c.in_ok-name.field-0
-        (λ (n : Vec ℕ Global). IsUnknownRuleOf c.args.pattern.now c.args.self.now.tables.items n.items) name c.in-Some.is c.in_ok-name.ensures in
+    (λ (n : Vec ℕ Global). IsUnknownRuleOf c.args.pattern.now c.args.self.now.tables.items n.items) name c.in-Some.is c.in_ok-name.ensures in
     finds g.D.WholeFiles.gives g.D.WholeFiles.lacks c.args.folder.now c.args.pattern.now name.items path.items _ _ _ _ c.in_ok-look.look _ _ _ _ c.told.result
     c.deref-2.ensures.value c.deref-3.ensures.value c.deref-4.ensures.value c.deref-5.ensures.value unknown
     (stands_at c.args.folder.now c.as_bytes.result.now name.items c.deref.result.now c.in_ok-path.field-0 path c.in-Some-2.is c.as_bytes.ensures.value c.deref.ensures.value c.in_ok-path.ensures.path)
@@ -24,10 +24,15 @@ returns-clause-looks g c =
     let name = c.in-Some.name in
     let path = c.in-Some-2.path in
     let stands = stands_at c.args.folder.now c.as_bytes.result.now name.items c.deref.result.now c.in_ok-path.field-0 path c.in-Some-2.is c.as_bytes.ensures.value c.deref.ensures.value
-        c.in_ok-path.ensures.path in
+    c.in_ok-path.ensures.path in
     always c.told.result _ (inr (
       name.items,
       stands.0,
-      (c.in_ok-look.look, _, _, looked g.D.WholeFiles.gives g.D.WholeFiles.lacks c.args.folder.now name.items path.items _ _ c.in_ok-look.look _ _ _ _
-          c.deref-2.ensures.value c.deref-3.ensures.value stands c.in_ok-look.ensures.once),
+      (
+        c.in_ok-look.look,
+        _,
+        _,
+        looked g.D.WholeFiles.gives g.D.WholeFiles.lacks c.args.folder.now name.items path.items _ _ c.in_ok-look.look _ _ _ _
+            c.deref-2.ensures.value c.deref-3.ensures.value stands c.in_ok-look.ensures.once,
+      ),
     ))

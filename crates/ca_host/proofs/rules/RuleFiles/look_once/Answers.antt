@@ -10,7 +10,11 @@ returns-clause-once g c =
     let none = sym (ap (λ ls. look_of ls c.args.name.now) c.deref.ensures.value) ∙ (sym c.look_of.ensures ∙ c.in_default.is) in
     inr (
       none,
-      (record { name = c.in_ok-asked.asked; look = c.look-look.result }, c.in_ok-asked.ensures.items, refl,
-          set_last olds c.push.new.self.items c.len-place.result _ _ c.in_ok-push.ensures.items (omega (arith, c.len-place.ensures, c.args.looks.now.ok.0))),
+      (
+        record { name = c.in_ok-asked.asked; look = c.look-look.result },
+        c.in_ok-asked.ensures.items,
+        refl,
+        set_last olds c.push.new.self.items c.len-place.result _ _ c.in_ok-push.ensures.items (omega (arith, c.len-place.ensures, c.args.looks.now.ok.0)),
+      ),
       c.look-look.ensures,
     )
