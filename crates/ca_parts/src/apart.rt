@@ -26,7 +26,8 @@ pub fn are_apart_when_moved(one: &Plane, dx: i64, dy: i64, other: &Plane) -> boo
     are_further(one, Way::of(dx, dy), other)
 }
 
-/// Planes are apart exactly where no two live cells, one of each, are within 2 of each other in both directions.
+/// Planes are apart exactly where no two live cells, one of each, are within 2 of each other in both
+/// directions.
 pub fn apart_planes_are_further_than_two()
     ensures { (f g : ℤ → ℤ → ℕ) → AreApart f g ↔ AreFurther 2 f g }
 {}

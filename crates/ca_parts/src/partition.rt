@@ -9,9 +9,9 @@ use crate::taking::take_part;
 use ca_plane::{Memory, Plane};
 use std::alloc::Global;
 
-/// The parts of the plane's live cells, each two of which are apart, and none of which can be taken apart further:
-/// cells that are within 2 of each other in both directions are in one part. They come in the order of their first
-/// cells, row by row from the top, and in a row by rising x.
+/// The parts of the plane's live cells, each two of which are apart, and none of which can be taken apart
+/// further: cells that are within 2 of each other in both directions are in one part. They come in the order
+/// of their first cells, row by row from the top, and in a row by rising x.
 ///
 /// # Errors
 ///
@@ -22,7 +22,8 @@ pub fn components(alloc: Global, plane: &Plane) -> Result<Vec<Plane>, Memory>
     parts(alloc, plane, 2)
 }
 
-/// The islands of the plane's live cells, in the same order: cells that touch, at a side or a corner, are in one.
+/// The islands of the plane's live cells, in the same order: cells that touch, at a side or a corner, are in
+/// one.
 ///
 /// # Errors
 ///

@@ -11,8 +11,8 @@ use crate::rows::first_from;
 use ca_plane::{Memory, Plane, Point};
 use std::alloc::Global;
 
-/// Takes the cell at the place, and all that is reached from there by steps of at most `reach` in both directions,
-/// over live cells. All cells before it have to be taken already.
+/// Takes the cell at the place, and all that is reached from there by steps of at most `reach` in both
+/// directions, over live cells. All cells before it have to be taken already.
 pub(crate) fn take_part(
     alloc: Global,
     left: &mut Vec<(Point, u8)>,
@@ -65,7 +65,8 @@ fn take_near(
     reach: u8,
 ) -> Result<(), Memory>
     requires rising { IsRising left.old.items }
-    ensures { OnOk result (TakesAll (IsNear reach at) left.old.items taken.old.items left.new.items taken.new.items) }
+    ensures { OnOk result (TakesAll (IsNear reach at)
+        left.old.items taken.old.items left.new.items taken.new.items) }
 {
     let (x, y, distance) = (i128::from(at.x), i128::from(at.y), i128::from(reach));
     'rows: for row in y - distance..y + distance + 1 {
@@ -84,7 +85,8 @@ fn take_stretch(
 ) -> Result<(), Memory>
     requires rising { IsRising left.old.items }
     requires room { IsInRoom east }
-    ensures { OnOk result (TakesAll (IsInStretch west east row) left.old.items taken.old.items left.new.items taken.new.items) }
+    ensures { OnOk result (TakesAll (IsInStretch west east row)
+        left.old.items taken.old.items left.new.items taken.new.items) }
 {
     let first = first_from(left.as_slice(), west, row);
     let end = first_from(left.as_slice(), east + 1, row);
@@ -101,7 +103,9 @@ fn take(
     place: usize,
 ) -> Result<(), Memory>
     requires { place < length left.old.items }
-    ensures { OnOk result (HoldsAt (TakesCell place left.old.items taken.old.items left.new.items taken.new.items) left.old.items place) }
+    ensures { OnOk result (HoldsAt
+        (TakesCell place left.old.items taken.old.items left.new.items taken.new.items)
+        left.old.items place) }
 {
     let (at, state) = left[place];
     if state == 0 {
