@@ -1,5 +1,5 @@
 -- Tables of rule files, and those that are put after others.
-use Rattle.std.specs.Prelude.{◌≡◌, ◌≢◌, ℕ, ◌⊎◌, List, [], ◌∷◌, ◌++◌, Vec, Option, None, Some}
+use Rattle.std.specs.Prelude.{◌≡◌, ◌≢◌, ℕ, ◌⊎◌, List, [], ◌∷◌, ◌++◌, Vec}
 use Rattle.std.specs.declared.alloc.Global.{Global}
 use Rattle.ca_rule.specs.Prelude.{IsRuleFault, TableRule, IsTableTextFault}
 use Rattle.ca_rule.specs.declared.fault.RuleFault.TheVariants as rule_fault

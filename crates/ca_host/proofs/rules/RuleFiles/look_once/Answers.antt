@@ -1,4 +1,4 @@
-use Rattle.std.proofs.Common.{◌≡◌, None, refl, ap, sym, ◌∙◌, inr, arith}
+use Rattle.std.proofs.Common.{refl, ap, sym, ◌∙◌, inr, arith}
 use Rattle.ca_host.specs.Lookups.{look_of}
 use Rattle.ca_host.proofs.Looks.{set_last}
 use Rattle.ca_host.proofs.rules.RuleFiles.look_once.Goals as goal
