@@ -5,3 +5,4 @@ pub mod Courses
 pub mod Tracks
 pub mod Sweeps
 pub mod Taking
+pub mod Sides

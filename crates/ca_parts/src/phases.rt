@@ -2,9 +2,12 @@
 
 ghost use Rattle.std.specs.Prelude.{◌≡◌, ◌≢◌, ℕ, ◌%◌, ◌<◌, ◌≤◌, ◌↔◌, ℤ, length, slice_index_or, []};
 ghost use Rattle.std.specs.Prelude.{IsNone, IsTrue, IfSome};
-ghost use Rattle.ca_plane.specs.Prelude.{cell, longest_period, IsInBox};
+ghost use Rattle.std.specs.Int.{int_min, int_max};
+ghost use Rattle.ca_plane.specs.Prelude.{Picture, cell, longest_period, IsInBox, IsLeastBox};
 ghost use Rattle.ca_parts.specs.Phases.{IsCourse, IsShortStep};
-ghost use Rattle.ca_parts.specs.inner.Courses.{plane_at, HoldsBefore, IsNearBox, SweepsBefore, IsInSweep};
+ghost use Rattle.ca_parts.specs.inner.Courses.{plane_at, HoldsBefore, IsNearBox};
+ghost use Rattle.ca_parts.specs.inner.Courses.{SweepsBefore, IsInSweep};
+ghost use Rattle.ca_parts.specs.inner.Sides.{TouchesEach, HasSidesOf};
 ghost use Rattle.ca_parts.specs.inner.Tracks.{IsTrack, IsAcross, IsDown};
 
 use crate::track::Track;
@@ -149,6 +152,7 @@ fn sweep_of(planes: &[Plane]) -> Bounds
 fn live_sweep(planes: &[Plane]) -> Option<Bounds>
     ensures near { IfSome result IsNearBox }
     ensures all { SweepsBefore planes.now (length planes.now) result }
+    ensures least { IfSome result (TouchesEach planes.now (length planes.now)) }
 {
     let mut sweep = None;
     'planes: for plane in planes {
@@ -163,13 +167,26 @@ fn with_plane(sweep: Option<Bounds>, plane: &Plane) -> Option<Bounds>
     ensures near { IfSome result IsNearBox }
     ensures old { (x y : ℤ) → IsInSweep sweep x y → IsInSweep result x y }
     ensures new { (x y : ℤ) → cell plane.now x y ≢ 0 → IsInSweep result x y }
+    ensures least { IfSome result (HasSidesOf sweep plane.now) }
 {
-    let Some(bounds) = near_bounds(plane) else {
-        return sweep;
-    };
+    match near_bounds(plane) {
+        Some(bounds) => Some(with_box(sweep, bounds)),
+        None => sweep,
+    }
+}
+
+// The box round what was in the one box, where there was any, and in the other.
+fn with_box(sweep: Option<Bounds>, bounds: Bounds) -> Bounds
+    requires near { IfSome sweep IsNearBox }
+    requires other_near { IsNearBox bounds }
+    ensures near { IsNearBox result }
+    ensures old { (x y : ℤ) → IsInSweep sweep x y → IsInBox result x y }
+    ensures new { (x y : ℤ) → IsInBox bounds x y → IsInBox result x y }
+    ensures least { (p : Picture) → IsLeastBox p bounds → HasSidesOf sweep p result }
+{
     match sweep {
-        Some(one) => Some(joined(one, bounds)),
-        None => Some(bounds),
+        Some(one) => joined(one, bounds),
+        None => bounds,
     }
 }
 
@@ -177,18 +194,23 @@ fn with_plane(sweep: Option<Bounds>, plane: &Plane) -> Option<Bounds>
 fn near_bounds(plane: &Plane) -> Option<Bounds>
     ensures near { IfSome result IsNearBox }
     ensures all { (x y : ℤ) → cell plane.now x y ≢ 0 → IsInSweep result x y }
+    ensures least { IfSome result (IsLeastBox plane.now) }
 {
     let _ = plane.as_slice();
     plane.bounds()
 }
 
-// A box that holds both.
+// The smallest box round both.
 fn joined(one: Bounds, other: Bounds) -> Bounds
     requires near { IsNearBox one }
     requires other_near { IsNearBox other }
     ensures near { IsNearBox result }
     ensures one { (x y : ℤ) → IsInBox one x y → IsInBox result x y }
     ensures other { (x y : ℤ) → IsInBox other x y → IsInBox result x y }
+    ensures x0 { result.x0 ≡ int_min one.x0 other.x0 }
+    ensures y0 { result.y0 ≡ int_min one.y0 other.y0 }
+    ensures x1 { result.x1 ≡ int_max one.x1 other.x1 }
+    ensures y1 { result.y1 ≡ int_max one.y1 other.y1 }
 {
     Bounds {
         x0: one.x0.min(other.x0),
