@@ -11,7 +11,8 @@ pub record IsDivision (next : List ℕ → ℕ) (cells : ℤ → ℤ → ℕ) (p
   pub apart : AllPairs (NeverMeet next) parts
   pub whole : (x y : ℤ) → cells x y ≡ together parts x y
 
--- these cells have a division: the empty plane has that into no parts
+-- these cells have a division: the empty plane has that into no parts. It is meant of rules under which nothing is born where nothing is
+-- live, as all laws of it are
 abbrev pub IsSettled : (List ℕ → ℕ) → (ℤ → ℤ → ℕ) → Type 0
 IsSettled next cells = (parts : List Picture) × IsDivision next cells parts
 
@@ -19,7 +20,7 @@ IsSettled next cells = (parts : List Picture) × IsDivision next cells parts
 abbrev pub IsFiner : List Picture → List Picture → Type 0
 IsFiner fine coarse = All (λ p. Any (LiesIn p) coarse) fine
 
--- each of these parts lies in a part of every division of the cells
+-- each of these parts lies in a part of every division of the cells, as where there is no part or no division
 abbrev pub IsFinerThanAll : (List ℕ → ℕ) → (ℤ → ℤ → ℕ) → List Picture → Type 0
 IsFinerThanAll next cells parts = (others : List Picture) → IsDivision next cells others → IsFiner parts others
 

@@ -1,4 +1,4 @@
--- A part that comes back, by what it shows over one period, and when two such parts meet (our own).
+-- A part that comes back, by what it shows over one period (our own).
 use Rattle.std.specs.Prelude.{ℕ, ◌<◌, ◌≤◌, ℤ, pos, neg_ℤ, ◌≤ℤ◌, List, [], length, slice_index_or}
 use Rattle.ca_plane.specs.Prelude.{Picture, shifted, IsAfter, longest_period, greatest_shift}
 

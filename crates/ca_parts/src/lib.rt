@@ -1,5 +1,5 @@
 //! What a plane consists of: its components and islands, and once it has settled, parts that come back and never meet. The
-//! laws say that such parts go on alone, that they are the only finest ones, and how one generation earlier is judged.
+//! laws say that such parts go on alone, that a finest division is the only one, and how one generation earlier is judged.
 #![tactic(auto)]
 
 mod apart;

@@ -15,7 +15,8 @@ use ca_plane::limits::{GREATEST_SHIFT, LONGEST_PERIOD};
 use ca_plane::{Bounds, Plane};
 use std::marker::Model;
 
-/// A part that comes back: its planes over one period, and the vector by which it is moved after each period.
+/// Planes that are given as those of one period of a part that comes back, and the vector by which it is moved after
+/// each period.
 #[derive(Drop)]
 pub struct Phases {
     planes: Vec<Plane>,

@@ -64,7 +64,7 @@ impl Track {
         times(other.period, self.step) <= times(self.period, other.step)
     }
 
-    // Whether the track ends before the other one begins, with a gap of 2 at least, after n generations and more.
+    // Whether the track ends before the other one begins, 3 cells further at least, after n generations and more.
     fn stays_before(self, other: Track, n: u64) -> bool
         requires one { IsTrack self }
         requires other { IsTrack other }
