@@ -64,6 +64,9 @@ TABLE_FAULT = rb"(?:no rule line|no table|syntax|states|neighborhood|symmetries|
 TABLE_REFUSAL = re.compile(rb"line 3: refused, bad table: (%s)\n  rule file: \d+\.rule, line (\d+)\n" % TABLE_FAULT)
 TABLE_VERDICTS = re.compile(rb"line 3: (?:yes|no, cells differ after 1\n  p at -?\d+,-?\d+: \d+ after 1 generation, claimed \d+)\nline 4: yes\n")
 
+# A line that tells of a table with ties.
+TIE = re.compile(rb"(?m)^  rule (.*): may differ from Golly, where a transition with a variable for its result fits in several orders\n")
+
 
 @dataclass
 class Trial:
@@ -274,6 +277,12 @@ def parted(stream, before, names):
     return found, []
 
 
+def without_ties(stream, rules):
+    """A stream without its lines on tables with ties, and what is wrong with these: each names one of these rules, in whose order they come."""
+    left = iter(rules)
+    return TIE.sub(b"", stream), [f"no table of this name, or not in its place: {it!r}" for it in TIE.findall(stream) if it not in left]
+
+
 class Tester:
     """Runs the program over texts in a folder, with one judge for each kind."""
 
@@ -302,8 +311,9 @@ class Tester:
             self.files.path(it.name("claims"), self.judges[it.kind].prepare(self.files, it))
         names = [it.name("claims").encode() for it in trials]
         outcome, wrong = self.run(["verify", "--explain", *(it.decode() for it in names), "none.claims"], trials)
-        (printed, more), (faults, others) = parted(outcome.printed, b"", names), parted(outcome.complaint, b"cafile: ", names)
-        wrong += more + others
+        complaint, ties = without_ties(outcome.complaint, [escaped(rule_name(it.text)[0] or b"") for it in trials if it.kind == "rule"])
+        (printed, more), (faults, others) = parted(outcome.printed, b"", names), parted(complaint, b"cafile: ", names)
+        wrong += more + others + ties
         for it, name in zip(trials, names):
             it.printed, it.faults = printed[name], faults[name]
         status = max(it.status() for it in trials)
