@@ -76,3 +76,18 @@ times-minus zero a u = rw (zero-*ℤ (a -ℤ u), zero-*ℤ a, zero-*ℤ u) (omeg
 times-minus (suc k) a u =
     let before = times-minus k a u in
     rw (suc_ℤ-*ℤ (pos k) (a -ℤ u), suc_ℤ-*ℤ (pos k) a, suc_ℤ-*ℤ (pos k) u) (omega (arith, ints, before))
+
+-- what goes on by u for long and is between two numbers then, goes on by 0
+stays_out : (b : ℕ) (x u : ℤ) (k : ℕ) → b + (up x + down x) + 1 ≤ k → neg_ℤ (pos b) ≤ℤ (x +ℤ (pos k *ℤ u)) → (x +ℤ (pos k *ℤ u)) ≤ℤ pos b → u ≡ pos 0
+stays_out b x u k far low high =
+    zero_between u (λ some. let r = rises k u some in omega (arith, ints, far, low, high, r)) (λ some. let r = falls k u some in omega (arith, ints, far, low, high, r))
+
+-- from some number of steps on, a place that goes on by a vector other than (0, 0) is none of the picture's cells
+pub drifts_out : (p : Picture) (x y : ℤ) → (m : ℕ) × ((k : ℕ) → m ≤ k → (u v : ℤ) → cell p (x +ℤ (pos k *ℤ u)) (y +ℤ (pos k *ℤ v)) ≢ 0 → (u ≡ pos 0) × (v ≡ pos 0))
+drifts_out p x y =
+    let (b, near) = bound p in (
+      b + (up x + down x) + (up y + down y) + 1,
+      λ k late u v live.
+          let at = near (x +ℤ (pos k *ℤ u)) (y +ℤ (pos k *ℤ v)) live in
+          (stays_out b x u k (omega (arith, late)) at.0 at.1, stays_out b y v k (omega (arith, late)) at.2 at.3),
+    )

@@ -22,7 +22,7 @@ seen_earlier next e p l u v later back x y =
     sym (back x y) ∙ ap (λ k. after next e k (x +ℤ u) (y +ℤ v)) sum ∙ sym (after_stands next e p 1 later l (x +ℤ u) (y +ℤ v))
 
 -- a plane that is itself, moved, is itself, moved k times
-moved_often : (next : List ℕ → ℕ) (f : ℤ → ℤ → ℕ) (u v : ℤ) → ((x y : ℤ) → f (x +ℤ u) (y +ℤ v) ≡ f x y) → (k : ℕ) (x y : ℤ) → f (x +ℤ (pos k *ℤ u)) (y +ℤ (pos k *ℤ v)) ≡ f x y
+pub moved_often : (next : List ℕ → ℕ) (f : ℤ → ℤ → ℕ) (u v : ℤ) → ((x y : ℤ) → f (x +ℤ u) (y +ℤ v) ≡ f x y) → (k : ℕ) (x y : ℤ) → f (x +ℤ (pos k *ℤ u)) (y +ℤ (pos k *ℤ v)) ≡ f x y
 moved_often next f u v same k x y =
     sym (ap (λ j. cells_after next f j (x +ℤ (pos k *ℤ u)) (y +ℤ (pos k *ℤ v))) (mul-zero k)) ∙ back_times next f 0 k u v same x y
 

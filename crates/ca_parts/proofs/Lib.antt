@@ -11,6 +11,7 @@ pub mod LinkedParts
 pub mod EarlierPictures
 pub mod LongRun
 pub mod EarlierDivisions
+pub mod SharedCells
 pub mod RowOrder
 pub mod TwoApart
 pub mod Turns

@@ -125,3 +125,18 @@ pub fn ends_tell_if_settled()
         → All (Contains ends) lives → AllPairs (NeverMeet next) lives
         → ((x y : ℤ) → cells x y ≡ together lives x y) → IsFinest next cells lives }
 {}
+
+/// The parts of a division of a later plane, each as it was n generations earlier, are a division of this plane,
+/// if it is settled at all.
+pub fn earlier_parts_are_a_division()
+    ensures { (next : List ℕ → ℕ) → next (replicate 9 0) ≡ 0 → (n : ℕ) (cells : ℤ → ℤ → ℕ)
+        (parts earlier : List Picture) → IsDivision next (cells_after next cells n) parts
+        → AllZip (IsEarlier next n) earlier parts → IsSettled next cells → IsDivision next cells earlier }
+{}
+
+/// The finest division goes on: what its parts are after n generations is the finest division of the plane then.
+pub fn later_parts_are_finest()
+    ensures { (next : List ℕ → ℕ) → next (replicate 9 0) ≡ 0 → (cells : ℤ → ℤ → ℕ) (n : ℕ)
+        (parts later : List Picture) → IsFinest next cells parts
+        → AllZip (λ p q. IsAfter next p n q) parts later → IsFinest next (cells_after next cells n) later }
+{}
