@@ -10,7 +10,7 @@ use Rattle.ca_parts.proofs.Lists.{AllZip-map, All-zip, AllPairs-zip}
 use Rattle.ca_parts.proofs.ApartPlanes.{AreApart-same}
 use Rattle.ca_parts.proofs.Sums.{after_together, apart_before}
 use Rattle.ca_parts.proofs.LaterPictures.{picture_after, IsAfter-picture_after, live_or_not}
-use Rattle.ca_parts.proofs.Returning.{IsBackBy-from_shifted, shifted-from_IsBackBy, after_return, back_late}
+use Rattle.ca_parts.proofs.Returning.{IsBackBy, IsBackBy-from_shifted, shifted-from_IsBackBy, after_return, back_late}
 
 -- nothing comes of a plane where nothing is live
 pub nothing_comes : (next : List ℕ → ℕ) → next (replicate 9 0) ≡ 0 → (f : ℤ → ℤ → ℕ) → ((x y : ℤ) → f x y ≡ 0) → (n : ℕ) (x y : ℤ) → cells_after next f n x y ≡ 0
@@ -32,19 +32,17 @@ IsLive-later next quiet p q n comes stands live =
           ∙ nothing_comes next quiet (after next p n) (λ a b. stands a b ∙ dead a b) k (x +ℤ u) (y +ℤ v)))
     ]
 
+-- what is back after m generations is so at all times, by the same vector
+pub IsBackBy-later : (next : List ℕ → ℕ) (p q : Picture) (n m : ℕ) (u v : ℤ) → IsAfter next p n q → IsBackBy next (cell p) m u v → IsBackBy next (cell q) m u v
+IsBackBy-later next p q n m u v stands back x y =
+    let turned : n + m ≡ m + n = omega arith in
+    after_stands next p q n stands m (x +ℤ u) (y +ℤ v) ∙ ap (λ k. after next p k (x +ℤ u) (y +ℤ v)) turned
+    ∙ after_return next (cell p) m u v back n x y ∙ stands x y
+
 -- what comes back comes back at all times
 pub ComesBack-later : (next : List ℕ → ℕ) (p q : Picture) (n : ℕ) → IsAfter next p n q → ComesBack next p → ComesBack next q
 ComesBack-later next p q n stands (m, some, u, v, there) =
-    let turned : n + m ≡ m + n = omega arith in
-    let back = IsBackBy-from_shifted next p m u v there in (
-      m,
-      some,
-      u,
-      v,
-      shifted-from_IsBackBy next q m u v (λ x y.
-          after_stands next p q n stands m (x +ℤ u) (y +ℤ v) ∙ ap (λ k. after next p k (x +ℤ u) (y +ℤ v)) turned
-          ∙ after_return next (cell p) m u v back n x y ∙ stands x y),
-    )
+    (m, some, u, v, shifted-from_IsBackBy next q m u v (IsBackBy-later next p q n m u v stands (IsBackBy-from_shifted next p m u v there)))
 
 -- and pictures that never meet don't meet later
 pub NeverMeet-later : (next : List ℕ → ℕ) (p p' q q' : Picture) (n : ℕ) → IsAfter next p n q → IsAfter next p' n q' → NeverMeet next p p' → NeverMeet next q q'

@@ -22,3 +22,4 @@ pub mod Taken
 pub mod Chains
 pub mod Stretches
 pub mod Partitions
+pub mod Outgrown

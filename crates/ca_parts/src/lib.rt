@@ -3,6 +3,7 @@
 #![tactic(auto)]
 
 mod apart;
+pub mod growth;
 pub mod laws;
 mod meeting;
 mod partition;
