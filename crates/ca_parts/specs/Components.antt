@@ -22,10 +22,6 @@ pub record IsUndivided (KeepApart : (ℤ → ℤ → ℕ) → (ℤ → ℤ → �
 abbrev pub IsLinked : (ℤ → ℤ → ℕ) → Type 0
 IsLinked = IsUndivided AreApart
 
--- live cells that aren't those of two live pictures of which no cells touch
-abbrev pub IsIsland : (ℤ → ℤ → ℕ) → Type 0
-IsIsland = IsUndivided DontTouch
-
 -- a live cell of the first picture comes before all live cells of the other, row by row from the top, and in a row by rising x
 abbrev pub BeginsBefore : Picture → Picture → Type 0
 BeginsBefore p q =
