@@ -17,6 +17,7 @@ pub mod TwoApart
 pub mod Turns
 pub mod ShownCourses
 pub mod SweptPlanes
+pub mod PartedTracks
 pub mod Ends
 pub mod Taken
 pub mod Chains

@@ -8,12 +8,13 @@ use Rattle.ca_plane.specs.Prelude.{Picture, cell, shifted, after, IsAfter}
 use Rattle.ca_plane.proofs.Shifts.{cell-shifted}
 use Rattle.ca_plane.proofs.After.{around-nine_states}
 use Rattle.ca_parts.specs.declared.{track.Track.Track, meeting.Meeting.Meeting}
-use Rattle.ca_parts.specs.declared.meeting.Meeting.TheVariants.{Never, At, Later}
+use Rattle.ca_parts.specs.declared.meeting.Meeting.TheVariants.{Never, At, NotYet}
 use Rattle.ca_parts.specs.Prelude.{AreApart}
 use Rattle.ca_parts.specs.Phases.{Course, ArePhases}
 use Rattle.ca_parts.specs.Meetings.{IsMeeting}
 use Rattle.ca_parts.specs.inner.Apart.{AreFurtherWhenMoved}
-use Rattle.ca_parts.specs.inner.Courses.{plane_at, shown, AreApartAfter, IsShownMeeting, ClosesRound, EndPeriods, GoOneWay}
+use Rattle.ca_parts.specs.inner.Courses.{plane_at, shown, AreApartAfter, IsShownMeeting, ClosesRound}
+use Rattle.ca_parts.specs.Partings.{EndPeriods, GoOneWay}
 use Rattle.ca_parts.specs.inner.Tracks.{IsAcross, IsDown, AreClear, GoAlike, way}
 use Rattle.ca_parts.proofs.ApartPlanes.{AreApart-same}
 use Rattle.ca_parts.proofs.TwoApart.{apart_from_further, further_from_apart, further-moved, moved-further}
@@ -54,7 +55,7 @@ IsMeeting-from_shown next p q one other most (At n) phases phases_too shown = (
   },
   shown.2,
 )
-IsMeeting-from_shown next p q one other most Later phases phases_too shown = λ n within. apart_from_shown next p q one other phases phases_too n (shown n within)
+IsMeeting-from_shown next p q one other most NotYet phases phases_too shown = λ n within. apart_from_shown next p q one other phases phases_too n (shown n within)
 
 -- ---- on an axis
 

@@ -4,5 +4,6 @@ pub mod Divisions
 pub mod Growth
 pub mod Phases
 pub mod Meetings
+pub mod Partings
 pub mod Components
 pub mod inner

@@ -1,8 +1,8 @@
 -- When two pictures meet that go on alone (our own).
-use Rattle.std.specs.Prelude.{ℕ, ◌≤◌, List}
+use Rattle.std.specs.Prelude.{ℕ, ◌≤◌, List, ⊤}
 use Rattle.ca_plane.specs.Prelude.{Picture, after}
 use Rattle.ca_parts.specs.declared.meeting.Meeting.{Meeting}
-use Rattle.ca_parts.specs.declared.meeting.Meeting.TheVariants.{Never, At, Later}
+use Rattle.ca_parts.specs.declared.meeting.Meeting.TheVariants.{Never, At, NotYet}
 use Rattle.ca_parts.specs.Parts.{AreApart, AreApartBefore, NeverMeet}
 
 -- after n generations the two aren't apart, and after each smaller number they are
@@ -15,4 +15,10 @@ pub record IsFirstMeeting (next : List ℕ → ℕ) (p q : Picture) (n : ℕ) : 
 abbrev pub IsMeeting : (List ℕ → ℕ) → Picture → Picture → ℕ → Meeting → Type 0
 IsMeeting next p q most Never = NeverMeet next p q
 IsMeeting next p q most (At n) = IsFirstMeeting next p q n × (n ≤ most)
-IsMeeting next p q most Later = (n : ℕ) → n ≤ most → AreApart (after next p n) (after next q n)
+IsMeeting next p q most NotYet = (n : ℕ) → n ≤ most → AreApart (after next p n) (after next q n)
+
+-- this holds where the answer is that they don't meet yet
+abbrev pub IfNotYet : Meeting → Type 0 → Type 0
+IfNotYet Never Holds = ⊤
+IfNotYet (At n) Holds = ⊤
+IfNotYet NotYet Holds = Holds

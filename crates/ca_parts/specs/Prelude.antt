@@ -4,4 +4,5 @@ pub use Rattle.ca_parts.specs.Divisions.{IsDivision, IsSettled, IsFiner, IsFiner
 pub use Rattle.ca_parts.specs.Growth.{ComesBackWithin, IsSettledWithin, HasMoreCells, Outgrows}
 pub use Rattle.ca_parts.specs.Components.{HasLive, DontTouch, IsUndivided, IsLinked, BeginsBefore, ArePartsOf}
 pub use Rattle.ca_parts.specs.Phases.{Course, ArePhases, IsCourse}
-pub use Rattle.ca_parts.specs.Meetings.{IsMeeting, IsFirstMeeting}
+pub use Rattle.ca_parts.specs.Meetings.{IsMeeting, IsFirstMeeting, IfNotYet}
+pub use Rattle.ca_parts.specs.Partings.{IsCovered, length_of, way_after, StaysBefore, ArePartedAcross, ArePartedDown, AreParted, EndPeriods, GoOneWay, EndsRound}

@@ -7,8 +7,9 @@ ghost use Rattle.ca_plane.specs.Prelude.{Picture, cell, longest_period, IsInBox,
 ghost use Rattle.ca_parts.specs.Phases.{IsCourse, IsShortStep};
 ghost use Rattle.ca_parts.specs.inner.Courses.{plane_at, HoldsBefore, IsNearBox};
 ghost use Rattle.ca_parts.specs.inner.Courses.{SweepsBefore, IsInSweep};
-ghost use Rattle.ca_parts.specs.inner.Sides.{TouchesEach, HasSidesOf};
-ghost use Rattle.ca_parts.specs.inner.Tracks.{IsTrack, IsAcross, IsDown};
+ghost use Rattle.ca_parts.specs.Partings.{IsCovered};
+ghost use Rattle.ca_parts.specs.inner.Sides.{IsLiveIn, TouchesEach, HasSidesOf};
+ghost use Rattle.ca_parts.specs.inner.Tracks.{IsTrack, IsAcross, IsDown, ReachesAcross, ReachesDown};
 
 use crate::track::Track;
 use ca_plane::limits::{GREATEST_SHIFT, LONGEST_PERIOD};
@@ -22,7 +23,7 @@ pub struct Phases {
     planes: Vec<Plane>,
     dx: i64,
     dy: i64,
-    // It holds all that the planes show.
+    // The smallest box that holds all that the planes show.
     sweep: Bounds,
 }
 
@@ -96,6 +97,7 @@ impl Phases {
     pub(crate) fn across(&self) -> Track
         ensures bounded { IsTrack result }
         ensures across { IsAcross self.now result }
+        ensures ends { (x y : ℤ) → IsCovered self.now x y → ReachesAcross self.now result }
     {
         Track {
             first: self.sweep.x0,
@@ -109,6 +111,7 @@ impl Phases {
     pub(crate) fn down(&self) -> Track
         ensures bounded { IsTrack result }
         ensures down { IsDown self.now result }
+        ensures ends { (x y : ℤ) → IsCovered self.now x y → ReachesDown self.now result }
     {
         Track {
             first: self.sweep.y0,
@@ -133,10 +136,12 @@ fn is_short(step: i64) -> bool
     -GREATEST_SHIFT <= step && step <= GREATEST_SHIFT
 }
 
-// A box round all live cells of the planes. Where there are none, any box does.
+// The box round all live cells of the planes. Where there are none, any box does.
 fn sweep_of(planes: &[Plane]) -> Bounds
     ensures near { IsNearBox result }
     ensures all { HoldsBefore planes.now (length planes.now) result }
+    ensures least { (x y : ℤ) → IsLiveIn planes.now (length planes.now) x y
+        → TouchesEach planes.now (length planes.now) result }
 {
     match live_sweep(planes) {
         Some(sweep) => sweep,

@@ -1,10 +1,11 @@
 //! How parts that come back move along one axis, and whether they keep clear of each other there.
 
-ghost use Rattle.std.specs.Prelude.{ℕ, ◌^◌, ◌≡◌, ◌≤◌, ◌↔◌, pos, ◌+ℤ◌, ◌-ℤ◌, ◌*ℤ◌, ◌≤ℤ◌, IsTrue, IsFalse, IsNone, IfSome};
+ghost use Rattle.std.specs.Prelude.{ℕ, ◌^◌, ◌≡◌, ◌≤◌, ◌↔◌, pos, ◌+ℤ◌, ◌-ℤ◌, ◌*ℤ◌, ◌≤ℤ◌, ◌⊎◌, IsTrue, IsFalse, IsNone, IfSome};
 ghost use Rattle.ca_parts.specs.Phases.{IsShortStep};
 ghost use Rattle.ca_parts.specs.inner.Apart.{IsShort};
 ghost use Rattle.ca_parts.specs.inner.Tracks.{IsTrack, IsLongWay, IsWide, IsLengthOf, way};
-ghost use Rattle.ca_parts.specs.inner.Tracks.{LiesBefore, AreClear, GoesNoFaster, GoAlike};
+ghost use Rattle.ca_parts.specs.Partings.{length_of};
+ghost use Rattle.ca_parts.specs.inner.Tracks.{LiesBefore, KeepsBefore, AreClear, GoesNoFaster, GoAlike};
 
 /// What the planes of one period cover of an axis, and the step by which the part is moved along it after each
 /// period.
@@ -59,7 +60,7 @@ impl Track {
     fn goes_no_faster(self, other: Track) -> bool
         requires one { IsTrack self }
         requires other { IsTrack other }
-        ensures { IsTrue result → GoesNoFaster self other }
+        ensures { IsTrue result ↔ GoesNoFaster self other }
     {
         times(other.period, self.step) <= times(self.period, other.step)
     }
@@ -68,7 +69,8 @@ impl Track {
     fn stays_before(self, other: Track, n: u64) -> bool
         requires one { IsTrack self }
         requires other { IsTrack other }
-        ensures { IsTrue result → (k : ℕ) → n ≤ k → LiesBefore self other k (pos 3) }
+        ensures kept { IsTrue result ↔ KeepsBefore self other n }
+        ensures clear { IsTrue result → (k : ℕ) → n ≤ k → LiesBefore self other k (pos 3) }
     {
         self.goes_no_faster(other)
             && self.lies_before(other, n, length_of(self.step) + length_of(other.step) + 3)
@@ -87,7 +89,8 @@ fn times(count: u64, step: i64) -> i128
 // How long the step is, forward or back.
 fn length_of(step: i64) -> i128
     requires { IsShortStep step }
-    ensures { IsLengthOf step result }
+    ensures value { result ≡ length_of step }
+    ensures bounds { IsLengthOf step result }
 {
     i128::from(step).abs()
 }
@@ -120,7 +123,8 @@ pub(crate) fn way_between(one: Track, other: Track, n: u64) -> Option<i128>
 pub(crate) fn stay_clear(one: Track, other: Track, n: u64) -> bool
     requires one { IsTrack one }
     requires other { IsTrack other }
-    ensures { IsTrue result → (k : ℕ) → n ≤ k → AreClear one other k }
+    ensures kept { IsTrue result ↔ KeepsBefore one other n ⊎ KeepsBefore other one n }
+    ensures clear { IsTrue result → (k : ℕ) → n ≤ k → AreClear one other k }
 {
     one.stays_before(other, n) || other.stays_before(one, n)
 }
@@ -129,7 +133,7 @@ pub(crate) fn stay_clear(one: Track, other: Track, n: u64) -> bool
 pub(crate) fn go_alike(one: Track, other: Track) -> bool
     requires one { IsTrack one }
     requires other { IsTrack other }
-    ensures alike { IsTrue result → GoAlike one other }
+    ensures alike { IsTrue result ↔ GoAlike one other }
 {
     one.goes_no_faster(other) && other.goes_no_faster(one)
 }

@@ -4,7 +4,7 @@ use Rattle.ca_plane.specs.declared.point.Bounds.{Bounds}
 use Rattle.ca_plane.specs.Prelude.{Picture, cell, shifted, IsInBox, IsInPlane}
 use Rattle.ca_parts.specs.declared.apart.Way.{Way}
 use Rattle.ca_parts.specs.declared.meeting.Meeting.{Meeting}
-use Rattle.ca_parts.specs.declared.meeting.Meeting.TheVariants.{Never, At, Later}
+use Rattle.ca_parts.specs.declared.meeting.Meeting.TheVariants.{Never, At, NotYet}
 use Rattle.ca_parts.specs.Parts.{AreApart}
 use Rattle.ca_parts.specs.Phases.{Course}
 
@@ -25,19 +25,7 @@ AreApartAfter one other n = AreApart (cell (shown one n)) (cell (shown other n))
 abbrev pub IsShownMeeting : Course → Course → ℕ → Meeting → Type 0
 IsShownMeeting one other most Never = (n : ℕ) → AreApartAfter one other n
 IsShownMeeting one other most (At n) = (AreApartAfter one other n → ⊥) × ((m : ℕ) → m < n → AreApartAfter one other m) × (n ≤ most)
-IsShownMeeting one other most Later = (n : ℕ) → n ≤ most → AreApartAfter one other n
-
--- both periods end after n generations
-pub record EndPeriods (one other : Course) (n : ℕ) : Type 0 where
-  pub turns : ℕ
-  pub others : ℕ
-  pub first : n ≡ turns * length one.planes
-  pub second : n ≡ others * length other.planes
-
--- both go the same way over the same time
-pub record GoOneWay (one other : Course) : Type 0 where
-  pub across : pos (length other.planes) *ℤ one.dx ≡ pos (length one.planes) *ℤ other.dx
-  pub down : pos (length other.planes) *ℤ one.dy ≡ pos (length one.planes) *ℤ other.dy
+IsShownMeeting one other most NotYet = (n : ℕ) → n ≤ most → AreApartAfter one other n
 
 -- both periods end after n generations, and both pictures have gone the same way by then
 pub record ClosesRound (one other : Course) (n : ℕ) : Type 0 where

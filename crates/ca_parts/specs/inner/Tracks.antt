@@ -3,6 +3,7 @@ use Rattle.std.specs.Prelude.{◌≡◌, ◌≢◌, ℕ, ◌/◌, ◌^◌, ◌<�
 use Rattle.ca_plane.specs.Prelude.{cell, reach, longest_period, greatest_shift}
 use Rattle.ca_parts.specs.declared.track.Track.{Track}
 use Rattle.ca_parts.specs.Phases.{Course, IsShortStep}
+use Rattle.ca_parts.specs.Partings.{IsCovered, length_of}
 use Rattle.ca_parts.specs.inner.Courses.{plane_at}
 
 -- a coordinate of a plane
@@ -63,3 +64,17 @@ pub record IsLengthOf (step length : ℤ) : Type 0 where
   pub forward : step ≤ℤ length
   pub some : pos 0 ≤ℤ length
   pub most : length ≤ℤ pos greatest_shift
+
+-- the first goes no faster than the other one, and ends 3 cells and both steps before that one begins, after n generations
+abbrev pub KeepsBefore : Track → Track → ℕ → Type 0
+KeepsBefore one other n = GoesNoFaster one other × LiesBefore one other n ((length_of one.step +ℤ length_of other.step) +ℤ pos 3)
+
+-- something that the part covers lies on each end of the track across
+pub record ReachesAcross (course : Course) (track : Track) : Type 0 where
+  pub first : (y : ℤ) × IsCovered course track.first y
+  pub last : (y : ℤ) × IsCovered course track.last y
+
+-- and so downward
+pub record ReachesDown (course : Course) (track : Track) : Type 0 where
+  pub first : (x : ℤ) × IsCovered course x track.first
+  pub last : (x : ℤ) × IsCovered course x track.last

@@ -16,4 +16,5 @@ invariant_of-result c =
       };
       near = c.sweep_of-sweep.ensures.near;
       all = rw c.deref.ensures.value at c.sweep_of-sweep.ensures.all;
+      least = rw c.deref.ensures.value at c.sweep_of-sweep.ensures.least;
     }
