@@ -16,16 +16,16 @@ use Rattle.ca_plane.proofs.After.{around-same}
 
 -- ---- a plane's states at the points of a picture
 
-abbrev seen_at : (ℤ → ℤ → ℕ) → Picture → Picture
+abbrev pub seen_at : (ℤ → ℤ → ℕ) → Picture → Picture
 seen_at f [] = []
 seen_at f (e ∷ es) = (e.0, f e.0.x e.0.y) ∷ seen_at f es
 
 -- the place is that of one of the points
-abbrev IsPlaceIn : Picture → ℤ → ℤ → Type 0
+abbrev pub IsPlaceIn : Picture → ℤ → ℤ → Type 0
 IsPlaceIn es x y = (s : ℕ) × Contains es (record { y = y; x = x }, s)
 
 -- where a point is, the plane's state is shown
-cell-seen_at : (f : ℤ → ℤ → ℕ) (es : Picture) (x y : ℤ) → IsPlaceIn es x y → cell (seen_at f es) x y ≡ f x y
+pub cell-seen_at : (f : ℤ → ℤ → ℕ) (es : Picture) (x y : ℤ) → IsPlaceIn es x y → cell (seen_at f es) x y ≡ f x y
 cell-seen_at f [] x y (s, (k, low, is)) = absurd (omega (arith, low))
 cell-seen_at f (e ∷ es) x y (s, has) =
     elim (cases_Bool (int_eq y e.0.y && int_eq x e.0.x)) [
@@ -40,7 +40,7 @@ cell-seen_at f (e ∷ es) x y (s, has) =
     ]
 
 -- and where the plane is 0, that is
-cell-seen_at-none : (f : ℤ → ℤ → ℕ) (es : Picture) (x y : ℤ) → f x y ≡ 0 → cell (seen_at f es) x y ≡ 0
+pub cell-seen_at-none : (f : ℤ → ℤ → ℕ) (es : Picture) (x y : ℤ) → f x y ≡ 0 → cell (seen_at f es) x y ≡ 0
 cell-seen_at-none f [] x y none = refl
 cell-seen_at-none f (e ∷ es) x y none =
     elim (cases_Bool (int_eq y e.0.y && int_eq x e.0.x)) [

@@ -24,3 +24,6 @@ pub mod Chains
 pub mod Stretches
 pub mod Partitions
 pub mod Outgrown
+pub mod Products
+pub mod Cuts
+pub mod Regions

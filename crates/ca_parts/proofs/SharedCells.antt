@@ -58,12 +58,12 @@ one_way next p t a b u v (x, y, live) back again =
 -- ---- cells that are shown by two lists
 
 -- from n generations on, each cell of one of the qs is one of the ps, too
-abbrev ShowAlike : (List ℕ → ℕ) → ℕ → List Picture → List Picture → Type 0
+abbrev pub ShowAlike : (List ℕ → ℕ) → ℕ → List Picture → List Picture → Type 0
 ShowAlike next n ps qs =
     (s : ℕ) → n ≤ s → (q : Picture) → Contains qs q → (x y : ℤ) → after next q s x y ≢ 0 → (p : Picture) × Contains ps p × (after next p s x y ≡ after next q s x y)
 
 -- where all are back after t generations, it is so at all times, and the two are back by the same vector
-shown_always : (next : List ℕ → ℕ) → next (replicate 9 0) ≡ 0 → (n t : ℕ) → n ≤ t → (ps qs : List Picture) → All (IsBackAt next t) ps → ShowAlike next n ps qs
+pub shown_always : (next : List ℕ → ℕ) → next (replicate 9 0) ≡ 0 → (n t : ℕ) → n ≤ t → (ps qs : List Picture) → All (IsBackAt next t) ps → ShowAlike next n ps qs
     → (q : Picture) → Contains qs q → (a b : ℤ) → IsBackBy next (cell q) t a b → (m : ℕ) (x y : ℤ) → after next q m x y ≢ 0
     → (p : Picture) × Contains ps p × (after next p m x y ≡ after next q m x y) × IsBackBy next (cell p) t a b
 shown_always next quiet n t enough ps qs back shows q has a b again m x y live =

@@ -13,7 +13,9 @@ use Rattle.ca_parts.specs.Prelude.{AreApart}
 use Rattle.ca_parts.specs.Phases.{Course, ArePhases}
 use Rattle.ca_parts.specs.Meetings.{IsMeeting}
 use Rattle.ca_parts.specs.inner.Apart.{AreFurtherWhenMoved}
-use Rattle.ca_parts.specs.inner.Courses.{plane_at, shown, AreApartAfter, IsShownMeeting, ClosesRound}
+use Rattle.ca_parts.specs.Phases.{plane_at, shown}
+use Rattle.ca_parts.specs.Meetings.{AreApartAfter, IsShownMeeting}
+use Rattle.ca_parts.specs.inner.Courses.{ClosesRound}
 use Rattle.ca_parts.specs.Partings.{EndPeriods, GoOneWay}
 use Rattle.ca_parts.specs.inner.Tracks.{IsAcross, IsDown, AreClear, GoAlike, way}
 use Rattle.ca_parts.proofs.ApartPlanes.{AreApart-same}

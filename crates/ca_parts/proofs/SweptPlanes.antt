@@ -8,7 +8,8 @@ use Rattle.std.proofs.lemmas.List.Elements.{All-contains}
 use Rattle.ca_plane.specs.declared.{point.Bounds.Bounds, point.Point.Point}
 use Rattle.ca_plane.specs.Prelude.{Picture, cell, IsLive, IsInPlane, IsSparse, IsLeastBox}
 use Rattle.ca_plane.proofs.Pictures.{Contains-cell}
-use Rattle.ca_parts.specs.inner.Courses.{plane_at, IsNearBox, IsInSweep, SweepsBefore}
+use Rattle.ca_parts.specs.Phases.{plane_at}
+use Rattle.ca_parts.specs.inner.Courses.{IsNearBox, IsInSweep, SweepsBefore}
 use Rattle.ca_parts.specs.inner.Sides.{IsLiveIn, TouchesEach, HasSidesOf}
 
 -- the smallest box round live cells of a plane is near

@@ -1,9 +1,10 @@
 -- When two pictures meet that go on alone (our own).
-use Rattle.std.specs.Prelude.{ℕ, ◌≤◌, List, ⊤}
-use Rattle.ca_plane.specs.Prelude.{Picture, after}
+use Rattle.std.specs.Prelude.{ℕ, ◌<◌, ◌≤◌, List, ⊤}
+use Rattle.ca_plane.specs.Prelude.{Picture, cell, after}
 use Rattle.ca_parts.specs.declared.meeting.Meeting.{Meeting}
 use Rattle.ca_parts.specs.declared.meeting.Meeting.TheVariants.{Never, At, NotYet}
 use Rattle.ca_parts.specs.Parts.{AreApart, AreApartBefore, NeverMeet}
+use Rattle.ca_parts.specs.Phases.{Course, shown}
 
 -- after n generations the two aren't apart, and after each smaller number they are
 pub record IsFirstMeeting (next : List ℕ → ℕ) (p q : Picture) (n : ℕ) : Type 0 where
@@ -22,3 +23,13 @@ abbrev pub IfNotYet : Meeting → Type 0 → Type 0
 IfNotYet Never Holds = ⊤
 IfNotYet (At n) Holds = ⊤
 IfNotYet NotYet Holds = Holds
+
+-- what two courses show is apart after n generations
+abbrev pub AreApartAfter : Course → Course → ℕ → Type 0
+AreApartAfter one other n = AreApart (cell (shown one n)) (cell (shown other n))
+
+-- when what they show meets, as `IsMeeting` says it of pictures that go on alone
+abbrev pub IsShownMeeting : Course → Course → ℕ → Meeting → Type 0
+IsShownMeeting one other most Never = (n : ℕ) → AreApartAfter one other n
+IsShownMeeting one other most (At n) = (AreApartAfter one other n → ⊥) × ((m : ℕ) → m < n → AreApartAfter one other m) × (n ≤ most)
+IsShownMeeting one other most NotYet = (n : ℕ) → n ≤ most → AreApartAfter one other n

@@ -1,5 +1,5 @@
 -- A part that comes back, by what it shows over one period (our own).
-use Rattle.std.specs.Prelude.{ℕ, ◌<◌, ◌≤◌, ℤ, pos, neg_ℤ, ◌≤ℤ◌, List, [], length, slice_index_or}
+use Rattle.std.specs.Prelude.{ℕ, ◌/◌, ◌%◌, ◌<◌, ◌≤◌, ℤ, pos, neg_ℤ, ◌≤ℤ◌, ◌*ℤ◌, List, [], length, slice_index_or}
 use Rattle.ca_plane.specs.Prelude.{Picture, shifted, IsAfter, longest_period, greatest_shift}
 
 -- the planes of one period, generation by generation, and the vector by which the part is moved after it
@@ -25,3 +25,12 @@ pub record IsCourse (course : Course) : Type 0 where
   pub most : length course.planes ≤ longest_period
   pub across : IsShortStep course.dx
   pub down : IsShortStep course.dy
+
+-- the plane at k, and nothing where there is none
+abbrev pub plane_at : List Picture → ℕ → Picture
+plane_at planes k = slice_index_or planes k []
+
+-- what the course shows after n generations: one of its planes, moved by the vector after each whole period
+abbrev pub shown : Course → ℕ → Picture
+shown course n =
+    shifted (plane_at course.planes (n % length course.planes)) (pos (n / length course.planes) *ℤ course.dx) (pos (n / length course.planes) *ℤ course.dy)

@@ -3,6 +3,6 @@ pub use Rattle.ca_parts.specs.Parts.{AreApart, AreFurther, AreApartBefore, Never
 pub use Rattle.ca_parts.specs.Divisions.{IsDivision, IsSettled, IsFiner, IsFinerThanAll, IsFinest, IsFirstSettled}
 pub use Rattle.ca_parts.specs.Growth.{ComesBackWithin, IsSettledWithin, HasMoreCells, Outgrows}
 pub use Rattle.ca_parts.specs.Components.{HasLive, DontTouch, IsUndivided, IsLinked, BeginsBefore, ArePartsOf}
-pub use Rattle.ca_parts.specs.Phases.{Course, ArePhases, IsCourse}
-pub use Rattle.ca_parts.specs.Meetings.{IsMeeting, IsFirstMeeting, IfNotYet}
+pub use Rattle.ca_parts.specs.Phases.{Course, ArePhases, IsCourse, plane_at, shown}
+pub use Rattle.ca_parts.specs.Meetings.{IsMeeting, IsFirstMeeting, IfNotYet, AreApartAfter, IsShownMeeting}
 pub use Rattle.ca_parts.specs.Partings.{IsCovered, length_of, way_after, StaysBefore, ArePartedAcross, ArePartedDown, AreParted, EndPeriods, GoOneWay, EndsRound}

@@ -2,7 +2,7 @@
 //! under which nothing is born where nothing is live.
 
 ghost use Rattle.std.specs.Prelude.{◌≡◌, ◌≢◌, ℕ, ◌+◌, ℤ, List, replicate};
-ghost use Rattle.std.specs.List.{All, AllPairs, AllZip, Any, Contains, sum_by};
+ghost use Rattle.std.specs.List.{All, AllPairs, AllZip, Any, Contains, flat_map, sum_by};
 ghost use Rattle.ca_plane.specs.Prelude.{Picture, cell, after, IsAfter, IsSame, IsLive, cells_after};
 ghost use Rattle.ca_parts.specs.Prelude.{AreApart, AreApartBefore, NeverMeet, together, FallsInto, ComesBack};
 ghost use Rattle.ca_parts.specs.Prelude.{IsEarlier, IsEnd, LiesIn, IsLinked, IsDivision, IsSettled, IsFiner};
@@ -139,4 +139,26 @@ pub fn later_parts_are_finest()
     ensures { (next : List ℕ → ℕ) → next (replicate 9 0) ≡ 0 → (cells : ℤ → ℤ → ℕ) (n : ℕ)
         (parts later : List Picture) → IsFinest next cells parts
         → AllZip (λ p q. IsAfter next p n q) parts later → IsFinest next (cells_after next cells n) later }
+{}
+
+/// Two divisions of the same cells have a common cut: a division that is finer than both. And each part of the one
+/// is cut into parts that are a division of it, each of which lies in a part of the other.
+pub fn divisions_have_a_common_cut()
+    ensures whole { (next : List ℕ → ℕ) → next (replicate 9 0) ≡ 0 → (cells : ℤ → ℤ → ℕ)
+        (parts others : List Picture) → IsDivision next cells parts → IsDivision next cells others
+        → (cut : List Picture) × IsDivision next cells cut × IsFiner cut parts × IsFiner cut others }
+    ensures part { (next : List ℕ → ℕ) → next (replicate 9 0) ≡ 0 → (cells : ℤ → ℤ → ℕ)
+        (parts others : List Picture) → IsDivision next cells parts → IsDivision next cells others
+        → (p : Picture) → Contains parts p
+        → (cut : List Picture) × IsDivision next (cell p) cut × IsFiner cut others }
+{}
+
+/// Where a plane falls into regions, each of which has a finest division, and no two parts of these ever meet, all
+/// of them are the finest division of the plane.
+pub fn finest_divisions_of_regions()
+    ensures { (next : List ℕ → ℕ) → next (replicate 9 0) ≡ 0 → (cells : ℤ → ℤ → ℕ)
+        (regions : List Picture) (finest : List (List Picture)) → ((x y : ℤ) → cells x y ≡ together regions x y)
+        → AllZip (λ region parts. IsFinest next (cell region) parts) regions finest
+        → AllPairs (NeverMeet next) (flat_map (λ parts. parts) finest)
+        → IsFinest next cells (flat_map (λ parts. parts) finest) }
 {}

@@ -3,9 +3,9 @@
 ghost use Rattle.std.specs.Prelude.{◌≡◌, ℕ, suc, ◌*◌, ◌≤◌, ◌↔◌, List, IsTrue, IsNone, IfSome};
 ghost use Rattle.ca_plane.specs.Prelude.{Picture};
 ghost use Rattle.ca_parts.specs.Phases.{ArePhases};
-ghost use Rattle.ca_parts.specs.Meetings.{IsMeeting, IfNotYet};
+ghost use Rattle.ca_parts.specs.Meetings.{IsMeeting, IfNotYet, AreApartAfter, IsShownMeeting};
 ghost use Rattle.ca_parts.specs.Partings.{AreParted, EndPeriods, GoOneWay, EndsRound};
-ghost use Rattle.ca_parts.specs.inner.Courses.{IsShownMeeting, IsWayBetween, AreApartAfter};
+ghost use Rattle.ca_parts.specs.inner.Courses.{IsWayBetween};
 ghost use Rattle.ca_parts.specs.inner.Apart.{IsShortWay};
 
 use crate::apart::{Way, are_further};
@@ -29,9 +29,13 @@ pub enum Meeting {
 /// Parts are known at once never to meet where all that they ever cover lies apart on an axis, or moves apart there.
 /// Else they are looked at generation by generation, until that is so, or until both periods end and both have gone
 /// the same way.
+///
+/// Of planes that are given as a period of a part that isn't known to come back, it tells what they show. So the planes
+/// of its first generations tell of these generations.
 pub fn first_meeting(one: &Phases, other: &Phases, most: u64) -> Meeting
     ensures meeting { (next : List ℕ → ℕ) (p q : Picture) → ArePhases next p one.now → ArePhases next q other.now
         → IsMeeting next p q most result }
+    ensures shown { IsShownMeeting one.now other.now most result }
     ensures parted { IfNotYet result ((n : ℕ) → n ≤ most → AreParted one.now other.now n → ⊥) }
     ensures round { IfNotYet result ((n : ℕ) → n ≤ most → EndsRound one.now other.now (suc n) → ⊥) }
 {

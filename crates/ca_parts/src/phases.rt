@@ -4,8 +4,8 @@ ghost use Rattle.std.specs.Prelude.{◌≡◌, ◌≢◌, ℕ, ◌%◌, ◌<◌,
 ghost use Rattle.std.specs.Prelude.{IsNone, IsTrue, IfSome};
 ghost use Rattle.std.specs.Int.{int_min, int_max};
 ghost use Rattle.ca_plane.specs.Prelude.{Picture, cell, longest_period, IsInBox, IsLeastBox};
-ghost use Rattle.ca_parts.specs.Phases.{IsCourse, IsShortStep};
-ghost use Rattle.ca_parts.specs.inner.Courses.{plane_at, HoldsBefore, IsNearBox};
+ghost use Rattle.ca_parts.specs.Phases.{IsCourse, IsShortStep, plane_at};
+ghost use Rattle.ca_parts.specs.inner.Courses.{HoldsBefore, IsNearBox};
 ghost use Rattle.ca_parts.specs.inner.Courses.{SweepsBefore, IsInSweep};
 ghost use Rattle.ca_parts.specs.Partings.{IsCovered};
 ghost use Rattle.ca_parts.specs.inner.Sides.{IsLiveIn, TouchesEach, HasSidesOf};
@@ -82,8 +82,24 @@ impl Phases {
     pub fn vector(&self) -> (i64, i64)
         ensures across { result.0 ≡ self.now.dx }
         ensures down { result.1 ≡ self.now.dy }
+        ensures short_across { IsShortStep result.0 }
+        ensures short_down { IsShortStep result.1 }
     {
         (self.dx, self.dy)
+    }
+
+    /// The planes of the period, generation by generation.
+    pub fn planes(&self) -> &[Plane]
+        ensures { result.now ≡ self.now.planes }
+    {
+        &self.planes
+    }
+
+    /// The planes of the period, in memory of their own.
+    pub fn into_planes(self) -> Vec<Plane>
+        ensures { result.items ≡ self.planes }
+    {
+        self.planes
     }
 
     // The plane that shows the part after n generations, but for the way that it has gone.

@@ -3,29 +3,7 @@ use Rattle.std.specs.Prelude.{◌≡◌, ◌≢◌, ℕ, ◌*◌, ◌/◌, ◌%�
 use Rattle.ca_plane.specs.declared.point.Bounds.{Bounds}
 use Rattle.ca_plane.specs.Prelude.{Picture, cell, shifted, IsInBox, IsInPlane}
 use Rattle.ca_parts.specs.declared.apart.Way.{Way}
-use Rattle.ca_parts.specs.declared.meeting.Meeting.{Meeting}
-use Rattle.ca_parts.specs.declared.meeting.Meeting.TheVariants.{Never, At, NotYet}
-use Rattle.ca_parts.specs.Parts.{AreApart}
-use Rattle.ca_parts.specs.Phases.{Course}
-
--- the plane at k, and nothing where there is none
-abbrev pub plane_at : List Picture → ℕ → Picture
-plane_at planes k = slice_index_or planes k []
-
--- the picture after n generations
-abbrev pub shown : Course → ℕ → Picture
-shown course n =
-    shifted (plane_at course.planes (n % length course.planes)) (pos (n / length course.planes) *ℤ course.dx) (pos (n / length course.planes) *ℤ course.dy)
-
--- the two pictures are apart then
-abbrev pub AreApartAfter : Course → Course → ℕ → Type 0
-AreApartAfter one other n = AreApart (cell (shown one n)) (cell (shown other n))
-
--- the same as of pictures that go on alone
-abbrev pub IsShownMeeting : Course → Course → ℕ → Meeting → Type 0
-IsShownMeeting one other most Never = (n : ℕ) → AreApartAfter one other n
-IsShownMeeting one other most (At n) = (AreApartAfter one other n → ⊥) × ((m : ℕ) → m < n → AreApartAfter one other m) × (n ≤ most)
-IsShownMeeting one other most NotYet = (n : ℕ) → n ≤ most → AreApartAfter one other n
+use Rattle.ca_parts.specs.Phases.{Course, plane_at}
 
 -- both periods end after n generations, and both pictures have gone the same way by then
 pub record ClosesRound (one other : Course) (n : ℕ) : Type 0 where

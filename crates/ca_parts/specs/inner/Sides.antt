@@ -2,7 +2,7 @@
 use Rattle.std.specs.Prelude.{◌≡◌, ◌≢◌, ℕ, ◌<◌, ℤ, List, Option, Some, ◌⊎◌}
 use Rattle.ca_plane.specs.declared.point.Bounds.{Bounds}
 use Rattle.ca_plane.specs.Prelude.{Picture, cell}
-use Rattle.ca_parts.specs.inner.Courses.{plane_at}
+use Rattle.ca_parts.specs.Phases.{plane_at}
 
 -- some plane of the first n is live there
 abbrev pub IsLiveIn : List Picture → ℕ → ℤ → ℤ → Type 0

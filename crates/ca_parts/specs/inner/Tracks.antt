@@ -4,7 +4,7 @@ use Rattle.ca_plane.specs.Prelude.{cell, reach, longest_period, greatest_shift}
 use Rattle.ca_parts.specs.declared.track.Track.{Track}
 use Rattle.ca_parts.specs.Phases.{Course, IsShortStep}
 use Rattle.ca_parts.specs.Partings.{IsCovered, length_of}
-use Rattle.ca_parts.specs.inner.Courses.{plane_at}
+use Rattle.ca_parts.specs.Phases.{plane_at}
 
 -- a coordinate of a plane
 abbrev pub IsCoordinate : ℤ → Type 0

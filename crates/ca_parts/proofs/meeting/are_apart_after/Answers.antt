@@ -1,7 +1,7 @@
 use Rattle.std.proofs.Common.{ℕ, ◌/◌, ◌%◌, length}
 use Rattle.std.specs.Prelude.{pos, ◌*ℤ◌}
 use Rattle.ca_plane.specs.Prelude.{Picture}
-use Rattle.ca_parts.specs.inner.Courses.{plane_at}
+use Rattle.ca_parts.specs.Phases.{plane_at}
 use Rattle.ca_parts.proofs.ShownCourses.{apart_from_between, between_from_apart}
 use Rattle.ca_parts.proofs.meeting.are_apart_after.Goals as goal
 

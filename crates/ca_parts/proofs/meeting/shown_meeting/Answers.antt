@@ -1,6 +1,6 @@
 use Rattle.std.proofs.Common.{suc, inl, inr, refl, arith, below_more}
 use Rattle.ca_plane.proofs.Numbers.{below_or_not}
-use Rattle.ca_parts.specs.inner.Courses.{AreApartAfter}
+use Rattle.ca_parts.specs.Meetings.{AreApartAfter}
 use Rattle.ca_parts.specs.Partings.{AreParted, EndsRound}
 use Rattle.ca_parts.proofs.PartedTracks.{untrue}
 use Rattle.ca_parts.proofs.ShownCourses.{apart_from_round, ClosesRound-from_ends}

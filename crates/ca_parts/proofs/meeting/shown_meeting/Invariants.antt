@@ -1,6 +1,6 @@
 use Rattle.std.proofs.Common.{ℕ, suc, ◌-◌, ◌<◌, ◌≤◌}
 use Rattle.ca_parts.specs.Partings.{AreParted, EndsRound}
-use Rattle.ca_parts.specs.inner.Courses.{AreApartAfter}
+use Rattle.ca_parts.specs.Meetings.{AreApartAfter}
 use Rattle.ca_parts.proofs.meeting.shown_meeting.Given as goal
 
 -- after each number of generations so far they are apart, and nothing shows that they stay so
