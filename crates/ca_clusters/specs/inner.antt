@@ -1,0 +1,7 @@
+-- What only private contracts speak of.
+pub mod Shifts
+pub mod Runs
+pub mod Encounters
+pub mod Earlier
+pub mod Groups
+pub mod Regions
