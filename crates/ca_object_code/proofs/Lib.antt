@@ -5,3 +5,4 @@ pub mod FrameShows
 pub mod FrameRounds
 pub mod RowBoxes
 pub mod LargeObjects
+pub mod PlaneCodes

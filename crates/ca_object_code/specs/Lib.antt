@@ -1,2 +1,3 @@
 pub mod Countings
+pub mod ObjectPlanes
 pub mod inner

@@ -2,3 +2,4 @@
 pub mod Drawn
 pub mod Frames
 pub mod Large
+pub mod Shown

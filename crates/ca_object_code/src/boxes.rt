@@ -37,8 +37,8 @@ pub(crate) fn box_round(
     Ok(Some(grid))
 }
 
-// The window of a box, where that has at most 40 columns and rows.
-fn window_of(bounds: &WideBounds) -> Option<Window>
+/// The window of a box, where that has at most 40 columns and rows.
+pub(crate) fn window_of(bounds: &WideBounds) -> Option<Window>
     requires wide { IsWideBox bounds.now }
     requires x { bounds.now.x0 ≤ℤ bounds.now.x1 }
     requires y { bounds.now.y0 ≤ℤ bounds.now.y1 }
