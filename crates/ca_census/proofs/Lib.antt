@@ -1,0 +1,4 @@
+pub mod SettledSearches
+pub mod CourseKinds
+pub mod CensusEntries
+pub mod CensusFiles

@@ -1,0 +1,5 @@
+pub mod Prelude
+pub mod Settlings
+pub mod Censuses
+pub mod Files
+pub mod inner

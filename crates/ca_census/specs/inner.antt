@@ -1,0 +1,2 @@
+-- What only private contracts speak of.
+pub mod Searches
