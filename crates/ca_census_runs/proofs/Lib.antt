@@ -1,0 +1,5 @@
+pub mod FilesTold
+pub mod LabelCounts
+pub mod OneOrder
+pub mod OneText
+pub mod Uncounted

@@ -1,0 +1,7 @@
+pub mod Prelude
+pub mod Objects
+pub mod Counts
+pub mod Places
+pub mod Lines
+pub mod Runs
+pub mod inner

@@ -1,0 +1,3 @@
+-- Definitions that private contracts alone cite. No public contract rests on them.
+pub mod Entries
+pub mod Tasks
