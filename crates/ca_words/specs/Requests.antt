@@ -15,8 +15,8 @@ use Rattle.ca_words.specs.Words.{IsTextAfter, IsNumberAfter, scale_of}
 use Rattle.ca_words.specs.Values.{IsFlag, AreTextsOf, IsByteAfter, IsTarget, IsCorner, IsSize}
 use Rattle.ca_words.specs.RawWords.{ArePathsOf}
 use Rattle.ca_words.specs.declared.{extras.Extras.Extras, request.Request.Request, commands.pattern.PatternExtras.PatternExtras}
-use Rattle.ca_words.specs.declared.{commands.verify.Folders.Folders, commands.identify.Search.Search, commands.import.ImportWords.ImportWords}
-use Rattle.ca_words.specs.declared.request.Request.TheVariants.{Write, Verify, Identify, Import, RuleFile}
+use Rattle.ca_words.specs.declared.{commands.verify.Folders.Folders, commands.identify.Search.Search, commands.census.CensusSearch.CensusSearch, commands.import.ImportWords.ImportWords}
+use Rattle.ca_words.specs.declared.request.Request.TheVariants.{Write, Verify, Identify, Census, Import, RuleFile}
 
 -- what is asked for besides claims or patterns
 pub record AreExtras (words : ArgMatches) (extras : Extras) : Type 0 where
@@ -42,6 +42,11 @@ pub record AreFolders (words : ArgMatches) (folders : Folders) : Type 0 where
 pub record IsSearch (words : ArgMatches) (search : Search) : Type 0 where
   pub limit : IsNumberAfter words (codes "limit") search.limit
   pub apgcodes : IsFlag words (codes "apgcode") search.codes
+
+-- what a run of `census` looks for, and whether each object is told
+pub record IsCensusSearch (words : ArgMatches) (search : CensusSearch) : Type 0 where
+  pub limit : IsNumberAfter words (codes "limit") search.limit
+  pub listed : IsFlag words (codes "list") search.listed
 
 -- the format that `import` writes: RLE, but for `--to mc`
 abbrev pub IsImportTarget : ArgMatches → Format → Type 0
@@ -99,6 +104,11 @@ abbrev pub IsIdentify : ArgMatches → (raw : List (List ℕ)) → Request → T
 IsIdentify words raw (Identify paths search extras) = ArePathsOf words raw (map (λ path. path.items) paths.items) × IsSearch words search × ArePatternExtras words extras
 IsIdentify words raw _ = ⊥
 
+-- of `census`, where these of its paths aren't UTF-8
+abbrev pub IsCensus : ArgMatches → (raw : List (List ℕ)) → Request → Type 0
+IsCensus words raw (Census paths search extras) = ArePathsOf words raw (map (λ path. path.items) paths.items) × IsCensusSearch words search × ArePatternExtras words extras
+IsCensus words raw _ = ⊥
+
 -- of `import`
 abbrev pub IsImport : ArgMatches → Request → Type 0
 IsImport words (Import import) = AreImportWords words import
@@ -109,15 +119,16 @@ abbrev pub IsRuleFile : ArgMatches → Request → Type 0
 IsRuleFile words (RuleFile text) = IsTextAfter words (codes "TEXT") (Some text)
 IsRuleFile words _ = ⊥
 
--- what the words of a command ask for, by its name; only those of `identify` may hold paths that aren't UTF-8
+-- what the words of a command ask for, by its name; only those of `identify` and `census` may hold paths that aren't UTF-8
 abbrev pub IsAskedBy : (command : List ℕ) → ArgMatches → (raw : List (List ℕ)) → Request → Type 0
 IsAskedBy command words raw request = ((command ≡ codes "identify") × IsIdentify words raw request)
+    ⊎ (((command ≡ codes "census") × IsCensus words raw request)
     ⊎ ((raw ≡ []) × (((command ≡ codes "show") × IsShow words request)
     ⊎ (((command ≡ codes "convert") × IsConvert words request)
     ⊎ (((command ≡ codes "draw") × IsDraw words request)
     ⊎ (((command ≡ codes "verify") × IsVerify words request)
     ⊎ (((command ≡ codes "import") × IsImport words request)
-    ⊎ ((command ≡ codes "rule") × IsRuleFile words request)))))))
+    ⊎ ((command ≡ codes "rule") × IsRuleFile words request))))))))
 
 -- what the words ask for by the command that clap found, and the words that it found for that
 abbrev pub IsAskedFor : ArgMatches → (raw : List (List ℕ)) → Request → Type 0

@@ -58,8 +58,8 @@ pub fn folder_word<'a>(alloc: Global) -> Arg<'a> {
     )
 }
 
-/// How many entries a memo may have.
-pub fn memo_word<'a>(alloc: Global, help: &'a str) -> Arg<'a> {
+// How many entries a memo may have.
+fn memo_word<'a>(alloc: Global, help: &'a str) -> Arg<'a> {
     value_word(alloc, "memo", "N", help).value_parser(value_parser!(u64).range(
         1..=MOST_MEMO as i64,
     ))
@@ -68,8 +68,8 @@ pub fn memo_word<'a>(alloc: Global, help: &'a str) -> Arg<'a> {
 /// The most megabytes that may be set for squares and results: the store of squares holds no more.
 pub const MOST_MEMORY: u64 = 147456;
 
-/// How much memory a long run may keep.
-pub fn memory_word<'a>(alloc: Global) -> Arg<'a> {
+// How much memory a long run may keep.
+fn memory_word<'a>(alloc: Global) -> Arg<'a> {
     value_word(
         alloc,
         "max-memory",
@@ -79,9 +79,26 @@ pub fn memory_word<'a>(alloc: Global) -> Arg<'a> {
     .value_parser(value_parser!(u64).range(1..=MOST_MEMORY as i64))
 }
 
-/// How much work may be done.
-pub fn work_word<'a>(alloc: Global, help: &'a str) -> Arg<'a> {
+// How much work may be done.
+fn work_word<'a>(alloc: Global, help: &'a str) -> Arg<'a> {
     value_word(alloc, "work", "N", help).value_parser(value_parser!(u64))
+}
+
+/// The command with the words for how far a run is and what it may take. These texts are the helps of `--progress`,
+/// `--memo` and `--work`.
+pub fn with_limit_words<'a>(
+    alloc: Global,
+    command: Command<'a>,
+    progress: &'a str,
+    memo: &'a str,
+    work: &'a str,
+) -> Result<Command<'a>, AllocError> {
+    command.args(vec![in alloc;
+        flag_word(alloc, "progress", progress),
+        memo_word(alloc, memo),
+        work_word(alloc, work),
+        memory_word(alloc),
+    ]?)
 }
 
 /// The command with the words of a run on pattern files for their rules, and for why one is refused.

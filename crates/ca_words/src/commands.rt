@@ -1,5 +1,6 @@
 //! The commands of the program. Each has its words and its help in a file of its own.
 
+mod census;
 mod convert;
 mod draw;
 mod identify;
@@ -13,6 +14,7 @@ ghost use Rattle.std.specs.Prelude.{IfOk, map};
 ghost use Rattle.ca_words.specs.Requests.{IsAskedFor};
 
 use crate::request::{Request, WordsFault};
+pub use census::CensusSearch;
 use clap::{ArgMatches, Command};
 pub use identify::Search;
 pub use import::ImportWords;
@@ -23,6 +25,7 @@ pub use verify::Folders;
 const HELP: &str = "Examples:
   cafile show examples/glider.rle
   cafile identify examples/glider.rle examples/blinker.rle
+  cafile census examples/r_pentomino.rle
   cafile convert examples/glider.rle --to mc
   cafile draw examples/glider.rle
   cafile convert examples/gun.rle --after 1000 --to mc
@@ -44,6 +47,7 @@ pub fn program<'a>(alloc: Global) -> Result<Command<'a>, AllocError> {
     let program = with_command(program, draw::command(alloc))?;
     let program = with_command(program, verify::command(alloc))?;
     let program = with_command(program, identify::command(alloc))?;
+    let program = with_command(program, census::command(alloc))?;
     let program = with_command(program, import::command(alloc))?;
     with_command(program, rule::command(alloc))
 }
@@ -57,7 +61,7 @@ fn with_command<'a>(
 }
 
 /// What the words of a command ask for. A command and its words are required, so that clap finds them wherever it finds
-/// no fault. Words that aren't UTF-8 are paths that `identify` tells of, or a fault.
+/// no fault. Words that aren't UTF-8 are paths that `identify` or `census` tells of, or a fault.
 pub fn request_of(
     alloc: Global,
     matches: &ArgMatches<'_>,
@@ -67,6 +71,7 @@ pub fn request_of(
 {
     match matches.subcommand() {
         Some(("identify", words)) => identify::request(alloc, words, raw),
+        Some(("census", words)) => census::request(alloc, words, raw),
         _ if !raw.is_empty() => Err(WordsFault::Usage),
         Some(("show", words)) => show::request(alloc, words),
         Some(("convert", words)) => convert::request(alloc, words),

@@ -4,7 +4,7 @@ ghost use Rattle.std.specs.Prelude.{◌≡◌};
 ghost use Rattle.ca_pattern.specs.Prelude.{AreGoodLimits};
 ghost use Rattle.ca_words.specs.{Words.memo_of, Words.work_of, Words.squares_of, Requests.AreExtras};
 
-use crate::arguments::{MOST_MEMORY, flag_word, memo_word, memory_word, work_word};
+use crate::arguments::{MOST_MEMORY, with_limit_words};
 use crate::values::{flag_value, number_value};
 use ca_pattern::Limits;
 use ca_plane::limits::MOST_MEMO;
@@ -59,22 +59,13 @@ impl Extras {
 
 /// The command with the words for this.
 pub fn with_extras<'a>(alloc: Global, command: Command<'a>) -> Result<Command<'a>, AllocError> {
-    command.args(vec![in alloc;
-        flag_word(
-            alloc,
-            "progress",
-            "Show how far a long claim is, also where standard error is no terminal",
-        ),
-        memo_word(
-            alloc,
-            "How many entries each claim's memo may have: 1 to 16777216; unless set, 262144",
-        ),
-        work_word(
-            alloc,
-            "How many units of work each claim may take; unless set, 18446744073709551615",
-        ),
-        memory_word(alloc),
-    ]?)
+    with_limit_words(
+        alloc,
+        command,
+        "Show how far a long claim is, also where standard error is no terminal",
+        "How many entries each claim's memo may have: 1 to 16777216; unless set, 262144",
+        "How many units of work each claim may take; unless set, 18446744073709551615",
+    )
 }
 
 /// What the words ask for.

@@ -9,7 +9,7 @@ mod request;
 mod values;
 mod words;
 
-pub use commands::{Folders, ImportWords, PatternExtras, Search};
+pub use commands::{CensusSearch, Folders, ImportWords, PatternExtras, Search};
 pub use extras::Extras;
 pub use request::{Request, WordsFault};
 pub use words::read_words;

@@ -3,7 +3,7 @@
 ghost use Rattle.std.specs.Prelude.{◌≡◌, option_map, string_bytes};
 ghost use Rattle.ca_words.specs.Folders.{folder_of_rules, folder_of_texts};
 
-use crate::commands::{Folders, ImportWords, PatternExtras, Search};
+use crate::commands::{CensusSearch, Folders, ImportWords, PatternExtras, Search};
 use crate::extras::Extras;
 use ca_report::Form;
 
@@ -28,6 +28,12 @@ pub enum Request {
         search: Search,
         extras: PatternExtras,
     },
+    /// What the patterns of the files at these paths settle into. The paths needn't be UTF-8.
+    Census {
+        paths: Vec<Vec<u8>>,
+        search: CensusSearch,
+        extras: PatternExtras,
+    },
     /// The pattern of a file in another format.
     Import(ImportWords),
     /// The rule file of the rule that this text names.
@@ -46,9 +52,9 @@ impl Request {
         ensures { option_map (λ folder. folder.now) result ≡ folder_of_rules self.now }
     {
         match self {
-            Request::Write { extras, .. } | Request::Identify { extras, .. } => {
-                path_text(&extras.folder)
-            }
+            Request::Write { extras, .. }
+            | Request::Identify { extras, .. }
+            | Request::Census { extras, .. } => path_text(&extras.folder),
             Request::Verify { folders, .. } => path_text(&folders.rules),
             Request::Import(_) | Request::RuleFile { .. } | Request::Help { .. } => None,
         }
@@ -77,8 +83,8 @@ fn path_text(path: &Option<String>) -> Option<&str>
 /// Why the words ask for nothing.
 #[derive(Drop)]
 pub enum WordsFault {
-    /// One that isn't a FILE of `identify` isn't UTF-8. (That they hold no command, or lack one of its words, can't
-    /// come, since clap asks for those.)
+    /// One that isn't a FILE of `identify` or `census` isn't UTF-8. (That they hold no command, or lack one of its
+    /// words, can't come, since clap asks for those.)
     Usage,
     /// They fit no command, for the reason that this text gives.
     Misfit { text: String },

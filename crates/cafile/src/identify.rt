@@ -47,20 +47,22 @@ pub struct PathContent<'a> {
     pub content: FileContent,
 }
 
-// Why no claim text is written, and the path of the file that this is about.
+/// Why nothing is written, and the path of the file that this is about.
 #[derive(Clone, Copy)]
-struct Failure<'a> {
-    fault: Fault,
-    path: &'a str,
+pub struct Failure<'a> {
+    pub fault: Fault,
+    pub path: &'a str,
 }
 
 impl<'a> Failure<'a> {
-    fn of(fault: Fault) -> Failure<'a> {
+    /// The failure that is about no file.
+    pub fn of(fault: Fault) -> Failure<'a> {
         Failure { fault, path: "" }
     }
 }
 
-const OUT_OF_MEMORY: Fault = Fault::Tool(ToolFault::Memory);
+/// The fault where memory is out.
+pub const OUT_OF_MEMORY: Fault = Fault::Tool(ToolFault::Memory);
 
 /// Identifies the patterns of the files of these paths, writes the claim text on them, and answers the exit status.
 pub fn identify_files<R: Files + Clock + AllocGlobal>(
@@ -88,10 +90,12 @@ fn write_claims<'a, R: Files + Clock + AllocGlobal>(
     extras: &'a PatternExtras,
     streams: &mut Streams,
 ) -> Result<u8, Failure<'a>> {
-    if let Some(folder) = &extras.folder {
-        check_path(folder.as_str())?;
+    'paths: for path in [&extras.folder, &extras.rule] {
+        if let Some(path) = path {
+            check_path(path.as_str())?;
+        }
     }
-    let mut rules = rule_files(rt, &extras.rule)?;
+    let mut rules = load_rules(rt, &extras.rule)?;
     let Ok(mut loaded) = load_contents(rt, paths) else {
         return Err(Failure::of(OUT_OF_MEMORY));
     };
@@ -123,8 +127,8 @@ fn check_path(path: &str) -> Result<(), Failure<'_>> {
     Err(Failure { fault, path })
 }
 
-// The rule file that is named, if there is one, and its table.
-fn rule_files<'a, R: Files + AllocGlobal>(
+/// The rule file that is named, if there is one, and its table.
+pub fn load_rules<'a, R: Files + AllocGlobal>(
     rt: &R,
     rule: &'a Option<String>,
 ) -> Result<RuleFiles, Failure<'a>> {
@@ -133,7 +137,6 @@ fn rule_files<'a, R: Files + AllocGlobal>(
         return Ok(rules);
     };
     let path = path.as_str();
-    check_path(path)?;
     let bytes = match read_file(rt, path) {
         Ok(bytes) => bytes,
         Err(fault) => {
@@ -169,6 +172,11 @@ fn load_content<R: Files + AllocGlobal>(rt: &R, path: &[u8]) -> FileContent
     if !is_claim_path(path) {
         return FileContent::Missing(Cause::NoFile);
     }
+    read_content(rt, path)
+}
+
+/// What the file of a path gave. One whose path isn't UTF-8 isn't opened.
+pub fn read_content<R: Files + AllocGlobal>(rt: &R, path: &[u8]) -> FileContent {
     let Ok(text) = str::from_utf8(path) else {
         return FileContent::Missing(Cause::NoFile);
     };
@@ -267,8 +275,11 @@ fn write_text_of<'a, W: Write, O: Observer>(
     identify_run(alloc, &subjects, &known, task, output, observer)
 }
 
-// The files as `identify_run` takes them.
-fn subjects<'a>(alloc: Global, loaded: &'a [PathContent<'a>]) -> Result<Vec<Subject<'a>>, Memory>
+/// The files as runs take them.
+pub fn subjects<'a>(
+    alloc: Global,
+    loaded: &'a [PathContent<'a>],
+) -> Result<Vec<Subject<'a>>, Memory>
     ensures each { IfOk result (λ subjects. map handed_at subjects.items ≡ map loaded_at loaded.now) }
     ensures memory { OnErr result (loaded.now ≢ []) }
 {
@@ -293,8 +304,8 @@ fn subject_of<'a>(file: &'a PathContent<'a>) -> Subject<'a>
     }
 }
 
-// The files that were read.
-fn read_files<'a>(alloc: Global, loaded: &'a [PathContent<'a>]) -> Result<Vec<File<'a>>, Memory>
+/// The files that were read.
+pub fn read_files<'a>(alloc: Global, loaded: &'a [PathContent<'a>]) -> Result<Vec<File<'a>>, Memory>
     ensures each { IfOk result (λ files. map file_at files.items ≡ filter_map read_at loaded.now) }
     ensures memory { OnErr result (loaded.now ≢ []) }
 {
@@ -319,8 +330,8 @@ fn put_read<'a>(file: &'a PathContent<'a>, files: &mut Vec<File<'a>>) -> Result<
     Ok(())
 }
 
-// Tells the line of a faulty rule file that the words name, where that is asked for.
-fn explain_failure(fault: Fault, extras: &PatternExtras, streams: &mut Streams) {
+/// Tells the line of a faulty rule file that the words name, where that is asked for.
+pub fn explain_failure(fault: Fault, extras: &PatternExtras, streams: &mut Streams) {
     if let (Fault::Tool(fault), Some(rule)) = (fault, &extras.rule) {
         if !extras.extras.explained {
             if has_explanation(fault) {

@@ -5,7 +5,7 @@ ghost use Rattle.ca_words.specs.Values.{IsGiven, HasValueIfThere, IsWantOfMemory
 ghost use Rattle.ca_plane.specs.Prelude.{most_generations};
 ghost use Rattle.ca_words.specs.{Words.generations_of, Requests.ArePatternExtras, Requests.IsWritten};
 
-use crate::arguments::{flag_word, memo_word, memory_word, value_word, with_rule_words, work_word};
+use crate::arguments::{value_word, with_limit_words, with_rule_words};
 use crate::extras::{Extras, extras_of};
 use crate::request::{Request, WordsFault};
 use crate::values::{number_value, path_value, value_of};
@@ -95,22 +95,13 @@ pub fn with_pattern_words<'a>(
 
 /// The command with the words for how far `--after` is, and what it may take.
 pub fn with_limits<'a>(alloc: Global, command: Command<'a>) -> Result<Command<'a>, AllocError> {
-    command.args(vec![in alloc;
-        flag_word(
-            alloc,
-            "progress",
-            "Show how far a long --after is, also where standard error is no terminal",
-        ),
-        memo_word(
-            alloc,
-            "How many entries the memo of --after may have: 1 to 16777216; unless set, 262144",
-        ),
-        work_word(
-            alloc,
-            "How many units of work --after may take; unless set, 18446744073709551615",
-        ),
-        memory_word(alloc),
-    ]?)
+    with_limit_words(
+        alloc,
+        command,
+        "Show how far a long --after is, also where standard error is no terminal",
+        "How many entries the memo of --after may have: 1 to 16777216; unless set, 262144",
+        "How many units of work --after may take; unless set, 18446744073709551615",
+    )
 }
 
 /// The request to write this of the pattern file that the words name.

@@ -1,0 +1,24 @@
+-- How far the command `census` looks by its words.
+use Rattle.std.specs.Prelude.{◌≡◌, ℕ, ◌+◌, ◌*◌, ◌-◌, min, Option, None, Some}
+use Rattle.ca_plane.specs.Prelude.{longest_period, most_generations}
+use Rattle.ca_words.specs.Words.{memo_of, work_of, generations_of}
+use Rattle.ca_words.specs.declared.commands.{census.CensusSearch.CensusSearch, pattern.PatternExtras.PatternExtras}
+use Rattle.ca_census.specs.declared.reach.Reach.{Reach}
+use Rattle.ca_census_runs.specs.declared.run.CensusTask.{CensusTask}
+
+-- how many generations may follow after these, so that the sum is within its limit
+abbrev pub most_after : ℕ → ℕ
+most_after start = min longest_period (most_generations - start)
+
+-- how far it is looked: up to as many generations as are set, whatever runs of the plane take, with a budget that goes by them; or up to 65536, while
+-- patience and a usual budget last
+abbrev pub reach_of : Option ℕ → ℕ → Reach
+reach_of (Some limit) start = record { start = start; limit = min limit (most_after start); budget = min (longest_period - 1) (5000000 + 64 * limit); patience = None }
+reach_of None start = record { start = start; limit = min 65536 (most_after start); budget = 5000000; patience = Some 300000 }
+
+-- what is done with each file is what these words ask for
+pub record IsCensusTask (search : CensusSearch) (extras : PatternExtras) (task : CensusTask) : Type 0 where
+  pub memo : task.limits.memo ≡ memo_of extras.extras.memo
+  pub work : task.limits.work ≡ work_of extras.extras.work
+  pub reach : task.reach ≡ reach_of search.limit (generations_of extras.after)
+  pub listed : task.listed ≡ search.listed
