@@ -4,16 +4,19 @@ use Rattle.ca_plane.specs.Prelude.{longest_period, most_generations}
 use Rattle.ca_words.specs.Words.{memo_of, work_of, generations_of}
 use Rattle.ca_words.specs.declared.commands.{census.CensusSearch.CensusSearch, pattern.PatternExtras.PatternExtras}
 use Rattle.ca_census.specs.declared.reach.Reach.{Reach}
-use Rattle.ca_census_runs.specs.declared.run.CensusTask.{CensusTask}
+use Rattle.ca_census_runs.specs.declared.task.CensusTask.{CensusTask}
 
 -- how many generations may follow after these, so that the sum is within its limit
 abbrev pub most_after : ℕ → ℕ
 most_after start = min longest_period (most_generations - start)
 
--- how far it is looked: up to as many generations as are set, whatever runs of the plane take, with a budget that goes by them; or up to 65536, while
--- patience and a usual budget last
+-- up to so many generations, whatever runs of the plane take, with a budget that goes by them
+abbrev pub limited_reach : (limit start : ℕ) → Reach
+limited_reach limit start = record { start = start; limit = limit; budget = min (5000000 + 64 * limit) (longest_period - 1); patience = None }
+
+-- how far it is looked: as many generations as are set, or 65536, while patience and a usual budget last
 abbrev pub reach_of : Option ℕ → ℕ → Reach
-reach_of (Some limit) start = record { start = start; limit = min limit (most_after start); budget = min (longest_period - 1) (5000000 + 64 * limit); patience = None }
+reach_of (Some limit) start = limited_reach (min limit (most_after start)) start
 reach_of None start = record { start = start; limit = min 65536 (most_after start); budget = 5000000; patience = Some 300000 }
 
 -- what is done with each file is what these words ask for

@@ -3,7 +3,7 @@
 ghost use Rattle.std.specs.Prelude.{◌≡◌, ◌≤◌, ◌<◌, ◌+◌};
 ghost use Rattle.ca_plane.specs.Prelude.{longest_period, most_generations};
 ghost use Rattle.ca_pattern.specs.Prelude.{AreGoodLimits};
-ghost use Rattle.cafile.specs.Reaches.{IsCensusTask};
+ghost use Rattle.cafile.specs.Reaches.{IsCensusTask, limited_reach, reach_of};
 
 use crate::FAULT;
 use crate::folder_rules::find_rules;
@@ -94,7 +94,7 @@ const USUAL_BUDGET: u64 = 5000000;
 
 const MORE_BUDGET: u64 = 64;
 
-// What is done with each file by the words. The sum of generations is brought within its limit.
+// What is done with each file by the words.
 fn task_of(search: CensusSearch, extras: &PatternExtras) -> CensusTask
     ensures asked { IsCensusTask search extras.now result }
     ensures limits { AreGoodLimits result.limits }
@@ -108,28 +108,34 @@ fn task_of(search: CensusSearch, extras: &PatternExtras) -> CensusTask
     }
 }
 
+// How far each plane is looked at: the sum of generations is brought within its limit.
 fn reach_of(limit: Option<u64>, start: u64) -> Reach
     requires { start ≤ most_generations }
+    ensures value { result ≡ reach_of limit start }
     ensures few { result.start + result.limit ≤ most_generations }
     ensures budget { result.budget < longest_period }
 {
     let most = LONGEST_PERIOD.min(MOST_GENERATIONS - start);
     match limit {
-        Some(limit) => Reach {
-            start,
-            limit: limit.min(most),
-            budget: limit
-                .saturating_mul(MORE_BUDGET)
-                .saturating_add(USUAL_BUDGET)
-                .min(LONGEST_PERIOD - 1),
-            patience: None,
-        },
+        Some(limit) => limited_reach(limit.min(most), start),
         None => Reach {
             start,
             limit: USUAL_LIMIT.min(most),
             budget: USUAL_BUDGET,
             patience: Some(USUAL_PATIENCE),
         },
+    }
+}
+
+fn limited_reach(limit: u64, start: u64) -> Reach
+    requires { limit ≤ longest_period }
+    ensures { result ≡ limited_reach limit start }
+{
+    Reach {
+        start,
+        limit,
+        budget: (USUAL_BUDGET + MORE_BUDGET * limit).min(LONGEST_PERIOD - 1),
+        patience: None,
     }
 }
 
