@@ -49,6 +49,11 @@ def try_known(runs):
         texts.append((path, text))
         later = text.replace(f"# {name}: settles after {first} generations".encode(), f"# {name} after 100 generations: settles after {first - 100} generations".encode())
         runs.expect(name, ["census", "--after", "100", path], ample(later))
+    # Rabbits (LifeWiki): 17331 generations, and 1744 cells then.
+    came = run(["census", "--limit", "20000", runs.path("rabbits.rle", rle_of(cells_of("o...ooo\nooo..o.\n.o.....")))])
+    runs.count += 1
+    lines = re.match(rb"# rabbits: settles after 17331 generations: \d+ objects, 1744 cells\n", came.printed)
+    runs.complaints += [] if lines and (came.complaint, came.status) == (b"", 0) else [str(came)]
     runs.expect("all", ["census", *(path for path, _ in texts)], ample(b"".join(text for _, text in texts)))
 
 
