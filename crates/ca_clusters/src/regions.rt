@@ -23,6 +23,9 @@ const SHORT: u64 = 16;
 
 const LONG: u64 = 128;
 
+// The part of the budget that the first try may take, so that much is left for the other.
+const FIRST_PART: u64 = 4;
+
 // How many generations two clusters of different regions are looked at to see whether they ever meet.
 const LOOKS: u64 = 4096;
 
@@ -48,7 +51,11 @@ pub fn find_clusters<A: Automaton>(
         (λ v. AreClusters (A.next_of rule.now) (cell plane.now) v.items)) }
     ensures budget { budget.new ≤ budget.old }
 {
-    match clusters_by_regions(alloc, rule, plane, SHORT, budget)? {
+    let part = *budget / FIRST_PART;
+    let mut left = part;
+    let found = clusters_by_regions(alloc, rule, plane, SHORT, &mut left)?;
+    *budget -= part - left;
+    match found {
         Some(clusters) => Ok(Some(clusters)),
         None => clusters_by_regions(alloc, rule, plane, LONG, budget),
     }

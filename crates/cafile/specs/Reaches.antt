@@ -17,7 +17,7 @@ limited_reach limit start = record { start = start; limit = limit; budget = min 
 -- how far it is looked: as many generations as are set, or 65536, while patience and a usual budget last
 abbrev pub reach_of : Option ℕ → ℕ → Reach
 reach_of (Some limit) start = limited_reach (min limit (most_after start)) start
-reach_of None start = record { start = start; limit = min 65536 (most_after start); budget = 5000000; patience = Some 300000 }
+reach_of None start = record { start = start; limit = min 65536 (most_after start); budget = 5000000; patience = Some 3000000 }
 
 -- what is done with each file is what these words ask for
 pub record IsCensusTask (search : CensusSearch) (extras : PatternExtras) (task : CensusTask) : Type 0 where

@@ -87,7 +87,7 @@ fn read_contents<'a, R: Files + AllocGlobal>(
 const USUAL_LIMIT: u64 = 65536;
 
 // How many units of work the runs of a plane may take then.
-const USUAL_PATIENCE: u64 = 300000;
+const USUAL_PATIENCE: u64 = 3000000;
 
 // How many cells of parts may be stepped, and how many more for each generation of a limit that is set.
 const USUAL_BUDGET: u64 = 5000000;
