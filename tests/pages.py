@@ -55,7 +55,7 @@ def try_gallery(tally):
 
 def try_named_examples(tally):
     """Each example that a page names is there."""
-    pages = glob.glob("*.md", root_dir=ROOT) + glob.glob("docs/*.md", root_dir=ROOT) + glob.glob("crates/*/README.md", root_dir=ROOT)
+    pages = glob.glob("*.md", root_dir=ROOT) + glob.glob("docs/*.md", root_dir=ROOT) + glob.glob("crates/*/*.md", root_dir=ROOT)
     named = {it for name in pages for it in re.findall(r"\bexamples/[\w/]+\.\w+", page(name))}
     tally.tell(f"examples that pages name: {len(named)}", sorted(it for it in named - LOST if not os.path.exists(os.path.join(ROOT, it))))
 
