@@ -24,9 +24,10 @@ MARKER = "<!-- From here on, python3 -B -m scripts.calling makes the page of the
 CALLER = re.compile(r"^<!-- caller: (\S+) (\w+) -->$", re.MULTILINE)
 
 CALLS = (
-    "These are the public items as the sources have them, without bodies and private functions. In a clause, `result` is what is returned, `x.now` is what a "
-    "reference `x` points to, and `x.old` and `x.new` are what a `&mut` points to at the call and at the return. `x.entry` is a parameter that holds a "
-    "reference, as it was passed. Where a type has a `view`, clauses speak of that in place of its fields.")
+    "These are the public items as the sources have them, without bodies and private functions. A crate that calls them names {crate} on its line of "
+    "crates.txt. In a clause, `result` is what is returned, `x.now` is what a reference `x` points to, and `x.old` and `x.new` are what a `&mut` points to at "
+    "the call and at the return. `x.entry` is a parameter that holds a reference, as it was passed. Where a type has a `view`, clauses speak of that in place "
+    "of its fields. CONTRACTS.md of the kit explains the rest.")
 WORDS = "These files define what the clauses say. Words that aren't here come from the kit, or name types and variants of the code."
 
 # What an `impl Model` says of the values of a type.
@@ -187,7 +188,8 @@ def made(crate, head):
     """What a page has below its marker."""
     groups = [[*items] for _, items in groupby(sorted(own_items(crate), key=place_of), place_of)]
     pieces = [piece for items in groups for it in items for piece in pieces_of(it.item)]
-    return "\n".join(joined([caller(find_caller(head)), ["## Calls"], [CALLS], *map(section, groups), passed_on(crate), words(crate, pieces)]))
+    calls = [["## Calls"], [CALLS.format(crate=crate)], *map(section, groups), passed_on(crate)]
+    return "\n".join(joined([caller(find_caller(head)), *calls, words(crate, pieces)]))
 
 
 def whole_page(crate):

@@ -62,10 +62,16 @@ class Item:
         return [re.sub(r"<.*", "", found[it] or "").split("::")[-1] for it in ("trait", "owner")]
 
 
-def end_of(lines, first, is_field):
-    """The last line of the item or field that begins at this line: the one that closes its body, or the first one that ends it before any body."""
+def is_whole(lines):
+    """Whether each bracket that is opened in these lines is closed, those in texts apart."""
+    text = re.sub('"[^"]*"', "", "\n".join(lines))
+    return all(text.count(opened) <= text.count(closed) for opened, closed in ("()", "[]", "{}"))
+
+
+def end_of(lines, first, sign):
+    """The last line of what begins at this line: the one that closes its body, or, before any body, the first one at which it is whole and has this sign."""
     for at in range(first, len(lines)):
-        if IS_EMPTY.match(lines[at]) or lines[at].endswith("," if is_field else ";"):
+        if IS_EMPTY.match(lines[at]) or lines[at].endswith(sign) and is_whole(lines[first:at + 1]):
             return at
         if OPENS.match(lines[at]):
             return next(end for end in range(at + 1, len(lines)) if lines[end].startswith("}"))
@@ -78,7 +84,7 @@ def split(file, lines, first_line=HEAD):
     while at < len(lines):
         head = first_line.match(lines[at])
         if head:
-            end = end_of(lines, at, first_line is FIELD)
+            end = end_of(lines, at, "," if first_line is FIELD else ";")
             yield Item(file, (head["kind"] or "").strip(), head["name"], bool(head["public"]), tuple(before), tuple(lines[at:end + 1]))
             before, at = [], end + 1
         else:

@@ -1,6 +1,6 @@
 #!/usr/bin/env -S python3 -B
 """The pages CALLING.md of the libraries: that each shows what the sources say (scripts/calling.py), that the promises of its head name calls, clauses,
-definitions and files that are there, and that the caller that it shows stands above the crate and calls it. It runs no program."""
+definitions and files that are there, as docs/PROMISES.md does, and that the caller that it shows stands above the crate and calls it. It runs no program."""
 import functools
 import glob
 import os
@@ -13,7 +13,7 @@ sys.path.append(ROOT)
 # pylint: disable=wrong-import-position
 from scripts.calling import LIBRARIES, MARKER, Misnamed, find_caller, page_of, read, whole_page
 from scripts.public_items import CRATES, all_items, impls_for, reached
-from scripts.repository import crates_below
+from scripts.repository import PROGRAM, crates_below
 
 
 def expanded(name):
@@ -57,8 +57,8 @@ def find_files(crate, name):
 
 
 def is_path(name):
-    """Whether a name of a page is that of a file or folder of the repository, and not one that the program writes or looks for."""
-    return bool(re.match(r"(specs|src|tests|must-fail|\.\.|ca_\w+|docs)/", name)) or name == "must-fail"
+    """Whether a name of a page is that of one file or folder of the repository, and not of one in each crate, or that the program reads or writes."""
+    return bool(re.fullmatch(r"(?:specs|src|tests|must-fail|\.\.|ca_\w+|cafile|docs)/.*[^/]|must-fail", name))
 
 
 def says(crate, phrase, name):
@@ -105,8 +105,20 @@ def faults(crate):
     return [*stale, *unknown_names(crate, head), *missing_files(crate, head), *wrong_caller(crate, head)]
 
 
+def promise_faults():
+    """What is wrong with the page of what all promises have in common: calls of libraries, functions of the program, and files that aren't there."""
+    page = read(os.path.join(ROOT, "docs", "PROMISES.md"))
+    calls = [(crate, name) for crate, names in re.findall(r"`(ca_\w+)::([^`]*)`", page) for name in expanded(names)]
+    rows = re.findall(r"^\| .* \| (`.*) \|$", page.partition("\n## cafile\n")[2].partition("\n## ")[0], re.MULTILINE)
+    functions = [it for row in rows for it in re.findall(r"`(\w+)`", row)]
+    unknown = [f"{crate}::{name}" for crate, name in calls if name not in public_names(crate)]
+    unknown += [it for it in functions if it not in all_functions(PROGRAM)]
+    return [f"{it} isn't there" for it in unknown] + missing_files(PROGRAM, page)
+
+
 def main():
     tally = Tally()
+    tally.tell("docs/PROMISES.md", promise_faults())
     there = {os.path.basename(os.path.dirname(it)) for it in glob.glob(os.path.join(ROOT, "crates", "*", "CALLING.md"))}
     tally.tell("each library has its page, and nothing else", sorted(there ^ {*LIBRARIES}))
     for crate in LIBRARIES:
