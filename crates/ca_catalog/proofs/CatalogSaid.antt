@@ -11,7 +11,7 @@ use Rattle.std.proofs.lemmas.Slice.Eq.{bytes_eq-Decides}
 use Rattle.ca_plane.specs.Prelude.{Every, IsWord, lines_of, Picture}
 use Rattle.ca_plane.proofs.Fronts.{every_append}
 use Rattle.ca_rule.specs.Prelude.{next_of, TableRule}
-use Rattle.ca_answers.specs.declared.{identity.Identity.Identity, identity.Growth.Growth, cause.Cause.Cause}
+use Rattle.ca_answers.specs.declared.{identity.Identity.Identity, identity.Growth.Growth, coded_look.CodedLook.CodedLook, cause.Cause.Cause}
 use Rattle.ca_answers.specs.declared.cause.Cause.TheVariants as causes
 use Rattle.ca_answers.specs.declared.identity.Identity.TheVariants.{Empty, Claim, Unknown}
 use Rattle.ca_text.specs.Prelude.{keyword_of, words_after_name, spaced, ClaimTextLine, Version, Rule, Load, Claims, is_second, path_of, ClaimLinesSay}
@@ -19,15 +19,15 @@ use Rattle.ca_answers.specs.Prelude.{IsIdentity, cause_text}
 use Rattle.ca_text.proofs.LinesSaid.{path_of-append}
 use Rattle.ca_text.proofs.WrittenWords.{keyword_word, keyword_spoken, written_follow, written_words}
 use Rattle.ca_text.proofs.PathLists.{bytes_eq_self}
-use Rattle.ca_catalog.specs.declared.{entry.Content.Content, entry.Subject.Subject, entry.Outcome.Outcome, entry.Entry.Entry, task.Task.Task}
+use Rattle.ca_catalog.specs.declared.{entry.Content.Content, entry.Subject.Subject, entry.Outcome.Outcome, entry.Entry.Entry, entry.Settles.Settles, task.Task.Task}
 use Rattle.ca_catalog.specs.declared.entry.Content.TheVariants.{Bytes, Missing, FaultyRule}
 use Rattle.ca_catalog.specs.declared.entry.Outcome.TheVariants as outcomes
 use Rattle.ca_catalog.specs.declared.entry.Outcome.TheVariants.{Unnameable, Identified, Refused}
 use Rattle.ca_report.specs.Prelude.{escaped, at_line, generations_word, side_length}
-use Rattle.ca_catalog.specs.Prelude.{is_claim_path, is_taken, cells_word, growth_text, none_text, later_text, later_head, later_line, found_line, code_line, code_lines, identified_lines, IsAskedCode}
+use Rattle.ca_catalog.specs.Prelude.{is_claim_path, is_taken, cells_word, growth_text, none_text, later_text, later_head, later_line, found_line, code_line, code_lines, identified_lines, IsAskedCode, IsFoundIn, objects_word, comment_head, settles_lines}
 use Rattle.ca_catalog.specs.Prelude.{refused_line, identity_line, entry_lines, outcome_lines, rule_lines, version_line, catalog_head, catalog_text, IsContentOutcome, IsEntry, AreEntries, claim_line}
 use Rattle.ca_catalog.specs.Prelude.{identity_says, found_says, outcome_says, entry_says, AreRuleWords, SaysItsClaims}
-use Rattle.ca_catalog.proofs.Saying.{is_inner, TextSays, inner_word, says_none, says_then, spelled_spaced, spaced_inner, says_words, says_comment, line_end, line_more}
+use Rattle.ca_catalog.proofs.Saying.{is_inner, TextSays, inner_word, says_none, says_then, spelled_spaced, spaced_inner, says_words, says_comment, IsLine, line_end, line_more}
 use Rattle.ca_catalog.proofs.NameWords.{word_by_test, path_word, free_word, decimal_inner, signed_inner, escaped_inner}
 use Rattle.ca_catalog.proofs.CauseLines.{cause_inner, at_inner}
 use Rattle.ca_catalog.proofs.CodeLines.{code_inner}
@@ -39,6 +39,9 @@ generations_inner n = elim (cases_Bool (nat_eq n 1)) [ inl e ↦ rw e refl | inr
 
 cells_inner : (n : ℕ) → Every is_inner (cells_word n)
 cells_inner n = elim (cases_Bool (nat_eq n 1)) [ inl e ↦ rw e refl | inr e ↦ rw e refl ]
+
+objects_inner : (n : ℕ) → Every is_inner (objects_word n)
+objects_inner n = elim (cases_Bool (nat_eq n 1)) [ inl e ↦ rw e refl | inr e ↦ rw e refl ]
 
 -- a text with another one on the same line after it
 inner_then : (text more : List ℕ) → Every is_inner text → Every is_inner more → Every is_inner (text ++ more)
@@ -63,7 +66,7 @@ none_inner limit last growth =
     (inner_then (growth_text growth) after (growth_inner growth) (inner_then (codes ", after ") (decimal last) refl (decimal_inner last)))))
 
 -- the line on what a pattern is says its claim, after lines that begin with the version and load the name
-identity_said : (next : List ℕ → ℕ) (cells : Picture) (limit : ℕ) (earlier : List ClaimTextLine) (name : List ℕ) (identity : Identity)
+pub identity_said : (next : List ℕ → ℕ) (cells : Picture) (limit : ℕ) (earlier : List ClaimTextLine) (name : List ℕ) (identity : Identity)
     → IsIdentity next cells limit identity → IsWord name → IsSome (path_of earlier name) → is_second earlier ≡ true
     → TextSays earlier (identity_line limit name identity) (identity_says name identity)
 identity_said next cells limit earlier name Empty is word loaded second =
@@ -87,21 +90,24 @@ later_inner next cells n limit name (Claim kind) (own, is) word =
 later_inner next cells n limit name (Unknown growth) is word = none_inner limit (n + limit) growth
 
 -- how a comment on it begins is on one line, and so the whole of it says nothing
-later_comment_said : (n : ℕ) (earlier : List ClaimTextLine) (name text : List ℕ) → Every is_inner text → TextSays earlier (later_head n name ++ (text ++ 10 ∷ [])) []
-later_comment_said n earlier name text inner =
+later_line_said : (n : ℕ) (earlier : List ClaimTextLine) (name text : List ℕ) → IsLine text → TextSays earlier (later_head n name ++ text) []
+later_line_said n earlier name text line =
     let word = generations_word n ++ codes ": " in
     let after = (codes " after " ++ decimal n) ++ word in
     says_comment earlier _ (line_more (escaped name ++ after) _
     (inner_then (escaped name) after (escaped_inner name)
     (inner_then (codes " after " ++ decimal n) word (inner_then (codes " after ") (decimal n) refl (decimal_inner n)) (inner_then (generations_word n) (codes ": ") (generations_inner n) refl)))
-    (line_more text _ inner line_end))
+    line)
+
+later_comment_said : (n : ℕ) (earlier : List ClaimTextLine) (name text : List ℕ) → Every is_inner text → TextSays earlier (later_head n name ++ (text ++ 10 ∷ [])) []
+later_comment_said n earlier name text inner = later_line_said n earlier name _ (line_more text _ inner line_end)
 
 later_said : (next : List ℕ → ℕ) (cells : Picture) (n limit : ℕ) (earlier : List ClaimTextLine) (name : List ℕ) (identity : Identity) → IsIdentity next cells limit identity → IsWord name
     → TextSays earlier (later_line n limit name identity) []
 later_said next cells n limit earlier name identity is word = later_comment_said n earlier name (later_text n limit name identity) (later_inner next cells n limit name identity is word)
 
 -- nor does the comment with a code
-code_said : (n : ℕ) (earlier : List ClaimTextLine) (name code : List ℕ) → Every is_inner code → TextSays earlier (code_line n name code) []
+pub code_said : (n : ℕ) (earlier : List ClaimTextLine) (name code : List ℕ) → Every is_inner code → TextSays earlier (code_line n name code) []
 code_said n earlier name code inner = elim (cases_Bool (nat_eq n 0)) [
   | inl e ↦ rw e (says_comment earlier _ (line_more (escaped name) _ (escaped_inner name) (line_more (codes ": ") _ refl (line_more code _ inner line_end))))
   | inr e ↦ rw e (later_comment_said n earlier name code inner)
@@ -116,6 +122,24 @@ codes_said false n earlier name bytes tables identity (Some code) is = absurd (s
     some_or_none : (text : List ℕ) → Some text ≡ None → ⊥
     some_or_none text e = cc
 
+-- nor does a comment on a pattern, or on its plane after some generations
+comment_said : (n : ℕ) (earlier : List ClaimTextLine) (name text : List ℕ) → IsLine text → TextSays earlier (comment_head n name ++ text) []
+comment_said n earlier name text line = elim (cases_Bool (nat_eq n 0)) [
+  | inl e ↦ rw e (says_comment earlier _ (line_more (escaped name ++ codes ": ") _ (inner_then (escaped name) (codes ": ") (escaped_inner name) refl) line))
+  | inr e ↦ rw e (later_line_said n earlier name text line)
+]
+
+-- so the one on when a plane settles says nothing
+settles_said : (n : ℕ) (earlier : List ClaimTextLine) (name : List ℕ) (settles : Option Settles) → TextSays earlier (settles_lines n name settles) []
+settles_said n earlier name None = says_none earlier
+settles_said n earlier name (Some settles) =
+    let after = codes "settles after " ++ decimal settles.generations in
+    let into = codes " into " ++ decimal settles.objects in
+    comment_said n earlier name _ (line_more after _ (inner_then (codes "settles after ") (decimal settles.generations) refl (decimal_inner settles.generations))
+    (line_more (generations_word settles.generations) _ (generations_inner settles.generations)
+    (line_more into _ (inner_then (codes " into ") (decimal settles.objects) refl (decimal_inner settles.objects))
+    (line_more (objects_word settles.objects) _ (objects_inner settles.objects) (line_more (codes ": cafile census") _ refl line_end)))))
+
 -- the line on what is found says the claim where it is found of the pattern itself
 found_said : (next : List ℕ → ℕ) (cells : Picture) (n limit : ℕ) (earlier : List ClaimTextLine) (name : List ℕ) (identity : Identity)
     → IsIdentity next cells limit identity → IsWord name → IsSome (path_of earlier name) → is_second earlier ≡ true
@@ -126,13 +150,13 @@ found_said next cells n limit earlier name identity is word loaded second = elim
 ]
 
 -- a name that is loaded
-loaded_now : (earlier : List ClaimTextLine) (name path : List ℕ) → path_of earlier name ≡ None → IsSome (path_of (earlier ++ Load name path ∷ []) name)
+pub loaded_now : (earlier : List ClaimTextLine) (name path : List ℕ) → path_of earlier name ≡ None → IsSome (path_of (earlier ++ Load name path ∷ []) name)
 loaded_now earlier name path free =
     let here : path_of (Load name path ∷ []) name ≡ Some path = rw (bytes_eq_self name) refl in
     subst IsSome (sym (path_of-append earlier (Load name path ∷ []) name ∙ ap (λ p. option_or p (path_of (Load name path ∷ []) name)) free ∙ here)) refl
 
 -- lines that begin with the version still do with others after them
-second_stays : (earlier more : List ClaimTextLine) → is_second earlier ≡ true → is_second (earlier ++ more) ≡ true
+pub second_stays : (earlier more : List ClaimTextLine) → is_second earlier ≡ true → is_second (earlier ++ more) ≡ true
 second_stays [] more h = absurd (false≢true h)
 second_stays (Version ∷ ls) more h = refl
 second_stays (Rule path ∷ ls) more h = absurd (false≢true h)
@@ -145,6 +169,19 @@ refused_said earlier name path cause line word fits =
     says_comment earlier _ (line_more (escaped name) _ (escaped_inner name) (line_more (codes ": ") _ refl (line_more (escaped path) _ (escaped_inner path) (line_more (codes ": ") _ refl
     (line_more (cause_text cause) _ (cause_inner cause) (line_more (at_line line) _ (at_inner line) line_end))))))
 
+-- the lines on a file that is identified say its name and its claim
+identified_said : (tables : List TableRule) (task : Task) (earlier : List ClaimTextLine) (name path bytes : List ℕ) (found : CodedLook)
+    → is_claim_path path ≡ true → IsFoundIn bytes tables task found → IsWord name → path_of earlier name ≡ None → is_second earlier ≡ true
+    → TextSays earlier (identified_lines task.generations name path found) (Load name path ∷ found_says task.generations name found.look.identity)
+identified_said tables task earlier name path bytes found fits ((cells, rule, holds, (later, stands, is)), code) word free second =
+    let n = task.generations in
+    let load = Load name path ∷ [] in
+    let loaded = says_words earlier (codes "load" ∷ name ∷ path ∷ []) (Load name path) (refl, (word, (path_word path fits, tt))) refl refl free in
+    let claim = found_said _ later n found.look.limit (earlier ++ load) name found.look.identity is.identity word (loaded_now earlier name path free) (second_stays earlier load second) in
+    let says = found_says n name found.look.identity in
+    let lines = says_then (earlier ++ load) _ (code_lines n name found.code) says [] claim (codes_said task.codes n ((earlier ++ load) ++ says) name bytes tables found.look.identity found.code code) in
+    subst (λ l. TextSays earlier (identified_lines n name path found) (Load name path ∷ l)) (append-nil says) (says_then earlier _ _ load (says ++ []) loaded lines)
+
 -- the lines on a file say its name and its claim, after lines that begin with the version and don't load the name
 outcome_said : (tables : List TableRule) (task : Task) (earlier : List ClaimTextLine) (name path : List ℕ) (content : Content) (outcome : Outcome)
     → is_claim_path path ≡ true → IsContentOutcome tables task content outcome → IsWord name → path_of earlier name ≡ None → is_second earlier ≡ true
@@ -152,16 +189,14 @@ outcome_said : (tables : List TableRule) (task : Task) (earlier : List ClaimText
 outcome_said tables task earlier name path content Unnameable fits is word free second = absurd is
 outcome_said tables task earlier name path content (Refused why) fits is word free second = refused_said earlier name path why.fault why.line word fits
 outcome_said tables task earlier name path content (outcomes.FaultyRule rule) fits is word free second = refused_said earlier name path (causes.BadTable rule.fault) None word fits
-outcome_said tables task earlier name path (Missing cause) (Identified found) fits is word free second = absurd is
-outcome_said tables task earlier name path (FaultyRule rule) (Identified found) fits is word free second = absurd is
-outcome_said tables task earlier name path (Bytes bytes) (Identified found) fits ((cells, rule, holds, (later, stands, is)), code) word free second =
+outcome_said tables task earlier name path (Missing cause) (Identified found settles) fits is word free second = absurd is
+outcome_said tables task earlier name path (FaultyRule rule) (Identified found settles) fits is word free second = absurd is
+outcome_said tables task earlier name path (Bytes bytes) (Identified found settles) fits (is, settled) word free second =
     let n = task.generations in
-    let load = Load name path ∷ [] in
-    let loaded = says_words earlier (codes "load" ∷ name ∷ path ∷ []) (Load name path) (refl, (word, (path_word path fits, tt))) refl refl free in
-    let claim = found_said _ later n found.look.limit (earlier ++ load) name found.look.identity is.identity word (loaded_now earlier name path free) (second_stays earlier load second) in
-    let says = found_says n name found.look.identity in
-    let lines = says_then (earlier ++ load) _ (code_lines n name found.code) says [] claim (codes_said task.codes n ((earlier ++ load) ++ says) name bytes.now tables found.look.identity found.code code) in
-    subst (λ l. TextSays earlier (identified_lines n name path found) (Load name path ∷ l)) (append-nil says) (says_then earlier _ _ load (says ++ []) loaded lines)
+    let says = outcome_says n name path (Identified found settles) in
+    let lines = identified_said tables task earlier name path bytes.now found fits is word free second in
+    subst (λ l. TextSays earlier (outcome_lines n name path (Identified found settles)) l) (append-nil says)
+    (says_then earlier _ (settles_lines n name settles) says [] lines (settles_said n (earlier ++ says) name settles))
 
 -- the comment on a file that can't be named says nothing
 unnameable_said : (n : ℕ) (earlier : List ClaimTextLine) (name path : List ℕ) (outcome : Outcome) → outcome ≡ Unnameable → IsWord name
@@ -201,7 +236,7 @@ no_other : (n : ℕ) (name path other : List ℕ) (outcome : Outcome) → bytes_
 no_other n name path other Unnameable h = refl
 no_other n name path other (Refused why) h = refl
 no_other n name path other (outcomes.FaultyRule rule) h = refl
-no_other n name path other (Identified found) h = rw h (found_loads n name other found.look.identity)
+no_other n name path other (Identified found settles) h = rw h (found_loads n name other found.look.identity)
 
 -- a name that is none of those taken and of one more
 free_after : (taken : List (List ℕ)) (name other : List ℕ) → is_taken (taken ++ name ∷ []) other ≡ false → (is_taken taken other ≡ false) × (bytes_eq other name ≡ false)
@@ -227,22 +262,22 @@ entries_said tables task taken earlier (s ∷ ss) (e ∷ es) all free second =
     (second_stays earlier (entry_says task.generations e) second))
 
 -- what the lines of rule files say
-abbrev rules_say : List (Vec ℕ Global) → List ClaimTextLine
+abbrev pub rules_say : List (Vec ℕ Global) → List ClaimTextLine
 rules_say paths = map (λ (path : Vec ℕ Global). Rule path.items) paths
 
-rules_said : (earlier : List ClaimTextLine) (paths : List (Vec ℕ Global)) → AreRuleWords paths → TextSays earlier (rule_lines paths) (rules_say paths)
+pub rules_said : (earlier : List ClaimTextLine) (paths : List (Vec ℕ Global)) → AreRuleWords paths → TextSays earlier (rule_lines paths) (rules_say paths)
 rules_said earlier [] words = says_none earlier
 rules_said earlier (p ∷ ps) words =
     says_then earlier _ _ (Rule p.items ∷ []) (rules_say ps)
     (says_words earlier (codes "rule" ∷ p.items ∷ []) (Rule p.items) (refl, (word_by_test p.items words.0, tt)) refl refl tt)
     (rules_said (earlier ++ Rule p.items ∷ []) ps words.1)
 
-rules_load : (paths : List (Vec ℕ Global)) (name : List ℕ) → path_of (rules_say paths) name ≡ None
+pub rules_load : (paths : List (Vec ℕ Global)) (name : List ℕ) → path_of (rules_say paths) name ≡ None
 rules_load [] name = refl
 rules_load (p ∷ ps) name = rules_load ps name
 
 -- the line of the version says it
-version_said : TextSays [] version_line (Version ∷ [])
+pub version_said : TextSays [] version_line (Version ∷ [])
 version_said = says_words [] (codes "claims" ∷ codes "2" ∷ []) Version (refl, (refl, tt)) refl (refl, refl) tt
 
 -- the whole text says all that

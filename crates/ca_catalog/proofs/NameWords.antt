@@ -59,6 +59,10 @@ module _ (test : ℕ → Bool) (each : (d : ℕ) → d < 10 → test (48 + d) �
 digit_fits : (d : ℕ) → d < 10 → is_word_byte (48 + d) ≡ true
 digit_fits d small = grind (arith, nat_tests)
 
+-- a number can be in a word
+pub decimal_fits : (n : ℕ) → Every is_word_byte (decimal n)
+decimal_fits n = digits_pass is_word_byte digit_fits n
+
 digit_inner : (d : ℕ) → d < 10 → is_inner (48 + d) ≡ true
 digit_inner d small = grind (arith, nat_tests)
 
@@ -72,7 +76,7 @@ signed_inner (pos n) = decimal_inner n
 signed_inner (negsuc n) = decimal_inner (suc n)
 
 -- a word with more bytes after it is a word
-word_append : (word more : List ℕ) → IsWord word → Every is_word_byte more → IsWord (word ++ more)
+pub word_append : (word more : List ℕ) → IsWord word → Every is_word_byte more → IsWord (word ++ more)
 word_append [] more h m = absurd (false≢true h)
 word_append (b ∷ bs) more h m = every_append is_word_byte (b ∷ bs) more h m
 
@@ -80,7 +84,7 @@ word_append (b ∷ bs) more h m = every_append is_word_byte (b ∷ bs) more h m
 numbered_word : (name : List ℕ) (place : ℕ) → IsWord name → IsWord (numbered_name name place)
 numbered_word name place h = elim (cases_Bool (nat_eq place 0)) [
   | inl e ↦ rw e h
-  | inr e ↦ rw e (word_append name (codes "-" ++ decimal (place + 1)) h (digits_pass is_word_byte digit_fits (place + 1)))
+  | inr e ↦ rw e (word_append name (codes "-" ++ decimal (place + 1)) h (decimal_fits (place + 1)))
 ]
 
 -- so a name that is free is a word

@@ -1,20 +1,24 @@
 -- What `identify` prints: a claim text with the claims that are true of files, and the lines of `--explain` (our own; docs/CLAIMS.md).
-use Rattle.std.specs.Prelude.{ℕ, List, [], ◌∷◌, ◌++◌, Bool, true, false, Option, None, Some, option_map, Vec, codes, decimal, nat_eq, if◌then◌else◌, ◌≡◌, ◌≢◌, ◌+◌, ◌^◌, ◌<◌, ◌⊎◌}
+use Rattle.std.specs.Prelude.{ℕ, List, length, [], ◌∷◌, ◌++◌, Bool, true, false, Option, None, Some, option_map, Vec, codes, decimal, nat_eq, if◌then◌else◌, ◌≡◌, ◌≢◌, ◌+◌, ◌^◌, ◌<◌, ◌⊎◌}
 use Rattle.std.specs.declared.alloc.Global.{Global}
 use Rattle.std.specs.Fmt.{signed_decimal}
-use Rattle.std.specs.List.{flat_map, list_any, list_all}
+use Rattle.std.specs.List.{flat_map, list_any, list_all, AllZip}
 use Rattle.ca_answers.specs.declared.{cause.Cause.Cause, identity.Identity.Identity, identity.Growth.Growth, coded_look.CodedLook.CodedLook}
 use Rattle.ca_answers.specs.declared.cause.Cause.TheVariants as causes
 use Rattle.ca_pattern.specs.declared.{file.File.File, located_fault.LocatedFault.LocatedFault}
 use Rattle.ca_report.specs.declared.{detailed_fault.DetailedFault.DetailedFault, fault.ToolFault.ToolFault}
 use Rattle.ca_report.specs.declared.fault.ToolFault.TheVariants as tools
 use Rattle.ca_report.specs.Prelude.{escaped, cause_remedy, bytes_of, remedy_line, at_line, rule_file_line, pattern_line, generations_word, side_length}
-use Rattle.ca_plane.specs.Prelude.{Counted}
-use Rattle.ca_rule.specs.Prelude.{TableRule}
+use Rattle.ca_plane.specs.Prelude.{Counted, Picture, cell, cells_after}
+use Rattle.ca_parts.specs.Prelude.{Course, IsFirstSettled}
+use Rattle.ca_clusters.specs.Prelude.{first_plane, AreClusters, AreObjects}
+use Rattle.ca_rule.specs.Prelude.{TableRule, RuleValue, next_of}
+use Rattle.ca_text.specs.declared.kind.Kind.{Kind}
 use Rattle.ca_text.specs.Prelude.{keyword_of, words_after_name, spaced}
 use Rattle.ca_answers.specs.declared.identity.Identity.TheVariants.{Empty, Claim, Unknown}
+use Rattle.ca_answers.specs.Identified.{HoldsSmallPattern}
 use Rattle.ca_answers.specs.Prelude.{IsLookAt, IsUnidentifiedAfter, IsCodeOfFile, IsUncodedAfter, cause_text}
-use Rattle.ca_catalog.specs.declared.{known_rules.KnownRules.KnownRules, task.Task.Task, entry.Content.Content, entry.Subject.Subject, entry.Outcome.Outcome, entry.Entry.Entry}
+use Rattle.ca_catalog.specs.declared.{known_rules.KnownRules.KnownRules, task.Task.Task, entry.Content.Content, entry.Subject.Subject, entry.Outcome.Outcome, entry.Entry.Entry, entry.Settles.Settles}
 use Rattle.ca_catalog.specs.declared.entry.Content.TheVariants.{Bytes, Missing, FaultyRule}
 use Rattle.ca_catalog.specs.declared.entry.Outcome.TheVariants as outcomes
 use Rattle.ca_catalog.specs.declared.entry.Outcome.TheVariants.{Unnameable, Identified, Refused}
@@ -39,11 +43,15 @@ abbrev pub none_text : (limit last : ℕ) → Growth → List ℕ
 none_text limit last growth =
     (codes "none of these within " ++ decimal limit) ++ (generations_word limit ++ (codes ": " ++ (growth_text growth ++ (codes ", after " ++ decimal last))))
 
+-- the line of a claim of this kind about the pattern of a name, where the second name is that of the other pattern, if it names one
+abbrev pub claim_words : (name second : List ℕ) → Kind → List ℕ
+claim_words name second kind = keyword_of kind ++ (32 ∷ (name ++ (spaced (words_after_name second kind) ++ 10 ∷ [])))
+
 -- the line of what a pattern is found to be: the claim that says it, or a comment where none of the claims is true within the limit; in each comment, names and
 -- paths have their control characters spelled out
 abbrev pub identity_line : (limit : ℕ) → List ℕ → Identity → List ℕ
 identity_line limit name Empty = codes "# " ++ (escaped name ++ (codes ": no cell is live" ++ 10 ∷ []))
-identity_line limit name (Claim kind) = keyword_of kind ++ (32 ∷ (name ++ (spaced (words_after_name name kind) ++ 10 ∷ [])))
+identity_line limit name (Claim kind) = claim_words name name kind
 identity_line limit name (Unknown growth) = codes "# " ++ (escaped name ++ (codes ": " ++ (none_text limit limit growth ++ 10 ∷ [])))
 
 -- what the plane of a pattern with this name is found to be after n generations, in the words of the claims: a comment,
@@ -81,6 +89,24 @@ code_lines n name (Some code) = code_line n name code.items
 abbrev pub identified_lines : (n : ℕ) → List ℕ → List ℕ → CodedLook → List ℕ
 identified_lines n name path found = load_line name path ++ (found_line n found.look.limit name found.look.identity ++ code_lines n name found.code)
 
+-- the word for this number of objects
+abbrev pub objects_word : ℕ → List ℕ
+objects_word n = if nat_eq n 1 then codes " object" else codes " objects"
+
+-- how a comment begins: on a pattern with this name, or on its plane after n generations
+abbrev pub comment_head : (n : ℕ) → List ℕ → List ℕ
+comment_head n name = if nat_eq n 0 then codes "# " ++ (escaped name ++ codes ": ") else later_head n name
+
+-- the comment on when a plane settles, as `# NAME: settles after 1103 generations into 25 objects: cafile census`
+abbrev pub settles_line : (n : ℕ) → List ℕ → Settles → List ℕ
+settles_line n name settles = comment_head n name ++ ((codes "settles after " ++ decimal settles.generations) ++ (generations_word settles.generations
+    ++ ((codes " into " ++ decimal settles.objects) ++ (objects_word settles.objects ++ (codes ": cafile census" ++ 10 ∷ [])))))
+
+-- where that is known
+abbrev pub settles_lines : (n : ℕ) → List ℕ → Option Settles → List ℕ
+settles_lines n name None = []
+settles_lines n name (Some settles) = settles_line n name settles
+
 -- the comment on a file that is refused: why, and on which line of the file, where it has such a line
 abbrev pub refused_line : List ℕ → List ℕ → Cause → Option ℕ → List ℕ
 refused_line name path cause line = codes "# " ++ (escaped name ++ (codes ": " ++ (escaped path ++ (codes ": " ++ (cause_text cause ++ (at_line line ++ 10 ∷ []))))))
@@ -94,7 +120,7 @@ abbrev pub outcome_lines : (n : ℕ) → List ℕ → List ℕ → Outcome → L
 outcome_lines n name path Unnameable = unnameable_line name path
 outcome_lines n name path (Refused why) = refused_line name path why.fault why.line
 outcome_lines n name path (outcomes.FaultyRule rule) = refused_line name path (causes.BadTable rule.fault) None
-outcome_lines n name path (Identified found) = identified_lines n name path found
+outcome_lines n name path (Identified found settles) = identified_lines n name path found ++ settles_lines n name settles
 
 abbrev pub entry_lines : (n : ℕ) → Entry → List ℕ
 entry_lines n entry = outcome_lines n entry.name.items entry.path.now entry.outcome
@@ -121,7 +147,7 @@ catalog_text n paths entries = catalog_head paths ++ flat_map (entry_lines n) en
 
 -- the file is identified
 abbrev pub is_identified : Outcome → Bool
-is_identified (Identified look) = true
+is_identified (Identified look settles) = true
 is_identified outcome = false
 
 -- the exit status: 2 where a file isn't identified, else 0
@@ -194,11 +220,28 @@ abbrev pub IsUnfoundFor : (codes : Bool) → List ℕ → List TableRule → Tas
 IsUnfoundFor true bytes tables task fault = IsUncodedAfter bytes tables task.limits.work task.generations task.scope.limit fault
 IsUnfoundFor false bytes tables task fault = IsUnidentifiedAfter bytes tables task.limits.work task.generations task.scope.limit fault
 
+-- under some rule, n generations after these cells, the plane settles first after so many generations, into so many objects
+pub record SettlesInto (next : List ℕ → ℕ) (cells : Picture) (n : ℕ) (settles : Settles) : Type 0 where
+  pub first : IsFirstSettled next (cells_after next (cell cells) n) settles.generations
+  pub clusters : List Course
+  pub are_clusters : AreClusters next (cells_after next (cell cells) (n + settles.generations)) clusters
+  pub objects : List (List Course)
+  pub each : AllZip (λ cluster of. AreObjects next (first_plane cluster) of) clusters objects
+  pub count : settles.objects ≡ length (flat_map (λ of. of) objects)
+
+-- that is told of the cells that the bytes mean, under their rule, where none of the kinds that are looked for was found, and something is told
+abbrev pub IsSettlesOf : List ℕ → List TableRule → (n : ℕ) → Identity → Option Settles → Type 0
+IsSettlesOf bytes tables n identity None = Unit {0}
+IsSettlesOf bytes tables n (Unknown growth) (Some settles) =
+    (cells : Picture) × (rule : RuleValue) × HoldsSmallPattern bytes tables cells rule × SettlesInto (next_of rule) cells n settles
+IsSettlesOf bytes tables n identity (Some settles) = ⊥
+
 -- what came of a file that gave this is true of it: this is found in its bytes, or this is the report of a fault for which that isn't found out; or there
 -- are no bytes of it, for this cause; or this rule file of its isn't good
 abbrev pub IsContentOutcome : List TableRule → Task → Content → Outcome → Type 0
 IsContentOutcome tables task content Unnameable = ⊥
-IsContentOutcome tables task (Bytes bytes) (Identified found) = IsFoundIn bytes.now tables task found
+IsContentOutcome tables task (Bytes bytes) (Identified found settles) = IsFoundIn bytes.now tables task found
+    × IsSettlesOf bytes.now tables task.generations found.look.identity settles
 IsContentOutcome tables task (Bytes bytes) (Refused why) = (refused : LocatedFault) × IsUnfoundFor task.codes bytes.now tables task refused × IsReportOf refused why
 IsContentOutcome tables task (Missing cause) (Refused why) = IsBareReport cause why
 IsContentOutcome tables task (FaultyRule rule) (outcomes.FaultyRule told) = told ≡ rule
@@ -244,5 +287,5 @@ EndsCatalog contents old new rules task subjects told = ⊥
 
 -- the last generation that was looked at has a number that fits, where the look began after n
 abbrev pub IsWithin : (n : ℕ) → Outcome → Type 0
-IsWithin n (Identified found) = n + found.look.limit < 2 ^ 64
+IsWithin n (Identified found settles) = n + found.look.limit < 2 ^ 64
 IsWithin n outcome = Unit {0}

@@ -26,7 +26,7 @@ found_says n name identity = if nat_eq n 0 then identity_says name identity else
 
 -- the name of a file that is identified, and its claim; nothing of any other file
 abbrev pub outcome_says : ℕ → List ℕ → List ℕ → Outcome → List ClaimTextLine
-outcome_says n name path (Identified found) = Load name path ∷ found_says n name found.look.identity
+outcome_says n name path (Identified found settles) = Load name path ∷ found_says n name found.look.identity
 outcome_says n name path outcome = []
 
 abbrev pub entry_says : ℕ → Entry → List ClaimTextLine

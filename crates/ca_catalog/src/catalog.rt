@@ -117,7 +117,7 @@ fn explain_entry<'a, W: Write>(
 fn is_identified(outcome: &Outcome<'_>) -> bool
     ensures { result ≡ is_identified outcome.now }
 {
-    matches!(outcome, Outcome::Identified(_))
+    matches!(outcome, Outcome::Identified(..))
 }
 
 fn are_identified(entries: &[Entry<'_>]) -> bool

@@ -30,8 +30,18 @@ pub enum Outcome<'a> {
     Refused(DetailedFault<Cause>),
     /// The rule file of its rule isn't good.
     FaultyRule(FaultyRule<'a>),
-    /// Its pattern is this, within the limit of the look, with its code, where that is asked for.
-    Identified(CodedLook),
+    /// Its pattern is this, within the limit of the look, with its code, where that is asked for; and where it is none of
+    /// the kinds that are looked for, it may be known what it settles into.
+    Identified(CodedLook, Option<Settles>),
+}
+
+/// When a plane settles, and into how many objects.
+#[derive(Clone, Copy, Debug, PartialEq, Eq)]
+pub struct Settles {
+    /// The first number of generations after which it is settled.
+    pub generations: u64,
+    /// How many objects it consists of then.
+    pub objects: u64,
 }
 
 /// A file of a claim text: its name there, its path, and what came of it.

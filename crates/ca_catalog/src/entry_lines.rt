@@ -3,13 +3,12 @@
 ghost use Rattle.std.specs.Prelude.{◌≡◌, ◌+◌, ◌<◌, ◌^◌, ◌++◌, ◌∷◌, [], OnOk};
 ghost use Rattle.ca_answers.specs.declared.identity.Identity.TheVariants.{Unknown};
 ghost use Rattle.ca_plane.specs.Prelude.{Puts};
-ghost use Rattle.ca_text.specs.Prelude.{keyword_of, words_after_name, spaced};
-ghost use Rattle.ca_catalog.specs.Catalog.{load_line, identity_line, refused_line, unnameable_line, later_text, later_head};
+ghost use Rattle.ca_catalog.specs.Catalog.{load_line, claim_words, identity_line, refused_line, unnameable_line, later_text, later_head};
 ghost use Rattle.ca_catalog.specs.Catalog.{later_line, found_line, code_comment, code_line, identified_lines, entry_lines};
-ghost use Rattle.ca_catalog.specs.Catalog.{rule_line, IsWithin};
+ghost use Rattle.ca_catalog.specs.Catalog.{rule_line, IsWithin, objects_word, comment_head, settles_lines};
 ghost use Rattle.ca_report.specs.Prelude.{pieces_text};
 
-use crate::entry::{Entry, Outcome};
+use crate::entry::{Entry, Outcome, Settles};
 use crate::growth::push_none;
 use ca_answers::{Cause, CodedLook, Growth, Identity, Look};
 use ca_plane::Memory;
@@ -19,21 +18,36 @@ use ca_report::{
 };
 use ca_text::Kind;
 
+/// Puts the line that gives a name to the file at a path.
+///
+/// # Errors
+///
+/// Fails where there is no memory for it.
+pub fn push_load(out: &mut Vec<u8>, name: &[u8], path: &[u8]) -> Result<(), Memory>
+    ensures { OnOk result (Puts out.old.items out.new.items (load_line name.now path.now)) }
+{
+    push_pieces(out, &load_pieces(name, path))
+}
+
 fn load_pieces<'a>(name: &'a [u8], path: &'a [u8]) -> [Piece<'a>; 5]
     ensures { pieces_text result ≡ load_line name.now path.now }
 {
     in_pieces![text b"load ", text name, text b" ", text path, text b"\n"]
 }
 
-// Puts the line of a claim of this kind about the pattern of a name.
-fn push_claim(out: &mut Vec<u8>, name: &[u8], kind: Kind) -> Result<(), Memory>
-    ensures { OnOk result (Puts out.old.items out.new.items
-        (keyword_of kind ++ (32 ∷ (name.now ++ (spaced (words_after_name name.now kind) ++ 10 ∷ []))))) }
+/// Puts the line of a claim of this kind about the pattern of a name, where the second name is that of the other pattern,
+/// if it names one.
+///
+/// # Errors
+///
+/// Fails where there is no memory for it.
+pub fn push_claim(out: &mut Vec<u8>, name: &[u8], second: &[u8], kind: Kind) -> Result<(), Memory>
+    ensures { OnOk result (Puts out.old.items out.new.items (claim_words name.now second.now kind)) }
 {
     push_text(out, kind.keyword())?;
     push_text(out, b" ")?;
     push_text(out, name)?;
-    kind.push_words_after_name(out, name)?;
+    kind.push_words_after_name(out, second)?;
     push_text(out, b"\n")
 }
 
@@ -62,7 +76,7 @@ fn push_identity(
             out,
             &in_pieces![text b"# ", escaped name, text b": no cell is live\n"],
         ),
-        Identity::Claim(kind) => push_claim(out, name, kind),
+        Identity::Claim(kind) => push_claim(out, name, name, kind),
         Identity::Unknown { growth } => push_unknown(out, limit, name, growth),
     }
 }
@@ -142,8 +156,17 @@ fn code_pieces<'a>(name: &'a [u8], code: &'a [u8]) -> [Piece<'a>; 5]
     in_pieces![text b"# ", escaped name, text b": ", text code, text b"\n"]
 }
 
-// Puts the comment with a code: of a pattern, or of its plane after some generations.
-fn push_code(out: &mut Vec<u8>, generations: u64, name: &[u8], code: &[u8]) -> Result<(), Memory>
+/// Puts the comment with a code: of a pattern, or of its plane after some generations.
+///
+/// # Errors
+///
+/// Fails where there is no memory for it.
+pub fn push_code(
+    out: &mut Vec<u8>,
+    generations: u64,
+    name: &[u8],
+    code: &[u8],
+) -> Result<(), Memory>
     ensures { OnOk result (Puts out.old.items out.new.items (code_line generations name.now code.now)) }
 {
     if generations == 0 {
@@ -197,12 +220,56 @@ fn push_identified(
         limit,
         ..
     } = found.look;
-    push_pieces(out, &load_pieces(name, path))?;
+    push_load(out, name, path)?;
     push_found(out, generations, limit, name, identity)?;
     match &found.code {
         Some(code) => push_code(out, generations, name, code),
         None => Ok(()),
     }
+}
+
+/// The word after a number of objects.
+pub fn objects_word<'a>(count: u64) -> &'a [u8]
+    ensures { result.now ≡ objects_word count }
+{
+    if count == 1 {
+        return b" object";
+    }
+    b" objects"
+}
+
+/// Puts how a comment on a pattern begins, or on the plane that it is after `generations` generations.
+///
+/// # Errors
+///
+/// Fails where there is no memory for it.
+pub fn push_comment_head(out: &mut Vec<u8>, generations: u64, name: &[u8]) -> Result<(), Memory>
+    ensures { OnOk result (Puts out.old.items out.new.items (comment_head generations name.now)) }
+{
+    if generations == 0 {
+        return push_pieces(out, &in_pieces![text b"# ", escaped name, text b": "]);
+    }
+    push_later_head(out, generations, name)
+}
+
+// Puts the comment on when a pattern settles, or its plane after some generations, where that is known.
+fn push_settles(
+    out: &mut Vec<u8>,
+    generations: u64,
+    name: &[u8],
+    settles: Option<Settles>,
+) -> Result<(), Memory>
+    ensures { OnOk result (Puts out.old.items out.new.items (settles_lines generations name.now settles)) }
+{
+    let Some(settles) = settles else {
+        return Ok(());
+    };
+    push_comment_head(out, generations, name)?;
+    push_counted(out, b"settles after ", settles.generations)?;
+    push_text(out, generations_word(settles.generations))?;
+    push_counted(out, b" into ", settles.objects)?;
+    push_text(out, objects_word(settles.objects))?;
+    push_text(out, b": cafile census\n")
 }
 
 /// Puts the lines on a file after what `out` holds; it was looked at after `generations` generations.
@@ -224,8 +291,9 @@ pub fn push_entry(out: &mut Vec<u8>, generations: u64, entry: &Entry<'_>) -> Res
             out,
             &refused_pieces(&entry.name, entry.path, Cause::BadTable(rule.fault), None),
         ),
-        Outcome::Identified(found) => {
-            push_identified(out, generations, &entry.name, entry.path, found)
+        Outcome::Identified(found, settles) => {
+            push_identified(out, generations, &entry.name, entry.path, found)?;
+            push_settles(out, generations, &entry.name, *settles)
         }
     }
 }

@@ -13,8 +13,10 @@ mod taken_names;
 mod task;
 
 pub use catalog::{Catalog, head_pieces, rules_text, says_its_claims};
-pub use entry::{Content, Entry, Outcome, Subject};
-pub use entry_lines::push_entry;
+pub use entry::{Content, Entry, Outcome, Settles, Subject};
+pub use entry_lines::{
+    objects_word, push_claim, push_code, push_comment_head, push_entry, push_load,
+};
 pub use fault_report::report_of;
 pub use known_rules::KnownRules;
 pub use names::{add_name, is_claim_path};

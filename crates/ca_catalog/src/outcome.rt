@@ -43,7 +43,7 @@ pub(crate) fn outcome_has_explanation(outcome: &Outcome<'_>) -> bool
     match outcome {
         Outcome::Refused(why) => is_in_file(why.fault),
         Outcome::FaultyRule(_) => true,
-        Outcome::Unnameable | Outcome::Identified(_) => false,
+        Outcome::Unnameable | Outcome::Identified(..) => false,
     }
 }
 
@@ -58,7 +58,7 @@ pub(crate) fn outcome_explanation_pieces<'a>(
     match outcome {
         Outcome::Refused(why) => cause_explanation_pieces(path, why),
         Outcome::FaultyRule(rule) => rule_file_pieces(rule.path, rule.fault),
-        Outcome::Unnameable | Outcome::Identified(_) => [NOTHING; 16],
+        Outcome::Unnameable | Outcome::Identified(..) => [NOTHING; 16],
     }
 }
 

@@ -77,9 +77,9 @@ outcome_within : (tables : List TableRule) (task : Task) (content : Content) (ou
 outcome_within tables task content Unnameable few short is = tt
 outcome_within tables task content (Refused why) few short is = tt
 outcome_within tables task content (outcomes.FaultyRule rule) few short is = tt
-outcome_within tables task (Missing cause) (Identified found) few short is = absurd is
-outcome_within tables task (FaultyRule rule) (Identified found) few short is = absurd is
-outcome_within tables task (Bytes bytes) (Identified found) few short ((cells, rule, holds, (later, stands, is)), code) =
+outcome_within tables task (Missing cause) (Identified found settles) few short is = absurd is
+outcome_within tables task (FaultyRule rule) (Identified found settles) few short is = absurd is
+outcome_within tables task (Bytes bytes) (Identified found settles) few short (((cells, rule, holds, (later, stands, is)), code), settled) =
     let most = is.most in
     omega (arith, few, short, most)
 

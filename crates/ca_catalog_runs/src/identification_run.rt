@@ -4,22 +4,25 @@
 ghost use Rattle.std.specs.Prelude.{◌≡◌, ◌≤◌, ◌++◌, ◌∷◌, [], IfOk, IfErr, OnOk};
 ghost use Rattle.ca_pattern.specs.Prelude.{AreGoodLimits};
 ghost use Rattle.ca_plane.specs.Prelude.{longest_period, most_generations};
-ghost use Rattle.ca_catalog.specs.Prelude.{entry_lines, IsOutcome, IsEntry, WritesCatalog, EndsCatalog, IsFoundIn, IsUnfoundFor};
+ghost use Rattle.ca_catalog.specs.Prelude.{entry_lines, IsOutcome, IsEntry, WritesCatalog, EndsCatalog, IsFoundIn, IsUnfoundFor, IsSettlesOf};
 ghost use Rattle.ca_catalog.specs.Prelude.{WritesOn, IsWithin};
 ghost use Rattle.ca_catalog_runs.specs.inner.Searches.{IsGoodSearch, AreLines, EndsLines};
 
 use crate::coded_files::identify_with_code;
-use ca_answers::CodedLook;
+use ca_answers::{CodedLook, Identity};
 use ca_catalog::{
-    Catalog, Content, Entry, KnownRules, Outcome, Subject, TakenNames, Task, add_name, head_pieces,
-    is_claim_path, push_entry, report_of, rules_text,
+    Catalog, Content, Entry, KnownRules, Outcome, Settles, Subject, TakenNames, Task, add_name,
+    head_pieces, is_claim_path, push_entry, report_of, rules_text,
 };
+use ca_census::{Reach, census_of_file};
 use ca_evolution::{Observer, RunSubject};
 use ca_identify::identify;
 use ca_pattern::LocatedFault;
+use ca_plane::limits::MOST_GENERATIONS;
 use ca_plane::{Dev, Memory, send};
 use ca_report::{DetailedFault, ToolFault, send_pieces};
 use ca_rule::Table;
+use ca_run::Unwatched;
 use std::alloc::Global;
 use std::io::Write;
 
@@ -161,7 +164,10 @@ fn outcome_of<'a, O: Observer>(
         Content::FaultyRule(rule) => return Outcome::FaultyRule(rule),
     };
     match found_in(alloc, bytes, search, observer) {
-        Ok(found) => Outcome::Identified(found),
+        Ok(found) => {
+            let settles = settles_in(alloc, bytes, search, found.look.identity);
+            Outcome::Identified(found, settles)
+        }
         Err(refused) => Outcome::Refused(report_of(refused)),
     }
 }
@@ -190,4 +196,41 @@ fn found_in<O: Observer>(
     }
     let look = identify(alloc, bytes, tables, generations, limits, scope, observer)?;
     Ok(CodedLook { look, code: None })
+}
+
+// How many cells of its parts may be stepped for that.
+const BUDGET: u64 = 500000;
+
+// When the plane of a file settles, and into how many objects, where it is none of the kinds that are looked for, and
+// that is found within the patience of the look. Where it has no patience, only what is asked for is looked for.
+fn settles_in(
+    alloc: Global,
+    bytes: &[u8],
+    search: &Search<'_>,
+    identity: Identity,
+) -> Option<Settles>
+    requires { IsGoodSearch search.now }
+    ensures { IsSettlesOf bytes.now search.now.tables.now search.now.task.generations identity result }
+{
+    let Identity::Unknown { .. } = identity else {
+        return None;
+    };
+    let Search { tables, task } = *search;
+    if task.scope.patience.is_none() {
+        return None;
+    }
+    let reach = Reach {
+        start: task.generations,
+        limit: task.scope.limit.min(MOST_GENERATIONS - task.generations),
+        budget: BUDGET,
+        patience: task.scope.patience,
+    };
+    let mut unwatched = Unwatched;
+    match census_of_file(alloc, bytes, tables, task.limits, reach, &mut unwatched) {
+        Ok(Some(found)) => Some(Settles {
+            generations: found.census.generations,
+            objects: found.census.objects.len() as u64,
+        }),
+        Ok(None) | Err(_) => None,
+    }
 }

@@ -17,11 +17,11 @@ use Rattle.ca_parts.specs.Divisions as divisions
 use Rattle.ca_parts.proofs.LaterDivisions.{settled_since}
 use Rattle.ca_clusters.specs.Prelude.{first_plane, AreClusters}
 use Rattle.ca_census.specs.declared.{reach.Reach.Reach, settling.Between.Between, settling.Settling.Settling}
-use Rattle.ca_census.specs.Settlings.{IsSettling}
+use Rattle.ca_census.specs.Settlings.{IsSettled, IsSettling}
 use Rattle.ca_census.specs.inner.Searches.{IsBetween}
 
 -- cells that are the same everywhere are one plane
-one_plane : (f g : ℤ → ℤ → ℕ) → ((x y : ℤ) → f x y ≡ g x y) → f ≡ g
+pub one_plane : (f g : ℤ → ℤ → ℕ) → ((x y : ℤ) → f x y ≡ g x y) → f ≡ g
 one_plane f g same = fun_ext (λ x. fun_ext (same x))
 
 -- ---- pictures of a pattern
@@ -48,6 +48,11 @@ pictures_then {old} {new} sound grows {pattern} is P told cells shows = told cel
 pub clusters_then : (next : List ℕ → ℕ) (cells : Picture) (n : ℕ) (plane : Picture) (courses : List Course) → IsAfter next cells n plane → AreClusters next (cell plane) courses
     → AreClusters next (cells_after next (cell cells) n) courses
 clusters_then next cells n plane courses stands are = subst (λ f. AreClusters next f courses) (sym (one_plane (cells_after next (cell cells) n) (cell plane) stands)) are
+
+-- and those of a settled plane are its picture's
+pub settled_clusters : (next : List ℕ → ℕ) (cells : Picture) (reach : Reach) (settling : Settling) → IsSettled next cells reach settling → AreClusters next (cell settling.plane) settling.clusters.items
+settled_clusters next cells reach settling is =
+    subst (λ f. AreClusters next f settling.clusters.items) (one_plane (cells_after next (cell cells) (reach.start + settling.generations)) (cell settling.plane) is.plane) is.clusters
 
 -- ---- between two numbers of generations
 
@@ -85,13 +90,15 @@ module _ (next : List ℕ → ℕ) (cells : Picture) (reach : Reach) (between : 
         subst (λ f. AreClusters next f clusters) (one_plane _ _ same) is.settled.clusters
 
     -- where these are its clusters, it is settled,
-    pub settled_there : (there : Settling) → there.generations ≡ middle → AreClusters next (cell plane) there.clusters.items
+    pub settled_there : (there : Settling) → there.generations ≡ middle → there.plane ≡ plane → AreClusters next (cell plane) there.clusters.items
         → IsBetween next cells reach (record { settled = there; unsettled_before = between.unsettled_before })
-    settled_there there is_middle are =
+    settled_there there is_middle is_plane are =
         let limit = is.settled.within in
+        let here = subst (λ k. IsAfter next cells (reach.start + k) plane) (sym is_middle) stands in
         record {
           settled = record {
-            clusters = clusters_then next cells (reach.start + there.generations) plane there.clusters.items (subst (λ k. IsAfter next cells (reach.start + k) plane) (sym is_middle) stands) are;
+            clusters = clusters_then next cells (reach.start + there.generations) plane there.clusters.items here are;
+            plane = subst (IsAfter next cells (reach.start + there.generations)) (sym is_plane) here;
             within = omega (arith, is_middle, within, limit);
           };
           before = is.before;

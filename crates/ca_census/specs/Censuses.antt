@@ -14,10 +14,11 @@ IsCodeIfAsked true IsCode (Some code) = IsCode code
 IsCodeIfAsked true IsCode None = ⊥
 IsCodeIfAsked false IsCode code = code ≡ None
 
--- what is told of the object with this course, as it is in the first plane: what it is alone, how many of its cells are live, and the
+-- what is told of the object with this course, as it is in the first plane: what it is alone, its cells, how many of them are live, and the
 -- smallest box round them; and its code, where codes are asked for
 pub record IsEntryOf (next : List ℕ → ℕ) (coded : Bool) (course : Course) (entry : CensusObject) : Type 0 where
   pub identity : IsIdentity next (first_plane course) longest_period (Claim entry.kind)
+  pub plane : entry.plane ≡ first_plane course
   pub cells : HasPopulation (cell (first_plane course)) entry.cells
   pub bounds : IsLeastBox (first_plane course) entry.bounds
   pub code : IsCodeIfAsked coded (IsCodeOf next (first_plane course) (Claim entry.kind)) (option_map (λ code. code.items) entry.code)
@@ -28,3 +29,4 @@ pub record IsCensusOf (next : List ℕ → ℕ) (coded : Bool) (settling : Settl
   pub each : AllZip (λ cluster of. AreObjects next (first_plane cluster) of) settling.clusters.items objects
   pub entries : AllZip (IsEntryOf next coded) (flat_map (λ of. of) objects) census.objects.items
   pub generations : census.generations ≡ settling.generations
+  pub plane : census.plane ≡ settling.plane

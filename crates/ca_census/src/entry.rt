@@ -1,7 +1,7 @@
 //! The objects of a census.
 
 ghost use Rattle.std.specs.Prelude.{◌≡◌, ◌↔◌, ℕ, List, pos, length, option_map, IfOk, IsTrue};
-ghost use Rattle.ca_plane.specs.Prelude.{IsLive, IsLeastBox, longest_period};
+ghost use Rattle.ca_plane.specs.Prelude.{IsLive, IsLeastBox, IsSparse, longest_period};
 ghost use Rattle.ca_parts.specs.Prelude.{ArePhases};
 ghost use Rattle.ca_clusters.specs.Prelude.{first_plane, GoesRound};
 ghost use Rattle.ca_answers.specs.Prelude.{IsCodeOf, IsIdentity};
@@ -20,7 +20,9 @@ use std::alloc::Global;
 pub struct CensusObject {
     /// What it is alone: a still life, an oscillator or a spaceship.
     pub kind: Kind,
-    /// How many of its cells are live.
+    /// Its cells.
+    pub plane: Plane,
+    /// How many of them are live.
     pub cells: u64,
     /// The smallest box round them.
     pub bounds: Bounds,
@@ -32,10 +34,11 @@ pub struct CensusObject {
 ///
 /// # Errors
 ///
-/// Fails where there is no memory for the code.
+/// Fails where there is no memory for the cells or the code.
 pub fn entry_of(alloc: Global, course: &Phases, coded: bool) -> Result<CensusObject, Memory>
-    ensures { (next : List ℕ → ℕ) → GoesRound next course.now
+    ensures entry { (next : List ℕ → ℕ) → GoesRound next course.now
         → IfOk result (IsEntryOf next coded course.now) }
+    ensures sparse { IfOk result (λ entry. IsSparse entry.plane) }
 {
     // Says what holds of every course.
     let _ = course.period();
@@ -44,6 +47,7 @@ pub fn entry_of(alloc: Global, course: &Phases, coded: bool) -> Result<CensusObj
     let plane = course.plane(0);
     Ok(CensusObject {
         kind,
+        plane: plane.copy(alloc)?,
         cells: plane.len() as u64,
         bounds: bounds_of(plane),
         code,

@@ -1,7 +1,7 @@
 //! The planes of a pattern some generations on, cell by cell.
 
 ghost use Rattle.std.specs.Prelude.{◌≡◌, ◌≤◌, IfOk, IfSome, IsTrue, ◌↔◌};
-ghost use Rattle.ca_plane.specs.Prelude.{Picture, IsAfter, most_generations};
+ghost use Rattle.ca_plane.specs.Prelude.{Picture, cell, IsAfter, most_generations, HasFewCells};
 ghost use Rattle.ca_steps.specs.Prelude.{HasStates};
 ghost use Rattle.ca_run.specs.Prelude.{LeaperGrows};
 ghost use Rattle.ca_work.specs.Prelude.{EndsAtLimit};
@@ -30,6 +30,7 @@ pub(crate) fn plane_after<A: Automaton, O: Observer>(
     ensures plane { (cells : Picture) → ShowsTree leaper.old.nodes pattern cells
         → IfOk result (λ found. IfSome found (IsAfter (A.next_of leaper.old.rule) cells generations)) }
     ensures states { IfOk result (λ found. IfSome found (HasStates states)) }
+    ensures few { IfOk result (λ found. IfSome found (λ plane. HasFewCells (cell plane))) }
     ensures goes_on { LeaperGrows A leaper.old leaper.new }
     ensures work { EndsAtLimit leaper.new.spent result }
 {

@@ -7,6 +7,7 @@ ghost use Rattle.ca_run.specs.Prelude.{LeaperGrows};
 ghost use Rattle.ca_work.specs.Prelude.{EndsAtLimit};
 ghost use Rattle.ca_pattern.specs.Prelude.{ShowsTree, IsPattern};
 ghost use Rattle.ca_clusters.specs.Prelude.{AreClusters};
+ghost use Rattle.ca_census.specs.Files.{FitsFile};
 ghost use Rattle.ca_census.specs.Settlings.{IsSettled};
 ghost use Rattle.ca_census.specs.inner.Searches.{CanSearch};
 
@@ -45,6 +46,7 @@ pub(crate) fn find_settled<A: Automaton, O: Observer>(
     requires budget { reach.budget < longest_period }
     ensures settled { (cells : Picture) → ShowsTree leaper.old.nodes pattern.now cells
         → IfOk result (λ found. IfSome found (IsSettled (A.next_of rule.now) cells reach)) }
+    ensures fits { IfOk result (λ found. IfSome found (λ settled. FitsFile (A.state_count rule.now) settled.plane)) }
     ensures goes_on { LeaperGrows A leaper.old leaper.new }
     ensures work { EndsAtLimit leaper.new.spent result }
 {
@@ -97,6 +99,7 @@ fn try_doubling<A: Automaton, O: Observer>(
     requires can { CanSearch search.old }
     ensures settled { (cells : Picture) → ShowsTree leaper.old.nodes pattern.now cells
         → IfOk result (λ found. IfSome found (IsSettled (A.next_of rule.now) cells search.old.reach)) }
+    ensures fits { IfOk result (λ found. IfSome found (λ settled. FitsFile (A.state_count rule.now) settled.plane)) }
     ensures reach { search.new.reach ≡ search.old.reach }
     ensures budget { search.new.budget ≤ search.old.budget }
     ensures goes_on { LeaperGrows A leaper.old leaper.new }
@@ -154,6 +157,7 @@ fn try_ends<A: Automaton, O: Observer>(
     requires can { CanSearch search }
     ensures settled { (cells : Picture) → ShowsTree leaper.old.nodes pattern.now cells
         → IfOk result (λ found. IfSome found (IsSettled (A.next_of rule.now) cells search.reach)) }
+    ensures fits { IfOk result (λ found. IfSome found (λ settled. FitsFile (A.state_count rule.now) settled.plane)) }
     ensures goes_on { LeaperGrows A leaper.old leaper.new }
     ensures work { EndsAtLimit leaper.new.spent result }
 {
@@ -191,6 +195,7 @@ fn try_after<A: Automaton, O: Observer>(
     requires within { generations ≤ search.old.reach.limit }
     ensures settled { (cells : Picture) → ShowsTree leaper.old.nodes pattern.now cells
         → IfOk result (λ found. IfSome found (IsSettled (A.next_of rule.now) cells search.old.reach)) }
+    ensures fits { IfOk result (λ found. IfSome found (λ settled. FitsFile (A.state_count rule.now) settled.plane)) }
     ensures reach { search.new.reach ≡ search.old.reach }
     ensures budget { search.new.budget ≤ search.old.budget }
     ensures goes_on { LeaperGrows A leaper.old leaper.new }
@@ -216,6 +221,7 @@ fn try_after<A: Automaton, O: Observer>(
     match clusters {
         Some(clusters) => Ok(Some(Settling {
             generations,
+            plane,
             clusters,
         })),
         None => Ok(None),

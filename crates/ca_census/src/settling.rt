@@ -5,6 +5,7 @@ ghost use Rattle.ca_plane.specs.Prelude.{Picture, IsAfter, longest_period, most_
 ghost use Rattle.ca_run.specs.Prelude.{LeaperGrows};
 ghost use Rattle.ca_work.specs.Prelude.{EndsAtLimit};
 ghost use Rattle.ca_pattern.specs.Prelude.{ShowsTree, IsPattern};
+ghost use Rattle.ca_census.specs.Files.{FitsFile};
 ghost use Rattle.ca_census.specs.Settlings.{IsSettled, IsSettling};
 ghost use Rattle.ca_census.specs.inner.Searches.{IsBetween};
 ghost use Rattle.ca_census.specs.declared.reach.Reach.{Reach};
@@ -20,10 +21,11 @@ use ca_quad::Tree;
 use ca_run::{LeapFault, Leaper};
 use std::alloc::Global;
 
-/// How many generations after the start of a reach a plane is settled, and its clusters then.
+/// How many generations after the start of a reach a plane is settled, and its cells and clusters then.
 #[derive(Drop)]
 pub struct Settling {
     pub generations: u64,
+    pub plane: Plane,
     pub clusters: Vec<Phases>,
 }
 
@@ -47,6 +49,7 @@ pub fn settle<A: Automaton, O: Observer>(
     requires budget { reach.budget < longest_period }
     ensures settling { (cells : Picture) → ShowsTree leaper.old.nodes pattern cells
         → IfOk result (λ found. IfSome found (IsSettling (A.next_of rule.now) cells reach)) }
+    ensures fits { IfOk result (λ found. IfSome found (λ settling. FitsFile (A.state_count rule.now) settling.plane)) }
     ensures goes_on { LeaperGrows A leaper.old leaper.new }
     ensures work { EndsAtLimit leaper.new.spent result }
 {
@@ -88,8 +91,10 @@ fn first_settling<A: Automaton, O: Observer>(
     requires within { settled.generations ≤ reach.limit }
     requires settled { (cells : Picture) → ShowsTree leaper.old.nodes pattern.now cells
         → IsSettled (A.next_of rule.now) cells reach settled }
+    requires fits { FitsFile (A.state_count rule.now) settled.plane }
     ensures settling { (cells : Picture) → ShowsTree leaper.old.nodes pattern.now cells
         → IfOk result (λ found. IfSome found (IsSettling (A.next_of rule.now) cells reach)) }
+    ensures fits { IfOk result (λ found. IfSome found (λ settling. FitsFile (A.state_count rule.now) settling.plane)) }
     ensures goes_on { LeaperGrows A leaper.old leaper.new }
     ensures work { EndsAtLimit leaper.new.spent result }
 {
@@ -107,7 +112,7 @@ fn first_settling<A: Automaton, O: Observer>(
         else {
             return Ok(None);
         };
-        match between.halve(alloc, middle, &plane) {
+        match between.halve(alloc, middle, plane) {
             Ok(()) => {}
             Err(ClusterFault::Memory) => return Err(LeapFault::Memory),
             Err(_) => return Ok(None),
@@ -134,23 +139,26 @@ impl Between {
     }
 
     // Looks whether the plane is settled at a number of generations between them: this is the plane then.
-    fn halve(&mut self, alloc: Global, middle: u64, plane: &Plane) -> Result<(), ClusterFault>
+    fn halve(&mut self, alloc: Global, middle: u64, plane: Plane) -> Result<(), ClusterFault>
         requires from { self.old.unsettled_before ≤ middle }
         requires before { middle < self.old.settled.generations }
         requires few { self.old.settled.generations ≤ most_generations }
         ensures between { (next : List ℕ → ℕ) (cells : Picture) (reach : Reach) → next (replicate 9 0) ≡ 0
-            → IsAfter next cells (reach.start + middle) plane.now → IsBetween next cells reach self.old
+            → IsAfter next cells (reach.start + middle) plane → IsBetween next cells reach self.old
             → OnOk result (IsBetween next cells reach self.new) }
+        ensures fits { (states : ℕ) → FitsFile states self.old.settled.plane → FitsFile states plane
+            → OnOk result (FitsFile states self.new.settled.plane) }
         ensures order { OnOk result (self.new.unsettled_before ≤ self.new.settled.generations) }
         ensures within { OnOk result (self.new.settled.generations ≤ self.old.settled.generations) }
         ensures nearer { OnOk result (self.new.settled.generations - self.new.unsettled_before
             < self.old.settled.generations - self.old.unsettled_before) }
     {
         let n = self.settled.generations - middle;
-        match earlier_clusters(alloc, &self.settled.clusters, n, plane)? {
+        match earlier_clusters(alloc, &self.settled.clusters, n, &plane)? {
             Some(clusters) => {
                 self.settled = Settling {
                     generations: middle,
+                    plane,
                     clusters,
                 };
                 Ok(())

@@ -1,5 +1,8 @@
+pub mod AddedFiles
+pub mod Answered
 pub mod FilesTold
 pub mod LabelCounts
 pub mod OneOrder
 pub mod OneText
+pub mod PlacedFiles
 pub mod Uncounted

@@ -3,5 +3,6 @@ pub mod Objects
 pub mod Counts
 pub mod Places
 pub mod Lines
+pub mod Files
 pub mod Runs
 pub mod inner

@@ -1,19 +1,11 @@
 -- The lines on the census of a file (our own; docs/CLAIMS.md).
-use Rattle.std.specs.Prelude.{◌≡◌, ℕ, List, [], ◌∷◌, ◌++◌, map, length, Bool, true, false, codes, decimal, nat_eq, if◌then◌else◌}
+use Rattle.std.specs.Prelude.{◌≡◌, ℕ, List, [], ◌∷◌, ◌++◌, map, length, Bool, true, false, codes, decimal}
 use Rattle.std.specs.List.{flat_map, sum_by}
-use Rattle.ca_report.specs.Prelude.{escaped, generations_word}
-use Rattle.ca_catalog.specs.Prelude.{later_head}
+use Rattle.ca_report.specs.Prelude.{generations_word}
+use Rattle.ca_catalog.specs.Prelude.{objects_word, comment_head}
 use Rattle.ca_census.specs.declared.{reach.Reach.Reach, census.Census.Census, entry.CensusObject.CensusObject}
 use Rattle.ca_census_runs.specs.declared.task.CensusTask.{CensusTask}
 use Rattle.ca_census_runs.specs.{Objects.label, Objects.size_words, Objects.object_line, Counts.AreCounts, Counts.count_line, Places.ArePlaced}
-
--- the word for this number of objects
-abbrev pub objects_word : ℕ → List ℕ
-objects_word n = if nat_eq n 1 then codes " object" else codes " objects"
-
--- how the first line begins: `# NAME: `, or `# NAME after START generations: ` where the reach starts later
-abbrev pub census_head : (start : ℕ) → List ℕ → List ℕ
-census_head start name = if nat_eq start 0 then codes "# " ++ (escaped name ++ codes ": ") else later_head start name
 
 -- how many cells all objects have
 abbrev pub all_cells : List CensusObject → ℕ
@@ -26,13 +18,13 @@ objects_words objects = decimal (length objects) ++ (objects_word (length object
 -- the first line on a file whose plane settles
 abbrev pub settled_line : (start : ℕ) → List ℕ → Census → List ℕ
 settled_line start name census =
-    census_head start name ++ ((codes "settles after " ++ decimal census.generations) ++ (generations_word census.generations ++ (codes ": "
+    comment_head start name ++ ((codes "settles after " ++ decimal census.generations) ++ (generations_word census.generations ++ (codes ": "
     ++ (objects_words census.objects.items ++ 10 ∷ []))))
 
 -- the line on a file whose plane isn't found to settle
 abbrev pub unsettled_line : Reach → List ℕ → List ℕ
 unsettled_line reach name =
-    census_head reach.start name ++ ((codes "not found to settle within " ++ decimal reach.limit) ++ (generations_word reach.limit ++ 10 ∷ []))
+    comment_head reach.start name ++ ((codes "not found to settle within " ++ decimal reach.limit) ++ (generations_word reach.limit ++ 10 ∷ []))
 
 -- the lines on objects: one for each, by its place, where they are listed; else one for each label, with how many have it
 abbrev pub AreObjectLines : (listed : Bool) → List CensusObject → List ℕ → Type 0

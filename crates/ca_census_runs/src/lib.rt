@@ -2,6 +2,7 @@
 #![tactic(auto)]
 
 mod counts;
+mod fault;
 mod file_lines;
 pub mod laws;
 mod lines;
@@ -11,6 +12,7 @@ mod places;
 mod run;
 mod task;
 
+pub use fault::CensusFault;
 pub use lines::push_census;
 pub use outcome::CensusOutcome;
 pub use run::census_run;

@@ -2,40 +2,19 @@
 
 ghost use Rattle.std.specs.Prelude.{◌≡◌, ◌*◌, ◌≤◌, ◌^◌, List, ℕ, length, OnOk};
 ghost use Rattle.ca_plane.specs.Prelude.{Puts};
-ghost use Rattle.ca_census_runs.specs.Lines.{objects_word, census_head, all_cells, objects_words, settled_line, unsettled_line, AreObjectLines, AreCensusLines};
+ghost use Rattle.ca_census_runs.specs.Lines.{all_cells, objects_words, settled_line, unsettled_line, AreObjectLines, AreCensusLines};
+ghost use Rattle.ca_census_runs.specs.Places.{ArePlaced, IsPlacedCensus};
 
 use crate::counts::push_counts;
 use crate::objects::push_size;
-use crate::places::push_list;
+use crate::places::{push_objects, sort_by_place};
 use crate::task::CensusTask;
+use ca_catalog::{objects_word, push_comment_head};
 use ca_census::{Census, CensusObject, Reach};
 use ca_plane::Memory;
 use ca_plane::text::{push_number, push_text};
-use ca_report::{generations_word, push_counted, push_escaped};
+use ca_report::{generations_word, push_counted};
 use std::alloc::Global;
-
-fn objects_word<'a>(count: u64) -> &'a [u8]
-    ensures { result.now ≡ objects_word count }
-{
-    if count == 1 {
-        return b" object";
-    }
-    b" objects"
-}
-
-// Puts how the first line on a file begins, whose reach starts so many generations after its pattern.
-fn push_head(out: &mut Vec<u8>, start: u64, name: &[u8]) -> Result<(), Memory>
-    ensures { OnOk result (Puts out.old.items out.new.items (census_head start name.now)) }
-{
-    push_text(out, b"# ")?;
-    push_escaped(out, name)?;
-    if start == 0 {
-        return push_text(out, b": ");
-    }
-    push_counted(out, b" after ", start)?;
-    push_text(out, generations_word(start))?;
-    push_text(out, b": ")
-}
 
 // How many cells all the objects have.
 fn all_cells(objects: &[CensusObject]) -> u128
@@ -63,7 +42,7 @@ fn push_numbers(out: &mut Vec<u8>, objects: &[CensusObject]) -> Result<(), Memor
 fn push_settled(out: &mut Vec<u8>, start: u64, name: &[u8], census: &Census) -> Result<(), Memory>
     ensures { OnOk result (Puts out.old.items out.new.items (settled_line start name.now census.now)) }
 {
-    push_head(out, start, name)?;
+    push_comment_head(out, start, name)?;
     push_counted(out, b"settles after ", census.generations)?;
     push_text(out, generations_word(census.generations))?;
     push_text(out, b": ")?;
@@ -79,29 +58,34 @@ fn push_settled(out: &mut Vec<u8>, start: u64, name: &[u8], census: &Census) -> 
 pub(crate) fn push_unsettled(out: &mut Vec<u8>, reach: Reach, name: &[u8]) -> Result<(), Memory>
     ensures { OnOk result (Puts out.old.items out.new.items (unsettled_line reach name.now)) }
 {
-    push_head(out, reach.start, name)?;
+    push_comment_head(out, reach.start, name)?;
     push_counted(out, b"not found to settle within ", reach.limit)?;
     push_text(out, generations_word(reach.limit))?;
     push_text(out, b"\n")
 }
 
-// Puts the lines on the objects: one for each, where they are listed, or else one for each label.
+// Puts the lines on the objects: one for each, where they are listed, or else one for each label. It sorts them by the
+// upper left corners of their boxes, row by row.
 fn push_all(
     alloc: Global,
     out: &mut Vec<u8>,
     listed: bool,
-    objects: Vec<CensusObject>,
+    objects: &mut Vec<CensusObject>,
 ) -> Result<(), Memory>
-    ensures { OnOk result ((lines : List ℕ) × AreObjectLines listed objects.items lines
+    ensures lines { OnOk result ((lines : List ℕ) × AreObjectLines listed objects.old.items lines
         × Puts out.old.items out.new.items lines) }
+    ensures sorted { OnOk result (ArePlaced objects.old.items objects.new.items) }
 {
     if listed {
-        return push_list(out, objects);
+        sort_by_place(objects)?;
+        return push_objects(out, objects);
     }
-    push_counts(alloc, out, &objects)
+    push_counts(alloc, out, objects)?;
+    sort_by_place(objects)
 }
 
-/// Puts the lines on the census of a file with this name after what `out` holds.
+/// Puts the lines on the census of a file with this name after what `out` holds, and sorts its objects by the upper left
+/// corners of their boxes, row by row.
 ///
 /// # Errors
 ///
@@ -109,13 +93,14 @@ fn push_all(
 pub fn push_census(
     alloc: Global,
     out: &mut Vec<u8>,
-    task: CensusTask,
+    task: CensusTask<'_>,
     name: &[u8],
-    census: Census,
+    census: &mut Census,
 ) -> Result<(), Memory>
-    ensures { OnOk result ((text : List ℕ) × AreCensusLines task name.now census text
+    ensures text { OnOk result ((text : List ℕ) × AreCensusLines task.entry name.now census.old text
         × Puts out.old.items out.new.items text) }
+    ensures sorted { OnOk result (IsPlacedCensus census.old census.new) }
 {
-    push_settled(out, task.reach.start, name, &census)?;
-    push_all(alloc, out, task.listed, census.objects)
+    push_settled(out, task.reach.start, name, census)?;
+    push_all(alloc, out, task.listed, &mut census.objects)
 }

@@ -11,8 +11,12 @@ use crate::objects::push_object;
 use ca_census::CensusObject;
 use ca_plane::Memory;
 
-// Sorts the objects by the upper left corners of their boxes, row by row.
-fn sort_by_place(objects: &mut Vec<CensusObject>) -> Result<(), Memory>
+/// Sorts the objects by the upper left corners of their boxes, row by row.
+///
+/// # Errors
+///
+/// Fails where there is no memory for it.
+pub(crate) fn sort_by_place(objects: &mut Vec<CensusObject>) -> Result<(), Memory>
     ensures { OnOk result (ArePlaced objects.old.items objects.new.items) }
 {
     objects.sort_by(|one, other| {
@@ -24,26 +28,16 @@ fn sort_by_place(objects: &mut Vec<CensusObject>) -> Result<(), Memory>
     Ok(())
 }
 
-// Puts the lines of the objects.
-fn push_objects(out: &mut Vec<u8>, objects: &[CensusObject]) -> Result<(), Memory>
+/// Puts a line for each of these objects.
+///
+/// # Errors
+///
+/// Fails where there is no memory for them.
+pub(crate) fn push_objects(out: &mut Vec<u8>, objects: &[CensusObject]) -> Result<(), Memory>
     ensures { OnOk result (Puts out.old.items out.new.items (flat_map object_line objects.now)) }
 {
     'objects: for object in objects {
         push_object(out, object)?;
     }
     Ok(())
-}
-
-/// Puts a line for each of these objects, by the upper left corners of their boxes, row by row.
-///
-/// # Errors
-///
-/// Fails where there is no memory for them.
-pub(crate) fn push_list(out: &mut Vec<u8>, objects: Vec<CensusObject>) -> Result<(), Memory>
-    ensures { OnOk result ((placed : List CensusObject) × ArePlaced objects.items placed
-        × Puts out.old.items out.new.items (flat_map object_line placed)) }
-{
-    let mut placed = objects;
-    sort_by_place(&mut placed)?;
-    push_objects(out, &placed)
 }

@@ -63,6 +63,8 @@ abbrev pub fault_text : Fault → List ℕ → List ℕ
 fault_text (faults.Input fault) path = input_fault_text fault path
 fault_text (faults.Claims fault) path = claim_fault_text fault
 fault_text (faults.Tool fault) path = tool_fault_text fault path
+fault_text faults.Taken path = escaped path ++ codes " is there already"
+fault_text faults.Unwritten path = codes "cannot write " ++ escaped path
 fault_text faults.Unnameable path = codes "no claim text can name " ++ escaped path
 
 -- the line that tells a fault

@@ -32,6 +32,8 @@ fn fault_pieces<'a>(fault: &Fault, path: &'a [u8]) -> [Piece<'a>; 3]
             in_pieces![3; text b"window too large"],
         Fault::Tool(ToolFault::Write) => in_pieces![3; text b"write"],
         Fault::Tool(ToolFault::Memory) => in_pieces![3; text b"memory"],
+        Fault::Taken => in_pieces![3; escaped path, text b" is there already"],
+        Fault::Unwritten => in_pieces![3; text b"cannot write ", escaped path],
         Fault::Unnameable => in_pieces![3; text b"no claim text can name ", escaped path],
     }
 }

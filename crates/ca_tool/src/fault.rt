@@ -16,7 +16,13 @@ pub enum Fault {
     /// The run failed.
     #[error("{0}")]
     Tool(ToolFault),
-    /// A claim text that is to be written can't name the rule file of this path.
+    /// There is a file at this path already, where one was to be written.
+    #[error("a file is there already")]
+    Taken,
+    /// The file or folder of this path was not written.
+    #[error("a file was not written")]
+    Unwritten,
+    /// A claim text that is to be written can't name the rule file or the folder of this path.
     #[error("a path that no claim text can name")]
     Unnameable,
 }

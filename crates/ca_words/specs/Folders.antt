@@ -8,7 +8,7 @@ abbrev pub folder_of_rules : Request → Option (List ℕ)
 folder_of_rules (Write path form extras) = option_map string_bytes extras.folder
 folder_of_rules (Verify paths folders extras) = option_map string_bytes folders.rules
 folder_of_rules (Identify paths search extras) = option_map string_bytes extras.folder
-folder_of_rules (Census paths search extras) = option_map string_bytes extras.folder
+folder_of_rules (Census paths search into extras) = option_map string_bytes extras.folder
 folder_of_rules (Import words) = None
 folder_of_rules (RuleFile text) = None
 folder_of_rules (Help text) = None

@@ -106,7 +106,8 @@ IsIdentify words raw _ = ⊥
 
 -- of `census`, where these of its paths aren't UTF-8
 abbrev pub IsCensus : ArgMatches → (raw : List (List ℕ)) → Request → Type 0
-IsCensus words raw (Census paths search extras) = ArePathsOf words raw (map (λ path. path.items) paths.items) × IsCensusSearch words search × ArePatternExtras words extras
+IsCensus words raw (Census paths search into extras) = ArePathsOf words raw (map (λ path. path.items) paths.items) × IsCensusSearch words search
+    × IsTextAfter words (codes "into") into × ArePatternExtras words extras
 IsCensus words raw _ = ⊥
 
 -- of `import`

@@ -28,10 +28,12 @@ pub enum Request {
         search: Search,
         extras: PatternExtras,
     },
-    /// What the patterns of the files at these paths settle into. The paths needn't be UTF-8.
+    /// What the patterns of the files at these paths settle into, and files of that in the folder at this path, if there
+    /// is one. The paths of files needn't be UTF-8.
     Census {
         paths: Vec<Vec<u8>>,
         search: CensusSearch,
+        into: Option<String>,
         extras: PatternExtras,
     },
     /// The pattern of a file in another format.

@@ -3,11 +3,12 @@ use Rattle.std.specs.Prelude.{ℕ, List, Bool, true, Option, None, Some, if◌th
 use Rattle.ca_catalog.specs.Prelude.{is_claim_path}
 use Rattle.ca_words.specs.Folders.{folder_of_rules}
 use Rattle.ca_words.specs.declared.request.Request.{Request}
-use Rattle.ca_words.specs.declared.request.Request.TheVariants.{Identify}
+use Rattle.ca_words.specs.declared.request.Request.TheVariants.{Identify, Census}
 
--- whether a path is refused where it isn't that of a folder: for `identify` only where its claim text can name it
+-- whether a path is refused where it isn't that of a folder: where a claim text is written, only if it can name it
 abbrev pub has_to_be_folder : Request → List ℕ → Bool
 has_to_be_folder (Identify paths search extras) folder = is_claim_path folder
+has_to_be_folder (Census paths search (Some into) extras) folder = is_claim_path folder
 has_to_be_folder _ folder = true
 
 -- what is there, if it passes

@@ -1,5 +1,6 @@
--- How far the command `census` looks by its words.
-use Rattle.std.specs.Prelude.{◌≡◌, ℕ, ◌+◌, ◌*◌, ◌-◌, min, Option, None, Some}
+-- How far the command `census` looks by its words, and which folder its files are added to.
+use Rattle.std.specs.Prelude.{◌≡◌, ℕ, ◌+◌, ◌*◌, ◌-◌, min, Option, None, Some, option_map, String, string_bytes}
+use Rattle.std.specs.declared.alloc.Global.{Global}
 use Rattle.ca_plane.specs.Prelude.{longest_period, most_generations}
 use Rattle.ca_words.specs.Words.{memo_of, work_of, generations_of}
 use Rattle.ca_words.specs.declared.commands.{census.CensusSearch.CensusSearch, pattern.PatternExtras.PatternExtras}
@@ -20,8 +21,9 @@ reach_of (Some limit) start = limited_reach (min limit (most_after start)) start
 reach_of None start = record { start = start; limit = min 65536 (most_after start); budget = 5000000; patience = Some 3000000 }
 
 -- what is done with each file is what these words ask for
-pub record IsCensusTask (search : CensusSearch) (extras : PatternExtras) (task : CensusTask) : Type 0 where
+pub record IsCensusTask (search : CensusSearch) (into : Option (String Global)) (extras : PatternExtras) (task : CensusTask) : Type 0 where
   pub memo : task.limits.memo ≡ memo_of extras.extras.memo
   pub work : task.limits.work ≡ work_of extras.extras.work
   pub reach : task.reach ≡ reach_of search.limit (generations_of extras.after)
   pub listed : task.listed ≡ search.listed
+  pub folder : option_map (λ folder. folder.now) task.folder ≡ option_map string_bytes into

@@ -118,8 +118,8 @@ fn write_claims<'a, R: Files + Clock + AllocGlobal>(
     Ok(catalog.status())
 }
 
-// A path of a rule file, or of a folder of such, is one that a claim text can name.
-fn check_path(path: &str) -> Result<(), Failure<'_>> {
+/// A path of a rule file, or of a folder of such, is one that a claim text can name.
+pub fn check_path(path: &str) -> Result<(), Failure<'_>> {
     if is_claim_path(path.as_bytes()) {
         return Ok(());
     }

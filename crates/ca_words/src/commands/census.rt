@@ -7,7 +7,7 @@ use crate::arguments::{flag_word, path_words, value_word, with_limit_words, with
 use crate::commands::pattern::{after_word, pattern_extras};
 use crate::raw::path_bytes;
 use crate::request::{Request, WordsFault};
-use crate::values::{flag_value, number_value, values_of};
+use crate::values::{flag_value, number_value, path_value, values_of};
 use ca_plane::limits::LONGEST_PERIOD;
 use clap::{Arg, ArgMatches, Command, value_parser};
 use std::alloc::{AllocError, Global};
@@ -40,6 +40,11 @@ Up to 65536 generations are looked at, while patience lasts. --limit N looks for
 --after N takes the plane that each pattern has N generations later, and counts generations from there:
 `# NAME after 100 generations: settles after 1003 generations: 25 objects, 116 cells`, and so on.
 
+--into DIR writes the objects of each settled plane as pattern files, NAME-1.rle and so on in the order of --list, the
+plane itself as NAME-settled.rle, and NAME.claims, a claim text with what each object is and what the pattern becomes,
+for `cafile verify`. DIR is made where it isn't there. A file that is there already is never overwritten: the run ends,
+and none of that pattern's files is written. DIR, FILE and the rule files have to be paths that a claim text can name.
+
 A refused file has the comment that identify prints, with the reason: `# NAME: PATH: bad pattern: rle no end`. Names,
 --rule, --rules, --explain, --progress, --memo, --work and --max-memory are as for identify.
 
@@ -49,6 +54,7 @@ the rest couldn't be printed; then standard error says why.
 Examples:
   cafile census examples/r_pentomino.rle
   cafile census --list examples/period_57960.rle examples/published/golly.rle
+  cafile census --into parts examples/r_pentomino.rle && cafile verify parts/r_pentomino.claims
   cafile census --after 100 --limit 2000 examples/r_pentomino.rle
   cafile census --rule examples/tables/wireworld.rule examples/tables/wireworld_clock.rle";
 
@@ -73,7 +79,8 @@ pub fn command<'a>(alloc: Global) -> Result<Command<'a>, AllocError> {
         ))?
         .arg(limit_word(alloc))?
         .arg(after_word(alloc))?
-        .arg(list_word(alloc))?;
+        .arg(list_word(alloc))?
+        .arg(into_word(alloc))?;
     let census = with_rule_words(alloc, census)?;
     with_limit_words(
         alloc,
@@ -105,6 +112,15 @@ fn list_word<'a>(alloc: Global) -> Arg<'a> {
     )
 }
 
+fn into_word<'a>(alloc: Global) -> Arg<'a> {
+    value_word(
+        alloc,
+        "into",
+        "DIR",
+        "The folder into which files of each settled plane are written; it is made where it isn't there",
+    )
+}
+
 /// What its words ask for, where these of them aren't UTF-8.
 pub fn request(
     alloc: Global,
@@ -116,10 +132,12 @@ pub fn request(
     let paths = values_of(alloc, words, "FILE")?;
     let paths = path_bytes(alloc, &paths, raw)?;
     let search = search_of(words);
+    let into = path_value(alloc, words, "into")?;
     let extras = pattern_extras(alloc, words)?;
     Ok(Request::Census {
         paths,
         search,
+        into,
         extras,
     })
 }

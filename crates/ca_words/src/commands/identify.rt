@@ -25,8 +25,9 @@ or else a comment:
   # NAME: no cell is live
   # NAME: none of these within 65536 generations: N cells, in a box of W by H, after 65536
   # NAME: PATH: bad pattern: rle no end
-The second one says how far the plane has grown: the live cells and the smallest box round them. The last one is of a
-file that can't be identified, with the reason that `cafile verify` gives.
+The second one says how far the plane has grown: the live cells and the smallest box round them. Where no --limit is set,
+one like `# NAME: settles after 1103 generations into 25 objects: cafile census` may follow it; `cafile census` tells
+which. The last one is of a file that can't be identified, with the reason that `cafile verify` gives.
 
 NAME is the file's name without its ending, with _ for blanks and for a # that it begins with. Where that is taken,
 it is followed by -2, -3 and so on. A path with a blank, and -, can't be in a claim text: such a file has a comment

@@ -1,7 +1,10 @@
-use Rattle.std.proofs.Common.{sym, arith}
+use Rattle.std.proofs.Common.{sym, subst, arith}
+use Rattle.ca_plane.specs.Prelude.{HasFewCells}
+use Rattle.ca_plane.specs.Plane as plane
 use Rattle.ca_quad.specs.Prelude.{cell}
 use Rattle.ca_pattern.proofs.Nearby.{later_outside}
 use Rattle.ca_pattern.proofs.Starts.{picture_after}
+use Rattle.ca_census.proofs.SettledSearches.{one_plane}
 use Rattle.ca_census.proofs.later_plane.plane_after.Goals as goal
 
 pub later_tree_within-requires : goal.later_tree_within-requires
@@ -23,3 +26,8 @@ returns-in-Ok-clause-plane g c = λ cells shows.
     let drawn = c.in-Ok.ensures.cells in
     picture_after (g.A.Automaton.next_of c.args.leaper.now.rule) (cell c.args.leaper.now.nodes c.args.pattern) cells c.in-Ok.plane c.args.generations mid c.in-Some.later
     shows later (λ x y. rw (sym c.store-2.ensures.nodes) (drawn.shows x y))
+
+pub returns-in-Ok-clause-few : goal.returns-in-Ok-clause-few
+returns-in-Ok-clause-few g c =
+    let drawn = c.in-Ok.ensures.cells in
+    subst HasFewCells (sym (one_plane (plane.cell c.in-Ok.plane) (cell c.store-2.result.now c.in-Some.later) drawn.shows)) drawn.few

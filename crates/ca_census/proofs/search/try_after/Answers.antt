@@ -10,5 +10,6 @@ returns-in-Some-clusters-clause-settled g c = λ cells shows.
     let found = rw c.in-Some-clusters.is at c.in_ok-clusters.ensures.clusters in
     record {
       clusters = clusters_then (next c.args.rule.now) cells (c.args.search.now.reach.start + c.args.generations) c.in-Some.plane c.in-Some-clusters.clusters.items stands found;
+      plane = stands;
       within = c.requires.within;
     }

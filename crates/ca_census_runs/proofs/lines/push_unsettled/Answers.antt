@@ -6,4 +6,4 @@ use Rattle.ca_census_runs.proofs.lines.push_unsettled.Goals as goal
 pub returns : goal.returns
 returns c =
     let word = subst (λ t. Puts c.push_counted.new.out.items c.push_text.new.out.items t) c.generations_word.ensures c.in_ok-push_text.ensures in
-    puts_then _ _ _ _ _ _ c.in_ok-push_head.ensures (puts_then _ _ _ _ _ _ c.in_ok-push_counted.ensures (puts_then _ _ _ _ _ _ word c.push_text-2.ensures))
+    puts_then _ _ _ _ _ _ c.in_ok-push_comment_head.ensures (puts_then _ _ _ _ _ _ c.in_ok-push_counted.ensures (puts_then _ _ _ _ _ _ word c.push_text-2.ensures))

@@ -6,5 +6,5 @@ use Rattle.ca_census_runs.proofs.run.write_files.Given as goal
 abbrev pub invariant-subjects : goal.invariant-subjects
 invariant-subjects g l = record {
   index : l.index ≡ l.subject-index;
-  told : HaveTold g.W.Write.contents l.fn.device l.device l.tables l.task (take l.subject-index l.subjects) l.names l.refused.items;
+  told : HaveTold g.F.Folder.files g.W.Write.contents l.fn.folder l.folder l.fn.device l.device l.rules l.task (take l.subject-index l.subjects) l.names l.refused.items;
 }

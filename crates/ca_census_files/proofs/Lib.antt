@@ -1,0 +1,4 @@
+pub mod FilesSaid
+pub mod Numbered
+pub mod NumberedNames
+pub mod OutOfRange

@@ -1,0 +1,2 @@
+-- Definitions that private contracts alone cite. No public contract rests on them.
+pub mod Unwritten
