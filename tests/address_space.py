@@ -14,14 +14,17 @@
 - Cells that lie far from each other take some 45 squares each. `show` and `convert --to rle` need none of them for an RLE: where there is no room for them they
   sum it up and write it anew, and what needs the squares is refused as out of memory.
 - `identify` remembers no more boxes of squares than may be, however many it measures.
+- A census for which there is too little space is refused for it, and those round it are taken; of one that has no room for its files, none is there.
 """
 import os
 import random
 import re
 import resource
+import shutil
 import tempfile
 
 from lib import rle, rows
+from lib.census_files import Object, Settled, contents_of
 from lib.claim_text import ClaimText, outcome, printed
 from lib.macrocell import EDGE
 from lib.macrocell_texts import header
@@ -56,6 +59,9 @@ SQUARES = re.compile(rb"(\d+)\.(\d) million squares")
 # The side of a soup whose squares are measured in each generation, how many generations these are, and the bytes of address space that are enough for its
 # squares and for as many boxes as are remembered, but not for the boxes of all squares.
 MEASURED_SIDE, MEASURED, BOXES = 1000, 32, 95_000_000
+
+# How many blocks are in a row and in a column of a plane whose census is taken, and how much each limit for that is above the one before.
+BLOCKS, FINER = 40, 1.1
 
 # Cells that lie far from each other, the side of a soup, the generations of a small one, leaves, transitions and claims.
 FAR_CELLS, SIDE, GENERATIONS, LEAVES, TRANSITIONS, CLAIMS = 10000, 2500, 700, 81920, 60000, 120000
@@ -245,6 +251,27 @@ def try_boxes(tally, files):
     tally.expect("boxes of many squares", run(["identify", "--limit", str(MEASURED), path], **within(BOXES)), wanted)
 
 
+def try_census(tally, files):
+    """A soup for whose squares there is no space, between small files; and many blocks, under limits that grow until all their files are there."""
+    block, glider = (b"# %s: settles after 0 generations: 1 object, %d cells\n1 %s\n" % it for it in ((b"block", 4, b"xs4_33"), (b"glider", 5, b"xq4_153")))
+    path = files.path("soup.rle")
+    wanted = Outcome(block + f"# soup: {path}: memory\n".encode() + glider, b"", 2)
+    tally.expect("a census of a soup, too little space", run(["census", "examples/block.rle", path, "examples/glider.rle"], **within(SPACE)), wanted)
+    square = {(x, y): 1 for x in (0, 1) for y in (0, 1)}
+    objects = [Object(square, "still", "", "xs4_33").moved(9 * x, 9 * y) for x in range(BLOCKS) for y in range(BLOCKS)]
+    blocks, into = Settled(files.path("blocks.rle"), "blocks", objects), files.path("into")
+    files.path("blocks.rle", blocks.tidy({place: 1 for it in objects for place in it.cells}))
+    whole, refused, complaints, space, met = ample(blocks.counts()), Outcome(f"# blocks: {blocks.path}: memory\n".encode(), b"", 2), [], LEAST, set()
+    while space < AMPLE and whole not in met:
+        shutil.rmtree(into, ignore_errors=True)
+        got = run(["census", blocks.path, "--into", into], **within(int(space)))
+        met.add(got)
+        if got not in (whole, refused, NO_MEMORY) or (contents_of(into) or {}) != (blocks.files(into) if got == whole else {}):
+            complaints.append(f"{int(space)} bytes: {got}, with {len(contents_of(into) or {})} files")
+        space *= FINER
+    tally.tell("a census of many blocks with its files", complaints or ([] if {whole, refused} <= met else [f"no such limits, but {[*map(str, met)]}"]))
+
+
 def far_cells(seed, states, count=LISTED_CELLS):
     """Cells at random places all over the plane, and at its corners."""
     chance = random.Random(seed)
@@ -303,6 +330,7 @@ def main():
         try_less_memory(tally, files)
         try_a_store_of_its_own(tally, files)
         try_boxes(tally, files)
+        try_census(tally, files)
         try_far_cells(tally, files, "B3/S23", 2)
         try_far_cells(tally, files, "345/2/4", 4)
         try_many_far_cells(tally, files)

@@ -50,6 +50,8 @@ def try_paths(tally, files):
                 (["verify", path, "tests/golden/verify/no_claims/claims"], fault(b"%s: cannot read %s" % (told, told)))]
         if not is_word(text):
             runs.append((["identify", "examples/block.rle", "--rules", path], fault(b"no claim text can name " + told)))
+        lost, lost_told = (os.path.join(files.folder.encode(), b"lost", it) for it in (text, spelled))
+        runs.append((["census", "examples/block.rle", "--into", lost], fault((b"cannot write " if is_word(text) else b"no claim text can name ") + lost_told)))
         for words, it in runs:
             got = run(words)
             if got != it:

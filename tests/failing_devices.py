@@ -8,14 +8,19 @@
   file, its first line, and its `rule` lines.
 - Where the kth byte of standard error can't be written, the status is the same, and so is all that comes before that line and after it.
 - Where the kth byte of a file can't be read, that file is reported as one that can't be read, or refuses the claims that need it; the others are judged.
+- Where the kth byte of the files of `census --into` can't be written, that file is told, those of the censuses before it are there whole, and no other. Where
+  standard output can't be written, the files of the census whose text isn't whole are there, and those before it.
 - Where standard output or standard error takes nothing at all, the fault is reported where it can be, the status says it in any case, and no verdict is lost in
   silence.
 """
+import itertools
 import os
 import re
+import shutil
 import subprocess
 
 from lib import golden, remedies
+from lib.census_files import Object, Settled, contents_of
 from lib.parts import try_each
 from lib.program import MOST_WAITING, PROGRAM, ROOT, Outcome, Tally, ample, fault, run
 from lib.refusing import refusing_program
@@ -46,6 +51,12 @@ IDENTIFIED = ("claims 2\nload dot {dot}\ndies dot 1\nload row {row}\noscillator 
 
 NOT_IDENTIFIED = "claims 2\n# z: {bad}: bad pattern: rle syntax, line 2\nload row {row}\noscillator row 2\n"
 
+# The censuses of the same, with counts and with a list, and what is reported of a file of which there is none.
+COUNTED = b"# dot: settles after 1 generation: 0 objects, 0 cells\n# row: settles after 0 generations: 1 object, 3 cells\n1 xp2_7\n" \
+          b"# dot-2: settles after 1 generation: 0 objects, 0 cells\n"
+LISTED = b"# row: settles after 0 generations: 1 object, 3 cells\nxp2_7 oscillator 2 at 0,0: 3 cells\n"
+UNCOUNTED = b"# z: %s: bad pattern: rle syntax, line 2\n"
+
 # What comes of the dot and of the cell under a table.
 SHOWN, SHOWN_MACROCELL, SHOWN_TABLE = (
     ample(b"format %s\nrule %s\ngen 0\ncells 1\nbox 0 0 1 1\n" % it) for it in ((b"rle", b"B3/S23"), (b"macrocell", b"B3/S23"), (b"rle", b"S")))
@@ -58,6 +69,7 @@ SHOW = ["show", "examples/macrocell/glider.mc"]
 CONVERT = ["convert", "examples/glider.rle", "--to", "mc"]
 BACK = ["convert", "examples/macrocell/gun.mc", "--to", "rle"]
 IDENTIFY = ["identify", "examples/glider.rle", "examples/lost.rle"]
+CENSUS = ["census", "examples/glider.rle", "examples/lost.rle"]
 DRAW = ["draw", "examples/glider.rle"]
 IMAGE = ["draw", "examples/macrocell/full_square.mc", "--to", "pgm"]
 FAILED_WRITE = fault("write")
@@ -86,15 +98,17 @@ def printing_runs(files):
     faulty = files.path("Z.rule", "faulty")
     named = files.path("named.claims", f"load s {state}\nload z {unknown}\nstill s\nstill z\n")
     found = f"line 3: yes\nline 4: refused, bad rule: unknown\n  z: {unknown}: rule Z: {faulty}: line 1 no rule line\n".encode()
+    z = files.path("z.rle", "x = 1, y = 1\nz!").encode()
     both = after_path(text, EXPLAINED) + after_path(lost, b"line 2: refused, no file\n  lost: nowhere.rle: no such file\n")
     return (
         (["verify", text], Outcome(PLAIN, b"", 1)), (["verify", "--explain", text], Outcome(EXPLAINED, b"", 1)),
         (["verify", "--explain", text, lost], Outcome(both, b"", 2)), (["verify", "--explain", "--rules", files.folder, named], Outcome(found, b"", 2)),
         (["show", dot], SHOWN), (["show", macrocell], SHOWN_MACROCELL),
         (["identify", dot, row, macrocell], ample(IDENTIFIED.format(dot=dot, row=row, macrocell=macrocell).encode())),
-        (["identify", "--explain", files.path("z.rle", "x = 1, y = 1\nz!"), row],
+        (["identify", "--explain", files.path("z.rle"), row],
          Outcome(NOT_IDENTIFIED.format(bad=files.path("z.rle"), row=row).encode(),
                  f"  {files.path('z.rle')}, line 2\n".encode() + remedies.line("bad pattern: rle syntax", b""), 2)),
+        (["census", dot, row, macrocell], ample(COUNTED)), (["census", "--list", files.path("z.rle"), row], Outcome(UNCOUNTED % z + LISTED, b"", 2)),
         (["show", dot, "--after", "0"], SHOWN), (["convert", dot, "--to", "mc", "--after", "0"], AS_MACROCELL),
         (["show", state, "--rule", rule], SHOWN_TABLE), (["show", state, "--rules", files.folder], SHOWN_TABLE),
         (["draw", state, "--rule", rule], DRAWN_TABLE), (["draw", state, "--rules", files.folder], DRAWN_TABLE), (["convert", dot, "--to", "mc"], AS_MACROCELL),
@@ -158,8 +172,11 @@ def try_claims(tally, refusing, files):
     text, (dot, row) = claim_text(files)
     bad, rule = files.path("z.rle", "x = 1, y = 1\nz!"), files.path("s.rule", RULE)
     found = f"claims 2\nrule {rule}\nload dot {dot}\ndies dot 1\n# z: {bad}: bad pattern: rle syntax, line 2\nload row {row}\noscillator row 2\n".encode()
+    head, row_counts, dot_counts = re.split(rb"(?m)^(?=#)", COUNTED)[1:]
+    counted = head + row_counts + UNCOUNTED % bad.encode() + dot_counts
     for words, printed, one in ((["verify", text], PLAIN, rb"line .*\n(?:  .*\n)?"), (["verify", "--explain", text], EXPLAINED, rb"line .*\n(?:  .*\n)?"),
-                                (["identify", "--rule", rule, dot, bad, row], found, rb"load .*\n.*\n|.*\n")):
+                                (["identify", "--rule", rule, dot, bad, row], found, rb"load .*\n.*\n|.*\n"),
+                                (["census", dot, row, bad, files.path("dot.mc", MACROCELL)], counted, rb"#.*\n(?:\d.*\n)*")):
         each = re.findall(one, printed)
         wanted = {number: Outcome(b"".join(each[:number - 1]), b"cafile: write\n", 2) for number in range(1, len(each) + 1)}
         got = refusing.until_unmet(words, "WRITE_FAILS", range(1, 100))
@@ -229,6 +246,13 @@ def try_reads(tally, refusing, files):
     expect_reads(tally, refusing, words, ample(b"line 2: yes\n"), (
         (len(named), fault(f"cannot read {words[-1]}")), (os.path.getsize(state), Outcome(b"line 2: refused, no file\n", b"", 2)),
         (len(RULE), Outcome(b"line 2: refused, bad rule: unknown\n", b"", 2))))
+    first, second, _ = re.split(rb"(?m)^(?=#)", COUNTED)[1:]
+    no_dot, no_row = b"# dot: %s: no file\n" % dot.encode(), b"# row: %s: no file\n" % row.encode()
+    expect_reads(tally, refusing, ["census", dot, row], ample(first + second),
+                 ((len(DOT), Outcome(no_dot + second, b"", 2)), (len(ROW), Outcome(first + no_row, b"", 2))))
+    still = b"# state: settles after 0 generations: 1 object, 1 cell\n1 still life of 1 cell\n"
+    expect_reads(tally, refusing, ["census", state, "--rule", rule], ample(still),
+                 ((len(RULE), fault(f"cannot read {rule}")), (os.path.getsize(state), Outcome(b"# state: %s: no file\n" % state.encode(), b"", 2))))
     macrocell = files.path("dot.mc", MACROCELL)
     for words, whole in ((["show", macrocell], SHOWN_MACROCELL), (["convert", macrocell, "--to", "rle"], AS_RLE), (["show", dot], SHOWN)):
         expect_reads(tally, refusing, words, whole, ((os.path.getsize(words[1]), fault(f"cannot read {words[1]}")),))
@@ -275,6 +299,49 @@ def try_long(tally, refusing, files):
         tally.tell(f"3000 lines, byte {byte}", [] if is_met and got == Outcome(printed[:byte - 1], b"cafile: write\n", 2) else [str(got)])
 
 
+def written_to(refusing, words, folder):
+    """The descriptor by which a run writes the files of its folder `into`."""
+    for descriptor in range(3, 20):
+        shutil.rmtree(os.path.join(folder, "into"), ignore_errors=True)
+        if descriptor != refusing.told and refusing.run(words, {"WRITE_TO": descriptor, "WRITE_FAILS": 1}, cwd=folder)[1]:
+            return descriptor
+    return None
+
+
+def try_files(tally, refusing, files):
+    """Each byte in turn of the files that censuses write can't be written, or of standard output; and they are written by a byte at a time."""
+    files.path("dot.rle", DOT)
+    files.path("row.rle", ROW)
+    each = [Settled("dot.rle", "dot", [], 1), Settled("row.rle", "row", [Object({(x, 0): 1 for x in range(3)}, "oscillator", " 2", "xp2_7")])]
+    words, into = ["census", *(it.path for it in each), "--into", "into"], files.path("into")
+    texts, written = [it.counts() for it in each], [it.files("into") for it in each]
+    descriptor, whole = written_to(refusing, words, files.folder), {**written[0], **written[1]}
+
+    def judged(name, faults, numbers, wanted):
+        complaints = []
+        for number in itertools.chain(numbers, [0]):
+            shutil.rmtree(into, ignore_errors=True)
+            got, is_met = refusing.run(words, {name: number, "WRITE_MOST": 1, **faults}, cwd=files.folder)
+            outcome, there = wanted(number) if number else (ample(b"".join(texts)), whole)
+            if is_met != bool(number) or (got, contents_of(into)) != (outcome, there):
+                complaints.append(f"byte {number}, met: {is_met}: {got}, with {contents_of(into)}; wanted {outcome} with {there}")
+        tally.tell(f"{named(words)}, {name}, {'files' if faults else 'standard output'}", complaints)
+
+    # to which census and file each byte belongs
+    places = [(at, name) for at, its in enumerate(written) for name, content in its.items() for _ in content]
+    printed = [at for at, text in enumerate(texts) for _ in text]
+
+    def without_file(number):
+        at, name = places[number - 1]
+        return Outcome(texts[0] * at, fault(f"cannot write into/{name}").complaint, 2), written[0] if at else {}
+
+    def without_output(number):
+        return Outcome(b"".join(texts)[:number - 1], b"cafile: write\n", 2), whole if printed[number - 1] else written[0]
+    for name, step in (("WRITE_FAILS", 1), ("WRITE_TAKES_NONE", 7)):
+        judged(name, {"WRITE_TO": descriptor or 0}, range(1, len(places) + 1, step), without_file)
+        judged(name, {}, range(1, len(printed) + 1, step), without_output)
+
+
 def without(descriptor, words):
     """The outcome of a run that is started with this descriptor closed."""
     script = f'exec "$0" "$@" {descriptor}>&-'
@@ -286,7 +353,7 @@ def without(descriptor, words):
 def try_no_output(tally, _):
     """Standard output or standard error takes nothing at all."""
     with open("/dev/full", "wb") as full, open(os.devnull, "rb") as unwritable:
-        for words in (VERIFY, ["verify", "examples/several.claims"], SHOW, CONVERT, BACK, IDENTIFY, DRAW, IMAGE, ["--help"], ["--version"]):
+        for words in (VERIFY, ["verify", "examples/several.claims"], SHOW, CONVERT, BACK, IDENTIFY, CENSUS, DRAW, IMAGE, ["--help"], ["--version"]):
             name = " ".join(words)
             tally.expect(f"a full standard output, {name}", run(words, stdout=full), FAILED_WRITE)
             tally.expect(f"a closed standard output, {name}", without(1, words), FAILED_WRITE)
@@ -300,7 +367,7 @@ def try_no_output(tally, _):
         for name in ("no_claims", "nothing"):
             tally.expect(f"a full standard output, and no claims, {name}", run(golden.words(f"verify/{name}"), stdout=full), Outcome(b"", b"", 0))
         for words in (["verify", "tests/golden/verify/syntax/claims"], ["verify", "examples/lost"], ["verify"], ["show", "examples/lost"], ["show"],
-                      ["identify"],
+                      ["identify"], ["census"], ["census", "--rule", "examples/lost", "examples/block.rle"],
                       ["identify", "--rule", "examples/lost", "examples/block.rle"]):
             tally.expect(f"a full standard error, {' '.join(words)}", run(words, stderr=full), Outcome(b"", b"", 2))
             tally.expect(f"a closed standard error, {' '.join(words)}", without(2, words), Outcome(b"", b"", 2))
@@ -308,14 +375,14 @@ def try_no_output(tally, _):
         reading, writing = os.pipe()
         os.close(reading)
         with os.fdopen(writing, "wb") as pipe:
-            for words in (VERIFY, SHOW, CONVERT, IDENTIFY, DRAW):
+            for words in (VERIFY, SHOW, CONVERT, IDENTIFY, CENSUS, DRAW):
                 tally.expect(f"a pipe that nothing reads, {words[0]}", run(words, stdout=pipe), FAILED_WRITE)
 
 
 def main():
     tally = Tally()
     with refusing_program(tally, "failing devices") as (_, refusing):
-        parts = (try_bytes, try_output, try_claims, try_errors, try_reads, try_several, try_long)
+        parts = (try_bytes, try_output, try_claims, try_errors, try_reads, try_several, try_long, try_files)
         try_each(tally, parts if refusing else (), refusing)
     try_each(tally, (try_no_output,))
     tally.finish()

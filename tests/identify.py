@@ -298,7 +298,13 @@ def try_limits(tally):
         if generation in (1104, 1108):
             settled.append(now)
     end = drifted(*settled, (65536 - 1104) // 4)
-    tally.expect("the R-pentomino, as far as usual", run(["identify", path]), whole(entry("r_pentomino", path, none_of(end, 65536))))
+    # with the usual patience its census is told too (LifeWiki, "R-pentomino": 1103 generations, 25 objects), also of a later plane
+    tally.expect("the R-pentomino, as far as usual", run(["identify", path]), whole(
+        entry("r_pentomino", path, none_of(end, 65536)) + "# r_pentomino: settles after 1103 generations into 25 objects: cafile census\n"))
+    end = drifted(*settled, (66536 - 1104) // 4)
+    tally.expect("the R-pentomino later, as far as usual", run(["identify", "--after", "1000", path]), whole(
+        later_entry("r_pentomino", path, 1000, none_of(end, 65536, 1000))
+        + "# r_pentomino after 1000 generations: settles after 103 generations into 25 objects: cafile census\n"))
     path = "examples/blinker.rle"
     tally.expect("as far as can be", run(["identify", path, "--limit", "4294967295"]), whole(entry("blinker", path, "oscillator 2")))
 

@@ -7,6 +7,9 @@ Of each text the program may print the lines of docs/CLAIMS.md alone, and end wi
 proportion to the bytes. What patterns and claims come to, the first fault and its line too, is said by readers in Python (lib/rle_reader.py,
 lib/macrocell.py, lib/claim_reader.py). Many texts are judged in one run, each by a claim text of its own, so that a run's lines begin with the
 number of their text. The same seed and count give the same texts.
+
+Censuses are taken of the faulty patterns, which are refused as by `identify`, and of small ones that soon go round, into a folder whose claim texts say what is
+true.
 """
 import argparse
 import os
@@ -18,11 +21,14 @@ import tempfile
 from dataclasses import dataclass, field
 from functools import cached_property
 
-from lib import claim_reader, macrocell, remedies, rle
+from lib import claim_reader, macrocell, remedies, rle, steps
+from lib.census import counted_word
+from lib.census_files import yes_lines
 from lib.claim_reader import Judge
+from lib.macrocell import EDGE
 from lib.mutations import KINDS, Mutator
 from lib.pictures import drawn
-from lib.program import Folder, Outcome, Tally, ample, escaped, fault
+from lib.program import Folder, Outcome, Tally, ample, contents, escaped, fault, run
 from lib.rle_reader import Fault, PatternFile, WORD, lines_of, rule_of
 from lib.work import excess, timed
 
@@ -38,6 +44,15 @@ WORK, WORK_OF_BYTE, WORK_OF_CELL, TRIES, WAITING = 5, 1e-4, 2e-5, 3, 60
 
 # Of how many live cells a pattern is written out here, to be compared with what `convert` prints.
 WRITTEN = 3000
+
+# Of how many live cells patterns are stepped here, for how many generations.
+STEPPED, SOON = 100, 8
+
+# The greatest generation that a file may have.
+LATEST = (1 << 63) - 1
+
+# The lines of a census that are of labels, with their counts.
+LABEL = re.compile(rb"(\d+) (?:x[pqs]\d+_\w+|(?:still life|oscillator \d+|spaceship \d+ -?\d+ -?\d+) of \d+ cells?)\n")
 
 # The files that mutated claim texts load, and those that aren't there.
 FILES = {
@@ -157,6 +172,72 @@ class Patterns:
         tidy = rle.tidy(cells, file.rule, file.held.generation, file.states)
         return [(["show", path], ample(shown)), (["convert", path, "--to", "rle"], ample(tidy)),
                 (["convert", path, "--to", "mc"], ample(macrocell.tidy(pattern, file.states))), (["draw", path], ample(drawn(cells, file.states)))]
+
+
+def goes_round(file):
+    """After how many generations the plane of a good file first goes round, moved or in place, and the cells then; None where it is large or takes long. It is
+    settled just then: any parts of it that never meet go round too, and stay together."""
+    if file.population() > STEPPED:
+        return None
+    rule, cells, stages = steps.rule_of(file.rule), file.pattern().tree.cells(), []
+    for _ in range(SOON):
+        left, top = (min((place[it] for place in cells), default=0) for it in (0, 1))
+        moved = {(x - left, y - top): state for (x, y), state in cells.items()}
+        first = next((at for at, (it, _) in enumerate(stages) if it == moved), None)
+        if first is not None:
+            return first, stages[first][1]
+        stages.append((moved, cells))
+        cells = steps.step(cells, rule)
+    return None
+
+
+class Censuses:
+    """Judges a census of texts that are patterns, and the files that it writes."""
+
+    def __init__(self, files, trials):
+        patterns = [it for it in trials if it.kind in ("rle", "macrocell")]
+        self.files, self.faulty = files, [it for it in patterns if it.file.cause]
+        settled = [(it, goes_round(it.file)) for it in patterns if not it.file.cause]
+        self.settled = [(it, *found) for it, found in settled if found and self.can_be_written(it, *found)]
+
+    @staticmethod
+    def can_be_written(trial, first, cells):
+        """Whether the settled plane can be written."""
+        return trial.file.held.generation + first <= LATEST and all(-EDGE <= it < EDGE for place in cells for it in place)
+
+    def paths(self):
+        """The paths of the files."""
+        return [it.name("pattern") for it in (*self.faulty, *(it for it, *_ in self.settled))]
+
+    def refused(self):
+        """The lines on the faulty ones."""
+        causes = [(it, it.file.cause.encode() + (b"" if it.file.cause.startswith("bad rule") else it.file.told())) for it in self.faulty]
+        return b"".join(b"# %d: %s: %s\n" % (it.number, it.name("pattern").encode(), cause) for it, cause in causes)
+
+    def complaints(self, printed):
+        """What is wrong with what the run printed, and with its files."""
+        if not printed.startswith(self.refused()):
+            return [f"a census of faulty files: wanted {self.refused()!r}, got {printed!r}"]
+        texts = re.split(rb"(?m)^(?=#)", printed.removeprefix(self.refused()))[1:]
+        if len(texts) != len(self.settled):
+            return [f"{len(texts)} censuses of {len(self.settled)} files"]
+        return [it for text, known in zip(texts, self.settled) for it in self.complaint(text, *known)]
+
+    def complaint(self, text, trial, first, cells):
+        """What is wrong with this text on a file, and with its files."""
+        head, _, labels = text.partition(b"\n")
+        counts, cells_word = [int(it) for it in LABEL.findall(labels)], counted_word(len(cells), "cell")
+        wanted = f"# {trial.number}: settles after {counted_word(first, 'generation')}: {counted_word(sum(counts), 'object')}, {cells_word}"
+        if LABEL.sub(b"", labels) or head != wanted.encode() or bool(counts) != bool(cells):
+            return [f"a census of {trial.text!r}: {text!r}, wanted {wanted}"]
+        plane = contents(self.files.path(f"into/{trial.number}-settled.rle"))
+        tidy = rle.tidy(cells, trial.file.rule, trial.file.held.generation + first, trial.file.states)
+        return [] if plane == tidy else [f"the settled plane of {trial.text!r}: {plane!r}, wanted {tidy!r}"]
+
+    def claim_texts(self):
+        """The claim texts, and what is printed of them."""
+        paths = [f"into/{it.number}.claims" for it, *_ in self.settled]
+        return paths, b"".join(re.sub(rb"(?m)^", path.encode() + b": ", yes_lines(contents(self.files.path(path))).rstrip(b"\n")) + b"\n" for path in paths)
 
 
 class Rules:
@@ -320,6 +401,21 @@ class Tester:
         wrong += [f"status {outcome.status}, not {status}"] if outcome.status != status else []
         return [f"texts {trials[0].number} to {trials[-1].number}: {it}" for it in wrong] + [it for trial in trials for it in self.complaints(trial)]
 
+    def counted(self, trials):
+        """What is wrong with a census of these texts, and with what is told of the faulty ones by `identify`."""
+        censuses = Censuses(self.files, trials)
+        if not censuses.paths():
+            return []
+        outcome = run(["census", *censuses.paths(), "--into", "into"], cwd=self.files.folder)
+        wrong = [] if (outcome.complaint, outcome.status) == (b"", 2 * bool(censuses.faulty)) else [f"a census: {outcome}"]
+        wrong += censuses.complaints(outcome.printed)
+        faulty, (paths, printed) = [it.name("pattern") for it in censuses.faulty], censuses.claim_texts()
+        for words, wanted in ((["verify", *paths, "none.claims"], ample(printed)),
+                              (["identify", *faulty], Outcome(b"claims 2\n" + censuses.refused(), b"", 2)))[:1 + bool(faulty)]:
+            got = run(words, cwd=self.files.folder)
+            wrong += [] if got == wanted else [f"{' '.join(words)}: wanted {wanted}, got {got}"]
+        return wrong
+
     def complaints(self, trial):
         """What is wrong with what was printed of a text."""
         wrong = self.judges[trial.kind].complaint(trial)
@@ -336,7 +432,7 @@ class Tester:
 
     def judge(self, trials):
         """What is wrong with runs over these texts, all in one and some alone."""
-        return self.together(trials) + [it for trial in trials if trial.number // len(KINDS) % SAMPLED == 0 for it in self.alone(trial)]
+        return self.together(trials) + self.counted(trials) + [it for trial in trials if trial.number // len(KINDS) % SAMPLED == 0 for it in self.alone(trial)]
 
 
 def numbers():

@@ -1,5 +1,5 @@
 #!/usr/bin/env -S python3 -B
-"""Options in pairs: of `show`, `convert`, `draw`, `identify` and `verify` each two that may be given together, in both orders, and each alone.
+"""Options in pairs: of `show`, `convert`, `draw`, `identify`, `census` and `verify` each two that may be given together, in both orders, and each alone.
 
 What an option does alone is seen beside the other. What is expected is put together here of what each of them does, over planes that are stepped here. Each
 option that has a value is also given beside one that is no value of its own. The clock is that of tests/refuse.c, so that it is known what `--progress` shows.
@@ -7,7 +7,9 @@ option that has a value is also given beside one that is no value of its own. Th
 import itertools
 import os
 import re
+import shutil
 
+from lib.census_files import Object, Settled, contents_of
 from lib.claim_text import Answer, outcome
 from lib.parts import try_each
 from lib.pictures import box_of, cells_squares, picture, wanted_window
@@ -31,15 +33,16 @@ LIMITS = {"--memo": "1", "--work": "0", "--max-memory": "1", "--explain": None, 
 PATTERN = {**LIMITS, "--after": "1", "--rule": "given.rule", "--rules": "rules"}
 WINDOWS = {**PATTERN, "--at": "0,0", "--size": "2,2", "--scale": "1", "--zoom": "2", "--to": "pgm"}
 SEARCH = {**PATTERN, "--limit": "3", "--apgcode": None}
+COUNTED = {**PATTERN, "--limit": "3", "--list": None, "--into": "into"}
 CLAIMED = {**LIMITS, "--rules": "rules", "--root": "root"}
 
 # Options beside which `identify` has other work to do.
 SEARCHED = ("--limit", "--apgcode")
 
 # Values that an option doesn't take, and the fault, or None where the library that reads the words tells it.
-FAULTY = {"--memo": ("0", None), "--work": ("-1", None), "--max-memory": ("0", None), "--after": ("x", None), "--limit": ("0", None), "--at": ("5", None),
+FAULTY = {"--memo": ("0", None), "--work": ("-1", None), "--max-memory": ("0", None), "--after": ("x", None), "--limit": ("-1", None), "--at": ("5", None),
           "--size": ("0,1", None), "--scale": ("125", None), "--zoom": ("65", None), "--to": ("png", None), "--rule": ("lost.rule", "cannot read lost.rule"),
-          "--rules": ("lost", "cannot read lost"), "--root": ("lost", "cannot read lost")}
+          "--rules": ("lost", "cannot read lost"), "--root": ("lost", "cannot read lost"), "--into": ("lost/into", "cannot write lost/into")}
 
 
 def sets_of(options):
@@ -192,6 +195,37 @@ def try_identify(tally, refusing, files):
     pairs.tell(tally, "identify")
 
 
+def settled(name, said):
+    """The census of a file with these options; None where its rule isn't known or work is used up."""
+    rules = ["given.rule"] if "--rule" in said else ["rules/Turn.rule"] if "--rules" in said else []
+    cells, start = later(name, said), int("--after" in said)
+    if start and "--work" in said or name == "turn" and not rules:
+        return None
+    if name == "glider":
+        return Settled("glider.rle", name, [Object(cells, "spaceship", " 4 1 1", "xq4_153")], start=start, rules=rules)
+    kind = ("oscillator", " 2") if "--rule" in said else ("still",)
+    return Settled("turn.rle", name, [Object({place: state}, *kind) for place, state in cells.items()], start=start, rule="Turn", states=3, rules=rules)
+
+
+def try_census(tally, refusing, files):
+    """`census` over two files, with the files that it writes."""
+    pairs, into = Pairs(refusing, files), files.path("into")
+    for said in sets_of(COUNTED):
+        shutil.rmtree(into, ignore_errors=True)
+        unknown = not {"--rule", "--rules"} & set(said)
+        found = {name: settled(name, said) for name in ("glider", "turn")}
+        told = [(it.listed() if "--list" in said else it.counts()) if it else
+                f"# {name}: {name}.rle: {'bad rule: unknown' if name == 'turn' and unknown else 'work'}\n".encode() for name, it in found.items()]
+        note = explained("bad rule: unknown", "turn.rle: rule Turn").complaint.split(b"\n", 1)[1] if unknown and "--explain" in said else b""
+        pairs.expect(["census", "glider.rle", *words_of(said, COUNTED), "turn.rle"],
+                     Outcome(b"".join(told), note, 2 * (None in found.values())), "--progress" in said)
+        wanted = {name: content for it in found.values() if it for name, content in it.files("into").items()} if "--into" in said else None
+        there = contents_of(into)
+        pairs.complaints += [] if there == wanted else [f"census with {said}: wanted the files {wanted}, got {there}"]
+    pairs.expect_faulty(["census", "glider.rle"], COUNTED)
+    pairs.tell(tally, "census")
+
+
 def answers_of(said):
     """The answers to the claims of the text."""
     dot = Answer(4, "yes") if "--root" in said else Answer(4, "no, cells differ after 1", b"dot at 0,0: 0 after 1 generation, claimed 1")
@@ -235,10 +269,10 @@ def try_memo(tally, refusing, files):
         os.symlink(f"../{name}", files.path(f"root/{name}"))
     after = ["glider.rle", "--after", str(LONG)]
     for words, options in ((["show", *after], PATTERN), (["convert", *after, "--to", "mc"], PATTERN), (["draw", *after, "--to", "pgm"], WINDOWS),
-                           (["identify", *after], SEARCH), (["verify", "long.claims"], CLAIMED)):
+                           (["identify", *after], SEARCH), (["census", *after], COUNTED), (["verify", "long.claims"], CLAIMED)):
         usual = least_work(words, files.folder)
         for name in options:
-            if name in ("--memo", "--work", "--after", "--to"):
+            if name in ("--memo", "--work", "--after", "--to", "--into"):
                 continue
             beside = [*words, *words_of([name], options)]
             work = ["--work", str(least_work(beside, files.folder) if name in SEARCHED else usual)]
@@ -252,7 +286,7 @@ def try_memo(tally, refusing, files):
 def main():
     tally = Tally()
     with refusing_program(tally, "options in pairs") as (_, refusing):
-        try_each(tally, (try_commands, try_draw, try_identify, try_verify, try_memo) if refusing else (), refusing)
+        try_each(tally, (try_commands, try_draw, try_identify, try_census, try_verify, try_memo) if refusing else (), refusing)
     tally.finish()
 
 

@@ -11,7 +11,7 @@ Of each run either nothing changed, or it ended with `cafile: memory` and printe
 - claims are refused in their order, and no run ends whole once a claim was judged.
 
 A run of `identify` prints all that it prints with ample memory, or of one file that memory is out; or nothing, or the lines on some first files, and
-`cafile: memory`.
+`cafile: memory`. So does a run of `census`; with `--into` the files are there whole of the censuses that are printed, and no other.
 
 Of an explained run one claim may also be without its note, or a macrocell's note without the faulty line, or one without its rule; but where cells differ, a
 file is missing or a rule file is bad, the note is always given. Of a run over several texts one text may be reported as out of memory and have no lines. A run
@@ -26,9 +26,11 @@ ca_library_tests has it, which is built where it isn't yet.
 import itertools
 import os
 import re
+import shutil
 import subprocess
 
 from lib import golden, remedies
+from lib.census_files import Object, Settled, contents_of
 from lib.long_texts import BLOCK, long_text, spelled
 from lib.parts import try_each
 from lib.program import ROOT, Outcome, Tally, lines_outcome, run
@@ -184,6 +186,58 @@ def try_identify(tally, refusing, _):
             tally.tell(f"refused memory{' for good' * goes_on}, {' '.join(words)}: {len(outcomes)} allocations refused", complaints)
 
 
+def counted(lines):
+    """What a run of `census` comes to that prints these lines on its files."""
+    return Outcome(b"".join(lines), b"", 2 * any(re.match(rb"# \S+: \S+: ", it) is not None for it in lines))
+
+
+def may_be_counted(paths, lines):
+    """What a run of `census` that prints these lines on the files of these paths may come to where an allocation is refused, and where all after it are."""
+    names = [os.path.splitext(os.path.basename(path))[0] for path in paths]
+    memory = [f"# {name}: {path}: memory\n".encode() for name, path in zip(names, paths)]
+    ended = {Outcome(b"".join(lines[:at]), NO_MEMORY.complaint, 2) for at in range(len(lines))}
+    refused = {counted([*lines[:at], memory[at], *lines[at + 1:]]) for at in range(len(lines)) if b": no file\n" not in lines[at]}
+    return {counted(lines), *ended, *refused}, {counted(lines), *ended}
+
+
+def try_census(tally, refusing, _):
+    """Each allocation of some runs of `census` in turn, and each with all after it: all is printed, or of one file that memory is out, or nothing, or the lines
+    on some first files. Of a longer run some."""
+    known = {"examples/glider.rle": b"# glider: settles after 0 generations: 1 object, 5 cells\n1 xq4_153\n",
+             "examples/lost": b"# lost: examples/lost: no file\n",
+             "tests/files/state_1.rle": b"# state_1: settles after 1 generation: 0 objects, 0 cells\n",
+             "examples/bad/syntax.rle": b"# syntax: examples/bad/syntax.rle: bad pattern: rle syntax, line 2\n"}
+    clock = {"examples/tables/wireworld_clock.rle": b"# wireworld_clock: settles after 0 generations: 1 object, 6 cells\noscillator 6 at 0,0: 6 cells\n"}
+    dying = {"examples/reactions/diehard.rle": b"# diehard: settles after 130 generations: 0 objects, 0 cells\n"}
+    for words, files in (([], known), (["--list", "--rule", "examples/tables/wireworld.rule"], clock), ([], dying)):
+        for goes_on, may_be in zip((False, True), may_be_counted(list(files), list(files.values()))):
+            outcomes = refusing.sweep(["census", *words, *files], by_eighths() if files is dying else itertools.count(1), goes_on=goes_on)
+            complaints = [f"allocation {number}: {it}" for number, it in outcomes.items() if it not in may_be]
+            complaints += [f"never met: {it}" for it in may_be - {counted(files.values()), *outcomes.values()} if files is not dying]
+            tally.tell(f"refused memory{' for good' * goes_on}, {' '.join(['census', *words, *files])}: {len(outcomes)} allocations refused", complaints)
+
+
+def try_census_files(tally, refusing, files):
+    """The same of a run that writes files: those of the censuses that are printed are there, whole, and nothing else."""
+    block = Object({(x, y): 1 for x in (0, 1) for y in (0, 1)}, "still", "", "xs4_33")
+    each = [Settled("two.rle", "two", [block, block.moved(9, 9)]), Settled("one.rle", "one", [block])]
+    for it in each:
+        files.path(it.path, it.tidy({place: 1 for one in it.objects for place in one.cells}))
+    words, into, lines = ["census", *(it.path for it in each), "--into", "into"], files.path("into"), [it.counts() for it in each]
+    for goes_on, may_be in zip((False, True), may_be_counted([it.path for it in each], lines)):
+        complaints, met = [], 0
+        shutil.rmtree(into, ignore_errors=True)
+        for number, got in refusing.each_until_unmet(words, "REFUSE", itertools.count(1), {"REFUSE_ON": 1} if goes_on else {}, cwd=files.folder):
+            wanted, met = {name: content for it in each if it.counts() in got.printed for name, content in it.files("into").items()}, number
+            there = contents_of(into)
+            if got not in may_be or (there or {}) != wanted:
+                complaints.append(f"allocation {number}: {got}, with the files {sorted(there or {})}")
+            shutil.rmtree(into, ignore_errors=True)
+        whole = {**each[0].files("into"), **each[1].files("into")}
+        complaints += [] if contents_of(into) == whole else ["the files of a run with ample memory aren't there"]
+        tally.tell(f"refused memory{' for good' * goes_on}, {' '.join(words)}: {met} allocations refused", complaints if met else ["no allocation was refused"])
+
+
 def try_larger(tally, refusing, _):
     """Each allocation in turn of `show`, `convert` and `draw` on larger patterns, which with ample memory print something."""
     for path, words in itertools.product(LARGER,
@@ -254,7 +308,7 @@ def main():
     tally = Tally()
     with refusing_program(tally, "refused memory") as (_, refusing):
         if refusing:
-            try_each(tally, (try_claim_texts, try_explained, try_several, try_words, try_identify, try_larger, try_for_good, try_large, try_leap), refusing)
+            try_each(tally, (try_claim_texts, try_explained, try_several, try_words, try_identify, try_census, try_census_files, try_larger, try_for_good, try_large, try_leap), refusing)
     tally.finish()
 
 

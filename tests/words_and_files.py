@@ -31,7 +31,7 @@ HELP = {
                  "spaceship NAME P DX DY", "dies NAME N", "claims 2", "# NAME: no cell is live",
                  "# NAME: none of these within 65536 generations: N cells, in a box of W by H, after 65536", "# NAME: PATH: bad pattern: rle no end",
                  "identify ./*.rle > mine.claims", "The status is 0, or 2"),
-    "census": ("FILE", "--limit", "--list", "--after", "--rule", "--rules", "--explain", "--progress", "--memo", "--work", "65536",
+    "census": ("FILE", "--limit", "--list", "--into", "--after", "--rule", "--rules", "--explain", "--progress", "--memo", "--work", "65536",
                "# r_pentomino: settles after 1103 generations: 25 objects, 116 cells", "8 xs4_33", "not found to settle", "The status is 0, or 2"),
     "verify": ("CLAIMS", "--rules", "DIR/NAME.rule", "--explain", "--progress", "--memo", "--work", "rule PATH", "load NAME PATH", "still NAME",
                "oscillator NAME P", "spaceship NAME P DX DY", "becomes NAME N NAME2", "becomes NAME N NAME2 shift DX DY", "dies NAME N", "claims 2",
@@ -103,9 +103,12 @@ def try_help(tally):
         outcome = run(words)
         lacks = [text for text in texts if text.encode() not in outcome.printed]
         tally.tell(" ".join(words), lacks or ([] if (outcome.complaint, outcome.status) == (b"", 0) else [str(outcome)]))
-    for text in [run(["--help"]).printed, *(it.printed for it in helps.values())]:
-        for line in re.findall(r"^  (?:cat .* \| )?cafile .*$", text.decode(), re.M):
-            ran = subprocess.run(["sh", "-c", line.replace("cafile ", '"$0" '), PROGRAM], cwd=ROOT, capture_output=True, timeout=MOST_WAITING, check=False)
+    lines = [line for text in [run(["--help"]).printed, *(it.printed for it in helps.values())]
+             for line in re.findall(r"^  (?:cat .* \| )?cafile .*$", text.decode(), re.M)]
+    with tempfile.TemporaryDirectory() as room:
+        os.symlink(os.path.join(ROOT, "examples"), os.path.join(room, "examples"))
+        for line in lines:
+            ran = subprocess.run(["sh", "-c", line.replace("cafile ", '"$0" '), PROGRAM], cwd=room, capture_output=True, timeout=MOST_WAITING, check=False)
             wanted = 0 if " identify " in line or " census " in line else 2 if "several" in line else 1 if "pulsar" in line or "reactions" in line else 0
             tally.tell(f"in the help: {line.strip()}", [] if ran.stdout and not ran.stderr and ran.returncode == wanted else [str(ran)])
     claims = re.findall(r"^      (\w.*)$", helps["verify"].printed.decode(), re.M)
@@ -157,7 +160,8 @@ def try_words(tally):
         ["identify", block, "--explain", "--explain"], ["identify", block, "--progress", "--progress"], ["identify", block, "--to", "rle"],
         ["identify", block, "--fast"],
         ["census"], ["census", "--list"], ["census", block, "--limit"], ["census", block, "--limit", "4294967296"], ["census", block, "--limit", "-1"],
-        ["census", block, "--list", "--list"], ["census", block, "--apgcode"], ["census", block, "--after", "1152921504606846977"],
+        ["census", block, "--list", "--list"], ["census", block, "--into"], ["census", block, "--into", "lost/a", "--into", "lost/b"], ["census", "--into", "lost/a"],
+        ["identify", block, "--into", "lost/a"], ["census", block, "--apgcode"], ["census", block, "--after", "1152921504606846977"],
         ["draw"], ["draw", block, block], ["draw", block, "--to", "rle"], ["draw", block, "--progress", "--progress"], ["show", block, "--at", "0,0"],
         ["show", block, "--scale", "0"],
     ):
@@ -168,7 +172,7 @@ def try_words(tally):
                   ["identify", block, "--rule", b"\xff"], ["identify", block, "--rules", b"\xff"], ["identify", block, "--limit", b"\xff"],
                   ["identify", block, b"--limit=\xff"], ["identify", b"-\xff.rle"],
                   ["identify", b"\xff.rle", "--fast"], ["identify", b"\xff.rle", "--help"], ["identify", b"\xff.rle", "--rule", b"\xff"],
-                  ["census", block, "--rule", b"\xff"], ["census", block, "--limit", b"\xff"], ["census", b"-\xff.rle"],
+                  ["census", block, "--rule", b"\xff"], ["census", block, "--into", b"\xff"], ["census", block, "--limit", b"\xff"], ["census", b"-\xff.rle"],
                   ["identify", "--rule", "--", b"-\xff.rle"], [b"identify\xff", block], [b"\xff"],
                   ["show", block, b"\xff"], ["verify", b"\xff", "--help"], ["verify", "examples/block.claims", "--rules", b"\xff"],
                   ["convert", block, "--to", b"\xff"], ["draw", block, "--at", b"\xff"]):

@@ -152,8 +152,9 @@ def part_after(objects, cluster, n):
     return set().union(*(plane_after(objects[index], n) for index in cluster))
 
 
-def settles(cells, most=20000):
-    """The first generation after which the plane is settled, and the codes of its objects then with their numbers, or None where this way doesn't tell."""
+def settling(cells, most=20000):
+    """The first generation after which the plane is settled, and its objects, each with its planes over a period from then on and how it is moved, or None
+    where this way doesn't tell."""
     stages = stages_of(cells, most)
     if stages is None:
         return None
@@ -172,12 +173,27 @@ def settles(cells, most=20000):
         if any(not are_apart(parts[one], set().union(*(part for other, part in enumerate(parts) if other != one))) for one in moving):
             break
         first -= 1
-    counted = Counter()
-    for phases, dx, dy in objects:
-        kind = "q" if (dx, dy) != (0, 0) else "p" if len(phases) > 1 else "s"
-        counted[apgcode.code(phases[0], kind, len(phases))] += 1
-    count = sum(len(plane_after(it, first - end)) for it in objects)
-    return first, counted, count
+    return first, [phases_of(plane_after(it, first - end)) for it in objects]
+
+
+def kind_of(part):
+    """The letter of its code that tells what an object is."""
+    return "q" if part[1:] != (0, 0) else "p" if len(part[0]) > 1 else "s"
+
+
+def code_of(part):
+    """The code of an object."""
+    return apgcode.code(part[0][0], kind_of(part), len(part[0]))
+
+
+def settles(cells, most=20000):
+    """The first generation after which the plane is settled, the codes of its objects then with their numbers, and how many cells they have, or None where
+    this way doesn't tell."""
+    found = settling(cells, most)
+    if found is None:
+        return None
+    first, objects = found
+    return first, Counter(map(code_of, objects)), sum(len(it[0][0]) for it in objects)
 
 
 def counted_word(count, word):

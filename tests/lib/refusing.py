@@ -38,15 +38,17 @@ class Refusing:
         outcome = run(words, env=self.environment(faults), pass_fds=(self.told,), **how)
         return outcome, os.fstat(self.told).st_size > before
 
-    def until_unmet(self, words, name, numbers, faults=(), **how):
-        """The outcomes of runs in which the calls with these numbers fail, by the number, until one isn't met."""
-        outcomes = {}
+    def each_until_unmet(self, words, name, numbers, faults=(), **how):
+        """The runs in which the calls with these numbers fail, one after another as they are asked for, until one isn't met: the number and the outcome."""
         for number in numbers:
             outcome, is_met = self.run(words, {name: number, **dict(faults)}, **how)
             if not is_met:
-                break
-            outcomes[number] = outcome
-        return outcomes
+                return
+            yield number, outcome
+
+    def until_unmet(self, words, name, numbers, faults=(), **how):
+        """The outcomes of runs in which the calls with these numbers fail, by the number, until one isn't met."""
+        return dict(self.each_until_unmet(words, name, numbers, faults, **how))
 
     def sweep(self, words, numbers, goes_on=False):
         """The outcomes of runs whose allocations with these numbers are refused, those after it too where it goes on, until one isn't met."""
