@@ -33,7 +33,7 @@ def build(folder):
     # the file ends in .txt here, since the tests take a source for a crate's
     shutil.copy("bench/leaps/main.rt.txt", os.path.join(crate, "src", "main.rt"))
     with open(os.path.join(folder, "crates.txt"), "a", encoding="ascii") as file:
-        file.write("leaps: ca_plane ca_steps ca_work ca_bricks ca_quad ca_rule ca_run ca_rle anyhow\n")
+        file.write("leaps: ca_plane ca_steps ca_budget ca_bricks ca_quad ca_rule ca_run ca_rle anyhow\n")
     subprocess.run(["rt", "run"], cwd=crate, check=True, stdout=subprocess.DEVNULL)
     return os.path.join(crate, "out", "leaps")
 

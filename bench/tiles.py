@@ -11,7 +11,7 @@ import sys
 import tempfile
 
 RULES = ("B3/S23", "B36/S23", "B3678/S34678", "B2/S", "B12345678/S012345678")
-BELOW = ("ca_plane", "ca_steps", "ca_work", "ca_bricks", "ca_rule", "ca_quad", "ca_run")
+BELOW = ("ca_plane", "ca_steps", "ca_budget", "ca_bricks", "ca_rule", "ca_quad", "ca_run")
 
 
 def build(folder):
@@ -25,7 +25,7 @@ def build(folder):
     shutil.copy("bench/tiles/main.rt.txt", os.path.join(crate, "src", "main.rt"))
     with open("crates.txt", encoding="ascii") as old, open(os.path.join(folder, "crates.txt"), "w", encoding="ascii") as new:
         new.writelines(line for line in old if line.split(":")[0] in BELOW)
-        new.write("tiles: ca_plane ca_steps ca_work ca_bricks ca_quad ca_rule ca_run anyhow\n")
+        new.write("tiles: ca_plane ca_steps ca_budget ca_bricks ca_quad ca_rule ca_run anyhow\n")
     subprocess.run(["rt", "run"], cwd=crate, check=True, stdout=subprocess.DEVNULL)
     return os.path.join(crate, "out", "tiles")
 

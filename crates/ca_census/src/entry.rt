@@ -6,10 +6,10 @@ ghost use Rattle.ca_parts.specs.Prelude.{ArePhases};
 ghost use Rattle.ca_clusters.specs.Prelude.{first_plane, GoesRound};
 ghost use Rattle.ca_answers.specs.Prelude.{IsCodeOf, IsIdentity};
 ghost use Rattle.ca_answers.specs.declared.identity.Identity.TheVariants.{Claim};
-ghost use Rattle.ca_object_code.specs.ObjectPlanes.{IsObjectOf};
+ghost use Rattle.ca_apgcode_search.specs.ObjectPlanes.{IsObjectOf};
 ghost use Rattle.ca_census.specs.Censuses.{IsCodeIfAsked, IsEntryOf};
 
-use ca_object_code::code_of_planes;
+use ca_apgcode_search::code_of_planes;
 use ca_parts::Phases;
 use ca_plane::{Bounds, Memory, Plane};
 use ca_text::Kind;

@@ -13,7 +13,7 @@ use crate::census::{Census, census_of};
 use crate::reach::Reach;
 use crate::settling::settle;
 use ca_evolution::{Observer, later_tree, leaper_of};
-use ca_object_code::has_codes;
+use ca_apgcode_search::has_codes;
 use ca_pattern::{Limits, LocatedFault, StoredTree, open_pattern};
 use ca_plane::{Automaton, Memory};
 use ca_quad::Tree;

@@ -4,7 +4,7 @@ ghost use Rattle.std.specs.Prelude.{◌≡◌, ◌≤◌, IfOk, IfSome, IsTrue, 
 ghost use Rattle.ca_plane.specs.Prelude.{Picture, cell, IsAfter, most_generations, HasFewCells};
 ghost use Rattle.ca_steps.specs.Prelude.{HasStates};
 ghost use Rattle.ca_run.specs.Prelude.{LeaperGrows};
-ghost use Rattle.ca_work.specs.Prelude.{EndsAtLimit};
+ghost use Rattle.ca_budget.specs.Prelude.{EndsAtLimit};
 ghost use Rattle.ca_pattern.specs.Prelude.{ShowsTree, IsPattern};
 
 use ca_evolution::{Observer, later_tree_within};

@@ -4,7 +4,7 @@ ghost use Rattle.std.specs.Prelude.{◌≡◌, ◌+◌, ◌≤◌, ◌<◌, IfOk
 ghost use Rattle.ca_plane.specs.Prelude.{Picture, cell, longest_period, most_generations};
 ghost use Rattle.ca_steps.specs.Prelude.{HasStates};
 ghost use Rattle.ca_run.specs.Prelude.{LeaperGrows};
-ghost use Rattle.ca_work.specs.Prelude.{EndsAtLimit};
+ghost use Rattle.ca_budget.specs.Prelude.{EndsAtLimit};
 ghost use Rattle.ca_pattern.specs.Prelude.{ShowsTree, IsPattern};
 ghost use Rattle.ca_clusters.specs.Prelude.{AreClusters};
 ghost use Rattle.ca_census.specs.Files.{FitsFile};

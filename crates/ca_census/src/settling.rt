@@ -3,7 +3,7 @@
 ghost use Rattle.std.specs.Prelude.{◌≡◌, ◌+◌, ◌-◌, ◌≤◌, ◌<◌, ℕ, List, replicate, IfOk, OnOk, IfSome};
 ghost use Rattle.ca_plane.specs.Prelude.{Picture, IsAfter, longest_period, most_generations};
 ghost use Rattle.ca_run.specs.Prelude.{LeaperGrows};
-ghost use Rattle.ca_work.specs.Prelude.{EndsAtLimit};
+ghost use Rattle.ca_budget.specs.Prelude.{EndsAtLimit};
 ghost use Rattle.ca_pattern.specs.Prelude.{ShowsTree, IsPattern};
 ghost use Rattle.ca_census.specs.Files.{FitsFile};
 ghost use Rattle.ca_census.specs.Settlings.{IsSettled, IsSettling};

@@ -14,10 +14,10 @@ use Rattle.ca_text.specs.declared.kind.Kind.TheVariants.{Becomes}
 use Rattle.ca_text.specs.Prelude.{keyword_of, words_after_name, ClaimTextLine, Version, Load, Claims, is_second, path_of, ClaimLinesSay}
 use Rattle.ca_text.proofs.LinesSaid.{path_of-append}
 use Rattle.ca_text.proofs.WrittenWords.{keyword_word, keyword_spoken, written_follow, written_words}
-use Rattle.ca_catalog.specs.Prelude.{code_lines, rule_lines, version_line, catalog_head, claim_line}
-use Rattle.ca_catalog.proofs.Saying.{TextSays, says_none, says_then, says_words, spelled_spaced}
-use Rattle.ca_catalog.proofs.CodeLines.{code_inner}
-use Rattle.ca_catalog.proofs.CatalogSaid.{identity_said, code_said, loaded_now, second_stays, rules_say, rules_said, rules_load, version_said}
+use Rattle.ca_identify_lines.specs.Prelude.{code_lines, rule_lines, version_line, catalog_head, claim_line}
+use Rattle.ca_identify_lines.proofs.Saying.{TextSays, says_none, says_then, says_words, spelled_spaced}
+use Rattle.ca_identify_lines.proofs.CodeLines.{code_inner}
+use Rattle.ca_identify_lines.proofs.CatalogSaid.{identity_said, code_said, loaded_now, second_stays, rules_say, rules_said, rules_load, version_said}
 use Rattle.ca_report.specs.Outside.{path_in}
 use Rattle.ca_census.specs.declared.{entry.CensusObject.CensusObject}
 use Rattle.ca_census.specs.Prelude.{IsCodeIfAsked, IsEntryOf}

@@ -9,7 +9,7 @@ use Rattle.std.proofs.lemmas.Slice.Eq.{bytes_eq-Decides}
 use Rattle.ca_plane.specs.Prelude.{Every, IsWord, is_word_byte, is_digit}
 use Rattle.ca_plane.proofs.Fronts.{every_append, every_word_byte}
 use Rattle.ca_report.specs.Outside.{path_in}
-use Rattle.ca_catalog.proofs.NameWords.{word_append, digits_pass, decimal_fits}
+use Rattle.ca_identify_lines.proofs.NameWords.{word_append, digits_pass, decimal_fits}
 use Rattle.ca_census_files.specs.Prelude.{object_name, settled_name, rle_file}
 
 -- the names are words

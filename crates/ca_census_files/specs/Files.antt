@@ -7,7 +7,7 @@ use Rattle.ca_pattern.specs.Prelude.{HasCellOutOfRange}
 use Rattle.ca_rle.specs.Prelude.{IsWrittenRle}
 use Rattle.ca_text.specs.declared.kind.Kind.TheVariants.{Becomes}
 use Rattle.ca_answers.specs.declared.identity.Identity.TheVariants.{Claim}
-use Rattle.ca_catalog.specs.Prelude.{load_line, claim_words, identity_line, code_lines, catalog_head}
+use Rattle.ca_identify_lines.specs.Prelude.{load_line, claim_words, identity_line, code_lines, catalog_head}
 use Rattle.ca_report.specs.Outside.{path_in}
 use Rattle.ca_census.specs.declared.{census.Census.Census, entry.CensusObject.CensusObject, file.Origin.Origin}
 use Rattle.ca_census_files.specs.declared.{folder.NewFile.NewFile, files.FilesFault.FilesFault}

@@ -5,7 +5,7 @@ use Rattle.ca_plane.specs.Prelude.{Picture, IsWord, most_generations}
 use Rattle.ca_rule.specs.Prelude.{RuleValue}
 use Rattle.ca_text.specs.declared.kind.Kind.TheVariants.{Becomes}
 use Rattle.ca_text.specs.Prelude.{ClaimTextLine, Version, Rule, Load, Claims}
-use Rattle.ca_catalog.specs.CatalogSays.{claim_line, AreRuleWords, SaysOf}
+use Rattle.ca_identify_lines.specs.CatalogSays.{claim_line, AreRuleWords, SaysOf}
 use Rattle.ca_report.specs.Outside.{path_in}
 use Rattle.ca_census.specs.declared.{census.Census.Census, entry.CensusObject.CensusObject, reach.Reach.Reach}
 use Rattle.ca_census.specs.Prelude.{IsCensusUnder}

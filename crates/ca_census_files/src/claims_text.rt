@@ -2,13 +2,13 @@
 
 ghost use Rattle.std.specs.Prelude.{◌≡◌, IfOk, OnOk};
 ghost use Rattle.ca_plane.specs.Prelude.{Puts};
-ghost use Rattle.ca_catalog.specs.Prelude.{load_line, code_lines};
+ghost use Rattle.ca_identify_lines.specs.Prelude.{load_line, code_lines};
 ghost use Rattle.ca_census_files.specs.Names.{object_name};
 ghost use Rattle.ca_census_files.specs.Files.{pattern_load_line, becomes_lines, object_claim_lines, all_object_claims, files_text};
 
 use crate::files::FilesTask;
 use crate::names::{file_path, object_name, rle_file, settled_name};
-use ca_catalog::{push_claim, push_code, push_load, rules_text};
+use ca_identify_lines::{push_claim, push_code, push_load, rules_text};
 use ca_census::CensusObject;
 use ca_plane::Memory;
 use ca_plane::text::push_text;

@@ -2,7 +2,7 @@
 use Rattle.std.proofs.Common.{◌≡◌, ◌≢◌, ℕ, List, [], ◌++◌, Option, None, Some, Bor, sym, ap, ◌∙◌, append_assoc}
 use Rattle.std.specs.Prelude.{MatchOption}
 use Rattle.std.proofs.lemmas.List.{append-nil}
-use Rattle.ca_catalog.specs.declared.{entry.Subject.Subject, known_rules.KnownRules.KnownRules}
+use Rattle.ca_identify_lines.specs.declared.{entry.Subject.Subject, known_rules.KnownRules.KnownRules}
 use Rattle.ca_census_files.specs.Prelude.{NamedBytes, AddsFiles}
 use Rattle.ca_census_files.specs.declared.{files.FilesFault.FilesFault, folder.FolderFault.FolderFault}
 use Rattle.ca_census_files.specs.declared.files.FilesFault.TheVariants as reasons

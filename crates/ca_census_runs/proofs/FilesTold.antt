@@ -8,8 +8,8 @@ use Rattle.std.proofs.lemmas.Option.{slice_get_within, get_or_from_slice_get}
 use Rattle.std.proofs.lemmas.List.Concat.{flat_map-append}
 use Rattle.ca_plane.specs.Prelude.{Counted, Rises, AppendsPrefix}
 use Rattle.ca_plane.proofs.Sends.{sent_both}
-use Rattle.ca_catalog.specs.declared.{entry.Subject.Subject, entry.Entry.Entry, known_rules.KnownRules.KnownRules}
-use Rattle.ca_catalog.specs.Prelude.{WritesOn}
+use Rattle.ca_identify_lines.specs.declared.{entry.Subject.Subject, entry.Entry.Entry, known_rules.KnownRules.KnownRules}
+use Rattle.ca_identify_lines.specs.Prelude.{WritesOn}
 use Rattle.ca_census_files.specs.Prelude.{NamedBytes, named_bytes, AddsFiles}
 use Rattle.ca_census_runs.specs.declared.{task.CensusTask.CensusTask, fault.CensusFault.CensusFault, file_lines.FileResults.FileResults}
 use Rattle.ca_census_runs.specs.declared.fault.CensusFault.TheVariants.{GenTooLarge, Range, Taken, Unwritten, Write, Memory}

@@ -3,7 +3,7 @@ use Rattle.std.proofs.Common.{◌≡◌, ◌≢◌, ◌∙◌, ℕ, List, [], No
 use Rattle.std.specs.declared.alloc.Global.{Global}
 use Rattle.std.proofs.lemmas.List.Sorted.{All-permutation}
 use Rattle.ca_plane.specs.Prelude.{Picture}
-use Rattle.ca_catalog.specs.declared.{entry.Subject.Subject, known_rules.KnownRules.KnownRules}
+use Rattle.ca_identify_lines.specs.declared.{entry.Subject.Subject, known_rules.KnownRules.KnownRules}
 use Rattle.ca_census.specs.Prelude.{FitsFile, IsFileable}
 use Rattle.ca_census.specs.declared.{census.Census.Census, entry.CensusObject.CensusObject, file.FileCensus.FileCensus, file.Origin.Origin}
 use Rattle.ca_census_files.specs.Prelude.{AreCensusFiles, HasNoFiles}

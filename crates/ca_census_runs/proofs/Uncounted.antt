@@ -5,7 +5,7 @@ use Rattle.ca_pattern.specs.declared.located_fault.LocatedFault.{LocatedFault}
 use Rattle.ca_pattern.specs.declared.located_fault.LocatedFault.TheVariants.{Unread, UnnamedRule, StateTooLarge, GenTooLarge, Work, Range, TooManyCells, Memory}
 use Rattle.ca_rule.specs.Prelude.{TableRule}
 use Rattle.ca_report.specs.declared.detailed_fault.DetailedFault.{DetailedFault}
-use Rattle.ca_catalog.specs.Prelude.{IsReportOf}
+use Rattle.ca_identify_lines.specs.Prelude.{IsReportOf}
 use Rattle.ca_census.specs.Prelude.{IsUncountedFor}
 
 -- each of them has a report

@@ -1,7 +1,7 @@
 -- The files that a run of `census` adds to a folder (our own; docs/CLAIMS.md).
 use Rattle.std.specs.Prelude.{◌≡◌, ◌≢◌, ℕ, List, [], None, MatchOption, Vec, false, ⊤}
 use Rattle.std.specs.declared.alloc.Global.{Global}
-use Rattle.ca_catalog.specs.Prelude.{is_claim_path}
+use Rattle.ca_identify_lines.specs.Prelude.{is_claim_path}
 use Rattle.ca_census.specs.declared.{census.Census.Census, file.FileCensus.FileCensus}
 use Rattle.ca_census_files.specs.declared.{folder.NewFile.NewFile, files.FilesFault.FilesFault}
 use Rattle.ca_census_files.specs.declared.files.FilesFault.TheVariants.{Memory}

@@ -2,7 +2,7 @@
 use Rattle.std.specs.Prelude.{◌≡◌, ℕ, List, [], ◌∷◌, ◌++◌, map, length, Bool, true, false, codes, decimal}
 use Rattle.std.specs.List.{flat_map, sum_by}
 use Rattle.ca_report.specs.Prelude.{generations_word}
-use Rattle.ca_catalog.specs.Prelude.{objects_word, comment_head}
+use Rattle.ca_identify_lines.specs.Prelude.{objects_word, comment_head}
 use Rattle.ca_census.specs.declared.{reach.Reach.Reach, census.Census.Census, entry.CensusObject.CensusObject}
 use Rattle.ca_census_runs.specs.declared.task.CensusTask.{CensusTask}
 use Rattle.ca_census_runs.specs.{Objects.label, Objects.size_words, Objects.object_line, Counts.AreCounts, Counts.count_line, Places.ArePlaced}

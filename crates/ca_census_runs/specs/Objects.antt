@@ -6,7 +6,7 @@ use Rattle.ca_plane.specs.declared.point.Bounds.{Bounds}
 use Rattle.ca_text.specs.declared.kind.Kind.{Kind}
 use Rattle.ca_text.specs.declared.kind.Kind.TheVariants.{Still}
 use Rattle.ca_text.specs.Prelude.{keyword_of, words_after_name, spaced}
-use Rattle.ca_catalog.specs.Prelude.{cells_word}
+use Rattle.ca_identify_lines.specs.Prelude.{cells_word}
 use Rattle.ca_census.specs.declared.entry.CensusObject.{CensusObject}
 
 -- what an object is: `still life`, `oscillator P` or `spaceship P DX DY`. Objects are of no other kind

@@ -6,11 +6,11 @@ use Rattle.std.specs.Io.KnownBytes.{Appends}
 use Rattle.ca_plane.specs.Prelude.{Counted, Rises}
 use Rattle.ca_pattern.specs.declared.located_fault.LocatedFault.{LocatedFault}
 use Rattle.ca_rule.specs.Prelude.{TableRule}
-use Rattle.ca_catalog.specs.declared.{entry.Content.Content, entry.Subject.Subject, entry.Outcome.Outcome, entry.Entry.Entry, known_rules.KnownRules.KnownRules}
-use Rattle.ca_catalog.specs.declared.entry.Content.TheVariants.{Bytes, Missing, FaultyRule}
-use Rattle.ca_catalog.specs.declared.entry.Outcome.TheVariants as entries
-use Rattle.ca_catalog.specs.FaultReports.{IsBareReport}
-use Rattle.ca_catalog.specs.Prelude.{claim_name, IsFreeName, IsReportOf, entry_lines, WritesOn, WritesOnFirst}
+use Rattle.ca_identify_lines.specs.declared.{entry.Content.Content, entry.Subject.Subject, entry.Outcome.Outcome, entry.Entry.Entry, known_rules.KnownRules.KnownRules}
+use Rattle.ca_identify_lines.specs.declared.entry.Content.TheVariants.{Bytes, Missing, FaultyRule}
+use Rattle.ca_identify_lines.specs.declared.entry.Outcome.TheVariants as entries
+use Rattle.ca_identify_lines.specs.FaultReports.{IsBareReport}
+use Rattle.ca_identify_lines.specs.Prelude.{claim_name, IsFreeName, IsReportOf, entry_lines, WritesOn, WritesOnFirst}
 use Rattle.ca_census.specs.Prelude.{IsCensusAt, IsUncountedFor}
 use Rattle.ca_census.specs.declared.file.FileCensus.{FileCensus}
 use Rattle.ca_census_files.specs.declared.{folder.NewFile.NewFile, files.FilesFault.FilesFault}

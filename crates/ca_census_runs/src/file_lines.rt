@@ -3,7 +3,7 @@
 ghost use Rattle.std.specs.Prelude.{◌≡◌, ◌+◌, ◌≤◌, None, Some, List, ℕ, [], IfOk, IfErr, OnOk};
 ghost use Rattle.ca_plane.specs.Prelude.{longest_period, most_generations, Puts};
 ghost use Rattle.ca_pattern.specs.Prelude.{AreGoodLimits};
-ghost use Rattle.ca_catalog.specs.Prelude.{IsWithin};
+ghost use Rattle.ca_identify_lines.specs.Prelude.{IsWithin};
 ghost use Rattle.ca_census.specs.Prelude.{IsFileable};
 ghost use Rattle.ca_census_runs.specs.Files.{AreFilesIfAsked, HasNoFilesOf};
 ghost use Rattle.ca_census_runs.specs.Lines.{unsettled_line, AreCensusLines};
@@ -13,7 +13,7 @@ ghost use Rattle.ca_census_runs.specs.inner.Tasks.{IsGoodTask, IsFileableOutcome
 use crate::lines::{push_census, push_unsettled};
 use crate::outcome::CensusOutcome;
 use crate::task::CensusTask;
-use ca_catalog::{
+use ca_identify_lines::{
     Content, Entry, KnownRules, Outcome, Subject, TakenNames, add_name, is_claim_path, push_entry,
     report_of,
 };

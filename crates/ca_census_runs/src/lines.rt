@@ -9,7 +9,7 @@ use crate::counts::push_counts;
 use crate::objects::push_size;
 use crate::places::{push_objects, sort_by_place};
 use crate::task::CensusTask;
-use ca_catalog::{objects_word, push_comment_head};
+use ca_identify_lines::{objects_word, push_comment_head};
 use ca_census::{Census, CensusObject, Reach};
 use ca_plane::Memory;
 use ca_plane::text::{push_number, push_text};

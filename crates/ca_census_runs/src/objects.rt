@@ -2,7 +2,7 @@
 
 ghost use Rattle.std.specs.Prelude.{◌≡◌, IfOk, OnOk};
 ghost use Rattle.ca_plane.specs.Prelude.{Puts};
-ghost use Rattle.ca_catalog.specs.Prelude.{cells_word};
+ghost use Rattle.ca_identify_lines.specs.Prelude.{cells_word};
 ghost use Rattle.ca_census_runs.specs.Objects.{kind_words, size_words, label, label_of, place_words, code_words, object_line};
 
 use ca_census::CensusObject;

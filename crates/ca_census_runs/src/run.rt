@@ -11,7 +11,7 @@ ghost use Rattle.ca_census_runs.specs.inner.Tasks.{IsGoodTask};
 use crate::fault::CensusFault;
 use crate::file_lines::{FileResults, put_file};
 use crate::task::CensusTask;
-use ca_catalog::{Catalog, Entry, KnownRules, Subject, TakenNames};
+use ca_identify_lines::{Catalog, Entry, KnownRules, Subject, TakenNames};
 use ca_census_files::Folder;
 use ca_evolution::Observer;
 use ca_plane::{Dev, Memory, send};

@@ -24,7 +24,7 @@ const SHORT: u64 = 16;
 const LONG: u64 = 128;
 
 // The part of the budget that the first try may take, so that much is left for the other.
-const FIRST_PART: u64 = 4;
+const FIRST_PART: u64 = 2;
 
 // How many generations two clusters of different regions are looked at to see whether they ever meet.
 const LOOKS: u64 = 4096;

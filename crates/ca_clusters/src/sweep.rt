@@ -13,6 +13,9 @@ use ca_plane::{Automaton, Memory, Plane};
 use ca_steps::{RunFault, step};
 use std::alloc::Global;
 
+// How many generations are gathered before their places are put to those so far.
+const AT_ONCE: u64 = 16;
+
 /// The plane's live cells by regions: two are in one where a chain of places leads from one to the other, each live at
 /// some time of the first `generations` generations, and each within 2 of the place before. None where the budget isn't
 /// enough for that, or a cell comes too near the edge of the plane. No contract says which cells are in one region.
@@ -48,7 +51,30 @@ fn covered_places<A: Automaton>(
 {
     let mut covered = plane.copy(alloc)?;
     let mut now = plane.copy(alloc)?;
-    'generations: for _ in 0..generations {
+    'rounds: for _ in 0..generations / AT_ONCE {
+        let Some((places, later)) = next_places(alloc, rule, now, budget)? else {
+            return Ok(None);
+        };
+        covered = both_covered(alloc, &covered, &places)?;
+        now = later;
+    }
+    Ok(Some(covered))
+}
+
+// The places that are live at some time of the next generations, and the plane after these.
+fn next_places<A: Automaton>(
+    alloc: Global,
+    rule: &A,
+    plane: Plane,
+    budget: &mut u64,
+) -> Result<Option<(Plane, Plane)>, Memory>
+    requires states { HasStates (A.state_count rule.now) plane }
+    ensures states { IfOk result (λ found. IfSome found (λ pair. HasStates (A.state_count rule.now) pair.1)) }
+    ensures budget { budget.new ≤ budget.old }
+{
+    let mut now = plane;
+    let mut cells = Vec::new(alloc);
+    'generations: for _ in 0..AT_ONCE {
         if !take(budget, now.as_slice().len() as u64 + 1) {
             return Ok(None);
         }
@@ -57,9 +83,9 @@ fn covered_places<A: Automaton>(
             Err(RunFault::Memory) => return Err(Memory),
             Err(RunFault::Range) => return Ok(None),
         };
-        covered = both_covered(alloc, &covered, &now)?;
+        cells.extend_from_slice(now.as_slice())?;
     }
-    Ok(Some(covered))
+    Ok(Some((Plane::from_cells(alloc, cells)?, now)))
 }
 
 // The plane of all places that are live in one of both.

@@ -13,7 +13,7 @@ use Rattle.ca_pattern.specs.Prelude.{HoldsSmallRuledPattern, IsPatternAfter, IsR
 use Rattle.ca_pattern.proofs.EqualCells.{small_shown}
 use Rattle.ca_pattern.proofs.PatternsRead.{reads_may_want}
 use Rattle.ca_pattern.proofs.CellsNearMiddle.{trimmed_low}
-use Rattle.ca_work.proofs.Powers.{power_more}
+use Rattle.ca_budget.proofs.Powers.{power_more}
 use Rattle.ca_evolution.specs.Prelude.{IsEvolvedFrom, IsUnreachedFor, Takes}
 
 -- ---- from a file

@@ -1,7 +1,7 @@
 -- How what calls take of a leaper's work adds up.
 use Rattle.std.proofs.Common.{◌≡◌, ℕ, ◌+◌, ◌<◌, ◌^◌, ap, arith}
 use Rattle.ca_run.specs.Prelude.{LeaperView, Costs}
-use Rattle.ca_work.specs.Prelude.{Spent}
+use Rattle.ca_budget.specs.Prelude.{Spent}
 use Rattle.ca_evolution.specs.Prelude.{Takes}
 
 -- and then nothing

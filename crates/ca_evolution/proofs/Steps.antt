@@ -6,7 +6,7 @@ use Rattle.ca_plane.specs.Prelude.{cells_after, longest_period}
 use Rattle.ca_plane.proofs.After.{after_same, after_again}
 use Rattle.ca_quad.specs.declared.{node.Node.Node, tree.Tree.Tree}
 use Rattle.ca_quad.specs.Prelude.{cell, IsTrimmed, HoldsAll}
-use Rattle.ca_work.proofs.Powers.{power_more}
+use Rattle.ca_budget.proofs.Powers.{power_more}
 use Rattle.ca_pattern.specs.Prelude.{IsWithinPlane, IsStart, IsLaterTree}
 use Rattle.ca_pattern.proofs.CellsNearMiddle.{trimmed_low}
 use Rattle.ca_pattern.proofs.Starts.{near_start, start_near}

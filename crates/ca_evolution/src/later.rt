@@ -3,7 +3,7 @@
 ghost use Rattle.std.specs.Prelude.{◌≡◌, ◌+◌, ◌≤◌, max, IfOk, IfSome};
 ghost use Rattle.ca_quad.specs.Prelude.{cell};
 ghost use Rattle.ca_run.specs.Prelude.{LeaperGrows, GivesUpAt};
-ghost use Rattle.ca_work.specs.Prelude.{EndsAtLimit};
+ghost use Rattle.ca_budget.specs.Prelude.{EndsAtLimit};
 ghost use Rattle.ca_evolution.specs.Steps.{CanGoOn, TakesRun, step_work};
 ghost use Rattle.ca_pattern.specs.Prelude.{IsLaterTree};
 

@@ -3,7 +3,7 @@
 ghost use Rattle.std.specs.Prelude.{◌≡◌, ◌-ℤ◌, IfOk, IsOk, IsTrue, IsFalse, MatchOption};
 ghost use Rattle.ca_quad.specs.Prelude.{IsDead, HasCellOutsidePlane, shifted_cells, cell};
 ghost use Rattle.ca_run.specs.Prelude.{LeaperGrows};
-ghost use Rattle.ca_work.specs.Prelude.{EndsAtLimit};
+ghost use Rattle.ca_budget.specs.Prelude.{EndsAtLimit};
 ghost use Rattle.ca_evolution.specs.Spending.{Takes};
 ghost use Rattle.ca_pattern.specs.Prelude.{IsBroad, IsWide, IsRun, IsNearTree, HasLive, IsEndTree, IsMoved, IsMove, IsNoMove};
 ghost use Rattle.ca_pattern.specs.Prelude.{IsOnlyMove};

@@ -5,7 +5,7 @@ use Rattle.std.proofs.lemmas.Result.{IfOk-weaker}
 use Rattle.ca_report.specs.RulePaths.{is_file_name, rule_path}
 use Rattle.ca_plane.specs.declared.memory.Memory.{Memory}
 use Rattle.ca_host.specs.declared.files.FaultyFile.{FaultyFile}
-use Rattle.ca_host.specs.declared.lookups.{Look.Look, NamedLook.NamedLook}
+use Rattle.ca_host.specs.declared.lookups.{Lookup.Lookup, NamedLookup.NamedLookup}
 use Rattle.ca_host.specs.Files.{Gives, Lacks}
 use Rattle.ca_host.specs.RuleFiles.{Kept, IsUnknownRuleOf}
 use Rattle.ca_host.specs.Lookups.{LooksOnce, IsTold, FindsOnce}
@@ -29,7 +29,7 @@ stands_at folder used name asked found path is is_folder is_name told =
     (subst (λ f. (is_file_name asked ≡ true) × (path.items ≡ rule_path f asked)) is_folder here)
 
 -- what there is for the name is told
-pub finds : (gives : Gives) (lacks : Lacks) (folder pattern name path asked at told_name told_path : List ℕ) (look : Look) (olds news : List NamedLook) (old new : Kept)
+pub finds : (gives : Gives) (lacks : Lacks) (folder pattern name path asked at told_name told_path : List ℕ) (look : Lookup) (olds news : List NamedLookup) (old new : Kept)
     (r : Result (Option FaultyFile) Memory) → asked ≡ name → at ≡ path → told_name ≡ name → told_path ≡ path → IsUnknownRuleOf pattern old.tables name
     → (is_file_name name ≡ true) × (path ≡ rule_path folder name) → LooksOnce gives lacks asked at look olds news old new → IfOk r (IsTold told_name told_path look)
     → IfOk r (λ found. FindsOnce gives lacks folder pattern found olds news old new)
@@ -44,7 +44,7 @@ finds gives lacks folder pattern name path asked at told_name told_path look old
     )) said
 
 -- it was looked for, whatever comes of it
-pub looked : (gives : Gives) (lacks : Lacks) (folder name path asked at : List ℕ) (look : Look) (olds news : List NamedLook) (old new : Kept) → asked ≡ name → at ≡ path
+pub looked : (gives : Gives) (lacks : Lacks) (folder name path asked at : List ℕ) (look : Lookup) (olds news : List NamedLookup) (old new : Kept) → asked ≡ name → at ≡ path
     → (is_file_name name ≡ true) × (path ≡ rule_path folder name) → LooksOnce gives lacks asked at look olds news old new
     → LooksOnce gives lacks name (rule_path folder name) look olds news old new
 looked gives lacks folder name path asked at look olds news old new is_asked is_at stands once =

@@ -14,7 +14,7 @@ pub use files::{
     faulty_rules, load_needed, load_once, missing_files, open_source, read_file, read_source,
     views,
 };
-pub use lookups::{Look, NamedLook};
+pub use lookups::{Lookup, NamedLookup};
 pub use progress::{Heading, Progress};
 pub use rules::{NamedTable, RuleFiles, table_named};
 pub use streams::{Source, Streams};

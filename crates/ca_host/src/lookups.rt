@@ -1,8 +1,8 @@
 //! Rule files that are looked for by the names of rules in a folder, each of them once.
 
 ghost use Rattle.std.specs.Prelude.{◌≡◌, ◌≢◌, OnErr, IfOk};
-ghost use Rattle.ca_host.specs.declared.lookups.Look.TheVariants as look_kind;
-ghost use Rattle.ca_host.specs.Lookups.{look_of, IsLook, IsLookOf, LooksOnce, IsTold, FindsOnce, SearchesOn};
+ghost use Rattle.ca_host.specs.declared.lookups.Lookup.TheVariants as look_kind;
+ghost use Rattle.ca_host.specs.Lookups.{look_of, IsLookup, IsLookOf, LooksOnce, IsTold, FindsOnce, SearchesOn};
 
 use crate::files::{FaultyFile, found_bytes};
 use crate::rules::{NamedTable, RuleFiles, table_named};
@@ -14,7 +14,7 @@ use std::alloc::Global;
 
 /// What a folder has for the name of a rule.
 #[derive(Clone, Copy)]
-pub enum Look {
+pub enum Lookup {
     /// A good table of that name, which is put after the others.
     Found,
     /// No rule file, one that isn't read, or one whose table has another name.
@@ -27,9 +27,9 @@ pub enum Look {
 
 /// A name that was looked for, and what there was.
 #[derive(Drop)]
-pub struct NamedLook {
+pub struct NamedLookup {
     pub name: Vec<u8>,
-    pub look: Look,
+    pub look: Lookup,
 }
 
 impl RuleFiles {
@@ -48,7 +48,7 @@ impl RuleFiles {
         disk: &D,
         folder: &str,
         pattern: &[u8],
-        looks: &mut Vec<NamedLook>,
+        looks: &mut Vec<NamedLookup>,
     ) -> Result<Option<FaultyFile>, Memory>
         ensures found { IfOk result (λ found.
             FindsOnce D.gives D.lacks folder.now pattern.now found looks.old.items looks.new.items
@@ -75,8 +75,8 @@ impl RuleFiles {
         disk: &D,
         name: &[u8],
         path: &[u8],
-        looks: &mut Vec<NamedLook>,
-    ) -> Result<Look, Memory>
+        looks: &mut Vec<NamedLookup>,
+    ) -> Result<Lookup, Memory>
         ensures once { IfOk result (λ look.
             LooksOnce D.gives D.lacks name.now path.now look looks.old.items looks.new.items
             (record { tables = self.old.tables.items; paths = self.old.paths.items })
@@ -91,48 +91,48 @@ impl RuleFiles {
         let asked = Vec::from_slice(alloc, name)?;
         let place = looks.len();
         // A place is there before the file is opened, so that memory isn't wanted for it any more.
-        looks.push(NamedLook {
+        looks.push(NamedLookup {
             name: Vec::new(alloc),
-            look: Look::Memory,
+            look: Lookup::Memory,
         })?;
         let look = self.look(alloc, disk, name, path);
-        looks[place] = NamedLook { name: asked, look };
+        looks[place] = NamedLookup { name: asked, look };
         Ok(look)
     }
 
     // What is read at a path, for this name. A good table of that name is put after the others, and the path beside it.
-    fn look<D: WholeFiles>(&mut self, alloc: Global, disk: &D, name: &[u8], path: &[u8]) -> Look
-        ensures { IsLook D.gives D.lacks name.now path.now result
+    fn look<D: WholeFiles>(&mut self, alloc: Global, disk: &D, name: &[u8], path: &[u8]) -> Lookup
+        ensures { IsLookup D.gives D.lacks name.now path.now result
             (record { tables = self.old.tables.items; paths = self.old.paths.items })
             (record { tables = self.new.tables.items; paths = self.new.paths.items }) }
     {
         match found_bytes(disk, path) {
             Ok(Some(bytes)) => self.look_at(alloc, name, path, &bytes),
-            Ok(None) => Look::NoTable,
-            Err(_) => Look::Memory,
+            Ok(None) => Lookup::NoTable,
+            Err(_) => Lookup::Memory,
         }
     }
 
     // What a rule file with this path and these bytes is for this name.
-    fn look_at(&mut self, alloc: Global, name: &[u8], path: &[u8], bytes: &[u8]) -> Look
+    fn look_at(&mut self, alloc: Global, name: &[u8], path: &[u8], bytes: &[u8]) -> Lookup
         ensures { IsLookOf name.now path.now bytes.now result
             (record { tables = self.old.tables.items; paths = self.old.paths.items })
             (record { tables = self.new.tables.items; paths = self.new.paths.items }) }
     {
         match table_named(alloc, name, bytes) {
             Ok(NamedTable::Good(table)) => match self.put(alloc, path, table) {
-                Ok(()) => Look::Found,
-                Err(_) => Look::Memory,
+                Ok(()) => Lookup::Found,
+                Err(_) => Lookup::Memory,
             },
-            Ok(NamedTable::OtherName) => Look::NoTable,
-            Ok(NamedTable::Faulty(fault)) => Look::Faulty(fault),
-            Err(_) => Look::Memory,
+            Ok(NamedTable::OtherName) => Lookup::NoTable,
+            Ok(NamedTable::Faulty(fault)) => Lookup::Faulty(fault),
+            Err(_) => Lookup::Memory,
         }
     }
 }
 
 // What there was for this name, if it was looked for.
-fn look_of(looks: &[NamedLook], name: &[u8]) -> Option<Look>
+fn look_of(looks: &[NamedLookup], name: &[u8]) -> Option<Lookup>
     ensures { result ≡ look_of looks.now name.now }
 {
     'looks: for found in looks {
@@ -144,13 +144,13 @@ fn look_of(looks: &[NamedLook], name: &[u8]) -> Option<Look>
 }
 
 // The rule file at this path with this name, where it is faulty.
-fn told(alloc: Global, name: &[u8], path: &[u8], look: Look) -> Result<Option<FaultyFile>, Memory>
+fn told(alloc: Global, name: &[u8], path: &[u8], look: Lookup) -> Result<Option<FaultyFile>, Memory>
     ensures told { IfOk result (IsTold name.now path.now look) }
     ensures err { OnErr result (look ≢ look_kind.Found) }
 {
     match look {
-        Look::Found | Look::NoTable => Ok(None),
-        Look::Faulty(fault) => Ok(Some(FaultyFile::new(alloc, name, path, fault)?)),
-        Look::Memory => Err(Memory),
+        Lookup::Found | Lookup::NoTable => Ok(None),
+        Lookup::Faulty(fault) => Ok(Some(FaultyFile::new(alloc, name, path, fault)?)),
+        Lookup::Memory => Err(Memory),
     }
 }

@@ -9,7 +9,7 @@ use Rattle.ca_plane.proofs.Shifts.{cell-shifted}
 use Rattle.ca_quad.specs.declared.{node.Node.Node, tree.Tree.Tree}
 use Rattle.ca_quad.specs.Prelude.{IsDead}
 use Rattle.ca_quad.specs.Trees as trees
-use Rattle.ca_work.specs.declared.fault.LeapFault.{LeapFault}
+use Rattle.ca_budget.specs.declared.fault.LeapFault.{LeapFault}
 use Rattle.ca_plane.proofs.After.{after_same}
 use Rattle.ca_text.specs.declared.kind.Kind.TheVariants as kind
 use Rattle.ca_identify.specs.declared.identification.{ending.Ending.Ending, ending.Recurrence.Recurrence, stage.First.First, stage.Stage.Stage}

@@ -3,9 +3,9 @@ use Rattle.std.proofs.Common.{◌≡◌, ℕ, ◌≤◌, min, max, Result, sym, 
 use Rattle.std.specs.Prelude.{IfErr}
 use Rattle.std.specs.Result.{IsErrAnd}
 use Rattle.std.proofs.lemmas.Result.{err_from_is_err_and}
-use Rattle.ca_work.specs.Prelude.{Spent, Spends, EndsAtLimit}
-use Rattle.ca_work.specs.declared.fault.LeapFault.{LeapFault}
-use Rattle.ca_work.specs.declared.fault.LeapFault.TheVariants.{Work}
+use Rattle.ca_budget.specs.Prelude.{Spent, Spends, EndsAtLimit}
+use Rattle.ca_budget.specs.declared.fault.LeapFault.{LeapFault}
+use Rattle.ca_budget.specs.declared.fault.LeapFault.TheVariants.{Work}
 use Rattle.ca_identify.specs.inner.Stages.{EndsAfter}
 
 module _ {T : Type 0} (r : Result T LeapFault) (fault : LeapFault) (passed : IsErrAnd r (λ given. given ≡ fault)) where

@@ -15,7 +15,7 @@ use Rattle.ca_quad.proofs.Reach.{tree_holds}
 use Rattle.ca_quad.proofs.Shifts.{some_level}
 use Rattle.ca_quad.proofs.Trims.{trees_stay}
 use Rattle.ca_plane.proofs.After.{after_same, after_again}
-use Rattle.ca_work.proofs.Powers.{power_more, power_suc}
+use Rattle.ca_budget.proofs.Powers.{power_more, power_suc}
 use Rattle.ca_pattern.specs.Prelude.{run_work, IsWithinPlane, IsWideBox, IsStart, IsLaterTree}
 use Rattle.ca_identify.specs.declared.identification.{ending.Ending.Ending, stage.First.First, walk.Walk.Walk}
 use Rattle.ca_identify.specs.declared.identification.stage.Stage.TheVariants.{Other}

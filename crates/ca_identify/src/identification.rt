@@ -4,7 +4,7 @@ ghost use Rattle.std.specs.Prelude.{◌≤◌, IfOk, IfErr};
 ghost use Rattle.ca_plane.specs.Prelude.{Picture, cells_after, longest_period, most_generations};
 ghost use Rattle.ca_quad.specs.Prelude.{cell};
 ghost use Rattle.ca_run.specs.Prelude.{LeaperGrows};
-ghost use Rattle.ca_work.specs.Prelude.{EndsAtLimit};
+ghost use Rattle.ca_budget.specs.Prelude.{EndsAtLimit};
 ghost use Rattle.ca_answers.specs.Prelude.{IsLookAt, IsUnidentifiedAfter};
 ghost use Rattle.ca_pattern.specs.Prelude.{AreGoodLimits, ShowsTree, IsPattern, IsStart};
 ghost use Rattle.ca_identify.specs.TreeLooks.{IsTreeLook, TakesRunAndSearch, TakesRunAndLook};

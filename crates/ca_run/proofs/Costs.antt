@@ -7,9 +7,9 @@ use Rattle.ca_quad.specs.Prelude.{IsSoundStore}
 use Rattle.ca_run.specs.Prelude.{LeaperView, Costs}
 use Rattle.ca_run.specs.inner.AtCost.{GoesOnAtCost, SpendsAtMost}
 use Rattle.ca_run.proofs.LeaperGrowth.{goes_on_same, goes_on_again}
-use Rattle.ca_work.specs.Prelude.{Spent}
-use Rattle.ca_work.proofs.Spent.{spends_same, spends_again}
-use Rattle.ca_work.proofs.Powers.{power_suc, power_some, power_more}
+use Rattle.ca_budget.specs.Prelude.{Spent}
+use Rattle.ca_budget.proofs.Spent.{spends_same, spends_again}
+use Rattle.ca_budget.proofs.Powers.{power_suc, power_some, power_more}
 
 module _ {Rule : Type 0} where
   -- one call after another

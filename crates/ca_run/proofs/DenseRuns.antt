@@ -10,15 +10,15 @@ use Rattle.ca_quad.specs.Prelude.{IsSoundStore, Grows, IsTree, cell, IsTrimmed}
 use Rattle.ca_quad.proofs.Cells.{of_stays}
 use Rattle.ca_quad.proofs.Growth.{grows_same}
 use Rattle.ca_run.specs.declared.leaper.dense.ReachedTree.{ReachedTree}
-use Rattle.ca_work.specs.declared.fault.LeapFault.{LeapFault}
+use Rattle.ca_budget.specs.declared.fault.LeapFault.{LeapFault}
 use Rattle.ca_run.specs.Prelude.{IsAdvanced, Costs, LeaperView}
-use Rattle.ca_work.specs.Prelude.{Spent}
+use Rattle.ca_budget.specs.Prelude.{Spent}
 use Rattle.ca_run.specs.inner.OwnStore.{IsCopyOfTree}
 use Rattle.ca_run.specs.inner.AtCost.{GoesOnAtCost, SpendsAtMost}
 use Rattle.ca_run.specs.inner.Dense.{HasReached, IsIdle, IsDense, HasLeapt, HasParted}
 use Rattle.ca_plane.proofs.After.{after_same, after_again}
 use Rattle.ca_run.proofs.Costs.{costs_then, costs_more, at_cost_more, at_both_costs, one_more, six_digits, grids_cost, dense_cost, countable_one}
-use Rattle.ca_work.proofs.Powers.{power_more, power_suc, countable_cost}
+use Rattle.ca_budget.proofs.Powers.{power_more, power_suc, countable_cost}
 use Rattle.ca_run.proofs.Levels.{low_stays, later_level, trimmed_low}
 use Rattle.ca_run.proofs.Trees.{tree_stays}
 

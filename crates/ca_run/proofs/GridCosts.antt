@@ -4,7 +4,7 @@ use Rattle.std.proofs.Math.Nat.{mul-le-mul, mul-le-mul_left, mul_left_comm}
 use Rattle.ca_run.specs.Prelude.{LeaperView}
 use Rattle.ca_run.specs.inner.AtCost.{GoesOnAtCost}
 use Rattle.ca_run.proofs.Costs.{at_cost_more, at_both_costs, at_paid_cost}
-use Rattle.ca_work.proofs.Powers.{power_suc, power_some}
+use Rattle.ca_budget.proofs.Powers.{power_suc, power_some}
 
 -- the four parts of a square, and a unit for each
 pub four_of_each : (n g : ℕ) → 1 ≤ n → 4 + 4 * (n * 14 ^ g) ≤ n * 14 ^ suc g

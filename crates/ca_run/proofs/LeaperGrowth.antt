@@ -2,7 +2,7 @@
 use Rattle.std.proofs.Common.{refl, ◌∙◌}
 use Rattle.ca_quad.specs.Prelude.{IsSoundStore}
 use Rattle.ca_quad.proofs.Growth.{grows_on, grows_same}
-use Rattle.ca_work.proofs.Spent.{spends_again, spends_same}
+use Rattle.ca_budget.proofs.Spent.{spends_again, spends_same}
 use Rattle.ca_run.specs.Prelude.{LeaperView, LeaperGrows}
 
 -- one call after another

@@ -13,7 +13,7 @@ use Rattle.ca_run.specs.inner.Beyond.{IsBeyond, DiesBeyond}
 use Rattle.ca_run.specs.Prelude.{Costs, LeaperView}
 use Rattle.ca_run.specs.inner.Dense.{IsLow, HasLeapt}
 use Rattle.ca_run.proofs.Costs.{costs_then, costs_more, digit_below, rising_cost, level_cost, first_digits, all_digits}
-use Rattle.ca_work.proofs.Powers.{power_more}
+use Rattle.ca_budget.proofs.Powers.{power_more}
 use Rattle.ca_run.proofs.Trees.{tree_dies, later_dies, powers_fit}
 
 -- what isn't beyond half the side of a level lies within it

@@ -6,10 +6,10 @@ use Rattle.ca_quad.proofs.Firsts.{firsts_sound}
 use Rattle.ca_quad.proofs.Growth.{grows_same}
 use Rattle.ca_run.specs.Prelude.{LeaperView, LeaperGrows}
 use Rattle.ca_run.specs.declared.leaper.dense.ReachedTree.{ReachedTree}
-use Rattle.ca_work.specs.declared.pace.Pace.{Pace}
+use Rattle.ca_budget.specs.declared.pace.Pace.{Pace}
 use Rattle.ca_run.specs.inner.OwnStore.{KeepsOn, IsNearer}
-use Rattle.ca_work.specs.Prelude.{tries, most_tries}
-use Rattle.ca_work.proofs.Spent.{spends_again}
+use Rattle.ca_budget.specs.Prelude.{tries, most_tries}
+use Rattle.ca_budget.proofs.Spent.{spends_again}
 
 module _ {Rule : Type 0} where
   -- one call after another

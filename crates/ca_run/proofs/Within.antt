@@ -2,8 +2,8 @@
 use Rattle.std.proofs.Common.{◌≡◌, ℕ, ◌<◌, ◌≤◌, min, max, List, Option, None, Some, Result, Ok, Err, refl, sym, ap, subst, arith}
 use Rattle.std.proofs.lemmas.Option.{none-some}
 use Rattle.ca_quad.specs.declared.tree.Tree.{Tree}
-use Rattle.ca_work.specs.declared.fault.LeapFault.{LeapFault}
-use Rattle.ca_work.specs.declared.fault.LeapFault.TheVariants.{Memory, Work}
+use Rattle.ca_budget.specs.declared.fault.LeapFault.{LeapFault}
+use Rattle.ca_budget.specs.declared.fault.LeapFault.TheVariants.{Memory, Work}
 use Rattle.ca_run.specs.Advanced.{Advances, AdvancesWithin}
 use Rattle.ca_run.specs.Prelude.{IsAdvanced, LeaperView, LeaperGrows, Costs}
 use Rattle.ca_run.specs.inner.AtCost.{limited}

@@ -3,9 +3,9 @@ use Rattle.std.specs.Prelude.{◌≡◌, ℕ, ◌+◌, ◌*◌, ◌<◌, ◌≤�
 use Rattle.ca_plane.specs.Prelude.{cells_after, most_generations}
 use Rattle.ca_quad.specs.declared.{node.Node.Node, tree.Tree.Tree}
 use Rattle.ca_quad.specs.Prelude.{IsTree, cell}
-use Rattle.ca_work.specs.declared.fault.LeapFault.{LeapFault}
+use Rattle.ca_budget.specs.declared.fault.LeapFault.{LeapFault}
 use Rattle.ca_run.specs.Leaping.{Costs, LeaperView, LeaperGrows}
-use Rattle.ca_work.specs.Prelude.{Spent, EndsAtLimit}
+use Rattle.ca_budget.specs.Prelude.{Spent, EndsAtLimit}
 
 -- a tree that can be advanced by n generations: of at most 2^64 cells a side, by at most 2^60 generations
 pub record CanAdvance (nodes : List Node) (tree : Tree) (n : ℕ) : Type 0 where

@@ -2,7 +2,7 @@
 use Rattle.std.specs.Prelude.{◌≡◌, ℕ, ◌+◌, ◌*◌, ◌≤◌, List, length}
 use Rattle.ca_quad.specs.declared.node.Node.{Node}
 use Rattle.ca_quad.specs.Prelude.{Grows}
-pub use Rattle.ca_work.specs.Spending.{Spent, Spends, EndsAtLimit}
+pub use Rattle.ca_budget.specs.Spending.{Spent, Spends, EndsAtLimit}
 
 -- a rule, the squares of a store, how many entries the memo and its two tables may have together, and the work that was done
 -- and may be

@@ -4,7 +4,7 @@ ghost use Rattle.std.specs.Prelude.{◌≡◌, ℕ, suc, ◌+◌, ◌≤◌, ◌
 ghost use Rattle.ca_quad.specs.Prelude.{IsOf, one_cell, joined_cells, IsSoundStore, AreFour, ShowsSquare};
 ghost use Rattle.ca_run.specs.Centre.{IsCentre, IsLeap};
 ghost use Rattle.ca_run.specs.Leaping.{LeaperGrows};
-ghost use Rattle.ca_work.specs.Prelude.{EndsAtLimit};
+ghost use Rattle.ca_budget.specs.Prelude.{EndsAtLimit};
 ghost use Rattle.ca_run.specs.inner.AtCost.{GoesOnAtCost, limited};
 ghost use Rattle.ca_bricks.specs.Prelude.{GoesByCells};
 ghost use Rattle.ca_run.specs.inner.Shown.{ShowsAt, FourShow};
@@ -33,7 +33,7 @@ use ca_bricks::CellRule;
 use ca_memo::{Memo, Slots, slot_count};
 use ca_plane::{Automaton, Memory};
 use ca_quad::{Id, Store};
-use ca_work::{LeapFault, Work};
+use ca_budget::{LeapFault, Work};
 pub(crate) use from_grid::SquareGrid;
 pub use milestone::Milestone;
 use std::alloc::Global;

@@ -11,9 +11,9 @@ use Rattle.ca_text.specs.declared.both.Both.{Both}
 use Rattle.ca_text.specs.Prelude.{Claim}
 use Rattle.ca_answers.specs.declared.{verdict.Answer.Answer, note.Note.Note}
 use Rattle.ca_answers.specs.Prelude.{SuppliedFiles, AreWithinWork, IsWithinWork, AreTrueAnswers, IsTrueAnswer, IsNote, HasItsNote, Judging, JudgesAndNotes}
-use Rattle.ca_verdict_lines.specs.declared.finding.{ReportStyle.ReportStyle, Finding.Finding}
-use Rattle.ca_verdict_lines.specs.Prelude.{answer_line, answer_lines, note_text, second_line, verdict_remedy_line, last_line, finding_text, findings_text, status_of, answers_of, AreTrueNotes}
-use Rattle.ca_verdict_lines.specs.Prelude.{AreFindings, IsPlainReport, IsReport, IsReportOnFirst}
+use Rattle.ca_verify_lines.specs.declared.finding.{ReportStyle.ReportStyle, Finding.Finding}
+use Rattle.ca_verify_lines.specs.Prelude.{answer_line, answer_lines, note_text, second_line, verdict_remedy_line, last_line, finding_text, findings_text, status_of, answers_of, AreTrueNotes}
+use Rattle.ca_verify_lines.specs.Prelude.{AreFindings, IsPlainReport, IsReport, IsReportOnFirst}
 use Rattle.ca_tool.specs.inner.Judged.{WereJudged, NoneLeft, IsReportUpTo, IsReportPart, WereAllJudged}
 use Rattle.ca_plane.proofs.Elements.{all_append}
 

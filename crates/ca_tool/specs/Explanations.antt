@@ -8,7 +8,7 @@ use Rattle.ca_report.specs.declared.{detailed_fault.DetailedFault.DetailedFault 
 use Rattle.ca_report.specs.declared.fault.ToolFault.TheVariants as tools
 use Rattle.ca_tool.specs.declared.explanation.RunFiles.{RunFiles}
 use Rattle.ca_report.specs.Prelude.{run_remedy, remedy_line, begins, file_word, pattern_line, rule_file_line}
-use Rattle.ca_catalog.specs.Prelude.{is_claim_path}
+use Rattle.ca_identify_lines.specs.Prelude.{is_claim_path}
 
 -- the line that explains a fault of a run over a pattern file: it names the rule file or the pattern file, with what is known of the fault. A fault
 -- that names its file, or is about none, has no such line

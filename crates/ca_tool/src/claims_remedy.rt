@@ -4,7 +4,7 @@ ghost use Rattle.std.specs.Prelude.{◌≡◌};
 ghost use Rattle.ca_tool.specs.Explanations.{seems_pattern, claims_remedy_line};
 ghost use Rattle.ca_report.specs.Prelude.{Sends, pieces_text};
 
-use ca_catalog::is_claim_path;
+use ca_identify_lines::is_claim_path;
 use ca_pattern::File;
 use ca_plane::{Dev, WriteFault};
 use ca_report::{NOTHING, Piece, file_word, in_pieces, send_pieces};

@@ -4,7 +4,7 @@ ghost use Rattle.std.specs.Prelude.{MatchOption, ◌∷◌, []};
 ghost use Rattle.ca_answers.specs.Prelude.{contents, IsDone};
 ghost use Rattle.ca_pattern.specs.Prelude.{AreGoodLimits};
 ghost use Rattle.ca_report.specs.Prelude.{WritesOneOf};
-ghost use Rattle.ca_verdict_lines.specs.Prelude.{all_claims, IsReport, NeedsMemory, WritesReport, WritesPlainReport};
+ghost use Rattle.ca_verify_lines.specs.Prelude.{all_claims, IsReport, NeedsMemory, WritesReport, WritesPlainReport};
 ghost use Rattle.ca_tool.specs.inner.Judged.{WereJudged, IsReportPart, WereAllJudged};
 
 use ca_evolution::Observer;
@@ -13,7 +13,7 @@ use ca_plane::Dev;
 use ca_report::ToolFault;
 use ca_run::Unwatched;
 use ca_text::Claims;
-use ca_verdict_lines::{Finding, ReportStyle, remember_note, send_finding, worse_status};
+use ca_verify_lines::{Finding, ReportStyle, remember_note, send_finding, worse_status};
 use ca_verify::Judge;
 use std::alloc::Global;
 use std::io::Write;

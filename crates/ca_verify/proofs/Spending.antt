@@ -4,8 +4,8 @@ use Rattle.std.proofs.Math.Nat.{mul-le-mul_left, mul-le-mul_right, two-pow-succ}
 use Rattle.ca_plane.specs.Prelude.{most_generations, Picture, cell}
 use Rattle.ca_quad.specs.declared.{node.Node.Node, tree.Tree.Tree}
 use Rattle.ca_quad.specs.Prelude.{IsTrimmed}
-use Rattle.ca_work.specs.Prelude.{Spent}
-use Rattle.ca_work.proofs.Powers.{power_more}
+use Rattle.ca_budget.specs.Prelude.{Spent}
+use Rattle.ca_budget.proofs.Powers.{power_more}
 use Rattle.ca_text.specs.declared.asks.{Asks.Asks, Forbidden.Forbidden}
 use Rattle.ca_text.specs.declared.asks.Forbidden.TheVariants.{Nothing, InPlace, Anywhere, EmptyPlane}
 use Rattle.ca_answers.specs.Prelude.{most_runs, IsNoMoreThan, MayBeUsedUp}

@@ -4,8 +4,8 @@ ghost use Rattle.std.specs.Prelude.{◌≡◌, ◌≢◌, ◌⊎◌, ℤ, None, 
 ghost use Rattle.ca_plane.specs.Prelude.{Picture, cell as plane_cell, after, IsAfter};
 ghost use Rattle.ca_quad.specs.Prelude.{IsDead, IsSoundStore, cell};
 ghost use Rattle.ca_run.specs.Prelude.{LeaperGrows};
-ghost use Rattle.ca_work.specs.Prelude.{EndsAtLimit};
-ghost use Rattle.ca_work.specs.declared.fault.LeapFault.TheVariants as leap_fault;
+ghost use Rattle.ca_budget.specs.Prelude.{EndsAtLimit};
+ghost use Rattle.ca_budget.specs.declared.fault.LeapFault.TheVariants as leap_fault;
 ghost use Rattle.ca_answers.specs.Prelude.{most_runs, IsNoMoreThan, IsReason};
 ghost use Rattle.ca_text.specs.Prelude.{IsShift, claimed_cells, IsTrueClaim};
 ghost use Rattle.ca_answers.specs.declared.cause.Cause.TheVariants.{Work, Memory as NoMemory};

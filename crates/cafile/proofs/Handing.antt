@@ -6,8 +6,8 @@ use Rattle.std.proofs.lemmas.List.Elements.{filter_map-append}
 use Rattle.ca_plane.specs.Prelude.{Counted}
 use Rattle.ca_report.specs.declared.fault.ToolFault.{ToolFault}
 use Rattle.ca_report.specs.declared.fault.ToolFault.TheVariants.{Memory}
-use Rattle.ca_catalog.specs.declared.{known_rules.KnownRules.KnownRules, task.Task.Task, entry.Subject.Subject, entry.Entry.Entry}
-use Rattle.ca_catalog.specs.Prelude.{WritesCatalog, EndsCatalog}
+use Rattle.ca_identify_lines.specs.declared.{known_rules.KnownRules.KnownRules, task.Task.Task, entry.Subject.Subject, entry.Entry.Entry}
+use Rattle.ca_identify_lines.specs.Prelude.{WritesCatalog, EndsCatalog}
 use Rattle.ca_host.specs.declared.{rules.RuleFiles.RuleFiles}
 use Rattle.cafile.specs.declared.identify.PathContent.{PathContent}
 use Rattle.cafile.specs.Contents.{GivenAt, read_at}

@@ -3,8 +3,8 @@ use Rattle.std.specs.Prelude.{ℕ, List, Option, None, Some}
 use Rattle.ca_answers.specs.declared.cause.Cause.{Cause}
 use Rattle.ca_rule.specs.declared.table.fault.TableFault.{TableFault}
 use Rattle.ca_pattern.specs.declared.file.File.{File}
-use Rattle.ca_catalog.specs.declared.{entry.Content.Content, entry.Subject.Subject}
-use Rattle.ca_catalog.specs.declared.entry.Content.TheVariants as handed
+use Rattle.ca_identify_lines.specs.declared.{entry.Content.Content, entry.Subject.Subject}
+use Rattle.ca_identify_lines.specs.declared.entry.Content.TheVariants as handed
 use Rattle.cafile.specs.declared.{identify.FileContent.FileContent, identify.PathContent.PathContent}
 use Rattle.cafile.specs.declared.identify.FileContent.TheVariants as loaded
 

@@ -4,14 +4,14 @@ use Rattle.ca_answers.specs.declared.cause.Cause.TheVariants as cause
 use Rattle.ca_host.specs.Files.{Gives, Lacks}
 use Rattle.ca_host.specs.RuleFiles.{Kept}
 use Rattle.ca_host.specs.Lookups.{FindsOnce, SearchesOn}
-use Rattle.ca_host.specs.declared.lookups.NamedLook.{NamedLook}
+use Rattle.ca_host.specs.declared.lookups.NamedLookup.{NamedLookup}
 use Rattle.cafile.specs.declared.identify.FileContent.{FileContent}
 use Rattle.cafile.specs.declared.identify.FileContent.TheVariants.{Bytes, Missing, FaultyRule}
 use Rattle.cafile.specs.declared.identify.PathContent.{PathContent}
 
 -- the names that were looked for so far, with what there was for each, and the rule files
 pub record Search : Type 0 where
-  pub looks : List NamedLook
+  pub looks : List NamedLookup
   pub rules : Kept
 
 -- what stands in place of what a file gave once the rule file of its pattern was looked for: nothing, where that is good, isn't there or isn't needed; the rule file, where it is faulty; or want of memory
@@ -40,4 +40,4 @@ FindsEach gives lacks folder olds news was is = ⊥
 -- the same from when no name was looked for
 abbrev pub FindsRules : Gives → Lacks → (folder : List ℕ) → (olds news : List PathContent) → (old new : Kept) → Type 0
 FindsRules gives lacks folder olds news old new =
-    (looks : List NamedLook) × FindsEach gives lacks folder olds news (record { looks = []; rules = old }) (record { looks = looks; rules = new })
+    (looks : List NamedLookup) × FindsEach gives lacks folder olds news (record { looks = []; rules = old }) (record { looks = looks; rules = new })

@@ -1,9 +1,9 @@
 -- The folder of rules that is looked at before anything else.
 use Rattle.std.specs.Prelude.{ℕ, List, Bool, true, Option, None, Some, if◌then◌else◌}
-use Rattle.ca_catalog.specs.Prelude.{is_claim_path}
-use Rattle.ca_words.specs.Folders.{folder_of_rules}
-use Rattle.ca_words.specs.declared.request.Request.{Request}
-use Rattle.ca_words.specs.declared.request.Request.TheVariants.{Identify, Census}
+use Rattle.ca_identify_lines.specs.Prelude.{is_claim_path}
+use Rattle.ca_cli.specs.Folders.{folder_of_rules}
+use Rattle.ca_cli.specs.declared.request.Request.{Request}
+use Rattle.ca_cli.specs.declared.request.Request.TheVariants.{Identify, Census}
 
 -- whether a path is refused where it isn't that of a folder: where a claim text is written, only if it can name it
 abbrev pub has_to_be_folder : Request → List ℕ → Bool

@@ -2,8 +2,8 @@
 use Rattle.std.specs.Prelude.{◌≡◌, ℕ, ◌+◌, ◌*◌, ◌-◌, min, Option, None, Some, option_map, String, string_bytes}
 use Rattle.std.specs.declared.alloc.Global.{Global}
 use Rattle.ca_plane.specs.Prelude.{longest_period, most_generations}
-use Rattle.ca_words.specs.Words.{memo_of, work_of, generations_of}
-use Rattle.ca_words.specs.declared.commands.{census.CensusSearch.CensusSearch, pattern.PatternExtras.PatternExtras}
+use Rattle.ca_cli.specs.Words.{memo_of, work_of, generations_of}
+use Rattle.ca_cli.specs.declared.commands.{census.CensusSearch.CensusSearch, pattern.PatternExtras.PatternExtras}
 use Rattle.ca_census.specs.declared.reach.Reach.{Reach}
 use Rattle.ca_census_runs.specs.declared.task.CensusTask.{CensusTask}
 

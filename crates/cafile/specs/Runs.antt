@@ -2,10 +2,10 @@
 use Rattle.std.specs.Prelude.{◌≡◌, ℕ, map, List, Option}
 use Rattle.ca_plane.specs.Prelude.{Counted}
 use Rattle.ca_report.specs.declared.fault.ToolFault.{ToolFault}
-use Rattle.ca_catalog.specs.declared.{known_rules.KnownRules.KnownRules, task.Task.Task, entry.Subject.Subject, entry.Entry.Entry}
-use Rattle.ca_catalog.specs.Prelude.{WritesCatalog, EndsCatalog}
-use Rattle.ca_words.specs.Words.{memo_of, work_of, generations_of}
-use Rattle.ca_words.specs.declared.commands.{identify.Search.Search, pattern.PatternExtras.PatternExtras}
+use Rattle.ca_identify_lines.specs.declared.{known_rules.KnownRules.KnownRules, task.Task.Task, entry.Subject.Subject, entry.Entry.Entry}
+use Rattle.ca_identify_lines.specs.Prelude.{WritesCatalog, EndsCatalog}
+use Rattle.ca_cli.specs.Words.{memo_of, work_of, generations_of}
+use Rattle.ca_cli.specs.declared.commands.{identify.Search.Search, pattern.PatternExtras.PatternExtras}
 use Rattle.ca_host.specs.declared.{rules.RuleFiles.RuleFiles}
 use Rattle.cafile.specs.declared.identify.PathContent.{PathContent}
 use Rattle.cafile.specs.Scopes.{scope_of}

@@ -4,7 +4,7 @@ use Rattle.std.specs.Option.{option_or}
 use Rattle.ca_quad.specs.declared.tree.Spot.{Spot}
 use Rattle.ca_draw.specs.declared.{drawing.ImageFormat.ImageFormat, view.Size.Size, view.View.View}
 use Rattle.ca_draw.specs.declared.drawing.ImageFormat.TheVariants.{Text, Pgm}
-use Rattle.ca_words.specs.Words.{IsNumberText}
+use Rattle.ca_cli.specs.Words.{IsNumberText}
 
 -- the word is `count` columns or lines: a number above 0
 abbrev pub IsCountText : List ℕ → ℕ → Type 0

@@ -19,7 +19,7 @@ use ca_host::{Heading, Progress, RuleFiles, Streams};
 use ca_plane::Memory;
 use ca_plane::limits::{LONGEST_PERIOD, MOST_GENERATIONS};
 use ca_tool::{Catalog, Fault, KnownRules, ToolFault, complain, complain_with_path};
-use ca_words::{CensusSearch, PatternExtras};
+use ca_cli::{CensusSearch, PatternExtras};
 use std::rt::{Clock, Files};
 
 /// Takes the census of the pattern files of these paths, writes what each settles into, and answers the exit status.

@@ -4,7 +4,7 @@ ghost use Rattle.cafile.specs.FolderRules.{FindsRules, FindsRule, IsFailure};
 
 use crate::identify::{FileContent, PathContent};
 use ca_answers::Cause;
-use ca_host::{NamedLook, RuleFiles, WholeFiles};
+use ca_host::{NamedLookup, RuleFiles, WholeFiles};
 use std::alloc::Global;
 
 /// Looks in a folder for the rule files of those patterns whose rules aren't known, for one after the other, and reads
@@ -35,7 +35,7 @@ fn find_rule<D: WholeFiles>(
     folder: &str,
     file: &mut PathContent<'_>,
     rules: &mut RuleFiles,
-    looks: &mut Vec<NamedLook>,
+    looks: &mut Vec<NamedLookup>,
 )
     ensures { FindsRule D.gives D.lacks folder.now file.old file.new
         (record {
@@ -60,7 +60,7 @@ fn rule_failure<D: WholeFiles>(
     folder: &str,
     content: &FileContent,
     rules: &mut RuleFiles,
-    looks: &mut Vec<NamedLook>,
+    looks: &mut Vec<NamedLookup>,
 ) -> Option<FileContent>
     ensures { IsFailure D.gives D.lacks folder.now content.now result
         (record {

@@ -4,7 +4,7 @@ ghost use Rattle.std.specs.Prelude.{◌≡◌, ◌≢◌, ◌≤◌, ◌⊎◌, 
 ghost use Rattle.std.specs.List.{filter_map};
 ghost use Rattle.ca_plane.specs.Prelude.{longest_period, most_generations};
 ghost use Rattle.ca_pattern.specs.Prelude.{AreGoodLimits};
-ghost use Rattle.ca_catalog.specs.Prelude.{is_claim_path};
+ghost use Rattle.ca_identify_lines.specs.Prelude.{is_claim_path};
 ghost use Rattle.cafile.specs.Scopes.{scope_of};
 ghost use Rattle.cafile.specs.Contents.{loaded_at, handed_at, file_at, read_at};
 ghost use Rattle.cafile.specs.Runs.{IsTask, WritesClaims, EndsClaims};
@@ -15,7 +15,7 @@ use crate::FAULT;
 use crate::folder_rules::find_rules;
 use crate::ties::tell_ties;
 use ca_answers::{Cause, Scope};
-use ca_catalog_runs::identify_run;
+use ca_identify_runs::identify_run;
 use ca_evolution::Observer;
 use ca_host::{FaultyFile, Heading, Progress, RuleFiles, Streams, read_file};
 use ca_pattern::File;
@@ -26,7 +26,7 @@ use ca_tool::{
     Catalog, Content, Fault, InputFault, KnownRules, RunFiles, Subject, Task, ToolFault, complain,
     explain, has_explanation, is_claim_path,
 };
-use ca_words::{PatternExtras, Search};
+use ca_cli::{PatternExtras, Search};
 use std::alloc::Global;
 use std::io::Write;
 use std::rt::{Clock, Files};

@@ -3,8 +3,8 @@
 ghost use Rattle.std.specs.Prelude.{◌≡◌, ◌++◌, [], codes, IfOk, OnErr, IsTrue, if◌then◌else◌};
 ghost use Rattle.ca_report.specs.Prelude.{escaped};
 ghost use Rattle.ca_answers.specs.Prelude.{contents};
-ghost use Rattle.ca_verdict_lines.specs.Prelude.{all_claims, WritesReport};
-ghost use Rattle.ca_words.specs.Words.{work_of};
+ghost use Rattle.ca_verify_lines.specs.Prelude.{all_claims, WritesReport};
+ghost use Rattle.ca_cli.specs.Words.{work_of};
 
 use crate::FAULT;
 use crate::named_rules::with_named_rules;
@@ -22,7 +22,7 @@ use ca_tool::{
     Fault, InputFault, ReportStyle, ToolFault, complain, complain_with_path, explain_claims,
     push_escaped, verify_watched,
 };
-use ca_words::{Extras, Folders};
+use ca_cli::{Extras, Folders};
 use std::alloc::Global;
 use std::io::Write;
 use std::rt::{Clock, Files};

@@ -3,7 +3,7 @@
 ghost use Rattle.std.specs.Prelude.{◌≡◌, ◌≤◌, [], unwrap_or, option_map, string_bytes};
 ghost use Rattle.ca_plane.specs.Prelude.{most_generations};
 ghost use Rattle.ca_pattern.specs.Prelude.{AreGoodLimits};
-ghost use Rattle.ca_words.specs.Words.{memo_of, work_of, generations_of};
+ghost use Rattle.ca_cli.specs.Words.{memo_of, work_of, generations_of};
 
 use crate::FAULT;
 use crate::terminal::{on_terminal, terminal_room};
@@ -18,7 +18,7 @@ use ca_tool::{
     Evolution, Fault, FaultyRule, Form, FormText, InputFault, RunFiles, ToolFault, complain,
     explain, form_text, has_explanation, read_all, write_form,
 };
-use ca_words::PatternExtras;
+use ca_cli::PatternExtras;
 use std::io::IsTerminal;
 use std::rt::{Clock, Env, Files, Stdin, Stdout};
 

@@ -8,10 +8,10 @@ use crate::import_complaint::complain_of_import;
 use crate::{FAULT, write_text};
 use ca_host::{Streams, read_source};
 use ca_import::{ImportTextFault, import_text};
-use ca_isotropic::{RuleFileFault, rule_file};
+use ca_rule_files::{RuleFileFault, rule_file};
 use ca_pattern::ConvertFault;
 use ca_tool::{Fault, ToolFault, complain};
-use ca_words::ImportWords;
+use ca_cli::ImportWords;
 use std::alloc::Global;
 use std::rt::Files;
 

@@ -2,7 +2,7 @@
 use Rattle.std.specs.Prelude.{◌≡◌, ◌+◌, ◌<◌, ◌≤◌, ℕ, List, [], ◌∷◌, ◌++◌, ⊤}
 use Rattle.ca_plane.specs.Prelude.{longest_period, most_generations}
 use Rattle.ca_pattern.specs.Prelude.{AreGoodLimits}
-use Rattle.ca_catalog.specs.declared.{entry.Subject.Subject, known_rules.KnownRules.KnownRules}
+use Rattle.ca_identify_lines.specs.declared.{entry.Subject.Subject, known_rules.KnownRules.KnownRules}
 use Rattle.ca_census.specs.Prelude.{IsFileable}
 use Rattle.ca_census_files.specs.declared.files.FilesFault.{FilesFault}
 use Rattle.ca_census_files.specs.declared.files.FilesFault.TheVariants.{Memory}

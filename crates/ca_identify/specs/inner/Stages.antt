@@ -12,9 +12,9 @@ use Rattle.ca_identify.specs.declared.identification.strides.Stride.TheVariants.
 use Rattle.ca_answers.specs.declared.identity.Growth.{Growth}
 use Rattle.ca_answers.specs.Prelude.{IsGrowth}
 use Rattle.ca_evolution.specs.Prelude.{step_work}
-use Rattle.ca_work.specs.Prelude.{Spent}
-use Rattle.ca_work.specs.declared.fault.LeapFault.{LeapFault}
-use Rattle.ca_work.specs.declared.fault.LeapFault.TheVariants.{Work}
+use Rattle.ca_budget.specs.Prelude.{Spent}
+use Rattle.ca_budget.specs.declared.fault.LeapFault.{LeapFault}
+use Rattle.ca_budget.specs.declared.fault.LeapFault.TheVariants.{Work}
 use Rattle.ca_text.specs.Prelude.{IsShift, IsChanged, IsNowhere}
 use Rattle.ca_pattern.specs.Prelude.{IsBroad, IsWide, ShowsTree, HasLive, IsStart, IsLaterTree}
 use Rattle.ca_pattern.specs.inner.LifeSpans.{IsLifeSpan}

@@ -5,7 +5,7 @@ ghost use Rattle.std.specs.Prelude.{◌≡◌, ◌+◌, ◌≤◌, ℕ, None, If
 ghost use Rattle.ca_plane.specs.Prelude.{Picture, cells_after};
 ghost use Rattle.ca_quad.specs.Prelude.{cell};
 ghost use Rattle.ca_run.specs.Prelude.{LeaperGrows};
-ghost use Rattle.ca_work.specs.Prelude.{EndsAtLimit};
+ghost use Rattle.ca_budget.specs.Prelude.{EndsAtLimit};
 ghost use Rattle.ca_answers.specs.Prelude.{IsIdentity, IsLook};
 ghost use Rattle.ca_identify.specs.inner.Stages.{CanSearch, CanLookOn, IsHalted, TakesSearch, TakesSearchFrom};
 ghost use Rattle.ca_pattern.specs.Prelude.{ShowsTree};

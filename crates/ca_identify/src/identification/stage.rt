@@ -3,7 +3,7 @@
 ghost use Rattle.std.specs.Prelude.{◌≡◌, ℕ, ℤ, IfOk, IsFalse, OnOk, MatchOption};
 ghost use Rattle.ca_quad.specs.Prelude.{IsLeastWideBox, AreSquareBoxes, IsTree, cell};
 ghost use Rattle.ca_run.specs.Prelude.{LeaperGrows};
-ghost use Rattle.ca_work.specs.Prelude.{EndsAtLimit};
+ghost use Rattle.ca_budget.specs.Prelude.{EndsAtLimit};
 ghost use Rattle.ca_pattern.specs.Prelude.{IsNearTree, IsWideBox};
 ghost use Rattle.ca_identify.specs.inner.Stages.{IsFirst, IsFirstBox, IsStage, ending_of, AreMovedNowhere, AreMovedOnlyBy};
 

@@ -1,6 +1,6 @@
 -- What a leaper's calls leave, and at which cost (our own).
 use Rattle.std.specs.Prelude.{ℕ, ◌+◌, ◌≤◌, max}
-use Rattle.ca_work.specs.Prelude.{Spent, Spends}
+use Rattle.ca_budget.specs.Prelude.{Spent, Spends}
 use Rattle.ca_run.specs.Leaping.{LeaperView, LeaperGrows, Costs}
 
 -- what the leaper had stays; at most `units` units of work were done, and at most 4096 squares added for each of them,

@@ -4,7 +4,7 @@ use Rattle.ca_plane.specs.Prelude.{GoesByAgeing, cells_after}
 use Rattle.ca_plane.specs.declared.counting.Ageing.{Ageing}
 use Rattle.ca_quad.specs.declared.{node.Node.Node, tree.Tree.Tree}
 use Rattle.ca_quad.specs.Prelude.{IsTree, cell, HoldsAll}
-use Rattle.ca_work.specs.declared.fault.LeapFault.{LeapFault}
+use Rattle.ca_budget.specs.declared.fault.LeapFault.{LeapFault}
 use Rattle.ca_run.specs.Leaping.{Costs, LeaperView}
 use Rattle.ca_run.specs.declared.leaper.dense.ReachedTree.{ReachedTree}
 

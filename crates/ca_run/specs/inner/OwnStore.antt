@@ -3,9 +3,9 @@ use Rattle.std.specs.Prelude.{◌≡◌, ℤ, ◌<◌, ◌⊎◌, List}
 use Rattle.ca_quad.specs.declared.{node.Node.Node, tree.Tree.Tree}
 use Rattle.ca_quad.specs.Prelude.{IsSoundStore, IsTree, cell}
 use Rattle.ca_run.specs.Leaping.{LeaperView}
-use Rattle.ca_work.specs.Prelude.{Spends, tries, most_tries}
+use Rattle.ca_budget.specs.Prelude.{Spends, tries, most_tries}
 use Rattle.ca_run.specs.declared.leaper.dense.ReachedTree.{ReachedTree}
-use Rattle.ca_work.specs.declared.pace.Pace.{Pace}
+use Rattle.ca_budget.specs.declared.pace.Pace.{Pace}
 
 -- the tree has the level and the cells of a tree of another store
 pub record IsCopyOfTree (old : List Node) (tree : Tree) (new : List Node) (copy : Tree) : Type 0 where

@@ -11,7 +11,7 @@ use crate::watch::Watch;
 use ca_bricks::{AgedGrid, Queue, aged_generation, digit_count, wake_next};
 use ca_plane::{Ageing, Automaton, Memory};
 use ca_quad::Tree;
-use ca_work::{LeapFault, Work};
+use ca_budget::{LeapFault, Work};
 use std::alloc::Global;
 
 impl GridRule for Ageing {

@@ -4,7 +4,7 @@ ghost use Rattle.std.specs.Prelude.{◌≡◌, ℕ, ◌+◌, ◌*◌, ◌≤◌,
 ghost use Rattle.ca_plane.specs.Prelude.{cells_after, most_generations};
 ghost use Rattle.ca_quad.specs.Prelude.{cell};
 ghost use Rattle.ca_bricks.specs.Prelude.{IsBeside};
-ghost use Rattle.ca_work.specs.Prelude.{EndsAtLimit};
+ghost use Rattle.ca_budget.specs.Prelude.{EndsAtLimit};
 ghost use Rattle.ca_run.specs.inner.AtCost.{SpendsAtMost};
 ghost use Rattle.ca_run.specs.inner.Frames.{IsReadByBricks, IsGridFrame, IsFramed, IsNewGrid};
 
@@ -13,7 +13,7 @@ use crate::leaper::{Leaper, SquareGrid};
 use crate::watch::Watch;
 use ca_plane::{Automaton, Memory};
 use ca_quad::Tree;
-use ca_work::{LeapFault, Work};
+use ca_budget::{LeapFault, Work};
 use std::alloc::Global;
 
 /// How trees become grids, and how these are stepped.

@@ -3,7 +3,7 @@
 ghost use Rattle.std.specs.Prelude.{◌≡◌, ◌+◌, ◌<◌, ◌≤◌, ◌^◌, ⊤, length, min, IsOk, IfOk, OnOk};
 ghost use Rattle.std.proofs.Common.{lit≤};
 ghost use Rattle.ca_bricks.specs.Prelude.{GoesByCells};
-ghost use Rattle.ca_work.specs.Prelude.{EndsAtLimit};
+ghost use Rattle.ca_budget.specs.Prelude.{EndsAtLimit};
 ghost use Rattle.ca_run.specs.inner.AtCost.{SpendsAtMost};
 
 use super::{Frame, GridRule};
@@ -12,7 +12,7 @@ use crate::watch::Watch;
 use ca_bricks::{BrickGrid, CellRule, Queue, blank_bricks, first_bricks, generation, wake_next};
 use ca_plane::{Automaton, Memory};
 use ca_quad::Tree;
-use ca_work::{LeapFault, Work};
+use ca_budget::{LeapFault, Work};
 use std::alloc::Global;
 
 // Counts the bricks of a list before they are stepped, but no more than there are.

@@ -4,7 +4,7 @@ ghost use Rattle.std.specs.Prelude.{◌≡◌, ℤ, ◌+◌, ◌<◌, ◌≤◌,
 ghost use Rattle.ca_quad.specs.Prelude.{IsSoundStore, IsTree, cell, IsTrimmed};
 ghost use Rattle.ca_run.specs.Advanced.{CanAdvance, IsAdvanced, Advances, AdvancesWithin};
 ghost use Rattle.ca_run.specs.Leaping.{LeaperGrows};
-ghost use Rattle.ca_work.specs.Prelude.{EndsAtLimit};
+ghost use Rattle.ca_budget.specs.Prelude.{EndsAtLimit};
 ghost use Rattle.ca_run.specs.inner.AtCost.{GoesOnAtCost};
 ghost use Rattle.ca_run.specs.inner.Dense.{HasReached, HasLeapt, HasParted};
 ghost use Rattle.ca_run.specs.inner.Padded.{IsPadded};
@@ -14,7 +14,7 @@ use super::{Leaper, Milestone};
 use crate::watch::{Unwatched, Watch};
 use ca_plane::{Automaton, Memory};
 use ca_quad::Tree;
-use ca_work::{LeapFault, is_long, room_beside};
+use ca_budget::{LeapFault, is_long, room_beside};
 
 impl<A: Automaton> Leaper<A> {
     /// The tree after n generations. The level of `tree` is at most 64, and n at most 2^60.

@@ -4,7 +4,7 @@ ghost use Rattle.std.specs.Prelude.{◌≡◌, ℕ, suc, ◌≤◌, ◌^◌, ℤ
 ghost use Rattle.ca_plane.specs.Prelude.{cells_after};
 ghost use Rattle.ca_quad.specs.Prelude.{IsOf, AreFour};
 ghost use Rattle.ca_run.specs.Centre.{IsCentre, IsLeap};
-ghost use Rattle.ca_work.specs.Prelude.{EndsAtLimit};
+ghost use Rattle.ca_budget.specs.Prelude.{EndsAtLimit};
 ghost use Rattle.ca_run.specs.inner.AtCost.{GoesOnAtCost};
 ghost use Rattle.ca_run.specs.inner.Centres.{HasCentre};
 ghost use Rattle.ca_run.specs.inner.Shown.{ShowsAt, FourShow, TwoShow, ThreeShow, NineShow, AreThree};
@@ -16,7 +16,7 @@ use crate::watch::Watch;
 use ca_bricks::{Rows, Trio};
 use ca_plane::Automaton;
 use ca_quad::Id;
-use ca_work::LeapFault;
+use ca_budget::LeapFault;
 
 // `part_level` is the level of a square's sixteen parts: its own level is that and 2.
 impl<A: Automaton> Leaper<A> {

@@ -4,7 +4,7 @@ ghost use Rattle.std.specs.Prelude.{◌≡◌, ◌+◌, ◌*◌, ◌≤◌, ◌^
 ghost use Rattle.ca_plane.specs.Prelude.{cells_after, most_generations};
 ghost use Rattle.ca_quad.specs.Prelude.{IsTree, cell};
 ghost use Rattle.ca_run.specs.Leaping.{LeaperGrows};
-ghost use Rattle.ca_work.specs.Prelude.{EndsAtLimit};
+ghost use Rattle.ca_budget.specs.Prelude.{EndsAtLimit};
 ghost use Rattle.ca_run.specs.inner.AtCost.{GoesOnAtCost};
 ghost use Rattle.ca_bricks.specs.Prelude.{IsBeside};
 ghost use Rattle.ca_run.specs.inner.Dense.{HasReached, IsIdle, IsDense};
@@ -17,7 +17,7 @@ use crate::watch::Watch;
 use ca_bricks::CellRule;
 use ca_plane::{Automaton, Memory};
 use ca_quad::{Tree, WideBounds};
-use ca_work::LeapFault;
+use ca_budget::LeapFault;
 use std::alloc::Global;
 
 // The fewest generations for which it pays to read all bricks.

@@ -11,7 +11,7 @@ use super::from_grid::SquareGrid;
 use ca_bricks::{AgedGrid, BrickGrid, WordPlace};
 use ca_plane::{Automaton, Memory};
 use ca_quad::Id;
-use ca_work::LeapFault;
+use ca_budget::LeapFault;
 
 // How many squares the parts of one of 8 by 8 cells are, down to 2 by 2.
 const PARTS: u64 = 20;

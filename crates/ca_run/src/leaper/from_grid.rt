@@ -2,7 +2,7 @@
 
 ghost use Rattle.std.specs.Prelude.{◌≡◌, true, ℕ, suc, ◌+◌, ◌-◌, ◌*◌, ◌<◌, ◌≤◌, ◌^◌, ℤ, pos, ◌+ℤ◌, IfOk};
 ghost use Rattle.ca_quad.specs.Prelude.{IsOf, IsTree, cell};
-ghost use Rattle.ca_work.specs.Prelude.{EndsAtLimit};
+ghost use Rattle.ca_budget.specs.Prelude.{EndsAtLimit};
 ghost use Rattle.ca_run.specs.inner.AtCost.{GoesOnAtCost};
 ghost use Rattle.ca_run.specs.inner.Shown.{ShowsAt};
 ghost use Rattle.ca_bricks.specs.declared.grid.BrickGrid.{BrickGrid};
@@ -12,7 +12,7 @@ use super::Leaper;
 use ca_bricks::{BrickGrid, QuarterPlaces, WordPlace};
 use ca_plane::{Automaton, Memory};
 use ca_quad::{Id, Tree};
-use ca_work::LeapFault;
+use ca_budget::LeapFault;
 
 /// Grids of which squares are made.
 pub(crate) trait SquareGrid {

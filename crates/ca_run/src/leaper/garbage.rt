@@ -6,7 +6,7 @@ ghost use Rattle.std.specs.Prelude.{◌≡◌, ◌+◌, ◌-◌, ◌*◌, ◌/�
 ghost use Rattle.ca_quad.specs.Prelude.{Grows, IsTree};
 ghost use Rattle.ca_run.specs.Advanced.{CanAdvance, IsAdvanced};
 ghost use Rattle.ca_run.specs.Leaping.{LeaperGrows};
-ghost use Rattle.ca_work.specs.Prelude.{EndsAtLimit, tries};
+ghost use Rattle.ca_budget.specs.Prelude.{EndsAtLimit, tries};
 ghost use Rattle.ca_run.specs.inner.OwnStore.{IsCopyOfTree, KeepsOn, IsNearer};
 ghost use Rattle.ca_run.specs.inner.Dense.{HasReached};
 ghost use Rattle.ca_run.specs.inner.InUse.{AreTrueLeaps};
@@ -17,7 +17,7 @@ use super::{Leaper, Milestone};
 use crate::watch::Watch;
 use ca_plane::{Automaton, Memory};
 use ca_quad::{SquareMap, Store, Tree};
-use ca_work::{LeapFault, Pace};
+use ca_budget::{LeapFault, Pace};
 use std::mem;
 
 // How many squares that are copied cost a unit of work.

@@ -10,7 +10,7 @@ use super::Leaper;
 use super::full_leap::FullLeap;
 use ca_plane::{Automaton, Memory};
 use ca_quad::{Id, SquareMap, Store, Tree};
-use ca_work::Pace;
+use ca_budget::Pace;
 
 impl<A: Automaton> Leaper<A> {
     // The results that are kept where squares are left behind: those in use where a run goes on and repeats, if there is

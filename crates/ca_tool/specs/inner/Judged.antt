@@ -3,8 +3,8 @@ use Rattle.std.specs.Prelude.{◌≡◌, ℕ, List, [], ◌++◌}
 use Rattle.ca_text.specs.declared.both.Both.{Both}
 use Rattle.ca_text.specs.Prelude.{Claim}
 use Rattle.ca_answers.specs.Prelude.{Judging}
-use Rattle.ca_verdict_lines.specs.declared.finding.{ReportStyle.ReportStyle, Finding.Finding}
-use Rattle.ca_verdict_lines.specs.Prelude.{findings_text, status_of, with_claims, answers_of, AreFindings}
+use Rattle.ca_verify_lines.specs.declared.finding.{ReportStyle.ReportStyle, Finding.Finding}
+use Rattle.ca_verify_lines.specs.Prelude.{findings_text, status_of, with_claims, answers_of, AreFindings}
 
 -- the first claims left were judged, with these findings, and the others are left
 pub record WereJudged (old new : Judging) (findings : List Finding) : Type 0 where

@@ -4,7 +4,7 @@ ghost use Rattle.std.specs.Prelude.{◌≡◌, ◌+◌, ◌/◌, ◌≤◌, [], 
 ghost use Rattle.ca_plane.specs.Prelude.{Picture, IsAfter};
 ghost use Rattle.ca_text.specs.declared.asks.Forbidden.TheVariants.{EmptyPlane};
 ghost use Rattle.ca_run.specs.Prelude.{LeaperGrows};
-ghost use Rattle.ca_work.specs.Prelude.{EndsAtLimit};
+ghost use Rattle.ca_budget.specs.Prelude.{EndsAtLimit};
 ghost use Rattle.ca_evolution.specs.Prelude.{Takes};
 ghost use Rattle.ca_verify.specs.inner.Spending.{most_looks};
 ghost use Rattle.ca_verify.specs.inner.Returns.{IsSparedBefore, IsFirstDeath};

@@ -4,7 +4,7 @@ ghost use Rattle.std.specs.Prelude.{◌≡◌, ◌-◌, ◌≤◌, ℤ, IfOk, Ma
 ghost use Rattle.ca_plane.specs.Prelude.{Picture, shifted, IsAfter, most_generations};
 ghost use Rattle.ca_quad.specs.Prelude.{cell};
 ghost use Rattle.ca_run.specs.Prelude.{LeaperGrows};
-ghost use Rattle.ca_work.specs.Prelude.{EndsAtLimit};
+ghost use Rattle.ca_budget.specs.Prelude.{EndsAtLimit};
 ghost use Rattle.ca_evolution.specs.Prelude.{Takes};
 ghost use Rattle.ca_text.specs.Prelude.{MayReturnBy, ShowsNothingForbidden};
 ghost use Rattle.ca_verify.specs.inner.Returns.{IsSparedBefore, IsFirstReturn};

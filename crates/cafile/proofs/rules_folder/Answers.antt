@@ -1,5 +1,5 @@
 use Rattle.std.proofs.Common.{sym}
-use Rattle.ca_words.specs.Folders.{folder_of_rules}
+use Rattle.ca_cli.specs.Folders.{folder_of_rules}
 use Rattle.cafile.specs.Folders.{has_to_be_folder}
 use Rattle.cafile.proofs.Passed.{passed-none, passed-some, passed-not}
 use Rattle.cafile.proofs.rules_folder.Goals as goal

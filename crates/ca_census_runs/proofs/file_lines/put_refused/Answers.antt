@@ -1,6 +1,6 @@
 use Rattle.std.proofs.Common.{◌++◌, refl, ap, ◌∙◌}
-use Rattle.ca_catalog.specs.declared.entry.Entry.{Entry}
-use Rattle.ca_catalog.specs.Prelude.{entry_lines}
+use Rattle.ca_identify_lines.specs.declared.entry.Entry.{Entry}
+use Rattle.ca_identify_lines.specs.Prelude.{entry_lines}
 use Rattle.ca_census_runs.proofs.file_lines.put_refused.Goals as goal
 
 pub returns : goal.returns

@@ -2,7 +2,7 @@ use Rattle.std.proofs.Common.{◌+◌, ◌≤◌, refl, sym, subst, ◌∙◌, a
 use Rattle.std.specs.Prelude.{pos}
 use Rattle.ca_quad.specs.Prelude.{shifted_cells, IsShiftRefused, cell}
 use Rattle.ca_plane.specs.Prelude.{cells_after}
-use Rattle.ca_work.specs.Prelude.{Spent}
+use Rattle.ca_budget.specs.Prelude.{Spent}
 use Rattle.ca_pattern.specs.Prelude.{IsWithinPlane, IsLaterTree}
 use Rattle.ca_evolution.specs.Prelude.{step_work}
 use Rattle.ca_pattern.proofs.Corners.{fits_near}

@@ -1,5 +1,5 @@
 use Rattle.std.proofs.Common.{List, length}
-use Rattle.ca_verdict_lines.specs.declared.finding.Finding.{Finding}
+use Rattle.ca_verify_lines.specs.declared.finding.Finding.{Finding}
 use Rattle.ca_tool.specs.inner.Judged.{WereJudged}
 use Rattle.ca_tool.proofs.verification_run.judge_rest.Given as goal
 

@@ -1,6 +1,6 @@
 use Rattle.std.proofs.Common.{refl, subst}
 use Rattle.ca_answers.specs.Prelude.{Judging}
-use Rattle.ca_verdict_lines.specs.Prelude.{WritesPlainReport}
+use Rattle.ca_verify_lines.specs.Prelude.{WritesPlainReport}
 use Rattle.ca_tool.proofs.ReportedClaims.{plain_report, plain_part}
 use Rattle.ca_tool.proofs.WrittenTexts.{writes_weaker}
 use Rattle.ca_tool.proofs.verification_run.verify_run.Goals as goal

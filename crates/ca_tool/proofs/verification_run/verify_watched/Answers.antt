@@ -1,6 +1,6 @@
 use Rattle.std.proofs.Common.{subst}
 use Rattle.ca_answers.specs.Prelude.{Judging}
-use Rattle.ca_verdict_lines.specs.Prelude.{WritesReport}
+use Rattle.ca_verify_lines.specs.Prelude.{WritesReport}
 use Rattle.ca_tool.proofs.ReportedClaims.{report_on_first}
 use Rattle.ca_tool.proofs.WrittenTexts.{writes_weaker}
 use Rattle.ca_tool.proofs.verification_run.verify_watched.Goals as goal

@@ -1,6 +1,6 @@
 use Rattle.std.proofs.Common.{◌≤◌, max, sym, subst}
 use Rattle.ca_quad.proofs.Measures.{boxes_stay}
-use Rattle.ca_work.specs.Prelude.{Spent}
+use Rattle.ca_budget.specs.Prelude.{Spent}
 use Rattle.ca_run.proofs.LeaperGrowth.{goes_on_again}
 use Rattle.ca_identify.proofs.LaterLeapers.{first_then, shown_stage}
 use Rattle.ca_identify.proofs.Strides.{stride_can_go, stride_tree}

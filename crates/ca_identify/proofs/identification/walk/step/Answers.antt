@@ -1,7 +1,7 @@
 use Rattle.std.proofs.Common.{◌+◌, ◌≤◌, max, refl, sym, subst, arith}
 use Rattle.ca_quad.specs.Prelude.{cell}
 use Rattle.ca_quad.proofs.Measures.{boxes_stay}
-use Rattle.ca_work.specs.Prelude.{Spent}
+use Rattle.ca_budget.specs.Prelude.{Spent}
 use Rattle.ca_run.proofs.LeaperGrowth.{goes_on_again}
 use Rattle.ca_identify.proofs.LaterLeapers.{first_then, shown_stage}
 use Rattle.ca_identify.proofs.Spending.{ends_after}

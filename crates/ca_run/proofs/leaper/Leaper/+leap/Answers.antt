@@ -14,7 +14,7 @@ use Rattle.ca_run.proofs.ShownPlanes.{at_stays, three_stay, three_are, four_of, 
 use Rattle.ca_bricks.proofs.Overlaps.{west_four, east_four, four_between, four_halfway, four_inner}
 use Rattle.ca_run.proofs.Leap.{rule_on, leap_shows, leap_square, leap_of_join, centre_ok, nine_centre, trio_are, nine_are, pair_at, trio_at, nine_at, four_at}
 use Rattle.ca_run.proofs.Costs.{at_cost_none, at_cost_more, at_cost_as, at_both_costs, at_cost_of_thirteen, at_cost_of_nine, at_cost_of_centre}
-use Rattle.ca_work.proofs.Powers.{power_some}
+use Rattle.ca_budget.proofs.Powers.{power_some}
 use Rattle.ca_run.proofs.leaper.Leaper.+leap.Goals as goal
 
 pub centre-returns-in-Some-clause-at_cost : goal.centre-returns-in-Some-clause-at_cost

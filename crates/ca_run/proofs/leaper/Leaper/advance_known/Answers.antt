@@ -3,7 +3,7 @@ use Rattle.std.proofs.lemmas.Result.{err_from_is_err_and}
 use Rattle.ca_quad.specs.Prelude.{IsSoundStore}
 use Rattle.ca_quad.proofs.Cells.{of_stays}
 use Rattle.ca_run.specs.Prelude.{IsAdvanced}
-use Rattle.ca_work.specs.Prelude.{EndsAtLimit}
+use Rattle.ca_budget.specs.Prelude.{EndsAtLimit}
 use Rattle.ca_run.specs.inner.Dense.{HasReached}
 use Rattle.ca_run.proofs.DenseRuns.{reached_now, advanced_before, stepped_cost, whole_cost, parted_cost, stepped_one, whole_one, parted_one}
 use Rattle.ca_run.proofs.LeaperGrowth.{goes_on_again}

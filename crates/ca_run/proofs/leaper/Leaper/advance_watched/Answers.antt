@@ -1,6 +1,6 @@
 use Rattle.std.proofs.Common.{◌≡◌, true, false, IsOk, sym, subst, ◌∙◌, arith}
 use Rattle.std.proofs.lemmas.Result.{err_from_is_err_and}
-use Rattle.ca_work.specs.Prelude.{EndsAtLimit}
+use Rattle.ca_budget.specs.Prelude.{EndsAtLimit}
 use Rattle.ca_run.proofs.leaper.Leaper.advance_watched.Goals as goal
 
 pub returns-in_err-learn_cell_rule : goal.returns-in_err-learn_cell_rule

@@ -1,5 +1,5 @@
 use Rattle.std.proofs.Common.{ap, ◌∙◌, arith}
-use Rattle.ca_work.specs.declared.fault.LeapFault.TheVariants.{Memory}
+use Rattle.ca_budget.specs.declared.fault.LeapFault.TheVariants.{Memory}
 use Rattle.ca_run.specs.inner.AtCost.{limited}
 use Rattle.ca_run.proofs.Within.{within_reached, within_ended, within_failed, memory_is_no_work}
 use Rattle.ca_run.proofs.leaper.Leaper.advance_within.Goals as goal

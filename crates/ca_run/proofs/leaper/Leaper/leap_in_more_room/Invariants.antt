@@ -1,5 +1,5 @@
 use Rattle.ca_run.specs.Prelude.{LeaperGrows}
-use Rattle.ca_work.specs.Prelude.{tries}
+use Rattle.ca_budget.specs.Prelude.{tries}
 use Rattle.ca_run.specs.inner.Dense.{HasReached}
 use Rattle.ca_run.proofs.leaper.Leaper.leap_in_more_room.Given as goal
 

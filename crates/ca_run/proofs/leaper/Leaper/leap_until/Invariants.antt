@@ -1,6 +1,6 @@
 use Rattle.std.proofs.Common.{◌+◌, ◌-◌, ◌*◌}
 use Rattle.ca_run.specs.inner.OwnStore.{KeepsOn}
-use Rattle.ca_work.specs.Prelude.{tries, most_tries}
+use Rattle.ca_budget.specs.Prelude.{tries, most_tries}
 use Rattle.ca_run.specs.inner.Dense.{HasReached}
 use Rattle.ca_run.proofs.leaper.Leaper.leap_until.Given as goal
 

@@ -8,7 +8,7 @@ use Rattle.ca_run.proofs.Costs.{at_cost_more, at_both_costs}
 use Rattle.ca_run.proofs.DenseRuns.{at_grid_cost, growth_low}
 use Rattle.ca_run.proofs.Grids.{within_place, aligned_place}
 use Rattle.ca_run.proofs.Levels.{trimmed_low}
-use Rattle.ca_work.proofs.Powers.{power_more}
+use Rattle.ca_budget.proofs.Powers.{power_more}
 use Rattle.ca_run.proofs.leaper.Leaper.step_grid.Goals as goal
 
 pub live-requires : goal.live-requires

@@ -1,5 +1,0 @@
-use Rattle.ca_catalog.proofs.CatalogSaid.{catalog_said}
-use Rattle.ca_catalog.proofs.catalog.says_its_claims.Goals as goal
-
-pub returns : goal.returns
-returns c = catalog_said

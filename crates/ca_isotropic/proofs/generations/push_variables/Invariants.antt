@@ -1,7 +1,0 @@
-use Rattle.ca_plane.specs.Prelude.{text_of, Puts}
-use Rattle.ca_isotropic.specs.GenerationsTables.{variable_lines}
-use Rattle.ca_isotropic.proofs.generations.push_variables.Given as goal
-
--- the lines of the variables before are put
-abbrev pub invariant-variables : goal.invariant-variables
-invariant-variables l = Puts l.initial.out.items l.out.items (text_of (variable_lines l.states l.variable))

@@ -1,5 +1,0 @@
-use Rattle.ca_isotropic.proofs.Neighbourhoods.{one-kind, turned-letter, mirrored-letter}
-use Rattle.ca_isotropic.proofs.laws.one_kind.Goals as goal
-
-pub returns : goal.returns
-returns c = record { one = one-kind; turned = turned-letter; mirrored = mirrored-letter }

@@ -1,5 +1,0 @@
-use Rattle.ca_isotropic.proofs.OneRule.{one-text-rule, rule-alone, one-text-fault}
-use Rattle.ca_isotropic.proofs.laws.one_text_rule.Goals as goal
-
-pub returns : goal.returns
-returns c = record { one_rule = one-text-rule; rule_alone = rule-alone; one_fault = one-text-fault }

@@ -1,8 +1,0 @@
-use Rattle.std.proofs.Common.{◌∙◌, ◌∷◌, [], sym, ap, max}
-use Rattle.ca_verdict_lines.specs.Prelude.{status_of}
-use Rattle.ca_verdict_lines.proofs.Statuses.{status_more}
-use Rattle.ca_verdict_lines.proofs.printing.worse_status.Goals as goal
-
-pub returns : goal.returns
-returns c = λ answers so_far.
-    c.max.ensures ∙ ap (max c.args.code) c.status.ensures ∙ ap (λ s. max s (status_of (c.args.answer ∷ []))) so_far ∙ sym (status_more answers c.args.answer)
