@@ -198,7 +198,7 @@ one_further : (x h : ℕ) → (x + 1) * h ≡ x * h + h
 one_further x h = omega arith
 
 -- the test for equal neighbours that `derive` writes tells them apart
-neighbours_same : (a b : Neighbours) → (eq-value).it a b ≡ true → a ≡ b
+pub neighbours_same : (a b : Neighbours) → (eq-value).it a b ≡ true → a ≡ b
 neighbours_same a b e =
     let h = and_parts (a.nw == b.nw) _ e in
     let i = and_parts (a.ne == b.ne) _ h.1 in

@@ -2,12 +2,16 @@
 use Rattle.std.specs.Prelude.{◌≡◌, ℕ, ◌<◌, ◌≤◌, ◌⊎◌, List, Some, length}
 use Rattle.ca_quad.specs.declared.{node.Node.Node, square.Square.Square}
 use Rattle.ca_quad.specs.declared.square.Square.TheVariants.{Four, Parts}
-use Rattle.ca_quad.specs.{Squares.place_id, Squares.square_of, Squares.level_of, Squares.cell_of, SquareValues.square_value, Trees.ShowsSquare}
+use Rattle.ca_quad.specs.{Squares.place_id, Squares.square_of, Squares.IsParted, Squares.level_of, Squares.cell_of, SquareValues.square_value, Trees.ShowsSquare}
 
 -- the id is one of the square's four parts
 abbrev pub IsPartOf : Square → ℕ → Type 0
 IsPartOf (Four nw ne sw se) id = ⊥
 IsPartOf (Parts level nw ne sw se) id = (id ≡ nw) ⊎ ((id ≡ ne) ⊎ ((id ≡ sw) ⊎ (id ≡ se)))
+
+-- one square is a part of the other, and has parts itself
+abbrev pub IsPartedPart : List Node → ℕ → ℕ → Type 0
+IsPartedPart nodes whole part = IsPartOf (square_of nodes whole) part × IsParted (square_of nodes part)
 
 -- the square is the root itself, or lies in one of its parts
 pub data LiesIn (nodes : List Node) : ℕ → ℕ → Type 0 where

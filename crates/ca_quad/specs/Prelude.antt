@@ -5,5 +5,5 @@ pub use Rattle.ca_quad.specs.Trees.{HoldsAll, cell, IsEmpty, AreQuarters, IsTree
 pub use Rattle.ca_quad.specs.Boxes.{IsLeastWideBox, IsDead, IsInWideBox, AreSquareBoxes}
 pub use Rattle.ca_quad.specs.Expanded.{HasCellOutsidePlane, FitsPlane}
 pub use Rattle.ca_quad.specs.Shifted.{shifted_cells, IsShiftRefused}
-pub use Rattle.ca_quad.specs.Added.{IsPartOf, itself, in_part, IsCopy, AddsCopies, AreCopies, LiesIn}
-pub use Rattle.ca_quad.specs.SquareValues.{square_value, KeepValues}
+pub use Rattle.ca_quad.specs.Added.{IsPartOf, IsPartedPart, itself, in_part, IsCopy, AddsCopies, AreCopies, LiesIn}
+pub use Rattle.ca_quad.specs.SquareValues.{square_value, KeepValues, IsClosedUnderParts}

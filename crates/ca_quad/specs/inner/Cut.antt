@@ -1,8 +1,8 @@
 -- Squares that are cut out of four that lie together.
-use Rattle.std.specs.Prelude.{◌≡◌, ◌≢◌, ℕ, ◌+◌, ◌*◌, ◌<◌, ◌≤◌, ◌⊎◌, ◌^◌, ◌%◌, nat_lt, if◌then◌else◌, List, slice_index, Option, Some, None}
+use Rattle.std.specs.Prelude.{◌≡◌, ◌≢◌, ℕ, ◌+◌, ◌*◌, ◌<◌, ◌≤◌, ◌⊎◌, ◌^◌, ◌%◌, ◌-◌, nat_lt, if◌then◌else◌, List, [], ◌∷◌, slice_index, Option, Some, None}
 use Rattle.std.specs.Map.{lookup}
 use Rattle.ca_quad.specs.declared.{neighbours.Neighbours.Neighbours, node.Node.Node, store.cut.Offset.Offset}
-use Rattle.ca_quad.specs.{contracts.neighbours.NeighboursPartialEq.TheImpl.eq-value, Squares.joined_cells, Squares.cell_of, Trees.AreFour}
+use Rattle.ca_quad.specs.{contracts.neighbours.NeighboursPartialEq.TheImpl.eq-value, Squares.joined_cells, Squares.cell_of, Squares.level_of, Squares.square_of, Trees.AreFour, Trees.parts}
 use Rattle.ca_quad.specs.inner.Window.{ShowsFrom}
 use Rattle.ca_plane.specs.Prelude.{word_cells}
 
@@ -64,6 +64,31 @@ half_of place half = if nat_lt place half then 0 else 1
 -- four overlapping fours of sixteen squares, the north-western of which begins with this one
 abbrev pub overlapping_fours : List ℕ → ℕ → Neighbours × Neighbours × Neighbours × Neighbours
 overlapping_fours ids first = (neighbours_at ids first, neighbours_at ids (first + 1), neighbours_at ids (first + 4), neighbours_at ids (first + 5))
+
+-- the parts of four squares, row by row
+abbrev pub sixteen_parts : List Node → Neighbours → List ℕ
+sixteen_parts nodes four =
+    let nw = parts (square_of nodes four.nw) in
+    let ne = parts (square_of nodes four.ne) in
+    let sw = parts (square_of nodes four.sw) in
+    let se = parts (square_of nodes four.se) in
+    slice_index nw 0 ∷ slice_index nw 1 ∷ slice_index ne 0 ∷ slice_index ne 1 ∷ slice_index nw 2 ∷ slice_index nw 3 ∷ slice_index ne 2 ∷ slice_index ne 3
+    ∷ slice_index sw 0 ∷ slice_index sw 1 ∷ slice_index se 0 ∷ slice_index se 1 ∷ slice_index sw 2 ∷ slice_index sw 3 ∷ slice_index se 2 ∷ slice_index se 3 ∷ []
+
+-- the fours of their parts, out of which the parts of the square are cut that is cut out of the four
+abbrev pub parts_of_four : List Node → Offset → Neighbours → Neighbours × Neighbours × Neighbours × Neighbours
+parts_of_four nodes offset four =
+    let level = level_of nodes four.nw in
+    let half = 2 ^ (level - 1) in
+    overlapping_fours (sixteen_parts nodes four) (4 * half_of (offset.y % 2 ^ level) half + half_of (offset.x % 2 ^ level) half)
+
+-- it is one of these fours
+abbrev pub IsOneOf : Neighbours × Neighbours × Neighbours × Neighbours → Neighbours → Type 0
+IsOneOf fours four = (four ≡ fours.0) ⊎ ((four ≡ fours.1) ⊎ ((four ≡ fours.2) ⊎ (four ≡ fours.3)))
+
+-- what is cut out of four squares is made of what is cut out of these, which are cut in parts themselves
+abbrev pub IsCutPart : List Node → Offset → Neighbours → Neighbours → Type 0
+IsCutPart nodes offset four part = IsOneOf (parts_of_four nodes offset four) part × IsCutInParts nodes offset part
 
 -- the word has the cells of four squares of level 3 from this place onwards
 pub record IsCutWord (nodes : List Node) (level : ℕ) (four : Neighbours) (place : Offset) (word : ℕ) : Type 0 where

@@ -1,7 +1,7 @@
 -- What a walk over a square finds out of it from the same of its parts.
 use Rattle.std.specs.Prelude.{◌≡◌, ℕ, ◌+◌, ◌≤◌, ◌^◌, ◌⊎◌, List, Some}
 use Rattle.ca_quad.specs.declared.node.Node.{Node}
-use Rattle.ca_quad.specs.{Squares.IsOf, Squares.joined_cells, Squares.cell_of, Squares.IsParted, Squares.square_of, SquareValues.square_value, Trees.IsIn, inner.Numbered.IsNumberOfNode}
+use Rattle.ca_quad.specs.{Added.IsPartOf, Squares.IsOf, Squares.joined_cells, Squares.cell_of, Squares.IsParted, Squares.square_of, SquareValues.square_value, Trees.IsIn, inner.Numbered.IsNumberOfNode}
 
 -- beyond this side every cell is 0
 abbrev pub EndsWithin : ℕ → (ℕ → ℕ → ℕ) → Type 0
@@ -24,3 +24,7 @@ AreMeasures is nodes values = (id : ℕ) (value : _) → square_value values id 
 -- the square's parts are looked at: it has some, and no number tells all its cells
 abbrev pub IsLookedUp : List Node → ℕ → Type 0
 IsLookedUp nodes id = IsParted (square_of nodes id) × ((n : ℕ) → ¬ IsNumberOfNode nodes id n)
+
+-- one square is a part of the other, and its own parts are looked at
+abbrev pub IsLookedUpPart : List Node → ℕ → ℕ → Type 0
+IsLookedUpPart nodes whole part = IsPartOf (square_of nodes whole) part × IsLookedUp nodes part

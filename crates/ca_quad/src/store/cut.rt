@@ -2,8 +2,10 @@
 
 ghost use Rattle.std.specs.Prelude.{◌≡◌, ◌≢◌, ℕ, suc, ◌+◌, ◌*◌, ◌<◌, ◌≤◌, ◌^◌, ◌%◌, None, IsOk, IfOk, OnOk};
 ghost use Rattle.ca_quad.specs.Sound.{Grows};
+ghost use Rattle.ca_quad.specs.SquareValues.{IsClosedUnderParts};
 ghost use Rattle.ca_quad.specs.inner.Cut.{AreNeighbours, cells_of_four, half_of, overlapping_fours, neighbours_at, IsCut};
-ghost use Rattle.ca_quad.specs.inner.Cut.{AreCuts, AreSixteen, AreSixteenCells, cut_value, IsCutInParts, KeepCuts};
+ghost use Rattle.ca_quad.specs.inner.Cut.{AreCuts, AreSixteen, AreSixteenCells, sixteen_parts, cut_value};
+ghost use Rattle.ca_quad.specs.inner.Cut.{IsCutInParts, IsCutPart, KeepCuts};
 ghost use Rattle.ca_quad.specs.inner.Window.{ShowsFrom};
 
 use super::Store;
@@ -36,6 +38,8 @@ impl Store {
         ensures remembered { OnOk result (IsCutInParts self.old offset four → cut_value cuts.new four ≢ None) }
         ensures again { IsCutInParts self.old offset four → cut_value cuts.old four ≢ None → IsOk result }
         ensures kept { OnOk result (KeepCuts cuts.old cuts.new) }
+        ensures closed { OnOk result (IsClosedUnderParts (IsCutPart self.old offset) (cut_value cuts.old)
+            → IsClosedUnderParts (IsCutPart self.new offset) (cut_value cuts.new)) }
         ensures grows { Grows self.old self.new }
     {
         let _ = &self.nodes;
@@ -102,7 +106,8 @@ impl Store {
     // The parts of four larger squares, row by row.
     fn sixteen_parts(&self, four: Neighbours) -> [Id; 16]
         requires { (level : ℕ) × AreNeighbours self.now (suc (suc level)) four }
-        ensures { (level : ℕ) → AreNeighbours self.now (suc level) four
+        ensures parts { result ≡ sixteen_parts self.now four }
+        ensures cells { (level : ℕ) → AreNeighbours self.now (suc level) four
             → AreSixteen self.now level (cells_of_four self.now (suc level) four) result }
     {
         let [a, b, e, f] = self.children(four.nw);

@@ -4,8 +4,8 @@ ghost use Rattle.std.specs.Prelude.{◌≡◌, ◌≢◌, ◌≤◌, ◌⊎◌, 
 ghost use Rattle.ca_quad.specs.Sound.{IsSoundStore, Grows, most_nodes};
 ghost use Rattle.ca_quad.specs.Trees.{IsIn, IsTree, cell, IsTrimmed};
 ghost use Rattle.ca_quad.specs.Squares.{IsParted, place_id, square_of};
-ghost use Rattle.ca_quad.specs.Added.{IsCopy, AreCopies, AddsCopies};
-ghost use Rattle.ca_quad.specs.SquareValues.{square_value, KeepValues};
+ghost use Rattle.ca_quad.specs.Added.{IsPartedPart, IsCopy, AreCopies, AddsCopies};
+ghost use Rattle.ca_quad.specs.SquareValues.{square_value, KeepValues, IsClosedUnderParts};
 
 use super::{MOST, Store};
 use crate::id::Id;
@@ -67,9 +67,10 @@ impl Store {
         Store { nodes }
     }
 
-    /// The square of the same level and cells as one of another store. Copies of some of that store's squares are known, and
-    /// those that are made become known, so that what several squares share is looked at once. Nothing is made where
-    /// the copy of a square with parts is known, and then no memory is wanted.
+    /// The square of the same level and cells as one of another store. Copies of some of that store's squares are
+    /// known, and those that are made become known, so that what several squares share is looked at once: where
+    /// the known squares' parts that have parts are known before, they are afterwards. Nothing is made where the copy
+    /// of a square with parts is known, and then no memory is wanted.
     ///
     /// # Errors
     ///
@@ -89,6 +90,8 @@ impl Store {
             → square_value copies.new id ≢ None) }
         ensures again { IsParted (square_of from.now id) → square_value copies.old id ≢ None → IsOk result }
         ensures kept { OnOk result (KeepValues copies.old copies.new) }
+        ensures closed { OnOk result (IsClosedUnderParts (IsPartedPart from.now) (square_value copies.old)
+            → IsClosedUnderParts (IsPartedPart from.now) (square_value copies.new)) }
         ensures added { AddsCopies from.now id self.old self.new }
         ensures grows { Grows self.old self.new }
         ensures sound { IsSoundStore from.now }

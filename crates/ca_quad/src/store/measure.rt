@@ -5,9 +5,9 @@ ghost use Rattle.ca_quad.specs.declared.node.Node.{Node as Kept};
 ghost use Rattle.ca_quad.specs.declared.square.Square.TheVariants.{Four};
 ghost use Rattle.ca_quad.specs.Squares.{one_cell, square_of};
 ghost use Rattle.ca_quad.specs.Sound.{IsSoundStore};
-ghost use Rattle.ca_quad.specs.SquareValues.{square_value, KeepValues};
+ghost use Rattle.ca_quad.specs.SquareValues.{square_value, KeepValues, IsClosedUnderParts};
 ghost use Rattle.ca_quad.specs.Trees.{IsIn};
-ghost use Rattle.ca_quad.specs.inner.Measure.{IsJoined, IsMeasureOf, AreMeasures, IsLookedUp};
+ghost use Rattle.ca_quad.specs.inner.Measure.{IsJoined, IsMeasureOf, AreMeasures, IsLookedUp, IsLookedUpPart};
 ghost use Rattle.ca_quad.specs.inner.Numbered.{IsNumberOfNode};
 
 use super::Store;
@@ -51,6 +51,8 @@ impl Store {
         ensures remembered { OnOk result (IsLookedUp self.now id → square_value measures.new id ≢ None) }
         ensures again { square_value measures.old id ≢ None → IsOk result }
         ensures kept { OnOk result (KeepValues measures.old measures.new) }
+        ensures closed { OnOk result (IsClosedUnderParts (IsLookedUpPart self.now) (square_value measures.old)
+            → IsClosedUnderParts (IsLookedUpPart self.now) (square_value measures.new)) }
     {
         if let Some(measure) = self.number_measure(id) {
             return Ok(measure);

@@ -1,9 +1,9 @@
 use Rattle.std.proofs.Common.{ℕ, inl, refl, rules, sym, subst}
-use Rattle.ca_quad.specs.Prelude.{IsSoundStore, Grows, IsPartOf, IsCopy, AddsCopies}
+use Rattle.ca_quad.specs.Prelude.{IsParted, square_of, IsSoundStore, Grows, IsPartOf, IsCopy, AddsCopies}
 use Rattle.ca_quad.proofs.CopiedSquares.{copies_stay, still_copies, parts_four, parts_copied}
 use Rattle.ca_quad.proofs.AddedSquares.{none_added, added_on, added_in_part, ok_added, one_added, added_two, added_three, added_four}
 use Rattle.ca_quad.proofs.FilledSquares.{grows_five}
-use Rattle.ca_quad.proofs.KnownSquares.{four_unparted, so_on_ok, put_known, put_keeps}
+use Rattle.ca_quad.proofs.KnownSquares.{four_unparted, so_on_ok, put_known, put_keeps, walk_closed}
 use Rattle.ca_quad.proofs.Measures.{one_more}
 use Rattle.ca_quad.proofs.store.Store.+import_square.Goals as goal
 use Rattle.ca_quad.proofs.store.Store.+import_square.Goals.{After-import_square-in-Parts-3, In_ok-copy-in-Parts}
@@ -122,3 +122,14 @@ pub returns-in_ok-put-in-Parts-clause-kept : goal.returns-in_ok-put-in-Parts-cla
 returns-in_ok-put-in-Parts-clause-kept t c = λ id some.
     put_keeps c.import_square-in-Parts-3.new.copies c.put.new.self c.args.id c.in_ok-copy-in-Parts.copy c.in_ok-put-in-Parts.ensures.ok id
     (c.in_ok-se-in-Parts.ensures.kept id (c.in_ok-sw-in-Parts.ensures.kept id (c.in_ok-ne-in-Parts.ensures.kept id (c.in_ok-nw-in-Parts.ensures.kept id some))))
+
+pub returns-in-Four-clause-closed : goal.returns-in-Four-clause-closed
+returns-in-Four-clause-closed t c = so_on_ok c.leaf.result (λ closed. closed)
+
+pub returns-in_ok-put-in-Parts-clause-closed : goal.returns-in_ok-put-in-Parts-clause-closed
+returns-in_ok-put-in-Parts-clause-closed t c = λ closed.
+    walk_closed c.args.from.now c.args.id c.in-Parts.field-0 c.in-Parts.nw c.in-Parts.ne c.in-Parts.sw c.in-Parts.se c.in-Parts.ensures.shows (λ part. IsParted (square_of c.args.from.now part))
+    c.import_square.new.copies c.import_square-in-Parts.new.copies c.import_square-in-Parts-2.new.copies c.import_square-in-Parts-3.new.copies
+    c.in_ok-nw-in-Parts.ensures.remembered c.in_ok-ne-in-Parts.ensures.remembered c.in_ok-sw-in-Parts.ensures.remembered c.in_ok-se-in-Parts.ensures.remembered
+    c.in_ok-ne-in-Parts.ensures.kept c.in_ok-sw-in-Parts.ensures.kept c.in_ok-se-in-Parts.ensures.kept c.put.new.self c.in_ok-copy-in-Parts.copy c.in_ok-put-in-Parts.ensures.ok
+    (c.in_ok-se-in-Parts.ensures.closed (c.in_ok-sw-in-Parts.ensures.closed (c.in_ok-ne-in-Parts.ensures.closed (c.in_ok-nw-in-Parts.ensures.closed closed))))

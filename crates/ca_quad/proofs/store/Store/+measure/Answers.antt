@@ -1,6 +1,6 @@
 use Rattle.ca_quad.specs.Prelude.{IsIn}
-use Rattle.ca_quad.specs.inner.Measure.{IsMeasureOf}
-use Rattle.ca_quad.proofs.KnownSquares.{four_unparted, put_known, put_keeps}
+use Rattle.ca_quad.specs.inner.Measure.{IsMeasureOf, IsLookedUp}
+use Rattle.ca_quad.proofs.KnownSquares.{four_unparted, put_known, put_keeps, walk_closed}
 use Rattle.ca_quad.proofs.Measures.{measure_parts, one_more}
 use Rattle.ca_quad.proofs.store.Store.+measure.Goals as goal
 
@@ -28,3 +28,11 @@ pub returns-in_ok-put-in-Parts-clause-kept : goal.returns-in_ok-put-in-Parts-cla
 returns-in_ok-put-in-Parts-clause-kept g t c = λ id some.
     put_keeps c.measure-in-Parts-3.new.measures c.put.new.self c.args.id c.of_four-measure.result c.in_ok-put-in-Parts.ensures.ok id
     (c.in_ok-se-in-Parts.ensures.kept id (c.in_ok-sw-in-Parts.ensures.kept id (c.in_ok-ne-in-Parts.ensures.kept id (c.in_ok-nw-in-Parts.ensures.kept id some))))
+
+pub returns-in_ok-put-in-Parts-clause-closed : goal.returns-in_ok-put-in-Parts-clause-closed
+returns-in_ok-put-in-Parts-clause-closed g t c = λ closed.
+    walk_closed c.args.self.now c.args.id c.in-Parts.level c.in-Parts.nw c.in-Parts.ne c.in-Parts.sw c.in-Parts.se c.in-Parts.ensures.shows (IsLookedUp c.args.self.now)
+    c.measure.new.measures c.measure-in-Parts.new.measures c.measure-in-Parts-2.new.measures c.measure-in-Parts-3.new.measures
+    c.in_ok-nw-in-Parts.ensures.remembered c.in_ok-ne-in-Parts.ensures.remembered c.in_ok-sw-in-Parts.ensures.remembered c.in_ok-se-in-Parts.ensures.remembered
+    c.in_ok-ne-in-Parts.ensures.kept c.in_ok-sw-in-Parts.ensures.kept c.in_ok-se-in-Parts.ensures.kept c.put.new.self c.of_four-measure.result c.in_ok-put-in-Parts.ensures.ok
+    (c.in_ok-se-in-Parts.ensures.closed (c.in_ok-sw-in-Parts.ensures.closed (c.in_ok-ne-in-Parts.ensures.closed (c.in_ok-nw-in-Parts.ensures.closed closed))))

@@ -2,8 +2,8 @@ use Rattle.std.proofs.Common.{◌≡◌, length, arith}
 use Rattle.ca_quad.proofs.Cuts.{quarters_at, parts_sixteen}
 use Rattle.ca_quad.proofs.store.Store.sixteen_parts.Goals as goal
 
-pub returns : goal.returns
-returns c = λ k are.
+pub returns-clause-cells : goal.returns-clause-cells
+returns-clause-cells c = λ k are.
     let nodes = c.args.self.now in
     let four = c.args.four in
     let four_nw : length c.children.result ≡ 4 = omega (arith, c.children.type_inv) in
