@@ -8,8 +8,8 @@ ghost use Rattle.ca_census_files.specs.Files.{pattern_load_line, becomes_lines, 
 
 use crate::files::FilesTask;
 use crate::names::{file_path, object_name, rle_file, settled_name};
-use ca_identify_lines::{push_claim, push_code, push_load, rules_text};
 use ca_census::CensusObject;
+use ca_identify_lines::{push_claim, push_code, push_load, rules_text};
 use ca_plane::Memory;
 use ca_plane::text::push_text;
 use ca_text::Kind;

@@ -13,13 +13,13 @@ ghost use Rattle.ca_census_runs.specs.inner.Tasks.{IsGoodTask, IsFileableOutcome
 use crate::lines::{push_census, push_unsettled};
 use crate::outcome::CensusOutcome;
 use crate::task::CensusTask;
+use ca_census::{FileCensus, census_of_file};
+use ca_census_files::{FilesFault, FilesTask, NewFile, files_of_census};
+use ca_evolution::{Observer, RunSubject};
 use ca_identify_lines::{
     Content, Entry, KnownRules, Outcome, Subject, TakenNames, add_name, is_claim_path, push_entry,
     report_of,
 };
-use ca_census::{FileCensus, census_of_file};
-use ca_census_files::{FilesFault, FilesTask, NewFile, files_of_census};
-use ca_evolution::{Observer, RunSubject};
 use ca_plane::Memory;
 use ca_report::DetailedFault;
 use std::alloc::Global;

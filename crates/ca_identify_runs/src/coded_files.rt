@@ -12,9 +12,9 @@ ghost use Rattle.ca_apgcode_search.specs.Countings.{MayGoBy};
 ghost use Rattle.ca_identify_runs.specs.inner.Spent.{TakesRunAndTwice};
 
 use ca_answers::{CodedLook, Scope};
+use ca_apgcode_search::{code_of_tree, has_codes, quick_code};
 use ca_evolution::{Observer, leaper_of};
 use ca_identify::look_at_plane;
-use ca_apgcode_search::{code_of_tree, has_codes, quick_code};
 use ca_pattern::{Limits, LocatedFault, StoredTree, open_pattern};
 use ca_plane::{Automaton, Counting};
 use ca_quad::Tree;

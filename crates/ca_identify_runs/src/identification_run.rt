@@ -10,13 +10,13 @@ ghost use Rattle.ca_identify_runs.specs.inner.Searches.{IsGoodSearch, AreLines, 
 
 use crate::coded_files::identify_with_code;
 use ca_answers::{CodedLook, Identity};
+use ca_census::{Reach, census_of_file};
+use ca_evolution::{Observer, RunSubject};
+use ca_identify::identify;
 use ca_identify_lines::{
     Catalog, Content, Entry, KnownRules, Outcome, Settles, Subject, TakenNames, Task, add_name,
     head_pieces, is_claim_path, push_entry, report_of, rules_text,
 };
-use ca_census::{Reach, census_of_file};
-use ca_evolution::{Observer, RunSubject};
-use ca_identify::identify;
 use ca_pattern::LocatedFault;
 use ca_plane::limits::MOST_GENERATIONS;
 use ca_plane::{Dev, Memory, send};

@@ -195,10 +195,10 @@ module _ (s0 s1 s2 s3 s4 new : List Node) (sound : IsSoundStore s0) (g1 : Grows 
       let known = one_in s0 sound four squares.0 squares.1 offset part first.0 in
       let one : IsOneOf fours part = subst (λ fours. IsOneOf fours part) (sym is) first.0 in
       let meant : (s : List Node) → IsSoundStore s → Grows s0 s → Grows s new → IsCutInParts s offset part =
-          λ s sound before after. in_parts_back s new sound after offset part (later_in s0 s before part known) cut.1
+      λ s sound before after. in_parts_back s new sound after offset part (later_in s0 s before part known) cut.1
       in
       let at : (s : List Node) (other : Neighbours) → part ≡ other → IsCutInParts s offset part → (IsCutInParts s offset other → cut_value v4 other ≢ None) → cut_value v4 part ≢ None =
-          λ s other p parts so. subst (λ (n : Neighbours). cut_value v4 n ≢ None) (sym p) (so (subst (IsCutInParts s offset) p parts))
+      λ s other p parts so. subst (λ (n : Neighbours). cut_value v4 n ≢ None) (sym p) (so (subst (IsCutInParts s offset) p parts))
       in
       let to_2 = grows_on s0 s1 s2 g1 g2 in
       let to_3 = grows_three s0 s1 s2 s3 g1 g2 g3 in

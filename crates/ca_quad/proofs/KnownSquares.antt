@@ -59,7 +59,7 @@ module _ {V : Type 0} (nodes : List Node) (id m nw ne sw se : ℕ) (e : Parts m 
   parts_known part is meant =
       let one : IsPartOf (Parts m nw ne sw se) part = subst (λ s. IsPartOf s part) (sym e) is in
       let at : (other : ℕ) → part ≡ other → (IsMeant other → square_value v4 other ≢ None) → square_value v4 part ≢ None =
-          λ other p known. subst (λ n. square_value v4 n ≢ None) (sym p) (known (subst IsMeant p meant))
+      λ other p known. subst (λ n. square_value v4 n ≢ None) (sym p) (known (subst IsMeant p meant))
       in
       elim one [
         | inl p ↦ at nw p (λ j. i nw (h nw (g nw (a j))))

@@ -6,7 +6,7 @@ mod leaper;
 mod watch;
 
 pub use ca_bricks::kernel16;
-pub use ca_steps::{RunFault, laws, step, steps};
 pub use ca_budget::LeapFault;
+pub use ca_steps::{RunFault, laws, step, steps};
 pub use leaper::{Leaper, Milestone};
 pub use watch::{Unwatched, Watch};

@@ -8,8 +8,10 @@ mod fault;
 mod ties;
 mod verification_run;
 
-pub use ca_identify_lines::{Catalog, Content, KnownRules, Subject, Task, is_claim_path, says_its_claims};
 pub use ca_draw::{Size, View, WindowFault};
+pub use ca_identify_lines::{
+    Catalog, Content, KnownRules, Subject, Task, is_claim_path, says_its_claims,
+};
 pub use ca_pattern_runs::{
     DrawRequest, Evolution, Form, FormText, TextForm, convert_run, drawing_laws, form_text,
     show_run, write_form,

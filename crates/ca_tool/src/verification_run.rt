@@ -13,8 +13,8 @@ use ca_plane::Dev;
 use ca_report::ToolFault;
 use ca_run::Unwatched;
 use ca_text::Claims;
-use ca_verify_lines::{Finding, ReportStyle, remember_note, send_finding, worse_status};
 use ca_verify::Judge;
+use ca_verify_lines::{Finding, ReportStyle, remember_note, send_finding, worse_status};
 use std::alloc::Global;
 use std::io::Write;
 

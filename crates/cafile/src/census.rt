@@ -15,11 +15,11 @@ use crate::new_files::DiskFolder;
 use crate::ties::tell_ties;
 use ca_census::Reach;
 use ca_census_runs::{CensusFault, CensusTask, census_run};
+use ca_cli::{CensusSearch, PatternExtras};
 use ca_host::{Heading, Progress, RuleFiles, Streams};
 use ca_plane::Memory;
 use ca_plane::limits::{LONGEST_PERIOD, MOST_GENERATIONS};
 use ca_tool::{Catalog, Fault, KnownRules, ToolFault, complain, complain_with_path};
-use ca_cli::{CensusSearch, PatternExtras};
 use std::rt::{Clock, Files};
 
 /// Takes the census of the pattern files of these paths, writes what each settles into, and answers the exit status.

@@ -15,9 +15,10 @@ use crate::FAULT;
 use crate::folder_rules::find_rules;
 use crate::ties::tell_ties;
 use ca_answers::{Cause, Scope};
-use ca_identify_runs::identify_run;
+use ca_cli::{PatternExtras, Search};
 use ca_evolution::Observer;
 use ca_host::{FaultyFile, Heading, Progress, RuleFiles, Streams, read_file};
+use ca_identify_runs::identify_run;
 use ca_pattern::File;
 use ca_plane::limits::LONGEST_PERIOD;
 use ca_plane::{Dev, Memory};
@@ -26,7 +27,6 @@ use ca_tool::{
     Catalog, Content, Fault, InputFault, KnownRules, RunFiles, Subject, Task, ToolFault, complain,
     explain, has_explanation, is_claim_path,
 };
-use ca_cli::{PatternExtras, Search};
 use std::alloc::Global;
 use std::io::Write;
 use std::rt::{Clock, Files};

@@ -9,6 +9,7 @@ ghost use Rattle.ca_cli.specs.Words.{work_of};
 use crate::FAULT;
 use crate::named_rules::with_named_rules;
 use crate::ties::tell_claimed_ties;
+use ca_cli::{Extras, Folders};
 use ca_evolution::Observer;
 use ca_host::{
     Heading, LoadedText, Progress, Streams, faulty_rules, load_needed, missing_files, read_source,
@@ -22,7 +23,6 @@ use ca_tool::{
     Fault, InputFault, ReportStyle, ToolFault, complain, complain_with_path, explain_claims,
     push_escaped, verify_watched,
 };
-use ca_cli::{Extras, Folders};
 use std::alloc::Global;
 use std::io::Write;
 use std::rt::{Clock, Files};

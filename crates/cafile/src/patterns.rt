@@ -8,6 +8,7 @@ ghost use Rattle.ca_cli.specs.Words.{memo_of, work_of, generations_of};
 use crate::FAULT;
 use crate::terminal::{on_terminal, terminal_room};
 use crate::ties::tell_ties;
+use ca_cli::PatternExtras;
 use ca_draw::ImageFormat;
 use ca_host::{FaultyFile, Heading, Progress, RuleFiles, Streams, open_source, read_file};
 use ca_pattern::File;
@@ -18,7 +19,6 @@ use ca_tool::{
     Evolution, Fault, FaultyRule, Form, FormText, InputFault, RunFiles, ToolFault, complain,
     explain, form_text, has_explanation, read_all, write_form,
 };
-use ca_cli::PatternExtras;
 use std::io::IsTerminal;
 use std::rt::{Clock, Env, Files, Stdin, Stdout};
 

@@ -6,12 +6,12 @@ ghost use Rattle.cafile.specs.Imports.{rule_asked};
 
 use crate::import_complaint::complain_of_import;
 use crate::{FAULT, write_text};
+use ca_cli::ImportWords;
 use ca_host::{Streams, read_source};
 use ca_import::{ImportTextFault, import_text};
-use ca_rule_files::{RuleFileFault, rule_file};
 use ca_pattern::ConvertFault;
+use ca_rule_files::{RuleFileFault, rule_file};
 use ca_tool::{Fault, ToolFault, complain};
-use ca_cli::ImportWords;
 use std::alloc::Global;
 use std::rt::Files;
 

@@ -9,9 +9,9 @@ use super::{Frame, GridRule};
 use crate::leaper::{AgedPlane, Leaper, Milestone};
 use crate::watch::Watch;
 use ca_bricks::{AgedGrid, Queue, aged_generation, digit_count, wake_next};
+use ca_budget::{LeapFault, Work};
 use ca_plane::{Ageing, Automaton, Memory};
 use ca_quad::Tree;
-use ca_budget::{LeapFault, Work};
 use std::alloc::Global;
 
 impl GridRule for Ageing {

@@ -11,9 +11,9 @@ ghost use Rattle.ca_run.specs.inner.Frames.{IsReadByBricks, IsGridFrame, IsFrame
 use super::Frame;
 use crate::leaper::{Leaper, SquareGrid};
 use crate::watch::Watch;
+use ca_budget::{LeapFault, Work};
 use ca_plane::{Automaton, Memory};
 use ca_quad::Tree;
-use ca_budget::{LeapFault, Work};
 use std::alloc::Global;
 
 /// How trees become grids, and how these are stepped.

@@ -10,9 +10,9 @@ use super::{Frame, GridRule};
 use crate::leaper::{Leaper, Milestone, TwoStates};
 use crate::watch::Watch;
 use ca_bricks::{BrickGrid, CellRule, Queue, blank_bricks, first_bricks, generation, wake_next};
+use ca_budget::{LeapFault, Work};
 use ca_plane::{Automaton, Memory};
 use ca_quad::Tree;
-use ca_budget::{LeapFault, Work};
 use std::alloc::Global;
 
 // Counts the bricks of a list before they are stepped, but no more than there are.

@@ -12,9 +12,9 @@ ghost use Rattle.ca_run.specs.inner.Padded.{IsPadded};
 use super::dense::ReachedTree;
 use super::{Leaper, Milestone};
 use crate::watch::{Unwatched, Watch};
+use ca_budget::{LeapFault, is_long, room_beside};
 use ca_plane::{Automaton, Memory};
 use ca_quad::Tree;
-use ca_budget::{LeapFault, is_long, room_beside};
 
 impl<A: Automaton> Leaper<A> {
     /// The tree after n generations. The level of `tree` is at most 64, and n at most 2^60.

@@ -14,9 +14,9 @@ ghost use Rattle.ca_bricks.specs.Prelude.{side};
 use super::Leaper;
 use crate::watch::Watch;
 use ca_bricks::{Rows, Trio};
+use ca_budget::LeapFault;
 use ca_plane::Automaton;
 use ca_quad::Id;
-use ca_budget::LeapFault;
 
 // `part_level` is the level of a square's sixteen parts: its own level is that and 2.
 impl<A: Automaton> Leaper<A> {

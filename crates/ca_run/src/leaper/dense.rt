@@ -15,9 +15,9 @@ use super::from_grid::SquareGrid;
 use crate::bricks::{Frame, GridRule, frame_of};
 use crate::watch::Watch;
 use ca_bricks::CellRule;
+use ca_budget::LeapFault;
 use ca_plane::{Automaton, Memory};
 use ca_quad::{Tree, WideBounds};
-use ca_budget::LeapFault;
 use std::alloc::Global;
 
 // The fewest generations for which it pays to read all bricks.

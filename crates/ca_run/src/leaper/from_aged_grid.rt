@@ -9,9 +9,9 @@ ghost use Rattle.ca_bricks.specs.Prelude.{StatesShow, AgedGridShows, IsAgedGrid}
 use super::Leaper;
 use super::from_grid::SquareGrid;
 use ca_bricks::{AgedGrid, BrickGrid, WordPlace};
+use ca_budget::LeapFault;
 use ca_plane::{Automaton, Memory};
 use ca_quad::Id;
-use ca_budget::LeapFault;
 
 // How many squares the parts of one of 8 by 8 cells are, down to 2 by 2.
 const PARTS: u64 = 20;

@@ -10,9 +10,9 @@ ghost use Rattle.ca_bricks.specs.Prelude.{IsGrid, GridShows, HasMargin, IsNearGr
 
 use super::Leaper;
 use ca_bricks::{BrickGrid, QuarterPlaces, WordPlace};
+use ca_budget::LeapFault;
 use ca_plane::{Automaton, Memory};
 use ca_quad::{Id, Tree};
-use ca_budget::LeapFault;
 
 /// Grids of which squares are made.
 pub(crate) trait SquareGrid {

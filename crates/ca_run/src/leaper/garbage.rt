@@ -15,9 +15,9 @@ use super::dense::ReachedTree;
 use super::full_leap::FullLeap;
 use super::{Leaper, Milestone};
 use crate::watch::Watch;
+use ca_budget::{LeapFault, Pace};
 use ca_plane::{Automaton, Memory};
 use ca_quad::{SquareMap, Store, Tree};
-use ca_budget::{LeapFault, Pace};
 use std::mem;
 
 // How many squares that are copied cost a unit of work.

@@ -8,9 +8,9 @@ ghost use Rattle.ca_run.specs.inner.InUse.{IsTrueLeap, AreTrueLeaps};
 
 use super::Leaper;
 use super::full_leap::FullLeap;
+use ca_budget::Pace;
 use ca_plane::{Automaton, Memory};
 use ca_quad::{Id, SquareMap, Store, Tree};
-use ca_budget::Pace;
 
 impl<A: Automaton> Leaper<A> {
     // The results that are kept where squares are left behind: those in use where a run goes on and repeats, if there is

@@ -162,7 +162,7 @@ returns-in-Some-clause-closed t c =
 pub returns-clause-closed : goal.returns-clause-closed
 returns-clause-closed t c = λ closed.
     let fours = fours_are c.args.self.now c.args.offset c.remainders-place.result c.args.four c.level-level.result c.half_side-half.result c.level-level.ensures.level c.remainders-place.ensures.x c.remainders-place.ensures.y c.half_side-half.ensures.half
-        c.sixteen_parts-parts.result c.sixteen_parts-parts.ensures.parts c.overlapping_fours.result c.overlapping_fours.ensures
+    c.sixteen_parts-parts.result c.sixteen_parts-parts.ensures.parts c.overlapping_fours.result c.overlapping_fours.ensures
     in
     cuts_closed c.args.self.now c.cut_out.new.self c.cut_out-2.new.self c.cut_out-3.new.self c.cut_out-4.new.self c.join.new.self (subst IsSoundStore c.self.view_is c.self.invariant)
     c.cut_out.ensures.grows c.cut_out-2.ensures.grows c.cut_out-3.ensures.grows c.cut_out-4.ensures.grows c.join.ensures.grows c.args.offset c.args.four c.requires.four c.overlapping_fours.result fours
