@@ -1,7 +1,7 @@
 #!/usr/bin/env -S python3 -B
 """What helps where a run is refused: the last line of `--explain`, and the hint on a terminal that there is more to tell.
 
-- Files with the usual mistakes, and what docs/CLAIMS.md says of each under 'What to do': its fault, that its remedy helps, and that `--explain` ends with it.
+- Files with the usual mistakes, and what docs/COMMANDS.md says of each under 'What to do': its fault, that its remedy helps, and that `--explain` ends with it.
 - A claim text that is a pattern file is distinguished from others.
 - On a terminal a run ends with a line that says where `--explain` says more. Elsewhere standard error stays as it is.
 """
@@ -219,7 +219,7 @@ def try_table(tally, _):
     told |= {"allow more by --work", "convert it --to mc, which takes any number of cells", "claim that it becomes a file of its moved plane, without a shift"}
     told = {re.sub(r"\w+\.rule", "NAME.rule", it) for it in told}
     table = set(remedies.table().values())
-    tally.tell("the table of docs/CLAIMS.md", [f"in one alone: {it}" for it in sorted(told ^ table)])
+    tally.tell("the table of docs/COMMANDS.md", [f"in one alone: {it}" for it in sorted(told ^ table)])
 
 
 def run_on_terminal(words):

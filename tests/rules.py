@@ -370,7 +370,7 @@ def worked(page, sources):
 
 def main():
     tally, page, sources = Tally(), text_of(PAGE), Sources()
-    pages = {it: headings(it) for it in ("FORMATS.md", "CLAIMS.md")}
+    pages = {it: headings(it) for it in ("FORMATS.md", "CLAIMS.md", "COMMANDS.md")}
     rows = []
     for heading, those in rows_of(page, sources):
         complaints = []

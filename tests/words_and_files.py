@@ -119,12 +119,12 @@ def try_help(tally):
 
 
 def try_limits_in_help(tally):
-    """The help of each command says how many entries a memo may have, and how many where none are given: as docs/CLAIMS.md does, and as
+    """The help of each command says how many entries a memo may have, and how many where none are given: as docs/COMMANDS.md does, and as
     `Limits::default` promises."""
-    with open(os.path.join(ROOT, "docs", "CLAIMS.md"), encoding="utf-8") as page:
-        on_page = re.search(r"`--memo N` bounds .* to N entries, from (\d+) to (\d+), and to (\d+) where the option is missing", page.read())
+    with open(os.path.join(ROOT, "docs", "COMMANDS.md"), encoding="utf-8") as page:
+        on_page = re.search(r"`--memo N`\*\* bounds .* to N entries, from (\d+) to (\d+), and to (\d+) where the option is missing", page.read())
     wanted = ("1", "16777216", "262144")
-    tally.tell("the memo in docs/CLAIMS.md", [] if on_page and on_page.groups() == wanted else [str(on_page)])
+    tally.tell("the memo in docs/COMMANDS.md", [] if on_page and on_page.groups() == wanted else [str(on_page)])
     for name in HELP:
         told = re.findall(r"--memo <N> How many entries [^;:]*: (\d+) to (\d+); unless set, (\d+)", " ".join(run([name, "--help"]).printed.decode().split()))
         tally.tell(f"the memo in the help of {name}", [] if told == [wanted] else [str(told)])

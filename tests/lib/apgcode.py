@@ -1,4 +1,4 @@
-"""Apgcodes, written and read as docs/CLAIMS.md says: apart from the program."""
+"""Apgcodes, written and read as docs/FORMATS.md says: apart from the program."""
 from lib.steps import next_live
 
 DIGITS = "0123456789abcdefghijklmnopqrstuvwxyz"

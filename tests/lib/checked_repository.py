@@ -9,7 +9,8 @@ import sys
 from lib.program import PROGRAM, ROOT, Folder, Outcome, contents
 
 # The files and folders that ./dist reads, or is made of.
-PARTS = ("dist", "check", ".gitignore", "LICENSE-MIT", "LICENSE-APACHE", "packing", "examples", "scripts", "docs/CLAIMS.md", "docs/FORMATS.md")
+PARTS = ("dist", "check", ".gitignore", "LICENSE-MIT", "LICENSE-APACHE", "packing", "examples", "scripts",
+         "docs/CLAIMS.md", "docs/COMMANDS.md", "docs/FORMATS.md")
 
 # It says what the file ci holds, and puts the program in place as `rt ci` does, unless that fails.
 RT = """#!/bin/sh

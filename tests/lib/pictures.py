@@ -1,4 +1,4 @@
-"""Pictures of windows of the plane, drawn square by square as docs/CLAIMS.md says: naive, apart from the program, and the source of what tests expect of it."""
+"""Pictures of windows of the plane, drawn square by square as docs/COMMANDS.md says: naive, apart from the program, and what tests expect of it."""
 from dataclasses import dataclass
 
 MOST_SIDE, MOST_SCALE = 8192, 124

@@ -1,4 +1,4 @@
-"""What helps where the file of a pattern is refused, by the table of docs/CLAIMS.md, "What to do"."""
+"""What helps where the file of a pattern is refused, by the table of docs/COMMANDS.md, "What to do"."""
 import functools
 import os
 import re
@@ -9,7 +9,7 @@ from lib.program import ROOT, Outcome, escaped, file_word
 @functools.cache
 def table():
     """The remedies of the table's rows: for what is printed, and the first words of its usual cause."""
-    with open(os.path.join(ROOT, "docs", "CLAIMS.md"), encoding="utf-8") as page:
+    with open(os.path.join(ROOT, "docs", "COMMANDS.md"), encoding="utf-8") as page:
         rows = page.read().split("## What to do\n")[1].split("\n\n")[1].split("\n")[2:]
     found = {}
     for row in rows:
