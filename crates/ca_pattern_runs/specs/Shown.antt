@@ -1,4 +1,4 @@
--- What is printed of a pattern (our own; docs/CLAIMS.md).
+-- What is printed of a pattern (our own; docs/COMMANDS.md).
 use Rattle.std.specs.Prelude.{ℕ, ℤ, List, [], ◌∷◌, ◌++◌, Option, None, Some, codes, decimal}
 use Rattle.std.specs.Fmt.{signed_decimal}
 use Rattle.ca_plane.specs.declared.point.Bounds.{Bounds}

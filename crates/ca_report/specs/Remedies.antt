@@ -1,4 +1,4 @@
--- What helps where a file is refused: the line `  try: ` that ends an explanation (our own; the table of docs/CLAIMS.md, "What to do").
+-- What helps where a file is refused: the line `  try: ` that ends an explanation (our own; the table of docs/COMMANDS.md, "What to do").
 use Rattle.std.specs.Prelude.{ℕ, List, [], ◌∷◌, ◌++◌, Bool, not, ◌&&◌, ◌||◌, codes, nat_eq, nat_le, if◌then◌else◌, Option, None, Some, Vec}
 use Rattle.std.specs.List.{list_all, list_any, starts_with}
 use Rattle.std.specs.Str.{bytes_eq}
