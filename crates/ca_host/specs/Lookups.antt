@@ -62,7 +62,9 @@ FindsOnce gives lacks folder pattern found olds news old new =
     ⊎ ((name : List ℕ) × IsUnknownRuleOf pattern old.tables name × (is_file_name name ≡ true) × ((look : Lookup)
     × LooksOnce gives lacks name (rule_path folder name) look olds news old new × IsTold name (rule_path folder name) look found))
 
--- where memory runs out, the names are those of before, or one more was looked for
-abbrev pub SearchesOn : Gives → Lacks → (folder : List ℕ) → (olds news : List NamedLookup) → Type 0
-SearchesOn gives lacks folder olds news =
-    (news ≡ olds) ⊎ ((name : List ℕ) × (is_file_name name ≡ true) × ((look : Lookup) × (old : Kept) × (new : Kept) × LooksOnce gives lacks name (rule_path folder name) look olds news old new))
+-- where memory runs out, the rule files stay as they are. So do the names, or, for a pattern file with these bytes whose rule is unknown, what there is for that rule's name in the folder is looked for once
+abbrev pub SearchesOn : Gives → Lacks → (folder pattern : List ℕ) → (olds news : List NamedLookup) → (rules : Kept) → Type 0
+SearchesOn gives lacks folder pattern olds news rules =
+    (news ≡ olds)
+    ⊎ ((name : List ℕ) × IsUnknownRuleOf pattern rules.tables name × (is_file_name name ≡ true) × ((look : Lookup)
+    × LooksOnce gives lacks name (rule_path folder name) look olds news rules rules))

@@ -56,7 +56,9 @@ impl RuleFiles {
             (record { tables = self.new.tables.items; paths = self.new.paths.items })) }
         ensures tables { OnErr result (self.new.tables.items ≡ self.old.tables.items) }
         ensures paths { OnErr result (self.new.paths.items ≡ self.old.paths.items) }
-        ensures looks { OnErr result (SearchesOn D.gives D.lacks folder.now looks.old.items looks.new.items) }
+        ensures looks { OnErr result (
+            SearchesOn D.gives D.lacks folder.now pattern.now looks.old.items looks.new.items
+            (record { tables = self.old.tables.items; paths = self.old.paths.items })) }
     {
         let Some(name) = self.unknown_rule(alloc, pattern)? else {
             return Ok(None);

@@ -18,7 +18,7 @@ pub record Search : Type 0 where
 abbrev pub IsFailure : Gives → Lacks → (folder : List ℕ) → FileContent → Option FileContent → (old new : Search) → Type 0
 IsFailure gives lacks folder (Bytes bytes) None old new = FindsOnce gives lacks folder bytes.items None old.looks new.looks old.rules new.rules
 IsFailure gives lacks folder (Bytes bytes) (Some (FaultyRule faulty)) old new = FindsOnce gives lacks folder bytes.items (Some faulty) old.looks new.looks old.rules new.rules
-IsFailure gives lacks folder (Bytes bytes) (Some (Missing why)) old new = (why ≡ cause.Memory) × (new.rules ≡ old.rules) × SearchesOn gives lacks folder old.looks new.looks
+IsFailure gives lacks folder (Bytes bytes) (Some (Missing why)) old new = (why ≡ cause.Memory) × (new.rules ≡ old.rules) × SearchesOn gives lacks folder bytes.items old.looks new.looks old.rules
 IsFailure gives lacks folder (Bytes bytes) (Some (Bytes other)) old new = ⊥
 IsFailure gives lacks folder (Missing why) found old new = (found ≡ None) × (new ≡ old)
 IsFailure gives lacks folder (FaultyRule faulty) found old new = (found ≡ None) × (new ≡ old)
