@@ -1,4 +1,5 @@
 pub mod FolderRules
 pub mod Handing
 pub mod Passed
+pub mod PatternRules
 pub mod RuleLines

@@ -4,6 +4,7 @@ pub mod Folders
 pub mod ImportFaults
 pub mod Imports
 pub mod NamedRules
+pub mod PatternRules
 pub mod Reaches
 pub mod Runs
 pub mod Scopes

@@ -6,11 +6,12 @@ ghost use Rattle.ca_pattern.specs.Prelude.{AreGoodLimits};
 ghost use Rattle.ca_cli.specs.Words.{memo_of, work_of, generations_of};
 
 use crate::FAULT;
+use crate::pattern_rules::{UnknownRules, known_rules};
 use crate::terminal::{on_terminal, terminal_room};
 use crate::ties::tell_ties;
 use ca_cli::PatternExtras;
 use ca_draw::ImageFormat;
-use ca_host::{FaultyFile, Heading, Progress, RuleFiles, Streams, open_source, read_file};
+use ca_host::{Heading, Progress, Streams, open_source, read_file};
 use ca_pattern::File;
 use ca_plane::{Dev, send};
 use ca_report::DetailedFault;
@@ -66,7 +67,7 @@ pub fn write_pattern<R: Env + Files + Clock + AllocGlobal>(
         path: path.as_bytes(),
         bytes: bytes.as_slice(),
     };
-    let rules = match known_rules(rt, pattern.bytes, rule, extras) {
+    let rules = match known_rules(rt.alloc(), rt, pattern.bytes, rule, extras) {
         Ok(rules) => rules,
         Err(unknown) => return refuse_rules(&unknown, pattern, extras, streams),
     };
@@ -120,40 +121,6 @@ fn load_rule<'a, R: Files + AllocGlobal>(
     match read_file(rt, path) {
         Ok(bytes) => Ok(Some(bytes)),
         Err(fault) => Err(UnreadFile { fault, path }),
-    }
-}
-
-// Why the tables of a run aren't known.
-#[derive(Drop)]
-enum UnknownRules {
-    // The rule file that is named is faulty, or memory is out.
-    Named(ToolFault),
-    // The rule file that has the name of the pattern's rule is faulty.
-    Found(FaultyFile),
-}
-
-// The rule file that is named, with these bytes, if there is one; and where there is a folder, the one there that has the
-// name of the pattern's rule, if no rule is known by it.
-fn known_rules<R: Files + AllocGlobal>(
-    rt: &R,
-    pattern: &[u8],
-    rule: Option<Vec<u8>>,
-    extras: &PatternExtras,
-) -> Result<RuleFiles, UnknownRules> {
-    let mut rules = RuleFiles::new(rt.alloc());
-    if let (Some(path), Some(bytes)) = (&extras.rule, &rule) {
-        if let Err(fault) = rules.add(rt.alloc(), path.as_bytes(), bytes) {
-            return Err(UnknownRules::Named(fault));
-        }
-    }
-    let Some(folder) = &extras.folder else {
-        return Ok(rules);
-    };
-    let mut looks = Vec::new(rt.alloc());
-    match rules.find(rt.alloc(), rt, folder.as_str(), pattern, &mut looks) {
-        Ok(None) => Ok(rules),
-        Ok(Some(faulty)) => Err(UnknownRules::Found(faulty)),
-        Err(_) => Err(UnknownRules::Named(ToolFault::Memory)),
     }
 }
 
