@@ -1,6 +1,7 @@
 pub mod Contents
 pub mod FolderRules
 pub mod Folders
+pub mod Forms
 pub mod ImportFaults
 pub mod Imports
 pub mod NamedRules

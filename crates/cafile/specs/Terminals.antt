@@ -4,6 +4,7 @@ use Rattle.std.specs.Option.{option_or}
 use Rattle.ca_quad.specs.declared.tree.Spot.{Spot}
 use Rattle.ca_draw.specs.declared.{drawing.ImageFormat.ImageFormat, view.Size.Size, view.View.View}
 use Rattle.ca_draw.specs.declared.drawing.ImageFormat.TheVariants.{Text, Pgm}
+use Rattle.ca_report.specs.declared.form.DrawRequest.{DrawRequest}
 use Rattle.ca_cli.specs.Words.{IsNumberText}
 
 -- the word is `count` columns or lines: a number above 0
@@ -29,3 +30,7 @@ room_for Text (Some corner) scale room = room
 -- the size of a picture: the one that is asked for, or else the one that the terminal gives
 abbrev pub size_on : ImageFormat → View → (room : Option Size) → Option Size
 size_on format view room = option_or view.size (room_for format view.corner view.scale room)
+
+-- what is asked for of a picture, in this size
+abbrev pub request_on : DrawRequest → (room : Option Size) → DrawRequest
+request_on request room = record request { view = record request.view { size = size_on request.format request.view room } }

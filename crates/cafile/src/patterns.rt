@@ -4,13 +4,14 @@ ghost use Rattle.std.specs.Prelude.{◌≡◌, ◌≤◌, [], unwrap_or, option_
 ghost use Rattle.ca_plane.specs.Prelude.{most_generations};
 ghost use Rattle.ca_pattern.specs.Prelude.{AreGoodLimits};
 ghost use Rattle.ca_cli.specs.Words.{memo_of, work_of, generations_of};
+ghost use Rattle.cafile.specs.Forms.{asked_on, IsAskedFor};
 
 use crate::FAULT;
 use crate::pattern_rules::{UnknownRules, known_rules};
 use crate::terminal::{on_terminal, terminal_room};
 use crate::ties::tell_ties;
 use ca_cli::PatternExtras;
-use ca_draw::ImageFormat;
+use ca_draw::{ImageFormat, Size};
 use ca_host::{Heading, Progress, Streams, open_source, read_file};
 use ca_pattern::File;
 use ca_plane::{Dev, send};
@@ -31,19 +32,31 @@ struct Asked {
     captioned: bool,
 }
 
-// The form that the words ask for. On a terminal a picture that is text fits that, and has a caption.
-fn asked_of<R: Env + AllocGlobal>(rt: &R, form: Form, output: &Dev<Stdout>) -> Asked {
-    let Form::Picture(request) = form else {
-        return Asked {
-            form,
-            captioned: false,
-        };
-    };
-    let is_terminal = output.inner().is_terminal();
+// The form that the words ask for, on this output.
+fn asked_of<R: Env + AllocGlobal>(rt: &R, form: Form, output: &Dev<Stdout>) -> Asked
+    ensures { IsAskedFor form result }
+{
+    let is_terminal = matches!(form, Form::Picture(_)) && output.inner().is_terminal();
     let room = if is_terminal { terminal_room(rt) } else { None };
+    asked_with(form, is_terminal, room)
+}
+
+// The same, on a terminal or elsewhere. On a terminal with this room, if that is known, a picture that is text fits it,
+// and has a caption.
+fn asked_with(form: Form, is_terminal: bool, room: Option<Size>) -> Asked
+    ensures { result ≡ asked_on form is_terminal room }
+{
+    if let Form::Picture(request) = form {
+        if is_terminal {
+            return Asked {
+                form: Form::Picture(on_terminal(request, room)),
+                captioned: request.format == ImageFormat::Text,
+            };
+        }
+    }
     Asked {
-        form: Form::Picture(on_terminal(request, room)),
-        captioned: is_terminal && request.format == ImageFormat::Text,
+        form,
+        captioned: false,
     }
 }
 

@@ -1,7 +1,7 @@
 //! The terminal that a picture is drawn on.
 
 ghost use Rattle.std.specs.Prelude.{◌≡◌, ◌<◌, ℕ, MatchOption};
-ghost use Rattle.cafile.specs.Terminals.{IsCountText, terminal_side, room_in, room_for, size_on};
+ghost use Rattle.cafile.specs.Terminals.{IsCountText, terminal_side, room_in, room_for, request_on};
 
 use ca_draw::{ImageFormat, MOST_SIDE, Size, View};
 use ca_quad::Spot;
@@ -55,11 +55,7 @@ fn side_of(count: u64) -> u16
 /// What is asked for of a picture on a terminal that has this room, if that is known: a text fits it, unless another size or
 /// the scale of a whole box is asked for.
 pub fn on_terminal(request: DrawRequest, room: Option<Size>) -> DrawRequest
-    ensures size { result.view.size ≡ size_on request.format request.view room }
-    ensures corner { result.view.corner ≡ request.view.corner }
-    ensures scale { result.view.scale ≡ request.view.scale }
-    ensures zoom { result.view.zoom ≡ request.view.zoom }
-    ensures format { result.format ≡ request.format }
+    ensures { result ≡ request_on request room }
 {
     let view = request.view;
     let room = room_for(request.format, view.corner, view.scale, room);
