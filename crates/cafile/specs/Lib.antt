@@ -10,3 +10,4 @@ pub mod Reaches
 pub mod Runs
 pub mod Scopes
 pub mod Terminals
+pub mod TextViews
