@@ -6,6 +6,7 @@ As root, folders that take no file are folders of the system alone, since root m
 allows that; else files may have a few bytes only.
 """
 import os
+import random
 import resource
 import shutil
 import signal
@@ -15,7 +16,7 @@ from lib import apgcode, brians_brain, census, steps
 from lib.census_files import Object, Settled, contents_of, found_object, yes_lines
 from lib.macrocell import EDGE
 from lib.parts import as_one_test, try_all
-from lib.program import PROGRAM, ROOT, Outcome, Runs, ample, contents, fault, run
+from lib.program import PROGRAM, ROOT, Outcome, Runs, ample, contents, escaped, fault, run
 from lib.rle import cells_and_rule, tidy
 
 # The greatest generation that a file may have.
@@ -88,8 +89,13 @@ class Censuses(Runs):
         printed = b"".join(it.listed() if listed else it.counts() for it in each)
         files = {name: content for it in each for name, content in it.files(into).items()}
         self.outcome([*(it.path for it in each), *["--list"] * listed, *words], ample(printed), files, into)
-        for it in each:
-            self.expect("all is true", ["verify", f"{into}/{it.name}.claims"], ample(yes_lines(it.claims(into))), cwd=self.folder)
+        self.judge(each, into)
+
+    def judge(self, each, into):
+        """Judges the claim texts of these, in one run: all is true."""
+        texts = {f"{into}/{it.name}.claims": yes_lines(it.claims(into)) for it in each}
+        told = [escaped(f"{path}: ".encode()) * (len(each) > 1) + line for path, lines in texts.items() for line in lines.splitlines(keepends=True)]
+        self.expect("all is true", ["verify", *texts], ample(b"".join(told)), cwd=self.folder)
 
     def refuse(self, told, words, files=None, into="into", printed=b"", before=(), **how):
         """A run that ends for this fault, and leaves these files, and beside them those that were there before."""
@@ -327,6 +333,62 @@ def try_unnameable(censuses):
     censuses.expect("without the option", ["census", "a b.rle"], ample(plain.counts()), cwd=censuses.folder)
 
 
+def grid(columns, rows, apart):
+    """Blocks and blinkers in columns and rows."""
+    return [(BLINKER if (3 * column + row) % 7 == 0 else BLOCK).moved(apart * column, apart * row) for column in range(columns) for row in range(rows)]
+
+
+@as_one_test(Censuses, "many objects")
+def try_many_objects(censuses):
+    """2704 objects, a file of each; and none of these is left where the last file that is written may have a byte less than it has, or where one is there
+    already that is written late."""
+    objects = grid(52, 52, 30)
+    path = censuses.file("many.rle", union(objects))
+    many = Settled(path, "many", objects)
+    censuses.settle([many])
+    censuses.expect("a list", ["census", "--list", path], ample(many.listed()), cwd=censuses.folder)
+    shutil.rmtree(censuses.path("into"))
+    censuses.refuse("cannot write into/many.claims", [path], {}, **with_room(len(many.claims("into")) - 1))
+    for late in ("many-2704.rle", "many.claims"):
+        there = censuses.path(f"into/{late}", b"mine\n")
+        censuses.refuse(f"into/{late} is there already", [path], {late: b"mine\n"})
+        os.remove(there)
+
+
+@as_one_test(Censuses, "many files")
+def try_many_files(censuses):
+    """600 files into one folder, half of them of one name."""
+    objects = [BLOCK, BLINKER.moved(9, 9)]
+    paths = {censuses.file(f"small{at}.rle", union(objects)): f"small{at}" for at in range(300)}
+    each = [Settled(path, name, objects) for path, name in paths.items()]
+    same = censuses.file("same.rle", union(objects))
+    censuses.settle([*each, *(Settled(same, f"same-{at}" if at > 1 else "same", objects) for at in range(1, 301))])
+
+
+@as_one_test(Censuses, "long paths and texts")
+def try_long(censuses):
+    """Paths of almost 4096 bytes in a claim text of 1500000, one with 1200 rule files, and a file of 90000 cells of 255 states, that have one object, under a
+    rule with a name of 5000 bytes."""
+    deep = "/".join(["d" * 200] * 18)
+    os.makedirs(censuses.path(deep))
+    objects, name = grid(20, 20, 9), "n" * 200
+    censuses.settle([Settled(censuses.file(f"{deep}/{name}.rle", union(objects)), name, objects)], into=f"{deep}/into")
+    os.mkdir(censuses.path("rules"))
+    unsettled = []
+    for at in range(1200):
+        censuses.path(f"rules/Gone{at}.rule", STAYING % f"Gone{at}" + "1,0,0,0\n")
+        unsettled.append(censuses.file(f"gone{at}.rle", {(0, 0): 1}, f"Gone{at}", 3))
+    block = Settled(censuses.file("block.rle", BLOCK.cells), "block", [BLOCK], rules=[f"rules/Gone{at}.rule" for at in range(1200)])
+    printed = b"".join(b"# gone%d: not found to settle within 0 generations\n" % at for at in range(1200))
+    censuses.outcome([*unsettled, block.path, "--rules", "rules", "--limit", "0"], ample(printed + block.counts()), block.files("into"))
+    censuses.judge([block], "into")
+    rule, chance = "Stay" + "y" * 4996, random.Random(255)
+    censuses.path("stay.rule", STAYING.replace(":3", ":256") % rule)
+    large = Object({(x, y): chance.randrange(1, 256) for x in range(300) for y in range(300)}, "still")
+    path = censuses.file("large.rle", large.cells, rule, 256)
+    censuses.settle([Settled(path, "large", [large], rule=rule, states=256, rules=["stay.rule"])], ["--rule", "stay.rule"])
+
+
 def with_room(size):
     """How a run is started whose files may have so many bytes."""
     def limit():
@@ -471,5 +533,5 @@ def try_example(censuses):
 
 
 if __name__ == "__main__":
-    try_all(try_made, try_known, try_rules, try_tables, try_names, try_taken, try_folders, try_unnameable, try_sizes, try_full, try_limits, try_explained,
+    try_all(try_made, try_known, try_rules, try_tables, try_names, try_taken, try_folders, try_unnameable, try_many_objects, try_many_files, try_long, try_sizes, try_full, try_limits, try_explained,
             try_several, try_example)
