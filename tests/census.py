@@ -1,5 +1,8 @@
 #!/usr/bin/env -S python3 -B
-"""The command `census`: censuses that are known, and those of random soups, found apart from the program (tests/lib/census.py). With `--count N` it tries N soups."""
+"""The command `census`: censuses that are known, and those of random soups, found apart from the program (tests/lib/census.py).
+
+    tests/census.py [--count N] [--seed S] [PART..]
+"""
 import random
 import re
 import sys
@@ -7,7 +10,7 @@ from collections import Counter
 
 from lib import census
 from lib.parts import as_one_test, try_all
-from lib.program import Runs, ample, run
+from lib.program import MOST_SECONDS, Runs, allow_seconds, ample, run
 from lib.rle import tidy
 
 # Patterns whose censuses are on their pages of LifeWiki: what they settle into, and after how many generations.
@@ -23,8 +26,19 @@ KNOWN = {
 # How many live cells an object has.
 CELLS = {"xs4_33": 4, "xq4_153": 5, "xs6_696": 6, "xp2_7": 3, "xs5_253": 5, "xs6_356": 6, "xs7_2596": 7, "xs8_6996": 8, "xs6_25a4": 6, "xs8_69ic": 8}
 
-# How many soups are tried.
-SOUPS = int(sys.argv[sys.argv.index("--count") + 1]) if "--count" in sys.argv else 10
+
+def number_of(option, usual):
+    """The number behind an option, both of which are taken out of the script's words, or else the usual one."""
+    if option not in sys.argv:
+        return usual
+    at = sys.argv.index(option)
+    number = int(sys.argv[at + 1])
+    del sys.argv[at:at + 2]
+    return number
+
+
+# How many soups are tried, from which seed, and the seconds of a processor in which one is found to settle, or not to.
+SOUPS, SEED, SECONDS = number_of("--count", 10), number_of("--seed", 16), 30
 
 
 def cells_of(picture):
@@ -60,7 +74,7 @@ def try_known(runs):
 @as_one_test(Runs, "soups")
 def try_soups(runs):
     """Soups of 16 by 16 cells, half of them live."""
-    chance, wanted, paths = random.Random(16), [], []
+    chance, wanted, paths = random.Random(SEED), [], []
     while len(wanted) < SOUPS:
         cells = {(x, y) for x in range(16) for y in range(16) if chance.randrange(2)}
         found = census.settles(cells)
@@ -68,11 +82,11 @@ def try_soups(runs):
             name = f"soup{len(wanted)}"
             paths.append(runs.path(f"{name}.rle", rle_of(cells)))
             wanted.append(census.census_text(name, *found))
-    came = run(["census", *paths]).printed
-    got = re.split(rb"(?m)^(?=#)", came)[1:]
+    came = run(["census", *paths])
+    got = re.split(rb"(?m)^(?=#)", came.printed)[1:]
     runs.count += len(wanted)
     runs.complaints += [f"wanted {it}, got {other}" for it, other in zip(wanted, got) if it != other]
-    runs.complaints += [] if len(got) == len(wanted) else [f"{len(got)} of {len(wanted)} soups"]
+    runs.complaints += [] if len(got) == len(wanted) and (came.complaint, came.status) == (b"", 0) else [f"{len(got)} of {len(wanted)} soups: {came}"]
 
 
 @as_one_test(Runs, "lists of objects")
@@ -141,8 +155,5 @@ def try_refused(runs):
 
 
 if __name__ == "__main__":
-    words = sys.argv[1:]
-    if "--count" in words:
-        at = words.index("--count")
-        del sys.argv[1 + at:3 + at]
+    allow_seconds(MOST_SECONDS + SECONDS * SOUPS)
     try_all(try_known, try_soups, try_lists, try_meetings, try_many, try_refused)

@@ -1,63 +1,74 @@
 """What planes settle into under B3/S23, found apart from the program: a plane is run on until its population repeats, the objects that it consists of then are
 taken back, generation by generation, and the first generation is that up to which they are the plane and keep apart."""
 from collections import Counter
+from dataclasses import dataclass
 
 from lib import apgcode
-
-# Columns are bits of a number for each row, counted from here.
-ORIGIN = 1 << 14
 
 # The longest period of an object that is found, and a multiple of all periods up to it that are usual.
 MOST_PERIOD = 60
 
 
-def rows_of(cells):
-    """The rows of some cells, each a number."""
-    rows = {}
+@dataclass
+class Plane:
+    """A plane: the column of its westernmost cells, and its rows, each a number whose bits are the cells from that column on. It takes as much room as its
+    cells are wide, wherever they are."""
+
+    west: int
+    rows: dict
+
+    def cells(self):
+        """Its cells."""
+        found = set()
+        for y, row in self.rows.items():
+            while row:
+                bit = row & -row
+                found.add((self.west + bit.bit_length() - 1, y))
+                row ^= bit
+        return found
+
+    def count(self):
+        """How many cells it has."""
+        return sum(bin(row).count("1") for row in self.rows.values())
+
+    def next(self):
+        """The plane one generation later."""
+        later, columns = {}, 0
+        for y in {y + it for y in self.rows for it in (-1, 0, 1)}:
+            row = next_row(self.rows.get(y - 1, 0), self.rows.get(y, 0), self.rows.get(y + 1, 0))
+            if row:
+                later[y] = row
+                columns |= row
+        empty = max((columns & -columns).bit_length() - 1, 0)
+        return Plane(self.west - 1 + empty, {y: row >> empty for y, row in later.items()})
+
+
+def plane_of(cells):
+    """The plane of some cells."""
+    west, rows = min((x for x, _ in cells), default=0), {}
     for x, y in cells:
-        rows[y] = rows.get(y, 0) | 1 << x + ORIGIN
-    return rows
-
-
-def cells_of(rows):
-    """The cells of rows."""
-    cells = set()
-    for y, row in rows.items():
-        while row:
-            bit = row & -row
-            cells.add((bit.bit_length() - 1 - ORIGIN, y))
-            row ^= bit
-    return cells
+        rows[y] = rows.get(y, 0) | 1 << x - west
+    return Plane(west, rows)
 
 
 def next_row(above, row, below):
-    """A row one generation later."""
+    """A row one generation later, whose bits begin one column further west."""
     ones = twos = fours = 0
-    for it in (above << 1, above, above >> 1, row << 1, row >> 1, below << 1, below, below >> 1):
+    for it in (above << 2, above << 1, above, row << 2, row, below << 2, below << 1, below):
         carry = ones & it
         ones ^= it
         fours |= twos & carry
         twos ^= carry
-    return twos & ~fours & (ones | row)
-
-
-def next_rows(rows):
-    """The rows one generation later."""
-    later = {}
-    for y in {y + it for y in rows for it in (-1, 0, 1)}:
-        row = next_row(rows.get(y - 1, 0), rows.get(y, 0), rows.get(y + 1, 0))
-        if row:
-            later[y] = row
-    return later
+    return twos & ~fours & (ones | row << 1)
 
 
 def stages_of(cells, most):
-    """The planes of some cells, as rows, up to a generation long after which the population has repeated."""
-    stages = [rows_of(cells)]
+    """The planes of some cells, up to a generation long after which the population has repeated."""
+    stages = [plane_of(cells)]
     counts = [len(cells)]
     while len(stages) < most:
-        stages.append(next_rows(stages[-1]))
-        counts.append(sum(row.bit_count() if hasattr(row, "bit_count") else bin(row).count("1") for row in stages[-1].values()))
+        stages.append(stages[-1].next())
+        counts.append(stages[-1].count())
         if len(counts) % 64 == 0 and len(counts) > 8 * MOST_PERIOD:
             last = counts[-4 * MOST_PERIOD:]
             if last[:-MOST_PERIOD] == last[MOST_PERIOD:]:
@@ -82,11 +93,11 @@ def joined(cells, reach):
 
 def phases_of(cells):
     """The planes of a part over its period, and how it is moved then, or None."""
-    phases, now = [frozenset(cells)], rows_of(cells)
+    phases, now = [frozenset(cells)], plane_of(cells)
     left, top = apgcode.box(cells)[:2]
     for _ in range(MOST_PERIOD):
-        now = next_rows(now)
-        later = cells_of(now)
+        now = now.next()
+        later = now.cells()
         if not later:
             return None
         x, y = apgcode.box(later)[:2]
@@ -103,23 +114,28 @@ def plane_after(part, n):
     return {(x + turns * dx, y + turns * dy) for x, y in phases[phase]}
 
 
+def seen_from(cells):
+    """The places that windows of three by three cells see which see one of these cells."""
+    return {(x + u, y + v) for x, y in cells for u in range(-2, 3) for v in range(-2, 3)}
+
+
 def are_apart(one, other):
     """Whether no window of three by three cells sees cells of both."""
-    return not any((x + u, y + v) in other for x, y in one for u in range(-2, 3) for v in range(-2, 3))
+    return seen_from(one).isdisjoint(other)
 
 
 def objects_of(cells):
     """The objects of a settled plane: islands that go on as they do alone, or several where they don't."""
     groups = joined(cells, 1)
-    whole = [rows_of(cells)]
+    whole = [plane_of(cells)]
     for _ in range(MOST_PERIOD):
-        whole.append(next_rows(whole[-1]))
-    whole = [cells_of(it) for it in whole]
+        whole.append(whole[-1].next())
+    whole = [it.cells() for it in whole]
     while True:
         runs = [[it] for it in groups]
         for n in range(1, MOST_PERIOD + 1):
             for it in runs:
-                it.append(cells_of(next_rows(rows_of(it[-1]))))
+                it.append(plane_of(it[-1]).next().cells())
             differ = whole[n] ^ set().union(*(it[n] for it in runs))
             if differ:
                 break
@@ -133,12 +149,18 @@ def objects_of(cells):
         groups = [it for index, it in enumerate(groups) if index not in seen] + [set().union(*(groups[index] for index in seen))]
 
 
+def are_far(one, other):
+    """Whether no window of three by three cells sees places of both boxes."""
+    return any(after[axis] - before[axis] - before[axis + 2] > 1 for after, before in ((one, other), (other, one)) for axis in (0, 1))
+
+
 def clusters_of(objects):
     """The objects by clusters: those that come near one another within a period."""
     near = {index: [index] for index in range(len(objects))}
+    boxes = [apgcode.box(set().union(*(plane_after(it, n) for n in range(MOST_PERIOD)))) for it in objects]
     for one in range(len(objects)):
         for other in range(one):
-            if near[one] is near[other] or any(abs(a - b) > 80 for a, b in zip(min(objects[one][0][0]), min(objects[other][0][0]))):
+            if near[one] is near[other] or are_far(boxes[one], boxes[other]):
                 continue
             if any(not are_apart(plane_after(objects[one], n), plane_after(objects[other], n)) for n in range(MOST_PERIOD)):
                 both = near[one] + near[other]
@@ -159,7 +181,7 @@ def settling(cells, most=20000):
     if stages is None:
         return None
     end = len(stages) - 1
-    objects = objects_of(cells_of(stages[end]))
+    objects = objects_of(stages[end].cells())
     if objects is None or None in objects:
         return None
     clusters = clusters_of(objects)
@@ -167,10 +189,10 @@ def settling(cells, most=20000):
     while first > 0:
         parts = [part_after(objects, cluster, first - 1 - end) for cluster in clusters]
         whole = set().union(*parts)
-        if whole != cells_of(stages[first - 1]) or sum(map(len, parts)) != len(whole):
+        if whole != stages[first - 1].cells() or sum(map(len, parts)) != len(whole):
             break
         moving = [index for index, cluster in enumerate(clusters) if any(objects[it][1:] != (0, 0) for it in cluster)]
-        if any(not are_apart(parts[one], set().union(*(part for other, part in enumerate(parts) if other != one))) for one in moving):
+        if any(len(seen_from(parts[it]) & whole) > len(parts[it]) for it in moving):
             break
         first -= 1
     return first, [phases_of(plane_after(it, first - end)) for it in objects]

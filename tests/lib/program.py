@@ -2,6 +2,7 @@
 import os
 import re
 import resource
+import signal
 import subprocess
 import sys
 from dataclasses import dataclass
@@ -12,11 +13,24 @@ PROGRAM = os.environ.get("CAFILE", os.path.join(ROOT, "crates", "cafile", "out",
 # The most bytes that a file may have.
 MAX_FILE = 67108864
 
-# The seconds of a processor after which the system ends a run, and those by the clock after which it is ended here, though it only waits.
+# The seconds of a processor after which the system ends a run, or the script itself, and those by the clock after which a run is ended here, though it only
+# waits.
 MOST_SECONDS, MOST_WAITING = 200, 3000
 
-MOST_ALLOWED = resource.getrlimit(resource.RLIMIT_CPU)[1]
-resource.setrlimit(resource.RLIMIT_CPU, (MOST_SECONDS if MOST_ALLOWED == resource.RLIM_INFINITY else min(MOST_SECONDS, MOST_ALLOWED), MOST_ALLOWED))
+
+def allow_seconds(seconds):
+    """Has the system end a run, or the script itself, after so many seconds of a processor."""
+    most = resource.getrlimit(resource.RLIMIT_CPU)[1]
+    resource.setrlimit(resource.RLIMIT_CPU, (seconds if most == resource.RLIM_INFINITY else min(seconds, most), most))
+
+
+def give_up(_number, _frame):
+    """Ends the script where it has used up its own seconds, which would end it without a word."""
+    sys.exit(f"{sys.argv[0]} took more than {resource.getrlimit(resource.RLIMIT_CPU)[0]} seconds of a processor")
+
+
+allow_seconds(MOST_SECONDS)
+signal.signal(signal.SIGXCPU, give_up)
 
 
 @dataclass(frozen=True)
