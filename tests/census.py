@@ -108,6 +108,40 @@ def try_lists(runs):
     runs.expect("empty", ["census", empty], ample(b"# empty: settles after 0 generations: 0 objects, 0 cells\n"))
 
 
+def generations(cells, count):
+    """The cells of a plane in so many generations."""
+    planes = [census.plane_of(cells)]
+    while len(planes) < count:
+        planes.append(planes[-1].next())
+    return [it.cells() for it in planes]
+
+
+def pairs(one, other):
+    """The planes in which one object sees the other and none changes the other, whose planes over 7 generations these are, that go round in 6."""
+    for right, down in ((x, y) for x in range(-16, 17) for y in range(-16, 17)):
+        each = [{(x + right, y + down) for x, y in cells} for cells in other]
+        both = one[0] | each[0]
+        if not census.are_apart(one[0], each[0]) and len(both) == len(one[0]) + len(each[0]):
+            if all(a | b == whole and len(whole) == len(a) + len(b) for a, b, whole in zip(one, each, generations(both, 7))):
+                yield both
+
+
+@as_one_test(Runs, "objects beside one another")
+def try_beside(runs):
+    """Blocks, blinkers, beacons and a pulsar that see a beacon and don't change it, in each of its generations, in one of which its cells are two islands."""
+    beacon, code = generations(cells_of("oo\no\n...o\n..oo"), 8), "xp2_318c"
+    quarter = {(2, 1), (3, 1), (4, 1), (1, 2), (1, 3), (1, 4), (6, 2), (6, 3), (6, 4), (2, 6), (3, 6), (4, 6)}
+    pulsar = {(x * right, y * down) for x, y in quarter for right in (-1, 1) for down in (-1, 1)}
+    texts = []
+    for other, its in (("oo\noo", "xs4_33"), ("ooo", "xp2_7"), ("oo\no\n...o\n..oo", code), (pulsar, "xp3_co9nas0san9oczgoldlo0oldlogz1047210127401")):
+        others = generations(cells_of(other) if isinstance(other, str) else other, 7)
+        for cells in (it for first in (0, 1) for it in pairs(beacon[first:first + 7], others)):
+            name = f"pair{len(texts)}"
+            texts.append((runs.path(f"{name}.rle", rle_of(cells)), census.census_text(name, 0, Counter([code, its]), len(cells))))
+    runs.expect("all", ["census", *(path for path, _ in texts)], ample(b"".join(text for _, text in texts)))
+    runs.complaints += [] if len(texts) == 76 else [f"{len(texts)} pairs"]
+
+
 @as_one_test(Runs, "parts that meet")
 def try_meetings(runs):
     """Gliders that meet head on, that never do, and one behind another; a spark that dies alone; a limit that is too early; and a gun."""
@@ -156,4 +190,4 @@ def try_refused(runs):
 
 if __name__ == "__main__":
     allow_seconds(MOST_SECONDS + SECONDS * SOUPS)
-    try_all(try_known, try_soups, try_lists, try_meetings, try_many, try_refused)
+    try_all(try_known, try_soups, try_lists, try_beside, try_meetings, try_many, try_refused)

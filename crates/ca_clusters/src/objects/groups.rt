@@ -1,6 +1,6 @@
 //! Groups of islands that are run side by side with their cluster.
 
-ghost use Rattle.std.specs.Prelude.{◌≡◌, ℕ, ◌<◌, ℤ, [], length, map, IfOk, IfSome, IsNone};
+ghost use Rattle.std.specs.Prelude.{◌≡◌, ℕ, ◌<◌, ℤ, [], length, map, IfOk, IfSome, IsNone, IsTrue};
 ghost use Rattle.std.specs.List.{All, AllZip, flat_map};
 ghost use Rattle.ca_plane.specs.Prelude.{cell, IsSparse};
 ghost use Rattle.ca_steps.specs.Prelude.{HasStates};
@@ -9,7 +9,7 @@ ghost use Rattle.ca_clusters.specs.inner.Groups.{AreGroups, IsGroupRun, IsOneLat
 ghost use Rattle.ca_clusters.specs.inner.Groups.{IsUnionOf, latest_of, start_of};
 
 use ca_parts::Phases;
-use ca_plane::{Automaton, Memory, Plane, Point};
+use ca_plane::{Automaton, Memory, MoveFault, Plane, Point};
 use ca_steps::{RunFault, step};
 use std::alloc::Global;
 
@@ -26,7 +26,7 @@ pub(super) enum GroupRun {
     Same(Vec<Run>),
     /// After some generations they differ from it for the first time.
     Differs(Difference),
-    /// Two of them are live at one place, or they leave the plane.
+    /// Two of them are live at one place where the cluster is too, or they leave the plane.
     Lost,
 }
 
@@ -56,17 +56,37 @@ pub(super) fn run_groups<A: Automaton>(
         let Some(later) = later_runs(alloc, rule, runs)? else {
             return Ok(GroupRun::Lost);
         };
-        let Some(whole) = whole_of(alloc, &later)? else {
-            return Ok(GroupRun::Lost);
-        };
-        if let Some(at) = whole.difference(cluster.plane(n as usize)) {
+        let whole = whole_of(alloc, &later)?;
+        if let Some(at) = whole.plane.difference(cluster.plane(n as usize)) {
             return Ok(GroupRun::Differs(Difference { runs: later, at }));
+        }
+        if !whole.is_disjoint {
+            return Ok(GroupRun::Lost);
         }
         runs = later;
     }
-    match later_runs(alloc, rule, runs)? {
-        Some(last) => Ok(GroupRun::Same(last)),
-        None => Ok(GroupRun::Lost),
+    let Some(last) = later_runs(alloc, rule, runs)? else {
+        return Ok(GroupRun::Lost);
+    };
+    match last_difference(alloc, cluster, &last)? {
+        Some(at) => Ok(GroupRun::Differs(Difference { runs: last, at })),
+        None => Ok(GroupRun::Same(last)),
+    }
+}
+
+// A place at which the groups, one period of the cluster after its first plane, differ from that plane moved by the
+// cluster's vector, if one is found.
+fn last_difference(alloc: Global, cluster: &Phases, last: &[Run]) -> Result<Option<Point>, Memory>
+    requires { All (λ run. 0 < length run.planes.items) last.now }
+{
+    let whole = whole_of(alloc, last)?;
+    // A course has at least one plane.
+    let _period = cluster.period();
+    let (dx, dy) = cluster.vector();
+    match cluster.plane(0).translated(alloc, dx, dy) {
+        Ok(end) => Ok(whole.plane.difference(&end)),
+        Err(MoveFault::Memory) => Err(Memory),
+        Err(MoveFault::Range) => Ok(None),
     }
 }
 
@@ -124,19 +144,25 @@ fn later_run<A: Automaton>(alloc: Global, rule: &A, run: Run) -> Result<Option<R
     }
 }
 
-// The plane of what all groups show last, where no two of them are live at one place.
-fn whole_of(alloc: Global, runs: &[Run]) -> Result<Option<Plane>, Memory>
+// What all groups show last.
+#[derive(Drop)]
+struct Whole {
+    // Its cells: of two at one place, that of the first group.
+    plane: Plane,
+    // Whether no two groups are live at one place.
+    is_disjoint: bool,
+}
+
+// What all groups show last, as one plane.
+fn whole_of(alloc: Global, runs: &[Run]) -> Result<Whole, Memory>
     requires { All (λ run. 0 < length run.planes.items) runs.now }
-    ensures { IfOk result (λ found. IfSome found (IsUnionOf (map latest_of runs.now))) }
+    ensures { IfOk result (λ whole. IsTrue whole.is_disjoint → IsUnionOf (map latest_of runs.now) whole.plane) }
 {
     let cells = cells_of(alloc, runs)?;
     let count = cells.len();
-    let whole = Plane::from_cells(alloc, cells)?;
-    if whole.len() == count {
-        Ok(Some(whole))
-    } else {
-        Ok(None)
-    }
+    let plane = Plane::from_cells(alloc, cells)?;
+    let is_disjoint = plane.len() == count;
+    Ok(Whole { plane, is_disjoint })
 }
 
 // The cells of what all groups show last, one group after another.
