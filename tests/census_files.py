@@ -57,6 +57,11 @@ def union(objects):
     return {place: state for it in objects for place, state in it.cells.items()}
 
 
+def begin(content):
+    """The begin of a content, where it is a long one."""
+    return content if content is None or len(content) <= 400 else content[:400] + (b".." if isinstance(content, bytes) else "..")
+
+
 class Censuses(Runs):
     """Runs of `census --into` in a folder of their own, in which the paths of words and claim texts are looked for."""
 
@@ -78,9 +83,9 @@ class Censuses(Runs):
         self.complain(told, wanted, got)
         there = contents_of(os.path.join(self.folder, into))
         if there != files:
-            differ = {name: (files or {}).get(name) for name in {**(files or {}), **(there or {})} if (files or {}).get(name) != (there or {}).get(name)}
-            got = {name: (there or {}).get(name) for name in differ}
-            self.complaints.append(f"{told}: the folder is {'' if there is not None else 'not '}there, and of its files wanted {differ}, got {got}")
+            names = [name for name in {**(files or {}), **(there or {})} if (files or {}).get(name) != (there or {}).get(name)]
+            wanted, got = ({name: begin((found or {}).get(name)) for name in names[:5]} for found in (files, there))
+            self.complaints.append(f"{told}: the folder is {'' if there is not None else 'not '}there, and of {len(names)} files wanted {wanted}, got {got}")
 
     def settle(self, each, words=(), into="into", listed=False):
         """Takes the census of these, into a new folder: all is printed and written, and each claim is true."""
