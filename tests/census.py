@@ -63,11 +63,10 @@ def try_known(runs):
         texts.append((path, text))
         later = text.replace(f"# {name}: settles after {first} generations".encode(), f"# {name} after 100 generations: settles after {first - 100} generations".encode())
         runs.expect(name, ["census", "--after", "100", path], ample(later))
-    # Rabbits (LifeWiki): 17331 generations, and 1744 cells then.
-    came = run(["census", "--limit", "20000", runs.path("rabbits.rle", rle_of(cells_of("o...ooo\nooo..o.\n.o.....")))])
-    runs.count += 1
-    lines = re.match(rb"# rabbits: settles after 17331 generations: \d+ objects, 1744 cells\n", came.printed)
-    runs.complaints += [] if lines and (came.complaint, came.status) == (b"", 0) else [str(came)]
+    # Rabbits: 17331 generations, and 1744 cells then (LifeWiki), of these objects as tests/lib/census.py finds them, in half a minute.
+    rabbits = {"xp2_7": 136, "xs4_33": 109, "xs6_696": 65, "xq4_153": 40, "xs5_253": 18, "xs7_2596": 18, "xs6_356": 7, "xs4_252": 4, "xs8_6996": 3, "xp2_7e": 2}
+    path = runs.path("rabbits.rle", rle_of(cells_of("o...ooo\nooo..o.\n.o.....")))
+    runs.expect("rabbits", ["census", path], ample(census.census_text("rabbits", 17331, Counter(rabbits), 1744)))
     runs.expect("all", ["census", *(path for path, _ in texts)], ample(b"".join(text for _, text in texts)))
 
 
