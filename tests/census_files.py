@@ -538,5 +538,5 @@ def try_example(censuses):
 
 
 if __name__ == "__main__":
-    try_all(try_made, try_known, try_rules, try_tables, try_names, try_taken, try_folders, try_unnameable, try_many_objects, try_many_files, try_long, try_sizes, try_full, try_limits, try_explained,
-            try_several, try_example)
+    try_all(try_made, try_known, try_rules, try_tables, try_names, try_taken, try_folders, try_unnameable, try_many_objects, try_many_files, try_long, try_sizes,
+            try_full, try_limits, try_explained, try_several, try_example)
