@@ -10,4 +10,3 @@ pub mod Reaches
 pub mod Runs
 pub mod Scopes
 pub mod Terminals
-pub mod TextViews

@@ -8,11 +8,13 @@ ghost use Rattle.ca_cli.specs.Words.{work_of};
 
 use crate::FAULT;
 use crate::named_rules::with_named_rules;
-use crate::text_views::TextViews;
 use crate::ties::tell_claimed_ties;
 use ca_cli::{Extras, Folders};
 use ca_evolution::Observer;
-use ca_host::{Heading, LoadedText, Progress, Streams, load_needed, read_source};
+use ca_host::{
+    Heading, LoadedText, Progress, Streams, faulty_rules, load_needed, missing_files, read_source,
+    views,
+};
 use ca_pattern::File;
 use ca_plane::text::push_text;
 use ca_plane::{Dev, Memory};
@@ -112,17 +114,23 @@ fn verify_text<R: Files + Clock + AllocGlobal>(
     let Ok(text) = load(rt, claims, folders) else {
         return Err(Fault::Input(InputFault::Memory));
     };
-    let Ok(views) = TextViews::of(rt.alloc(), &text) else {
+    let Ok(faulty) = faulty_rules(rt.alloc(), &text.faulty) else {
         return Err(Fault::Input(InputFault::Memory));
     };
-    tell_claimed_ties(
-        rt.alloc(),
-        &text.claims,
-        &views.files,
-        extras.explained,
-        streams,
-    );
-    let style = views.style(&before, extras.explained);
+    let Ok(missing) = missing_files(rt.alloc(), &text.missing) else {
+        return Err(Fault::Input(InputFault::Memory));
+    };
+    let Ok(files) = views(rt.alloc(), &text.files) else {
+        return Err(Fault::Input(InputFault::Memory));
+    };
+    tell_claimed_ties(rt.alloc(), &text.claims, &files, extras.explained, streams);
+    let style = ReportStyle {
+        before: &before,
+        explained: extras.explained,
+        faulty: &faulty,
+        missing: &missing,
+        files: &files,
+    };
     judge(rt, &text.claims, &style, extras, streams, has_note).map_err(Fault::Tool)
 }
 
